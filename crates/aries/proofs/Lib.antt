@@ -1,0 +1,5 @@
+pub mod Tables
+pub mod Effects
+pub mod Has
+pub mod Restarted
+pub mod Causes

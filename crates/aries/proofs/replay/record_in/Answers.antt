@@ -1,0 +1,22 @@
+use Rattle.std.proofs.Common.{◌≡◌, Some, None, sym, ap, ◌∙◌, take}
+use Rattle.wal.specs.Records.{LogRecord, CheckpointBegin, history, ◌▸◌}
+use Rattle.wal.specs.Shown.{shown}
+use Rattle.wal.proofs.Prefixes.{record_item, history_next}
+use Rattle.aries.proofs.replay.record_in.Goals as goal
+
+some_is : (x y : LogRecord) → Some x ≡ Some y → x ≡ y
+some_is x y e = cc
+
+none_is_none : (x : LogRecord) → None ≡ Some x → ⊥
+none_is_none x e = cc
+
+pub unreachable-requires : goal.unreachable-requires
+unreachable-requires c = none_is_none _ (c.in-None.ensures.found ∙ record_item c.args.log.now c.args.index CheckpointBegin c.requires.within)
+
+pub returns-clause-item : goal.returns-clause-item
+returns-clause-item c = sym (some_is _ _ (c.in-Some.ensures.found ∙ record_item c.args.log.now c.args.index (shown c.in-Some.view) c.requires.within))
+
+pub returns-clause-next : goal.returns-clause-next
+returns-clause-next c =
+    history_next c.args.log.now c.args.index (shown c.in-Some.view) c.requires.within
+    ∙ ap (λ r. history (take c.args.index c.args.log.now) ▸ r) (sym (some_is _ _ (c.in-Some.ensures.found ∙ record_item c.args.log.now c.args.index (shown c.in-Some.view) c.requires.within)))

@@ -1,0 +1,5 @@
+pub mod Pages
+pub mod Treated
+pub mod Text
+pub mod Recovery
+pub mod Job

@@ -1,0 +1,163 @@
+//! The command line.
+
+ghost use Rattle.std.specs.Prelude.{◌≤◌, IfOk};
+ghost use Rattle.aries.specs.Job.{HasRanges};
+
+use crate::Options;
+use clap::error::ErrorKind;
+use clap::{Arg, ArgMatches, Command, value_parser};
+use std::alloc::{AllocError, Global};
+
+/// What a command line asks for.
+#[derive(Debug, Drop)]
+pub enum Job {
+    /// Recover the store `store` by the log `log`, into two files that are made anew.
+    Recover {
+        log: String,
+        store: String,
+        out_log: String,
+        out_store: String,
+        options: Options,
+    },
+}
+
+/// Why a command line was not taken.
+#[derive(Debug, Drop)]
+pub enum Refusal {
+    /// The line is wrong, or asks for help or the version: the text to print, and where.
+    Line(clap::Error),
+    /// Memory was refused.
+    Memory,
+}
+
+impl From<AllocError> for Refusal {
+    fn from(_e: AllocError) -> Refusal {
+        Refusal::Memory
+    }
+}
+
+impl From<clap::Error> for Refusal {
+    fn from(error: clap::Error) -> Refusal {
+        match error.kind() {
+            ErrorKind::OutOfMemory => Refusal::Memory,
+            _ => Refusal::Line(error),
+        }
+    }
+}
+
+/// An option that names a file.
+fn file_option<'a>(alloc: Global, name: &'a str, help: &'a str) -> Arg<'a> {
+    Arg::new(alloc, name)
+        .long(name)
+        .value_name("FILE")
+        .required(true)
+        .help(help)
+}
+
+/// An option with a number of 1 to `most`.
+fn number_option<'a>(
+    alloc: Global,
+    name: &'a str,
+    most: i64,
+    default: &'a str,
+    help: &'a str,
+) -> Arg<'a> {
+    Arg::new(alloc, name)
+        .long(name)
+        .value_name("N")
+        .value_parser(value_parser!(u32).range(1..=most))
+        .default_value(default)
+        .help(help)
+}
+
+/// The command `recover`.
+fn recover_command<'a>(alloc: Global) -> Result<Command<'a>, AllocError> {
+    Command::new(alloc, "recover")
+        .about("Restart after a crash: read a log and a store, write both anew")
+        .arg(file_option(alloc, "log", "The log to restart by"))?
+        .arg(file_option(alloc, "store", "The store to recover"))?
+        .arg(file_option(
+            alloc,
+            "out-log",
+            "The new log, made anew; no file may stand there",
+        ))?
+        .arg(file_option(
+            alloc,
+            "out-store",
+            "The recovered store, made anew; no file may stand there",
+        ))?
+        .arg(number_option(
+            alloc,
+            "workers",
+            64,
+            "4",
+            "How many threads redo the pages, 1 to 64",
+        ))?
+        .arg(number_option(
+            alloc,
+            "parts",
+            4096,
+            "16",
+            "Into how many parts the pages are dealt, 1 to 4096",
+        ))
+}
+
+/// The whole command line.
+fn aries_command<'a>(alloc: Global) -> Result<Command<'a>, AllocError> {
+    Command::new(alloc, "aries")
+        .version("0.1.0")
+        .about("Crash recovery that is proved")
+        .subcommand_required(true)
+        .subcommand(recover_command(alloc)?)
+}
+
+/// The name that an option gives a file.
+fn file_of(alloc: Global, matches: &ArgMatches, name: &str) -> Result<String, AllocError> {
+    String::from_str(alloc, matches.get_str(name).unwrap_or(""))
+}
+
+/// The number that an option gives, or its default.
+fn number_of(matches: &ArgMatches, name: &str, most: u32, default: u32) -> u32
+    requires low { 1 ≤ default }
+    requires high { default ≤ most }
+    ensures low { 1 ≤ result }
+    ensures high { result ≤ most }
+{
+    matches
+        .get_one::<u32>(name)
+        .unwrap_or(default)
+        .clamp(1, most)
+}
+
+/// What the options of `recover` ask for.
+fn recover_job(alloc: Global, matches: &ArgMatches) -> Result<Job, Refusal>
+    ensures { IfOk result HasRanges }
+{
+    Ok(Job::Recover {
+        log: file_of(alloc, matches, "log")?,
+        store: file_of(alloc, matches, "store")?,
+        out_log: file_of(alloc, matches, "out-log")?,
+        out_store: file_of(alloc, matches, "out-store")?,
+        options: Options {
+            workers: number_of(matches, "workers", 64, 4),
+            parts: number_of(matches, "parts", 4096, 16),
+        },
+    })
+}
+
+/// What a command line asks for; the first word is the program's name. Refuses a line that is wrong or
+/// asks for help or the version by [`Refusal::Line`], and by [`Refusal::Memory`] where memory was
+/// refused.
+pub fn command_of<'a>(alloc: Global, words: &'a [&'a str]) -> Result<Job, Refusal>
+    ensures { IfOk result HasRanges }
+{
+    let mut command = aries_command(alloc)?;
+    let matches = command.try_get_matches_from_mut(words)?;
+    match matches.subcommand() {
+        Some(("recover", options)) => recover_job(alloc, options),
+        _ => {
+            let error = command.error(ErrorKind::MissingSubcommand, "a command is needed")?;
+            Err(Refusal::Line(error))
+        }
+    }
+}

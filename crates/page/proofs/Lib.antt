@@ -1,0 +1,7 @@
+pub mod BigEndian
+pub mod Files
+pub mod Once
+pub mod Pages
+pub mod Reading
+pub mod Slots
+pub mod Writing

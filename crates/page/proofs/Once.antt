@@ -1,0 +1,92 @@
+-- No bytes spell two slots, two pages or two stores.
+use Rattle.std.proofs.Common.{◌≡◌, ℕ, zero, suc, ◌+◌, ◌*◌, ◌<◌, ◌≤◌, ◌^◌, List, [], ◌∷◌, ◌++◌, length, get_or, take, drop, Some, None, sym, ap, ap₂, subst, ◌∙◌, arith, refl, add-one}
+use Rattle.std.specs.Int.{w16, to_be_bytes, from_be_bytes}
+use Rattle.std.proofs.lemmas.List.{take_all, take_more, same_lists, length-take}
+use Rattle.std.proofs.lemmas.List.Elements.{All-take}
+use Rattle.std.proofs.lemmas.Nat.{from_be_bytes-to_be_bytes_2}
+use Rattle.page.specs.declared.page.Page.{Page}
+use Rattle.page.specs.Image.{Image, cells, entry, FitsSlot, SpellsPage}
+use Rattle.page.specs.Images.{SpellPages}
+use Rattle.page.specs.Store.{StoreContent}
+use Rattle.page.specs.Parts.{BeginsWithSlot, SpellsSlots}
+use Rattle.page.proofs.Slots.{length-cells-le}
+use Rattle.page.proofs.Reading.{slot_inside}
+use Rattle.page.proofs.Pages.{page_parts, same_header}
+use Rattle.page.specs.File.{SpellsStore}
+use Rattle.page.proofs.Files.{image_inside, header_parts, store_header_of, store_pages_of}
+
+same_16 : (a b : ℕ) → a < 2 ^ 16 → b < 2 ^ 16 → to_be_bytes w16 a ≡ to_be_bytes w16 b → a ≡ b
+same_16 a b la lb e = sym (from_be_bytes-to_be_bytes_2 a la) ∙ ap (from_be_bytes w16) e ∙ from_be_bytes-to_be_bytes_2 b lb
+
+-- an entry of a present slot is not that of an absent one
+not_absent : (place : ℕ) (value : List ℕ) → 0 < place → place < 2 ^ 16 → entry place (Some value) ≡ entry place None → ⊥
+not_absent place value some small e =
+    let none : place ≡ 0 = same_16 place 0 small (omega arith) (ap (take 2) e) in
+    omega (arith, none)
+
+one_slot : (entries bytes : List ℕ) (place : ℕ) (x y : Image) → 0 < place → place < 2 ^ 16 → BeginsWithSlot entries bytes place x → BeginsWithSlot entries bytes place y → x ≡ y
+one_slot entries bytes place None None some small a b = refl
+one_slot entries bytes place None (Some y) some small a b = absurd (not_absent place y some small (sym b.entry ∙ a.entry))
+one_slot entries bytes place (Some x) None some small a b = absurd (not_absent place x some small (sym a.entry ∙ b.entry))
+one_slot entries bytes place (Some x) (Some y) some small a b =
+    let short_x : length x ≤ 48 = a.fits in
+    let short_y : length y ≤ 48 = b.fits in
+    let len : length x ≡ length y = same_16 (length x) (length y) (omega (arith, short_x)) (omega (arith, short_y)) (ap (drop 2) (sym a.entry ∙ b.entry)) in
+    let whole_x : take (length x) bytes ≡ x = a.cell in
+    let whole_y : take (length y) bytes ≡ y = b.cell in
+    ap (λ v. Some v) (sym whole_x ∙ ap (λ n. take n bytes) len ∙ whole_y)
+
+first_slots : (entries bytes : List ℕ) (xs ys : List Image) (i : ℕ) → SpellsSlots entries bytes xs → SpellsSlots entries bytes ys → i ≤ 16 → take i xs ≡ take i ys
+first_slots entries bytes xs ys zero a b le = refl
+first_slots entries bytes xs ys (suc i) a b le =
+    let before = first_slots entries bytes xs ys i a b (omega arith) in
+    let place = λ (slots : List Image). 80 + length (cells (take i slots)) in
+    let near : length (cells (take i xs)) ≤ 48 * i = omega (arith, length-cells-le (take i xs) (All-take FitsSlot i xs a.values), length-take i xs) in
+    let at_x = slot_inside entries bytes xs i None a (omega arith) in
+    let at_y = slot_inside entries bytes ys i None b (omega arith) in
+    let P : List Image → Type 0 = λ front. BeginsWithSlot (drop (4 * i) entries) (drop (length (cells front)) bytes) (80 + length (cells front)) (get_or ys i None) in
+    let same = one_slot _ _ (place xs) (get_or xs i None) (get_or ys i None) (omega arith) (omega (arith, near)) at_x (subst P (sym before) at_y) in
+    let next : suc i ≡ i + 1 = sym (add-one i) in
+    ap (λ n. take n xs) next ∙ take_more xs i None (omega (arith, a.count)) ∙ ap₂ (λ (front : List Image) slot. front ++ slot ∷ []) before same ∙ sym (take_more ys i None (omega (arith, b.count))) ∙ ap (λ n. take n ys) (sym next)
+
+one_slots : (entries bytes : List ℕ) (xs ys : List Image) → SpellsSlots entries bytes xs → SpellsSlots entries bytes ys → xs ≡ ys
+one_slots entries bytes xs ys a b = sym (take_all 16 xs (omega (arith, a.count))) ∙ first_slots entries bytes xs ys 16 a b (omega arith) ∙ take_all 16 ys (omega (arith, b.count))
+
+page_of : ℕ → ℕ → List Image → Page
+page_of number lsn slots = record { number = number; lsn = lsn; slots = slots }
+
+pub one_page : (bytes : List ℕ) (p q : Page) → SpellsPage bytes p → SpellsPage bytes q → p ≡ q
+unfolding page_of
+one_page bytes p q a b =
+    let front = take 16 bytes in
+    let behind = drop 16 bytes in
+    let in_p = page_parts bytes front behind (take 64 behind) (drop 64 behind) p a refl refl refl refl in
+    let in_q = page_parts bytes front behind (take 64 behind) (drop 64 behind) q b refl refl refl refl in
+    let numbers = same_header front p.number 0 p.lsn q.number q.lsn in_p.header a.fits.number (omega arith) a.fits.lsn in_q.header b.fits.number b.fits.lsn in
+    let slots = one_slots (take 64 behind) (drop 64 behind) p.slots q.slots in_p.slots in_q.slots in
+    ap (λ n. page_of n p.lsn p.slots) numbers.0 ∙ ap (λ n. page_of q.number n p.slots) numbers.2 ∙ ap (page_of q.number q.lsn) slots
+
+pub one_pages : (images : List ℕ) (count : ℕ) (ps qs : List Page) → SpellPages images count ps → SpellPages images count qs → ps ≡ qs
+one_pages images count ps qs a b =
+    let len : length ps ≡ length qs = a.number ∙ sym b.number in
+    same_lists ps qs len (λ k d lt. one_page _ (get_or ps k d) (get_or qs k d) (image_inside images count ps k d a lt) (image_inside images count qs k d b (omega (arith, len, lt))))
+
+store_of : ℕ → List Page → StoreContent
+store_of master pages = record { master = master; pages = pages }
+
+pub same_store : (store : StoreContent) (master : ℕ) (pages : List Page) → master ≡ store.master → pages ≡ store.pages
+    → ◌≡◌ {A = StoreContent} (record { master = master; pages = pages }) store
+unfolding store_of
+same_store store master pages em ep = ap (λ m. store_of m pages) em ∙ ap (store_of store.master) ep
+
+pub one_store : (bytes : List ℕ) (a b : StoreContent) → SpellsStore bytes a → SpellsStore bytes b → a ≡ b
+one_store bytes a b sa sb =
+    let ha = store_header_of bytes a sa in
+    let hb = store_header_of bytes b sb in
+    let front = take 24 bytes in
+    let in_a = header_parts bytes front (take 8 front) (drop 8 front) (length a.pages) a.master ha refl refl refl in
+    let in_b = header_parts bytes front (take 8 front) (drop 8 front) (length b.pages) b.master hb refl refl refl in
+    let numbers = same_header (drop 8 front) (length a.pages) 0 a.master (length b.pages) b.master in_a.back (omega (arith, ha.few)) (omega arith) ha.small in_b.back (omega (arith, hb.few)) hb.small in
+    let images = drop 24 bytes in
+    let pages_a = subst (λ n. SpellPages images n a.pages) numbers.0 (store_pages_of bytes images a sa refl) in
+    same_store b a.master a.pages numbers.2 (one_pages images (length b.pages) a.pages b.pages pages_a (store_pages_of bytes images b sb refl))

@@ -1,0 +1,58 @@
+-- The parts of a page's image.
+use Rattle.std.proofs.Common.{◌≡◌, ℕ, ◌<◌, ◌^◌, List, ◌++◌, length, take, drop, sym, ap, ◌∙◌, append_assoc, arith, refl, Option, Some}
+use Rattle.std.specs.Int.{w32, w64, to_be_bytes}
+use Rattle.std.proofs.lemmas.List.{take_at, drop_at}
+use Rattle.page.specs.declared.page.Page.{Page}
+use Rattle.page.specs.Image.{Image, directory, header, body, SpellsPage}
+use Rattle.page.specs.Parts.{SpellsSlots}
+use Rattle.page.proofs.BigEndian.{same_32, same_64}
+use Rattle.page.proofs.Slots.{length-directory}
+
+-- header, directory and body of a spelled page
+pub record HasParts (front entries rest : List ℕ) (page : Page) : Type 0 where
+  pub header : front ≡ header page.number page.lsn
+  pub slots : SpellsSlots entries rest page.slots
+
+pub page_parts : (bytes front behind entries rest : List ℕ) (page : Page) → SpellsPage bytes page
+    → front ≡ take 16 bytes → behind ≡ drop 16 bytes → entries ≡ take 64 behind → rest ≡ drop 64 behind → HasParts front entries rest page
+page_parts bytes front behind entries rest page s ef eb ee er =
+    let first = header page.number page.lsn in
+    let second = directory 80 page.slots in
+    let third = body page.slots in
+    let text : bytes ≡ first ++ (second ++ third) = s.text ∙ append_assoc first second third in
+    let long : length second ≡ 64 = omega (arith, length-directory 80 page.slots, s.fits.slots) in
+    let after : behind ≡ second ++ third = eb ∙ ap (drop 16) text ∙ drop_at first (second ++ third) 16 refl in
+    record {
+      header = ef ∙ ap (take 16) text ∙ take_at first (second ++ third) 16 refl;
+      slots = record {
+        count = s.fits.slots;
+        values = s.fits.values;
+        directory = ee ∙ ap (take 64) after ∙ take_at second third 64 long;
+        body = er ∙ ap (drop 64) after ∙ drop_at second third 64 long;
+      };
+    }
+
+-- the three numbers of a header
+pub same_header : (bytes : List ℕ) (a b c number lsn : ℕ) → bytes ≡ to_be_bytes w32 a ++ to_be_bytes w32 b ++ to_be_bytes w64 c → a < 2 ^ 32 → b < 2 ^ 32 → c < 2 ^ 64
+    → bytes ≡ header number lsn → number < 2 ^ 32 → lsn < 2 ^ 64 → (a ≡ number) × (b ≡ 0) × (c ≡ lsn)
+same_header bytes a b c number lsn read la lb lc e ln ll =
+    let both : to_be_bytes w32 a ++ to_be_bytes w32 b ++ to_be_bytes w64 c ≡ header number lsn = sym read ∙ e in
+    (same_32 a number la ln (ap (take 4) both), same_32 b 0 lb (omega arith) (ap (λ (t : List ℕ). take 4 (drop 4 t)) both), same_64 c lsn lc ll (ap (drop 8) both))
+
+abbrev pub some_slots : List Image → Option (List Image)
+some_slots slots = Some slots
+
+abbrev pub some_page : Page → Option Page
+some_page page = Some page
+
+same_some : (a b : List Image) → some_slots a ≡ some_slots b → a ≡ b
+same_some a b e = cc
+
+abbrev page_of : ℕ → ℕ → List Image → Page
+page_of number lsn slots = record { number = number; lsn = lsn; slots = slots }
+
+-- a page of these parts is this page
+pub same_page : (page : Page) (number lsn : ℕ) (slots : List Image) → number ≡ page.number → lsn ≡ page.lsn → some_slots slots ≡ some_slots page.slots
+    → some_page (record { number = number; lsn = lsn; slots = slots }) ≡ some_page page
+same_page page number lsn slots en el es =
+    ap (λ n. some_page (page_of n lsn slots)) en ∙ ap (λ n. some_page (page_of page.number n slots)) el ∙ ap (λ xs. some_page (page_of page.number page.lsn xs)) (same_some slots page.slots es)

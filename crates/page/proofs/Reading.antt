@@ -1,0 +1,121 @@
+-- What the loops of the decoder keep.
+use Rattle.std.proofs.Common.{◌≡◌, ℕ, ◌+◌, ◌*◌, ◌-◌, ◌<◌, ◌≤◌, List, [], ◌∷◌, ◌++◌, length, get_or, set, take, drop, replicate, Option, Some, All, sym, ap, ap₂, subst, ◌∙◌, arith, refl, append_assoc}
+use Rattle.std.proofs.Math.Seq.{take-add}
+use Rattle.std.proofs.lemmas.List.{append-nil, length-append, length-drop, length-take, length-replicate, take_at, drop_at, take_all, take_more, take_more_set, take-append-drop, drop_more, length-set}
+use Rattle.std.proofs.lemmas.List.Elements.{All-push, All-get_or}
+use Rattle.page.specs.Image.{Image, cell, cells, entry, directory, FitsSlot}
+use Rattle.page.specs.Parts.{BeginsWithSlot, SpellsSlots}
+use Rattle.page.proofs.Slots.{cells-append, directory-append, length-entry, length-directory, short_cell}
+
+-- the first i slots stand in front, their cells end here, and the bytes can spell no others
+pub record ReadSoFar (entries bytes : List ℕ) (i end : ℕ) (slots : List Image) : Type 0 where
+  pub count : length slots ≡ 16
+  pub here : end ≡ length (cells (take i slots))
+  pub near : end ≤ 48 * i
+  pub values : All FitsSlot (take i slots)
+  pub directory : take (4 * i) entries ≡ directory 80 (take i slots)
+  pub cells : take end bytes ≡ cells (take i slots)
+  pub only : (others : List Image) → SpellsSlots entries bytes others → take i others ≡ take i slots
+
+-- a list at one place
+parts : (slots : List Image) (i : ℕ) (d : Image) → i < length slots → slots ≡ take i slots ++ get_or slots i d ∷ drop (i + 1) slots
+parts slots i d lt = sym (take-append-drop i slots) ∙ ap (λ (t : List Image). take i slots ++ t) (drop_more slots i d lt)
+
+-- what spells slots has each slot's entry and cell at their places
+pub slot_inside : (entries bytes : List ℕ) (slots : List Image) (i : ℕ) (d : Image) → SpellsSlots entries bytes slots → i < 16
+    → BeginsWithSlot (drop (4 * i) entries) (drop (length (cells (take i slots))) bytes) (80 + length (cells (take i slots))) (get_or slots i d)
+slot_inside entries bytes slots i d s lt =
+    let front = take i slots in
+    let slot = get_or slots i d in
+    let rest = drop (i + 1) slots in
+    let split : slots ≡ front ++ slot ∷ rest = parts slots i d (omega (arith, s.count)) in
+    let place = 80 + length (cells front) in
+    let later = directory (place + length (cell slot)) rest in
+    let zeros : List ℕ = replicate (944 - length (cells slots)) 0 in
+    let text : entries ≡ directory 80 front ++ (entry place slot ++ later) = s.directory ∙ ap (directory 80) split ∙ directory-append 80 front (slot ∷ rest) in
+    let long : length (directory 80 front) ≡ 4 * i = omega (arith, length-directory 80 front, length-take i slots, s.count) in
+    let at_entry : drop (4 * i) entries ≡ entry place slot ++ later = ap (drop (4 * i)) text ∙ drop_at (directory 80 front) (entry place slot ++ later) (4 * i) long in
+    let whole : cells slots ++ zeros ≡ cells front ++ (cell slot ++ (cells rest ++ zeros)) =
+    ap (λ (t : List ℕ). t ++ zeros) (ap cells split ∙ cells-append front (slot ∷ rest)) ∙ append_assoc (cells front) (cell slot ++ cells rest) zeros ∙ ap (λ (t : List ℕ). cells front ++ t) (append_assoc (cell slot) (cells rest) zeros) in
+    let at_cell : drop (length (cells front)) bytes ≡ cell slot ++ (cells rest ++ zeros) =
+    ap (drop (length (cells front))) (s.body ∙ whole) ∙ drop_at (cells front) (cell slot ++ (cells rest ++ zeros)) (length (cells front)) refl in
+    record {
+      fits = All-get_or FitsSlot slots i d (omega (arith, s.count)) s.values;
+      entry = ap (take 4) at_entry ∙ take_at (entry place slot) later 4 (length-entry place slot);
+      cell = ap (take (length (cell slot))) at_cell ∙ take_at (cell slot) (cells rest ++ zeros) (length (cell slot)) refl;
+    }
+
+-- what spells other slots has at this place one that the reader takes too
+pub slot_there : (entries bytes at_entry at_cell : List ℕ) (i end : ℕ) (slots others : List Image) (d : Image) → ReadSoFar entries bytes i end slots → SpellsSlots entries bytes others → i < 16
+    → at_entry ≡ drop (4 * i) entries → at_cell ≡ drop end bytes
+    → BeginsWithSlot at_entry at_cell (80 + end) (get_or others i d)
+slot_there entries bytes at_entry at_cell i end slots others d so_far s lt e b =
+    let here : length (cells (take i others)) ≡ end = ap (λ xs. length (cells xs)) (so_far.only others s) ∙ sym so_far.here in
+    let inside = slot_inside entries bytes others i d s lt in
+    let place : 80 + length (cells (take i others)) ≡ 80 + end = ap (λ n. 80 + n) here in
+    let slot = get_or others i d in
+    record {
+      fits = inside.fits;
+      entry = ap (take 4) e ∙ inside.entry ∙ ap (λ n. entry n slot) place;
+      cell = ap (take (length (cell slot))) (b ∙ ap (λ n. drop n bytes) (sym here)) ∙ inside.cell;
+    }
+
+abbrev pub some : Image → Option Image
+some slot = Some slot
+
+same_some : (a b : Image) → some a ≡ some b → a ≡ b
+same_some a b e = cc
+
+-- one more slot was read
+pub read_more : (entries bytes at_entry at_cell taken : List ℕ) (i end : ℕ) (slots : List Image) (slot : Image) → ReadSoFar entries bytes i end slots → i < 16
+    → at_entry ≡ drop (4 * i) entries → at_cell ≡ drop end bytes
+    → BeginsWithSlot at_entry at_cell (80 + end) slot
+    → ((other : Image) → BeginsWithSlot at_entry at_cell (80 + end) other → some slot ≡ some other)
+    → taken ≡ cell slot
+    → ReadSoFar entries bytes (i + 1) (end + length taken) (set slots i slot)
+read_more entries bytes at_entry at_cell taken i end slots slot so_far lt ee eb found only e =
+    let inside : i < length slots = omega (arith, so_far.count) in
+    let more : take (i + 1) (set slots i slot) ≡ take i slots ++ slot ∷ [] = take_more_set slots i slot inside in
+    let long : length taken ≡ length (cell slot) = ap length e in
+    let front = cells (take i slots) in
+    let cells_more : cells (take (i + 1) (set slots i slot)) ≡ front ++ cell slot = ap cells more ∙ cells-append (take i slots) (slot ∷ []) ∙ ap (λ (t : List ℕ). front ++ t) (append-nil (cell slot)) in
+    let directory_more : directory 80 (take (i + 1) (set slots i slot)) ≡ directory 80 (take i slots) ++ entry (80 + end) slot =
+    ap (directory 80) more ∙ directory-append 80 (take i slots) (slot ∷ []) ∙ ap (λ (t : List ℕ). directory 80 (take i slots) ++ t) (append-nil (entry (80 + length front) slot) ∙ ap (λ n. entry (80 + n) slot) (sym so_far.here)) in
+    let four : 4 * (i + 1) ≡ 4 * i + 4 = omega arith in
+    record {
+      count = length-set slots i slot ∙ so_far.count;
+      here = omega (arith, long, so_far.here, ap length cells_more, length-append front (cell slot));
+      near = omega (arith, long, so_far.near, short_cell slot found.fits);
+      values = subst (All FitsSlot) (sym more) (All-push FitsSlot (take i slots) slot so_far.values found.fits);
+      directory = ap (λ n. take n entries) four ∙ take-add (4 * i) 4 entries ∙ ap₂ (λ (x y : List ℕ). x ++ y) so_far.directory (ap (take 4) (sym ee) ∙ found.entry) ∙ sym directory_more;
+      cells = ap (λ n. take (end + n) bytes) long ∙ take-add end (length (cell slot)) bytes ∙ ap₂ (λ (x y : List ℕ). x ++ y) so_far.cells (ap (take (length (cell slot))) (sym eb) ∙ found.cell) ∙ sym cells_more;
+      only = λ others s.
+          let there = slot_there entries bytes at_entry at_cell i end slots others slot so_far s lt ee eb in
+          take_more others i slot (omega (arith, s.count)) ∙ ap₂ (λ (xs : List Image) x. xs ++ x ∷ []) (so_far.only others s) (sym (same_some slot (get_or others i slot) (only (get_or others i slot) there))) ∙ sym more;
+    }
+
+-- all slots were read, and zeros are left
+pub read_all : (entries bytes left : List ℕ) (i end : ℕ) (slots : List Image) → ReadSoFar entries bytes i end slots → i ≡ 16 → length entries ≡ 64 → length bytes ≡ 944
+    → left ≡ drop end bytes → left ≡ replicate (length left) 0 → SpellsSlots entries bytes slots
+read_all entries bytes left i end slots so_far e le lb el zeros =
+    let all : take i slots ≡ slots = take_all i slots (omega (arith, so_far.count)) in
+    let here : end ≡ length (cells slots) = so_far.here ∙ ap (λ xs. length (cells xs)) all in
+    let room : length left ≡ 944 - length (cells slots) = omega (arith, ap length el, length-drop end bytes, here, lb) in
+    let whole : take (4 * i) entries ≡ entries = take_all (4 * i) entries (omega (arith, le)) in
+    record {
+      count = so_far.count;
+      values = subst (All FitsSlot) all so_far.values;
+      directory = sym whole ∙ so_far.directory ∙ ap (directory 80) all;
+      body = sym (take-append-drop end bytes) ∙ ap₂ (λ (x y : List ℕ). x ++ y) (so_far.cells ∙ ap cells all) (sym el ∙ zeros ∙ ap (λ n. replicate n 0) room);
+    }
+
+-- what spells slots spells these, and has zeros behind the last cell
+pub only_these : (entries bytes left : List ℕ) (i end : ℕ) (slots others : List Image) → ReadSoFar entries bytes i end slots → i ≡ 16 → left ≡ drop end bytes → SpellsSlots entries bytes others
+    → (left ≡ replicate (length left) 0) × (slots ≡ others)
+only_these entries bytes left i end slots others so_far e el s =
+    let all : take i others ≡ others = take_all i others (omega (arith, s.count)) in
+    let same : others ≡ slots = sym all ∙ so_far.only others s ∙ take_all i slots (omega (arith, so_far.count)) in
+    let here : length (cells others) ≡ end = ap (λ xs. length (cells xs)) (sym all ∙ so_far.only others s) ∙ sym so_far.here in
+    let n : ℕ = 944 - length (cells others) in
+    let zeros : left ≡ replicate n 0 = el ∙ ap (drop end) s.body ∙ drop_at (cells others) (replicate n 0) end here in
+    (zeros ∙ ap (λ m. replicate m 0) (sym (length-replicate n 0) ∙ ap length (sym zeros)), sym same)

@@ -1,0 +1,95 @@
+-- What the loops of the encoder keep.
+use Rattle.std.proofs.Common.{◌≡◌, ℕ, ◌+◌, ◌*◌, ◌<◌, ◌≤◌, List, [], ◌∷◌, ◌++◌, length, get_or, take, drop, Some, None, All, sym, ap, ap₂, subst, ◌∙◌, arith}
+use Rattle.std.proofs.lemmas.List.{append-nil, take_more, length-append, length-drop, take_at, drop_all}
+use Rattle.std.proofs.lemmas.List.Elements.{All-more}
+use Rattle.std.proofs.lemmas.Slice.{take-put_mid, drop-put_mid}
+use borrow.Rule.Slice.PartMut.{put_mid}
+use Rattle.page.specs.Image.{Image, cell, cells, entry, directory, FitsSlot}
+use Rattle.std.specs.List.{flat_map}
+use Rattle.std.proofs.lemmas.Grind.{flat_map-append}
+use Rattle.page.specs.declared.page.Page.{Page}
+use Rattle.page.specs.Image.{page_text, FitsPage}
+use Rattle.page.specs.Store.{StoreContent}
+use Rattle.page.specs.File.{store_header}
+use Rattle.page.proofs.Slots.{cells_more, directory_more, length-entry}
+
+-- the entries of the first i slots stand in front, and the next cell has this place
+pub record Directed (slots : List Image) (i place : ℕ) (entries : List ℕ) : Type 0 where
+  pub next : place ≡ 80 + length (cells (take i slots))
+  pub near : place ≤ 80 + 48 * i
+  pub front : take (4 * i) entries ≡ directory 80 (take i slots)
+  pub fits : All FitsSlot (take i slots)
+
+-- the cells of the first i slots stand in front, and end here
+pub record Filled (slots : List Image) (i end : ℕ) (room : List ℕ) : Type 0 where
+  pub here : end ≡ length (cells (take i slots))
+  pub near : end ≤ 48 * i
+  pub front : take end room ≡ cells (take i slots)
+
+fits_short : (slot : Image) → length (cell slot) ≤ 48 → FitsSlot slot
+fits_short None h = tt
+fits_short (Some value) h = h
+
+-- a part that is written behind what stands
+pub written_behind : (a k n : ℕ) (xs ys front : List ℕ) → take a xs ≡ front → n ≡ a + length ys → a ≤ length xs → take n (put_mid a k xs ys) ≡ front ++ ys
+written_behind a k n xs ys front e m le = take-put_mid a k xs ys n m le ∙ ap (λ (t : List ℕ). t ++ ys) e
+
+pub directed_more : (slots : List Image) (i place : ℕ) (entries next bytes : List ℕ) (d : Image) (k : ℕ)
+    → Directed slots i place entries → i < length slots → 4 * i + 4 ≤ length entries
+    → next ≡ entry place (get_or slots i d) → bytes ≡ cell (get_or slots i d) → length bytes ≤ 48
+    → Directed slots (i + 1) (place + length bytes) (put_mid (4 * i) k entries next)
+directed_more slots i place entries next bytes d k so_far lt room e b short =
+    let slot = get_or slots i d in
+    let more : cells (take (i + 1) slots) ≡ cells (take i slots) ++ cell slot = cells_more slots i d lt in
+    let text : directory 80 (take (i + 1) slots) ≡ directory 80 (take i slots) ++ entry place slot =
+    directory_more 80 slots i d lt ∙ ap (λ p. directory 80 (take i slots) ++ entry p slot) (sym so_far.next) in
+    let long : length next ≡ 4 = ap length e ∙ length-entry place slot in
+    record {
+      next = omega (arith, so_far.next, ap length more, length-append (cells (take i slots)) (cell slot), ap length b);
+      near = omega (arith, so_far.near);
+      front = written_behind (4 * i) k (4 * (i + 1)) entries next (directory 80 (take i slots)) so_far.front (omega arith) (omega arith) ∙ ap (λ (t : List ℕ). directory 80 (take i slots) ++ t) e ∙ sym text;
+      fits = All-more FitsSlot slots i d lt so_far.fits (fits_short slot (subst (λ (t : List ℕ). length t ≤ 48) b short));
+    }
+
+pub filled_more : (slots : List Image) (i end : ℕ) (room bytes now : List ℕ) (d : Image) (k : ℕ)
+    → Filled slots i end room → i < length slots → end ≤ length room
+    → now ≡ bytes → bytes ≡ cell (get_or slots i d) → length bytes ≤ 48
+    → Filled slots (i + 1) (end + length bytes) (put_mid end k room now)
+filled_more slots i end room bytes now d k so_far lt fits e b short =
+    let slot = get_or slots i d in
+    let more : cells (take (i + 1) slots) ≡ cells (take i slots) ++ cell slot = cells_more slots i d lt in
+    record {
+      here = omega (arith, so_far.here, ap length more, length-append (cells (take i slots)) (cell slot), ap length b);
+      near = omega (arith, so_far.near);
+      front = written_behind end k (end + length bytes) room now (cells (take i slots)) so_far.front (omega (arith, ap length e)) fits ∙ ap (λ (t : List ℕ). cells (take i slots) ++ t) (e ∙ b) ∙ sym more;
+    }
+
+-- three parts written one after the other, over what stood there
+pub three_parts : (xs a b c : List ℕ) (m n k l : ℕ) → length a ≡ m → length b ≡ k → n ≡ m + k → n ≤ length xs → length xs ≤ n + l
+    → put_mid n l (put_mid m k (a ++ drop m xs) b) c ≡ a ++ b ++ c
+three_parts xs a b c m n k l la lb mn nx all =
+    let first = a ++ drop m xs in
+    let long : length first ≡ length xs = omega (arith, length-append a (drop m xs), length-drop m xs) in
+    let inner = put_mid m k first b in
+    let front : take n inner ≡ a ++ b = written_behind m k n first b a (take_at a (drop m xs) m la) (omega arith) (omega arith) in
+    let back : drop n inner ≡ drop n first = drop-put_mid m k first b n (omega arith) (omega arith) lb in
+    let none : drop l (drop n inner) ≡ [] = drop_all l (drop n inner) (omega (arith, ap length back, length-drop n first)) in
+    ap₂ (λ (f p : List ℕ). f ++ (c ++ p)) front none ∙ ap (λ (t : List ℕ). (a ++ b) ++ t) (append-nil c)
+
+-- the header and the images of the first i pages
+pub record Listed (store : StoreContent) (i : ℕ) (bytes : List ℕ) : Type 0 where
+  pub text : bytes ≡ store_header (length store.pages) store.master ++ flat_map page_text (take i store.pages)
+  pub fits : All FitsPage (take i store.pages)
+
+pub listed_more : (store : StoreContent) (pages : List Page) (i : ℕ) (bytes image new : List ℕ) (page : Page) → pages ≡ store.pages → Listed store i bytes → i < length pages
+    → page ≡ get_or pages i page → image ≡ page_text page → FitsPage page → new ≡ bytes ++ image → Listed store (i + 1) new
+listed_more store pages i bytes image new page same so_far lt read text fits e =
+    let images = flat_map page_text in
+    let more : take (i + 1) pages ≡ take i pages ++ page ∷ [] = take_more pages i page lt ∙ ap (λ p. take i pages ++ p ∷ []) (sym read) in
+    let front : images (take (i + 1) pages) ≡ images (take i pages) ++ image =
+    ap images more ∙ flat_map-append page_text (take i pages) (page ∷ []) ∙ ap (λ (t : List ℕ). images (take i pages) ++ t) (append-nil (page_text page) ∙ sym text) in
+    let first = store_header (length store.pages) store.master in
+    record {
+      text = e ∙ ap (λ (t : List ℕ). t ++ image) (so_far.text ∙ ap (λ xs. first ++ images (take i xs)) (sym same)) ∙ ap (λ (t : List ℕ). first ++ t) (sym front) ∙ ap (λ xs. first ++ images (take (i + 1) xs)) same;
+      fits = subst (λ xs. All FitsPage (take (i + 1) xs)) same (All-more FitsPage pages i page lt (subst (λ xs. All FitsPage (take i xs)) (sym same) so_far.fits) (subst FitsPage read fits));
+    }

@@ -1,0 +1,5 @@
+use Rattle.page.proofs.Files.{PagesSoFar}
+use Rattle.page.proofs.file.pages_at.Given as goal
+
+abbrev pub invariant-loop-number : goal.invariant-loop-number
+invariant-loop-number l = PagesSoFar l.images l.number l.pages.items

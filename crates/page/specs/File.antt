@@ -1,0 +1,66 @@
+-- The one spelling of a store in bytes (own).
+use Rattle.std.specs.Prelude.{◌≡◌, ◌≢◌, ℕ, ◌+◌, ◌*◌, ◌<◌, ◌≤◌, ◌^◌, List, [], ◌∷◌, ◌++◌, All, length, take, drop}
+use Rattle.std.specs.Int.{w32, w64, to_be_bytes}
+use Rattle.std.specs.List.{flat_map}
+use Rattle.page.specs.declared.fault.Fault.{Fault}
+use Rattle.page.specs.declared.fault.Fault.TheVariants.{NoResource, BadStoreHeader, StoreSize, BadPage}
+use Rattle.page.specs.Image.{page_text, FitsPage}
+use Rattle.page.specs.Images.{FirstBadPage}
+use Rattle.page.specs.Store.{StoreContent, AreNumbered}
+
+-- "ARIESPG1"
+abbrev pub magic : List ℕ
+magic = 0x41 ∷ 0x52 ∷ 0x49 ∷ 0x45 ∷ 0x53 ∷ 0x50 ∷ 0x47 ∷ 0x31 ∷ []
+
+-- magic, page count, zero, master
+abbrev pub store_header : ℕ → ℕ → List ℕ
+store_header count master = magic ++ to_be_bytes w32 count ++ to_be_bytes w32 0 ++ to_be_bytes w64 master
+
+-- header, and the images of the pages in order
+abbrev pub store_text : StoreContent → List ℕ
+store_text store = store_header (length store.pages) store.master ++ flat_map page_text store.pages
+
+-- a store that has a spelling, as each store of the program has
+pub record FitsStore (store : StoreContent) : Type 0 where
+  pub master : store.master < 2 ^ 64
+  pub numbered : AreNumbered store.pages
+  pub pages : All FitsPage store.pages
+
+-- these bytes spell this store
+pub record SpellsStore (bytes : List ℕ) (store : StoreContent) : Type 0 where
+  pub fits : FitsStore store
+  pub text : bytes ≡ store_text store
+
+-- these bytes begin with the header of so many pages, 1 to 4,096, and this master
+pub record BeginsWithHeader (bytes : List ℕ) (count master : ℕ) : Type 0 where
+  pub text : take 24 bytes ≡ store_header count master
+  pub some : 0 < count
+  pub few : count ≤ 4096
+  pub small : master < 2 ^ 64
+
+-- the images behind the header
+abbrev pub images_of : List ℕ → List ℕ
+images_of bytes = drop 24 bytes
+
+-- the header is right, and the length is not what it says
+pub record HasWrongSize (bytes : List ℕ) : Type 0 where
+  pub count : ℕ
+  pub master : ℕ
+  pub header : BeginsWithHeader bytes count master
+  pub size : length bytes ≢ 24 + 1024 * count
+
+-- header and length are right, and page n is the smallest whose image spells no page of its number
+pub record HasBadPage (bytes : List ℕ) (n : ℕ) : Type 0 where
+  pub count : ℕ
+  pub master : ℕ
+  pub header : BeginsWithHeader bytes count master
+  pub size : length bytes ≡ 24 + 1024 * count
+  pub page : FirstBadPage (images_of bytes) count n
+
+-- why bytes are refused: what is wrong, and nothing that is looked at before it
+abbrev pub StoreFault : List ℕ → Fault → Type 0
+StoreFault bytes NoResource = Unit {0}
+StoreFault bytes BadStoreHeader = (count master : ℕ) → ¬ BeginsWithHeader bytes count master
+StoreFault bytes StoreSize = HasWrongSize bytes
+StoreFault bytes (BadPage n) = HasBadPage bytes n
+StoreFault bytes e = ⊥

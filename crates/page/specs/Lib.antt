@@ -1,0 +1,7 @@
+pub mod Fault
+pub mod File
+pub mod Image
+pub mod Images
+pub mod Laws
+pub mod Parts
+pub mod Store

@@ -1,0 +1,16 @@
+-- The parts of a page's image that the decoder reads one after the other (own).
+use Rattle.std.specs.Prelude.{◌≡◌, ℕ, List, All, length, take}
+use Rattle.page.specs.Image.{Image, cell, entry, directory, body, FitsSlot}
+
+-- these entries and bytes, from a slot's entry and place on, begin with the entry and the cell of this slot
+pub record BeginsWithSlot (entries bytes : List ℕ) (place : ℕ) (slot : Image) : Type 0 where
+  pub fits : FitsSlot slot
+  pub entry : take 4 entries ≡ entry place slot
+  pub cell : take (length (cell slot)) bytes ≡ cell slot
+
+-- this directory and these bytes from byte 80 on spell these slots
+pub record SpellsSlots (entries bytes : List ℕ) (slots : List Image) : Type 0 where
+  pub count : length slots ≡ 16
+  pub values : All FitsSlot slots
+  pub directory : entries ≡ directory 80 slots
+  pub body : bytes ≡ body slots

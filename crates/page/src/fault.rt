@@ -1,0 +1,160 @@
+//! Why a call was refused.
+
+ghost use Rattle.std.specs.Prelude.{◌≡◌};
+ghost use Rattle.page.specs.Fault.{number_of};
+
+use std::alloc::{AllocError, AllocFailed};
+use thiserror::Error;
+
+/// Why a call was refused. What a variant carries is the place of its cause: an offset in bytes of a
+/// frame's length field in the log file, an LSN, or a page number.
+#[derive(Clone, Copy, Debug, PartialEq, Eq, Error)]
+pub enum Fault {
+    /// Memory or a thread was refused in the call.
+    #[error("no resource")]
+    NoResource,
+    /// The reader of the log failed.
+    #[error("reading the log failed")]
+    ReadLog,
+    /// The reader of the store failed.
+    #[error("reading the store failed")]
+    ReadStore,
+    /// The writer of the log failed.
+    #[error("writing the log failed")]
+    WriteLog,
+    /// The writer of the store failed.
+    #[error("writing the store failed")]
+    WriteStore,
+    /// The first 8 bytes of the log are not `ARIESLG1`.
+    #[error("bad log header")]
+    BadLogHeader,
+    /// The length field of the frame at this offset lies outside 9 to 70,681.
+    #[error("bad length at byte {0}")]
+    BadLength(u64),
+    /// The body of the frame at this offset spells no record with any LSN.
+    #[error("bad record at byte {0}")]
+    BadRecord(u64),
+    /// The body of the frame at this offset spells a record with another LSN than its number.
+    #[error("bad LSN at byte {0}")]
+    BadLsn(u64),
+    /// The store has fewer than 24 bytes, another magic, a page count outside 1 to 4,096, or a
+    /// reserved byte that is not zero.
+    #[error("bad store header")]
+    BadStoreHeader,
+    /// The store's length is not 24 + 1,024 x its page count.
+    #[error("bad store size")]
+    StoreSize,
+    /// The image at this page's place is no spelling of a page of that number; the smallest one.
+    #[error("bad image of page {0}")]
+    BadPage(u32),
+    /// The master is not 0, and its record is no checkpoint begin or no later end names it.
+    #[error("bad master")]
+    BadMaster,
+    /// The record at this LSN names a page that the store does not have.
+    #[error("no such page at LSN {0}")]
+    NoSuchPage(u64),
+    /// The PageLSN of this page is above the log's length; the smallest such page.
+    #[error("page {0} is ahead of the log")]
+    PageAheadOfLog(u32),
+    /// An undo was sent to this LSN, where no update or CLR of its transaction stands below the
+    /// record that it came from.
+    #[error("broken chain at LSN {0}")]
+    BrokenChain(u64),
+    /// Pages or parts outside 1 to 4,096, or a parting that does not give each page one of its parts.
+    #[error("bad parting")]
+    BadParting,
+    /// Workers outside 1 to 64.
+    #[error("bad worker count")]
+    BadWorkers,
+    /// What the product does not treat yet.
+    #[error("not yet")]
+    NotYet,
+    /// The PrevLSN of the record at this LSN is not its transaction's last record.
+    #[error("wrong previous LSN at LSN {0}")]
+    Chain(u64),
+    /// A commit, abort or end of its transaction forbids the record at this LSN.
+    #[error("record after finish at LSN {0}")]
+    AfterFinish(u64),
+    /// The CLR at this LSN does not compensate its transaction's latest pending update.
+    #[error("wrong compensation at LSN {0}")]
+    WrongCompensation(u64),
+    /// The before image of the update at this LSN is not its cell's value.
+    #[error("wrong before image at LSN {0}")]
+    BeforeImage(u64),
+    /// The update at this LSN is in a cell of another unfinished transaction.
+    #[error("dirty write at LSN {0}")]
+    DirtyWrite(u64),
+    /// The end at this LSN stands without a commit while updates are left.
+    #[error("end too early at LSN {0}")]
+    EndTooEarly(u64),
+    /// The image of this page is not the log's page at its PageLSN.
+    #[error("wrong content of page {0}")]
+    PageImage(u32),
+    /// The checkpoint's transaction table is not exactly the unfinished transactions before its begin.
+    #[error("wrong transaction table")]
+    TransactionTable,
+    /// The checkpoint's dirty page table leaves out a record that this page's image lacks, or lists
+    /// a RecLSN outside 1 to the master; the smallest such page.
+    #[error("wrong dirty page table at page {0}")]
+    DirtyTable(u32),
+}
+
+impl Fault {
+    /// Its number, 1 to 28, as the program prints it.
+    pub fn number(self) -> u8
+        ensures { result ≡ number_of self }
+    {
+        match self {
+            Fault::NoResource => 1,
+            Fault::ReadLog => 2,
+            Fault::ReadStore => 3,
+            Fault::WriteLog => 4,
+            Fault::WriteStore => 5,
+            Fault::BadLogHeader => 6,
+            Fault::BadLength(_) => 7,
+            Fault::BadRecord(_) => 8,
+            Fault::BadLsn(_) => 9,
+            Fault::BadStoreHeader => 10,
+            Fault::StoreSize => 11,
+            Fault::BadPage(_) => 12,
+            Fault::BadMaster => 13,
+            Fault::NoSuchPage(_) => 14,
+            Fault::PageAheadOfLog(_) => 15,
+            Fault::BrokenChain(_) => 16,
+            Fault::BadParting => 17,
+            Fault::BadWorkers => 18,
+            Fault::NotYet => 19,
+            Fault::Chain(_) => 20,
+            Fault::AfterFinish(_) => 21,
+            Fault::WrongCompensation(_) => 22,
+            Fault::BeforeImage(_) => 23,
+            Fault::DirtyWrite(_) => 24,
+            Fault::EndTooEarly(_) => 25,
+            Fault::PageImage(_) => 26,
+            Fault::TransactionTable => 27,
+            Fault::DirtyTable(_) => 28,
+        }
+    }
+}
+
+impl From<AllocError> for Fault {
+    ghost use Rattle.std.specs.Prelude.{◌≡◌};
+    ghost use Rattle.page.specs.declared.fault.Fault.TheVariants.{NoResource};
+
+    ghost from_gives = { λ _ e. e ≡ NoResource };
+
+    fn from(_e: AllocError) -> Fault {
+        Fault::NoResource
+    }
+}
+
+impl<T: Drop> From<AllocFailed<T>> for Fault {
+    ghost use Rattle.std.specs.Prelude.{◌≡◌};
+    ghost use Rattle.page.specs.declared.fault.Fault.TheVariants.{NoResource};
+
+    ghost from_gives = { λ _ e. e ≡ NoResource };
+
+    fn from(_e: AllocFailed<T>) -> Fault {
+        Fault::NoResource
+    }
+}

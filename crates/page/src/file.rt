@@ -1,0 +1,102 @@
+//! The store file: header and page images.
+
+ghost use Rattle.std.specs.Prelude.{◌≡◌, ◌<◌, ◌≤◌, ◌*◌, ◌^◌, ℕ, IfSome, IfOk, IfErr, OnOk, MatchResult, length};
+ghost use Rattle.page.specs.Store.{StoreContent};
+ghost use Rattle.page.specs.File.{store_header, store_text, FitsStore, SpellsStore, BeginsWithHeader, StoreFault};
+ghost use Rattle.page.specs.Images.{SpellPages, PagesFault};
+
+use crate::image::{encode_page, page_at};
+use crate::numbers::numbers_at;
+use crate::{Fault, Page, Store};
+use byteorder::{BigEndian, ByteOrder};
+use std::alloc::Global;
+
+/// The first 24 bytes of a store file.
+fn header(count: u32, master: u64) -> [u8; 24]
+    ensures text { result ≡ store_header count master }
+    ensures fits { master < 2 ^ 64 }
+{
+    let mut header = [0; 24];
+    header[..8].copy_from_slice(b"ARIESPG1");
+    BigEndian::write_u32(&mut header[8..], count);
+    BigEndian::write_u64(&mut header[16..], master);
+    header
+}
+
+/// The one spelling of a store: `ARIESPG1`, page count, four zeros, master; then the images of the
+/// pages in order: 24 + 1,024 x count bytes, all numbers big endian. The only error is `NoResource`,
+/// where memory is refused.
+pub fn encode_store(alloc: Global, store: &Store) -> Result<Vec<u8>, Fault>
+    ensures ok { IfOk result (λ bytes. bytes.items ≡ store_text store.now) }
+    ensures fits { OnOk result (FitsStore store.now) }
+    ensures err { IfErr result (λ e. e ≡ Fault.NoResource) }
+{
+    let pages = &store.pages;
+    let mut bytes = Vec::with_capacity(alloc, 24 + 1024 * pages.len())?;
+    bytes.extend_from_slice(&header(pages.len() as u32, store.master))?;
+    for page in pages {
+        bytes.extend_from_slice(&encode_page(page))?;
+    }
+    Ok(bytes)
+}
+
+/// Page count and master in the header of a store file.
+fn header_at(bytes: &[u8]) -> Option<(u32, u64)>
+    ensures found { IfSome result (λ header. BeginsWithHeader bytes.now header.0 header.1) }
+    ensures only { (count master : ℕ) → BeginsWithHeader bytes.now count master → result ≡ Some (count, master) }
+{
+    if bytes.len() < 24 {
+        return None;
+    }
+    let (front, _) = bytes.split_at(24);
+    let (magic, numbers) = front.split_at(8);
+    if magic != b"ARIESPG1".as_slice() {
+        return None;
+    }
+    let (count, zero, master) = numbers_at(numbers);
+    if zero != 0 || count == 0 || count > 4096 {
+        return None;
+    }
+    Some((count, master))
+}
+
+/// The pages 0, 1, .. whose images stand one after the other.
+fn pages_at(alloc: Global, images: &[u8], count: u32) -> Result<Vec<Page>, Fault>
+    requires size { length images.now ≡ 1024 * count }
+    requires few { count ≤ 4096 }
+    ensures found { IfOk result (λ pages. SpellPages images.now count pages.items) }
+    ensures fault { IfErr result (PagesFault images.now count) }
+{
+    let mut pages = Vec::with_capacity(alloc, count as usize)?;
+    for number in 0..count {
+        let (_, rest) = images.split_at(1024 * number as usize);
+        let (image, _) = rest.split_at(1024);
+        let Some(page) = page_at(image, number) else {
+            return Err(Fault::BadPage(number));
+        };
+        // Taken apart, since the check has to see the type of a slot where a page is pushed.
+        let slots = page.slots;
+        pages.push(Page { slots, ..page })?;
+    }
+    Ok(pages)
+}
+
+/// The store that the bytes spell. Else the first of `BadStoreHeader`, `StoreSize` and `BadPage` of
+/// the smallest page whose image is not the spelling of a page of its number; or `NoResource`, where
+/// memory is refused.
+pub fn decode_store(alloc: Global, bytes: &[u8]) -> Result<Store, Fault>
+    ensures found { IfOk result (SpellsStore bytes.now) }
+    ensures only { (store : StoreContent) → SpellsStore bytes.now store
+        → MatchResult result (λ read. read ≡ store) (λ e. e ≡ Fault.NoResource) }
+    ensures fault { IfErr result (StoreFault bytes.now) }
+{
+    let Some((count, master)) = header_at(bytes) else {
+        return Err(Fault::BadStoreHeader);
+    };
+    let (_, images) = bytes.split_at(24);
+    if images.len() != 1024 * count as usize {
+        return Err(Fault::StoreSize);
+    }
+    let pages = pages_at(alloc, images, count)?;
+    Ok(Store { master, pages })
+}

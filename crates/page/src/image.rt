@@ -1,0 +1,182 @@
+//! The image of a page: 1,024 bytes.
+
+ghost use Rattle.std.specs.Prelude.{◌≡◌, ◌≢◌, ◌<◌, ◌≤◌, ◌^◌, ◌↔◌, ◌++◌, List, All, IsTrue, IfSome, IfOk, IfErr, length, take, replicate};
+ghost use Rattle.std.specs.Int.{w16, w32, w64, to_be_bytes};
+ghost use Rattle.page.specs.declared.page.Page.{Page};
+ghost use Rattle.page.specs.Image.{Image, cell, entry, directory, header, body, page_text, FitsSlot, FitsPage, SpellsPage};
+ghost use Rattle.page.specs.Parts.{BeginsWithSlot, SpellsSlots};
+
+use crate::numbers::numbers_at;
+use crate::{Fault, Page, Value};
+use byteorder::{BigEndian, ByteOrder};
+
+/// The bytes that a slot takes among the cells.
+fn cell(slot: &Option<Value>) -> &[u8]
+    ensures bytes { result.now ≡ cell slot.now }
+    ensures short { length result.now ≤ 48 }
+{
+    match slot {
+        None => &[],
+        Some(value) => value.as_slice(),
+    }
+}
+
+/// The directory entry of a slot whose cell has this place.
+fn entry(place: u16, slot: &Option<Value>) -> [u8; 4]
+    ensures { result ≡ entry place slot.now }
+{
+    let mut entry = [0; 4];
+    if let Some(value) = slot {
+        BigEndian::write_u16(&mut entry, place);
+        BigEndian::write_u16(&mut entry[2..], value.as_slice().len() as u16);
+    }
+    entry
+}
+
+/// Writes the directory of these slots.
+fn put_directory(slots: &[Option<Value>; 16], entries: &mut [u8])
+    requires { length entries.old ≡ 64 }
+    ensures text { entries.new ≡ directory 80 slots.now }
+    ensures count { length slots.now ≡ 16 }
+    ensures fits { All FitsSlot slots.now }
+{
+    let mut place = 80;
+    for (i, slot) in slots.iter().enumerate() {
+        entries[4 * i..4 * i + 4].copy_from_slice(&entry(place, slot));
+        place += cell(slot).len() as u16;
+    }
+}
+
+/// Writes the present cells of these slots, and zeros behind them.
+fn put_cells(slots: &[Option<Value>; 16], room: &mut [u8])
+    requires { length room.old ≡ 944 }
+    ensures { room.new ≡ body slots.now }
+{
+    let mut end = 0;
+    for slot in slots {
+        let bytes = cell(slot);
+        room[end..end + bytes.len()].copy_from_slice(bytes);
+        end += bytes.len();
+    }
+    room[end..].fill(0);
+}
+
+/// The first 16 bytes of a page's image.
+fn header(number: u32, lsn: u64) -> [u8; 16]
+    ensures text { result ≡ header number lsn }
+    ensures fits { (number < 2 ^ 32) × (lsn < 2 ^ 64) }
+{
+    let mut header = [0; 16];
+    BigEndian::write_u32(&mut header, number);
+    BigEndian::write_u64(&mut header[8..], lsn);
+    header
+}
+
+/// Writes the image of a page.
+fn put_page(page: &Page, image: &mut [u8])
+    requires { length image.old ≡ 1024 }
+    ensures text { image.new ≡ page_text page.now }
+    ensures fits { FitsPage page.now }
+{
+    image[..16].copy_from_slice(&header(page.number, page.lsn));
+    put_directory(&page.slots, &mut image[16..80]);
+    put_cells(&page.slots, &mut image[80..]);
+}
+
+/// The one spelling of a page: page number, four zeros, PageLSN; 16 directory entries of offset and
+/// length; the present cells in slot order from byte 80 on; zeros. All numbers are big endian.
+pub fn encode_page(page: &Page) -> [u8; 1024]
+    ensures text { result ≡ page_text page.now }
+    ensures fits { FitsPage page.now }
+{
+    let mut image = [0; 1024];
+    put_page(page, &mut image);
+    image
+}
+
+/// The offset and the length in the directory entry that stands first.
+fn entry_at(entries: &[u8]) -> (u16, u16)
+    requires { 4 ≤ length entries.now }
+    ensures text { take 4 entries.now ≡ to_be_bytes w16 result.0 ++ to_be_bytes w16 result.1 }
+    ensures fits { (result.0 < 2 ^ 16) × (result.1 < 2 ^ 16) }
+{
+    let (offset, rest) = entries.split_at(2);
+    (BigEndian::read_u16(offset), BigEndian::read_u16(rest))
+}
+
+/// The slot whose directory entry stands first in `entries` and whose cell, at this place, first in
+/// `bytes`.
+fn slot_at(entries: &[u8], bytes: &[u8], place: u16) -> Option<Option<Value>>
+    requires entry { 4 ≤ length entries.now }
+    requires place { 0 < place }
+    ensures found { IfSome result (BeginsWithSlot entries.now bytes.now place) }
+    ensures only { (slot : Image) → BeginsWithSlot entries.now bytes.now place slot → result ≡ Some slot }
+{
+    let (offset, length) = entry_at(entries);
+    if offset == 0 && length == 0 {
+        return Some(None);
+    }
+    if offset != place {
+        return None;
+    }
+    let value = Value::new(bytes.get(..length as usize)?)?;
+    Some(Some(value))
+}
+
+/// Whether all of these bytes are zero.
+fn is_zero(bytes: &[u8]) -> bool
+    ensures { IsTrue result ↔ (bytes.now ≡ replicate (length bytes.now) 0) }
+{
+    bytes.iter().all(|byte| *byte == 0)
+}
+
+/// The slots that this directory and the bytes behind it spell.
+fn slots_at(entries: &[u8], bytes: &[u8]) -> Option<[Option<Value>; 16]>
+    requires entries { length entries.now ≡ 64 }
+    requires bytes { length bytes.now ≡ 944 }
+    ensures found { IfSome result (SpellsSlots entries.now bytes.now) }
+    ensures only { (slots : List Image) → SpellsSlots entries.now bytes.now slots → result ≡ Some slots }
+{
+    let mut slots = [None; 16];
+    let mut end = 0;
+    for i in 0..16 {
+        let (_, entry) = entries.split_at(4 * i);
+        let (_, rest) = bytes.split_at(end);
+        let slot = slot_at(entry, rest, 80 + end as u16)?;
+        end += cell(&slot).len();
+        slots[i] = slot;
+    }
+    let (_, rest) = bytes.split_at(end);
+    if !is_zero(rest) {
+        return None;
+    }
+    Some(slots)
+}
+
+/// The page of this number that these 1,024 bytes spell.
+pub fn page_at(bytes: &[u8], number: u32) -> Option<Page>
+    requires { length bytes.now ≡ 1024 }
+    ensures found { IfSome result (λ page. SpellsPage bytes.now page × (page.number ≡ number)) }
+    ensures only { (page : Page) → SpellsPage bytes.now page → page.number ≡ number → result ≡ Some page }
+{
+    let (header, rest) = bytes.split_at(16);
+    let (entries, body) = rest.split_at(64);
+    let (own, zero, lsn) = numbers_at(header);
+    if own != number || zero != 0 {
+        return None;
+    }
+    let slots = slots_at(entries, body)?;
+    Some(Page { number, lsn, slots })
+}
+
+/// The page of this number that the bytes spell. Any other image is `BadPage(number)`.
+pub fn decode_page(bytes: &[u8; 1024], number: u32) -> Result<Page, Fault>
+    ensures found { IfOk result (λ page. SpellsPage bytes.now page × (page.number ≡ number)) }
+    ensures only { (page : Page) → SpellsPage bytes.now page → page.number ≡ number → result ≡ Ok page }
+    ensures bad { IfErr result (λ e. (e ≡ Fault.BadPage number) × ((page : Page) → SpellsPage bytes.now page → page.number ≢ number)) }
+{
+    match page_at(bytes, number) {
+        Some(page) => Ok(page),
+        None => Err(Fault::BadPage(number)),
+    }
+}

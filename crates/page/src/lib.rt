@@ -1,0 +1,22 @@
+//! Pages of a store: values, pages, stores, the faults of a restart, and the one spelling of each in
+//! bytes.
+#![tactic(auto)]
+
+mod fault;
+mod file;
+mod image;
+mod laws;
+mod numbers;
+mod page;
+mod store;
+#[cfg(test)]
+mod tests;
+mod value;
+
+pub use fault::Fault;
+pub use file::{decode_store, encode_store};
+pub use image::{decode_page, encode_page};
+pub use laws::{one_page_spelling, one_store_spelling};
+pub use page::Page;
+pub use store::Store;
+pub use value::Value;

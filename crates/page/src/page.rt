@@ -1,0 +1,46 @@
+//! A page.
+
+ghost use Rattle.std.specs.Prelude.{◌≡◌, ◌<◌, None, slice_get, slice_set, replicate, Some};
+
+use crate::Value;
+
+/// A page: 16 slots, each absent or a value.
+#[derive(Clone, Copy)]
+pub struct Page {
+    /// Its number, from 0.
+    pub number: u32,
+    /// PageLSN: the LSN of the record of the latest update in it, 0 for none.
+    pub lsn: u64,
+    /// What the slots hold, None for absent.
+    pub slots: [Option<Value>; 16],
+}
+
+impl Page {
+    /// The empty page of this number: PageLSN 0 and all slots absent.
+    pub fn empty(number: u32) -> Page
+        ensures { result ≡ record { number = number; lsn = 0; slots = replicate 16 None } }
+    {
+        Page {
+            number,
+            lsn: 0,
+            slots: [None; 16],
+        }
+    }
+
+    /// What slot `i` holds.
+    pub fn slot(&self, i: usize) -> Option<Value>
+        requires { i < 16 }
+        ensures { slice_get self.now.slots i ≡ Some result }
+    {
+        self.slots[i]
+    }
+
+    /// Puts a value, or none, into slot `i` as the record at this LSN did.
+    pub fn set(&mut self, i: usize, value: Option<Value>, lsn: u64)
+        requires { i < 16 }
+        ensures { self.new ≡ record self.old { lsn = lsn; slots = slice_set self.old.slots i value } }
+    {
+        self.slots[i] = value;
+        self.lsn = lsn;
+    }
+}

@@ -1,0 +1,53 @@
+//! What a slot holds.
+
+ghost use Rattle.std.specs.Prelude.{◌≡◌, ◌≤◌, ◌-◌, ◌++◌, ℕ, List, length, take, replicate, IfSome, IsSome, ◌↔◌};
+ghost use mathlib.Core.Path.{sym, ap, ap₂, ◌∙◌};
+
+use std::marker::Model;
+
+/// A value of 0 to 48 bytes, held in place: it is copied and takes no memory. Contracts see it as
+/// the list of its bytes.
+#[derive(Clone, Copy)]
+pub struct Value {
+    bytes: [u8; 48],
+    len: u8,
+}
+
+impl Model for Value {
+    ghost Value = { List ℕ };
+
+    ghost view = { λ v. take v.len v.bytes };
+
+    ghost invariant = { λ v. (v.len ≤ 48) × (length (take v.len v.bytes) ≡ v.len) × (v.bytes ≡ take v.len v.bytes ++ replicate (48 - v.len) 0) };
+
+    ghost inverse = { λ d. record { bytes = d ++ replicate (48 - length d) 0; len = length d } };
+
+    ghost inverse_ok = { λ a h. ap₂ (λ b n. record { bytes = b; len = n }) (ap (λ n. take a.len a.bytes ++ replicate (48 - n) 0) h.1 ∙ sym h.2) h.1 };
+}
+
+impl Value {
+    /// The value of these bytes, or None where there are more than 48.
+    pub fn new(bytes: &[u8]) -> Option<Value>
+        ensures found { IfSome result (λ v. v ≡ bytes.now) }
+        ensures fits { IsSome result ↔ (length bytes.now ≤ 48) }
+    {
+        let len = bytes.len();
+        if len > 48 {
+            return None;
+        }
+        let mut all = [0; 48];
+        all[..len].copy_from_slice(bytes);
+        Some(Value {
+            bytes: all,
+            len: len as u8,
+        })
+    }
+
+    /// Its bytes.
+    pub fn as_slice(&self) -> &[u8]
+        ensures value { result.now ≡ self.now }
+        ensures short { length result.now ≤ 48 }
+    {
+        &self.bytes[..self.len as usize]
+    }
+}

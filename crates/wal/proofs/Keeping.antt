@@ -1,0 +1,33 @@
+-- What a failed write leaves in front.
+use Rattle.std.proofs.Common.{◌≡◌, ℕ, Bool, true, false, cond, List, [], ◌++◌, length, take, refl, sym, ap, ◌∙◌, append_assoc}
+use Rattle.std.proofs.lemmas.List.{take_at, append-nil}
+use Rattle.wal.specs.Content.{Keeps}
+
+pub keeps_same : (old : List ℕ) → Keeps old old
+keeps_same old = record { more = []; is = sym (append-nil old) }
+
+pub keeps_then : (old mid new : List ℕ) → Keeps old mid → Keeps mid new → Keeps old new
+keeps_then old mid new a b = record { more = a.more ++ b.more; is = b.is ∙ ap (λ (x : List ℕ). x ++ b.more) a.is ∙ append_assoc old a.more b.more }
+
+pub keeps_is : (old more new : List ℕ) → new ≡ old ++ more → Keeps old new
+keeps_is old more new e = record { more = more; is = e }
+
+-- one more write, done or refused
+pub keeps_if : (b : Bool) (old mid more new : List ℕ) → Keeps old mid → new ≡ cond b (mid ++ more) mid → Keeps old new
+keeps_if true old mid more new a e = keeps_then old mid new a (keeps_is mid more new e)
+keeps_if false old mid more new a e = record { more = a.more; is = e ∙ a.is }
+
+-- what is left when the rest is cut off
+pub cut_back : (old new : List ℕ) → Keeps old new → take (length old) new ≡ old
+cut_back old new k = ap (take (length old)) k.is ∙ take_at old k.more (length old) refl
+
+-- three writes in a row
+pub three : (old a b c m1 m2 m3 : List ℕ) → m1 ≡ old ++ a → m2 ≡ m1 ++ b → m3 ≡ m2 ++ c → m3 ≡ old ++ (a ++ (b ++ c))
+three old a b c m1 m2 m3 p q r = rw (r, q, p) (simp append_assoc)
+
+-- four writes in a row
+pub four : (old a b c d e m1 m2 m3 m4 : List ℕ) → m1 ≡ old ++ a → m2 ≡ m1 ++ (b ++ c) → m3 ≡ m2 ++ d → m4 ≡ m3 ++ e → m4 ≡ old ++ (a ++ (b ++ (c ++ (d ++ e))))
+four old a b c d e m1 m2 m3 m4 p q r s = rw (s, r, q, p) (simp append_assoc)
+
+pub four_apart : (old a b c d m1 m2 m3 m4 : List ℕ) → m1 ≡ old ++ a → m2 ≡ m1 ++ b → m3 ≡ m2 ++ c → m4 ≡ m3 ++ d → m4 ≡ old ++ (a ++ (b ++ (c ++ d)))
+four_apart old a b c d m1 m2 m3 m4 p q r s = rw (s, r, q, p) (simp append_assoc)

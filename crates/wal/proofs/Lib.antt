@@ -1,0 +1,11 @@
+pub mod Places
+pub mod Loop
+pub mod Fields
+pub mod Rising
+pub mod Tables
+pub mod TableFields
+pub mod Bodies
+pub mod Whole
+pub mod Keeping
+pub mod Rows
+pub mod Prefixes

@@ -1,0 +1,143 @@
+-- Reading frames one after the other, as a loop does.
+use Rattle.std.proofs.Common.{◌≡◌, ℕ, suc, ◌-◌, ◌+◌, ◌≤◌, ◌<◌, ◌⊎◌, inl, inr, Bool, true, false, ◌||◌, cond, eqb, ltb, List, [], ◌∷◌, ◌++◌, length, drop, Option, Some, None, Result, Ok, Err, refl, sym, ap, ap₂, ◌∙◌, append_assoc, arith, eqb-true, map}
+use Rattle.std.specs.Prelude.{All, is_some, option_map, unwrap_or}
+use Rattle.std.proofs.lemmas.Bool.{ltb-false}
+use Rattle.std.proofs.lemmas.List.{append-nil, map_push, length-drop, drop-drop}
+use Rattle.std.proofs.lemmas.List.Elements.{All-push}
+use Rattle.page.specs.declared.fault.Fault.{Fault}
+use Rattle.page.specs.declared.fault.Fault.TheVariants.{NoResource, BadLsn}
+use Rattle.wal.specs.Records.{LogRecord, CheckpointBegin}
+use Rattle.wal.specs.Frames.{length_of, frame_at, judged, next_at, frames_at, ◌>>=◌, IsPlace, record_of, Fails}
+
+pub chosen : {A : Type 0} (b : Bool) (x y z : A) → cond b x y ≡ z → ((b ≡ true) × (x ≡ z)) ⊎ ((b ≡ false) × (y ≡ z))
+chosen true x y z e = inl (refl, e)
+chosen false x y z e = inr (refl, e)
+
+-- a whole frame with the right LSN stands in front
+pub record Found (lsn : ℕ) (bytes : List ℕ) (r : LogRecord) (size : ℕ) : Type 0 where
+  pub size_is : size ≡ 4 + length_of bytes
+  pub whole : 4 + length_of bytes ≤ length bytes
+  pub low : 9 ≤ length_of bytes
+  pub high : length_of bytes ≤ 70681
+  pub spelled : frame_at bytes ≡ Some (r, lsn)
+
+judged_is : (lsn offset size : ℕ) (f : Option (LogRecord × ℕ)) (x : LogRecord × ℕ) → judged lsn offset size f ≡ Ok (Some x) → (f ≡ Some (x.0, lsn)) × (x.1 ≡ size)
+judged_is lsn offset size None x e = absurd cc
+judged_is lsn offset size (Some y) x e =
+    elim (chosen (eqb y.1 lsn) (Ok (Some (y.0, size))) (Err (BadLsn offset)) (Ok (Some x)) e) [
+      | inl p ↦
+          (let q : ◌≡◌ {A = LogRecord × ℕ} (y.0, size) x = cc in
+          (ap₂ (λ a b. Some (a, b)) (ap (λ w. w.0) q) (eqb-true y.1 lsn p.0), sym (ap (λ w. w.1) q)))
+      | inr p ↦ absurd cc
+    ]
+
+pub or_false : (a b : Bool) → (a || b) ≡ false → (a ≡ false) × (b ≡ false)
+or_false true b e = absurd cc
+or_false false b e = (refl, e)
+
+pub next_is : (lsn offset : ℕ) (bytes : List ℕ) (r : LogRecord) (size : ℕ) → next_at lsn offset bytes ≡ Ok (Some (r, size)) → Found lsn bytes r size
+unfolding next_at
+next_is lsn offset bytes r size e =
+    elim (chosen (ltb (length bytes) 4) _ _ _ e) [
+      | inl p ↦ absurd cc
+      | inr p ↦
+          elim (chosen (ltb (length_of bytes) 9 || ltb 70681 (length_of bytes)) _ _ _ p.1) [
+            | inl q ↦ absurd cc
+            | inr q ↦
+                elim (chosen (ltb (length bytes) (4 + length_of bytes)) _ _ _ q.1) [
+                  | inl w ↦ absurd cc
+                  | inr w ↦
+                      (let bounds = or_false (ltb (length_of bytes) 9) (ltb 70681 (length_of bytes)) q.0 in
+                      let found = judged_is lsn offset (4 + length_of bytes) (frame_at bytes) (r, size) w.1 in
+                      record {
+                        size_is = found.1;
+                        whole = ltb-false _ _ w.0;
+                        low = ltb-false _ _ bounds.0;
+                        high = ltb-false _ _ bounds.1;
+                        spelled = found.0;
+                      })
+                ]
+          ]
+    ]
+
+-- what was read before, and what is still read
+abbrev pub with_front : List LogRecord → Result (List LogRecord × ℕ) Fault → Result (List LogRecord × ℕ) Fault
+with_front front read = read >>= λ x. Ok (front ++ x.0, x.1)
+
+regroup : (front : List LogRecord) (r : LogRecord) (read : Result (List LogRecord × ℕ) Fault) → with_front front (read >>= λ x. Ok (r ∷ x.0, x.1)) ≡ with_front (front ++ r ∷ []) read
+regroup front r (Ok x) = ap (λ (rs : List LogRecord). Ok (rs, x.1)) (simp append_assoc)
+regroup front r (Err f) = refl
+
+pub goes_on : (front : List LogRecord) (limit i offset : ℕ) (bytes : List ℕ) (r : LogRecord) (size : ℕ) (total : Result (List LogRecord × ℕ) Fault) → i < limit → next_at (i + 1) offset bytes ≡ Ok (Some (r, size))
+    → with_front front (frames_at (limit - i) (i + 1) offset bytes) ≡ total → with_front (front ++ r ∷ []) (frames_at (limit - (i + 1)) (i + 1 + 1) (offset + size) (drop size bytes)) ≡ total
+unfolding frames_at
+goes_on front limit i offset bytes r size total lt h so_far =
+    let k : limit - i ≡ suc (limit - (i + 1)) = omega arith in
+    let one : with_front front (frames_at (limit - i) (i + 1) offset bytes) ≡ with_front (front ++ r ∷ []) (frames_at (limit - (i + 1)) (i + 1 + 1) (offset + size) (drop size bytes)) = rw (k, h) (regroup front r (frames_at (limit - (i + 1)) (i + 1 + 1) (offset + size) (drop size bytes))) in
+    sym one ∙ so_far
+
+pub fails : (e : Fault) (front : List LogRecord) (limit i offset : ℕ) (bytes : List ℕ) (total : Result (List LogRecord × ℕ) Fault) → i < limit → Fails e (next_at (i + 1) offset bytes)
+    → with_front front (frames_at (limit - i) (i + 1) offset bytes) ≡ total → Fails e total
+unfolding frames_at
+fails NoResource front limit i offset bytes total lt h so_far = tt
+fails e front limit i offset bytes total lt h so_far =
+    let k : limit - i ≡ suc (limit - (i + 1)) = omega arith in
+    let one : with_front front (frames_at (limit - i) (i + 1) offset bytes) ≡ Err e = rw (k, h) refl in
+    sym so_far ∙ one
+
+pub ends : (front : List LogRecord) (limit i offset : ℕ) (bytes : List ℕ) (total : Result (List LogRecord × ℕ) Fault) → i < limit → next_at (i + 1) offset bytes ≡ Ok None
+    → with_front front (frames_at (limit - i) (i + 1) offset bytes) ≡ total → total ≡ Ok (front, length bytes)
+unfolding frames_at
+ends front limit i offset bytes total lt h so_far =
+    let k : limit - i ≡ suc (limit - (i + 1)) = omega arith in
+    let one : with_front front (frames_at (limit - i) (i + 1) offset bytes) ≡ Ok (front, length bytes) = rw (k, h) (ap (λ (rs : List LogRecord). Ok (rs, length bytes)) (append-nil front)) in
+    sym so_far ∙ one
+
+pub is_done : (front : List LogRecord) (limit i offset : ℕ) (bytes : List ℕ) (total : Result (List LogRecord × ℕ) Fault) → limit ≤ i
+    → with_front front (frames_at (limit - i) (i + 1) offset bytes) ≡ total → total ≡ Ok (front, length bytes)
+unfolding frames_at
+is_done front limit i offset bytes total le so_far =
+    let k : limit - i ≡ 0 = omega arith in
+    let one : with_front front (frames_at (limit - i) (i + 1) offset bytes) ≡ Ok (front, length bytes) = rw k (ap (λ (rs : List LogRecord). Ok (rs, length bytes)) (append-nil front)) in
+    sym so_far ∙ one
+
+-- ---- the loop's invariant
+
+-- so many frames were read, and this offset stands behind them
+pub record SoFar (bytes : List ℕ) (offsets : List ℕ) (i offset : ℕ) : Type 0 where
+  pub room : offset ≤ length bytes
+  pub places : All (IsPlace bytes) offsets
+  pub read : with_front (map (record_of bytes) offsets) (frames_at (length bytes - i) (i + 1) offset (drop offset bytes)) ≡ frames_at (length bytes) 1 8 (drop 8 bytes)
+
+nothing_in_front : (read : Result (List LogRecord × ℕ) Fault) → with_front [] read ≡ read
+nothing_in_front (Ok x) = refl
+nothing_in_front (Err e) = refl
+
+pub begins : (bytes : List ℕ) → 8 ≤ length bytes → SoFar bytes [] 0 8
+begins bytes h = record {
+  room = h;
+  places = λ i d l. absurd (omega (arith, l));
+  read = ap (λ k. with_front [] (frames_at k 1 8 (drop 8 bytes))) (omega arith) ∙ nothing_in_front (frames_at (length bytes) 1 8 (drop 8 bytes));
+}
+
+record_read : (bytes : List ℕ) (offset lsn : ℕ) (r : LogRecord) → frame_at (drop offset bytes) ≡ Some (r, lsn) → record_of bytes offset ≡ r
+unfolding record_of
+record_read bytes offset lsn r e = ap (λ o. unwrap_or (option_map (λ x. x.0) o) CheckpointBegin) e
+
+pub more : (bytes offsets : List ℕ) (i offset : ℕ) (r : LogRecord) (size : ℕ) → i < length bytes → SoFar bytes offsets i offset → next_at (i + 1) offset (drop offset bytes) ≡ Ok (Some (r, size))
+    → SoFar bytes (offsets ++ offset ∷ []) (i + 1) (offset + size)
+more bytes offsets i offset r size lt so_far e =
+    let found = next_is (i + 1) offset (drop offset bytes) r size e in
+    let rest : length (drop offset bytes) ≡ length bytes - offset = length-drop offset bytes in
+    let front : map (record_of bytes) (offsets ++ offset ∷ []) ≡ map (record_of bytes) offsets ++ r ∷ [] = map_push (record_of bytes) offsets offset ∙ ap (λ (x : LogRecord). map (record_of bytes) offsets ++ x ∷ []) (record_read bytes offset (i + 1) r found.spelled) in
+    let behind : drop size (drop offset bytes) ≡ drop (offset + size) bytes = drop-drop size offset bytes in
+    record {
+      room = omega (arith, so_far.room, found.size_is, found.whole, rest);
+      places = All-push (IsPlace bytes) offsets offset so_far.places (record {
+        room = omega (arith, so_far.room, found.whole, rest);
+        whole = omega (arith, so_far.room, found.whole, rest);
+        spelled = ap is_some found.spelled;
+      });
+      read = ap₂ (λ rs b. with_front rs (frames_at (length bytes - (i + 1)) (i + 1 + 1) (offset + size) b)) front (sym behind)
+          ∙ goes_on (map (record_of bytes) offsets) (length bytes) i offset (drop offset bytes) r size (frames_at (length bytes) 1 8 (drop 8 bytes)) lt e so_far.read;
+    }

@@ -1,0 +1,352 @@
+-- The frames that are read are the frames that stand there, and no others.
+use Rattle.std.proofs.Common.{◌≡◌, ◌≢◌, ◌⊎◌, Bool, ℕ, zero, suc, ◌+◌, ◌-◌, ◌^◌, ◌<◌, ◌≤◌, ◌||◌, true, false, ltb, eqb, eq-eqb, List, [], ◌∷◌, ◌++◌, length, take, drop, Option, Some, None, Result, Ok, Err, refl, sym, ap, ap₂, subst, ◌∙◌, append_assoc, arith, inl, inr}
+use Rattle.std.specs.Prelude.{IfOk, IfErr}
+use Rattle.std.specs.List.{AllByRecursion, starts_with}
+use Rattle.std.proofs.lemmas.Slice.Eq.{starts_is}
+use Rattle.std.proofs.lemmas.Bool.Decides.{Decides-eqb}
+use Rattle.std.specs.Int.{w32, w64, from_be_bytes, to_be_bytes}
+use Rattle.std.proofs.lemmas.Bool.{eqb-false, ltb-false, ltb-true, le-ltb, lt-ltb}
+use Rattle.std.proofs.lemmas.List.{take_at, drop_at, take-append-drop, length-append, length-take, length-drop, drop-drop}
+use Rattle.page.specs.declared.fault.Fault.{Fault}
+use Rattle.page.specs.declared.fault.Fault.TheVariants.{NoResource, BadLogHeader, BadLength, BadRecord, BadLsn}
+use Rattle.wal.specs.declared.record.State.{State}
+use Rattle.wal.specs.declared.record.State.TheVariants.{Active, Aborting}
+use Rattle.wal.specs.Records.{TableEntry, LogRecord, Update, Compensation, Commit, Abort, End, CheckpointBegin, CheckpointEnd}
+use Rattle.wal.specs.Spelling.{image, state, entry, dirty_page, table, body, frame, FitsImage, Fits}
+use Rattle.wal.specs.Reading.{body_at}
+use Rattle.wal.specs.Frames.{length_of, body_of, frame_at, judged, next_at, frames_at, followed, ◌>>=◌, header, log_at, Gives, Fails}
+use Rattle.wal.specs.Reads.{spellings, IsTorn, Reads, OneReading, IsWhole, HasFault, FaultBehind, Cause}
+use Rattle.wal.proofs.Loop.{chosen, Found, next_is, or_false}
+use Rattle.wal.proofs.Fields.{IsBytes, IsBytes-take, IsBytes-drop, wide32}
+use Rattle.wal.proofs.Bodies.{body_takes, body_again}
+use Rattle.wal.proofs.TableFields.{table_length}
+
+bind_ok : {A B : Type 0} (r : Result A Fault) (f : A → Result B Fault) (y : B) → (r >>= f) ≡ Ok y → (x : A) × (r ≡ Ok x) × (f x ≡ Ok y)
+bind_ok (Ok x) f y e = (x, refl, e)
+bind_ok (Err d) f y e = absurd cc
+
+abbrev done : {A : Type 0} → A → Result A Fault
+done x = Ok x
+
+ok_is : {A : Type 0} (x y : A) → done x ≡ done y → x ≡ y
+ok_is x y e = cc
+
+-- ---- one frame
+
+-- a found frame is the spelling of its record, and then the rest
+pub found_frame : (lsn : ℕ) (bytes : List ℕ) (r : LogRecord) (size : ℕ) → IsBytes bytes → Found lsn bytes r size → (bytes ≡ frame r lsn ++ drop size bytes) × Fits r × (lsn < 2 ^ 64)
+found_frame lsn bytes r size fits found =
+    let inner = body_takes (body_of bytes) r lsn (IsBytes-take (length_of bytes) (drop 4 bytes) (IsBytes-drop 4 bytes fits)) found.spelled in
+    let rest : length (drop 4 bytes) ≡ length bytes - 4 = length-drop 4 bytes in
+    let len : length (body r lsn) ≡ length_of bytes = ap length (sym inner.0) ∙ omega (arith, length-take (length_of bytes) (drop 4 bytes), found.whole, rest) in
+    let front : to_be_bytes w32 (length_of bytes) ≡ take 4 bytes = wide32.back (take 4 bytes) (omega (arith, length-take 4 bytes, found.whole)) (IsBytes-take 4 bytes fits) in
+    let spelled : frame r lsn ≡ take 4 bytes ++ body_of bytes = ap₂ (λ (a b : List ℕ). a ++ b) (ap (to_be_bytes w32) len ∙ front) (sym inner.0) in
+    let back : drop (length_of bytes) (drop 4 bytes) ≡ drop size bytes = drop-drop (length_of bytes) 4 bytes ∙ ap (λ n. drop n bytes) (sym found.size_is) in
+    let parts : bytes ≡ take 4 bytes ++ (body_of bytes ++ drop size bytes) =
+    sym (take-append-drop 4 bytes) ∙ ap (λ (x : List ℕ). take 4 bytes ++ x) (sym (take-append-drop (length_of bytes) (drop 4 bytes)) ∙ ap (λ (x : List ℕ). body_of bytes ++ x) back) in
+    (parts ∙ sym (append_assoc (take 4 bytes) (body_of bytes) (drop size bytes)) ∙ ap (λ (x : List ℕ). x ++ drop size bytes) (sym spelled), inner.1, inner.2)
+
+image_length : (o : List ℕ) → length o ≤ 48 → length (image (Some o)) ≤ 49
+image_length o h = omega arith
+
+image_size : (i : Option (List ℕ)) → FitsImage i → length (image i) ≤ 49
+image_size None h = omega arith
+image_size (Some o) h = omega (arith, h)
+
+pub entry_length : (e : TableEntry) → length (entry e) ≡ 21
+entry_length e = by_state e.state
+  where
+    by_state : (s : State) → length (to_be_bytes w32 e.tx ++ (state s ++ (to_be_bytes w64 e.last ++ to_be_bytes w64 e.undo_next))) ≡ 21
+    by_state Active = refl
+    by_state Aborting = refl
+
+-- how long a body is
+pub body_size : (r : LogRecord) (lsn : ℕ) → Fits r → (9 ≤ length (body r lsn)) × (length (body r lsn) ≤ 70681)
+body_size (Update u) lsn fits =
+    let a = image_size u.before fits.before in
+    let b = image_size u.after fits.after in
+    let c = length-append (image u.before) (image u.after) in
+    (omega (arith, a, b, c), omega (arith, a, b, c))
+body_size (Compensation u) lsn fits =
+    let a = image_size u.image fits.image in
+    (omega (arith, a), omega (arith, a))
+body_size (Commit r) lsn fits = (omega arith, omega arith)
+body_size (Abort r) lsn fits = (omega arith, omega arith)
+body_size (End r) lsn fits = (omega arith, omega arith)
+body_size CheckpointBegin lsn fits = (omega arith, omega arith)
+body_size (CheckpointEnd begin transactions dirty) lsn fits =
+    let a = table_length entry 21 (λ e. entry_length e) transactions in
+    let b = table_length dirty_page 12 (λ d. refl) dirty in
+    let c = length-append (table entry transactions) (table dirty_page dirty) in
+    let d = fits.transactions_fit.few in
+    let e = fits.dirty_fit.few in
+    (omega (arith, a, b, c, d, e), omega (arith, a, b, c, d, e))
+
+-- a frame that stands in front is read
+frame_length : (r : LogRecord) (lsn : ℕ) (rest : List ℕ) → Fits r → length_of (frame r lsn ++ rest) ≡ length (body r lsn)
+frame_length r lsn rest fits =
+    ap length_of (append_assoc (to_be_bytes w32 (length (body r lsn))) (body r lsn) rest)
+    ∙ ap (from_be_bytes w32) (take_at (to_be_bytes w32 (length (body r lsn))) (body r lsn ++ rest) 4 refl)
+    ∙ wide32.again (length (body r lsn)) (omega (arith, (body_size r lsn fits).1))
+
+frame_body : (r : LogRecord) (lsn : ℕ) (rest : List ℕ) → drop 4 (frame r lsn ++ rest) ≡ body r lsn ++ rest
+frame_body r lsn rest = ap (drop 4) (append_assoc (to_be_bytes w32 (length (body r lsn))) (body r lsn) rest) ∙ drop_at (to_be_bytes w32 (length (body r lsn))) (body r lsn ++ rest) 4 refl
+
+frame_spells : (r : LogRecord) (lsn : ℕ) (rest : List ℕ) → Fits r → lsn < 2 ^ 64 → frame_at (frame r lsn ++ rest) ≡ Some (r, lsn)
+frame_spells r lsn rest fits lt =
+    ap₂ (λ n x. body_at (take n x)) (frame_length r lsn rest fits) (frame_body r lsn rest)
+    ∙ ap body_at (take_at (body r lsn) rest (length (body r lsn)) refl)
+    ∙ body_again r lsn fits lt
+
+frame_rest : (r : LogRecord) (lsn : ℕ) (rest : List ℕ) → drop (4 + length (body r lsn)) (frame r lsn ++ rest) ≡ rest
+frame_rest r lsn rest = drop_at (frame r lsn) rest (4 + length (body r lsn)) (omega (arith, length-append (to_be_bytes w32 (length (body r lsn))) (body r lsn)))
+
+pub frame_next : (r : LogRecord) (lsn offset : ℕ) (rest : List ℕ) → Fits r → lsn < 2 ^ 64 → next_at lsn offset (frame r lsn ++ rest) ≡ Ok (Some (r, 4 + length (body r lsn)))
+unfolding next_at
+frame_next r lsn offset rest fits lt =
+    let bytes = frame r lsn ++ rest in
+    let size = body_size r lsn fits in
+    let n : length_of bytes ≡ length (body r lsn) = frame_length r lsn rest fits in
+    let all : length bytes ≡ 4 + length (body r lsn) + length rest = length-append (frame r lsn) rest ∙ omega (arith, length-append (to_be_bytes w32 (length (body r lsn))) (body r lsn)) in
+    let a : ltb (length bytes) 4 ≡ false = le-ltb _ _ (omega (arith, all)) in
+    let b : ltb (length_of bytes) 9 ≡ false = le-ltb _ _ (omega (arith, n, size.0)) in
+    let c : ltb 70681 (length_of bytes) ≡ false = le-ltb _ _ (omega (arith, n, size.1)) in
+    let d : ltb (length bytes) (4 + length_of bytes) ≡ false = le-ltb _ _ (omega (arith, n, all)) in
+    let e : judged lsn offset (4 + length_of bytes) (frame_at bytes) ≡ Ok (Some (r, 4 + length (body r lsn))) =
+    ap₂ (λ k f. judged lsn offset (4 + k) f) n (frame_spells r lsn rest fits lt) ∙ rw (eq-eqb lsn lsn refl) refl in
+    rw (a, b, c, d) e
+
+-- ---- the end
+
+pub none_torn : (lsn offset : ℕ) (bytes : List ℕ) → next_at lsn offset bytes ≡ Ok None → IsTorn bytes
+unfolding next_at
+none_torn lsn offset bytes e =
+    elim (chosen (ltb (length bytes) 4) _ _ _ e) [
+      | inl p ↦ inl (ltb-true _ _ p.0)
+      | inr p ↦
+          elim (chosen (ltb (length_of bytes) 9 || ltb 70681 (length_of bytes)) _ _ _ p.1) [
+            | inl q ↦ absurd cc
+            | inr q ↦
+                elim (chosen (ltb (length bytes) (4 + length_of bytes)) _ _ _ q.1) [
+                  | inl w ↦
+                      (let bounds = or_false (ltb (length_of bytes) 9) (ltb 70681 (length_of bytes)) q.0 in
+                      inr (ltb-false _ _ p.0, ltb-false _ _ bounds.0, ltb-false _ _ bounds.1, ltb-true _ _ w.0))
+                  | inr w ↦ absurd (never_none lsn offset (4 + length_of bytes) (frame_at bytes) w.1)
+                ]
+          ]
+    ]
+  where
+    never_none : (lsn offset size : ℕ) (f : Option (LogRecord × ℕ)) → judged lsn offset size f ≡ Ok None → ⊥
+    never_none lsn offset size None e = cc
+    never_none lsn offset size (Some x) e = elim (chosen (eqb x.1 lsn) _ _ _ e) [ inl p ↦ absurd cc | inr p ↦ absurd cc ]
+
+pub torn_none : (lsn offset : ℕ) (bytes : List ℕ) → IsTorn bytes → next_at lsn offset bytes ≡ Ok None
+unfolding next_at
+torn_none lsn offset bytes (inl h) = rw (lt-ltb _ _ h) refl
+torn_none lsn offset bytes (inr h) = rw (le-ltb _ _ h.0, le-ltb _ _ h.1, le-ltb _ _ h.2, lt-ltb _ _ h.3) refl
+
+-- ---- all frames
+
+pub record Spelled (lsn : ℕ) (bytes : List ℕ) (records : List LogRecord) (torn : ℕ) : Type 0 where
+  pub tail : List ℕ
+  pub text : bytes ≡ spellings lsn records ++ tail
+  pub torn_tail : IsTorn tail
+  pub torn_count : length tail ≡ torn
+  pub each : AllByRecursion Fits records
+  pub few : length records ≤ length bytes
+
+by_next : (limit lsn offset : ℕ) (bytes : List ℕ) (x : List LogRecord × ℕ) → IsBytes bytes → length bytes ≤ suc limit
+    → ((size : ℕ) (z : List LogRecord × ℕ) → length (drop size bytes) ≤ limit → frames_at limit (lsn + 1) (offset + size) (drop size bytes) ≡ Ok z → Spelled (lsn + 1) (drop size bytes) z.0 z.1)
+    → (o : Option (LogRecord × ℕ)) → next_at lsn offset bytes ≡ Ok o → followed bytes (λ size. frames_at limit (lsn + 1) (offset + size) (drop size bytes)) o ≡ Ok x → Spelled lsn bytes x.0 x.1
+by_next limit lsn offset bytes x fits short others_take None n e =
+    subst (λ (y : List LogRecord × ℕ). Spelled lsn bytes y.0 y.1) (ok_is ([], length bytes) x e) (record { tail = bytes; text = refl; torn_tail = none_torn lsn offset bytes n; torn_count = refl; each = tt; few = omega arith })
+by_next limit lsn offset bytes x fits short others_take (Some y) n e =
+    let found = next_is lsn offset bytes y.0 y.1 n in
+    let one = found_frame lsn bytes y.0 y.1 fits found in
+    let b = bind_ok (frames_at limit (lsn + 1) (offset + y.1) (drop y.1 bytes)) (λ z. Ok (y.0 ∷ z.0, z.1)) x e in
+    let less : length (drop y.1 bytes) + 13 ≤ length bytes = omega (arith, length-drop y.1 bytes, found.size_is, found.whole, found.low) in
+    let others = others_take y.1 b.0 (omega (arith, less, short)) b.1 in
+    let text : bytes ≡ spellings lsn (y.0 ∷ b.0.0) ++ others.tail = one.0 ∙ ap (λ (t : List ℕ). frame y.0 lsn ++ t) others.text ∙ sym (append_assoc (frame y.0 lsn) (spellings (lsn + 1) b.0.0) others.tail) in
+    subst (λ (w : List LogRecord × ℕ). Spelled lsn bytes w.0 w.1) (ok_is (y.0 ∷ b.0.0, b.0.1) x b.2)
+    (record { tail = others.tail; text = text; torn_tail = others.torn_tail; torn_count = others.torn_count; each = (one.1, others.each); few = omega (arith, less, others.few) })
+
+pub frames_take : (limit lsn offset : ℕ) (bytes : List ℕ) (x : List LogRecord × ℕ) → IsBytes bytes → length bytes ≤ limit → frames_at limit lsn offset bytes ≡ Ok x → Spelled lsn bytes x.0 x.1
+unfolding frames_at
+frames_take zero lsn offset bytes x fits short e =
+    subst (λ (y : List LogRecord × ℕ). Spelled lsn bytes y.0 y.1) (ok_is ([], length bytes) x e) (record { tail = bytes; text = refl; torn_tail = inl (omega (arith, short)); torn_count = refl; each = tt; few = omega arith })
+frames_take (suc limit) lsn offset bytes x fits short e =
+    let a = bind_ok (next_at lsn offset bytes) (followed bytes (λ size. frames_at limit (lsn + 1) (offset + size) (drop size bytes))) x e in
+    by_next limit lsn offset bytes x fits short (λ size z le f. frames_take limit (lsn + 1) (offset + size) (drop size bytes) z (IsBytes-drop size bytes fits) le f) a.0 a.1 a.2
+
+pub frames_again : (limit lsn offset : ℕ) (records : List LogRecord) (tail : List ℕ) → length records ≤ limit → AllByRecursion Fits records → lsn + length records ≤ 2 ^ 64 → IsTorn tail
+    → frames_at limit lsn offset (spellings lsn records ++ tail) ≡ Ok (records, length tail)
+unfolding frames_at
+frames_again zero lsn offset [] tail le each few torn = refl
+frames_again zero lsn offset (r ∷ rs) tail le each few torn = absurd (omega (arith, le))
+frames_again (suc limit) lsn offset [] tail le each few torn = rw (torn_none lsn offset tail torn) refl
+frames_again (suc limit) lsn offset (r ∷ rs) tail le each few torn =
+    let rest = spellings (lsn + 1) rs ++ tail in
+    let size = 4 + length (body r lsn) in
+    let again : frames_at limit (lsn + 1) (offset + size) (drop size (frame r lsn ++ rest)) ≡ Ok (rs, length tail) =
+    ap (frames_at limit (lsn + 1) (offset + size)) (frame_rest r lsn rest) ∙ frames_again limit (lsn + 1) (offset + size) rs tail (omega (arith, le)) each.1 (omega (arith, few)) torn in
+    ap (frames_at (suc limit) lsn offset) (append_assoc (frame r lsn) (spellings (lsn + 1) rs) tail)
+    ∙ ap (λ n. n >>= followed (frame r lsn ++ rest) (λ k. frames_at limit (lsn + 1) (offset + k) (drop k (frame r lsn ++ rest)))) (frame_next r lsn offset rest each.0 (omega (arith, few)))
+    ∙ ap (λ n. n >>= λ z. Ok (r ∷ z.0, z.1)) again
+
+-- ---- the log
+
+spellings_long : (lsn : ℕ) (records : List LogRecord) → length records ≤ length (spellings lsn records)
+spellings_long lsn [] = omega arith
+spellings_long lsn (r ∷ rs) = omega (arith, spellings_long (lsn + 1) rs, length-append (frame r lsn) (spellings (lsn + 1) rs), length-append (to_be_bytes w32 (length (body r lsn))) (body r lsn))
+
+pub log_takes : (bytes : List ℕ) (x : List LogRecord × ℕ) → IsBytes bytes → length bytes < 2 ^ 64 → log_at bytes ≡ Ok x → Reads bytes x.0 x.1
+unfolding log_at
+log_takes bytes x fits short e =
+    elim (chosen (starts_with eqb bytes header) _ _ _ e) [
+      | inl p ↦
+          (let front : bytes ≡ header ++ drop 8 bytes = (starts_is Decides-eqb bytes header (starts_with eqb bytes header) refl).0 p.0 in
+          let all = frames_take (length bytes) 1 8 (drop 8 bytes) x (IsBytes-drop 8 bytes fits) (omega (arith, length-drop 8 bytes)) p.1 in
+          record {
+            tail = all.tail;
+            text = front ∙ ap (λ (t : List ℕ). header ++ t) all.text ∙ sym (append_assoc header (spellings 1 x.0) all.tail);
+            torn_tail = all.torn_tail;
+            torn_count = all.torn_count;
+            each = all.each;
+            few = omega (arith, all.few, length-drop 8 bytes, short);
+          })
+      | inr p ↦ absurd cc
+    ]
+
+pub log_again : (bytes : List ℕ) (records : List LogRecord) (torn : ℕ) → Reads bytes records torn → log_at bytes ≡ Ok (records, torn)
+unfolding log_at
+log_again bytes records torn reads =
+    let text : bytes ≡ header ++ (spellings 1 records ++ reads.tail) = reads.text ∙ append_assoc header (spellings 1 records) reads.tail in
+    let b : starts_with eqb bytes header ≡ true = (starts_is Decides-eqb bytes header (starts_with eqb bytes header) refl).1 (spellings 1 records ++ reads.tail) text in
+    let rest : drop 8 bytes ≡ spellings 1 records ++ reads.tail = ap (drop 8) text ∙ drop_at header (spellings 1 records ++ reads.tail) 8 refl in
+    let long : length bytes ≡ 8 + length (spellings 1 records ++ reads.tail) = ap length text ∙ omega arith in
+    let few : length records ≤ length bytes = omega (arith, spellings_long 1 records, long, length-append (spellings 1 records) reads.tail) in
+    let all : frames_at (length bytes) 1 8 (drop 8 bytes) ≡ Ok (records, torn) =
+    ap (frames_at (length bytes) 1 8) rest ∙ frames_again (length bytes) 1 8 records reads.tail few reads.each (omega (arith, reads.few)) reads.torn_tail ∙ ap (λ n. Ok (records, n)) reads.torn_count in
+    rw b all
+
+pub one_reading : OneReading
+one_reading bytes first second t u a b =
+    let e : ◌≡◌ {A = List LogRecord × ℕ} (first, t) (second, u) = ok_is (first, t) (second, u) (sym (log_again bytes first t a) ∙ log_again bytes second u b) in
+    (ap (λ x. x.0) e, ap (λ x. x.1) e)
+
+pub is_found : {X : Type 0} (view : X → List LogRecord × ℕ) (bytes : List ℕ) (r : Result X Fault) → IsBytes bytes → length bytes < 2 ^ 64 → Gives view r (log_at bytes) → IfOk r (λ x. Reads bytes (view x).0 (view x).1)
+is_found view bytes (Ok x) fits short given = log_takes bytes (view x) fits short given
+is_found view bytes (Err e) fits short given = tt
+
+-- ---- faults
+
+log_fault_is : (d e : Fault) → ◌≡◌ {A = Result (List LogRecord × ℕ) Fault} (Err d) (Err e) → d ≡ e
+log_fault_is d e h = cc
+
+true_false : ◌≡◌ {A = Bool} true false → ⊥
+true_false p = cc
+
+err_is : {B : Type 0} (d e : Fault) → ◌≡◌ {A = Result B Fault} (Err d) (Err e) → d ≡ e
+err_is d e h = cc
+
+bind_err : {A B : Type 0} (r : Result A Fault) (f : A → Result B Fault) (e : Fault) → (r >>= f) ≡ Err e → (r ≡ Err e) ⊎ ((x : A) × (r ≡ Ok x) × (f x ≡ Err e))
+bind_err (Ok x) f e h = inr (x, refl, h)
+bind_err {B = B} (Err d) f e h = inl (ap (λ (k : Fault). Err k) (err_is {B = B} d e h))
+
+or_true : (a b : Bool) → (a || b) ≡ true → (a ≡ true) ⊎ (b ≡ true)
+or_true true b e = inl refl
+or_true false b e = inr e
+
+abbrev fault_of : Fault → Result (Option (LogRecord × ℕ)) Fault
+fault_of e = Err e
+
+fault_is : (d e : Fault) → fault_of d ≡ fault_of e → d ≡ e
+fault_is d e h = cc
+
+none_some : (x : LogRecord × ℕ) → ◌≡◌ {A = Option (LogRecord × ℕ)} None (Some x) → ⊥
+none_some x p = cc
+
+judged_fault : (lsn offset : ℕ) (bytes : List ℕ) (e : Fault) → IsBytes bytes → IsWhole bytes → (f : Option (LogRecord × ℕ)) → frame_at bytes ≡ f → judged lsn offset (4 + length_of bytes) f ≡ Err e → HasFault e lsn offset bytes
+judged_fault lsn offset bytes e fits whole None is h =
+    subst (λ d. HasFault d lsn offset bytes) (fault_is (BadRecord offset) e h)
+    (refl, whole, λ r n fit lt same. none_some (r, n) (sym is ∙ ap body_at same ∙ body_again r n fit lt))
+judged_fault lsn offset bytes e fits whole (Some x) is h =
+    elim (chosen (eqb x.1 lsn) _ _ _ h) [
+      | inl p ↦ absurd cc
+      | inr p ↦
+          (let inner = body_takes (body_of bytes) x.0 x.1 (IsBytes-take (length_of bytes) (drop 4 bytes) (IsBytes-drop 4 bytes fits)) is in
+          subst (λ d. HasFault d lsn offset bytes) (fault_is (BadLsn offset) e p.1) (refl, whole, x.0, x.1, inner.1, inner.0, eqb-false _ _ p.0))
+    ]
+
+next_fault : (lsn offset : ℕ) (bytes : List ℕ) (e : Fault) → IsBytes bytes → next_at lsn offset bytes ≡ Err e → HasFault e lsn offset bytes
+unfolding next_at
+next_fault lsn offset bytes e fits h =
+    elim (chosen (ltb (length bytes) 4) _ _ _ h) [
+      | inl p ↦ absurd cc
+      | inr p ↦
+          elim (chosen (ltb (length_of bytes) 9 || ltb 70681 (length_of bytes)) _ _ _ p.1) [
+            | inl q ↦
+                (let bad : (length_of bytes < 9) ⊎ (70681 < length_of bytes) = elim (or_true (ltb (length_of bytes) 9) (ltb 70681 (length_of bytes)) q.0) [ inl a ↦ inl (ltb-true _ _ a) | inr b ↦ inr (ltb-true _ _ b) ] in
+                subst (λ d. HasFault d lsn offset bytes) (fault_is (BadLength offset) e q.1) (refl, ltb-false _ _ p.0, bad))
+            | inr q ↦
+                elim (chosen (ltb (length bytes) (4 + length_of bytes)) _ _ _ q.1) [
+                  | inl w ↦ absurd cc
+                  | inr w ↦
+                      (let bounds = or_false (ltb (length_of bytes) 9) (ltb 70681 (length_of bytes)) q.0 in
+                      judged_fault lsn offset bytes e fits (ltb-false _ _ bounds.0, ltb-false _ _ bounds.1, ltb-false _ _ w.0) (frame_at bytes) refl w.1)
+                ]
+          ]
+    ]
+
+fault_next : (limit lsn offset : ℕ) (bytes : List ℕ) (e : Fault) → IsBytes bytes
+    → ((size : ℕ) → frames_at limit (lsn + 1) (offset + size) (drop size bytes) ≡ Err e → FaultBehind (lsn + 1) (offset + size) (drop size bytes) e)
+    → (o : Option (LogRecord × ℕ)) → next_at lsn offset bytes ≡ Ok o → followed bytes (λ size. frames_at limit (lsn + 1) (offset + size) (drop size bytes)) o ≡ Err e → FaultBehind lsn offset bytes e
+fault_next limit lsn offset bytes e fits others None n h = absurd cc
+fault_next limit lsn offset bytes e fits others (Some y) n h =
+    let found = next_is lsn offset bytes y.0 y.1 n in
+    let one = found_frame lsn bytes y.0 y.1 fits found in
+    elim (bind_err (frames_at limit (lsn + 1) (offset + y.1) (drop y.1 bytes)) (λ z. Ok (y.0 ∷ z.0, z.1)) e h) [
+      | inr p ↦ absurd cc
+      | inl p ↦
+          (let behind = others y.1 p in
+          let size : y.1 ≡ length (frame y.0 lsn) = omega (arith, ap length one.0, length-append (frame y.0 lsn) (drop y.1 bytes), length-drop y.1 bytes, found.size_is, found.whole) in
+          let place : (offset + y.1) + length (spellings (lsn + 1) behind.records) ≡ offset + length (spellings lsn (y.0 ∷ behind.records)) = omega (arith, size, length-append (frame y.0 lsn) (spellings (lsn + 1) behind.records)) in
+          let number : lsn + 1 + length behind.records ≡ lsn + length (y.0 ∷ behind.records) = omega arith in
+          record {
+            records = y.0 ∷ behind.records;
+            rest = behind.rest;
+            text = one.0 ∙ ap (λ (t : List ℕ). frame y.0 lsn ++ t) behind.text ∙ sym (append_assoc (frame y.0 lsn) (spellings (lsn + 1) behind.records) behind.rest);
+            each = (one.1, behind.each);
+            fault = subst (λ k. HasFault e k (offset + length (spellings lsn (y.0 ∷ behind.records))) behind.rest) number (subst (λ k. HasFault e (lsn + 1 + length behind.records) k behind.rest) place behind.fault);
+          })
+    ]
+
+frames_fault : (limit lsn offset : ℕ) (bytes : List ℕ) (e : Fault) → IsBytes bytes → frames_at limit lsn offset bytes ≡ Err e → FaultBehind lsn offset bytes e
+unfolding frames_at
+frames_fault zero lsn offset bytes e fits h = absurd cc
+frames_fault (suc limit) lsn offset bytes e fits h =
+    elim (bind_err (next_at lsn offset bytes) (followed bytes (λ size. frames_at limit (lsn + 1) (offset + size) (drop size bytes))) e h) [
+      | inl p ↦ (let here = next_fault lsn offset bytes e fits p in
+          record { records = []; rest = bytes; text = refl; each = tt; fault = subst (λ n. HasFault e n (offset + 0) bytes) (omega arith) (subst (λ o. HasFault e lsn o bytes) (omega arith) here) })
+      | inr p ↦ fault_next limit lsn offset bytes e fits (λ size f. frames_fault limit (lsn + 1) (offset + size) (drop size bytes) e (IsBytes-drop size bytes fits) f) p.0 p.1 p.2
+    ]
+
+log_fault : (bytes : List ℕ) (e : Fault) → IsBytes bytes → log_at bytes ≡ Err e → ((bytes ≡ header ++ drop 8 bytes) × FaultBehind 1 8 (drop 8 bytes) e) ⊎ ((starts_with eqb bytes header ≡ false) × (BadLogHeader ≡ e))
+unfolding log_at
+log_fault bytes e fits h =
+    elim (chosen (starts_with eqb bytes header) _ _ _ h) [
+      | inl p ↦ inl ((starts_is Decides-eqb bytes header (starts_with eqb bytes header) refl).0 p.0, frames_fault (length bytes) 1 8 (drop 8 bytes) e (IsBytes-drop 8 bytes fits) p.1)
+      | inr p ↦ inr (p.0, log_fault_is BadLogHeader e p.1)
+    ]
+
+no_header : (bytes : List ℕ) → starts_with eqb bytes header ≡ false → (rest : List ℕ) → bytes ≢ header ++ rest
+no_header bytes e rest text = absurd (true_false (sym ((starts_is Decides-eqb bytes header (starts_with eqb bytes header) refl).1 rest text) ∙ e))
+
+cause : (bytes : List ℕ) (e : Fault) → IsBytes bytes → Fails e (log_at bytes) → Cause bytes e
+cause bytes NoResource fits h = tt
+cause bytes BadLogHeader fits h = elim (log_fault bytes BadLogHeader fits h) [ inl p ↦ absurd p.1.fault | inr p ↦ no_header bytes p.0 ]
+cause bytes e fits h = elim (log_fault bytes e fits h) [ inl p ↦ p | inr p ↦ absurd cc ]
+
+pub is_cause : {X : Type 0} (view : X → List LogRecord × ℕ) (bytes : List ℕ) (r : Result X Fault) → IsBytes bytes → Gives view r (log_at bytes) → IfErr r (λ e. Cause bytes e)
+is_cause view bytes (Ok x) fits given = tt
+is_cause view bytes (Err e) fits given = cause bytes e fits given

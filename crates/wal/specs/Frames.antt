@@ -1,0 +1,76 @@
+-- Reading the frames of a log from left to right, with the first fault that is met.
+use Rattle.std.specs.Prelude.{◌≡◌, ℕ, zero, suc, ◌+◌, ◌≤◌, true, ◌||◌, List, [], ◌∷◌, length, take, drop, Option, Some, None, Result, Ok, Err, nat_lt, nat_eq, ◌==◌, if◌then◌else◌, is_some, option_map, unwrap_or}
+use Rattle.std.specs.List.{starts_with}
+use Rattle.std.specs.Int.{w32, from_be_bytes}
+use Rattle.page.specs.declared.fault.Fault.{Fault}
+use Rattle.page.specs.declared.fault.Fault.TheVariants.{NoResource, BadLogHeader, BadLength, BadRecord, BadLsn}
+use Rattle.wal.specs.Records.{LogRecord, CheckpointBegin}
+use Rattle.wal.specs.Reading.{body_at}
+
+-- the length that a frame in front says, and its body
+abbrev pub length_of : List ℕ → ℕ
+length_of bytes = from_be_bytes w32 (take 4 bytes)
+
+abbrev pub body_of : List ℕ → List ℕ
+body_of bytes = take (length_of bytes) (drop 4 bytes)
+
+-- what the body of the frame in front spells
+abbrev pub frame_at : List ℕ → Option (LogRecord × ℕ)
+frame_at bytes = body_at (body_of bytes)
+
+-- THE LOG BY ITS OFFSETS
+-- a frame stands at the offset, and its body spells a record
+pub record IsPlace (bytes : List ℕ) (offset : ℕ) : Type 0 where
+  pub room : offset + 4 ≤ length bytes
+  pub whole : offset + 4 + length_of (drop offset bytes) ≤ length bytes
+  pub spelled : is_some (frame_at (drop offset bytes)) ≡ true
+
+-- the record of the frame at an offset (some record, where none is)
+unfoldable pub record_of : List ℕ → ℕ → LogRecord
+record_of bytes offset = unwrap_or (option_map (λ x. x.0) (frame_at (drop offset bytes))) CheckpointBegin
+
+-- READING
+-- a body that was looked at: it spells no record, or has the wrong LSN, or is the frame
+abbrev pub judged : (lsn offset size : ℕ) → Option (LogRecord × ℕ) → Result (Option (LogRecord × ℕ)) Fault
+judged lsn offset size None = Err (BadRecord offset)
+judged lsn offset size (Some x) = if x.1 == lsn then Ok (Some (x.0, size)) else Err (BadLsn offset)
+
+-- the record of a frame in front and the bytes that the frame takes, or None where the whole frames have ended
+unfoldable pub next_at : (lsn offset : ℕ) → List ℕ → Result (Option (LogRecord × ℕ)) Fault
+next_at lsn offset bytes =
+    if nat_lt (length bytes) 4 then Ok None
+    else if nat_lt (length_of bytes) 9 || nat_lt 70681 (length_of bytes) then Err (BadLength offset)
+    else if nat_lt (length bytes) (4 + length_of bytes) then Ok None
+    else judged lsn offset (4 + length_of bytes) (frame_at bytes)
+
+infixl 10 ◌>>=◌
+abbrev pub ◌>>=◌ : {A B : Type 0} → Result A Fault → (A → Result B Fault) → Result B Fault
+(Ok x) >>= f = f x
+(Err e) >>= f = Err e
+
+-- a frame, and what is read behind it
+abbrev pub followed : List ℕ → (ℕ → Result (List LogRecord × ℕ) Fault) → Option (LogRecord × ℕ) → Result (List LogRecord × ℕ) Fault
+followed bytes others None = Ok ([], length bytes)
+followed bytes others (Some x) = others x.1 >>= λ y. Ok (x.0 ∷ y.0, y.1)
+
+-- the records of at most so many frames, and how many bytes are left; the first frame has this LSN and stands at this offset
+unfoldable pub frames_at : (limit lsn offset : ℕ) → List ℕ → Result (List LogRecord × ℕ) Fault
+frames_at zero lsn offset bytes = Ok ([], length bytes)
+frames_at (suc limit) lsn offset bytes = next_at lsn offset bytes >>= followed bytes (λ size. frames_at limit (lsn + 1) (offset + size) (drop size bytes))
+
+-- "ARIESLG1"
+abbrev pub header : List ℕ
+header = 0x41 ∷ 0x52 ∷ 0x49 ∷ 0x45 ∷ 0x53 ∷ 0x4c ∷ 0x47 ∷ 0x31 ∷ []
+
+-- the records and how many bytes the torn tail has, or the first fault
+unfoldable pub log_at : List ℕ → Result (List LogRecord × ℕ) Fault
+log_at bytes = if starts_with nat_eq bytes header then frames_at (length bytes) 1 8 (drop 8 bytes) else Err BadLogHeader
+
+-- What a function returned, seen by view, is what reading gives, unless memory ran out.
+abbrev pub Fails : {Y : Type 0} → Fault → Result Y Fault → Type 0
+Fails NoResource read = Unit {0}
+Fails e read = read ≡ Err e
+
+abbrev pub Gives : {X Y : Type 0} → (X → Y) → Result X Fault → Result Y Fault → Type 0
+Gives view (Ok x) read = read ≡ Ok (view x)
+Gives view (Err e) read = Fails e read

@@ -1,0 +1,27 @@
+-- HOPS. The walk through a transaction's records by their PrevLSNs and UndoNxtLSNs. ARIES, section 6.3.
+-- A hop to n (not 0) is bad where no update or CLR of the transaction stands at n in the log before the record that it comes
+-- from: past the log's end, at another record, or not below it. A bad hop is the last.
+use Rattle.std.specs.Prelude.{ℕ, suc, List, [], ◌∷◌, ◌==◌, if◌then◌else◌}
+use Rattle.wal.specs.Records.{Update, Compensation, History, start, ◌▸◌, size}
+
+-- the updates that a walk meets, and where it ends: 0, or the LSN of a bad hop
+pub record Walk : Type 0 where
+  pub met : List ℕ
+  pub ends : ℕ
+
+abbrev pub meet : ℕ → Walk → Walk
+meet lsn w = record { met = lsn ∷ w.met; ends = w.ends }
+
+-- The walk of t that is sent to this LSN of the log. From an update it is sent on to the PrevLSN, from a CLR to the
+-- UndoNxtLSN, in what stands before that record. Where no update or CLR of t stands there, it ends.
+abbrev pub hops : ℕ → History → ℕ → Walk
+hops t start lsn = record { met = []; ends = lsn }
+hops t (log ▸ Update u) lsn =
+    if lsn == suc (size log)
+    then (if u.tx == t then meet lsn (hops t log u.prev) else record { met = []; ends = lsn })
+    else hops t log lsn
+hops t (log ▸ Compensation c) lsn =
+    if lsn == suc (size log)
+    then (if c.tx == t then hops t log c.undo_next else record { met = []; ends = lsn })
+    else hops t log lsn
+hops t (log ▸ _) lsn = if lsn == suc (size log) then record { met = []; ends = lsn } else hops t log lsn

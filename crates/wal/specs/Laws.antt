@@ -1,0 +1,67 @@
+-- The laws that each record keeps after the log before it. They are those of ARIES in normal running.
+use Rattle.std.specs.Prelude.{◌≡◌, ◌≢◌, ℕ, List, [], ◌∷◌, Some, true, false}
+use Rattle.wal.specs.Records.{UpdateRecord, CompensationRecord, LogRecord, Update, Compensation, Commit, Abort, End, CheckpointBegin, CheckpointEnd, History, start, ◌▸◌, record_at}
+use Rattle.wal.specs.Meaning.{committed, aborted, ended, finished, replay, touches, pending, last_of}
+
+-- CHAIN. PrevLSN is the LSN of the transaction's last record before it, or 0. ARIES, section 4.1.
+abbrev pub ChainLaw : History → LogRecord → Type 0
+ChainLaw log (Update u) = u.prev ≡ last_of u.tx log
+ChainLaw log (Compensation c) = c.prev ≡ last_of c.tx log
+ChainLaw log (Commit s) = s.prev ≡ last_of s.tx log
+ChainLaw log (Abort s) = s.prev ≡ last_of s.tx log
+ChainLaw log (End s) = s.prev ≡ last_of s.tx log
+ChainLaw log CheckpointBegin = Unit {0}
+ChainLaw log (CheckpointEnd begin transactions dirty) = Unit {0}
+
+-- FINISH. Nothing follows an end, only an end follows a commit, only CLRs and an end follow an abort. ARIES, sections 5.2 and
+-- 5.3; the end behind a commit as optional is own.
+abbrev pub FinishLaw : History → LogRecord → Type 0
+FinishLaw log (Update u) = (finished u.tx log ≡ false) × (aborted u.tx log ≡ false)
+FinishLaw log (Compensation c) = finished c.tx log ≡ false
+FinishLaw log (Commit s) = (finished s.tx log ≡ false) × (aborted s.tx log ≡ false)
+FinishLaw log (Abort s) = (finished s.tx log ≡ false) × (aborted s.tx log ≡ false)
+FinishLaw log (End s) = ended s.tx log ≡ false
+FinishLaw log CheckpointBegin = Unit {0}
+FinishLaw log (CheckpointEnd begin transactions dirty) = Unit {0}
+
+-- the CLR undoes the newest pending update of its transaction: it names its cell, brings back its before image, and points
+-- to its PrevLSN
+pub record Compensates (log : History) (c : CompensationRecord) : Type 0 where
+  pub lsn : ℕ
+  pub below : List ℕ
+  pub update : UpdateRecord
+  pub newest : pending c.tx log ≡ lsn ∷ below
+  pub found : record_at log lsn ≡ Some (Update update)
+  pub page : c.page ≡ update.page
+  pub slot : c.slot ≡ update.slot
+  pub image : c.image ≡ update.before
+  pub undo_next : c.undo_next ≡ update.prev
+
+-- COMPENSATION. A CLR undoes the newest pending update; an end without a commit finds none left. ARIES, sections 5.2 and 6.3.
+abbrev pub CompensationLaw : History → LogRecord → Type 0
+CompensationLaw log (Compensation c) = Compensates log c
+CompensationLaw log (End s) = committed s.tx log ≡ false → pending s.tx log ≡ []
+CompensationLaw log _ = Unit {0}
+
+-- BEFORE. A before image is what the log so far leaves in the cell. ARIES, section 4.1 (undo information).
+abbrev pub BeforeLaw : History → LogRecord → Type 0
+BeforeLaw log (Update u) = u.before ≡ replay log u.page u.slot
+BeforeLaw log _ = Unit {0}
+
+-- STRICTNESS. Nobody updates a cell in which another transaction that has not finished has an update or a CLR. ARIES,
+-- section 1.2 (locks held to the end), here as a law of the log: own.
+abbrev pub Strictness : History → LogRecord → Type 0
+Strictness log (Update u) = (other : ℕ) → other ≢ u.tx → touches other u.page u.slot log ≡ true → finished other log ≡ true
+Strictness log _ = Unit {0}
+
+pub record Obeys (log : History) (r : LogRecord) : Type 0 where
+  pub chain : ChainLaw log r
+  pub finish : FinishLaw log r
+  pub compensation : CompensationLaw log r
+  pub before : BeforeLaw log r
+  pub strict : Strictness log r
+
+-- LAWFUL LOG. Each record obeys them after the log before it.
+abbrev pub IsLawful : History → Type 0
+IsLawful start = Unit {0}
+IsLawful (log ▸ r) = IsLawful log × Obeys log r

@@ -1,0 +1,13 @@
+pub mod Records
+pub mod Meaning
+pub mod Laws
+pub mod Tail
+pub mod Hops
+pub mod Redo
+pub mod Store
+pub mod Spelling
+pub mod Reading
+pub mod Frames
+pub mod Reads
+pub mod Content
+pub mod Shown

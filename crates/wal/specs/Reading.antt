@@ -1,0 +1,175 @@
+-- Reading the body of a frame from left to right: a record and its LSN, or None where the bytes spell none.
+use Rattle.std.specs.Prelude.{◌≡◌, ℕ, zero, suc, ◌+◌, ◌*◌, ◌≤◌, ◌<◌, true, List, [], ◌∷◌, length, take, drop, map, Option, Some, None, nat_lt, ◌==◌, if◌then◌else◌, is_some, option_map, unwrap_or}
+use Rattle.std.specs.List.{range_with_len}
+use Rattle.std.specs.Int.{Width, w32, w64, byte_len, from_be_bytes}
+use Rattle.page.specs.Image.{Image}
+use Rattle.wal.specs.declared.record.State.{State}
+use Rattle.wal.specs.declared.record.State.TheVariants.{Active, Aborting}
+use Rattle.wal.specs.Records.{PlainRecord, TableEntry, tx_in, page_in, LogRecord, Update, Compensation, Commit, Abort, End, CheckpointBegin, CheckpointEnd}
+
+infixl 10 ◌>>=◌
+abbrev pub ◌>>=◌ : {A B : Type 0} → Option A → (A → Option B) → Option B
+(Some x) >>= f = f x
+None >>= f = None
+
+-- A field is a value and the bytes after it.
+abbrev pub number_at : Width → List ℕ → Option (ℕ × List ℕ)
+number_at w bytes = if nat_lt (length bytes) (byte_len w) then None else Some (from_be_bytes w (take (byte_len w) bytes), drop (byte_len w) bytes)
+
+-- a transaction number is at least 1
+unfoldable pub tx_at : List ℕ → Option (ℕ × List ℕ)
+tx_at bytes = do
+  tx ← number_at w32 bytes
+  if tx.0 == 0 then None else Some (tx.0, tx.1)
+
+-- a slot is at most 15
+unfoldable pub slot_at : List ℕ → Option (ℕ × List ℕ)
+slot_at [] = None
+slot_at (slot ∷ rest) = if nat_lt 15 slot then None else Some (slot, rest)
+
+-- 255 for absent, or a length of at most 48 and that many bytes
+unfoldable pub image_at : List ℕ → Option (Image × List ℕ)
+image_at [] = None
+image_at (size ∷ rest) =
+    if size == 255 then Some (None, rest)
+    else if nat_lt 48 size then None
+    else if nat_lt (length rest) size then None
+    else Some (Some (take size rest), drop size rest)
+
+-- a transaction and its previous record
+unfoldable pub plain_at : List ℕ → Option (PlainRecord × List ℕ)
+plain_at bytes = do
+  tx ← tx_at bytes
+  prev ← number_at w64 tx.1
+  Some (record { tx = tx.0; prev = prev.0 }, prev.1)
+
+unfoldable pub update_at : List ℕ → Option (LogRecord × List ℕ)
+update_at bytes = do
+  own ← plain_at bytes
+  page ← number_at w32 own.1
+  slot ← slot_at page.1
+  before ← image_at slot.1
+  after ← image_at before.1
+  Some (Update (record { tx = own.0.tx; prev = own.0.prev; page = page.0; slot = slot.0; before = before.0; after = after.0 }), after.1)
+
+unfoldable pub compensation_at : List ℕ → Option (LogRecord × List ℕ)
+compensation_at bytes = do
+  own ← plain_at bytes
+  page ← number_at w32 own.1
+  slot ← slot_at page.1
+  undo_next ← number_at w64 slot.1
+  image ← image_at undo_next.1
+  Some (Compensation (record { tx = own.0.tx; prev = own.0.prev; page = page.0; slot = slot.0; undo_next = undo_next.0; image = image.0 }), image.1)
+
+unfoldable pub commit_at : List ℕ → Option (LogRecord × List ℕ)
+commit_at bytes = do
+  own ← plain_at bytes
+  Some (Commit own.0, own.1)
+
+unfoldable pub abort_at : List ℕ → Option (LogRecord × List ℕ)
+abort_at bytes = do
+  own ← plain_at bytes
+  Some (Abort own.0, own.1)
+
+unfoldable pub end_at : List ℕ → Option (LogRecord × List ℕ)
+end_at bytes = do
+  own ← plain_at bytes
+  Some (End own.0, own.1)
+
+-- 0 for active, 1 for aborting
+unfoldable pub state_at : List ℕ → Option (State × List ℕ)
+state_at [] = None
+state_at (code ∷ rest) = if code == 0 then Some (Active, rest) else if code == 1 then Some (Aborting, rest) else None
+
+-- an entry of the transaction table
+unfoldable pub entry_at : List ℕ → Option (TableEntry × List ℕ)
+entry_at bytes = do
+  tx ← tx_at bytes
+  state ← state_at tx.1
+  last ← number_at w64 state.1
+  undo_next ← number_at w64 last.1
+  Some (record { tx = tx.0; state = state.0; last = last.0; undo_next = undo_next.0 }, undo_next.1)
+
+-- an entry of the dirty page table
+unfoldable pub dirty_at : List ℕ → Option ((ℕ × ℕ) × List ℕ)
+dirty_at bytes = do
+  page ← number_at w32 bytes
+  rec_lsn ← number_at w64 page.1
+  Some ((page.0, rec_lsn.0), rec_lsn.1)
+
+-- so many entries in rising order of number, none of them below `low`
+unfoldable pub table_at : {E : Type 0} (number : E → ℕ) (entry : List ℕ → Option (E × List ℕ)) (count low : ℕ) → List ℕ → Option (List E × List ℕ)
+table_at number entry zero low bytes = Some ([], bytes)
+table_at number entry (suc count) low bytes = do
+  first ← entry bytes
+  others ← if nat_lt (number first.0) low then None else table_at number entry count (number first.0 + 1) first.1
+  Some (first.0 ∷ others.0, others.1)
+
+-- a count of at most 1,024, and so many entries
+unfoldable pub transactions_at : List ℕ → Option (List TableEntry × List ℕ)
+transactions_at bytes = do
+  count ← number_at w32 bytes
+  if nat_lt 1024 count.0 then None else table_at tx_in entry_at count.0 0 count.1
+
+-- a count of at most 4,096, and so many entries
+unfoldable pub dirties_at : List ℕ → Option (List (ℕ × ℕ) × List ℕ)
+dirties_at bytes = do
+  count ← number_at w32 bytes
+  if nat_lt 4096 count.0 then None else table_at page_in dirty_at count.0 0 count.1
+
+-- the begin that it names, and the two tables
+unfoldable pub checkpoint_at : List ℕ → Option (LogRecord × List ℕ)
+checkpoint_at bytes = do
+  begin ← number_at w64 bytes
+  transactions ← transactions_at begin.1
+  dirty ← dirties_at transactions.1
+  Some (CheckpointEnd begin.0 transactions.0 dirty.0, dirty.1)
+
+-- the fields after the LSN, by the kind
+unfoldable pub fields_at : ℕ → List ℕ → Option (LogRecord × List ℕ)
+fields_at kind bytes =
+    if kind == 1 then update_at bytes
+    else if kind == 2 then compensation_at bytes
+    else if kind == 3 then commit_at bytes
+    else if kind == 4 then abort_at bytes
+    else if kind == 5 then end_at bytes
+    else if kind == 6 then Some (CheckpointBegin, bytes)
+    else if kind == 7 then checkpoint_at bytes
+    else None
+
+-- the kind, the LSN and the fields, and no byte behind them
+unfoldable pub body_at : List ℕ → Option (LogRecord × ℕ)
+body_at [] = None
+body_at (kind ∷ bytes) = do
+  lsn ← number_at w64 bytes
+  fields ← fields_at kind lsn.1
+  if length fields.1 == 0 then Some (fields.0, lsn.0) else None
+
+-- A TABLE THAT STAYS IN THE BYTES
+-- the entry in front (some entry, where none is)
+unfoldable pub entry_there : {E : Type 0} (entry : List ℕ → Option (E × List ℕ)) (other : E) → List ℕ → E
+entry_there entry other bytes = unwrap_or (option_map (λ x. x.0) (entry bytes)) other
+
+-- so many entries of this size, the one behind the other
+abbrev pub table_in : {E : Type 0} (entry : List ℕ → Option (E × List ℕ)) (other : E) (size count : ℕ) → List ℕ → List E
+table_in entry other size count bytes = map (λ place. entry_there entry other (drop (size * place) bytes)) (range_with_len 0 count)
+
+-- there is room for so many, and each of them can be read
+pub record IsTable {E : Type 0} (entry : List ℕ → Option (E × List ℕ)) (size count : ℕ) (bytes : List ℕ) : Type 0 where
+  pub room : size * count ≤ length bytes
+  pub each : (place : ℕ) → place < count → is_some (entry (drop (size * place) bytes)) ≡ true
+
+abbrev pub no_entry : TableEntry
+no_entry = record { tx = 0; state = Active; last = 0; undo_next = 0 }
+
+abbrev pub entries_in : ℕ → List ℕ → List TableEntry
+entries_in = table_in entry_at no_entry 21
+
+abbrev pub AreEntries : ℕ → List ℕ → Type 0
+AreEntries = IsTable entry_at 21
+
+abbrev pub dirties_in : ℕ → List ℕ → List (ℕ × ℕ)
+dirties_in = table_in dirty_at (0, 0) 12
+
+abbrev pub AreDirties : ℕ → List ℕ → Type 0
+AreDirties = IsTable dirty_at 12

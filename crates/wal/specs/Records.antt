@@ -1,0 +1,83 @@
+-- What a log is made of: records as plain data, without where they lie in memory.
+-- ARIES, section 4.1 (log records), 4.3 (transaction table), 4.4 (dirty page table), 5.4 (checkpoints); the layout of a page
+-- in slots, and the LSN as a number, are own.
+use Rattle.std.specs.Prelude.{ℕ, suc, nat_lt, List, [], ◌∷◌, Option, Some, None, ◌==◌, if◌then◌else◌}
+use Rattle.page.specs.Image.{Image}
+use Rattle.wal.specs.declared.record.State.{State}
+
+infixl 60 ◌▸◌
+infixl 60 ◌▸▸◌
+-- a change of a slot, which can be redone and undone
+pub record UpdateRecord : Type 0 where
+  pub tx : ℕ
+  pub prev : ℕ
+  pub page : ℕ
+  pub slot : ℕ
+  pub before : Image
+  pub after : Image
+
+-- a compensation log record (CLR): an update undone, which is redone and never undone
+pub record CompensationRecord : Type 0 where
+  pub tx : ℕ
+  pub prev : ℕ
+  pub page : ℕ
+  pub slot : ℕ
+  pub undo_next : ℕ
+  pub image : Image
+
+-- a record that says no more than its transaction and that one's previous record
+pub record PlainRecord : Type 0 where
+  pub tx : ℕ
+  pub prev : ℕ
+
+-- what a checkpoint says of a transaction
+pub record TableEntry : Type 0 where
+  pub tx : ℕ
+  pub state : State
+  pub last : ℕ
+  pub undo_next : ℕ
+
+-- its transaction
+abbrev pub tx_in : TableEntry → ℕ
+tx_in e = e.tx
+
+-- an entry of a dirty page table is a page and its RecLSN
+abbrev pub page_in : ℕ × ℕ → ℕ
+page_in d = d.0
+
+pub data LogRecord : Type 0 where
+  Update : UpdateRecord → LogRecord
+  Compensation : CompensationRecord → LogRecord
+  Commit : PlainRecord → LogRecord
+  Abort : PlainRecord → LogRecord
+  End : PlainRecord → LogRecord
+  CheckpointBegin : LogRecord
+  CheckpointEnd : (begin : ℕ) → (transactions : List TableEntry) → (dirty : List (ℕ × ℕ)) → LogRecord
+
+-- A log in the order of time: `log ▸ r` is a log, and then the record r.
+pub data History : Type 0 where
+  start : History
+  ◌▸◌ : History → LogRecord → History
+
+-- a log, and then these records, the first of them first
+abbrev pub ◌▸▸◌ : History → List LogRecord → History
+log ▸▸ [] = log
+log ▸▸ (r ∷ rs) = (log ▸ r) ▸▸ rs
+
+abbrev pub history : List LogRecord → History
+history records = start ▸▸ records
+
+-- how many records, which is the LSN of the last of them
+abbrev pub size : History → ℕ
+size start = 0
+size (log ▸ r) = suc (size log)
+
+-- the record at an LSN
+abbrev pub record_at : History → ℕ → Option LogRecord
+record_at start lsn = None
+record_at (log ▸ r) lsn = if lsn == suc (size log) then Some r else record_at log lsn
+
+-- the first n records of the log
+abbrev pub first : ℕ → History → History
+first n start = start
+first n (log ▸ r) = if nat_lt (size log) n then log ▸ r else first n log

@@ -1,0 +1,101 @@
+-- What a store has to do with a log: the laws of pages and of the checkpoint, and the store after a restart.
+use Rattle.std.specs.Prelude.{◌≡◌, ◌≤◌, ◌<◌, ◌⊎◌, ℕ, List, ◌++◌, length, map, Option, Some, None, Bool, true, ◌&&◌, ◌==◌, nat_le, if◌then◌else◌, All, slice_index_or}
+use Rattle.std.specs.List.{range_with_len}
+use Rattle.page.specs.declared.page.Page.{Page}
+use Rattle.page.specs.Store.{StoreContent}
+use Rattle.wal.specs.declared.record.State.{State}
+use Rattle.wal.specs.declared.record.State.TheVariants.{Active, Aborting}
+use Rattle.wal.specs.Records.{TableEntry, LogRecord, Update, Compensation, CheckpointBegin, CheckpointEnd, History, start, ◌▸◌, history, size, record_at, first}
+use Rattle.wal.specs.Meaning.{aborted, replay, winners, last_of, undo_next_of, is_on, last_on}
+use Rattle.wal.specs.Laws.{IsLawful}
+use Rattle.wal.specs.Tail.{losers_of, tail_of}
+use Rattle.wal.specs.Redo.{rec_lsn_of, slots_in}
+use Rattle.wal.specs.Reads.{log_text, Reads}
+
+-- PAGE LAW. PageLSN is 0 or the LSN of a record on the page, and the slots are what the log up to PageLSN makes of them.
+-- ARIES, section 4.2 (PageLSN), and write-ahead logging, section 1.1.
+pub record PageLaw (log : History) (page : Page) : Type 0 where
+  pub within : page.lsn ≤ size log
+  pub on_page : (page.lsn ≡ 0) ⊎ ((r : LogRecord) × (record_at log page.lsn ≡ Some r) × (is_on page.number r ≡ true))
+  pub slots_are : page.slots ≡ slots_in (replay (first page.lsn log)) page.number
+
+-- THE CHECKPOINT. ARIES, section 5.4 (fuzzy checkpoints); that the tables describe the moment of the begin, and that the
+-- first end which names it counts, are own.
+abbrev pub or_else : {A : Type 0} → Option A → Option A → Option A
+or_else (Some x) other = Some x
+or_else None other = other
+
+-- the tables of the first checkpoint end behind the LSN m that names m
+abbrev pub first_end : ℕ → History → Option (List TableEntry × List (ℕ × ℕ))
+first_end m start = None
+first_end m (log ▸ CheckpointEnd begin transactions dirty) =
+    or_else (first_end m log) (if begin == m && nat_le m (size log) then Some (transactions, dirty) else None)
+first_end m (log ▸ _) = first_end m log
+
+abbrev pub state_of : Bool → State
+state_of is_aborting = if is_aborting then Aborting else Active
+
+-- what is true of a loser: its state, its last record and its raw undo-next
+abbrev pub true_entry : History → ℕ → TableEntry
+true_entry log t = record { tx = t; state = state_of (aborted t log); last = last_of t log; undo_next = undo_next_of t log }
+
+-- the losers of the log with what is true of them, in rising number
+abbrev pub true_table : History → List TableEntry
+true_table log = map (true_entry log) (losers_of log)
+
+-- DIRTY LAW of a checkpoint at m, for a page: its RecLSN lies in 1 to m, and no record up to m that its image lacks is left out
+pub record DirtyLaw (log : History) (m page page_lsn : ℕ) (listed : Option ℕ) : Type 0 where
+  pub range : (rec_lsn : ℕ) → listed ≡ Some rec_lsn → (1 ≤ rec_lsn) × (rec_lsn ≤ m)
+  pub covers : (lsn : ℕ) (r : LogRecord) → lsn ≤ m → record_at log lsn ≡ Some r → is_on page r ≡ true
+      → (lsn ≤ page_lsn) ⊎ ((rec_lsn : ℕ) × (listed ≡ Some rec_lsn) × (rec_lsn ≤ lsn))
+
+-- the tables are true of the log up to m, and of the pages
+pub record TablesLaw (log : History) (pages : List Page) (m : ℕ) : Type 0 where
+  pub transactions : List TableEntry
+  pub dirty : List (ℕ × ℕ)
+  pub begins : record_at log m ≡ Some CheckpointBegin
+  pub named : first_end m log ≡ Some (transactions, dirty)
+  pub transactions_are : transactions ≡ true_table (first m log)
+  pub dirty_are : All (λ page. DirtyLaw log m page.number page.lsn (rec_lsn_of page.number dirty)) pages
+
+-- CHECKPOINT LAW for the master m: there is none, or its tables are true.
+abbrev pub CheckpointLaw : History → List Page → ℕ → Type 0
+CheckpointLaw log pages m = (m ≡ 0) ⊎ TablesLaw log pages m
+
+-- every page that a record names, or a dirty page table in one, is below the count (own)
+abbrev pub NamesPages : ℕ → LogRecord → Type 0
+NamesPages count (Update u) = u.page < count
+NamesPages count (Compensation c) = c.page < count
+NamesPages count (CheckpointEnd begin transactions dirty) = All (λ d. d.0 < count) dirty
+NamesPages count _ = Unit {0}
+
+-- LAWFUL. A log and a store that an ARIES system can leave behind.
+pub record Lawful (records : List LogRecord) (store : StoreContent) : Type 0 where
+  pub log : IsLawful (history records)
+  pub names_pages : All (NamesPages (length store.pages)) records
+  pub pages : All (PageLaw (history records)) store.pages
+  pub checkpoint : CheckpointLaw (history records) store.pages store.master
+
+-- STORE-OUT. The count and the master stay; each page has what the winners leave, and as PageLSN the last record on it in the
+-- log and its tail. ARIES, section 3.
+abbrev pub page_out : List LogRecord → ℕ → Page
+page_out records page = record { number = page; lsn = last_on page (history (records ++ tail_of records)); slots = slots_in (winners (history records)) page }
+
+abbrev pub store_out : List LogRecord → StoreContent → StoreContent
+store_out records store = record { master = store.master; pages = map (page_out records) (range_with_len 0 (length store.pages)) }
+
+-- CUT (own). What a restart of (L, S) that was interrupted may leave: L's log text and a beginning of its tail's, with the
+-- whole records L' in it; and a store of the same count and master whose pages keep the page law over L', none of them older
+-- than in S.
+pub record Cut (records : List LogRecord) (store : StoreContent) (bytes : List ℕ) (left : StoreContent) : Type 0 where
+  pub written : List ℕ
+  pub missing : List ℕ
+  pub begins : bytes ≡ log_text records ++ written
+  pub ends : log_text (records ++ tail_of records) ≡ bytes ++ missing
+  pub whole : List LogRecord
+  pub torn : ℕ
+  pub reads : Reads bytes whole torn
+  pub master : left.master ≡ store.master
+  pub count : length left.pages ≡ length store.pages
+  pub pages : All (PageLaw (history whole)) left.pages
+  pub not_older : (i : ℕ) (d : Page) → i < length store.pages → (slice_index_or store.pages i d).lsn ≤ (slice_index_or left.pages i d).lsn

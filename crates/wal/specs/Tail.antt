@@ -1,0 +1,108 @@
+-- What a restart adds to a log. ARIES, section 6.3 (undo pass); that the ends of losers with nothing pending come first, in
+-- rising number, and the LSNs by counting, are own.
+use Rattle.std.specs.Prelude.{ℕ, suc, zero, List, [], ◌∷◌, ◌++◌, Bool, true, false, ◌||◌, ◌==◌, if◌then◌else◌, map, filter, flat_map, max}
+use Rattle.wal.specs.Records.{UpdateRecord, LogRecord, Update, Compensation, Commit, Abort, End, History, start, ◌▸◌, history, size}
+use Rattle.wal.specs.Meaning.{is_loser, pending, last_of}
+
+-- WHAT IS WRITTEN
+-- the end of a transaction, or the CLR of an update
+pub data Action : Type 0 where
+  Finish : ℕ → Action
+  Undo : UpdateRecord → Action
+
+abbrev pub tx_for : Action → ℕ
+tx_for (Finish t) = t
+tx_for (Undo u) = u.tx
+
+-- its record, where `last` says which record of each transaction is the last
+abbrev pub record_for : (ℕ → ℕ) → Action → LogRecord
+record_for last (Finish t) = End (record { tx = t; prev = last t })
+record_for last (Undo u) =
+    Compensation
+    (record {
+      tx = u.tx;
+      prev = last u.tx;
+      page = u.page;
+      slot = u.slot;
+      undo_next = u.prev;
+      image = u.before;
+    })
+
+-- the records of these actions from an LSN on: PrevLSN is the transaction's record before it
+abbrev pub written : (ℕ → ℕ) → ℕ → List Action → List LogRecord
+written last lsn [] = []
+written last lsn (a ∷ actions) =
+    record_for last a ∷ written (λ t. if tx_for a == t then lsn else last t) (suc lsn) actions
+
+-- HOW LOSERS ARE ROLLED BACK
+abbrev pub is_empty : List ℕ → Bool
+is_empty [] = true
+is_empty (x ∷ xs) = false
+
+abbrev pub is_among : ℕ → List ℕ → Bool
+is_among n [] = false
+is_among n (m ∷ ms) = n == m || is_among n ms
+
+abbrev pub is_lowest : ℕ → List ℕ → Bool
+is_lowest n [] = false
+is_lowest n (m ∷ []) = n == m
+is_lowest n (m ∷ k ∷ ms) = is_lowest n (k ∷ ms)
+
+-- the chosen updates of the log with their LSNs, in descending LSN
+abbrev pub updates_where : (ℕ → UpdateRecord → Bool) → History → List (ℕ × UpdateRecord)
+updates_where chosen start = []
+updates_where chosen (log ▸ Update u) =
+    if chosen (suc (size log)) u then (suc (size log), u) ∷ updates_where chosen log else updates_where chosen log
+updates_where chosen (log ▸ _) = updates_where chosen log
+
+-- the updates on the stacks, which have the LSNs that each transaction is to undo
+abbrev pub is_stacked : (ℕ → List ℕ) → ℕ → UpdateRecord → Bool
+is_stacked stack lsn u = is_among lsn (stack u.tx)
+
+-- the CLR of such an update; behind that of a transaction's lowest one its end
+abbrev pub undo_of : (ℕ → List ℕ) → ℕ × UpdateRecord → List Action
+undo_of stack p = Undo p.1 ∷ (if is_lowest p.0 (stack p.1.tx) then Finish p.1.tx ∷ [] else [])
+
+-- First an end for each loser with nothing on its stack; then the CLRs of all updates on the stacks, in descending LSN.
+abbrev pub rollback : List ℕ → (ℕ → List ℕ) → History → List Action
+rollback losers stack log =
+    map Finish (filter (λ t. is_empty (stack t)) losers)
+    ++ flat_map (undo_of stack) (updates_where (is_stacked stack) log)
+
+-- THE TAIL
+-- k numbers from n on
+abbrev pub numbers_from : ℕ → ℕ → List ℕ
+numbers_from n zero = []
+numbers_from n (suc k) = n ∷ numbers_from (suc n) k
+
+abbrev pub tx_of : LogRecord → ℕ
+tx_of (Update u) = u.tx
+tx_of (Compensation c) = c.tx
+tx_of (Commit s) = s.tx
+tx_of (Abort s) = s.tx
+tx_of (End s) = s.tx
+tx_of _ = 0
+
+-- a number above those of all transactions of the log
+abbrev pub above_all : History → ℕ
+above_all start = 0
+above_all (log ▸ r) = max (suc (tx_of r)) (above_all log)
+
+-- in rising number
+abbrev pub losers_of : History → List ℕ
+losers_of log = filter (λ t. is_loser t log) (numbers_from 0 (above_all log))
+
+-- a loser's pending updates
+abbrev pub left_of : History → ℕ → List ℕ
+left_of log t = if is_loser t log then pending t log else []
+
+abbrev pub left_to_do : History → List Action
+left_to_do log = rollback (losers_of log) (left_of log) log
+
+-- TAIL. The losers of the log are rolled back, and these records written behind it.
+abbrev pub tail : History → List LogRecord
+tail log = written (λ t. last_of t log) (suc (size log)) (left_to_do log)
+
+-- the tail of these records
+abbrev pub tail_of : List LogRecord → List LogRecord
+tail_of records = tail (history records)

@@ -1,0 +1,259 @@
+//! The fields of a record in bytes: numbers, transaction numbers, slots, images.
+
+ghost use Rattle.std.specs.Prelude.{◌≡◌, ◌++◌, ◌∷◌, [], OnOk, length, map, option_map, ◌<◌, ◌^◌};
+ghost use Rattle.std.specs.Int.{w32, w64, to_be_bytes};
+ghost use Rattle.wal.specs.Reading.{number_at, tx_at, slot_at, image_at, plain_at, state_at, entry_at, dirty_at};
+ghost use Rattle.wal.specs.Spelling.{image, state as state_text, entry as entry_text, dirty_page, table, FitsImage};
+ghost use Rattle.wal.specs.Content.{entry_of, Keeps};
+
+use crate::record::{Entry, State};
+use page::Value;
+use std::alloc::{AllocError, Allocator};
+
+#[inline]
+pub fn u32_at(bytes: &[u8]) -> Option<(u32, &[u8])>
+    ensures { option_map (λ x. (x.0, x.1.now)) result ≡ number_at w32 bytes.now }
+{
+    if bytes.len() < 4 {
+        return None;
+    }
+    let (front, rest) = bytes.split_at(4);
+    Some((
+        u32::from_be_bytes([front[0], front[1], front[2], front[3]]),
+        rest,
+    ))
+}
+
+#[inline]
+pub fn u64_at(bytes: &[u8]) -> Option<(u64, &[u8])>
+    ensures { option_map (λ x. (x.0, x.1.now)) result ≡ number_at w64 bytes.now }
+{
+    if bytes.len() < 8 {
+        return None;
+    }
+    let (front, rest) = bytes.split_at(8);
+    let number = u64::from_be_bytes([
+        front[0], front[1], front[2], front[3], front[4], front[5], front[6], front[7],
+    ]);
+    Some((number, rest))
+}
+
+#[inline]
+#[tactic(auto, unfolding(crate::specs::Reading::tx_at))]
+pub fn tx_at(bytes: &[u8]) -> Option<(u32, &[u8])>
+    ensures { option_map (λ x. (x.0, x.1.now)) result ≡ tx_at bytes.now }
+{
+    let (tx, rest) = u32_at(bytes)?;
+    if tx == 0 {
+        return None;
+    }
+    Some((tx, rest))
+}
+
+#[inline]
+#[tactic(auto, unfolding(crate::specs::Reading::slot_at))]
+pub fn slot_at(bytes: &[u8]) -> Option<(u8, &[u8])>
+    ensures { option_map (λ x. (x.0, x.1.now)) result ≡ slot_at bytes.now }
+{
+    match bytes {
+        [] => None,
+        [slot, rest @ ..] => {
+            if *slot > 15 {
+                return None;
+            }
+            Some((*slot, rest))
+        }
+    }
+}
+
+#[inline]
+#[tactic(auto, unfolding(crate::specs::Reading::image_at))]
+pub fn image_at(bytes: &[u8]) -> Option<(Option<&[u8]>, &[u8])>
+    ensures { option_map (λ x. (option_map (λ s. s.now) x.0, x.1.now)) result ≡ image_at bytes.now }
+{
+    match bytes {
+        [] => None,
+        [size, rest @ ..] => {
+            if *size == 255 {
+                return Some((None, rest));
+            }
+            if *size > 48 {
+                return None;
+            }
+            let size = *size as usize;
+            if rest.len() < size {
+                return None;
+            }
+            let (value, rest) = rest.split_at(size);
+            Some((Some(value), rest))
+        }
+    }
+}
+
+#[inline]
+#[tactic(auto, unfolding(crate::specs::Reading::plain_at))]
+pub fn plain_at(bytes: &[u8]) -> Option<(u32, u64, &[u8])>
+    ensures { option_map (λ x. (record { tx = x.0; prev = x.1 }, x.2.now)) result ≡ plain_at bytes.now }
+{
+    let (tx, rest) = tx_at(bytes)?;
+    let (prev, rest) = u64_at(rest)?;
+    Some((tx, prev, rest))
+}
+
+#[inline]
+#[tactic(auto, unfolding(crate::specs::Reading::state_at))]
+fn state_at(bytes: &[u8]) -> Option<(State, &[u8])>
+    ensures { option_map (λ x. (x.0, x.1.now)) result ≡ state_at bytes.now }
+{
+    match bytes {
+        [] => None,
+        [code, rest @ ..] => match *code {
+            0 => Some((State::Active, rest)),
+            1 => Some((State::Aborting, rest)),
+            _ => None,
+        },
+    }
+}
+
+#[inline]
+#[tactic(auto, unfolding(crate::specs::Reading::entry_at))]
+pub fn entry_at(bytes: &[u8]) -> Option<(u32, Entry, &[u8])>
+    ensures { option_map (λ x. (entry_of (x.0, x.1), x.2.now)) result ≡ entry_at bytes.now }
+{
+    let (tx, rest) = tx_at(bytes)?;
+    let (state, rest) = state_at(rest)?;
+    let (last, rest) = u64_at(rest)?;
+    let (undo_next, rest) = u64_at(rest)?;
+    let entry = Entry {
+        state,
+        last,
+        undo_next,
+    };
+    Some((tx, entry, rest))
+}
+
+#[inline]
+#[tactic(auto, unfolding(crate::specs::Reading::dirty_at))]
+pub fn dirty_at(bytes: &[u8]) -> Option<(u32, u64, &[u8])>
+    ensures { option_map (λ x. ((x.0, x.1), x.2.now)) result ≡ dirty_at bytes.now }
+{
+    let (page, rest) = u32_at(bytes)?;
+    let (rec_lsn, rest) = u64_at(rest)?;
+    Some((page, rec_lsn, rest))
+}
+
+pub fn image_len(value: &Option<Value>) -> usize
+    ensures { result ≡ length (image value.now) }
+{
+    match value {
+        None => 1,
+        Some(value) => value.as_slice().len() + 1,
+    }
+}
+
+#[tactic(auto, using(crate::proofs::Keeping::keeps_same, crate::proofs::Keeping::keeps_if))]
+pub fn put_image<A: Allocator>(
+    out: &mut Vec<u8, A>,
+    value: &Option<Value>,
+) -> Result<(), AllocError>
+    requires { FitsImage value.now }
+    ensures ok { OnOk result (out.new.items ≡ out.old.items ++ image value.now) }
+    ensures kept { Keeps out.old.items out.new.items }
+{
+    match value {
+        None => out.push(255)?,
+        Some(value) => {
+            let value = value.as_slice();
+            out.push(value.len() as u8)?;
+            out.extend_from_slice(value)?;
+        }
+    }
+    Ok(())
+}
+
+#[tactic(auto, using(crate::proofs::Keeping::keeps_same, crate::proofs::Keeping::keeps_if))]
+pub fn put_plain<A: Allocator>(out: &mut Vec<u8, A>, tx: u32, prev: u64) -> Result<(), AllocError>
+    ensures ok { OnOk result (out.new.items ≡ out.old.items ++ (to_be_bytes w32 tx ++ to_be_bytes w64 prev)) }
+    ensures kept { Keeps out.old.items out.new.items }
+{
+    out.extend_from_slice(&tx.to_be_bytes())?;
+    out.extend_from_slice(&prev.to_be_bytes())?;
+    Ok(())
+}
+
+#[tactic(auto, using(crate::proofs::Keeping::keeps_same, crate::proofs::Keeping::keeps_if))]
+pub fn put_cell<A: Allocator>(out: &mut Vec<u8, A>, page: u32, slot: u8) -> Result<(), AllocError>
+    ensures ok { OnOk result (out.new.items ≡ out.old.items ++ (to_be_bytes w32 page ++ (slot ∷ []))) }
+    ensures kept { Keeps out.old.items out.new.items }
+{
+    out.extend_from_slice(&page.to_be_bytes())?;
+    out.push(slot)?;
+    Ok(())
+}
+
+#[tactic(auto, using(crate::proofs::Keeping::keeps_same, crate::proofs::Keeping::keeps_if))]
+fn put_state<A: Allocator>(out: &mut Vec<u8, A>, state: State) -> Result<(), AllocError>
+    ensures ok { OnOk result (out.new.items ≡ out.old.items ++ state_text state) }
+    ensures kept { Keeps out.old.items out.new.items }
+{
+    let code = match state {
+        State::Active => 0,
+        State::Aborting => 1,
+    };
+    out.push(code)?;
+    Ok(())
+}
+
+#[tactic(auto, using(crate::proofs::Keeping::keeps_same, crate::proofs::Keeping::keeps_then, crate::proofs::Keeping::keeps_if))]
+fn put_entry<A: Allocator>(out: &mut Vec<u8, A>, tx: u32, entry: Entry) -> Result<(), AllocError>
+    ensures ok { OnOk result (out.new.items ≡ out.old.items ++ entry_text (entry_of (tx, entry))) }
+    ensures kept { Keeps out.old.items out.new.items }
+{
+    out.extend_from_slice(&tx.to_be_bytes())?;
+    put_state(out, entry.state)?;
+    out.extend_from_slice(&entry.last.to_be_bytes())?;
+    out.extend_from_slice(&entry.undo_next.to_be_bytes())?;
+    Ok(())
+}
+
+#[tactic(auto, using(crate::proofs::Keeping::keeps_same, crate::proofs::Keeping::keeps_then, crate::proofs::Keeping::keeps_if))]
+pub fn put_entries<A: Allocator>(
+    out: &mut Vec<u8, A>,
+    entries: &[(u32, Entry)],
+) -> Result<(), AllocError>
+    requires { length entries.now < 2 ^ 32 }
+    ensures ok { OnOk result (out.new.items ≡ out.old.items ++ table entry_text (map entry_of entries.now)) }
+    ensures kept { Keeps out.old.items out.new.items }
+{
+    out.extend_from_slice(&(entries.len() as u32).to_be_bytes())?;
+    for (tx, entry) in entries {
+        put_entry(out, *tx, *entry)?;
+    }
+    Ok(())
+}
+
+#[tactic(auto, using(crate::proofs::Keeping::keeps_same, crate::proofs::Keeping::keeps_if))]
+fn put_dirty<A: Allocator>(out: &mut Vec<u8, A>, page: u32, rec_lsn: u64) -> Result<(), AllocError>
+    ensures ok { OnOk result (out.new.items ≡ out.old.items ++ dirty_page (page, rec_lsn)) }
+    ensures kept { Keeps out.old.items out.new.items }
+{
+    out.extend_from_slice(&page.to_be_bytes())?;
+    out.extend_from_slice(&rec_lsn.to_be_bytes())?;
+    Ok(())
+}
+
+#[tactic(auto, using(crate::proofs::Keeping::keeps_same, crate::proofs::Keeping::keeps_then, crate::proofs::Keeping::keeps_if))]
+pub fn put_dirties<A: Allocator>(
+    out: &mut Vec<u8, A>,
+    entries: &[(u32, u64)],
+) -> Result<(), AllocError>
+    requires { length entries.now < 2 ^ 32 }
+    ensures ok { OnOk result (out.new.items ≡ out.old.items ++ table dirty_page entries.now) }
+    ensures kept { Keeps out.old.items out.new.items }
+{
+    out.extend_from_slice(&(entries.len() as u32).to_be_bytes())?;
+    for (page, rec_lsn) in entries {
+        put_dirty(out, *page, *rec_lsn)?;
+    }
+    Ok(())
+}

@@ -1,0 +1,308 @@
+//! Frames: a record in bytes, read and written.
+
+ghost use Rattle.std.specs.Prelude.{◌≡◌, ◌++◌, ◌∷◌, [], ◌<◌, OnOk, OnErr, length, option_map};
+ghost use Rattle.std.specs.Int.{w32, w64, to_be_bytes};
+ghost use Rattle.wal.specs.Records.{CompensationRecord, PlainRecord, UpdateRecord};
+ghost use Rattle.wal.specs.Reading.{update_at, compensation_at, commit_at, abort_at, end_at, transactions_at, dirties_at, checkpoint_at, fields_at, body_at};
+ghost use Rattle.wal.specs.Frames.{next_at, Gives};
+ghost use Rattle.wal.specs.Spelling.{image, plain, update, compensation, body, frame, checkpoint, table, entry, dirty_page, kind_of, fields, Fits, FitsImage, FitsCheckpoint, FitsTable};
+ghost use Rattle.wal.specs.Content.{content, Keeps};
+ghost use Rattle.wal.specs.Shown.{shown};
+
+use crate::field::{
+    image_at, image_len, plain_at, put_cell, put_dirties, put_entries, put_image, put_plain,
+    slot_at, u32_at, u64_at,
+};
+use crate::record::Record;
+use crate::view;
+use crate::view::{DirtyTable, RecordView, TransactionTable};
+use page::Fault;
+use std::alloc::{AllocError, Allocator};
+
+#[inline]
+#[tactic(auto, unfolding(crate::specs::Reading::update_at))]
+fn update_at(bytes: &[u8]) -> Option<(RecordView, &[u8])>
+    ensures { option_map (λ x. (shown x.0, x.1.now)) result ≡ update_at bytes.now }
+{
+    let (tx, prev, rest) = plain_at(bytes)?;
+    let (page, rest) = u32_at(rest)?;
+    let (slot, rest) = slot_at(rest)?;
+    let (before, rest) = image_at(rest)?;
+    let (after, rest) = image_at(rest)?;
+    let view = RecordView::Update {
+        tx,
+        prev,
+        page,
+        slot,
+        before,
+        after,
+    };
+    Some((view, rest))
+}
+
+#[inline]
+#[tactic(auto, unfolding(crate::specs::Reading::compensation_at))]
+fn compensation_at(bytes: &[u8]) -> Option<(RecordView, &[u8])>
+    ensures { option_map (λ x. (shown x.0, x.1.now)) result ≡ compensation_at bytes.now }
+{
+    let (tx, prev, rest) = plain_at(bytes)?;
+    let (page, rest) = u32_at(rest)?;
+    let (slot, rest) = slot_at(rest)?;
+    let (undo_next, rest) = u64_at(rest)?;
+    let (image, rest) = image_at(rest)?;
+    let view = RecordView::Compensation {
+        tx,
+        prev,
+        page,
+        slot,
+        undo_next,
+        image,
+    };
+    Some((view, rest))
+}
+
+#[inline]
+#[tactic(auto, unfolding(crate::specs::Reading::commit_at))]
+fn commit_at(bytes: &[u8]) -> Option<(RecordView, &[u8])>
+    ensures { option_map (λ x. (shown x.0, x.1.now)) result ≡ commit_at bytes.now }
+{
+    let (tx, prev, rest) = plain_at(bytes)?;
+    Some((RecordView::Commit { tx, prev }, rest))
+}
+
+#[inline]
+#[tactic(auto, unfolding(crate::specs::Reading::abort_at))]
+fn abort_at(bytes: &[u8]) -> Option<(RecordView, &[u8])>
+    ensures { option_map (λ x. (shown x.0, x.1.now)) result ≡ abort_at bytes.now }
+{
+    let (tx, prev, rest) = plain_at(bytes)?;
+    Some((RecordView::Abort { tx, prev }, rest))
+}
+
+#[inline]
+#[tactic(auto, unfolding(crate::specs::Reading::end_at))]
+fn end_at(bytes: &[u8]) -> Option<(RecordView, &[u8])>
+    ensures { option_map (λ x. (shown x.0, x.1.now)) result ≡ end_at bytes.now }
+{
+    let (tx, prev, rest) = plain_at(bytes)?;
+    Some((RecordView::End { tx, prev }, rest))
+}
+
+#[tactic(auto, unfolding(crate::specs::Reading::transactions_at))]
+fn transactions_at(bytes: &[u8]) -> Option<(TransactionTable, &[u8])>
+    ensures { option_map (λ x. (x.0, x.1.now)) result ≡ transactions_at bytes.now }
+{
+    let (count, rest) = u32_at(bytes)?;
+    if count > 1024 {
+        return None;
+    }
+    view::entries_at(count, rest)
+}
+
+#[tactic(auto, unfolding(crate::specs::Reading::dirties_at))]
+fn dirties_at(bytes: &[u8]) -> Option<(DirtyTable, &[u8])>
+    ensures { option_map (λ x. (x.0, x.1.now)) result ≡ dirties_at bytes.now }
+{
+    let (count, rest) = u32_at(bytes)?;
+    if count > 4096 {
+        return None;
+    }
+    view::dirties_at(count, rest)
+}
+
+#[tactic(auto, unfolding(crate::specs::Reading::checkpoint_at))]
+fn checkpoint_at(bytes: &[u8]) -> Option<(RecordView, &[u8])>
+    ensures { option_map (λ x. (shown x.0, x.1.now)) result ≡ checkpoint_at bytes.now }
+{
+    let (begin, rest) = u64_at(bytes)?;
+    let (transactions, rest) = transactions_at(rest)?;
+    let (dirty, rest) = dirties_at(rest)?;
+    let view = RecordView::CheckpointEnd {
+        begin,
+        transactions,
+        dirty,
+    };
+    Some((view, rest))
+}
+
+#[inline]
+#[tactic(auto, unfolding(crate::specs::Reading::fields_at))]
+fn fields_at(kind: u8, bytes: &[u8]) -> Option<(RecordView, &[u8])>
+    ensures { option_map (λ x. (shown x.0, x.1.now)) result ≡ fields_at kind bytes.now }
+{
+    match kind {
+        1 => update_at(bytes),
+        2 => compensation_at(bytes),
+        3 => commit_at(bytes),
+        4 => abort_at(bytes),
+        5 => end_at(bytes),
+        6 => Some((RecordView::CheckpointBegin, bytes)),
+        7 => checkpoint_at(bytes),
+        _ => None,
+    }
+}
+
+/// The record and the LSN that these bytes spell, all of them.
+#[inline]
+#[tactic(auto, unfolding(crate::specs::Reading::body_at))]
+pub fn body_at(bytes: &[u8]) -> Option<(RecordView, u64)>
+    ensures { option_map (λ x. (shown x.0, x.1)) result ≡ body_at bytes.now }
+{
+    match bytes {
+        [] => None,
+        [kind, rest @ ..] => {
+            let (lsn, rest) = u64_at(rest)?;
+            let (view, rest) = fields_at(*kind, rest)?;
+            if !rest.is_empty() {
+                return None;
+            }
+            Some((view, lsn))
+        }
+    }
+}
+
+/// The frame in front and how many bytes it takes, None where the whole frames have ended.
+#[inline]
+#[tactic(auto, unfolding(crate::specs::Frames::next_at))]
+pub fn next_at(lsn: u64, offset: usize, bytes: &[u8]) -> Result<Option<(RecordView, usize)>, Fault>
+    ensures { Gives (λ next. option_map (λ x. (shown x.0, x.1)) next) result (next_at lsn offset bytes.now) }
+{
+    if bytes.len() < 4 {
+        return Ok(None);
+    }
+    let (front, rest) = bytes.split_at(4);
+    let size = u32::from_be_bytes([front[0], front[1], front[2], front[3]]) as usize;
+    if size < 9 || size > 70681 {
+        return Err(Fault::BadLength(offset as u64));
+    }
+    if rest.len() < size {
+        return Ok(None);
+    }
+    match body_at(&rest[..size]) {
+        None => Err(Fault::BadRecord(offset as u64)),
+        Some((view, own)) => {
+            if own != lsn {
+                return Err(Fault::BadLsn(offset as u64));
+            }
+            Ok(Some((view, 4 + size)))
+        }
+    }
+}
+
+fn body_len(entry: &Record) -> u32
+    requires { Fits (content entry.now) }
+    ensures { result ≡ length (body (content entry.now) 0) }
+{
+    match entry {
+        Record::Update { before, after, .. } => (26 + image_len(before) + image_len(after)) as u32,
+        Record::Compensation { image, .. } => (34 + image_len(image)) as u32,
+        Record::Commit { .. } => 21,
+        Record::Abort { .. } => 21,
+        Record::End { .. } => 21,
+        Record::CheckpointBegin => 9,
+        Record::CheckpointEnd {
+            transactions,
+            dirty,
+            ..
+        } => (25 + 21 * transactions.len() + 12 * dirty.len()) as u32,
+    }
+}
+
+#[tactic(auto, using(crate::proofs::Keeping::keeps_same, crate::proofs::Keeping::keeps_then, crate::proofs::Keeping::keeps_if))]
+fn put_fields<A: Allocator>(out: &mut Vec<u8, A>, entry: &Record) -> Result<(), AllocError>
+    requires { Fits (content entry.now) }
+    ensures ok { OnOk result (out.new.items ≡ out.old.items ++ fields (content entry.now)) }
+    ensures kept { Keeps out.old.items out.new.items }
+{
+    match entry {
+        Record::Update {
+            tx,
+            prev,
+            page,
+            slot,
+            before,
+            after,
+        } => {
+            put_plain(out, *tx, *prev)?;
+            put_cell(out, *page, *slot)?;
+            put_image(out, before)?;
+            put_image(out, after)?;
+        }
+        Record::Compensation {
+            tx,
+            prev,
+            page,
+            slot,
+            undo_next,
+            image,
+        } => {
+            put_plain(out, *tx, *prev)?;
+            put_cell(out, *page, *slot)?;
+            out.extend_from_slice(&undo_next.to_be_bytes())?;
+            put_image(out, image)?;
+        }
+        Record::Commit { tx, prev } => put_plain(out, *tx, *prev)?,
+        Record::Abort { tx, prev } => put_plain(out, *tx, *prev)?,
+        Record::End { tx, prev } => put_plain(out, *tx, *prev)?,
+        Record::CheckpointBegin => {}
+        Record::CheckpointEnd {
+            begin,
+            transactions,
+            dirty,
+        } => {
+            out.extend_from_slice(&begin.to_be_bytes())?;
+            put_entries(out, transactions)?;
+            put_dirties(out, dirty)?;
+        }
+    }
+    Ok(())
+}
+
+fn kind_of(entry: &Record) -> u8
+    ensures { result ≡ kind_of (content entry.now) }
+{
+    match entry {
+        Record::Update { .. } => 1,
+        Record::Compensation { .. } => 2,
+        Record::Commit { .. } => 3,
+        Record::Abort { .. } => 4,
+        Record::End { .. } => 5,
+        Record::CheckpointBegin => 6,
+        Record::CheckpointEnd { .. } => 7,
+    }
+}
+
+#[tactic(auto, using(crate::proofs::Keeping::keeps_same, crate::proofs::Keeping::keeps_then, crate::proofs::Keeping::keeps_if))]
+fn put_frame<A: Allocator>(out: &mut Vec<u8, A>, entry: &Record, lsn: u64) -> Result<(), AllocError>
+    requires { Fits (content entry.now) }
+    ensures ok { OnOk result (out.new.items ≡ out.old.items ++ frame (content entry.now) lsn) }
+    ensures kept { Keeps out.old.items out.new.items }
+{
+    out.extend_from_slice(&body_len(entry).to_be_bytes())?;
+    out.push(kind_of(entry))?;
+    out.extend_from_slice(&lsn.to_be_bytes())?;
+    put_fields(out, entry)?;
+    Ok(())
+}
+
+/// Appends the one spelling of the record with this LSN. Where memory is refused, the vector is as it was.
+#[tactic(auto, using(crate::proofs::Keeping::cut_back))]
+pub fn write_frame<A: Allocator>(
+    entry: &Record,
+    lsn: u64,
+    out: &mut Vec<u8, A>,
+) -> Result<(), Fault>
+    requires writable { Fits (content entry.now) }
+    requires lsn { 0 < lsn }
+    ensures ok { OnOk result (out.new.items ≡ out.old.items ++ frame (content entry.now) lsn) }
+    ensures err { OnErr result (out.new.items ≡ out.old.items) }
+{
+    let len = out.len();
+    match put_frame(out, entry, lsn) {
+        Ok(()) => Ok(()),
+        Err(_) => {
+            out.truncate(len);
+            Err(Fault::NoResource)
+        }
+    }
+}

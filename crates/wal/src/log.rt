@@ -1,0 +1,118 @@
+//! A log that lies in bytes.
+
+ghost use Rattle.std.specs.Prelude.{◌≡◌, ◌+◌, ◌≤◌, ℕ, List, All, length, map, drop, option_map, IfErr, IfOk, IfSome, Ok};
+ghost use Rattle.wal.specs.Records.{LogRecord, history, record_at};
+ghost use Rattle.wal.specs.Frames.{IsPlace, record_of, length_of, frame_at, next_at, frames_at, log_at, Gives};
+ghost use Rattle.wal.specs.Reads.{Cause, Reads};
+ghost use Rattle.wal.specs.Spelling.{Fits};
+ghost use Rattle.wal.specs.Shown.{shown};
+
+use crate::frame::{body_at, next_at};
+use crate::view::RecordView;
+use page::Fault;
+use std::alloc::Global;
+use std::marker::Model;
+
+/// A log that lies in bytes. Contracts see it as the list of its records.
+#[derive(Drop)]
+pub struct Log<'a> {
+    bytes: &'a [u8],
+    offsets: Vec<usize>,
+}
+
+impl<'a> Model for Log<'a> {
+    ghost Value = { List LogRecord };
+
+    ghost view = { λ log. map (record_of log.bytes.now) log.offsets.items };
+
+    ghost invariant = { λ log. All (IsPlace log.bytes.now) log.offsets.items };
+}
+
+impl<'a> Log<'a> {
+    /// How many records it has.
+    pub fn len(&self) -> u64
+        ensures { result ≡ length self.now }
+    {
+        self.offsets.len() as u64
+    }
+
+    /// The record at an LSN, None for 0 and past the end.
+    pub fn get(&self, lsn: u64) -> Option<RecordView<'a>>
+        ensures found { option_map shown result ≡ record_at (history self.now) lsn }
+        ensures fits { IfSome result (λ view. Fits (shown view)) }
+    {
+        record_in(self.bytes, &self.offsets, lsn)
+    }
+}
+
+fn record_in<'a>(bytes: &'a [u8], offsets: &[usize], lsn: u64) -> Option<RecordView<'a>>
+    requires { All (IsPlace bytes.now) offsets.now }
+    ensures found { option_map shown result ≡ record_at (history (map (record_of bytes.now) offsets.now)) lsn }
+    ensures fits { IfSome result (λ view. Fits (shown view)) }
+{
+    if lsn == 0 {
+        return None;
+    }
+    if lsn > offsets.len() as u64 {
+        return None;
+    }
+    let offset = offsets[(lsn - 1) as usize];
+    record_here(bytes, offset)
+}
+
+fn record_here(bytes: &[u8], offset: usize) -> Option<RecordView>
+    requires { IsPlace bytes.now offset }
+    ensures found { option_map shown result ≡ option_map (λ x. x.0) (frame_at (drop offset bytes.now)) }
+    ensures fits { IfSome result (λ view. Fits (shown view)) }
+{
+    let (front, rest) = bytes[offset..].split_at(4);
+    let size = u32::from_be_bytes([front[0], front[1], front[2], front[3]]) as usize;
+    match body_at(&rest[..size]) {
+        Some((view, _)) => Some(view),
+        None => None,
+    }
+}
+
+fn offsets_of(alloc: Global, bytes: &[u8]) -> Result<(Vec<usize>, usize), Fault>
+    requires { 8 ≤ length bytes.now }
+    ensures places { IfOk result (λ x. All (IsPlace bytes.now) x.0.items) }
+    ensures read { Gives (λ x. (map (record_of bytes.now) x.0.items, x.1)) result (frames_at (length bytes.now) 1 8 (drop 8 bytes.now)) }
+{
+    let mut offsets = Vec::new(alloc);
+    let mut offset = 8;
+    for number in 0..bytes.len() {
+        let (_, rest) = bytes.split_at(offset);
+        match next_at(number as u64 + 1, offset, rest)? {
+            None => return Ok((offsets, rest.len())),
+            Some((_, size)) => {
+                offsets.push(offset)?;
+                offset += size;
+            }
+        }
+    }
+    Ok((offsets, bytes.len() - offset))
+}
+
+#[tactic(auto, unfolding(crate::specs::Frames::log_at))]
+fn read_in<'a>(alloc: Global, bytes: &'a [u8]) -> Result<(Log<'a>, usize), Fault>
+    ensures { Gives (λ x. x) result (log_at bytes.now) }
+{
+    if !bytes.starts_with(b"ARIESLG1") {
+        return Err(Fault::BadLogHeader);
+    }
+    let (offsets, torn) = offsets_of(alloc, bytes)?;
+    Ok((Log { bytes, offsets }, torn))
+}
+
+/// The log in these bytes, and how many bytes its torn tail has.
+pub fn read_log<'a>(alloc: Global, bytes: &'a [u8]) -> Result<(Log<'a>, usize), Fault>
+    // What is read stands there.
+    ensures found { IfOk result (λ x. Reads bytes.now x.0 x.1) }
+    // What stands there is read, unless memory runs out.
+    ensures only { (records : List LogRecord) (torn : ℕ) → Reads bytes.now records torn → Gives (λ x. x) result (Ok (records, torn)) }
+    // A refusal has its cause in the bytes, memory aside.
+    ensures fault { IfErr result (Cause bytes.now) }
+{
+    let _len = bytes.len();
+    read_in(alloc, bytes)
+}

@@ -1,0 +1,204 @@
+//! The records of a log.
+
+ghost use Rattle.std.specs.Prelude.{◌≡◌, ◌<◌, ◌≤◌, ◌^◌, true, ◌↔◌, map, All};
+ghost use Rattle.wal.specs.Records.{tx_in, page_in};
+ghost use Rattle.wal.specs.Spelling.{Fits, FitsImage, FitsPlain, FitsEntry, FitsDirty, FitsTable, IsRising};
+ghost use Rattle.wal.specs.Content.{entry_of, content};
+
+use page::Value;
+
+/// What a transaction table says of how a transaction stands.
+#[derive(Clone, Copy, Debug, PartialEq, Eq)]
+pub enum State {
+    /// It works.
+    Active,
+    /// It has asked to be rolled back.
+    Aborting,
+}
+
+/// What a transaction table says of a transaction.
+#[derive(Clone, Copy, Debug, PartialEq, Eq)]
+pub struct Entry {
+    /// How it stands.
+    pub state: State,
+    /// LastLSN: the LSN of its last record, 0 for none.
+    pub last: u64,
+    /// UndoNxtLSN: the LSN from which its undo goes on, 0 for none.
+    pub undo_next: u64,
+}
+
+/// A record of the log, with what it holds. LSNs are numbers from 1; 0 stands for none. A value is
+/// None where the slot is absent.
+#[derive(Drop)]
+pub enum Record {
+    /// A transaction changed a slot of a page, from the value before to the value after. `prev` is
+    /// the LSN of the transaction's previous record.
+    Update {
+        tx: u32,
+        prev: u64,
+        page: u32,
+        slot: u8,
+        before: Option<Value>,
+        after: Option<Value>,
+    },
+    /// A compensation log record (CLR): an update was undone, and the slot has this image. Undo
+    /// goes on at `undo_next`.
+    Compensation {
+        tx: u32,
+        prev: u64,
+        page: u32,
+        slot: u8,
+        undo_next: u64,
+        image: Option<Value>,
+    },
+    /// A transaction has committed.
+    Commit {
+        tx: u32,
+        prev: u64,
+    },
+    /// A transaction asked to be rolled back.
+    Abort {
+        tx: u32,
+        prev: u64,
+    },
+    /// A transaction has ended.
+    End {
+        tx: u32,
+        prev: u64,
+    },
+    /// A checkpoint began.
+    CheckpointBegin,
+    /// The checkpoint that began at the LSN `begin`, with the transaction table and the dirty page
+    /// table (page and RecLSN) as they were at its begin.
+    CheckpointEnd {
+        begin: u64,
+        transactions: Vec<(u32, Entry)>,
+        dirty: Vec<(u32, u64)>,
+    },
+}
+
+impl Record {
+    /// Whether it has a spelling: a transaction number is at least 1 and a slot at most 15; the
+    /// tables of a checkpoint end have at most 1,024 and 4,096 entries, in rising order of number.
+    pub fn is_writable(&self) -> bool
+        ensures { result ≡ true ↔ Fits (content self.now) }
+    {
+        match self {
+            Record::Update {
+                tx,
+                prev,
+                page,
+                slot,
+                before,
+                after,
+            } => is_plain(*tx, *prev) && is_cell(*page, *slot) && fits(before) && fits(after),
+            Record::Compensation {
+                tx,
+                prev,
+                page,
+                slot,
+                undo_next,
+                image,
+            } => {
+                is_plain(*tx, *prev) && is_cell(*page, *slot) && is_lsn(*undo_next) && fits(image)
+            }
+            Record::Commit { tx, prev } => is_plain(*tx, *prev),
+            Record::Abort { tx, prev } => is_plain(*tx, *prev),
+            Record::End { tx, prev } => is_plain(*tx, *prev),
+            Record::CheckpointBegin => true,
+            Record::CheckpointEnd {
+                begin,
+                transactions,
+                dirty,
+            } => is_lsn(*begin) && is_transaction_table(transactions) && is_dirty_table(dirty),
+        }
+    }
+}
+
+fn is_plain(tx: u32, prev: u64) -> bool
+    ensures { result ≡ true ↔ FitsPlain (record { tx = tx; prev = prev }) }
+{
+    tx > 0
+}
+
+fn is_cell(page: u32, slot: u8) -> bool
+    ensures { result ≡ true ↔ (page < 2 ^ 32) × (slot ≤ 15) }
+{
+    slot <= 15
+}
+
+// Every u64 has eight bytes.
+fn is_lsn(lsn: u64) -> bool
+    ensures { result ≡ true ↔ lsn < 2 ^ 64 }
+{
+    true
+}
+
+fn fits(value: &Option<Value>) -> bool
+    ensures { result ≡ true ↔ FitsImage value.now }
+{
+    match value {
+        None => true,
+        Some(value) => value.as_slice().len() <= 48,
+    }
+}
+
+fn is_entry(tx: u32, entry: Entry) -> bool
+    ensures { result ≡ true ↔ FitsEntry (entry_of (tx, entry)) }
+{
+    tx > 0 && is_lsn(entry.last) && is_lsn(entry.undo_next)
+}
+
+fn is_dirty_page(page: u32, rec_lsn: u64) -> bool
+    ensures { result ≡ true ↔ FitsDirty (page, rec_lsn) }
+{
+    true
+}
+
+#[tactic(auto, using(crate::proofs::Rising::entries_fit))]
+fn is_transaction_table(entries: &[(u32, Entry)]) -> bool
+    ensures { result ≡ true ↔ FitsTable 1024 tx_in FitsEntry (map entry_of entries.now) }
+{
+    entries.len() <= 1024 && are_entries(entries)
+}
+
+#[tactic(auto, using(crate::proofs::Rising::dirty_pages_fit))]
+fn is_dirty_table(entries: &[(u32, u64)]) -> bool
+    ensures { result ≡ true ↔ FitsTable 4096 page_in FitsDirty entries.now }
+{
+    entries.len() <= 4096 && are_dirty_pages(entries)
+}
+
+fn are_entries(entries: &[(u32, Entry)]) -> bool
+    ensures { result ≡ true ↔ All (λ x. FitsEntry (entry_of x)) entries.now × IsRising (map (λ x. x.0) entries.now) }
+{
+    let mut low = 0;
+    for (tx, entry) in entries {
+        let number = *tx as u64;
+        if number < low {
+            return false;
+        }
+        if !is_entry(*tx, *entry) {
+            return false;
+        }
+        low = number + 1;
+    }
+    true
+}
+
+fn are_dirty_pages(entries: &[(u32, u64)]) -> bool
+    ensures { result ≡ true ↔ All FitsDirty entries.now × IsRising (map (λ x. x.0) entries.now) }
+{
+    let mut low = 0;
+    for (page, rec_lsn) in entries {
+        let number = *page as u64;
+        if number < low {
+            return false;
+        }
+        if !is_dirty_page(*page, *rec_lsn) {
+            return false;
+        }
+        low = number + 1;
+    }
+    true
+}
