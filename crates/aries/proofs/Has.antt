@@ -3,7 +3,7 @@ use Rattle.std.proofs.Common.{ℕ, ◌≡◌, ◌+◌, ◌<◌, ◌⊎◌, inl, 
 use Rattle.std.proofs.lemmas.List.{take-append-drop}
 use Rattle.wal.specs.Records.{LogRecord, History, start, ◌▸◌, ◌▸▸◌, history}
 use Rattle.wal.specs.Meaning.{has}
-use Rattle.wal.proofs.Prefixes.{history_next, after-append}
+use Rattle.wal.proofs.Histories.{history_more, after-append}
 
 pub or_cases : (a b : Bool) → (a || b) ≡ true → (a ≡ true) ⊎ (b ≡ true)
 or_cases true b e = inl refl
@@ -25,5 +25,5 @@ pub has_item : (test : LogRecord → Bool) (records : List LogRecord) (i : ℕ) 
 has_item test records i d lt e =
     let parts : history records ≡ history (take (i + 1) records) ▸▸ drop (i + 1) records =
     ap history (sym (take-append-drop (i + 1) records)) ∙ after-append start (take (i + 1) records) (drop (i + 1) records) in
-    let here : has test (history (take (i + 1) records)) ≡ true = rw (history_next records i d lt) (or_left (test (get_or records i d)) (has test (history (take i records))) e) in
+    let here : has test (history (take (i + 1) records)) ≡ true = rw (history_more records i d lt) (or_left (test (get_or records i d)) (has test (history (take i records))) e) in
     ap (has test) parts ∙ has-after test (history (take (i + 1) records)) (drop (i + 1) records) here

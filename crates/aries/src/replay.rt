@@ -85,7 +85,7 @@ fn note(view: &RecordView, lsn: u64, replayed: Replayed) -> Replayed
 }
 
 /// Applies all records of the log, in LSN order, to pages that are empty at first.
-#[tactic(auto, using(wal::proofs::Prefixes::size_of_beginning, wal::proofs::Prefixes::history_all))]
+#[tactic(auto, using(wal::proofs::Histories::size_of_beginning, wal::proofs::Histories::history_all))]
 pub fn replay(log: &Log, pages: &mut [Page]) -> Replayed
     requires exist { All (NamesBelow (length pages.old)) log.now }
     requires pages_empty { pages.old ≡ pages_of (replay (history [])) (history []) (length pages.old) }

@@ -11,7 +11,7 @@ use Rattle.page.specs.Store.{StoreContent}
 use Rattle.page.specs.Parts.{BeginsWithSlot, SpellsSlots}
 use Rattle.page.proofs.Slots.{length-cells-le}
 use Rattle.page.proofs.Reading.{slot_inside}
-use Rattle.page.proofs.Pages.{page_parts, same_header}
+use Rattle.page.proofs.Pages.{page_parts, same_header, same_page}
 use Rattle.page.specs.File.{SpellsStore}
 use Rattle.page.proofs.Files.{image_inside, header_parts, store_header_of, store_pages_of}
 
@@ -52,11 +52,7 @@ first_slots entries bytes xs ys (suc i) a b le =
 one_slots : (entries bytes : List ℕ) (xs ys : List Image) → SpellsSlots entries bytes xs → SpellsSlots entries bytes ys → xs ≡ ys
 one_slots entries bytes xs ys a b = sym (take_all 16 xs (omega (arith, a.count))) ∙ first_slots entries bytes xs ys 16 a b (omega arith) ∙ take_all 16 ys (omega (arith, b.count))
 
-page_of : ℕ → ℕ → List Image → Page
-page_of number lsn slots = record { number = number; lsn = lsn; slots = slots }
-
 pub one_page : (bytes : List ℕ) (p q : Page) → SpellsPage bytes p → SpellsPage bytes q → p ≡ q
-unfolding page_of
 one_page bytes p q a b =
     let front = take 16 bytes in
     let behind = drop 16 bytes in
@@ -64,19 +60,18 @@ one_page bytes p q a b =
     let in_q = page_parts bytes front behind (take 64 behind) (drop 64 behind) q b refl refl refl refl in
     let numbers = same_header front p.number 0 p.lsn q.number q.lsn in_p.header a.fits.number (omega arith) a.fits.lsn in_q.header b.fits.number b.fits.lsn in
     let slots = one_slots (take 64 behind) (drop 64 behind) p.slots q.slots in_p.slots in_q.slots in
-    ap (λ n. page_of n p.lsn p.slots) numbers.0 ∙ ap (λ n. page_of q.number n p.slots) numbers.2 ∙ ap (page_of q.number q.lsn) slots
+    same_page q p.number p.lsn p.slots numbers.0 numbers.2 slots
 
 pub one_pages : (images : List ℕ) (count : ℕ) (ps qs : List Page) → SpellPages images count ps → SpellPages images count qs → ps ≡ qs
 one_pages images count ps qs a b =
     let len : length ps ≡ length qs = a.number ∙ sym b.number in
     same_lists ps qs len (λ k d lt. one_page _ (get_or ps k d) (get_or qs k d) (image_inside images count ps k d a lt) (image_inside images count qs k d b (omega (arith, len, lt))))
 
-store_of : ℕ → List Page → StoreContent
+abbrev pub store_of : ℕ → List Page → StoreContent
 store_of master pages = record { master = master; pages = pages }
 
-pub same_store : (store : StoreContent) (master : ℕ) (pages : List Page) → master ≡ store.master → pages ≡ store.pages
-    → ◌≡◌ {A = StoreContent} (record { master = master; pages = pages }) store
-unfolding store_of
+-- a store of these parts is this store
+pub same_store : (store : StoreContent) (master : ℕ) (pages : List Page) → master ≡ store.master → pages ≡ store.pages → store_of master pages ≡ store
 same_store store master pages em ep = ap (λ m. store_of m pages) em ∙ ap (store_of store.master) ep
 
 pub one_store : (bytes : List ℕ) (a b : StoreContent) → SpellsStore bytes a → SpellsStore bytes b → a ≡ b

@@ -1,5 +1,5 @@
 -- The parts of a page's image.
-use Rattle.std.proofs.Common.{◌≡◌, ℕ, ◌<◌, ◌^◌, List, ◌++◌, length, take, drop, sym, ap, ◌∙◌, append_assoc, arith, refl, Option, Some}
+use Rattle.std.proofs.Common.{◌≡◌, ℕ, ◌<◌, ◌^◌, List, ◌++◌, length, take, drop, sym, ap, ◌∙◌, append_assoc, arith, refl}
 use Rattle.std.specs.Int.{w32, w64, to_be_bytes}
 use Rattle.std.proofs.lemmas.List.{take_at, drop_at}
 use Rattle.page.specs.declared.page.Page.{Page}
@@ -39,20 +39,9 @@ same_header bytes a b c number lsn read la lb lc e ln ll =
     let both : to_be_bytes w32 a ++ to_be_bytes w32 b ++ to_be_bytes w64 c ≡ header number lsn = sym read ∙ e in
     (same_32 a number la ln (ap (take 4) both), same_32 b 0 lb (omega arith) (ap (λ (t : List ℕ). take 4 (drop 4 t)) both), same_64 c lsn lc ll (ap (drop 8) both))
 
-abbrev pub some_slots : List Image → Option (List Image)
-some_slots slots = Some slots
-
-abbrev pub some_page : Page → Option Page
-some_page page = Some page
-
-same_some : (a b : List Image) → some_slots a ≡ some_slots b → a ≡ b
-same_some a b e = cc
-
-abbrev page_of : ℕ → ℕ → List Image → Page
+abbrev pub page_of : ℕ → ℕ → List Image → Page
 page_of number lsn slots = record { number = number; lsn = lsn; slots = slots }
 
 -- a page of these parts is this page
-pub same_page : (page : Page) (number lsn : ℕ) (slots : List Image) → number ≡ page.number → lsn ≡ page.lsn → some_slots slots ≡ some_slots page.slots
-    → some_page (record { number = number; lsn = lsn; slots = slots }) ≡ some_page page
-same_page page number lsn slots en el es =
-    ap (λ n. some_page (page_of n lsn slots)) en ∙ ap (λ n. some_page (page_of page.number n slots)) el ∙ ap (λ xs. some_page (page_of page.number page.lsn xs)) (same_some slots page.slots es)
+pub same_page : (page : Page) (number lsn : ℕ) (slots : List Image) → number ≡ page.number → lsn ≡ page.lsn → slots ≡ page.slots → page_of number lsn slots ≡ page
+same_page page number lsn slots en el es = ap (λ n. page_of n lsn slots) en ∙ ap (λ n. page_of page.number n slots) el ∙ ap (page_of page.number page.lsn) es

@@ -1,7 +1,11 @@
 -- What the loops of the decoder keep.
 use Rattle.std.proofs.Common.{◌≡◌, ℕ, ◌+◌, ◌*◌, ◌-◌, ◌<◌, ◌≤◌, List, [], ◌∷◌, ◌++◌, length, get_or, set, take, drop, replicate, Option, Some, All, sym, ap, ap₂, subst, ◌∙◌, arith, refl, append_assoc}
 use Rattle.std.proofs.Math.Seq.{take-add}
-use Rattle.std.proofs.lemmas.List.{append-nil, length-append, length-drop, length-take, length-replicate, take_at, drop_at, take_all, take_more, take_more_set, take-append-drop, drop_more, length-set}
+use Rattle.std.specs.Prelude.{bit_or}
+use Rattle.std.specs.Int.Bits.{or_zero_l}
+use Rattle.std.proofs.lemmas.Nat.{le_or_l, le_or_r}
+use Rattle.std.proofs.lemmas.List.{replicate_more, same_from_push, append-nil, length-append, length-drop, length-take, length-replicate, take_at, drop_at, take_all, take_more, take_more_set, take-append-drop, drop_more, length-set}
+use Rattle.std.proofs.lemmas.Option.{same_Some}
 use Rattle.std.proofs.lemmas.List.Elements.{All-push, All-get_or}
 use Rattle.page.specs.Image.{Image, cell, cells, entry, directory, FitsSlot}
 use Rattle.page.specs.Parts.{BeginsWithSlot, SpellsSlots}
@@ -60,17 +64,11 @@ slot_there entries bytes at_entry at_cell i end slots others d so_far s lt e b =
       cell = ap (take (length (cell slot))) (b ∙ ap (λ n. drop n bytes) (sym here)) ∙ inside.cell;
     }
 
-abbrev pub some : Image → Option Image
-some slot = Some slot
-
-same_some : (a b : Image) → some a ≡ some b → a ≡ b
-same_some a b e = cc
-
 -- one more slot was read
 pub read_more : (entries bytes at_entry at_cell taken : List ℕ) (i end : ℕ) (slots : List Image) (slot : Image) → ReadSoFar entries bytes i end slots → i < 16
     → at_entry ≡ drop (4 * i) entries → at_cell ≡ drop end bytes
     → BeginsWithSlot at_entry at_cell (80 + end) slot
-    → ((other : Image) → BeginsWithSlot at_entry at_cell (80 + end) other → some slot ≡ some other)
+    → ((other : Image) → BeginsWithSlot at_entry at_cell (80 + end) other → ◌≡◌ {A = Option Image} (Some slot) (Some other))
     → taken ≡ cell slot
     → ReadSoFar entries bytes (i + 1) (end + length taken) (set slots i slot)
 read_more entries bytes at_entry at_cell taken i end slots slot so_far lt ee eb found only e =
@@ -91,7 +89,7 @@ read_more entries bytes at_entry at_cell taken i end slots slot so_far lt ee eb 
       cells = ap (λ n. take (end + n) bytes) long ∙ take-add end (length (cell slot)) bytes ∙ ap₂ (λ (x y : List ℕ). x ++ y) so_far.cells (ap (take (length (cell slot))) (sym eb) ∙ found.cell) ∙ sym cells_more;
       only = λ others s.
           let there = slot_there entries bytes at_entry at_cell i end slots others slot so_far s lt ee eb in
-          take_more others i slot (omega (arith, s.count)) ∙ ap₂ (λ (xs : List Image) x. xs ++ x ∷ []) (so_far.only others s) (sym (same_some slot (get_or others i slot) (only (get_or others i slot) there))) ∙ sym more;
+          take_more others i slot (omega (arith, s.count)) ∙ ap₂ (λ (xs : List Image) x. xs ++ x ∷ []) (so_far.only others s) (sym (same_Some slot (get_or others i slot) (only (get_or others i slot) there))) ∙ sym more;
     }
 
 -- all slots were read, and zeros are left
@@ -119,3 +117,23 @@ only_these entries bytes left i end slots others so_far e el s =
     let n : ℕ = 944 - length (cells others) in
     let zeros : left ≡ replicate n 0 = el ∙ ap (drop end) s.body ∙ drop_at (cells others) (replicate n 0) end here in
     (zeros ∙ ap (λ m. replicate m 0) (sym (length-replicate n 0) ∙ ap length (sym zeros)), sym same)
+
+-- the first i bytes are zero exactly where all of them together are
+pub record ZeroSoFar (bytes : List ℕ) (i all : ℕ) : Type 0 where
+  pub zero : all ≡ 0 → take i bytes ≡ replicate i 0
+  pub only : take i bytes ≡ replicate i 0 → all ≡ 0
+
+pub zero_more : (bytes : List ℕ) (i all : ℕ) → ZeroSoFar bytes i all → i < length bytes → ZeroSoFar bytes (i + 1) (bit_or all (get_or bytes i 0))
+zero_more bytes i all so_far lt =
+    let byte = get_or bytes i 0 in
+    let more : take (i + 1) bytes ≡ take i bytes ++ byte ∷ [] = take_more bytes i 0 lt in
+    let next : replicate {A = ℕ} i 0 ++ 0 ∷ [] ≡ replicate {A = ℕ} (i + 1) 0 = replicate_more i 0 in
+    record {
+      zero = λ e.
+          let none : all ≡ 0 = omega (arith, e, le_or_l all byte) in
+          let here : byte ≡ 0 = omega (arith, e, le_or_r all byte) in
+          more ∙ ap₂ (λ (xs : List ℕ) x. xs ++ x ∷ []) (so_far.zero none) here ∙ next;
+      only = λ e.
+          let same = same_from_push (take i bytes) (replicate i 0) byte 0 (sym more ∙ e ∙ sym next) in
+          ap₂ bit_or (so_far.only same.0) same.1 ∙ or_zero_l 0;
+    }

@@ -4,11 +4,10 @@ use Rattle.std.proofs.lemmas.List.{append-nil, take_more, length-append, length-
 use Rattle.std.proofs.lemmas.List.Elements.{All-more}
 use Rattle.std.proofs.lemmas.Slice.{take-put_mid, drop-put_mid}
 use borrow.Rule.Slice.PartMut.{put_mid}
-use Rattle.page.specs.Image.{Image, cell, cells, entry, directory, FitsSlot}
 use Rattle.std.specs.List.{flat_map}
 use Rattle.std.proofs.lemmas.Grind.{flat_map-append}
+use Rattle.page.specs.Image.{Image, cell, cells, entry, directory, FitsSlot, page_text, FitsPage}
 use Rattle.page.specs.declared.page.Page.{Page}
-use Rattle.page.specs.Image.{page_text, FitsPage}
 use Rattle.page.specs.Store.{StoreContent}
 use Rattle.page.specs.File.{store_header}
 use Rattle.page.proofs.Slots.{cells_more, directory_more, length-entry}

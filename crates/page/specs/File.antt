@@ -38,6 +38,10 @@ pub record BeginsWithHeader (bytes : List ℕ) (count master : ℕ) : Type 0 whe
   pub few : count ≤ 4096
   pub small : master < 2 ^ 64
 
+-- these bytes begin with the header of some store
+abbrev pub HasStoreHeader : List ℕ → Type 0
+HasStoreHeader bytes = (count : ℕ) × (master : ℕ) × BeginsWithHeader bytes count master
+
 -- the images behind the header
 abbrev pub images_of : List ℕ → List ℕ
 images_of bytes = drop 24 bytes
@@ -60,7 +64,7 @@ pub record HasBadPage (bytes : List ℕ) (n : ℕ) : Type 0 where
 -- why bytes are refused: what is wrong, and nothing that is looked at before it
 abbrev pub StoreFault : List ℕ → Fault → Type 0
 StoreFault bytes NoResource = Unit {0}
-StoreFault bytes BadStoreHeader = (count master : ℕ) → ¬ BeginsWithHeader bytes count master
+StoreFault bytes BadStoreHeader = ¬ HasStoreHeader bytes
 StoreFault bytes StoreSize = HasWrongSize bytes
 StoreFault bytes (BadPage n) = HasBadPage bytes n
 StoreFault bytes e = ⊥

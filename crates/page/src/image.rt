@@ -123,11 +123,15 @@ fn slot_at(entries: &[u8], bytes: &[u8], place: u16) -> Option<Option<Value>>
     Some(Some(value))
 }
 
-/// Whether all of these bytes are zero.
+/// Whether all of these bytes are zero. It looks at each, so that many can be looked at together.
 fn is_zero(bytes: &[u8]) -> bool
     ensures { IsTrue result ↔ (bytes.now ≡ replicate (length bytes.now) 0) }
 {
-    bytes.iter().all(|byte| *byte == 0)
+    let mut all = 0;
+    for byte in bytes {
+        all |= *byte;
+    }
+    all == 0
 }
 
 /// The slots that this directory and the bytes behind it spell.

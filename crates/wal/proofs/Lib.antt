@@ -1,3 +1,4 @@
+pub mod Histories
 pub mod Places
 pub mod Loop
 pub mod Fields
@@ -7,5 +8,14 @@ pub mod TableFields
 pub mod Bodies
 pub mod Whole
 pub mod Keeping
+pub mod Stacks
+pub mod Walks
+pub mod Holders
+pub mod Restored
+pub mod Filters
+pub mod Rollback
+pub mod Steps
+pub mod Cuts
+pub mod Lists
+pub mod Redone
 pub mod Rows
-pub mod Prefixes

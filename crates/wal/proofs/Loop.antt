@@ -13,6 +13,11 @@ pub chosen : {A : Type 0} (b : Bool) (x y z : A) → cond b x y ≡ z → ((b �
 chosen true x y z e = inl (refl, e)
 chosen false x y z e = inr (refl, e)
 
+-- what is in an option that is not empty
+pub unwrapped : {A B : Type 0} (other : A) (o : Option (A × B)) → is_some o ≡ true → ◌≡◌ {A = Option A} (Some (unwrap_or (option_map (λ x. x.0) o) other)) (option_map (λ x. x.0) o)
+unwrapped other None e = absurd cc
+unwrapped other (Some x) e = refl
+
 -- a whole frame with the right LSN stands in front
 pub record Found (lsn : ℕ) (bytes : List ℕ) (r : LogRecord) (size : ℕ) : Type 0 where
   pub size_is : size ≡ 4 + length_of bytes

@@ -11,7 +11,7 @@ use Rattle.wal.specs.declared.record.State.{State}
 use Rattle.wal.specs.declared.record.State.TheVariants.{Active, Aborting}
 use Rattle.wal.specs.Records.{TableEntry}
 use Rattle.wal.specs.Reading.{◌>>=◌, number_at, tx_at, state_at, entry_at, dirty_at, table_at, entry_there, table_in, IsTable}
-use Rattle.wal.proofs.Loop.{chosen}
+use Rattle.wal.proofs.Loop.{chosen, unwrapped}
 use Rattle.wal.proofs.Fields.{some_is, bind_some, guard_some}
 
 -- ---- how many bytes an entry takes
@@ -194,10 +194,6 @@ pub taken_all : {X : Type 0} (xs : List X) (i : ℕ) → slice_get xs i ≡ None
 taken_all [] i e lt = absurd (omega (arith, lt))
 taken_all (x ∷ xs) zero e lt = absurd cc
 taken_all (x ∷ xs) (suc i) e lt = taken_all xs i e (omega (arith, lt))
-
-unwrapped : {E : Type 0} (other : E) (o : Option (E × List ℕ)) → is_some o ≡ true → ◌≡◌ {A = Option E} (Some (unwrap_or (option_map (λ x. x.0) o) other)) (option_map (λ x. x.0) o)
-unwrapped other None e = absurd cc
-unwrapped other (Some x) e = refl
 
 -- the entry at a place is what is read there
 pub entry_at_place : {E : Type 0} (one : List ℕ → Option (E × List ℕ)) (other : E) (size count : ℕ) (bytes : List ℕ) (place : ℕ) → IsTable one size count bytes → place < count

@@ -11,3 +11,4 @@ pub mod Frames
 pub mod Reads
 pub mod Content
 pub mod Shown
+pub mod Theorems

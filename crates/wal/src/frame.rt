@@ -1,6 +1,7 @@
 //! Frames: a record in bytes, read and written.
 
-ghost use Rattle.std.specs.Prelude.{◌≡◌, ◌++◌, ◌∷◌, [], ◌<◌, OnOk, OnErr, length, option_map};
+ghost use Rattle.std.specs.Prelude.{◌≡◌, ◌++◌, ◌∷◌, [], ◌<◌, OnOk, OnErr, IfErr, length, option_map};
+ghost use Rattle.page.specs.declared.fault.Fault.TheVariants.{NoResource};
 ghost use Rattle.std.specs.Int.{w32, w64, to_be_bytes};
 ghost use Rattle.wal.specs.Records.{CompensationRecord, PlainRecord, UpdateRecord};
 ghost use Rattle.wal.specs.Reading.{update_at, compensation_at, commit_at, abort_at, end_at, transactions_at, dirties_at, checkpoint_at, fields_at, body_at};
@@ -285,7 +286,10 @@ fn put_frame<A: Allocator>(out: &mut Vec<u8, A>, entry: &Record, lsn: u64) -> Re
     Ok(())
 }
 
-/// Appends the one spelling of the record with this LSN. Where memory is refused, the vector is as it was.
+/// Appends the one spelling of the record with this LSN. `Record::is_writable` tells whether there is
+/// one.
+///
+/// NoResource, where a growth of the vector was refused, leaves in it what it had.
 #[tactic(auto, using(crate::proofs::Keeping::cut_back))]
 pub fn write_frame<A: Allocator>(
     entry: &Record,
@@ -295,7 +299,8 @@ pub fn write_frame<A: Allocator>(
     requires writable { Fits (content entry.now) }
     requires lsn { 0 < lsn }
     ensures ok { OnOk result (out.new.items ≡ out.old.items ++ frame (content entry.now) lsn) }
-    ensures err { OnErr result (out.new.items ≡ out.old.items) }
+    ensures kept { OnErr result (out.new.items ≡ out.old.items) }
+    ensures err { IfErr result (λ e. e ≡ NoResource) }
 {
     let len = out.len();
     match put_frame(out, entry, lsn) {

@@ -1,4 +1,8 @@
 //! The log: its records, their frames in bytes, and what a log means.
+//!
+//! `read_log` reads a log in place, `write_frame` appends a record's frame. The definitions of what a
+//! log means (replay, winners, pending, the laws, the tail of a restart) stand in `specs/`, and their
+//! laws are the functions of `laws`.
 #![tactic(auto)]
 
 mod field;
@@ -11,7 +15,10 @@ mod tests;
 mod view;
 
 pub use frame::write_frame;
-pub use laws::one_reading;
+pub use laws::{
+    cuts_resume, hops_meet_pending, lawful_by_record, one_reading, redo_replays, replay_is_winners,
+    tail_settles,
+};
 pub use log::{Log, read_log};
 pub use record::{Entry, Record, State};
 pub use view::{DirtyTable, RecordView, TransactionTable};

@@ -13,7 +13,8 @@ use page::Fault;
 use std::alloc::Global;
 use std::marker::Model;
 
-/// A log that lies in bytes. Contracts see it as the list of its records.
+/// A log that stays in the bytes that it was read from. Beside them it holds one offset of 8 bytes for
+/// each record. Contracts see it as the list of its records, the first of which has LSN 1.
 #[derive(Drop)]
 pub struct Log<'a> {
     bytes: &'a [u8],
@@ -29,14 +30,15 @@ impl<'a> Model for Log<'a> {
 }
 
 impl<'a> Log<'a> {
-    /// How many records it has.
+    /// How many records it has, which is the largest LSN.
     pub fn len(&self) -> u64
         ensures { result ≡ length self.now }
     {
         self.offsets.len() as u64
     }
 
-    /// The record at an LSN, None for 0 and past the end.
+    /// The record at an LSN, None for 0 and past the end. It is decoded from the bytes at each call,
+    /// and takes no memory. What it shows fits the grammar (`fits`), as `to_record` asks.
     pub fn get(&self, lsn: u64) -> Option<RecordView<'a>>
         ensures found { option_map shown result ≡ record_at (history self.now) lsn }
         ensures fits { IfSome result (λ view. Fits (shown view)) }
@@ -104,7 +106,16 @@ fn read_in<'a>(alloc: Global, bytes: &'a [u8]) -> Result<(Log<'a>, usize), Fault
     Ok((Log { bytes, offsets }, torn))
 }
 
-/// The log in these bytes, and how many bytes its torn tail has.
+/// The log in these bytes, and how many bytes its torn tail has: up to 3 bytes, or a length that a
+/// body may have and fewer bytes than it says. A torn tail is not looked at, and is no part of the
+/// log. The bytes are gone through once.
+///
+/// Errors, of which the first in the bytes is given; an offset is that of a frame's length field:
+/// - NoResource: memory for the offsets was refused.
+/// - BadLogHeader: the bytes do not begin with `ARIESLG1`.
+/// - BadLength(offset): a complete length field is outside 9 to 70,681.
+/// - BadRecord(offset): a complete body spells no record with any LSN.
+/// - BadLsn(offset): the body spells a record with another LSN than the frame's number from 1.
 pub fn read_log<'a>(alloc: Global, bytes: &'a [u8]) -> Result<(Log<'a>, usize), Fault>
     // What is read stands there.
     ensures found { IfOk result (λ x. Reads bytes.now x.0 x.1) }

@@ -1,7 +1,7 @@
 use Rattle.std.proofs.Common.{◌≡◌, Some, None, sym, ap, ◌∙◌, take}
 use Rattle.wal.specs.Records.{LogRecord, CheckpointBegin, history, ◌▸◌}
 use Rattle.wal.specs.Shown.{shown}
-use Rattle.wal.proofs.Prefixes.{record_item, history_next}
+use Rattle.wal.proofs.Histories.{record_item, history_more}
 use Rattle.aries.proofs.replay.record_in.Goals as goal
 
 some_is : (x y : LogRecord) → Some x ≡ Some y → x ≡ y
@@ -18,5 +18,5 @@ returns-clause-item c = sym (some_is _ _ (c.in-Some.ensures.found ∙ record_ite
 
 pub returns-clause-next : goal.returns-clause-next
 returns-clause-next c =
-    history_next c.args.log.now c.args.index (shown c.in-Some.view) c.requires.within
+    history_more c.args.log.now c.args.index (shown c.in-Some.view) c.requires.within
     ∙ ap (λ r. history (take c.args.index c.args.log.now) ▸ r) (sym (some_is _ _ (c.in-Some.ensures.found ∙ record_item c.args.log.now c.args.index (shown c.in-Some.view) c.requires.within)))

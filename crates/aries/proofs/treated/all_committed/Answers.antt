@@ -2,7 +2,7 @@ use Rattle.std.proofs.Common.{rules, ◌≡◌, true, ◌||◌, inl, inr, sym, a
 use Rattle.wal.specs.Meaning.{has, is_of}
 use Rattle.wal.specs.Records.{history}
 use Rattle.wal.specs.Shown.{shown}
-use Rattle.wal.proofs.Prefixes.{history_all}
+use Rattle.wal.proofs.Histories.{history_all}
 use Rattle.aries.proofs.Has.{has_item, or_cases}
 use Rattle.aries.proofs.treated.all_committed.Goals as goal
 

@@ -10,7 +10,7 @@ pub returns-in_default-clause-only : goal.returns-in_default-clause-only
 returns-in_default-clause-only c = λ store s. absurd (c.in_default.not-Some _ (c.header_at.ensures.only _ _ (store_header_of _ store s)))
 
 pub returns-in_default-clause-fault : goal.returns-in_default-clause-fault
-returns-in_default-clause-fault c = λ count master h. c.in_default.not-Some _ (c.header_at.ensures.only count master h)
+returns-in_default-clause-fault c = λ h. c.in_default.not-Some _ (c.header_at.ensures.only h.0 h.1 h.2)
 
 pub returns-then-images-count-clause-only : goal.returns-then-images-count-clause-only
 returns-then-images-count-clause-only c = λ store s.

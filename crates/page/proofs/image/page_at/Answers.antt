@@ -1,4 +1,5 @@
-use Rattle.std.proofs.Common.{sym}
+use Rattle.std.proofs.Common.{Some, ap, sym}
+use Rattle.std.proofs.lemmas.Option.{same_Some}
 use Rattle.page.proofs.Pages.{page_parts, same_header, same_page}
 use Rattle.page.proofs.image.page_at.Goals as goal
 
@@ -12,4 +13,4 @@ pub returns-clause-only : goal.returns-clause-only
 returns-clause-only c = λ page s e.
     let parts = page_parts _ _ _ _ _ page s c.split_at.ensures.front c.split_at.ensures.back c.split_at-2.ensures.front c.split_at-2.ensures.back in
     let numbers = same_header _ _ _ _ page.number page.lsn c.numbers_at-own.ensures.text c.numbers_at-own.ensures.fits.0 c.numbers_at-own.ensures.fits.1 c.numbers_at-own.ensures.fits.2 parts.header s.fits.number s.fits.lsn in
-    same_page page c.args.number c.numbers_at-own.result.2 c.in_ok-slots.slots (sym e) numbers.2 (c.in_ok-slots.ensures.only page.slots parts.slots)
+    ap (λ p. Some p) (same_page page _ _ _ (sym e) numbers.2 (same_Some _ _ (c.in_ok-slots.ensures.only page.slots parts.slots)))

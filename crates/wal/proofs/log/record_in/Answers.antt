@@ -1,7 +1,8 @@
 use Rattle.std.proofs.Common.{map, sym, ◌∙◌, inl, inr, arith}
 use Rattle.wal.specs.Records.{history}
 use Rattle.wal.specs.Frames.{record_of}
-use Rattle.wal.proofs.Places.{record_none, size_of, record_there}
+use Rattle.wal.proofs.Histories.{record_none}
+use Rattle.wal.proofs.Places.{size_of, record_there}
 use Rattle.wal.proofs.log.record_in.Goals as goal
 
 pub returns-then-lsn-eq0-clause-found : goal.returns-then-lsn-eq0-clause-found

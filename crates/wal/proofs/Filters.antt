@@ -1,0 +1,239 @@
+-- The lists that a restart goes by: the losers with nothing pending, and the pending updates.
+use Rattle.std.proofs.Common.{ℕ, suc, zero, ◌≡◌, ◌≢◌, ◌+◌, ◌<◌, ◌≤◌, Bool, true, false, cond, List, [], ◌∷◌, Some, refl, sym, ap, ap₂, ◌∙◌, subst, inl, inr, arith, eq-eqb, ne_eqb, eqb-true, eqb}
+use Rattle.std.specs.Prelude.{filter}
+use Rattle.std.proofs.lemmas.Bool.{cond_both, cases_Bool, cases_eq, false≢true, or_cases, or_from, both_ways, false_from_ne_true}
+use Rattle.wal.specs.Records.{UpdateRecord, LogRecord, Update, Compensation, Commit, Abort, End, CheckpointBegin, CheckpointEnd, History, start, ◌▸◌, size, record_at}
+use Rattle.wal.specs.Meaning.{is_of, has}
+use Rattle.wal.specs.Tail.{numbers_from, tx_of, above_all, updates_where, is_lowest, is_among, is_empty}
+use Rattle.wal.proofs.Histories.{record_last, record_more, record_within}
+use Rattle.wal.proofs.Stacks.{Falls}
+
+-- NUMBERS THAT PASS A TEST
+pub numbers_same : (p q : ℕ → Bool) (n k : ℕ) → ((t : ℕ) → n ≤ t → q t ≡ p t) → filter q (numbers_from n k) ≡ filter p (numbers_from n k)
+numbers_same p q n zero h = refl
+numbers_same p q n (suc k) h =
+    let rest : filter q (numbers_from (suc n) k) ≡ filter p (numbers_from (suc n) k) = numbers_same p q (suc n) k (λ t i. h t (omega arith)) in
+    ap₂ (λ b xs. cond b (n ∷ xs) xs) (h n (omega arith)) rest
+
+pub first_number : (p : ℕ → Bool) (n k t : ℕ) (ts : List ℕ) → filter p (numbers_from n k) ≡ t ∷ ts → (n ≤ t) × (p t ≡ true)
+first_number p n zero t ts e = absurd (cc)
+first_number p n (suc k) t ts e =
+    elim (cases_Bool (p n)) [
+      | inl i ↦
+          (let e' : n ∷ filter p (numbers_from (suc n) k) ≡ t ∷ ts = rw i at e in
+          let j : n ≡ t = cc in
+          (omega (arith, j), ap p (sym j) ∙ i))
+      | inr i ↦ (let r = first_number p (suc n) k t ts (rw i at e) in (omega (arith, r.0), r.1))
+    ]
+
+-- where the first no longer passes, the others are left
+pub first_number_gone : (p q : ℕ → Bool) (n k t : ℕ) (ts : List ℕ) → filter p (numbers_from n k) ≡ t ∷ ts → ((x : ℕ) → x ≢ t → q x ≡ p x) → q t ≡ false → filter q (numbers_from n k) ≡ ts
+first_number_gone p q n zero t ts e h g = absurd (cc)
+first_number_gone p q n (suc k) t ts e h g =
+    elim (cases_Bool (p n)) [
+      | inl i ↦
+          (let e' : n ∷ filter p (numbers_from (suc n) k) ≡ t ∷ ts = rw i at e in
+          let j : n ≡ t = cc in
+          let l : filter p (numbers_from (suc n) k) ≡ ts = cc in
+          let m : q n ≡ false = ap q j ∙ g in
+          rw m (numbers_same p q (suc n) k (λ x o. h x (λ z. omega (arith, j))) ∙ l))
+      | inr i ↦
+          (let e' : filter p (numbers_from (suc n) k) ≡ t ∷ ts = rw i at e in
+          let r = first_number p (suc n) k t ts e' in
+          let m : q n ≡ false = h n (λ z. omega (arith, r.0)) ∙ i in
+          rw m (first_number_gone p q (suc n) k t ts e' h g))
+    ]
+
+pub no_number : (p : ℕ → Bool) (n k t : ℕ) → filter p (numbers_from n k) ≡ [] → n ≤ t → t < n + k → p t ≡ false
+no_number p n zero t e a b = absurd (omega arith)
+no_number p n (suc k) t e a b =
+    elim (cases_Bool (p n)) [
+      | inl i ↦ absurd (let e' : n ∷ filter p (numbers_from (suc n) k) ≡ [] = rw i at e in cc)
+      | inr i ↦
+          elim (cases_eq n t) [
+            | inl j ↦ ap p (sym j) ∙ i
+            | inr j ↦ no_number p (suc n) k t (rw i at e) (omega (arith, j)) (omega arith)
+          ]
+    ]
+
+-- where none passes, and then perhaps one does
+pub one_number : (p q : ℕ → Bool) (n k t : ℕ) → filter p (numbers_from n k) ≡ [] → ((x : ℕ) → x ≢ t → q x ≡ p x) → n ≤ t → t < n + k → filter q (numbers_from n k) ≡ cond (q t) (t ∷ []) []
+one_number p q n zero t e h a b = absurd (omega arith)
+one_number p q n (suc k) t e h a b =
+    elim (cases_Bool (p n)) [
+      | inl i ↦ absurd (let e' : n ∷ filter p (numbers_from (suc n) k) ≡ [] = rw i at e in cc)
+      | inr i ↦
+          (let e' : filter p (numbers_from (suc n) k) ≡ [] = rw i at e in
+          elim (cases_eq n t) [
+            | inl j ↦
+                (let l : filter q (numbers_from (suc n) k) ≡ [] = numbers_same p q (suc n) k (λ x o. h x (λ z. omega (arith, j))) ∙ e' in
+                ap₂ (λ x xs. cond (q x) (x ∷ xs) xs) j l)
+            | inr j ↦
+                (let m : q n ≡ false = h n j ∙ i in
+                rw m (one_number p q (suc n) k t e' h (omega (arith, j)) (omega arith)))
+          ])
+    ]
+
+-- TRANSACTION NUMBERS
+is_of_tx : (t : ℕ) (r : LogRecord) → is_of t r ≡ true → tx_of r ≡ t
+is_of_tx t (Update u) e = eqb-true u.tx t e
+is_of_tx t (Compensation c) e = eqb-true c.tx t e
+is_of_tx t (Commit s) e = eqb-true s.tx t e
+is_of_tx t (Abort s) e = eqb-true s.tx t e
+is_of_tx t (End s) e = eqb-true s.tx t e
+is_of_tx t CheckpointBegin e = absurd (false≢true e)
+is_of_tx t (CheckpointEnd n ts d) e = absurd (false≢true e)
+
+pub tx_below : (t : ℕ) (log : History) → has (is_of t) log ≡ true → t < above_all log
+tx_below t start e = absurd (false≢true e)
+tx_below t (log ▸ r) e =
+    elim (or_cases (is_of t r) (has (is_of t) log) e) [
+      | inl i ↦ omega (arith, is_of_tx t r i)
+      | inr i ↦ omega (arith, tx_below t log i)
+    ]
+
+pub above_all_same : (log : History) (r : LogRecord) → has (is_of (tx_of r)) log ≡ true → above_all (log ▸ r) ≡ above_all log
+above_all_same log r h = omega (arith, tx_below (tx_of r) log h)
+
+-- STACKS
+pub lowest_below : (n m : ℕ) (ms : List ℕ) → n ≢ m → is_lowest n (m ∷ ms) ≡ is_lowest n ms
+lowest_below n m [] h = ne_eqb n m h
+lowest_below n m (k ∷ ms) h = refl
+
+pub not_lowest : (n : ℕ) (ms : List ℕ) → Falls n ms → is_lowest n ms ≡ false
+not_lowest n [] f = refl
+not_lowest n (m ∷ []) f = ne_eqb n m (λ e. omega (arith, f.0))
+not_lowest n (m ∷ k ∷ ms) f = not_lowest n (k ∷ ms) (omega (arith, f.0, f.1.0), f.1.1)
+
+pub lowest_on_top : (n : ℕ) (ms : List ℕ) → Falls n ms → is_lowest n (n ∷ ms) ≡ is_empty ms
+lowest_on_top n [] f = eq-eqb n n refl
+lowest_on_top n (m ∷ ms) f = not_lowest n (m ∷ ms) f
+
+pub not_among : (n : ℕ) (ms : List ℕ) → Falls n ms → is_among n ms ≡ false
+not_among n [] f = refl
+not_among n (m ∷ ms) f = or_from (eqb n m) (is_among n ms) (ne_eqb n m (λ e. omega (arith, f.0))) (lower n m ms (omega (arith, f.0)) f.1)
+  where
+    lower : (n m : ℕ) (ms : List ℕ) → m < n → Falls m ms → is_among n ms ≡ false
+    lower n m [] h g = refl
+    lower n m (k ∷ ms) h g = or_from (eqb n k) (is_among n ms) (ne_eqb n k (λ e. omega (arith, g.0))) (lower n k ms (omega (arith, g.0)) g.1)
+
+-- UPDATES THAT PASS A TEST
+-- each of the list is so
+abbrev pub Each : (ℕ → UpdateRecord → Type 0) → List (ℕ × UpdateRecord) → Type 0
+Each P [] = Unit {0}
+Each P (x ∷ xs) = P x.0 x.1 × Each P xs
+
+pub Each-more : (P Q : ℕ → UpdateRecord → Type 0) (xs : List (ℕ × UpdateRecord)) → ((n : ℕ) (u : UpdateRecord) → P n u → Q n u) → Each P xs → Each Q xs
+Each-more P Q [] h e = tt
+Each-more P Q (x ∷ xs) h e = (h x.0 x.1 e.0, Each-more P Q xs h e.1)
+
+pub updates_within : (p : ℕ → UpdateRecord → Bool) (log : History) → Each (λ n u. n ≤ size log) (updates_where p log)
+updates_within p start = tt
+updates_within p (log ▸ Update u) =
+    let older : Each (λ n u. n ≤ suc (size log)) (updates_where p log) = Each-more (λ n u. n ≤ size log) (λ n u. n ≤ suc (size log)) (updates_where p log) (λ n u h. omega arith) (updates_within p log) in
+    cond_both (p (suc (size log)) u) ((suc (size log), u) ∷ updates_where p log) (updates_where p log) (λ xs. Each (λ n u. n ≤ suc (size log)) xs) (λ _. (omega arith, older)) (λ _. older)
+updates_within p (log ▸ _) = Each-more (λ n u. n ≤ size log) (λ n u. n ≤ suc (size log)) (updates_where p log) (λ n u h. omega arith) (updates_within p log)
+
+-- what is known where one of them is the first
+pub record Leading (p : ℕ → UpdateRecord → Bool) (log : History) (x : ℕ × UpdateRecord) (xs : List (ℕ × UpdateRecord)) : Type 0 where
+  pub found : record_at log x.0 ≡ Some (Update x.1)
+  pub passes : p x.0 x.1 ≡ true
+  pub above : Each (λ n u. n < x.0) xs
+  pub highest : (m : ℕ) (w : UpdateRecord) → record_at log m ≡ Some (Update w) → p m w ≡ true → m ≤ x.0
+
+Leading-more : (p : ℕ → UpdateRecord → Bool) (log : History) (r : LogRecord) (x : ℕ × UpdateRecord) (xs : List (ℕ × UpdateRecord))
+    → ((w : UpdateRecord) → r ≡ Update w → p (suc (size log)) w ≡ false) → Leading p log x xs → Leading p (log ▸ r) x xs
+Leading-more p log r x xs off l =
+    record {
+      found = record_more log r x.0 (Update x.1) l.found;
+      passes = l.passes;
+      above = l.above;
+      highest = λ m w f g.
+          elim (cases_Bool (eqb m (suc (size log)))) [
+            | inl e ↦
+                (let f' : Some r ≡ Some (Update w) = rw e at f in
+                let i : r ≡ Update w = cc in
+                absurd (both_ways (p (suc (size log)) w) (off w i) (ap (λ n. p n w) (sym (eqb-true m (suc (size log)) e)) ∙ g)))
+            | inr e ↦ l.highest m w (rw e at f) g
+          ];
+    }
+
+pub leading : (p : ℕ → UpdateRecord → Bool) (log : History) (x : ℕ × UpdateRecord) (xs : List (ℕ × UpdateRecord)) → updates_where p log ≡ x ∷ xs → Leading p log x xs
+leading p start x xs e = absurd (cc)
+leading p (log ▸ Update u) x xs e =
+    elim (cases_Bool (p (suc (size log)) u)) [
+      | inl i ↦
+          (let e' : (suc (size log), u) ∷ updates_where p log ≡ x ∷ xs = rw i at e in
+          let j : ◌≡◌ {A = ℕ × UpdateRecord} (suc (size log), u) x = cc in
+          let k : updates_where p log ≡ xs = cc in
+          let n : suc (size log) ≡ x.0 = ap (λ y. y.0) j in
+          let v : u ≡ x.1 = ap (λ y. y.1) j in
+          record {
+            found = ap (record_at (log ▸ Update u)) (sym n) ∙ record_last log (Update u) ∙ ap (λ y. Some (Update y)) v;
+            passes = sym (ap₂ p n v) ∙ i;
+            above = subst (λ ys. Each (λ m w. m < x.0) ys) k (Each-more (λ m w. m ≤ size log) (λ m w. m < x.0) (updates_where p log) (λ m w h. omega (arith, n)) (updates_within p log));
+            highest = λ m w f g. omega (arith, n, record_within (log ▸ Update u) m (Update w) f);
+          })
+      | inr i ↦
+          Leading-more p log (Update u) x xs (λ w f. (let j : u ≡ w = cc in ap (p (suc (size log))) (sym j) ∙ i)) (leading p log x xs (rw i at e))
+    ]
+leading p (log ▸ Compensation c) x xs e = Leading-more p log (Compensation c) x xs (λ w f. absurd (cc)) (leading p log x xs e)
+leading p (log ▸ Commit s) x xs e = Leading-more p log (Commit s) x xs (λ w f. absurd (cc)) (leading p log x xs e)
+leading p (log ▸ Abort s) x xs e = Leading-more p log (Abort s) x xs (λ w f. absurd (cc)) (leading p log x xs e)
+leading p (log ▸ End s) x xs e = Leading-more p log (End s) x xs (λ w f. absurd (cc)) (leading p log x xs e)
+leading p (log ▸ CheckpointBegin) x xs e = Leading-more p log CheckpointBegin x xs (λ w f. absurd (cc)) (leading p log x xs e)
+leading p (log ▸ CheckpointEnd n ts d) x xs e = Leading-more p log (CheckpointEnd n ts d) x xs (λ w f. absurd (cc)) (leading p log x xs e)
+
+pub updates_same : (p q : ℕ → UpdateRecord → Bool) (log : History) → ((m : ℕ) (w : UpdateRecord) → m ≤ size log → q m w ≡ p m w) → updates_where q log ≡ updates_where p log
+updates_same p q start h = refl
+updates_same p q (log ▸ Update u) h =
+    ap₂ (λ b xs. cond b ((suc (size log), u) ∷ xs) xs) (h (suc (size log)) u (omega arith)) (updates_same p q log (λ m w o. h m w (omega arith)))
+updates_same p q (log ▸ _) h = updates_same p q log (λ m w o. h m w (omega arith))
+
+-- where the first no longer passes, the others are left
+pub first_update_gone : (p q : ℕ → UpdateRecord → Bool) (log : History) (x : ℕ × UpdateRecord) (xs : List (ℕ × UpdateRecord)) → updates_where p log ≡ x ∷ xs
+    → ((m : ℕ) (w : UpdateRecord) → m ≢ x.0 → q m w ≡ p m w) → q x.0 x.1 ≡ false → updates_where q log ≡ xs
+first_update_gone p q start x xs e h g = absurd (cc)
+first_update_gone p q (log ▸ Update u) x xs e h g =
+    elim (cases_Bool (p (suc (size log)) u)) [
+      | inl i ↦
+          (let e' : (suc (size log), u) ∷ updates_where p log ≡ x ∷ xs = rw i at e in
+          let j : ◌≡◌ {A = ℕ × UpdateRecord} (suc (size log), u) x = cc in
+          let k : updates_where p log ≡ xs = cc in
+          let n : suc (size log) ≡ x.0 = ap (λ y. y.0) j in
+          let o : q (suc (size log)) u ≡ false = ap (λ y. q y.0 y.1) j ∙ g in
+          rw o (updates_same p q log (λ m w l. h m w (λ z. omega (arith, n))) ∙ k))
+      | inr i ↦
+          (let e' : updates_where p log ≡ x ∷ xs = rw i at e in
+          let l = leading p log x xs e' in
+          let o : q (suc (size log)) u ≡ false = h (suc (size log)) u (λ z. omega (arith, record_within log x.0 (Update x.1) l.found)) ∙ i in
+          rw o (first_update_gone p q log x xs e' h g))
+    ]
+first_update_gone p q (log ▸ Compensation _) x xs e h g = first_update_gone p q log x xs e h g
+first_update_gone p q (log ▸ _) x xs e h g = first_update_gone p q log x xs e h g
+
+pub no_update : (p : ℕ → UpdateRecord → Bool) (log : History) (m : ℕ) (w : UpdateRecord) → updates_where p log ≡ [] → record_at log m ≡ Some (Update w) → p m w ≡ false
+no_update p start m w e f = absurd (cc)
+no_update p (log ▸ r) m w e f =
+    elim (cases_Bool (eqb m (suc (size log)))) [
+      | inl i ↦
+          (let f' : Some r ≡ Some (Update w) = rw i at f in
+          let j : r ≡ Update w = cc in
+          let e' : cond (p (suc (size log)) w) ((suc (size log), w) ∷ updates_where p log) (updates_where p log) ≡ [] = ap (λ y. updates_where p (log ▸ y)) (sym j) ∙ e in
+          ap (λ n. p n w) (eqb-true m (suc (size log)) i)
+          ∙ false_from_ne_true (p (suc (size log)) w) (λ t. (let e'' : (suc (size log), w) ∷ updates_where p log ≡ [] = rw t at e' in cc)))
+      | inr i ↦ no_update p log m w (older r e) (rw i at f)
+    ]
+  where
+    older : (r : LogRecord) → updates_where p (log ▸ r) ≡ [] → updates_where p log ≡ []
+    older (Update u) e =
+        elim (cases_Bool (p (suc (size log)) u)) [
+          | inl t ↦ absurd (let e'' : (suc (size log), u) ∷ updates_where p log ≡ [] = rw t at e in cc)
+          | inr t ↦ rw t at e
+        ]
+    older (Compensation _) e = e
+    older (Commit _) e = e
+    older (Abort _) e = e
+    older (End _) e = e
+    older CheckpointBegin e = e
+    older (CheckpointEnd _ _ _) e = e

@@ -1,0 +1,308 @@
+-- In a lawful log, what undoing the holder's pending updates leaves in a cell is what the winners leave there.
+use Rattle.std.proofs.Common.{ℕ, suc, ◌≡◌, ◌≢◌, Bool, true, false, cond, ◌||◌, ◌&&◌, List, [], ◌∷◌, drop, Option, Some, None, refl, sym, ap, ap₂, ◌∙◌, subst, inl, inr, arith, eq-eqb, ne_eqb, eqb-true, eqb}
+use Rattle.std.proofs.lemmas.Bool.{cases_Bool, cases_eq, false≢true, eqb-false, or_cases, or_left, or_right, or_parts, both_ways, and_parts, and_from, and_left, and_right, false_from_ne_true, cond-true, cond-false}
+use Rattle.page.specs.Image.{Image}
+use Rattle.wal.specs.Records.{UpdateRecord, CompensationRecord, PlainRecord, LogRecord, Update, Compensation, Commit, Abort, End, CheckpointBegin, CheckpointEnd, History, start, ◌▸◌, size, record_at}
+use Rattle.wal.specs.Meaning.{State, empty, pending, finished, committed, ended, is_of, is_commit_of, touches, writes, image_of, has, replay, effects, winners, is_of_committed}
+use Rattle.wal.specs.Laws.{Obeys, IsLawful, Compensates}
+use Rattle.wal.specs.Tail.{is_among}
+use Rattle.wal.proofs.Histories.{record_last, record_older, record_more}
+use Rattle.wal.proofs.Stacks.{pending_found, pending_falls, IsUpdateOf, Falls, Falls-more}
+use Rattle.wal.proofs.Holders.{holder, release, release_keeps, release_other, held, holds, found_has, compensated_touches}
+
+-- EFFECTS OF CHOSEN RECORDS
+-- one choice is as good as another that agrees on the records in the cell
+pub effects_same : (f g : ℕ → LogRecord → Bool) (state : State) (log : History) (page slot : ℕ) → ((n : ℕ) (x : LogRecord) → record_at log n ≡ Some x → writes page slot x ≡ true → f n x ≡ g n x) → effects f state log page slot ≡ effects g state log page slot
+effects_same f g state start page slot h = refl
+effects_same f g state (log ▸ r) page slot h =
+    let older : effects f state log page slot ≡ effects g state log page slot = effects_same f g state log page slot (λ n x e w. h n x (record_more log r n x e) w) in
+    elim (cases_Bool (writes page slot r)) [
+      | inl w ↦ (let i : f (suc (size log)) r ≡ g (suc (size log)) r = h (suc (size log)) r (record_last log r) w in rw (w, i, older))
+      | inr w ↦ rw (w, older)
+    ]
+
+-- where the holder's records are chosen, the newest of all is
+effects_of_holder : (f : LogRecord → Bool) (log : History) (page slot t : ℕ) → holder page slot log ≡ Some t → ((x : LogRecord) → is_of t x ≡ true → writes page slot x ≡ true → f x ≡ true) → effects (λ _ x. f x) empty log page slot ≡ replay log page slot
+effects_of_holder f start page slot t e h = absurd (cc)
+effects_of_holder f (log ▸ Update u) page slot t e h =
+    elim (cases_Bool (eqb u.page page && eqb u.slot slot)) [
+      | inl on ↦
+          (let e' : Some u.tx ≡ Some t = rw on at e in
+          let i : u.tx ≡ t = cc in
+          rw (on, h (Update u) (eq-eqb u.tx t i) on))
+      | inr on ↦ rw on (effects_of_holder f log page slot t (rw on at e) h)
+    ]
+effects_of_holder f (log ▸ Compensation c) page slot t e h =
+    elim (cases_Bool (eqb c.page page && eqb c.slot slot)) [
+      | inl on ↦
+          (let e' : Some c.tx ≡ Some t = rw on at e in
+          let i : c.tx ≡ t = cc in
+          rw (on, h (Compensation c) (eq-eqb c.tx t i) on))
+      | inr on ↦ rw on (effects_of_holder f log page slot t (rw on at e) h)
+    ]
+effects_of_holder f (log ▸ Commit s) page slot t e h = effects_of_holder f log page slot t (release_keeps s.tx t (holder page slot log) e).1 h
+effects_of_holder f (log ▸ Abort s) page slot t e h = effects_of_holder f log page slot t e h
+effects_of_holder f (log ▸ End s) page slot t e h = effects_of_holder f log page slot t (release_keeps s.tx t (holder page slot log) e).1 h
+effects_of_holder f (log ▸ CheckpointBegin) page slot t e h = effects_of_holder f log page slot t e h
+effects_of_holder f (log ▸ CheckpointEnd n ts d) page slot t e h = effects_of_holder f log page slot t e h
+
+-- UNDOING
+abbrev pub undo_at : Option LogRecord → ℕ → ℕ → Image → Image
+undo_at None page slot v = v
+undo_at (Some (Update u)) page slot v = cond (eqb u.page page && eqb u.slot slot) u.before v
+undo_at (Some _) page slot v = v
+
+-- what undoing these updates, in this order, leaves in the cell
+abbrev pub undone : History → ℕ → ℕ → List ℕ → Image → Image
+undone log page slot [] v = v
+undone log page slot (n ∷ ns) v = undone log page slot ns (undo_at (record_at log n) page slot v)
+
+undone_more : (log : History) (r : LogRecord) (page slot : ℕ) (ns : List ℕ) (v : Image) → Falls (suc (size log)) ns → undone (log ▸ r) page slot ns v ≡ undone log page slot ns v
+undone_more log r page slot [] v f = refl
+undone_more log r page slot (n ∷ ns) v f =
+    let e : record_at (log ▸ r) n ≡ record_at log n = record_older log r n (omega (arith, f.0)) in
+    ap (λ x. undone (log ▸ r) page slot ns (undo_at x page slot v)) e
+    ∙ undone_more log r page slot ns (undo_at (record_at log n) page slot v) (Falls-more n (suc (size log)) ns (omega (arith, f.0)) f.1)
+
+-- undoing those of a transaction that hasn't touched the cell leaves it
+undone_untouched : (log : History) (page slot t : ℕ) → touches t page slot log ≡ false → (ns : List ℕ) (v : Image) → ((n : ℕ) → is_among n ns ≡ true → IsUpdateOf t log n) → undone log page slot ns v ≡ v
+undone_untouched log page slot t w [] v each = refl
+undone_untouched log page slot t w (n ∷ ns) v each =
+    let (u, found, own) = each n (or_left (eqb n n) (is_among n ns) (eq-eqb n n refl)) in
+    let off : (eqb u.page page && eqb u.slot slot) ≡ false =
+    false_from_ne_true (eqb u.page page && eqb u.slot slot)
+    (λ on. both_ways (touches t page slot log) w (found_has (λ r. is_of t r && writes page slot r) log n (Update u) found (and_from (eqb u.tx t) (eqb u.page page && eqb u.slot slot) (eq-eqb u.tx t own) on))) in
+    let e : undo_at (record_at log n) page slot v ≡ v = ap (λ x. undo_at x page slot v) found ∙ rw off in
+    ap (undone log page slot ns) e ∙ undone_untouched log page slot t w ns v (λ m i. each m (or_right (eqb m n) (is_among m ns) i))
+
+abbrev restored_by : Option ℕ → ℕ → ℕ → History → Image
+restored_by None page slot log = replay log page slot
+restored_by (Some t) page slot log = undone log page slot (pending t log) (replay log page slot)
+
+-- what is in the cell once its holder is rolled back
+abbrev pub restored : ℕ → ℕ → History → Image
+restored page slot log = restored_by (holder page slot log) page slot log
+
+-- THE WINNERS, ONE RECORD ON
+same_committed : (log : History) (r : LogRecord) → ((t : ℕ) → is_commit_of t r ≡ false) → (x : LogRecord) → is_of_committed (log ▸ r) x ≡ is_of_committed log x
+same_committed log r h (Update u) = ap (λ b. b || committed u.tx log) (h u.tx)
+same_committed log r h (Compensation c) = ap (λ b. b || committed c.tx log) (h c.tx)
+same_committed log r h _ = refl
+
+pub winners_more : (log : History) (r : LogRecord) (page slot : ℕ) → ((t : ℕ) → is_commit_of t r ≡ false) → (writes page slot r && is_of_committed log r) ≡ false → winners (log ▸ r) page slot ≡ winners log page slot
+winners_more log r page slot h e =
+    let e' : (writes page slot r && is_of_committed (log ▸ r) r) ≡ false = ap (λ b. writes page slot r && b) (same_committed log r h r) ∙ e in
+    cond-false (writes page slot r && is_of_committed (log ▸ r) r) (image_of r) (effects (λ _ x. is_of_committed (log ▸ r) x) empty log page slot) e'
+    ∙ effects_same (λ _ x. is_of_committed (log ▸ r) x) (λ _ x. is_of_committed log x) empty log page slot (λ n x _ _. same_committed log r h x)
+
+-- what a transaction that may update the cell would restore in it
+module _ (log : History) (h : IsLawful log) (page slot : ℕ) (ih : restored page slot log ≡ winners log page slot) where
+  own_by : (t : ℕ) → finished t log ≡ false → ((other : ℕ) → other ≢ t → touches other page slot log ≡ true → finished other log ≡ true) → (o : Option ℕ) → holder page slot log ≡ o → undone log page slot (pending t log) (replay log page slot) ≡ winners log page slot
+  own_by t f strict None e =
+      undone_untouched log page slot t
+      (false_from_ne_true (touches t page slot log) (λ w. (let e' : holder page slot log ≡ Some t = holds log h page slot t w f in cc)))
+      (pending t log) (replay log page slot) (pending_found t log)
+      ∙ ap (λ o. restored_by o page slot log) (sym e) ∙ ih
+  own_by t f strict (Some g) e =
+      elim (cases_eq g t) [
+        | inl i ↦ ap (λ x. restored_by x page slot log) (ap Some (sym i) ∙ sym e) ∙ ih
+        | inr n ↦ (let k = held log h page slot g e in absurd (both_ways (finished g log) k.0 (strict g n k.1)))
+      ]
+
+  restored_update_on : (u : UpdateRecord) → Obeys log (Update u) → (eqb u.page page && eqb u.slot slot) ≡ true → restored page slot (log ▸ Update u) ≡ winners (log ▸ Update u) page slot
+  restored_update_on u o on =
+      let k = suc (size log) in
+      let (p, s) = and_parts (eqb u.page page) (eqb u.slot slot) on in
+      let at_cell : (f : ℕ → ℕ → Image) → f u.page u.slot ≡ f page slot = λ f. ap₂ f (eqb-true u.page page p) (eqb-true u.slot slot s) in
+      let holder_is : holder page slot (log ▸ Update u) ≡ Some u.tx = rw on in
+      let pending_is : pending u.tx (log ▸ Update u) ≡ suc (size log) ∷ pending u.tx log = rw (eq-eqb u.tx u.tx refl) in
+      let value_is : replay (log ▸ Update u) page slot ≡ u.after = rw on in
+      let undo_is : undo_at (record_at (log ▸ Update u) (suc (size log))) page slot u.after ≡ u.before = ap (λ x. undo_at x page slot u.after) (record_last log (Update u)) ∙ rw on in
+      ap (λ x. restored_by x page slot (log ▸ Update u)) holder_is
+      ∙ ap₂ (λ ns v. undone (log ▸ Update u) page slot ns v) pending_is value_is
+      ∙ ap (undone (log ▸ Update u) page slot (pending u.tx log)) undo_is
+      ∙ undone_more log (Update u) page slot (pending u.tx log) u.before (pending_falls u.tx log)
+      ∙ ap (undone log page slot (pending u.tx log)) (o.before ∙ at_cell (replay log))
+      ∙ own_by u.tx o.finish.0 (λ other n w. o.strict other n (ap₂ (λ x y. touches other x y log) (eqb-true u.page page p) (eqb-true u.slot slot s) ∙ w)) (holder page slot log) refl
+      ∙ sym (winners_more log (Update u) page slot (λ _. refl) (and_right (eqb u.page page && eqb u.slot slot) (committed u.tx log) (or_parts (committed u.tx log) (ended u.tx log) o.finish.0).0))
+
+  -- a record that changes neither the holder nor the value
+  restored_same : (r : LogRecord) → holder page slot (log ▸ r) ≡ holder page slot log → replay (log ▸ r) page slot ≡ replay log page slot
+      → ((t : ℕ) → holder page slot log ≡ Some t → (v : Image) → undone (log ▸ r) page slot (pending t (log ▸ r)) v ≡ undone log page slot (pending t log) v)
+      → winners (log ▸ r) page slot ≡ winners log page slot → restored page slot (log ▸ r) ≡ winners (log ▸ r) page slot
+  restored_same r holder_is value_is undone_is winners_is =
+      ap (λ x. restored_by x page slot (log ▸ r)) holder_is ∙ by_holder (holder page slot log) refl ∙ ih ∙ sym winners_is
+    where
+      by_holder : (o : Option ℕ) → holder page slot log ≡ o → restored_by o page slot (log ▸ r) ≡ restored_by o page slot log
+      by_holder None e = value_is
+      by_holder (Some t) e = ap (undone (log ▸ r) page slot (pending t (log ▸ r))) value_is ∙ undone_is t e (replay log page slot)
+
+  undone_plain : (r : LogRecord) (t : ℕ) → pending t (log ▸ r) ≡ pending t log → (v : Image) → undone (log ▸ r) page slot (pending t (log ▸ r)) v ≡ undone log page slot (pending t log) v
+  undone_plain r t e v = ap (λ ns. undone (log ▸ r) page slot ns v) e ∙ undone_more log r page slot (pending t log) v (pending_falls t log)
+
+  restored_update_off : (u : UpdateRecord) → Obeys log (Update u) → (eqb u.page page && eqb u.slot slot) ≡ false → restored page slot (log ▸ Update u) ≡ winners (log ▸ Update u) page slot
+  restored_update_off u o off =
+      restored_same (Update u) (rw off) (rw off)
+      (λ t _ v. elim (cases_Bool (eqb u.tx t)) [
+        | inl e ↦
+            (let pending_is : pending t (log ▸ Update u) ≡ suc (size log) ∷ pending t log = rw e in
+            let undo_is : undo_at (record_at (log ▸ Update u) (suc (size log))) page slot v ≡ v = ap (λ x. undo_at x page slot v) (record_last log (Update u)) ∙ rw off in
+            ap (λ ns. undone (log ▸ Update u) page slot ns v) pending_is
+            ∙ ap (undone (log ▸ Update u) page slot (pending t log)) undo_is
+            ∙ undone_more log (Update u) page slot (pending t log) v (pending_falls t log))
+        | inr e ↦ undone_plain (Update u) t (rw e) v
+      ])
+      (winners_more log (Update u) page slot (λ _. refl) (and_left (eqb u.page page && eqb u.slot slot) (committed u.tx log) off))
+
+  -- the update that a CLR undoes is in its cell
+  same_cell : (c : CompensationRecord) (k : Compensates log c) → (eqb k.update.page page && eqb k.update.slot slot) ≡ (eqb c.page page && eqb c.slot slot)
+  same_cell c k = ap₂ (λ x y. eqb x page && eqb y slot) (sym k.page) (sym k.slot)
+
+  below_falls : (c : CompensationRecord) (k : Compensates log c) → Falls (suc (size log)) k.below
+  below_falls c k =
+      let f : Falls (suc (size log)) (k.lsn ∷ k.below) = subst (λ ns. Falls (suc (size log)) ns) k.newest (pending_falls c.tx log) in
+      Falls-more k.lsn (suc (size log)) k.below (omega (arith, f.0)) f.1
+
+  pending_less : (c : CompensationRecord) (k : Compensates log c) → pending c.tx (log ▸ Compensation c) ≡ k.below
+  pending_less c k =
+      let e : pending c.tx (log ▸ Compensation c) ≡ drop 1 (pending c.tx log) = rw (eq-eqb c.tx c.tx refl) in
+      e ∙ ap (drop 1) k.newest
+
+  -- undoing it first
+  undone_first : (c : CompensationRecord) (k : Compensates log c) (v w : Image) → undo_at (Some (Update k.update)) page slot v ≡ w → undone log page slot (pending c.tx log) v ≡ undone log page slot k.below w
+  undone_first c k v w e =
+      ap (λ ns. undone log page slot ns v) k.newest ∙ ap (undone log page slot k.below) (ap (λ x. undo_at x page slot v) k.found ∙ e)
+
+  restored_compensation_on : (c : CompensationRecord) → Obeys log (Compensation c) → (eqb c.page page && eqb c.slot slot) ≡ true → restored page slot (log ▸ Compensation c) ≡ winners (log ▸ Compensation c) page slot
+  restored_compensation_on c o on =
+      let k = o.compensation in
+      let (p, s) = and_parts (eqb c.page page) (eqb c.slot slot) on in
+      let touched : touches c.tx page slot log ≡ true = sym (ap₂ (λ x y. touches c.tx x y log) (eqb-true c.page page p) (eqb-true c.slot slot s)) ∙ compensated_touches log c k in
+      let held_by : holder page slot log ≡ Some c.tx = holds log h page slot c.tx touched o.finish in
+      let holder_is : holder page slot (log ▸ Compensation c) ≡ Some c.tx = rw on in
+      let value_is : replay (log ▸ Compensation c) page slot ≡ c.image = rw on in
+      let undo_is : undo_at (Some (Update k.update)) page slot (replay log page slot) ≡ c.image = cond-true (eqb k.update.page page && eqb k.update.slot slot) k.update.before (replay log page slot) (same_cell c k ∙ on) ∙ sym k.image in
+      ap (λ x. restored_by x page slot (log ▸ Compensation c)) holder_is
+      ∙ ap₂ (λ ns v. undone (log ▸ Compensation c) page slot ns v) (pending_less c k) value_is
+      ∙ undone_more log (Compensation c) page slot k.below c.image (below_falls c k)
+      ∙ sym (undone_first c k (replay log page slot) c.image undo_is)
+      ∙ ap (λ x. restored_by x page slot log) (sym held_by)
+      ∙ ih
+      ∙ sym (winners_more log (Compensation c) page slot (λ _. refl) (and_right (eqb c.page page && eqb c.slot slot) (committed c.tx log) (or_parts (committed c.tx log) (ended c.tx log) o.finish).0))
+
+  restored_compensation_off : (c : CompensationRecord) → Obeys log (Compensation c) → (eqb c.page page && eqb c.slot slot) ≡ false → restored page slot (log ▸ Compensation c) ≡ winners (log ▸ Compensation c) page slot
+  restored_compensation_off c o off =
+      let k = o.compensation in
+      restored_same (Compensation c) (rw off) (rw off)
+      (λ t _ v. elim (cases_Bool (eqb c.tx t)) [
+        | inl e ↦
+            subst (λ x. undone (log ▸ Compensation c) page slot (pending x (log ▸ Compensation c)) v ≡ undone log page slot (pending x log) v) (eqb-true c.tx t e)
+            (ap (λ ns. undone (log ▸ Compensation c) page slot ns v) (pending_less c k)
+            ∙ undone_more log (Compensation c) page slot k.below v (below_falls c k)
+            ∙ sym (undone_first c k v v (cond-false (eqb k.update.page page && eqb k.update.slot slot) k.update.before v (same_cell c k ∙ off))))
+        | inr e ↦ undone_plain (Compensation c) t (rw e) v
+      ])
+      (winners_more log (Compensation c) page slot (λ _. refl) (and_left (eqb c.page page && eqb c.slot slot) (committed c.tx log) off))
+
+  -- a commit makes its transaction's records count: where it holds the cell the newest is its own, elsewhere there are none
+  restored_commit : (s : PlainRecord) → Obeys log (Commit s) → restored page slot (log ▸ Commit s) ≡ winners (log ▸ Commit s) page slot
+  restored_commit s o = by_holder (holder page slot log) refl
+    where
+      own_counts : (x : LogRecord) → is_of s.tx x ≡ true → writes page slot x ≡ true → is_of_committed (log ▸ Commit s) x ≡ true
+      own_counts (Update u) e w = or_left (eqb s.tx u.tx) (committed u.tx log) (eq-eqb s.tx u.tx (sym (eqb-true u.tx s.tx e)))
+      own_counts (Compensation c) e w = or_left (eqb s.tx c.tx) (committed c.tx log) (eq-eqb s.tx c.tx (sym (eqb-true c.tx s.tx e)))
+      own_counts (Commit _) e w = absurd (false≢true w)
+      own_counts (Abort _) e w = absurd (false≢true w)
+      own_counts (End _) e w = absurd (false≢true w)
+      own_counts CheckpointBegin e w = absurd (false≢true w)
+      own_counts (CheckpointEnd _ _ _) e w = absurd (false≢true w)
+
+      untouched : (holder page slot log ≡ Some s.tx → ⊥) → touches s.tx page slot log ≡ false
+      untouched n = false_from_ne_true (touches s.tx page slot log) (λ w. n (holds log h page slot s.tx w o.finish.0))
+
+      others_count : touches s.tx page slot log ≡ false → (n : ℕ) (x : LogRecord) → record_at log n ≡ Some x → writes page slot x ≡ true → is_of_committed (log ▸ Commit s) x ≡ is_of_committed log x
+      others_count t n (Update u) e w =
+          ap (λ b. b || committed u.tx log) (ne_eqb s.tx u.tx (λ i. both_ways (touches s.tx page slot log) t
+          (found_has (λ r. is_of s.tx r && writes page slot r) log n (Update u) e (and_from (eqb u.tx s.tx) (writes page slot (Update u)) (eq-eqb u.tx s.tx (sym i)) w))))
+      others_count t n (Compensation c) e w =
+          ap (λ b. b || committed c.tx log) (ne_eqb s.tx c.tx (λ i. both_ways (touches s.tx page slot log) t
+          (found_has (λ r. is_of s.tx r && writes page slot r) log n (Compensation c) e (and_from (eqb c.tx s.tx) (writes page slot (Compensation c)) (eq-eqb c.tx s.tx (sym i)) w))))
+      others_count t n (Commit _) e w = refl
+      others_count t n (Abort _) e w = refl
+      others_count t n (End _) e w = refl
+      others_count t n CheckpointBegin e w = refl
+      others_count t n (CheckpointEnd _ _ _) e w = refl
+
+      unchanged : (holder page slot log ≡ Some s.tx → ⊥) → winners (log ▸ Commit s) page slot ≡ winners log page slot
+      unchanged n = effects_same (λ _ x. is_of_committed (log ▸ Commit s) x) (λ _ x. is_of_committed log x) empty log page slot (others_count (untouched n))
+
+      by_holder : (o : Option ℕ) → holder page slot log ≡ o → restored page slot (log ▸ Commit s) ≡ winners (log ▸ Commit s) page slot
+      by_holder None e =
+          restored_same (Commit s) (ap (release s.tx) e ∙ sym e) refl (λ t _ v. undone_plain (Commit s) t refl v) (unchanged (λ e'. cc))
+      by_holder (Some t) e =
+          elim (cases_Bool (eqb s.tx t)) [
+            | inl i ↦
+                (let holder_is : holder page slot (log ▸ Commit s) ≡ None = ap (release s.tx) e ∙ rw i in
+                let e' : holder page slot log ≡ Some s.tx = e ∙ ap Some (sym (eqb-true s.tx t i)) in
+                ap (λ x. restored_by x page slot (log ▸ Commit s)) holder_is ∙ sym (effects_of_holder (is_of_committed (log ▸ Commit s)) log page slot s.tx e' own_counts))
+            | inr i ↦
+                restored_same (Commit s) (release_other s.tx t (holder page slot log) i e ∙ sym e) refl (λ t _ v. undone_plain (Commit s) t refl v)
+                (unchanged (λ e'. (let j : t ≡ s.tx = cc in eqb-false s.tx t i (sym j))))
+          ]
+
+  restored_end : (s : PlainRecord) → Obeys log (End s) → restored page slot (log ▸ End s) ≡ winners (log ▸ End s) page slot
+  restored_end s o = by_holder (holder page slot log) refl
+    where
+      unchanged : winners (log ▸ End s) page slot ≡ winners log page slot
+      unchanged = winners_more log (End s) page slot (λ _. refl) refl
+
+      by_holder : (o : Option ℕ) → holder page slot log ≡ o → restored page slot (log ▸ End s) ≡ winners (log ▸ End s) page slot
+      by_holder None e = restored_same (End s) (ap (release s.tx) e ∙ sym e) refl (λ t _ v. undone_plain (End s) t refl v) unchanged
+      by_holder (Some t) e =
+          elim (cases_Bool (eqb s.tx t)) [
+            | inl i ↦
+                (let j : s.tx ≡ t = eqb-true s.tx t i in
+                let open_still : committed s.tx log ≡ false = ap (λ x. committed x log) j ∙ (or_parts (committed t log) (ended t log) (held log h page slot t e).0).0 in
+                let nothing : pending t log ≡ [] = ap (λ x. pending x log) (sym j) ∙ o.compensation open_still in
+                let holder_is : holder page slot (log ▸ End s) ≡ None = ap (release s.tx) e ∙ rw i in
+                ap (λ x. restored_by x page slot (log ▸ End s)) holder_is
+                ∙ sym (ap (λ ns. undone log page slot ns (replay log page slot)) nothing)
+                ∙ ap (λ x. restored_by x page slot log) (sym e) ∙ ih ∙ sym unchanged)
+            | inr i ↦ restored_same (End s) (release_other s.tx t (holder page slot log) i e ∙ sym e) refl (λ t _ v. undone_plain (End s) t refl v) unchanged
+          ]
+
+-- once the holder of a cell is rolled back, the cell has what the winners leave there
+pub restored_is_winners : (log : History) → IsLawful log → (page slot : ℕ) → restored page slot log ≡ winners log page slot
+restored_is_winners start h page slot = refl
+restored_is_winners (log ▸ Update u) h page slot =
+    elim (cases_Bool (eqb u.page page && eqb u.slot slot)) [
+      | inl on ↦ restored_update_on log h.0 page slot (restored_is_winners log h.0 page slot) u h.1 on
+      | inr off ↦ restored_update_off log h.0 page slot (restored_is_winners log h.0 page slot) u h.1 off
+    ]
+restored_is_winners (log ▸ Compensation c) h page slot =
+    elim (cases_Bool (eqb c.page page && eqb c.slot slot)) [
+      | inl on ↦ restored_compensation_on log h.0 page slot (restored_is_winners log h.0 page slot) c h.1 on
+      | inr off ↦ restored_compensation_off log h.0 page slot (restored_is_winners log h.0 page slot) c h.1 off
+    ]
+restored_is_winners (log ▸ Commit s) h page slot = restored_commit log h.0 page slot (restored_is_winners log h.0 page slot) s h.1
+restored_is_winners (log ▸ End s) h page slot = restored_end log h.0 page slot (restored_is_winners log h.0 page slot) s h.1
+restored_is_winners (log ▸ r) h page slot =
+    restored_same log h.0 page slot (restored_is_winners log h.0 page slot) r refl refl (λ t _ v. undone_plain log h.0 page slot (restored_is_winners log h.0 page slot) r t refl v) (winners_more log r page slot (λ _. refl) refl)
+
+touches_has : (t page slot : ℕ) (log : History) → touches t page slot log ≡ true → has (is_of t) log ≡ true
+touches_has t page slot start w = w
+touches_has t page slot (log ▸ r) w =
+    elim (or_cases (is_of t r && writes page slot r) (touches t page slot log) w) [
+      | inl i ↦ or_left (is_of t r) (has (is_of t) log) (and_parts (is_of t r) (writes page slot r) i).0
+      | inr i ↦ or_right (is_of t r) (has (is_of t) log) (touches_has t page slot log i)
+    ]
+
+-- so where no transaction is left unfinished, the cell has that
+pub replay_is_winners : (log : History) → IsLawful log → ((t : ℕ) → has (is_of t) log ≡ true → finished t log ≡ true) → (page slot : ℕ) → replay log page slot ≡ winners log page slot
+replay_is_winners log h all page slot = by_holder (holder page slot log) refl
+  where
+    by_holder : (o : Option ℕ) → holder page slot log ≡ o → replay log page slot ≡ winners log page slot
+    by_holder None e = ap (λ x. restored_by x page slot log) (sym e) ∙ restored_is_winners log h page slot
+    by_holder (Some t) e =
+        (let k = held log h page slot t e in
+        absurd (both_ways (finished t log) k.0 (all t (touches_has t page slot log k.1))))

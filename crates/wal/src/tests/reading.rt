@@ -1,0 +1,231 @@
+//! Logs that are read, and what is no log.
+
+use super::vectors::{
+    CHECKPOINT_LOSER, EMPTY_AND_FULL_VALUES, ONE_COMMIT, ONE_LOSER_RESTARTED,
+    PARTIAL_ROLLBACK_COMMIT, ROLLBACK_INTERRUPTED,
+};
+use super::{checkpoint_text, rewritten};
+use crate::{Entry, RecordView, State, read_log};
+use page::Fault;
+use std::test::Fail;
+
+#[test]
+fn records_of_views_spell_the_log(rt: HostRuntime) -> Result<(), Fail> {
+    let logs = [
+        ONE_COMMIT,
+        ONE_LOSER_RESTARTED,
+        CHECKPOINT_LOSER,
+        PARTIAL_ROLLBACK_COMMIT,
+        ROLLBACK_INTERRUPTED,
+        EMPTY_AND_FULL_VALUES,
+    ];
+    for log in logs {
+        assert_eq!(rt; rewritten(&rt, rt.alloc(), log)?.as_slice(), log);
+    }
+    Ok(())
+}
+
+#[test]
+fn views_show_compensations(rt: HostRuntime) -> Result<(), Fail> {
+    let (log, torn) = read_log(rt.alloc(), PARTIAL_ROLLBACK_COMMIT)?;
+    assert_eq!(rt; torn, 0);
+    assert_eq!(rt; log.len(), 4);
+    assert!(rt; log.get(0).is_none());
+    assert!(rt; log.get(5).is_none());
+    let Some(
+        RecordView::Compensation {
+            tx,
+            prev,
+            page,
+            slot,
+            undo_next,
+            image,
+        },
+    ) = log.get(3)
+    else {
+        return Err("no compensation".into());
+    };
+    assert_eq!(rt; (tx, prev, page, slot, undo_next), (1, 2, 0, 0, 1));
+    assert_eq!(rt; image, Some(b"a".as_slice()));
+    Ok(())
+}
+
+#[test]
+fn values_are_slices_of_the_log(rt: HostRuntime) -> Result<(), Fail> {
+    let (log, _) = read_log(rt.alloc(), EMPTY_AND_FULL_VALUES)?;
+    assert_eq!(rt; log.len(), 3);
+    let mut values = Vec::new(rt.alloc());
+    for lsn in 1..3u64 {
+        if let Some(RecordView::Update { before, after, .. }) = log.get(lsn) {
+            assert_eq!(rt; before, None);
+            values.push(after)?;
+        }
+    }
+    assert_eq!(rt;
+        values.as_slice(),
+        [
+            Some(&EMPTY_AND_FULL_VALUES[40..40]),
+            Some(&EMPTY_AND_FULL_VALUES[72..120])
+        ]
+        .as_slice()
+    );
+    Ok(())
+}
+
+#[test]
+fn drops_a_torn_tail(rt: HostRuntime) -> Result<(), Fail> {
+    let (log, torn) = read_log(rt.alloc(), &ONE_COMMIT[..65])?;
+    assert_eq!(rt; (log.len(), torn), (1, 24));
+    let (log, torn) = read_log(rt.alloc(), b"ARIESLG1\0\0\0")?;
+    assert_eq!(rt; (log.len(), torn), (0, 3));
+    let (log, torn) = read_log(rt.alloc(), b"ARIESLG1\0\x01\x14\x19")?;
+    assert_eq!(rt; (log.len(), torn), (0, 4));
+    let (log, torn) = read_log(rt.alloc(), b"ARIESLG1")?;
+    assert_eq!(rt; (log.len(), torn), (0, 0));
+    Ok(())
+}
+
+#[test]
+fn refuses_what_is_no_log(rt: HostRuntime) {
+    let rows: [(&str, &[u8], Fault); 15] = [
+        (
+            "entries 2, 1",
+            b"ARIESLG1\x00\x00\x00C\x07\x00\x00\x00\x00\x00\x00\x00\x01\x00\x00\x00\
+            \x00\x00\x00\x00\x01\x00\x00\x00\x02\x00\x00\x00\x02\x00\x00\x00\x00\x00\
+            \x00\x00\x00\x00\x00\x00\x00\x00\x00\x00\x00\x00\x00\x00\x00\x01\x00\x00\
+            \x00\x00\x00\x00\x00\x00\x00\x00\x00\x00\x00\x00\x00\x00\x00\x00\x00\x00\
+            \x00",
+            Fault::BadRecord(8),
+        ),
+        (
+            "entries 1, 1",
+            b"ARIESLG1\x00\x00\x00C\x07\x00\x00\x00\x00\x00\x00\x00\x01\x00\x00\x00\
+            \x00\x00\x00\x00\x01\x00\x00\x00\x02\x00\x00\x00\x01\x00\x00\x00\x00\x00\
+            \x00\x00\x00\x00\x00\x00\x00\x00\x00\x00\x00\x00\x00\x00\x00\x01\x00\x00\
+            \x00\x00\x00\x00\x00\x00\x00\x00\x00\x00\x00\x00\x00\x00\x00\x00\x00\x00\
+            \x00",
+            Fault::BadRecord(8),
+        ),
+        (
+            "transaction 0",
+            b"ARIESLG1\x00\x00\x00\x15\x03\x00\x00\x00\x00\x00\x00\x00\x01\x00\x00\x00\
+            \x00\x00\x00\x00\x00\x00\x00\x00\x00",
+            Fault::BadRecord(8),
+        ),
+        (
+            "transaction 0 in a table",
+            b"ARIESLG1\x00\x00\x00.\x07\x00\x00\x00\x00\x00\x00\x00\x01\x00\x00\x00\
+            \x00\x00\x00\x00\x01\x00\x00\x00\x01\x00\x00\x00\x00\x00\x00\x00\x00\x00\
+            \x00\x00\x00\x00\x00\x00\x00\x00\x00\x00\x00\x00\x00\x00\x00\x00",
+            Fault::BadRecord(8),
+        ),
+        (
+            "state 2",
+            b"ARIESLG1\x00\x00\x00.\x07\x00\x00\x00\x00\x00\x00\x00\x01\x00\x00\x00\
+            \x00\x00\x00\x00\x01\x00\x00\x00\x01\x00\x00\x00\x01\x02\x00\x00\x00\x00\
+            \x00\x00\x00\x00\x00\x00\x00\x00\x00\x00\x00\x00\x00\x00\x00\x00",
+            Fault::BadRecord(8),
+        ),
+        (
+            "slot 16",
+            b"ARIESLG1\x00\x00\x00\x1d\x01\x00\x00\x00\x00\x00\x00\x00\x01\x00\x00\x00\
+            \x01\x00\x00\x00\x00\x00\x00\x00\x00\x00\x00\x00\x00\x10\xff\x01a",
+            Fault::BadRecord(8),
+        ),
+        (
+            "length byte 49",
+            b"ARIESLG1\x00\x00\x00M\x01\x00\x00\x00\x00\x00\x00\x00\x01\x00\x00\x00\
+            \x01\x00\x00\x00\x00\x00\x00\x00\x00\x00\x00\x00\x00\x00\xff1aaaaaaaaaaa\
+            aaaaaaaaaaaaaaaaaaaaaaaaaaaaaaaaaaaaaa",
+            Fault::BadRecord(8),
+        ),
+        (
+            "kind 0",
+            b"ARIESLG1\x00\x00\x00\x15\x00\x00\x00\x00\x00\x00\x00\x00\x01\x00\x00\x00\
+            \x01\x00\x00\x00\x00\x00\x00\x00\x00",
+            Fault::BadRecord(8),
+        ),
+        (
+            "kind 8",
+            b"ARIESLG1\x00\x00\x00\x15\x08\x00\x00\x00\x00\x00\x00\x00\x01\x00\x00\x00\
+            \x01\x00\x00\x00\x00\x00\x00\x00\x00",
+            Fault::BadRecord(8),
+        ),
+        (
+            "a commit body of 22 bytes",
+            b"ARIESLG1\x00\x00\x00\x16\x03\x00\x00\x00\x00\x00\x00\x00\x01\x00\x00\x00\
+            \x01\x00\x00\x00\x00\x00\x00\x00\x00\x00",
+            Fault::BadRecord(8),
+        ),
+        (
+            "a value of 49 bytes",
+            b"ARIESLG1\x00\x00\x00\x1c\x01\x00\x00\x00\x00\x00\x00\x00\x01\x00\x00\x00\
+            \x01\x00\x00\x00\x00\x00\x00\x00\x00\x00\x00\x00\x00\x00\xff\x00\x00\x00\
+            \x00M\x01\x00\x00\x00\x00\x00\x00\x00\x02\x00\x00\x00\x01\x00\x00\x00\
+            \x00\x00\x00\x00\x01\x00\x00\x00\x00\x01\xff1zzzzzzzzzzzzzzzzzzzzzzzzzzz\
+            zzzzzzzzzzzzzzzzzzzzzz\x00\x00\x00\x15\x03\x00\x00\x00\x00\x00\x00\x00\
+            \x03\x00\x00\x00\x01\x00\x00\x00\x00\x00\x00\x00\x02",
+            Fault::BadRecord(40),
+        ),
+        (
+            "length 70,682",
+            b"ARIESLG1\x00\x01\x14\x1a",
+            Fault::BadLength(8),
+        ),
+        ("length 8", b"ARIESLG1\x00\x00\x00\x08", Fault::BadLength(8)),
+        (
+            "LSN 3 in the second frame",
+            b"ARIESLG1\x00\x00\x00\x1d\x01\x00\x00\x00\x00\x00\x00\x00\x01\x00\x00\x00\
+            \x01\x00\x00\x00\x00\x00\x00\x00\x00\x00\x00\x00\x00\x00\xff\x01a\x00\
+            \x00\x00\x15\x03\x00\x00\x00\x00\x00\x00\x00\x03\x00\x00\x00\x01\x00\x00\
+            \x00\x00\x00\x00\x00\x01",
+            Fault::BadLsn(41),
+        ),
+        ("7 bytes", b"ARIESLG", Fault::BadLogHeader),
+    ];
+    for (what, bytes, fault) in rows {
+        assert_eq!(rt; read_log(rt.alloc(), bytes).err(), Some(fault), "{what}");
+    }
+}
+
+#[test]
+fn reads_and_writes_the_largest_checkpoint(rt: HostRuntime) -> Result<(), Fail> {
+    let text = checkpoint_text(&rt, rt.alloc(), 1024, 4096)?;
+    assert_eq!(rt; text.len(), 70706);
+    assert_eq!(rt;
+        rewritten(&rt, rt.alloc(), &text)?.as_slice(),
+        text.as_slice()
+    );
+    let (log, _) = read_log(rt.alloc(), &text)?;
+    let Some(
+        RecordView::CheckpointEnd {
+            begin,
+            transactions,
+            dirty,
+        },
+    ) = log.get(2)
+    else {
+        return Err("no checkpoint end".into());
+    };
+    assert_eq!(rt; (begin, transactions.len(), dirty.len()), (1, 1024, 4096));
+    let aborting = Entry {
+        state: State::Aborting,
+        last: 5,
+        undo_next: 4,
+    };
+    assert_eq!(rt; transactions.get(1023), Some((1024, aborting)));
+    assert_eq!(rt; transactions.get(1024), None);
+    assert_eq!(rt; dirty.get(4095), Some((4095, 3)));
+    assert_eq!(rt; dirty.get(4096), None);
+    Ok(())
+}
+
+#[test]
+fn refuses_a_table_too_long(rt: HostRuntime) -> Result<(), Fail> {
+    let text = checkpoint_text(&rt, rt.alloc(), 1025, 0)?;
+    assert_eq!(rt;
+        read_log(rt.alloc(), &text).err(),
+        Some(Fault::BadRecord(21))
+    );
+    Ok(())
+}
