@@ -1,6 +1,6 @@
 //! Repeating history: the records of a log applied to empty pages.
 
-ghost use Rattle.std.specs.Prelude.{◌≡◌, ◌+◌, ◌<◌, ◌≤◌, ◌^◌, [], ℕ, All, length, take, option_map, slice_index_or, MatchResult};
+ghost use Rattle.std.specs.Prelude.{◌≡◌, ◌+◌, ◌<◌, ◌≤◌, ◌^◌, [], ℕ, All, length, take, option_map, MatchResult};
 ghost use Rattle.page.specs.declared.page.Page.{Page};
 ghost use Rattle.wal.specs.Records.{LogRecord, History, ◌▸◌, size, history};
 ghost use Rattle.wal.specs.Meaning.{replay};
@@ -10,20 +10,6 @@ ghost use Rattle.aries.specs.Pages.{pages_of, has_effect, NamesBelow, first_wher
 
 use page::{Page, Value};
 use wal::{Log, RecordView};
-
-/// The record at place `index`, whose LSN is one more.
-pub fn record_in<'a>(log: &Log<'a>, index: u64) -> RecordView<'a>
-    requires within { index < length log.now }
-    requires few { length log.now < 2 ^ 64 }
-    ensures item { slice_index_or log.now index (shown result) ≡ shown result }
-    ensures fits { Fits (shown result) }
-    ensures next { history (take (index + 1) log.now) ≡ history (take index log.now) ▸ shown result }
-{
-    match log.get(index + 1) {
-        Some(view) => view,
-        None => unreachable!(),
-    }
-}
 
 /// How far a replay has come: the LSN of the first record that it applied, 0 for none, and how many.
 #[derive(Clone, Copy)]
@@ -95,7 +81,7 @@ pub fn replay(log: &Log, pages: &mut [Page]) -> Replayed
 {
     let mut replayed = Replayed { from: 0, count: 0 };
     for index in 0..log.len() {
-        let view = record_in(log, index);
+        let view = log.nth(index);
         apply(&view, index + 1, pages);
         replayed = note(&view, index + 1, replayed);
     }

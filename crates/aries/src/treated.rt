@@ -11,7 +11,6 @@ ghost use Rattle.wal.specs.Shown.{shown};
 ghost use Rattle.aries.specs.Pages.{NamesBelow};
 ghost use Rattle.aries.specs.Treated.{AllCommitted, IsEmptyPage, IsFirstPast};
 
-use crate::replay::record_in;
 use page::{Fault, Page};
 use std::alloc::Global;
 use std::collections::HashSet;
@@ -35,7 +34,7 @@ fn committed_in(alloc: Global, log: &Log) -> Result<HashSet<u32>, Fault>
 {
     let mut committed = HashSet::new(alloc);
     for index in 0..log.len() {
-        note_commit(&mut committed, &record_in(log, index))?;
+        note_commit(&mut committed, &log.nth(index))?;
     }
     Ok(committed)
 }
@@ -61,7 +60,7 @@ pub fn all_committed(alloc: Global, log: &Log) -> Result<bool, Fault>
 {
     let committed = committed_in(alloc, log)?;
     for index in 0..log.len() {
-        if !is_of_member(&committed, &record_in(log, index)) {
+        if !is_of_member(&committed, &log.nth(index)) {
             return Ok(false);
         }
     }
@@ -85,7 +84,7 @@ pub fn check_pages(log: &Log, count: usize) -> Result<(), Fault>
     ensures err { IfErr result (IsFirstPast count log.now) }
 {
     for index in 0..log.len() {
-        if !names_below(&record_in(log, index), count) {
+        if !names_below(&log.nth(index), count) {
             return Err(Fault::NoSuchPage(index + 1));
         }
     }

@@ -43,7 +43,8 @@ pub fn encode_store(alloc: Global, store: &Store) -> Result<Vec<u8>, Fault>
 /// Page count and master in the header of a store file.
 fn header_at(bytes: &[u8]) -> Option<(u32, u64)>
     ensures found { IfSome result (λ header. BeginsWithHeader bytes.now header.0 header.1) }
-    ensures only { (count master : ℕ) → BeginsWithHeader bytes.now count master → result ≡ Some (count, master) }
+    ensures only { (count master : ℕ) → BeginsWithHeader bytes.now count master
+        → result ≡ Some (count, master) }
 {
     if bytes.len() < 24 {
         return None;

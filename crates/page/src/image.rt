@@ -110,7 +110,8 @@ fn slot_at(entries: &[u8], bytes: &[u8], place: u16) -> Option<Option<Value>>
     requires entry { 4 ≤ length entries.now }
     requires place { 0 < place }
     ensures found { IfSome result (BeginsWithSlot entries.now bytes.now place) }
-    ensures only { (slot : Image) → BeginsWithSlot entries.now bytes.now place slot → result ≡ Some slot }
+    ensures only { (slot : Image) → BeginsWithSlot entries.now bytes.now place slot
+        → result ≡ Some slot }
 {
     let (offset, length) = entry_at(entries);
     if offset == 0 && length == 0 {
@@ -139,7 +140,8 @@ fn slots_at(entries: &[u8], bytes: &[u8]) -> Option<[Option<Value>; 16]>
     requires entries { length entries.now ≡ 64 }
     requires bytes { length bytes.now ≡ 944 }
     ensures found { IfSome result (SpellsSlots entries.now bytes.now) }
-    ensures only { (slots : List Image) → SpellsSlots entries.now bytes.now slots → result ≡ Some slots }
+    ensures only { (slots : List Image) → SpellsSlots entries.now bytes.now slots
+        → result ≡ Some slots }
 {
     let mut slots = [None; 16];
     let mut end = 0;
@@ -161,7 +163,8 @@ fn slots_at(entries: &[u8], bytes: &[u8]) -> Option<[Option<Value>; 16]>
 pub fn page_at(bytes: &[u8], number: u32) -> Option<Page>
     requires { length bytes.now ≡ 1024 }
     ensures found { IfSome result (λ page. SpellsPage bytes.now page × (page.number ≡ number)) }
-    ensures only { (page : Page) → SpellsPage bytes.now page → page.number ≡ number → result ≡ Some page }
+    ensures only { (page : Page) → SpellsPage bytes.now page → page.number ≡ number
+        → result ≡ Some page }
 {
     let (header, rest) = bytes.split_at(16);
     let (entries, body) = rest.split_at(64);
@@ -176,8 +179,10 @@ pub fn page_at(bytes: &[u8], number: u32) -> Option<Page>
 /// The page of this number that the bytes spell. Any other image is `BadPage(number)`.
 pub fn decode_page(bytes: &[u8; 1024], number: u32) -> Result<Page, Fault>
     ensures found { IfOk result (λ page. SpellsPage bytes.now page × (page.number ≡ number)) }
-    ensures only { (page : Page) → SpellsPage bytes.now page → page.number ≡ number → result ≡ Ok page }
-    ensures bad { IfErr result (λ e. (e ≡ Fault.BadPage number) × ((page : Page) → SpellsPage bytes.now page → page.number ≢ number)) }
+    ensures only { (page : Page) → SpellsPage bytes.now page → page.number ≡ number
+        → result ≡ Ok page }
+    ensures bad { IfErr result (λ e. (e ≡ Fault.BadPage number)
+        × ((page : Page) → SpellsPage bytes.now page → page.number ≢ number)) }
 {
     match page_at(bytes, number) {
         Some(page) => Ok(page),

@@ -15,6 +15,7 @@ numbers_same p q n (suc k) h =
     let rest : filter q (numbers_from (suc n) k) ≡ filter p (numbers_from (suc n) k) = numbers_same p q (suc n) k (λ t i. h t (omega arith)) in
     ap₂ (λ b xs. cond b (n ∷ xs) xs) (h n (omega arith)) rest
 
+-- the first that passes, passes and is not below the start
 pub first_number : (p : ℕ → Bool) (n k t : ℕ) (ts : List ℕ) → filter p (numbers_from n k) ≡ t ∷ ts → (n ≤ t) × (p t ≡ true)
 first_number p n zero t ts e = absurd (cc)
 first_number p n (suc k) t ts e =
@@ -44,6 +45,7 @@ first_number_gone p q n (suc k) t ts e h g =
           rw m (first_number_gone p q (suc n) k t ts e' h g))
     ]
 
+-- where none passes
 pub no_number : (p : ℕ → Bool) (n k t : ℕ) → filter p (numbers_from n k) ≡ [] → n ≤ t → t < n + k → p t ≡ false
 no_number p n zero t e a b = absurd (omega arith)
 no_number p n (suc k) t e a b =
@@ -84,6 +86,7 @@ is_of_tx t (End s) e = eqb-true s.tx t e
 is_of_tx t CheckpointBegin e = absurd (false≢true e)
 is_of_tx t (CheckpointEnd n ts d) e = absurd (false≢true e)
 
+-- a transaction of the log is below the bound
 pub tx_below : (t : ℕ) (log : History) → has (is_of t) log ≡ true → t < above_all log
 tx_below t start e = absurd (false≢true e)
 tx_below t (log ▸ r) e =
@@ -92,6 +95,7 @@ tx_below t (log ▸ r) e =
       | inr i ↦ omega (arith, tx_below t log i)
     ]
 
+-- one record more of a transaction of the log leaves the bound
 pub above_all_same : (log : History) (r : LogRecord) → has (is_of (tx_of r)) log ≡ true → above_all (log ▸ r) ≡ above_all log
 above_all_same log r h = omega (arith, tx_below (tx_of r) log h)
 
@@ -100,6 +104,7 @@ pub lowest_below : (n m : ℕ) (ms : List ℕ) → n ≢ m → is_lowest n (m �
 lowest_below n m [] h = ne_eqb n m h
 lowest_below n m (k ∷ ms) h = refl
 
+-- what is above all is not the lowest, unless it is alone
 pub not_lowest : (n : ℕ) (ms : List ℕ) → Falls n ms → is_lowest n ms ≡ false
 not_lowest n [] f = refl
 not_lowest n (m ∷ []) f = ne_eqb n m (λ e. omega (arith, f.0))
@@ -109,6 +114,7 @@ pub lowest_on_top : (n : ℕ) (ms : List ℕ) → Falls n ms → is_lowest n (n 
 lowest_on_top n [] f = eq-eqb n n refl
 lowest_on_top n (m ∷ ms) f = not_lowest n (m ∷ ms) f
 
+-- what is above all is not among them
 pub not_among : (n : ℕ) (ms : List ℕ) → Falls n ms → is_among n ms ≡ false
 not_among n [] f = refl
 not_among n (m ∷ ms) f = or_from (eqb n m) (is_among n ms) (ne_eqb n m (λ e. omega (arith, f.0))) (lower n m ms (omega (arith, f.0)) f.1)
@@ -127,6 +133,7 @@ pub Each-more : (P Q : ℕ → UpdateRecord → Type 0) (xs : List (ℕ × Updat
 Each-more P Q [] h e = tt
 Each-more P Q (x ∷ xs) h e = (h x.0 x.1 e.0, Each-more P Q xs h e.1)
 
+-- their LSNs are of the log
 pub updates_within : (p : ℕ → UpdateRecord → Bool) (log : History) → Each (λ n u. n ≤ size log) (updates_where p log)
 updates_within p start = tt
 updates_within p (log ▸ Update u) =
@@ -158,6 +165,7 @@ Leading-more p log r x xs off l =
           ];
     }
 
+-- the first that passes is the newest
 pub leading : (p : ℕ → UpdateRecord → Bool) (log : History) (x : ℕ × UpdateRecord) (xs : List (ℕ × UpdateRecord)) → updates_where p log ≡ x ∷ xs → Leading p log x xs
 leading p start x xs e = absurd (cc)
 leading p (log ▸ Update u) x xs e =
@@ -184,6 +192,7 @@ leading p (log ▸ End s) x xs e = Leading-more p log (End s) x xs (λ w f. absu
 leading p (log ▸ CheckpointBegin) x xs e = Leading-more p log CheckpointBegin x xs (λ w f. absurd (cc)) (leading p log x xs e)
 leading p (log ▸ CheckpointEnd n ts d) x xs e = Leading-more p log (CheckpointEnd n ts d) x xs (λ w f. absurd (cc)) (leading p log x xs e)
 
+-- where two tests agree they choose the same
 pub updates_same : (p q : ℕ → UpdateRecord → Bool) (log : History) → ((m : ℕ) (w : UpdateRecord) → m ≤ size log → q m w ≡ p m w) → updates_where q log ≡ updates_where p log
 updates_same p q start h = refl
 updates_same p q (log ▸ Update u) h =
@@ -212,6 +221,7 @@ first_update_gone p q (log ▸ Update u) x xs e h g =
 first_update_gone p q (log ▸ Compensation _) x xs e h g = first_update_gone p q log x xs e h g
 first_update_gone p q (log ▸ _) x xs e h g = first_update_gone p q log x xs e h g
 
+-- where no update passes
 pub no_update : (p : ℕ → UpdateRecord → Bool) (log : History) (m : ℕ) (w : UpdateRecord) → updates_where p log ≡ [] → record_at log m ≡ Some (Update w) → p m w ≡ false
 no_update p start m w e f = absurd (cc)
 no_update p (log ▸ r) m w e f =

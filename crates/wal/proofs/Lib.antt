@@ -17,5 +17,12 @@ pub mod Rollback
 pub mod Steps
 pub mod Cuts
 pub mod Lists
+pub mod Pages
 pub mod Redone
+pub mod Actions
+pub mod Undone
+pub mod Appended
+pub mod Settled
+pub mod CutBytes
 pub mod Rows
+pub mod Counterexamples

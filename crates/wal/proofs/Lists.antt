@@ -30,7 +30,7 @@ tail_settles records h =
     }
 
 -- a beginning that has all of the first list
-take-append-ge : (n : ℕ) (xs ys : List LogRecord) → length xs ≤ n → take n (xs ++ ys) ≡ xs ++ take (n - length xs) ys
+pub take-append-ge : (n : ℕ) (xs ys : List LogRecord) → length xs ≤ n → take n (xs ++ ys) ≡ xs ++ take (n - length xs) ys
 take-append-ge n xs ys h = ap (λ m. take m (xs ++ ys)) (omega arith) ∙ take-append-add xs ys (n - length xs)
 
 pub cuts_resume : CutsResume
@@ -49,10 +49,12 @@ cuts_resume records n h le =
 abbrev Each : History → List LogRecord → Type 0
 Each log xs = (i : ℕ) (d : LogRecord) → i < length xs → Obeys (log ▸▸ take i xs) (get_or xs i d)
 
-lawful_before : (log : History) (xs : List LogRecord) → IsLawful (log ▸▸ xs) → IsLawful log
+-- a beginning of a lawful log is lawful
+pub lawful_before : (log : History) (xs : List LogRecord) → IsLawful (log ▸▸ xs) → IsLawful log
 lawful_before log [] h = h
 lawful_before log (x ∷ xs) h = (lawful_before (log ▸ x) xs h).0
 
+-- the laws record by record, and back
 each_of_lawful : (log : History) (xs : List LogRecord) → IsLawful (log ▸▸ xs) → Each log xs
 each_of_lawful log [] h zero d l = absurd (omega arith)
 each_of_lawful log [] h (suc i) d l = absurd (omega arith)

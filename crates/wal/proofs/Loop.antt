@@ -1,7 +1,7 @@
 -- Reading frames one after the other, as a loop does.
 use Rattle.std.proofs.Common.{◌≡◌, ℕ, suc, ◌-◌, ◌+◌, ◌≤◌, ◌<◌, ◌⊎◌, inl, inr, Bool, true, false, ◌||◌, cond, eqb, ltb, List, [], ◌∷◌, ◌++◌, length, drop, Option, Some, None, Result, Ok, Err, refl, sym, ap, ap₂, ◌∙◌, append_assoc, arith, eqb-true, map}
 use Rattle.std.specs.Prelude.{All, is_some, option_map, unwrap_or}
-use Rattle.std.proofs.lemmas.Bool.{ltb-false}
+use Rattle.std.proofs.lemmas.Bool.{ltb-false, or_parts}
 use Rattle.std.proofs.lemmas.List.{append-nil, map_push, length-drop, drop-drop}
 use Rattle.std.proofs.lemmas.List.Elements.{All-push}
 use Rattle.page.specs.declared.fault.Fault.{Fault}
@@ -36,10 +36,6 @@ judged_is lsn offset size (Some y) x e =
       | inr p ↦ absurd cc
     ]
 
-pub or_false : (a b : Bool) → (a || b) ≡ false → (a ≡ false) × (b ≡ false)
-or_false true b e = absurd cc
-or_false false b e = (refl, e)
-
 pub next_is : (lsn offset : ℕ) (bytes : List ℕ) (r : LogRecord) (size : ℕ) → next_at lsn offset bytes ≡ Ok (Some (r, size)) → Found lsn bytes r size
 unfolding next_at
 next_is lsn offset bytes r size e =
@@ -52,7 +48,7 @@ next_is lsn offset bytes r size e =
                 elim (chosen (ltb (length bytes) (4 + length_of bytes)) _ _ _ q.1) [
                   | inl w ↦ absurd cc
                   | inr w ↦
-                      (let bounds = or_false (ltb (length_of bytes) 9) (ltb 70681 (length_of bytes)) q.0 in
+                      (let bounds = or_parts (ltb (length_of bytes) 9) (ltb 70681 (length_of bytes)) q.0 in
                       let found = judged_is lsn offset (4 + length_of bytes) (frame_at bytes) (r, size) w.1 in
                       record {
                         size_is = found.1;

@@ -57,6 +57,7 @@ abbrev pub undone : History → ℕ → ℕ → List ℕ → Image → Image
 undone log page slot [] v = v
 undone log page slot (n ∷ ns) v = undone log page slot ns (undo_at (record_at log n) page slot v)
 
+-- a longer log changes nothing
 undone_more : (log : History) (r : LogRecord) (page slot : ℕ) (ns : List ℕ) (v : Image) → Falls (suc (size log)) ns → undone (log ▸ r) page slot ns v ≡ undone log page slot ns v
 undone_more log r page slot [] v f = refl
 undone_more log r page slot (n ∷ ns) v f =
@@ -89,6 +90,7 @@ same_committed log r h (Update u) = ap (λ b. b || committed u.tx log) (h u.tx)
 same_committed log r h (Compensation c) = ap (λ b. b || committed c.tx log) (h c.tx)
 same_committed log r h _ = refl
 
+-- a record that is no commit and counts for nobody
 pub winners_more : (log : History) (r : LogRecord) (page slot : ℕ) → ((t : ℕ) → is_commit_of t r ≡ false) → (writes page slot r && is_of_committed log r) ≡ false → winners (log ▸ r) page slot ≡ winners log page slot
 winners_more log r page slot h e =
     let e' : (writes page slot r && is_of_committed (log ▸ r) r) ≡ false = ap (λ b. writes page slot r && b) (same_committed log r h r) ∙ e in
@@ -289,6 +291,7 @@ restored_is_winners (log ▸ End s) h page slot = restored_end log h.0 page slot
 restored_is_winners (log ▸ r) h page slot =
     restored_same log h.0 page slot (restored_is_winners log h.0 page slot) r refl refl (λ t _ v. undone_plain log h.0 page slot (restored_is_winners log h.0 page slot) r t refl v) (winners_more log r page slot (λ _. refl) refl)
 
+-- who touched a cell has a record
 touches_has : (t page slot : ℕ) (log : History) → touches t page slot log ≡ true → has (is_of t) log ≡ true
 touches_has t page slot start w = w
 touches_has t page slot (log ▸ r) w =

@@ -1,44 +1,48 @@
 -- The definitions on worked examples.
 use Rattle.std.proofs.lemmas.Bool.{both_ways, false≢true, or_from, and_right}
 use Rattle.std.proofs.Common.{eqb, ne_eqb, sym, ◌∙◌, ◌&&◌, ◌||◌, true, false, inl, inr, ◌≢◌, ◌<◌, ℕ, zero, suc, ◌≡◌, ◌≤◌, [], ◌∷◌, ◌++◌, List, Option, Some, None, refl, arith}
-use Rattle.std.specs.Prelude.{replicate}
+use Rattle.std.specs.Prelude.{replicate, take, slice_index_or}
 use Rattle.std.proofs.lemmas.List.Elements.{All-from_recursion}
 use Rattle.page.specs.Image.{Image}
 use Rattle.page.specs.declared.page.Page.{Page}
-use Rattle.page.specs.Store.{StoreContent}
+use Rattle.page.specs.Store.{StoreContent, AreNumbered}
 use Rattle.wal.specs.declared.record.State.TheVariants.{Active}
 use Rattle.wal.specs.Records.{TableEntry, LogRecord, Update, Compensation, Commit, Abort, End, CheckpointBegin, CheckpointEnd, history, record_at}
 use Rattle.wal.specs.Meaning.{winners, touches}
 use Rattle.wal.specs.Laws.{IsLawful}
 use Rattle.wal.specs.Tail.{tail_of}
 use Rattle.wal.specs.Hops.{hops}
+use Rattle.wal.specs.Undo.{undone_by}
 use Rattle.wal.specs.Redo.{redo_of, applied, rec_lsn_of}
-use Rattle.wal.specs.Store.{PageLaw, DirtyLaw, NamesPages, Lawful, first_end, store_out}
-use Rattle.wal.specs.Reads.{log_text}
+use Rattle.wal.specs.Store.{PageLaw, DirtyLaw, NamesPages, Lawful, Cut, first_end, store_out}
+use Rattle.wal.specs.Reads.{log_text, Reads}
+use Rattle.wal.specs.Spelling.{frame, Fits}
+use Rattle.wal.specs.Theorems.{GoesOn}
+use Rattle.wal.proofs.CutBytes.{cuts_settle}
 use Rattle.wal.proofs.Fields.{some_is}
 
-abbrev a : Image
+abbrev pub a : Image
 a = Some (97 ∷ [])
 
-abbrev b : Image
+abbrev pub b : Image
 b = Some (98 ∷ [])
 
-abbrev c : Image
+abbrev pub c : Image
 c = Some (99 ∷ [])
 
-abbrev U : ℕ → ℕ → ℕ → Image → Image → LogRecord
+abbrev pub U : ℕ → ℕ → ℕ → Image → Image → LogRecord
 U tx prev slot before after = Update (record { tx = tx; prev = prev; page = 0; slot = slot; before = before; after = after })
 
-abbrev C : ℕ → ℕ → ℕ → ℕ → Image → LogRecord
+abbrev pub C : ℕ → ℕ → ℕ → ℕ → Image → LogRecord
 C tx prev undo_next slot image = Compensation (record { tx = tx; prev = prev; page = 0; slot = slot; undo_next = undo_next; image = image })
 
-abbrev K : ℕ → ℕ → LogRecord
+abbrev pub K : ℕ → ℕ → LogRecord
 K tx prev = Commit (record { tx = tx; prev = prev })
 
-abbrev A : ℕ → ℕ → LogRecord
+abbrev pub A : ℕ → ℕ → LogRecord
 A tx prev = Abort (record { tx = tx; prev = prev })
 
-abbrev E : ℕ → ℕ → LogRecord
+abbrev pub E : ℕ → ℕ → LogRecord
 E tx prev = End (record { tx = tx; prev = prev })
 
 -- a transaction that commits
@@ -52,6 +56,10 @@ one_loser = refl
 -- two losers, undone in descending LSN
 two_losers : tail_of (U 1 0 0 None a ∷ U 2 0 1 None b ∷ U 1 1 0 a c ∷ []) ≡ C 1 3 1 0 a ∷ C 2 2 0 1 None ∷ E 2 5 ∷ C 1 4 0 0 None ∷ E 1 7 ∷ []
 two_losers = refl
+
+-- cut within the tail, the rest of it is left to write
+two_losers_cut : tail_of (take 5 (U 1 0 0 None a ∷ U 2 0 1 None b ∷ U 1 1 0 a c ∷ C 1 3 1 0 a ∷ C 2 2 0 1 None ∷ E 2 5 ∷ C 1 4 0 0 None ∷ E 1 7 ∷ [])) ≡ E 2 5 ∷ C 1 4 0 0 None ∷ E 1 7 ∷ []
+two_losers_cut = refl
 
 -- rolled back in part, and gone on
 partial_rollback_loser : tail_of (U 1 0 0 None a ∷ U 1 1 0 a b ∷ C 1 2 1 0 a ∷ U 1 3 0 a c ∷ []) ≡ C 1 4 3 0 a ∷ C 1 5 0 0 None ∷ E 1 6 ∷ []
@@ -111,10 +119,10 @@ one_commit_text = refl
 
 -- ---- pages
 
-abbrev holding : ℕ → Image → Page
+abbrev pub holding : ℕ → Image → Page
 holding lsn value = record { number = 0; lsn = lsn; slots = value ∷ replicate 15 None }
 
-abbrev store_of : ℕ → Page → StoreContent
+abbrev pub store_of : ℕ → Page → StoreContent
 store_of master page = record { master = master; pages = page ∷ [] }
 
 -- the winner's value, with its PageLSN
@@ -132,6 +140,10 @@ loser_flushed = refl
 loser_not_flushed : redo_of (Some 1) 1 (history (U 1 0 0 None a ∷ [])) (holding 0 None) ≡ holding 1 a
 loser_not_flushed = refl
 
+-- with the record at PageLSN there, the two behind it
+partial_rollback_redone : redo_of (Some 3) 3 (history (U 1 0 0 None a ∷ U 1 1 0 a b ∷ C 1 2 1 0 a ∷ U 1 3 0 a c ∷ [])) (holding 2 b) ≡ holding 4 c
+partial_rollback_redone = refl
+
 -- ---- hops
 
 -- over the part that was rolled back
@@ -142,10 +154,17 @@ partial_rollback_hops = refl
 clr_points_past_zero : hops 1 (history (U 1 0 0 None a ∷ C 1 1 2 0 None ∷ [])) 2 ≡ record { met = []; ends = 2 }
 clr_points_past_zero = refl
 
--- ---- checkpoints
-
 abbrev active : ℕ → ℕ → ℕ → TableEntry
 active tx last undo_next = record { tx = tx; state = Active; last = last; undo_next = undo_next }
+
+-- what undo appends by a table that is true, and by one that is not
+partial_rollback_undone : undone_by (history (U 1 0 0 None a ∷ U 1 1 0 a b ∷ C 1 2 1 0 a ∷ U 1 3 0 a c ∷ [])) (active 1 4 4 ∷ []) ≡ C 1 4 3 0 a ∷ C 1 5 0 0 None ∷ E 1 6 ∷ []
+partial_rollback_undone = refl
+
+partial_rollback_misled : undone_by (history (U 1 0 0 None a ∷ U 1 1 0 a b ∷ C 1 2 1 0 a ∷ U 1 3 0 a c ∷ [])) (active 1 4 3 ∷ []) ≡ C 1 4 0 0 None ∷ E 1 5 ∷ []
+partial_rollback_misled = refl
+
+-- ---- checkpoints
 
 abbrev checkpoint_loser : List LogRecord
 checkpoint_loser = U 1 0 0 None a ∷ CheckpointBegin ∷ CheckpointEnd 2 (active 1 1 1 ∷ []) ((0, 1) ∷ []) ∷ []
@@ -192,3 +211,61 @@ checkpoint_loser_lawful = record {
         (record { range = λ rec_lsn e. checkpoint_loser_range rec_lsn e; covers = λ lsn r le e on. inr (1, refl, checkpoint_loser_covers lsn r e) }, tt);
   });
 }
+
+-- ---- an interrupted restart
+
+fits_update : Fits (U 1 0 0 None a)
+fits_update = record { some_tx = omega arith; tx = omega arith; prev = omega arith; page = omega arith; slot = omega arith; before = tt; after = omega arith }
+
+fits_compensation : Fits (C 1 1 0 0 None)
+fits_compensation = record { some_tx = omega arith; tx = omega arith; prev = omega arith; page = omega arith; slot = omega arith; undo_next = omega arith; image = tt }
+
+fits_tables : Fits (CheckpointEnd 2 (active 1 1 1 ∷ []) ((0, 1) ∷ []))
+fits_tables = record {
+  begin_fits = omega arith;
+  transactions_fit = record { few = omega arith; each = (record { some_tx = omega arith; tx = omega arith; last = omega arith; undo_next = omega arith }, tt); rising = tt };
+  dirty_fit = record { few = omega arith; each = (record { page = omega arith; rec_lsn = omega arith }, tt); rising = tt };
+}
+
+-- the log as it was, and with the CLR of its tail
+checkpoint_loser_reads : Reads (log_text checkpoint_loser) checkpoint_loser 0
+checkpoint_loser_reads = record { tail = []; text = refl; torn_tail = inl (omega arith); torn_count = refl; each = (fits_update, (tt, (fits_tables, tt))); few = omega arith }
+
+abbrev checkpoint_loser_undone : List LogRecord
+checkpoint_loser_undone = checkpoint_loser ++ C 1 1 0 0 None ∷ []
+
+checkpoint_loser_cut : Cut checkpoint_loser (store_of 2 (holding 0 None)) (log_text checkpoint_loser_undone) (store_of 2 (holding 4 None))
+checkpoint_loser_cut = record {
+  written = frame (C 1 1 0 0 None) 4;
+  missing = frame (E 1 4) 5;
+  begins = refl;
+  ends = refl;
+  whole = checkpoint_loser_undone;
+  torn = 0;
+  reads = record { tail = []; text = refl; torn_tail = inl (omega arith); torn_count = refl; each = (fits_update, (tt, (fits_tables, (fits_compensation, tt)))); few = omega arith };
+  master = refl;
+  count = refl;
+  pages = All-from_recursion (PageLaw (history checkpoint_loser_undone)) (holding 4 None ∷ []) (record { within = omega arith; on_page = inr (C 1 1 0 0 None, refl, refl); slots_are = refl }, tt);
+  not_older = not_older;
+}
+  where
+    not_older : (i : ℕ) (d : Page) → i < 1 → (slice_index_or (holding 0 None ∷ []) i d).lsn ≤ (slice_index_or (holding 4 None ∷ []) i d).lsn
+    not_older zero d lt = omega arith
+    not_older (suc i) d lt = absurd (omega arith)
+
+one_page_numbered : (page : Page) → page.number ≡ 0 → AreNumbered (page ∷ [])
+one_page_numbered page e = record { some = omega arith; few = omega arith; at_place = at_place }
+  where
+    at_place : (i : ℕ) (d : Page) → i < 1 → (slice_index_or (page ∷ []) i d).number ≡ i
+    at_place zero d lt = e
+    at_place (suc i) d lt = absurd (omega arith)
+
+-- it goes on to the end record alone
+checkpoint_loser_goes_on : GoesOn checkpoint_loser (store_of 2 (holding 0 None)) checkpoint_loser_undone (store_of 2 (holding 4 None))
+unfolding checkpoint_loser_cut
+checkpoint_loser_goes_on =
+    cuts_settle checkpoint_loser (store_of 2 (holding 0 None)) (log_text checkpoint_loser) 0 (log_text checkpoint_loser_undone) (store_of 2 (holding 4 None)) checkpoint_loser_reads
+    (one_page_numbered (holding 0 None) refl) (one_page_numbered (holding 4 None) refl) checkpoint_loser_lawful checkpoint_loser_cut
+
+checkpoint_loser_rest : tail_of checkpoint_loser_undone ≡ E 1 4 ∷ []
+checkpoint_loser_rest = refl

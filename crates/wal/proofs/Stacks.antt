@@ -11,6 +11,7 @@ abbrev pub Falls : ℕ → List ℕ → Type 0
 Falls b [] = Unit {0}
 Falls b (n ∷ ns) = (n < b) × Falls n ns
 
+-- below a larger bound too
 pub Falls-more : (a b : ℕ) (ns : List ℕ) → a ≤ b → Falls a ns → Falls b ns
 Falls-more a b [] h f = tt
 Falls-more a b (n ∷ ns) h f = (omega (arith, f.0), f.1)
@@ -19,6 +20,7 @@ pub Falls-drop : (b : ℕ) (ns : List ℕ) → Falls b ns → Falls b (drop 1 ns
 Falls-drop b [] f = tt
 Falls-drop b (n ∷ ns) f = Falls-more n b ns (omega (arith, f.0)) f.1
 
+-- each of them is below the bound
 pub Falls-among : (b n : ℕ) (ns : List ℕ) → Falls b ns → is_among n ns ≡ true → n < b
 Falls-among b n [] f h = absurd (false≢true h)
 Falls-among b n (m ∷ ns) f h =
@@ -27,6 +29,7 @@ Falls-among b n (m ∷ ns) f h =
       | inr e ↦ omega (arith, Falls-among m n ns f.1 e, f.0)
     ]
 
+-- what is pending falls
 pub pending_falls : (t : ℕ) (log : History) → Falls (suc (size log)) (pending t log)
 pending_falls t start = tt
 pending_falls t (log ▸ Update u) =
@@ -47,6 +50,7 @@ IsUpdateOf t log n = (u : UpdateRecord) × (record_at log n ≡ Some (Update u))
 IsUpdateOf-more : (t : ℕ) (log : History) (r : LogRecord) (n : ℕ) → IsUpdateOf t log n → IsUpdateOf t (log ▸ r) n
 IsUpdateOf-more t log r n p = (p.0, record_more log r n (Update p.0) p.1, p.2)
 
+-- what is left was there
 among_drop : (n : ℕ) (ns : List ℕ) → is_among n (drop 1 ns) ≡ true → is_among n ns ≡ true
 among_drop n [] h = h
 among_drop n (m ∷ ns) h = or_right (eqb n m) (is_among n ns) h

@@ -11,11 +11,13 @@ use Rattle.wal.proofs.Histories.{record_last, record_more}
 abbrev pub Walks : ℕ → History → ℕ → List ℕ → Type 0
 Walks t log n ms = hops t log n ≡ record { met = ms; ends = 0 }
 
+-- a walk that is not sent to the last record
 pub hops_other : (t : ℕ) (log : History) (r : LogRecord) (n : ℕ) → eqb n (suc (size log)) ≡ false → hops t (log ▸ r) n ≡ hops t log n
 hops_other t log (Update u) n e = rw e
 hops_other t log (Compensation c) n e = rw e
 hops_other t log _ n e = rw e
 
+-- a walk sent into the log before
 hops_older : (t : ℕ) (log : History) (r : LogRecord) (n : ℕ) → n ≤ size log → hops t (log ▸ r) n ≡ hops t log n
 hops_older t log r n h = hops_other t log r n (ne_eqb n (suc (size log)) (λ e. omega arith))
 
@@ -28,6 +30,7 @@ ends_within t (log ▸ r) n h =
       | inr e ↦ omega (arith, ends_within t log n (sym (ap (λ w. w.ends) (hops_other t log r n e)) ∙ h))
     ]
 
+-- a good walk starts in the log
 walk_within : (t : ℕ) (log : History) (n : ℕ) (ms : List ℕ) → Walks t log n ms → n ≤ size log
 walk_within t log n ms w = ends_within t log n (ap (λ w. w.ends) w)
 
@@ -35,9 +38,11 @@ walk_within t log n ms w = ends_within t log n (ap (λ w. w.ends) w)
 walk_more : (t : ℕ) (log : History) (r : LogRecord) (n : ℕ) (ms : List ℕ) → Walks t log n ms → Walks t (log ▸ r) n ms
 walk_more t log r n ms w = hops_older t log r n (walk_within t log n ms w) ∙ w
 
+-- from an update on
 walk_from_update : (t : ℕ) (log : History) (u : UpdateRecord) → eqb u.tx t ≡ true → hops t (log ▸ Update u) (suc (size log)) ≡ meet (suc (size log)) (hops t log u.prev)
 walk_from_update t log u e = rw (eq-eqb (suc (size log)) (suc (size log)) refl, e)
 
+-- from a CLR on
 walk_from_compensation : (t : ℕ) (log : History) (c : CompensationRecord) → eqb c.tx t ≡ true → hops t (log ▸ Compensation c) (suc (size log)) ≡ hops t log c.undo_next
 walk_from_compensation t log c e = rw (eq-eqb (suc (size log)) (suc (size log)) refl, e)
 
@@ -50,6 +55,7 @@ pub record Meets (t : ℕ) (log : History) (m : ℕ) (ms : List ℕ) : Type 0 wh
 Meets-more : (t : ℕ) (log : History) (r : LogRecord) (m : ℕ) (ms : List ℕ) → Meets t log m ms → Meets t (log ▸ r) m ms
 Meets-more t log r m ms p = record { update = p.update; found = record_more log r m (Update p.update) p.found; goes_on = walk_more t log r p.update.prev ms p.goes_on }
 
+-- what the first update that is met tells
 pub first_met : (t : ℕ) (log : History) (n m : ℕ) (ms : List ℕ) → Walks t log n (m ∷ ms) → Meets t log m ms
 first_met t start n m ms w = absurd (let e : [] ≡ m ∷ ms = ap (λ w. w.met) w in cc)
 first_met t (log ▸ Update u) n m ms w =
@@ -92,9 +98,11 @@ pub record Leads (t : ℕ) (log : History) : Type 0 where
   pub undo_next : Walks t log (undo_next_of t log) (pending t log)
   pub last : finished t log ≡ false → aborted t log ≡ false → Walks t log (last_of t log) (pending t log)
 
+-- the same walk under other names
 walks_at : (t : ℕ) (log : History) (n m : ℕ) (ms ns : List ℕ) → n ≡ m → ms ≡ ns → Walks t log m ns → Walks t log n ms
 walks_at t log n m ms ns e f w = ap (hops t log) e ∙ w ∙ ap (λ x. record { met = x; ends = 0 }) (sym f)
 
+-- an update of the transaction itself
 leads_own_update : (log : History) (u : UpdateRecord) → Leads u.tx log → Obeys log (Update u) → Leads u.tx (log ▸ Update u)
 leads_own_update log u h o =
     let own : eqb u.tx u.tx ≡ true = eq-eqb u.tx u.tx refl in
@@ -108,6 +116,7 @@ leads_own_update log u h o =
       last = λ _ _. walks_at u.tx (log ▸ Update u) _ _ _ _ l_is p_is all;
     }
 
+-- a CLR of the transaction itself
 leads_own_compensation : (log : History) (c : CompensationRecord) → Leads c.tx log → Obeys log (Compensation c) → Leads c.tx (log ▸ Compensation c)
 leads_own_compensation log c h o =
     let own : eqb c.tx c.tx ≡ true = eq-eqb c.tx c.tx refl in
@@ -136,6 +145,7 @@ leads_same t log r u p f h =
       last = λ x y. (let (a, b, l) = f x y in rw (l, p) (walk_more t log r (last_of t log) (pending t log) (h.last a b)));
     }
 
+-- in a lawful log the walks lead to what is pending
 pub leads : (log : History) → IsLawful log → (t : ℕ) → Leads t log
 leads start h t = record { undo_next = refl; last = λ _ _. refl }
 leads (log ▸ Update u) h t =

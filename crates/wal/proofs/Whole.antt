@@ -1,11 +1,11 @@
 -- The frames that are read are the frames that stand there, and no others.
-use Rattle.std.proofs.Common.{◌≡◌, ◌≢◌, ◌⊎◌, Bool, ℕ, zero, suc, ◌+◌, ◌-◌, ◌^◌, ◌<◌, ◌≤◌, ◌||◌, true, false, ltb, eqb, eq-eqb, List, [], ◌∷◌, ◌++◌, length, take, drop, Option, Some, None, Result, Ok, Err, refl, sym, ap, ap₂, subst, ◌∙◌, append_assoc, arith, inl, inr}
+use Rattle.std.proofs.Common.{◌≡◌, ◌≢◌, ◌⊎◌, ℕ, zero, suc, ◌+◌, ◌-◌, ◌^◌, ◌<◌, ◌≤◌, ◌||◌, true, false, ltb, eqb, eq-eqb, List, [], ◌∷◌, ◌++◌, length, take, drop, Option, Some, None, Result, Ok, Err, refl, sym, ap, ap₂, subst, ◌∙◌, append_assoc, arith, inl, inr}
 use Rattle.std.specs.Prelude.{IfOk, IfErr}
 use Rattle.std.specs.List.{AllByRecursion, starts_with}
 use Rattle.std.proofs.lemmas.Slice.Eq.{starts_is}
 use Rattle.std.proofs.lemmas.Bool.Decides.{Decides-eqb}
 use Rattle.std.specs.Int.{w32, w64, from_be_bytes, to_be_bytes}
-use Rattle.std.proofs.lemmas.Bool.{eqb-false, ltb-false, ltb-true, le-ltb, lt-ltb}
+use Rattle.std.proofs.lemmas.Bool.{both_ways, or_cases, or_parts, eqb-false, ltb-false, ltb-true, le-ltb, lt-ltb}
 use Rattle.std.proofs.lemmas.List.{take_at, drop_at, take-append-drop, length-append, length-take, length-drop, drop-drop}
 use Rattle.page.specs.declared.fault.Fault.{Fault}
 use Rattle.page.specs.declared.fault.Fault.TheVariants.{NoResource, BadLogHeader, BadLength, BadRecord, BadLsn}
@@ -16,7 +16,7 @@ use Rattle.wal.specs.Spelling.{image, state, entry, dirty_page, table, body, fra
 use Rattle.wal.specs.Reading.{body_at}
 use Rattle.wal.specs.Frames.{length_of, body_of, frame_at, judged, next_at, frames_at, followed, ◌>>=◌, header, log_at, Gives, Fails}
 use Rattle.wal.specs.Reads.{spellings, IsTorn, Reads, OneReading, IsWhole, HasFault, FaultBehind, Cause}
-use Rattle.wal.proofs.Loop.{chosen, Found, next_is, or_false}
+use Rattle.wal.proofs.Loop.{chosen, Found, next_is}
 use Rattle.wal.proofs.Fields.{IsBytes, IsBytes-take, IsBytes-drop, wide32}
 use Rattle.wal.proofs.Bodies.{body_takes, body_again}
 use Rattle.wal.proofs.TableFields.{table_length}
@@ -129,7 +129,7 @@ none_torn lsn offset bytes e =
             | inr q ↦
                 elim (chosen (ltb (length bytes) (4 + length_of bytes)) _ _ _ q.1) [
                   | inl w ↦
-                      (let bounds = or_false (ltb (length_of bytes) 9) (ltb 70681 (length_of bytes)) q.0 in
+                      (let bounds = or_parts (ltb (length_of bytes) 9) (ltb 70681 (length_of bytes)) q.0 in
                       inr (ltb-false _ _ p.0, ltb-false _ _ bounds.0, ltb-false _ _ bounds.1, ltb-true _ _ w.0))
                   | inr w ↦ absurd (never_none lsn offset (4 + length_of bytes) (frame_at bytes) w.1)
                 ]
@@ -240,12 +240,6 @@ is_found view bytes (Err e) fits short given = tt
 
 -- ---- faults
 
-log_fault_is : (d e : Fault) → ◌≡◌ {A = Result (List LogRecord × ℕ) Fault} (Err d) (Err e) → d ≡ e
-log_fault_is d e h = cc
-
-true_false : ◌≡◌ {A = Bool} true false → ⊥
-true_false p = cc
-
 err_is : {B : Type 0} (d e : Fault) → ◌≡◌ {A = Result B Fault} (Err d) (Err e) → d ≡ e
 err_is d e h = cc
 
@@ -253,29 +247,19 @@ bind_err : {A B : Type 0} (r : Result A Fault) (f : A → Result B Fault) (e : F
 bind_err (Ok x) f e h = inr (x, refl, h)
 bind_err {B = B} (Err d) f e h = inl (ap (λ (k : Fault). Err k) (err_is {B = B} d e h))
 
-or_true : (a b : Bool) → (a || b) ≡ true → (a ≡ true) ⊎ (b ≡ true)
-or_true true b e = inl refl
-or_true false b e = inr e
-
-abbrev fault_of : Fault → Result (Option (LogRecord × ℕ)) Fault
-fault_of e = Err e
-
-fault_is : (d e : Fault) → fault_of d ≡ fault_of e → d ≡ e
-fault_is d e h = cc
-
 none_some : (x : LogRecord × ℕ) → ◌≡◌ {A = Option (LogRecord × ℕ)} None (Some x) → ⊥
 none_some x p = cc
 
 judged_fault : (lsn offset : ℕ) (bytes : List ℕ) (e : Fault) → IsBytes bytes → IsWhole bytes → (f : Option (LogRecord × ℕ)) → frame_at bytes ≡ f → judged lsn offset (4 + length_of bytes) f ≡ Err e → HasFault e lsn offset bytes
 judged_fault lsn offset bytes e fits whole None is h =
-    subst (λ d. HasFault d lsn offset bytes) (fault_is (BadRecord offset) e h)
+    subst (λ d. HasFault d lsn offset bytes) (err_is {B = Option (LogRecord × ℕ)} (BadRecord offset) e h)
     (refl, whole, λ r n fit lt same. none_some (r, n) (sym is ∙ ap body_at same ∙ body_again r n fit lt))
 judged_fault lsn offset bytes e fits whole (Some x) is h =
     elim (chosen (eqb x.1 lsn) _ _ _ h) [
       | inl p ↦ absurd cc
       | inr p ↦
           (let inner = body_takes (body_of bytes) x.0 x.1 (IsBytes-take (length_of bytes) (drop 4 bytes) (IsBytes-drop 4 bytes fits)) is in
-          subst (λ d. HasFault d lsn offset bytes) (fault_is (BadLsn offset) e p.1) (refl, whole, x.0, x.1, inner.1, inner.0, eqb-false _ _ p.0))
+          subst (λ d. HasFault d lsn offset bytes) (err_is {B = Option (LogRecord × ℕ)} (BadLsn offset) e p.1) (refl, whole, x.0, x.1, inner.1, inner.0, eqb-false _ _ p.0))
     ]
 
 next_fault : (lsn offset : ℕ) (bytes : List ℕ) (e : Fault) → IsBytes bytes → next_at lsn offset bytes ≡ Err e → HasFault e lsn offset bytes
@@ -286,13 +270,13 @@ next_fault lsn offset bytes e fits h =
       | inr p ↦
           elim (chosen (ltb (length_of bytes) 9 || ltb 70681 (length_of bytes)) _ _ _ p.1) [
             | inl q ↦
-                (let bad : (length_of bytes < 9) ⊎ (70681 < length_of bytes) = elim (or_true (ltb (length_of bytes) 9) (ltb 70681 (length_of bytes)) q.0) [ inl a ↦ inl (ltb-true _ _ a) | inr b ↦ inr (ltb-true _ _ b) ] in
-                subst (λ d. HasFault d lsn offset bytes) (fault_is (BadLength offset) e q.1) (refl, ltb-false _ _ p.0, bad))
+                (let bad : (length_of bytes < 9) ⊎ (70681 < length_of bytes) = elim (or_cases (ltb (length_of bytes) 9) (ltb 70681 (length_of bytes)) q.0) [ inl a ↦ inl (ltb-true _ _ a) | inr b ↦ inr (ltb-true _ _ b) ] in
+                subst (λ d. HasFault d lsn offset bytes) (err_is {B = Option (LogRecord × ℕ)} (BadLength offset) e q.1) (refl, ltb-false _ _ p.0, bad))
             | inr q ↦
                 elim (chosen (ltb (length bytes) (4 + length_of bytes)) _ _ _ q.1) [
                   | inl w ↦ absurd cc
                   | inr w ↦
-                      (let bounds = or_false (ltb (length_of bytes) 9) (ltb 70681 (length_of bytes)) q.0 in
+                      (let bounds = or_parts (ltb (length_of bytes) 9) (ltb 70681 (length_of bytes)) q.0 in
                       judged_fault lsn offset bytes e fits (ltb-false _ _ bounds.0, ltb-false _ _ bounds.1, ltb-false _ _ w.0) (frame_at bytes) refl w.1)
                 ]
           ]
@@ -336,11 +320,11 @@ unfolding log_at
 log_fault bytes e fits h =
     elim (chosen (starts_with eqb bytes header) _ _ _ h) [
       | inl p ↦ inl ((starts_is Decides-eqb bytes header (starts_with eqb bytes header) refl).0 p.0, frames_fault (length bytes) 1 8 (drop 8 bytes) e (IsBytes-drop 8 bytes fits) p.1)
-      | inr p ↦ inr (p.0, log_fault_is BadLogHeader e p.1)
+      | inr p ↦ inr (p.0, err_is {B = List LogRecord × ℕ} BadLogHeader e p.1)
     ]
 
 no_header : (bytes : List ℕ) → starts_with eqb bytes header ≡ false → (rest : List ℕ) → bytes ≢ header ++ rest
-no_header bytes e rest text = absurd (true_false (sym ((starts_is Decides-eqb bytes header (starts_with eqb bytes header) refl).1 rest text) ∙ e))
+no_header bytes e rest text = both_ways (starts_with eqb bytes header) e ((starts_is Decides-eqb bytes header (starts_with eqb bytes header) refl).1 rest text)
 
 cause : (bytes : List ℕ) (e : Fault) → IsBytes bytes → Fails e (log_at bytes) → Cause bytes e
 cause bytes NoResource fits h = tt

@@ -5,6 +5,7 @@ pub mod Tail
 pub mod Hops
 pub mod Redo
 pub mod Store
+pub mod Undo
 pub mod Spelling
 pub mod Reading
 pub mod Frames

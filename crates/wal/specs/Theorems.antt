@@ -1,13 +1,16 @@
 -- What is proved of the definitions alone.
-use Rattle.std.specs.Prelude.{◌≡◌, ◌↔◌, ◌≤◌, ◌<◌, ℕ, List, [], ◌++◌, length, take, slice_index_or, true, false, Option, Some}
+use Rattle.std.specs.Prelude.{◌≡◌, ◌↔◌, ◌≤◌, ◌<◌, ℕ, List, [], ◌++◌, length, take, slice_index_or, true, false, Option, Some, All}
 use Rattle.page.specs.declared.page.Page.{Page}
+use Rattle.page.specs.Store.{StoreContent, AreNumbered}
 use Rattle.wal.specs.Records.{LogRecord, History, history, record_at}
 use Rattle.wal.specs.Meaning.{is_loser, pending, undo_next_of, replay, winners, is_on, last_on}
 use Rattle.wal.specs.Laws.{Obeys, IsLawful}
-use Rattle.wal.specs.Tail.{tail_of}
+use Rattle.wal.specs.Tail.{tail, tail_of}
 use Rattle.wal.specs.Hops.{hops}
-use Rattle.wal.specs.Redo.{is_redone, slots_in, redo_of}
-use Rattle.wal.specs.Store.{PageLaw}
+use Rattle.wal.specs.Redo.{rec_lsn_of, is_redone, slots_in, redo_of}
+use Rattle.wal.specs.Undo.{entry_for, walk_of, undone_by}
+use Rattle.wal.specs.Store.{PageLaw, true_table, Lawful, store_out, Cut}
+use Rattle.wal.specs.Reads.{Reads}
 
 -- the log of these records obeys the laws
 abbrev pub AreLawful : List LogRecord → Type 0
@@ -59,3 +62,70 @@ replayed_page log page = record { number = page; lsn = last_on page log; slots =
 abbrev pub RedoReplays : Type 0
 RedoReplays = (listed : Option ℕ) (redo_lsn : ℕ) (log : History) (image : Page)
     → PageLaw log image → SkipsNothing listed redo_lsn image.number image.lsn log → redo_of listed redo_lsn log image ≡ replayed_page log image.number
+
+-- redo reaches an LSN of a page: the page is listed from there or before, and redo_lsn lies in 1 to that LSN
+pub record IsReached (listed : Option ℕ) (redo_lsn lsn : ℕ) : Type 0 where
+  pub rec_lsn : ℕ
+  pub is_listed : listed ≡ Some rec_lsn
+  pub from_rec_lsn : rec_lsn ≤ lsn
+  pub some : 1 ≤ redo_lsn
+  pub from_redo_lsn : redo_lsn ≤ lsn
+
+-- it reaches each record on the page that its image lacks
+abbrev pub ReachesAll : List (ℕ × ℕ) → (redo_lsn : ℕ) → History → Page → Type 0
+ReachesAll dirty redo_lsn log page =
+    (lsn : ℕ) (r : LogRecord) → record_at log lsn ≡ Some r → is_on page.number r ≡ true → page.lsn < lsn → IsReached (rec_lsn_of page.number dirty) redo_lsn lsn
+
+-- By any dirty page table and redo_lsn that reach all that the images lack, redo makes each page what the log makes of it.
+abbrev pub RedoSuffices : Type 0
+RedoSuffices = (records : List LogRecord) (store : StoreContent) (dirty : List (ℕ × ℕ)) (redo_lsn : ℕ) → Lawful records store → All (ReachesAll dirty redo_lsn (history records)) store.pages
+    → All (λ page. redo_of (rec_lsn_of page.number dirty) redo_lsn (history records) page ≡ replayed_page (history records) page.number) store.pages
+
+-- On a lawful log and the true table of its losers, undo appends the tail, and no hop is bad.
+pub record UndoesAll (log : History) : Type 0 where
+  pub appended : undone_by log (true_table log) ≡ tail log
+  pub no_bad_hop : (t : ℕ) → (walk_of log (entry_for t (true_table log))).ends ≡ 0
+
+abbrev pub UndoIsTail : Type 0
+UndoIsTail = (records : List LogRecord) → AreLawful records → UndoesAll (history records)
+
+-- THE STORE
+-- A store that a restart may leave beside the first n records of the log and its tail, all of the log's among them: the count
+-- and the master stay, the pages keep the page law over these records, and none is older.
+pub record Interrupted (records : List LogRecord) (store : StoreContent) (n : ℕ) (left : StoreContent) : Type 0 where
+  pub past : length records ≤ n
+  pub numbered : AreNumbered left.pages
+  pub master : left.master ≡ store.master
+  pub count : length left.pages ≡ length store.pages
+  pub pages : All (PageLaw (history (take n (records ++ tail_of records)))) left.pages
+  pub not_older : (i : ℕ) (d : Page) → i < length store.pages → (slice_index_or store.pages i d).lsn ≤ (slice_index_or left.pages i d).lsn
+
+-- A log and a store from which a restart goes on to the same log and the same store.
+pub record GoesOn (records : List LogRecord) (store : StoreContent) (whole : List LogRecord) (left : StoreContent) : Type 0 where
+  pub lawful : Lawful whole left
+  pub same_log : whole ++ tail_of whole ≡ records ++ tail_of records
+  pub same_store : store_out whole left ≡ store_out records store
+
+-- A restart that was interrupted is lawful, and a further one goes on to the same end.
+abbrev pub RestartGoesOn : Type 0
+RestartGoesOn = (records : List LogRecord) (store : StoreContent) (n : ℕ) (left : StoreContent)
+    → AreNumbered store.pages → Lawful records store → Interrupted records store n left → GoesOn records store (take n (records ++ tail_of records)) left
+
+-- The log and its tail with the store after a restart are lawful, and a further restart leaves that store as it is.
+pub record Settled (records : List LogRecord) (store : StoreContent) : Type 0 where
+  pub lawful : Lawful (records ++ tail_of records) (store_out records store)
+  pub same_store : store_out (records ++ tail_of records) (store_out records store) ≡ store_out records store
+
+abbrev pub StoreSettles : Type 0
+StoreSettles = (records : List LogRecord) (store : StoreContent) → AreNumbered store.pages → Lawful records store → Settled records store
+
+-- Of a log that was read and its store: the whole records of a cut and its store are lawful, and a restart goes on from them to
+-- the same log and the same store.
+abbrev pub CutsSettle : Type 0
+CutsSettle = (records : List LogRecord) (store : StoreContent) (text : List ℕ) (torn : ℕ) (bytes : List ℕ) (left : StoreContent) → Reads text records torn → AreNumbered store.pages → AreNumbered left.pages
+    → Lawful records store → (c : Cut records store bytes left) → GoesOn records store c.whole left
+
+-- So a restart may be interrupted again and again: a cut of what a cut goes on to is a cut of the first log and store.
+abbrev pub CutsCompose : Type 0
+CutsCompose = (records : List LogRecord) (store : StoreContent) (text : List ℕ) (torn : ℕ) (bytes : List ℕ) (left : StoreContent) → Reads text records torn → AreNumbered store.pages → AreNumbered left.pages
+    → Lawful records store → (c : Cut records store bytes left) → (later : List ℕ) (later_left : StoreContent) → Cut c.whole left later later_left → Cut records store later later_left

@@ -1,7 +1,7 @@
 //! Laws of logs. Each function is its law: what it ensures holds of the definitions alone.
 
 ghost use Rattle.wal.specs.Reads.{OneReading};
-ghost use Rattle.wal.specs.Theorems.{LawfulByRecord, HopsMeetPending, ReplayIsWinners, TailSettles, CutsResume, RedoReplays};
+ghost use Rattle.wal.specs.Theorems.{LawfulByRecord, HopsMeetPending, ReplayIsWinners, TailSettles, CutsResume, RedoReplays, RedoSuffices, UndoIsTail, StoreSettles, RestartGoesOn, CutsSettle, CutsCompose};
 
 /// No text is two logs.
 pub fn one_reading()
@@ -37,4 +37,37 @@ pub fn cuts_resume()
 /// Redo of a page that keeps the page law, and skips nothing, makes it what the log makes of it.
 pub fn redo_replays()
     ensures { RedoReplays }
+{}
+
+/// Of a lawful log and its store, redo by any dirty page table and redo_lsn that reach all that the
+/// pages lack makes each page what the log makes of it.
+pub fn redo_suffices()
+    ensures { RedoSuffices }
+{}
+
+/// Undo by the true table of a lawful log's losers appends the tail, and no hop is bad.
+pub fn undo_is_tail()
+    ensures { UndoIsTail }
+{}
+
+/// What a restart leaves is lawful, and a further restart leaves the store as it is.
+pub fn store_settles()
+    ensures { StoreSettles }
+{}
+
+/// What a restart that was interrupted leaves is lawful, and a further restart goes on to the same log
+/// and the same store.
+pub fn restart_goes_on()
+    ensures { RestartGoesOn }
+{}
+
+/// The whole records of a cut and its store are lawful, and a restart goes on from them to the log and
+/// the store that an uninterrupted restart leaves.
+pub fn cuts_settle()
+    ensures { CutsSettle }
+{}
+
+/// A cut of what a cut goes on to is a cut of the first log and store.
+pub fn cuts_compose()
+    ensures { CutsCompose }
 {}

@@ -1,7 +1,7 @@
 //! A log that lies in bytes.
 
-ghost use Rattle.std.specs.Prelude.{◌≡◌, ◌+◌, ◌≤◌, ℕ, List, All, length, map, drop, option_map, IfErr, IfOk, IfSome, Ok};
-ghost use Rattle.wal.specs.Records.{LogRecord, history, record_at};
+ghost use Rattle.std.specs.Prelude.{◌≡◌, ◌+◌, ◌<◌, ◌≤◌, ℕ, List, All, length, map, take, drop, slice_index_or, option_map, IfErr, IfOk, IfSome, Ok};
+ghost use Rattle.wal.specs.Records.{LogRecord, ◌▸◌, history, record_at};
 ghost use Rattle.wal.specs.Frames.{IsPlace, record_of, length_of, frame_at, next_at, frames_at, log_at, Gives};
 ghost use Rattle.wal.specs.Reads.{Cause, Reads};
 ghost use Rattle.wal.specs.Spelling.{Fits};
@@ -44,6 +44,20 @@ impl<'a> Log<'a> {
         ensures fits { IfSome result (λ view. Fits (shown view)) }
     {
         record_in(self.bytes, &self.offsets, lsn)
+    }
+
+    /// The record at a place, from 0: the one whose LSN is one more.
+    pub fn nth(&self, index: u64) -> RecordView<'a>
+        requires { index < length self.now }
+        ensures item { slice_index_or self.now index (shown result) ≡ shown result }
+        ensures fits { Fits (shown result) }
+        ensures next { history (take (index + 1) self.now) ≡ history (take index self.now) ▸ shown result }
+    {
+        let _len = self.len();
+        match self.get(index + 1) {
+            Some(view) => view,
+            None => unreachable!(),
+        }
     }
 }
 

@@ -1,0 +1,131 @@
+-- Maps from numbers, read key by key.
+use Rattle.std.proofs.Common.{ℕ, suc, ◌≡◌, ◌<◌, Bool, true, false, cond, eqb, ltb, ne_eqb, eq-eqb, eqb-true, ◌+◌, List, [], ◌∷◌, length, drop, get_or, drop-cons, Option, Some, None, refl, sym, ap, ap₂, ◌∙◌, arith, inl, inr}
+use Rattle.std.specs.Prelude.{option_map, is_some}
+use Rattle.std.specs.List.{slice_get}
+use Rattle.std.proofs.lemmas.Option.{slice_get_within, get_or_from_slice_get, slice_get-get_or}
+use Rattle.wal.specs.Records.{TableEntry}
+use Rattle.std.specs.Ordering.{is_eq, nat_cmp}
+use Rattle.std.specs.declared.cmp.Ordering.TheVariants.{Equal, Greater}
+use Rattle.std.specs.Map.{lookup}
+use Rattle.std.proofs.lemmas.Bool.{cases_Bool, ltb-true}
+use Rattle.wal.specs.declared.record.Entry.{Entry}
+use Rattle.wal.specs.Content.{entry_of}
+use Rattle.wal.specs.Redo.{rec_lsn_of}
+use Rattle.wal.specs.Store.{or_else}
+use Rattle.wal.specs.Undo.{entry_for}
+use Rattle.analysis.specs.Tables.{entry_at}
+
+is_eq-cond : (b : Bool) → is_eq (cond b Equal Greater) ≡ b
+is_eq-cond true = refl
+is_eq-cond false = refl
+
+pub is_eq-nat_cmp : (x y : ℕ) → is_eq (nat_cmp x y) ≡ eqb x y
+is_eq-nat_cmp x y =
+    elim (cases_Bool (ltb x y)) [
+      | inl l ↦ (let e : eqb x y ≡ false = ne_eqb x y (λ i. omega (arith, ltb-true x y l, i)) in rw (l, e) refl)
+      | inr l ↦ rw l (is_eq-cond (eqb x y))
+    ]
+
+pub eqb-sym : (x y : ℕ) → eqb x y ≡ eqb y x
+eqb-sym x y =
+    elim (cases_Bool (eqb x y)) [
+      | inl e ↦ e ∙ sym (eq-eqb y x (sym (eqb-true x y e)))
+      | inr e ↦ by_other (eqb y x) refl e
+    ]
+  where
+    by_other : (b : Bool) → eqb y x ≡ b → eqb x y ≡ false → eqb x y ≡ eqb y x
+    by_other true f e = eq-eqb x y (sym (eqb-true y x f)) ∙ sym f
+    by_other false f e = e ∙ sym f
+
+pub entry_at-lookup : (t : ℕ) (es : List (ℕ × Entry)) → entry_at t es ≡ option_map (λ e. entry_of (t, e)) (lookup (λ k. is_eq (nat_cmp t k)) es)
+entry_at-lookup t [] = refl
+entry_at-lookup t (e ∷ es) = rw (is_eq-nat_cmp t e.0) (mapped (eqb t e.0) (entry_at-lookup t es))
+  where
+    mapped : (b : Bool) → entry_at t es ≡ option_map (λ x. entry_of (t, x)) (lookup (λ k. is_eq (nat_cmp t k)) es)
+        → cond b (Some (entry_of (t, e.1))) (entry_at t es) ≡ option_map (λ x. entry_of (t, x)) (cond b (Some e.1) (lookup (λ k. is_eq (nat_cmp t k)) es))
+    mapped true below = refl
+    mapped false below = below
+
+pub rec_lsn_of-lookup : (page : ℕ) (es : List (ℕ × ℕ)) → rec_lsn_of page es ≡ lookup (λ k. is_eq (nat_cmp page k)) es
+rec_lsn_of-lookup page [] = refl
+rec_lsn_of-lookup page (e ∷ es) = rw (is_eq-nat_cmp page e.0, eqb-sym e.0 page) (ap (λ o. cond (eqb page e.0) (Some e.1) o) (rec_lsn_of-lookup page es))
+
+-- one key changed: what the map has at a key, an entry or a RecLSN
+pub entry_at-changed : (t tx : ℕ) (old new : List (ℕ × Entry)) (w : Option Entry) → lookup (λ k. is_eq (nat_cmp t k)) new ≡ cond (is_eq (nat_cmp tx t)) w (lookup (λ k. is_eq (nat_cmp t k)) old)
+    → entry_at t new ≡ cond (eqb tx t) (option_map (λ e. entry_of (t, e)) w) (entry_at t old)
+entry_at-changed t tx old new w e =
+    entry_at-lookup t new ∙ ap (option_map (λ x. entry_of (t, x))) (e ∙ ap (λ b. cond b w (lookup (λ k. is_eq (nat_cmp t k)) old)) (is_eq-nat_cmp tx t))
+    ∙ mapped (eqb tx t)
+  where
+    mapped : (b : Bool) → option_map (λ x. entry_of (t, x)) (cond b w (lookup (λ k. is_eq (nat_cmp t k)) old)) ≡ cond b (option_map (λ x. entry_of (t, x)) w) (entry_at t old)
+    mapped true = refl
+    mapped false = sym (entry_at-lookup t old)
+
+pub rec_lsn-changed : (p page : ℕ) (old new : List (ℕ × ℕ)) (w : Option ℕ) → lookup (λ k. is_eq (nat_cmp p k)) new ≡ cond (is_eq (nat_cmp page p)) w (lookup (λ k. is_eq (nat_cmp p k)) old)
+    → rec_lsn_of p new ≡ cond (eqb page p) w (rec_lsn_of p old)
+rec_lsn-changed p page old new w e =
+    rec_lsn_of-lookup p new ∙ e ∙ ap (λ b. cond b w (lookup (λ k. is_eq (nat_cmp p k)) old)) (is_eq-nat_cmp page p) ∙ ap (λ o. cond (eqb page p) w o) (sym (rec_lsn_of-lookup p old))
+
+-- a page that is listed stays as it is
+pub listed_stays : (p page lsn : ℕ) (old : List (ℕ × ℕ)) → is_some (lookup (λ k. is_eq (nat_cmp page k)) old) ≡ true → rec_lsn_of p old ≡ or_else (rec_lsn_of p old) (cond (eqb page p) (Some lsn) None)
+listed_stays p page lsn old h =
+    elim (cases_Bool (eqb page p)) [
+      | inl e ↦
+          (let listed : is_some (rec_lsn_of p old) ≡ true = ap is_some (rec_lsn_of-lookup p old) ∙ ap (λ q. is_some (lookup (λ k. is_eq (nat_cmp q k)) old)) (sym (eqb-true page p e)) ∙ h in
+          by_listed (rec_lsn_of p old) (cond (eqb page p) (Some lsn) None) listed)
+      | inr e ↦ rw e (by_none (rec_lsn_of p old))
+    ]
+  where
+    by_listed : (o other : Option ℕ) → is_some o ≡ true → o ≡ or_else o other
+    by_listed None other e = absurd cc
+    by_listed (Some x) other e = refl
+
+    by_none : (o : Option ℕ) → o ≡ or_else o None
+    by_none None = refl
+    by_none (Some x) = refl
+
+-- one that is not is listed from there on
+pub unlisted_begins : (p page lsn : ℕ) (old new : List (ℕ × ℕ)) → is_some (lookup (λ k. is_eq (nat_cmp page k)) old) ≡ false
+    → lookup (λ k. is_eq (nat_cmp p k)) new ≡ cond (is_eq (nat_cmp page p)) (Some lsn) (lookup (λ k. is_eq (nat_cmp p k)) old)
+    → rec_lsn_of p new ≡ or_else (rec_lsn_of p old) (cond (eqb page p) (Some lsn) None)
+unlisted_begins p page lsn old new h e =
+    rec_lsn-changed p page old new (Some lsn) e ∙
+    elim (cases_Bool (eqb page p)) [
+      | inl i ↦
+          (let none : is_some (rec_lsn_of p old) ≡ false = ap is_some (rec_lsn_of-lookup p old) ∙ ap (λ q. is_some (lookup (λ k. is_eq (nat_cmp q k)) old)) (sym (eqb-true page p i)) ∙ h in
+          rw i (by_unlisted (rec_lsn_of p old) none))
+      | inr i ↦ rw i (by_none (rec_lsn_of p old))
+    ]
+  where
+    by_unlisted : (o : Option ℕ) → is_some o ≡ false → Some lsn ≡ or_else o (Some lsn)
+    by_unlisted None n = refl
+    by_unlisted (Some x) n = absurd cc
+
+    by_none : (o : Option ℕ) → o ≡ or_else o None
+    by_none None = refl
+    by_none (Some x) = refl
+
+-- LENT TABLES, from their end to their front
+pub drop-get : {X : Type 0} (xs : List X) (i : ℕ) (x : X) → slice_get xs i ≡ Some x → drop i xs ≡ x ∷ drop (i + 1) xs
+drop-get xs i x e =
+    let lt : i < length xs = slice_get_within xs i x e in
+    let n : suc i ≡ i + 1 = omega arith in
+    drop-cons xs i x lt ∙ ap₂ (λ y (k : ℕ). y ∷ drop k xs) (get_or_from_slice_get xs i x x e) n
+
+pub no_place : {X : Type 0} (xs : List X) (i : ℕ) → i < length xs → slice_get xs i ≡ None → ⊥
+no_place [] i lt e = omega arith
+no_place (x ∷ xs) i lt e = (let f : None ≡ Some (get_or (x ∷ xs) i x) = sym e ∙ slice_get-get_or (x ∷ xs) i x lt in cc)
+
+pub entry_put : (t place tx : ℕ) (entry : Entry) (table : List TableEntry) (old new : List (ℕ × Entry)) → slice_get table place ≡ Some (entry_of (tx, entry))
+    → ((t : ℕ) → entry_at t old ≡ entry_for t (drop (place + 1) table)) → entry_at t new ≡ cond (eqb tx t) (Some (entry_of (t, entry))) (entry_at t old) → entry_at t new ≡ entry_for t (drop place table)
+entry_put t place tx entry table old new there behind put =
+    put ∙ ap (cond (eqb tx t) (Some (entry_of (t, entry)))) (behind t) ∙ own (eqb tx t) refl ∙ ap (entry_for t) (sym (drop-get table place (entry_of (tx, entry)) there))
+  where
+    own : (b : Bool) → eqb tx t ≡ b → cond (eqb tx t) (Some (entry_of (t, entry))) (entry_for t (drop (place + 1) table)) ≡ entry_for t (entry_of (tx, entry) ∷ drop (place + 1) table)
+    own true e = rw e (ap (λ n. Some (entry_of (n, entry))) (sym (eqb-true tx t e)))
+    own false e = rw e refl
+
+pub page_put : (p place page rec_lsn : ℕ) (table old new : List (ℕ × ℕ)) → slice_get table place ≡ Some (page, rec_lsn)
+    → ((p : ℕ) → rec_lsn_of p old ≡ rec_lsn_of p (drop (place + 1) table)) → rec_lsn_of p new ≡ cond (eqb page p) (Some rec_lsn) (rec_lsn_of p old) → rec_lsn_of p new ≡ rec_lsn_of p (drop place table)
+page_put p place page rec_lsn table old new there behind put =
+    put ∙ ap (cond (eqb page p) (Some rec_lsn)) (behind p) ∙ ap (rec_lsn_of p) (sym (drop-get table place (page, rec_lsn) there))

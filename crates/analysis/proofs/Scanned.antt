@@ -1,0 +1,139 @@
+-- One record more, looked at.
+use Rattle.std.proofs.Common.{ℕ, suc, ◌≡◌, ◌+◌, ◌<◌, ◌≤◌, Bool, true, false, ◌||◌, cond, eqb, eq-eqb, ltb, leb, List, [], ◌∷◌, length, take, drop, take-append-drop, Option, Some, None, refl, sym, ap, ap₂, ◌∙◌, arith, inl, inr}
+use Rattle.std.proofs.Math.Bool.{and-false}
+use Rattle.std.proofs.lemmas.Bool.{cases_Bool, le-ltb, lt-ltb, le-leb, lt-leb}
+use Rattle.wal.specs.declared.record.State.{State}
+use Rattle.wal.specs.declared.record.State.TheVariants.{Active, Aborting}
+use Rattle.wal.specs.Records.{TableEntry, LogRecord, Update, Compensation, Commit, Abort, End, CheckpointBegin, CheckpointEnd, History, start, ◌▸◌, ◌▸▸◌, history, size}
+use Rattle.wal.specs.Meaning.{is_on}
+use Rattle.wal.specs.Store.{or_else, first_end, state_of}
+use Rattle.wal.proofs.Histories.{after-append, size_of_beginning}
+use Rattle.analysis.specs.Tables.{is_work_of, finishes, work_since, finished_since, base_since, undo_next_in, aborts_in, is_aborting, entry_by, analysed_entry, first_behind, analysed_rec_lsn}
+use Rattle.analysis.specs.Steps.{state_in, undo_next_of_entry, entry_after, rec_lsn_after}
+
+-- what the entry says of the state and the undo-next
+state_of-aborting : (s : State) → state_of (is_aborting s) ≡ s
+state_of-aborting Active = refl
+state_of-aborting Aborting = refl
+
+pub state_in-entry : (t : ℕ) (work : List (ℕ × LogRecord)) (base : Option TableEntry) → state_in (entry_by t work base) ≡ state_of (aborts_in work base)
+state_in-entry t [] None = refl
+state_in-entry t [] (Some e) = sym (state_of-aborting e.state)
+state_in-entry t (x ∷ work) base = refl
+
+pub undo_next-entry : (t : ℕ) (work : List (ℕ × LogRecord)) (base : Option TableEntry) → undo_next_of_entry (entry_by t work base) ≡ undo_next_in work base
+undo_next-entry t [] None = refl
+undo_next-entry t [] (Some e) = refl
+undo_next-entry t (x ∷ work) base = refl
+
+-- ONE RECORD MORE, behind m
+pub entry_more : (t m : ℕ) (base : Option TableEntry) (log : History) (r : LogRecord) → m ≤ size log
+    → analysed_entry t m base (log ▸ r) ≡ entry_after (suc (size log)) r t (analysed_entry t m base log)
+entry_more t m base log (Update u) le =
+    let behind : ltb (size log) m ≡ false = le-ltb _ _ le in
+    elim (cases_Bool (eqb u.tx t)) [
+      | inl e ↦
+          (let work = work_since t m log in
+          let b = base_since t m base log in
+          rw (behind, e) (ap (λ s. Some (record { tx = t; state = s; last = suc (size log); undo_next = suc (size log) })) (sym (state_in-entry t work b))))
+      | inr e ↦ rw (behind, e) refl
+    ]
+entry_more t m base log (Compensation c) le =
+    let behind : ltb (size log) m ≡ false = le-ltb _ _ le in
+    elim (cases_Bool (eqb c.tx t)) [
+      | inl e ↦
+          (let work = work_since t m log in
+          let b = base_since t m base log in
+          rw (behind, e) (ap (λ s. Some (record { tx = t; state = s; last = suc (size log); undo_next = c.undo_next })) (sym (state_in-entry t work b))))
+      | inr e ↦ rw (behind, e) refl
+    ]
+entry_more t m base log (Abort a) le =
+    let behind : ltb (size log) m ≡ false = le-ltb _ _ le in
+    elim (cases_Bool (eqb a.tx t)) [
+      | inl e ↦
+          (let work = work_since t m log in
+          let b = base_since t m base log in
+          rw (behind, e) (ap (λ n. Some (record { tx = t; state = Aborting; last = suc (size log); undo_next = n })) (sym (undo_next-entry t work b))))
+      | inr e ↦ rw (behind, e) refl
+    ]
+entry_more t m base log (Commit s) le =
+    let behind : ltb (size log) m ≡ false = le-ltb _ _ le in
+    elim (cases_Bool (eqb s.tx t)) [ inl e ↦ rw (behind, e) refl | inr e ↦ rw (behind, e) refl ]
+entry_more t m base log (End s) le =
+    let behind : ltb (size log) m ≡ false = le-ltb _ _ le in
+    elim (cases_Bool (eqb s.tx t)) [ inl e ↦ rw (behind, e) refl | inr e ↦ rw (behind, e) refl ]
+entry_more t m base log CheckpointBegin le = (let behind : ltb (size log) m ≡ false = le-ltb _ _ le in rw behind refl)
+entry_more t m base log (CheckpointEnd n ts d) le = (let behind : ltb (size log) m ≡ false = le-ltb _ _ le in rw behind refl)
+
+or_else-assoc : (a b c : Option ℕ) → or_else a (or_else b c) ≡ or_else (or_else a b) c
+or_else-assoc None b c = refl
+or_else-assoc (Some x) b c = refl
+
+pub rec_lsn_more : (page m : ℕ) (base : Option ℕ) (log : History) (r : LogRecord) → m ≤ size log
+    → analysed_rec_lsn page m base (log ▸ r) ≡ rec_lsn_after (suc (size log)) r page (analysed_rec_lsn page m base log)
+rec_lsn_more page m base log r le =
+    let behind : leb m (size log) ≡ true = le-leb _ _ le in
+    rw behind (or_else-assoc base (first_behind m page log) (cond (is_on page r) (Some (suc (size log))) None))
+
+-- NO RECORD behind m
+pub work_none : (t m : ℕ) (log : History) → size log ≤ m → work_since t m log ≡ []
+work_none t m start le = refl
+work_none t m (log ▸ r) le = (let e : ltb (size log) m ≡ true = lt-ltb _ _ (omega arith) in rw e refl)
+
+finished_none : (t m : ℕ) (log : History) → size log ≤ m → finished_since t m log ≡ false
+finished_none t m start le = refl
+finished_none t m (log ▸ r) le = (let e : ltb (size log) m ≡ true = lt-ltb _ _ (omega arith) in rw e refl)
+
+pub entry_none : (t m : ℕ) (base : Option TableEntry) (log : History) → size log ≤ m → analysed_entry t m base log ≡ base
+entry_none t m base log le = rw (work_none t m log le, finished_none t m log le) refl
+
+behind_none : (m page : ℕ) (log : History) → size log ≤ m → first_behind m page log ≡ None
+behind_none m page start le = refl
+behind_none m page (log ▸ r) le =
+    let older = behind_none m page log (omega arith) in
+    let e : leb m (size log) ≡ false = lt-leb m (size log) (omega arith) in
+    rw (older, e) refl
+
+or_else-none : (a : Option ℕ) → or_else a None ≡ a
+or_else-none None = refl
+or_else-none (Some x) = refl
+
+pub rec_lsn_none : (page m : ℕ) (base : Option ℕ) (log : History) → size log ≤ m → analysed_rec_lsn page m base log ≡ base
+rec_lsn_none page m base log le = rw (behind_none m page log le) (or_else-none base)
+
+-- FROM RECORD TO RECORD of a list
+pub entry_next : (t m : ℕ) (base old new : Option TableEntry) (log : History) (r : LogRecord) (lsn : ℕ) → m ≤ size log → size log + 1 ≡ lsn
+    → old ≡ analysed_entry t m base log → new ≡ entry_after lsn r t old → new ≡ analysed_entry t m base (log ▸ r)
+entry_next t m base old new log r lsn le at before after =
+    after ∙ ap₂ (λ n o. entry_after n r t o) (sym at ∙ omega arith) before ∙ sym (entry_more t m base log r le)
+
+pub rec_lsn_next : (page m : ℕ) (base old new : Option ℕ) (log : History) (r : LogRecord) (lsn : ℕ) → m ≤ size log → size log + 1 ≡ lsn
+    → old ≡ analysed_rec_lsn page m base log → new ≡ rec_lsn_after lsn r page old → new ≡ analysed_rec_lsn page m base (log ▸ r)
+rec_lsn_next page m base old new log r lsn le at before after =
+    after ∙ ap₂ (λ n o. rec_lsn_after n r page o) (sym at ∙ omega arith) before ∙ sym (rec_lsn_more page m base log r le)
+
+-- THE FIRST END
+pub first_end_none : (m : ℕ) (log : History) → size log ≤ m → first_end m log ≡ None
+first_end_none m start le = refl
+first_end_none m (log ▸ CheckpointEnd begin ts d) le =
+    let older = first_end_none m log (omega arith) in
+    let e : leb m (size log) ≡ false = lt-leb m (size log) (omega arith) in
+    rw (older, e, and-false (eqb begin m)) refl
+first_end_none m (log ▸ r) le = first_end_none m log (omega arith)
+
+pub first_end_after : (m : ℕ) (log : History) (rs : List LogRecord) (x : List TableEntry × List (ℕ × ℕ)) → first_end m log ≡ Some x → first_end m (log ▸▸ rs) ≡ Some x
+first_end_after m log [] x e = e
+first_end_after m log (CheckpointEnd begin ts d ∷ rs) x e = first_end_after m (log ▸ CheckpointEnd begin ts d) rs x (rw e refl)
+first_end_after m log (r ∷ rs) x e = first_end_after m (log ▸ r) rs x e
+
+-- the end that is met names m, and none before it does
+pub first_end_met : (records : List LogRecord) (m i : ℕ) (begin : ℕ) (ts : List TableEntry) (d : List (ℕ × ℕ)) → i < length records → m ≤ i → begin ≡ m → first_end m (history (take i records)) ≡ None
+    → history (take (i + 1) records) ≡ history (take i records) ▸ CheckpointEnd begin ts d → Some (ts, d) ≡ first_end m (history records)
+first_end_met records m i begin ts d lt le own none next =
+    let log = history (take i records) in
+    let n : size log ≡ i = size_of_beginning records i (omega arith) in
+    let named : eqb begin m ≡ true = eq-eqb begin m own in
+    let behind : leb m (size log) ≡ true = le-leb _ _ (omega (arith, n)) in
+    let here : first_end m (history (take (i + 1) records)) ≡ Some (ts, d) = ap (first_end m) next ∙ (rw (none, named, behind) refl) in
+    let whole : history records ≡ history (take (i + 1) records) ▸▸ drop (i + 1) records = ap history (sym (take-append-drop (i + 1) records)) ∙ after-append start (take (i + 1) records) (drop (i + 1) records) in
+    sym (ap (first_end m) whole ∙ first_end_after m (history (take (i + 1) records)) (drop (i + 1) records) (ts, d) here)

@@ -1,0 +1,81 @@
+-- The tables of a lawful log and its store are true.
+use Rattle.std.proofs.Common.{ℕ, suc, ◌≡◌, ◌<◌, ◌≤◌, ◌⊎◌, Bool, true, false, cond, ◌||◌, eqb, ne_eqb, eq-eqb, eqb-true, List, [], ◌∷◌, map, get_or, Option, Some, None, refl, sym, ap, ap₂, ◌∙◌, subst, arith, inl, inr}
+use Rattle.std.specs.Prelude.{All}
+use Rattle.std.proofs.lemmas.Bool.{cases_Bool, cases_eq, or_right, or_left, or_cases, both_ways}
+use Rattle.page.specs.declared.page.Page.{Page}
+use Rattle.page.specs.Store.{StoreContent}
+use Rattle.wal.specs.Records.{TableEntry, LogRecord, CheckpointBegin, History, start, ◌▸◌, history, size, record_at, first}
+use Rattle.wal.specs.Meaning.{is_loser, is_on}
+use Rattle.wal.specs.Laws.{IsLawful}
+use Rattle.wal.specs.Tail.{losers_of, is_among}
+use Rattle.wal.specs.Redo.{rec_lsn_of}
+use Rattle.wal.specs.Store.{true_entry, true_table, first_end, DirtyLaw, TablesLaw, CheckpointLaw, Lawful}
+use Rattle.wal.proofs.Histories.{record_none, record_within, first_none}
+use Rattle.wal.proofs.Undone.{true_entry_for}
+use Rattle.wal.specs.Undo.{entry_for}
+use Rattle.wal.specs.Theorems.{IsReached}
+use Rattle.analysis.specs.declared.tables.Tables.{Tables}
+use Rattle.analysis.specs.Tables.{base_of, is_begin, entry_at, analysed_entry, analysed_rec_lsn, redo_lsn_of, AreTablesOf}
+use Rattle.analysis.specs.Lawful.{loser_entry, AreTrue}
+use Rattle.analysis.proofs.Analysed.{analysis_is_true}
+use Rattle.analysis.proofs.Covered.{covered}
+
+-- THE BASE of a lawful pair is true
+pub record IsTrueBase (log : History) (pages : List Page) (m : ℕ) (transactions : List TableEntry) (dirty : List (ℕ × ℕ)) : Type 0 where
+  pub within : m ≤ size log
+  pub entries : (t : ℕ) → entry_for t transactions ≡ loser_entry (first m log) t
+  pub pages_are : All (λ page. DirtyLaw log m page.number page.lsn (rec_lsn_of page.number dirty)) pages
+
+no_base : (log : History) (pages : List Page) → IsTrueBase log pages 0 [] []
+no_base log pages = record {
+  within = omega arith;
+  entries = λ t. sym (ap (λ x. loser_entry x t) (first_none log));
+  pages_are = λ i d lt. record { range = λ rec_lsn e. absurd cc; covers = λ lsn r le e on. absurd (nothing lsn r le e) };
+}
+  where
+    nothing : (lsn : ℕ) (r : LogRecord) → lsn ≤ 0 → record_at log lsn ≡ Some r → ⊥
+    nothing lsn r le e = (let none : record_at log lsn ≡ None = record_none log lsn (inl (omega arith)) in let f : None ≡ Some r = sym none ∙ e in cc)
+
+abbrev both : List TableEntry → List (ℕ × ℕ) → Option (List TableEntry × List (ℕ × ℕ))
+both transactions dirty = Some (transactions, dirty)
+
+pair_is : (a b : List TableEntry) (c d : List (ℕ × ℕ)) → both a c ≡ both b d → (a ≡ b) × (c ≡ d)
+pair_is a b c d e =
+    let p : ◌≡◌ {A = List TableEntry × List (ℕ × ℕ)} (a, c) (b, d) = cc in
+    (ap (λ x. x.0) p, ap (λ x. x.1) p)
+
+base_is : (log : History) (m : ℕ) → (m ≡ 0 → ⊥) → record_at log m ≡ Some CheckpointBegin → base_of m log ≡ first_end m log
+base_is log m some begins = (let e : eqb m 0 ≡ false = ne_eqb m 0 some in let b : is_begin (record_at log m) ≡ true = ap is_begin begins in rw (e, b) refl)
+
+pub true_base : (log : History) (pages : List Page) (m : ℕ) (transactions : List TableEntry) (dirty : List (ℕ × ℕ)) → CheckpointLaw log pages m → base_of m log ≡ Some (transactions, dirty) → IsTrueBase log pages m transactions dirty
+true_base log pages m transactions dirty law e =
+    elim (cases_eq m 0) [
+      | inl z ↦
+          (let none : both [] [] ≡ both transactions dirty = sym (ap (λ n. base_of n log) z) ∙ e in
+          let p = pair_is [] transactions [] dirty none in
+          subst (λ n. IsTrueBase log pages n transactions dirty) (sym z) (subst (λ ts. IsTrueBase log pages 0 ts dirty) p.0 (subst (λ d. IsTrueBase log pages 0 [] d) p.1 (no_base log pages))))
+      | inr some ↦
+          elim law [
+            | inl z ↦ absurd (some z)
+            | inr tables ↦
+                (let there : both tables.transactions tables.dirty ≡ both transactions dirty = sym (base_is log m some tables.begins ∙ tables.named) ∙ e in
+                let p = pair_is tables.transactions transactions tables.dirty dirty there in
+                record {
+                  within = record_within log m CheckpointBegin tables.begins;
+                  entries = λ t. ap (entry_for t) (sym p.0 ∙ tables.transactions_are) ∙ true_entry_for (first m log) t;
+                  pages_are = subst (λ d. All (λ page. DirtyLaw log m page.number page.lsn (rec_lsn_of page.number d)) pages) p.1 tables.dirty_are;
+                })
+          ]
+    ]
+
+pub tables_true : (records : List LogRecord) (store : StoreContent) (tables : Tables) → Lawful records store → AreTablesOf records store.master tables → AreTrue records store tables
+tables_true records store tables lawful are =
+    let log = history records in
+    let base = true_base log store.pages store.master are.transactions are.dirty lawful.checkpoint are.base in
+    record {
+      losers = λ t. are.entries t ∙ ap (λ o. analysed_entry t store.master o log) (base.entries t) ∙ analysis_is_true log t store.master lawful.log base.within;
+      reaches = λ i d lt lsn r found on later.
+          let image = get_or store.pages i d in
+          subst (λ n. IsReached (rec_lsn_of image.number tables.dirty.entries) n lsn) (sym are.redo_lsn)
+          (covered log store.master image.number image.lsn (rec_lsn_of image.number are.dirty) tables.dirty.entries (base.pages_are i d lt) (are.pages image.number) lsn r found on later);
+    }

@@ -1,0 +1,24 @@
+use Rattle.std.proofs.Common.{◌≡◌, sym, subst}
+use Rattle.page.specs.Store.{StoreContent}
+use Rattle.wal.specs.Store.{Lawful}
+use Rattle.analysis.specs.declared.tables.Tables.{Tables}
+use Rattle.analysis.specs.Tables.{AreTablesOf}
+use Rattle.analysis.proofs.Truth.{tables_true}
+use Rattle.analysis.proofs.pass.analyse.Goals as goal
+
+pub returns-clause-tables : goal.returns-clause-tables
+returns-clause-tables c =
+    let base = c.in_ok-transactions.ensures.found in
+    record {
+      transactions = base.transactions;
+      dirty = base.dirty;
+      base = base.base;
+      entries = λ t. c.in_ok-scan.ensures.entries t _ (base.entries_are t);
+      pages = λ p. c.in_ok-scan.ensures.pages p _ (base.pages_are p);
+      redo_lsn = c.redo_lsn_of-redo_lsn.ensures;
+    }
+
+pub returns-clause-lawful : goal.returns-clause-lawful
+returns-clause-lawful c = λ store lawful own.
+    let made : Tables = record { transactions = c.scan.new.transactions; dirty = c.scan.new.dirty; redo_lsn = c.redo_lsn_of-redo_lsn.result } in
+    tables_true c.args.log.now store made lawful (subst (λ m. AreTablesOf c.args.log.now m made) (sym own) (returns-clause-tables c))

@@ -1,0 +1,26 @@
+use Rattle.std.proofs.Common.{◌≡◌, ◌+◌, ◌≤◌, ℕ, Option, take, sym, ap, ◌∙◌, subst, arith, length}
+use Rattle.std.proofs.lemmas.List.{length-take}
+use Rattle.wal.specs.Records.{TableEntry, History, history, size}
+use Rattle.wal.specs.Redo.{rec_lsn_of}
+use Rattle.wal.specs.Shown.{shown}
+use Rattle.wal.proofs.Histories.{size_of_list, size_of_beginning}
+use Rattle.analysis.specs.Tables.{entry_at, analysed_entry, analysed_rec_lsn}
+use Rattle.analysis.proofs.Scanned.{entry_none, rec_lsn_none, entry_next, rec_lsn_next}
+use Rattle.analysis.proofs.scan.scan.Goals as goal
+
+pub loop-index-init : goal.loop-index-init
+loop-index-init c =
+    let short : size (history (take c.args.master c.args.log.now)) ≤ c.args.master = omega (arith, size_of_list (take c.args.master c.args.log.now), length-take c.args.master c.args.log.now) in
+    (λ t base e. e ∙ sym (entry_none t c.args.master base (history (take c.args.master c.args.log.now)) short), λ p base e. e ∙ sym (rec_lsn_none p c.args.master base (history (take c.args.master c.args.log.now)) short))
+
+pub loop-index-preserved : goal.loop-index-preserved
+loop-index-preserved c =
+    let log = history (take c.loop-index.index c.args.log.now) in
+    let n : size log ≡ c.loop-index.index = size_of_beginning c.args.log.now c.loop-index.index (omega arith) in
+    let le : c.args.master ≤ size log = omega (arith, n) in
+    let at : size log + 1 ≡ c.loop-index.index + 1 = omega (arith, n) in (
+      λ t base e. entry_next t c.args.master base _ _ log (shown c.nth-view.result) (c.loop-index.index + 1) le at (c.loop-index.invariant.0 t base e) (c.in_ok-note_transaction.ensures.ok t)
+          ∙ ap (analysed_entry t c.args.master base) (sym c.nth-view.ensures.next),
+      λ p base e. rec_lsn_next p c.args.master base _ _ log (shown c.nth-view.result) (c.loop-index.index + 1) le at (c.loop-index.invariant.1 p base e) (c.in_ok-note_page.ensures.ok p)
+          ∙ ap (analysed_rec_lsn p c.args.master base) (sym c.nth-view.ensures.next),
+    )

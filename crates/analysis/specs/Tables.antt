@@ -1,0 +1,117 @@
+-- TABLES-OF. What analysis finds from a checkpoint on: last and first records, not a scan (own, for every log).
+use Rattle.std.specs.Prelude.{◌≡◌, ◌≤◌, ℕ, suc, List, [], ◌∷◌, Option, Some, None, Bool, true, false, not, ◌||◌, ◌&&◌, ◌==◌, nat_lt, nat_le, min, max, map, option_map, if◌then◌else◌}
+use Rattle.page.specs.declared.fault.Fault.{Fault}
+use Rattle.page.specs.declared.fault.Fault.TheVariants.{NoResource, BadMaster}
+use Rattle.wal.specs.declared.record.State.{State}
+use Rattle.wal.specs.declared.record.State.TheVariants.{Active, Aborting}
+use Rattle.wal.specs.declared.record.Entry.{Entry}
+use Rattle.wal.specs.Records.{TableEntry, tx_in, LogRecord, Update, Compensation, Abort, CheckpointBegin, History, start, ◌▸◌, history, size, record_at}
+use Rattle.wal.specs.Meaning.{is_commit_of, is_end_of, is_on}
+use Rattle.wal.specs.Redo.{rec_lsn_of}
+use Rattle.wal.specs.Undo.{entry_for}
+use Rattle.wal.specs.Store.{or_else, first_end, state_of}
+use Rattle.wal.specs.Content.{entry_of}
+use Rattle.analysis.specs.declared.tables.Tables.{Tables}
+
+-- THE BASE. Empty where there is no checkpoint, else the tables of the first end behind the begin that names it.
+abbrev pub is_begin : Option LogRecord → Bool
+is_begin (Some CheckpointBegin) = true
+is_begin _ = false
+
+abbrev pub base_of : ℕ → History → Option (List TableEntry × List (ℕ × ℕ))
+base_of m log = if m == 0 then Some ([], []) else if is_begin (record_at log m) then first_end m log else None
+
+-- A TRANSACTION. Its work: the updates, CLRs and aborts of it behind the LSN m and behind its last commit or end there,
+-- the newest first
+abbrev pub is_work_of : ℕ → LogRecord → Bool
+is_work_of t (Update u) = u.tx == t
+is_work_of t (Compensation c) = c.tx == t
+is_work_of t (Abort s) = s.tx == t
+is_work_of t _ = false
+
+abbrev pub finishes : ℕ → LogRecord → Bool
+finishes t r = is_commit_of t r || is_end_of t r
+
+abbrev pub work_since : ℕ → ℕ → History → List (ℕ × LogRecord)
+work_since t m start = []
+work_since t m (log ▸ r) =
+    if nat_lt (size log) m || finishes t r then []
+    else if is_work_of t r then (suc (size log), r) ∷ work_since t m log else work_since t m log
+
+-- whether it has a commit or an end behind m
+abbrev pub finished_since : ℕ → ℕ → History → Bool
+finished_since t m start = false
+finished_since t m (log ▸ r) = if nat_lt (size log) m then false else finishes t r || finished_since t m log
+
+-- the base counts where it has not finished behind m
+abbrev pub base_since : ℕ → ℕ → Option TableEntry → History → Option TableEntry
+base_since t m base log = if finished_since t m log then None else base
+
+-- the raw undo-next of the last update or CLR among its work, else the base's, else 0
+abbrev pub undo_next_in : List (ℕ × LogRecord) → Option TableEntry → ℕ
+undo_next_in [] None = 0
+undo_next_in [] (Some e) = e.undo_next
+undo_next_in ((lsn, Update u) ∷ work) base = lsn
+undo_next_in ((lsn, Compensation c) ∷ work) base = c.undo_next
+undo_next_in ((lsn, _) ∷ work) base = undo_next_in work base
+
+abbrev pub is_aborting : State → Bool
+is_aborting Active = false
+is_aborting Aborting = true
+
+-- whether an abort is among its work, or the base says so
+abbrev pub aborts_in : List (ℕ × LogRecord) → Option TableEntry → Bool
+aborts_in [] None = false
+aborts_in [] (Some e) = is_aborting e.state
+aborts_in ((lsn, Abort s) ∷ work) base = true
+aborts_in ((lsn, _) ∷ work) base = aborts_in work base
+
+-- an entry where there is work, or the base has one; LastLSN is the last of the work
+abbrev pub entry_by : ℕ → List (ℕ × LogRecord) → Option TableEntry → Option TableEntry
+entry_by t [] base = base
+entry_by t (x ∷ work) base = Some (record { tx = t; state = state_of (aborts_in (x ∷ work) base); last = x.0; undo_next = undo_next_in (x ∷ work) base })
+
+abbrev pub analysed_entry : ℕ → ℕ → Option TableEntry → History → Option TableEntry
+analysed_entry t m base log = entry_by t (work_since t m log) (base_since t m base log)
+
+-- A PAGE. The base's RecLSN, else the first record on it behind m.
+abbrev pub first_behind : ℕ → ℕ → History → Option ℕ
+first_behind m page start = None
+first_behind m page (log ▸ r) = or_else (first_behind m page log) (if nat_le m (size log) && is_on page r then Some (suc (size log)) else None)
+
+abbrev pub analysed_rec_lsn : ℕ → ℕ → Option ℕ → History → Option ℕ
+analysed_rec_lsn page m base log = or_else base (first_behind m page log)
+
+-- the smallest RecLSN, 0 counting as 1; 0 where no page is listed
+abbrev pub redo_lsn_of : List (ℕ × ℕ) → ℕ
+redo_lsn_of [] = 0
+redo_lsn_of (d ∷ []) = max 1 d.1
+redo_lsn_of (d ∷ e ∷ dirty) = min (max 1 d.1) (redo_lsn_of (e ∷ dirty))
+
+-- WHAT THE TABLES SAY
+abbrev pub entry_at : ℕ → List (ℕ × Entry) → Option TableEntry
+entry_at t [] = None
+entry_at t (e ∷ entries) = if t == e.0 then Some (entry_of (t, e.1)) else entry_at t entries
+
+-- the tables of this log behind the LSN m, key by key (a map's keys are always in order, each once)
+pub record AreTablesOf (records : List LogRecord) (m : ℕ) (tables : Tables) : Type 0 where
+  pub transactions : List TableEntry
+  pub dirty : List (ℕ × ℕ)
+  pub base : base_of m (history records) ≡ Some (transactions, dirty)
+  pub entries : (t : ℕ) → entry_at t tables.transactions.entries ≡ analysed_entry t m (entry_for t transactions) (history records)
+  pub pages : (page : ℕ) → rec_lsn_of page tables.dirty.entries ≡ analysed_rec_lsn page m (rec_lsn_of page dirty) (history records)
+  pub redo_lsn : tables.redo_lsn ≡ redo_lsn_of tables.dirty.entries
+
+-- the maps hold the base
+pub record IsBase (m : ℕ) (log : History) (entries : List (ℕ × Entry)) (pages : List (ℕ × ℕ)) : Type 0 where
+  pub transactions : List TableEntry
+  pub dirty : List (ℕ × ℕ)
+  pub base : base_of m log ≡ Some (transactions, dirty)
+  pub entries_are : (t : ℕ) → entry_at t entries ≡ entry_for t transactions
+  pub pages_are : (page : ℕ) → rec_lsn_of page pages ≡ rec_lsn_of page dirty
+
+-- why there is no base, memory aside: the master is not 0, and its record is no begin or no later end names it
+abbrev pub BaseFault : ℕ → History → Fault → Type 0
+BaseFault m log NoResource = Unit {0}
+BaseFault m log BadMaster = base_of m log ≡ None
+BaseFault m log e = ⊥

@@ -1,0 +1,122 @@
+//! The base: the tables of the checkpoint that the master names.
+
+ghost use Rattle.std.specs.Prelude.{◌≡◌, ℕ, Option, Some, None, option_map, IfOk, OnOk, IfErr, [], length, drop, ◌<◌, ◌+◌};
+ghost use Rattle.page.specs.declared.fault.Fault.TheVariants.{NoResource};
+ghost use Rattle.wal.specs.Records.{history, record_at};
+ghost use Rattle.wal.specs.Redo.{rec_lsn_of};
+ghost use Rattle.wal.specs.Store.{first_end};
+ghost use Rattle.analysis.specs.Tables.{is_begin, entry_at, IsBase, BaseFault};
+ghost use Rattle.wal.specs.Shown.{shown};
+ghost use Rattle.wal.specs.Undo.{entry_for};
+
+use page::Fault;
+use std::alloc::Global;
+use std::collections::BTreeMap;
+use wal::{DirtyTable, Entry, Log, RecordView, TransactionTable};
+
+/// The tables of the first checkpoint end behind the LSN `master` that names it.
+fn end_naming<'a>(log: &Log<'a>, master: u64) -> Option<(TransactionTable<'a>, DirtyTable<'a>)>
+    ensures { option_map (λ x. (x.0, x.1)) result ≡ first_end master (history log.now) }
+{
+    for index in master..log.len() {
+        if let RecordView::CheckpointEnd {
+            begin,
+            transactions,
+            dirty,
+        } = log.nth(index)
+        {
+            if begin == master {
+                return Some((transactions, dirty));
+            }
+        }
+    }
+    None
+}
+
+/// Whether a checkpoint begin stands at an LSN.
+fn begins(log: &Log, lsn: u64) -> bool
+    ensures { result ≡ is_begin (record_at (history log.now) lsn) }
+{
+    match log.get(lsn) {
+        Some(RecordView::CheckpointBegin) => true,
+        _ => false,
+    }
+}
+
+/// Puts the entry at a place of a lent table over those behind it.
+fn put_transaction(
+    map: &mut BTreeMap<u32, Entry>,
+    table: &TransactionTable,
+    place: usize,
+) -> Result<(), Fault>
+    requires { place < length table.now }
+    ensures ok { OnOk result (((t : ℕ) → entry_at t map.old.entries ≡ entry_for t (drop (place + 1) table.now)) → (t : ℕ) → entry_at t map.new.entries ≡ entry_for t (drop place table.now)) }
+    ensures err { IfErr result (λ e. e ≡ NoResource) }
+{
+    if let Some((tx, entry)) = table.get(place) {
+        map.insert(tx, entry)?;
+    }
+    Ok(())
+}
+
+/// The entries of a lent table as a map.
+fn transactions_of(alloc: Global, table: &TransactionTable) -> Result<BTreeMap<u32, Entry>, Fault>
+    ensures ok { IfOk result (λ map. (t : ℕ) → entry_at t map.entries ≡ entry_for t table.now) }
+    ensures err { IfErr result (λ e. e ≡ NoResource) }
+{
+    let count = table.len();
+    let mut map = BTreeMap::new(alloc);
+    for done in 0..count {
+        put_transaction(&mut map, table, count - 1 - done)?;
+    }
+    Ok(map)
+}
+
+/// Puts the entry at a place of a lent table over those behind it.
+fn put_page(map: &mut BTreeMap<u32, u64>, table: &DirtyTable, place: usize) -> Result<(), Fault>
+    requires { place < length table.now }
+    ensures ok { OnOk result (((p : ℕ) → rec_lsn_of p map.old.entries ≡ rec_lsn_of p (drop (place + 1) table.now)) → (p : ℕ) → rec_lsn_of p map.new.entries ≡ rec_lsn_of p (drop place table.now)) }
+    ensures err { IfErr result (λ e. e ≡ NoResource) }
+{
+    if let Some((page, rec_lsn)) = table.get(place) {
+        map.insert(page, rec_lsn)?;
+    }
+    Ok(())
+}
+
+/// The entries of a lent table as a map.
+fn pages_of(alloc: Global, table: &DirtyTable) -> Result<BTreeMap<u32, u64>, Fault>
+    ensures ok { IfOk result (λ map. (p : ℕ) → rec_lsn_of p map.entries ≡ rec_lsn_of p table.now) }
+    ensures err { IfErr result (λ e. e ≡ NoResource) }
+{
+    let count = table.len();
+    let mut map = BTreeMap::new(alloc);
+    for done in 0..count {
+        put_page(&mut map, table, count - 1 - done)?;
+    }
+    Ok(map)
+}
+
+/// The tables that analysis begins from: empty ones where `master` is 0, else those of the first
+/// checkpoint end behind the begin at `master` that names it. Answers `BadMaster` where there is none.
+pub fn base(
+    alloc: Global,
+    log: &Log,
+    master: u64,
+) -> Result<(BTreeMap<u32, Entry>, BTreeMap<u32, u64>), Fault>
+    ensures found { IfOk result (λ x. IsBase master (history log.now) x.0.entries x.1.entries) }
+    ensures fault { IfErr result (BaseFault master (history log.now)) }
+{
+    if master == 0 {
+        return Ok((BTreeMap::new(alloc), BTreeMap::new(alloc)));
+    }
+    if !begins(log, master) {
+        return Err(Fault::BadMaster);
+    }
+    let Some((transactions, dirty)) = end_naming(log, master) else {
+        return Err(Fault::BadMaster);
+    };
+    let transactions = transactions_of(alloc, &transactions)?;
+    let dirty = pages_of(alloc, &dirty)?;
+    Ok((transactions, dirty))
+}

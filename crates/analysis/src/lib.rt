@@ -1,0 +1,13 @@
+//! Analysis: the tables of a crash, from the last checkpoint on.
+#![tactic(auto)]
+
+mod base;
+mod pass;
+mod scan;
+mod tables;
+
+pub use pass::analyse;
+pub use tables::Tables;
+
+#[cfg(test)]
+mod tests;

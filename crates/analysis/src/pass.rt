@@ -1,0 +1,62 @@
+//! The analysis pass.
+
+ghost use Rattle.std.specs.Prelude.{◌≡◌, max, IfOk, IfErr};
+ghost use Rattle.page.specs.Store.{StoreContent};
+ghost use Rattle.wal.specs.Records.{history};
+ghost use Rattle.wal.specs.Store.{Lawful};
+ghost use Rattle.analysis.specs.Lawful.{AreTrue};
+ghost use Rattle.analysis.specs.Tables.{redo_lsn_of, AreTablesOf, BaseFault};
+ghost use Rattle.analysis.specs.Steps.{lower};
+
+use crate::Tables;
+use crate::base::base;
+use crate::scan::scan;
+use page::Fault;
+use std::alloc::Global;
+use std::collections::BTreeMap;
+use wal::Log;
+
+/// The smaller of the smallest RecLSN so far, 0 for none, and another, which counts as 1 where it is 0.
+fn lower(smallest: u64, rec_lsn: u64) -> u64
+    ensures { result ≡ lower smallest (max 1 rec_lsn) }
+{
+    let rec_lsn = rec_lsn.max(1);
+    if smallest == 0 || rec_lsn < smallest {
+        rec_lsn
+    } else {
+        smallest
+    }
+}
+
+/// The LSN from which redo looks at records: the smallest RecLSN, 0 counting as 1; 0 where no page is
+/// listed.
+fn redo_lsn_of(dirty: &BTreeMap<u32, u64>) -> u64
+    ensures { result ≡ redo_lsn_of dirty.now.entries }
+{
+    let mut smallest = 0;
+    for (_, rec_lsn) in dirty {
+        smallest = lower(smallest, *rec_lsn);
+    }
+    smallest
+}
+
+/// The tables of a crash: from the checkpoint whose begin record has the LSN `master`, 0 for none, on
+/// to the log's end. They are what last and first records say, for every log, lawful or not.
+///
+/// Answers [`Fault::BadMaster`] where `master` is not 0 and no checkpoint begin stands at it or no
+/// later checkpoint end names it; [`Fault::NoResource`] where memory was refused.
+pub fn analyse(alloc: Global, log: &Log, master: u64) -> Result<Tables, Fault>
+    ensures tables { IfOk result (AreTablesOf log.now master) }
+    // On a lawful log and its store: exactly the losers, and no record that an image lacks is skipped.
+    ensures lawful { (store : StoreContent) → Lawful log.now store → store.master ≡ master → IfOk result (AreTrue log.now store) }
+    ensures fault { IfErr result (BaseFault master (history log.now)) }
+{
+    let (mut transactions, mut dirty) = base(alloc, log, master)?;
+    scan(log, master, &mut transactions, &mut dirty)?;
+    let redo_lsn = redo_lsn_of(&dirty);
+    Ok(Tables {
+        transactions,
+        dirty,
+        redo_lsn,
+    })
+}

@@ -1,0 +1,143 @@
+-- A log file that was cut within a tail: its whole records are a beginning of the log and its tail.
+use Rattle.std.proofs.Common.{◌≡◌, ℕ, ◌+◌, ◌^◌, ◌<◌, ◌≤◌, ◌-◌, List, [], ◌∷◌, ◌++◌, length, take, Option, Some, None, Result, Ok, refl, sym, ap, ap₂, subst, ◌∙◌, append_assoc, length-append, arith}
+use Rattle.std.specs.Prelude.{All}
+use Rattle.std.specs.List.{AllByRecursion}
+use Rattle.std.proofs.lemmas.List.{append_cancel_left, length-take}
+use Rattle.page.specs.declared.fault.Fault.{Fault}
+use Rattle.page.specs.Store.{StoreContent, AreNumbered}
+use Rattle.wal.specs.Records.{LogRecord, history}
+use Rattle.wal.specs.Tail.{tail_of}
+use Rattle.wal.specs.Spelling.{body, frame, Fits}
+use Rattle.wal.specs.Frames.{header, next_at}
+use Rattle.wal.specs.Reads.{spellings, log_text, IsTorn}
+use Rattle.wal.specs.Store.{PageLaw, Lawful, Cut}
+use Rattle.wal.specs.Theorems.{Interrupted, GoesOn, CutsSettle, CutsCompose}
+use Rattle.wal.proofs.Lists.{take-append-ge}
+use Rattle.wal.proofs.Whole.{frame_next, torn_none}
+use Rattle.wal.proofs.Appended.{tail_fits}
+use Rattle.wal.proofs.Settled.{restart_goes_on}
+
+-- what is read in front
+abbrev Front : Type 0
+Front = Result (Option (LogRecord × ℕ)) Fault
+
+-- two readings of one front have one record
+same_record : (x y : LogRecord) (m n : ℕ) → ◌≡◌ {A = Front} (Ok (Some (x, m))) (Ok (Some (y, n))) → x ≡ y
+same_record x y m n e = (let p : ◌≡◌ {A = LogRecord × ℕ} (x, m) (y, n) = cc in ap (λ z. z.0) p)
+
+-- a record is not the end
+never_torn : (x : LogRecord) (m : ℕ) → ◌≡◌ {A = Front} (Ok (Some (x, m))) (Ok None) → ⊥
+never_torn x m e = cc
+
+-- the first frames of one text are one
+first_same : (x y : LogRecord) (lsn : ℕ) (a b : List ℕ) → Fits x → Fits y → lsn < 2 ^ 64 → frame x lsn ++ a ≡ frame y lsn ++ b → (x ≡ y) × (a ≡ b)
+first_same x y lsn a b fits_x fits_y lt e =
+    let same : x ≡ y = same_record x y (4 + length (body x lsn)) (4 + length (body y lsn)) (sym (frame_next x lsn 0 a fits_x lt) ∙ ap (next_at lsn 0) e ∙ frame_next y lsn 0 b fits_y lt) in
+    (same, append_cancel_left (frame y lsn) a b (sym (ap (λ z. frame z lsn ++ a) same) ∙ e))
+
+-- records whose text goes on as the text of others are a beginning of these
+beginning : (lsn : ℕ) (xs ys : List LogRecord) (rest : List ℕ) → AllByRecursion Fits (take (length ys) xs) → AllByRecursion Fits ys → lsn + length ys ≤ 2 ^ 64 → spellings lsn xs ≡ spellings lsn ys ++ rest → ys ≡ take (length ys) xs
+beginning lsn xs [] rest fits_x fits_y few e = refl
+beginning lsn [] (y ∷ ys) rest fits_x fits_y few e =
+    absurd (omega (arith, ap length e, length-append (frame y lsn ++ spellings (lsn + 1) ys) rest, length-append (frame y lsn) (spellings (lsn + 1) ys)))
+beginning lsn (x ∷ xs) (y ∷ ys) rest fits_x fits_y few e =
+    let both = first_same x y lsn (spellings (lsn + 1) xs) (spellings (lsn + 1) ys ++ rest) fits_x.0 fits_y.0 (omega (arith, few)) (e ∙ append_assoc (frame y lsn) (spellings (lsn + 1) ys) rest) in
+    ap₂ (λ (z : LogRecord) (zs : List LogRecord). z ∷ zs) (sym both.0) (beginning (lsn + 1) xs ys rest fits_x.1 fits_y.1 (omega (arith, few)) both.1)
+
+-- a text that begins with these records has as many whole ones
+as_many : (lsn : ℕ) (xs ys : List LogRecord) (more torn : List ℕ) → AllByRecursion Fits xs → AllByRecursion Fits ys → lsn + length xs ≤ 2 ^ 64 → IsTorn torn
+    → spellings lsn ys ++ torn ≡ spellings lsn xs ++ more → length xs ≤ length ys
+as_many lsn [] ys more torn fits_x fits_y few t e = omega arith
+as_many lsn (x ∷ xs) [] more torn fits_x fits_y few t e =
+    absurd
+    (never_torn x (4 + length (body x lsn))
+    (sym (frame_next x lsn 0 (spellings (lsn + 1) xs ++ more) fits_x.0 (omega (arith, few)))
+    ∙ ap (next_at lsn 0) (sym (e ∙ append_assoc (frame x lsn) (spellings (lsn + 1) xs) more))
+    ∙ torn_none lsn 0 torn t))
+as_many lsn (x ∷ xs) (y ∷ ys) more torn fits_x fits_y few t e =
+    let both = first_same y x lsn (spellings (lsn + 1) ys ++ torn) (spellings (lsn + 1) xs ++ more) fits_y.0 fits_x.0 (omega (arith, few))
+    (sym (append_assoc (frame y lsn) (spellings (lsn + 1) ys) torn) ∙ e ∙ append_assoc (frame x lsn) (spellings (lsn + 1) xs) more) in
+    omega (arith, as_many (lsn + 1) xs ys more torn fits_x.1 fits_y.1 (omega (arith, few)) t both.1)
+
+spellings-append : (lsn : ℕ) (xs ys : List LogRecord) → spellings lsn (xs ++ ys) ≡ spellings lsn xs ++ spellings (lsn + length xs) ys
+spellings-append lsn [] ys = ap (λ n. spellings n ys) (omega arith)
+spellings-append lsn (x ∷ xs) ys =
+    ap (λ (rest : List ℕ). frame x lsn ++ rest) (spellings-append (lsn + 1) xs ys ∙ ap (λ n. spellings (lsn + 1) xs ++ spellings n ys) (omega arith))
+    ∙ sym (append_assoc (frame x lsn) (spellings (lsn + 1) xs) (spellings (lsn + length (x ∷ xs)) ys))
+
+-- THE CUT
+module _ (records : List LogRecord) (store : StoreContent) (bytes : List ℕ) (left : StoreContent) (h : Lawful records store) (fits : AllByRecursion Fits records) (few : length records < 2 ^ 64)
+    (c : Cut records store bytes left) where
+  -- the cut's bytes, and then what is missing, spell the log and its tail
+  whole_first : spellings 1 (records ++ tail_of records) ≡ spellings 1 c.whole ++ (c.reads.tail ++ c.missing)
+  whole_first =
+      append_cancel_left header (spellings 1 (records ++ tail_of records)) (spellings 1 c.whole ++ (c.reads.tail ++ c.missing))
+      (c.ends ∙ ap (λ (text : List ℕ). text ++ c.missing) c.reads.text ∙ append_assoc (log_text c.whole) c.reads.tail c.missing ∙ append_assoc header (spellings 1 c.whole) (c.reads.tail ++ c.missing))
+
+  log_first : spellings 1 c.whole ++ c.reads.tail ≡ spellings 1 records ++ c.written
+  log_first =
+      append_cancel_left header (spellings 1 c.whole ++ c.reads.tail) (spellings 1 records ++ c.written)
+      (sym (append_assoc header (spellings 1 c.whole) c.reads.tail) ∙ sym c.reads.text ∙ c.begins ∙ append_assoc header (spellings 1 records) c.written)
+
+  past : length records ≤ length c.whole
+  past = as_many 1 records c.whole c.written c.reads.tail fits c.reads.each (omega (arith, few)) c.reads.torn_tail log_first
+
+  -- the records up to the cut have spellings
+  all_fit : AllByRecursion Fits (take (length c.whole) (records ++ tail_of records))
+  all_fit =
+      let k : ℕ = length c.whole - length records in
+      let e : take (length c.whole) (records ++ tail_of records) ≡ records ++ take k (tail_of records) = take-append-ge (length c.whole) records (tail_of records) past in
+      subst (λ xs. AllByRecursion Fits xs) (sym e)
+      (tail_fits records k (omega (arith, ap length e, length-take (length c.whole) (records ++ tail_of records), c.reads.few)) h.log fits)
+
+  whole_is : c.whole ≡ take (length c.whole) (records ++ tail_of records)
+  whole_is = beginning 1 (records ++ tail_of records) c.whole (c.reads.tail ++ c.missing) all_fit c.reads.each (omega (arith, c.reads.few)) whole_first
+
+  pub cut_interrupted : AreNumbered left.pages → Interrupted records store (length c.whole) left
+  cut_interrupted numbered =
+      record {
+        past = past;
+        numbered = numbered;
+        master = c.master;
+        count = c.count;
+        pages = subst (λ xs. All (PageLaw (history xs)) left.pages) whole_is c.pages;
+        not_older = c.not_older;
+      }
+
+  pub cut_goes_on : AreNumbered store.pages → AreNumbered left.pages → GoesOn records store c.whole left
+  cut_goes_on numbered left_numbered =
+      subst (λ xs. GoesOn records store xs left) (sym whole_is) (restart_goes_on records store (length c.whole) left numbered h (cut_interrupted left_numbered))
+
+  -- the text of the cut's records goes on from that of the log's
+  text_goes_on : (rest : List ℕ) → log_text c.whole ++ rest ≡ log_text records ++ (spellings (1 + length records) (take (length c.whole - length records) (tail_of records)) ++ rest)
+  text_goes_on rest =
+      let k : ℕ = length c.whole - length records in
+      let e : c.whole ≡ records ++ take k (tail_of records) = whole_is ∙ take-append-ge (length c.whole) records (tail_of records) past in
+      let f : log_text c.whole ≡ header ++ (spellings 1 records ++ spellings (1 + length records) (take k (tail_of records))) =
+      ap log_text e ∙ ap (λ (x : List ℕ). header ++ x) (spellings-append 1 records (take k (tail_of records))) in
+      ap (λ (x : List ℕ). x ++ rest) f ∙ simp append_assoc
+
+  pub cut_again : AreNumbered store.pages → AreNumbered left.pages → (later : List ℕ) (later_left : StoreContent) → Cut c.whole left later later_left → Cut records store later later_left
+  cut_again numbered left_numbered later later_left d =
+      let g = cut_goes_on numbered left_numbered in
+      record {
+        written = spellings (1 + length records) (take (length c.whole - length records) (tail_of records)) ++ d.written;
+        missing = d.missing;
+        begins = d.begins ∙ text_goes_on d.written;
+        ends = sym (ap log_text g.same_log) ∙ d.ends;
+        whole = d.whole;
+        torn = d.torn;
+        reads = d.reads;
+        master = d.master ∙ c.master;
+        count = d.count ∙ c.count;
+        pages = d.pages;
+        not_older = λ i p lt. omega (arith, c.not_older i p lt, d.not_older i p (omega (arith, c.count, lt)));
+      }
+
+-- what the cut leaves goes on, its records being a beginning
+pub cuts_settle : CutsSettle
+cuts_settle records store text torn bytes left read numbered left_numbered h c = cut_goes_on records store bytes left h read.each read.few c numbered left_numbered
+
+pub cuts_compose : CutsCompose
+cuts_compose records store text torn bytes left read numbered left_numbered h c later later_left d =
+    cut_again records store bytes left h read.each read.few c numbered left_numbered later later_left d

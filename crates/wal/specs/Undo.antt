@@ -1,0 +1,24 @@
+-- UNDO. What undo appends, for any log and any table of losers. ARIES, section 6.3 (undo pass).
+use Rattle.std.specs.Prelude.{ℕ, suc, List, [], ◌∷◌, Option, Some, None, ◌==◌, if◌then◌else◌, map}
+use Rattle.wal.specs.Records.{TableEntry, tx_in, LogRecord, History, size}
+use Rattle.wal.specs.Hops.{Walk, hops}
+use Rattle.wal.specs.Tail.{written, rollback}
+
+-- a transaction's entry in a table
+abbrev pub entry_for : ℕ → List TableEntry → Option TableEntry
+entry_for t [] = None
+entry_for t (e ∷ entries) = if e.tx == t then Some e else entry_for t entries
+
+-- the hops of its transaction from its undo-next
+abbrev pub walk_of : History → Option TableEntry → Walk
+walk_of log None = record { met = []; ends = 0 }
+walk_of log (Some e) = hops e.tx log e.undo_next
+
+abbrev pub last_in : Option TableEntry → ℕ
+last_in None = 0
+last_in (Some e) = e.last
+
+-- UNDONE. The transactions of the table are rolled back, each by the updates that its hops meet, and these records written.
+abbrev pub undone_by : History → List TableEntry → List LogRecord
+undone_by log entries =
+    written (λ t. last_in (entry_for t entries)) (suc (size log)) (rollback (map tx_in entries) (λ t. (walk_of log (entry_for t entries)).met) log)
