@@ -1,29 +1,21 @@
 //! Repeating history: the records of a log applied to empty pages.
 
-ghost use Rattle.std.specs.Prelude.{◌≡◌, ◌+◌, ◌<◌, ◌≤◌, ◌^◌, [], ℕ, All, length, take, option_map, MatchResult};
+ghost use Rattle.std.specs.Prelude.{◌≡◌, ◌+◌, ◌<◌, ◌≤◌, ◌^◌, [], ℕ, All, length, take, MatchResult};
 ghost use Rattle.page.specs.declared.page.Page.{Page};
 ghost use Rattle.wal.specs.Records.{LogRecord, History, ◌▸◌, size, history};
 ghost use Rattle.wal.specs.Meaning.{replay};
-ghost use Rattle.wal.specs.Spelling.{Fits, FitsImage};
+ghost use Rattle.wal.specs.Spelling.{Fits};
 ghost use Rattle.wal.specs.Shown.{shown};
 ghost use Rattle.aries.specs.Pages.{pages_of, has_effect, NamesBelow, first_where, count_where};
 
-use page::{Page, Value};
-use wal::{Log, RecordView};
+use page::Page;
+use wal::{Log, RecordView, value_of};
 
 /// How far a replay has come: the LSN of the first record that it applied, 0 for none, and how many.
 #[derive(Clone, Copy)]
 pub struct Replayed {
     pub from: u64,
     pub count: u64,
-}
-
-/// The value of an image that a record lends.
-fn value_of(image: Option<&[u8]>) -> Option<Value>
-    requires { FitsImage (option_map (λ s. s.now) image) }
-    ensures { result ≡ option_map (λ s. s.now) image.entry }
-{
-    Value::new(image?)
 }
 
 /// Applies the record at an LSN to its page, if it is an update or a CLR.

@@ -21,4 +21,4 @@ pub use laws::{
 };
 pub use log::{Log, read_log};
 pub use record::{Entry, Record, State};
-pub use view::{DirtyTable, RecordView, TransactionTable};
+pub use view::{DirtyTable, RecordView, TransactionTable, value_of};

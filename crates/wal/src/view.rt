@@ -271,7 +271,8 @@ impl<'a> RecordView<'a> {
     }
 }
 
-fn value_of(image: Option<&[u8]>) -> Option<Value>
+/// The value of an image that a view lends; an image of a log has at most 48 bytes.
+pub fn value_of(image: Option<&[u8]>) -> Option<Value>
     requires { IfSome image (λ bytes. length bytes.now ≤ 48) }
     ensures { result ≡ option_map (λ bytes. bytes.now) image.entry }
 {
