@@ -1,15 +1,15 @@
 -- What each law of records is for: a log that keeps the others alone, and fails.
-use Rattle.std.proofs.Common.{ℕ, ◌≡◌, ◌≢◌, ◌&&◌, ◌||◌, true, false, List, [], ◌∷◌, ◌++◌, None, refl, sym, ◌∙◌, ap, eqb, length, arith, get_or}
+use Rattle.std.proofs.Common.{ℕ, ◌≡◌, ◌≢◌, ◌&&◌, ◌||◌, true, false, List, [], ◌∷◌, ◌++◌, Option, Some, None, inl, inr, refl, sym, ◌∙◌, ap, eqb, length, arith, get_or}
 use Rattle.std.proofs.lemmas.Bool.{false≢true, or_from, and_right}
-use Rattle.wal.specs.Records.{LogRecord, History, start, ◌▸◌, history}
+use Rattle.wal.specs.Records.{LogRecord, CheckpointBegin, CheckpointEnd, History, start, ◌▸◌, history}
 use Rattle.wal.specs.Meaning.{replay, winners, pending, undo_next_of}
 use Rattle.wal.specs.Laws.{ChainLaw, FinishLaw, CompensationLaw, BeforeLaw, Strictness, Obeys}
 use Rattle.wal.specs.Tail.{tail_of}
 use Rattle.wal.specs.Hops.{hops}
 use Rattle.wal.specs.Redo.{redo_of}
-use Rattle.wal.specs.Store.{PageLaw, store_out}
+use Rattle.wal.specs.Store.{DirtyLaw, PageLaw, store_out}
 use Rattle.wal.specs.Theorems.{replayed_page}
-use Rattle.wal.proofs.Rows.{a, b, U, C, K, E, holding, store_of}
+use Rattle.wal.proofs.Rows.{a, b, U, C, K, E, holding, store_of, active}
 
 -- the laws of records
 data Law : Type 0 where
@@ -151,3 +151,11 @@ without_chain e = (let f : ◌≡◌ {A = ℕ} 1 2 = ap (λ w. length w.met) e i
 -- REDO. A page that the dirty page table leaves out, though its image lacks a record, stays as it was.
 redo_left_out : redo_of None 1 (history (U 1 0 0 None a ∷ [])) (holding 0 None) ≢ replayed_page (history (U 1 0 0 None a ∷ [])) 0
 redo_left_out e = (let f : ◌≡◌ {A = ℕ} 0 1 = ap (λ page. page.lsn) e in omega (arith, f))
+
+-- INTERRUPTED. A page that is set back behind a checkpoint, whose dirty page table left it out, lacks a record that nobody names.
+set_back : DirtyLaw (history (U 1 0 0 None a ∷ CheckpointBegin ∷ CheckpointEnd 2 (active 1 1 1 ∷ []) [] ∷ [])) 2 0 0 None → ⊥
+set_back law =
+    elim (law.covers 1 (U 1 0 0 None a) (omega arith) refl refl) [
+      | inl older ↦ omega (arith, older)
+      | inr listed ↦ (let f : ◌≡◌ {A = Option ℕ} None (Some listed.0) = listed.1 in cc)
+    ]

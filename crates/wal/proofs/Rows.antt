@@ -154,7 +154,7 @@ partial_rollback_hops = refl
 clr_points_past_zero : hops 1 (history (U 1 0 0 None a ∷ C 1 1 2 0 None ∷ [])) 2 ≡ record { met = []; ends = 2 }
 clr_points_past_zero = refl
 
-abbrev active : ℕ → ℕ → ℕ → TableEntry
+abbrev pub active : ℕ → ℕ → ℕ → TableEntry
 active tx last undo_next = record { tx = tx; state = Active; last = last; undo_next = undo_next }
 
 -- what undo appends by a table that is true, and by one that is not
