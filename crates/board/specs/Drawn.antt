@@ -1,0 +1,61 @@
+-- What contracts see of a board, of a seat and of a tally.
+use Rattle.std.specs.Prelude.{◌≡◌, ◌≢◌, ℕ, ◌+◌, ◌-◌, ◌*◌, ◌/◌, ◌<◌, ◌≤◌, Bool, List, [], ◌∷◌, ◌++◌}
+use Rattle.std.specs.List.{Contains, AllPairs}
+use Rattle.atomic_table.specs.Seated.{TableId}
+
+-- Which board it is: its words, how many numbers it hands out, in how many ranges, and for how many seats at most
+pub record BoardId : Type 0 where
+  pub table : TableId
+  pub parts : ℕ
+  pub ranges : ℕ
+  pub seats : ℕ
+
+-- What a seat has: its board, its places, the numbers that it drew in order, the ranges that it knows as ended, whether it has stopped the board, and whether it was told that some seat has
+pub record SeatState : Type 0 where
+  pub board : BoardId
+  pub places : ℕ
+  pub drawn : List ℕ
+  pub ended : List ℕ
+  pub stopped : Bool
+  pub told : Bool
+
+-- What is left of a closed board: the number of steps on each range, and whether the closing seat has stopped the board
+pub record TallyState : Type 0 where
+  pub words : List ℕ
+  pub stopped : Bool
+
+-- no number stands in the list twice
+abbrev pub AreDistinct : List ℕ → Type 0
+AreDistinct xs = AllPairs (λ x y. x ≢ y) xs
+
+-- all ranges below this number are among the ended ones
+abbrev pub AllEnded : ℕ → List ℕ → Type 0
+AllEnded ranges ended = (r : ℕ) → r < ranges → Contains ended r
+
+-- the ranges from `from` up to, not including, `to` are among the ended ones
+abbrev pub EndedWithin : ℕ → ℕ → List ℕ → Type 0
+EndedWithin from to ended = (r : ℕ) → from ≤ r → r < to → Contains ended r
+
+-- whatever is in the first list is in the second
+abbrev pub IsWithin : List ℕ → List ℕ → Type 0
+IsWithin xs ys = (x : ℕ) → Contains xs x → Contains ys x
+
+-- between these two states the seat stays at its board with its places
+abbrev pub KeepsPlaces : SeatState → SeatState → Type 0
+KeepsPlaces old new = (new.board ≡ old.board) × (new.places ≡ old.places)
+
+-- and so do its two notes of a stop
+abbrev pub KeepsNotes : SeatState → SeatState → Type 0
+KeepsNotes old new = (new.stopped ≡ old.stopped) × (new.told ≡ old.told)
+
+-- a draw gave x: a number that the board hands out, which the seat did not have and which is now its last
+abbrev pub Gains : BoardId → SeatState → SeatState → ℕ → Type 0
+Gains board old new x = (x < board.parts) × (¬ Contains old.drawn x) × (new.drawn ≡ old.drawn ++ x ∷ [])
+
+-- the first number of range r, where `parts` numbers are cut into `ranges` ranges
+abbrev pub range_start : ℕ → ℕ → ℕ → ℕ
+range_start parts ranges r = r * parts / ranges
+
+-- how many numbers range r has
+abbrev pub range_size : ℕ → ℕ → ℕ → ℕ
+range_size parts ranges r = range_start parts ranges (r + 1) - range_start parts ranges r

@@ -1,0 +1,28 @@
+-- The cases of a draw on a board that may be stopped.
+use Rattle.std.specs.Prelude.{ℕ, Bool, true, false}
+use Rattle.board.specs.declared.draw.Draw.{Draw}
+use Rattle.board.specs.declared.draw.Draw.TheVariants.{Part, Finished, Stopped}
+
+-- where a number x came, P x
+abbrev pub IfPart : Draw → (ℕ → Type 0) → Type 0
+IfPart (Part x) P = P x
+IfPart Finished P = Unit {0}
+IfPart Stopped P = Unit {0}
+
+-- where all ranges had ended, P
+abbrev pub IfFinished : Draw → Type 0 → Type 0
+IfFinished (Part x) P = Unit {0}
+IfFinished Finished P = P
+IfFinished Stopped P = Unit {0}
+
+-- where a seat had stopped the board, P
+abbrev pub IfStopped : Draw → Type 0 → Type 0
+IfStopped (Part x) P = Unit {0}
+IfStopped Finished P = Unit {0}
+IfStopped Stopped P = P
+
+-- whether a seat had stopped the board
+abbrev pub is_stopped : Draw → Bool
+is_stopped (Part x) = false
+is_stopped Finished = false
+is_stopped Stopped = true

@@ -1,0 +1,20 @@
+//! A board hands out the numbers below a count to the seats of many threads, each number once, by
+//! single atomic steps on shared words.
+#![tactic(auto)]
+
+mod board;
+mod claim;
+mod draw;
+mod ended;
+mod rule;
+mod seat;
+mod stop;
+mod tally;
+#[cfg(test)]
+mod tests;
+mod view;
+
+pub use board::Board;
+pub use draw::Draw;
+pub use seat::Seat;
+pub use tally::Tally;

@@ -1,0 +1,60 @@
+//! What is left of a closed board.
+
+ghost use Rattle.std.specs.Prelude.{◌≡◌, ◌+◌, ◌<◌, ◌≤◌, length, slice_index, take};
+ghost use Rattle.std.specs.Slots.{slots_items, slots_len, IsFull};
+
+use atomic_table::Closed;
+use std::alloc::Global;
+use std::marker::Model;
+
+/// How many steps a closed board has seen on each range, and whether it was stopped. Contracts see it as
+/// these counts and that answer (`TallyState`).
+#[derive(Drop)]
+pub struct Tally {
+    pub(crate) words: [u64; 64],
+    pub(crate) ranges: u32,
+    pub(crate) stopped: bool,
+}
+
+impl Model for Tally {
+    ghost use Rattle.std.specs.Prelude.{◌≤◌, take};
+    ghost use Rattle.board.specs.Drawn.{TallyState};
+
+    ghost Value = { TallyState };
+
+    ghost view = { λ t. record { words = take t.ranges t.words; stopped = t.stopped } };
+
+    ghost invariant = { λ t. t.ranges ≤ 64 };
+}
+
+impl Tally {
+    /// How many steps all seats together made on this range, which is below the count of ranges: those
+    /// that gave its numbers, and those that met its end.
+    pub fn word(&self, range: u32) -> u64
+        requires { range < length self.now.words }
+        ensures { result ≡ slice_index self.now.words range }
+    {
+        self.words[range as usize]
+    }
+
+    /// Whether the closing seat, or one that was joined into it or that it was split from, had stopped
+    /// the board.
+    pub fn stopped(&self) -> bool
+        ensures { result ≡ self.now.stopped }
+    {
+        self.stopped
+    }
+}
+
+/// The counts of steps on the first `ranges` words.
+pub(crate) fn words_of(closed: &Closed<(), Global>, ranges: u32) -> [u64; 64]
+    requires full { IsFull closed.now.words }
+    requires ranges { (slots_len closed.now.words ≡ ranges + 1) × (ranges ≤ 64) }
+    ensures { take ranges result ≡ take ranges (slots_items closed.now.words) }
+{
+    let mut words = [0; 64];
+    for range in 0..ranges as usize {
+        words[range] = closed.word(range);
+    }
+    words
+}
