@@ -19,6 +19,11 @@ pub enum Job {
         out_store: String,
         options: Options,
     },
+    /// Say whether the log `log` and the store `store` are lawful.
+    Audit {
+        log: String,
+        store: String,
+    },
 }
 
 /// Why a command line was not taken.
@@ -102,13 +107,22 @@ fn recover_command<'a>(alloc: Global) -> Result<Command<'a>, AllocError> {
         ))
 }
 
+/// The command `audit`.
+fn audit_command<'a>(alloc: Global) -> Result<Command<'a>, AllocError> {
+    Command::new(alloc, "audit")
+        .about("Say whether a log and its store are lawful, or the first law that is broken")
+        .arg(file_option(alloc, "log", "The log to look at"))?
+        .arg(file_option(alloc, "store", "The store to look at"))
+}
+
 /// The whole command line.
 fn aries_command<'a>(alloc: Global) -> Result<Command<'a>, AllocError> {
     Command::new(alloc, "aries")
         .version("0.1.0")
         .about("Crash recovery that is proved")
         .subcommand_required(true)
-        .subcommand(recover_command(alloc)?)
+        .subcommand(recover_command(alloc)?)?
+        .subcommand(audit_command(alloc)?)
 }
 
 /// The name that an option gives a file.
@@ -145,6 +159,16 @@ fn recover_job(alloc: Global, matches: &ArgMatches) -> Result<Job, Refusal>
     })
 }
 
+/// What the options of `audit` ask for.
+fn audit_job(alloc: Global, matches: &ArgMatches) -> Result<Job, Refusal>
+    ensures { IfOk result HasRanges }
+{
+    Ok(Job::Audit {
+        log: file_of(alloc, matches, "log")?,
+        store: file_of(alloc, matches, "store")?,
+    })
+}
+
 /// What a command line asks for; the first word is the program's name. Refuses a line that is wrong or
 /// asks for help or the version by [`Refusal::Line`], and by [`Refusal::Memory`] where memory was
 /// refused.
@@ -155,6 +179,7 @@ pub fn command_of<'a>(alloc: Global, words: &'a [&'a str]) -> Result<Job, Refusa
     let matches = command.try_get_matches_from_mut(words)?;
     match matches.subcommand() {
         Some(("recover", options)) => recover_job(alloc, options),
+        Some(("audit", options)) => audit_job(alloc, options),
         _ => {
             let error = command.error(ErrorKind::MissingSubcommand, "a command is needed")?;
             Err(Refusal::Line(error))

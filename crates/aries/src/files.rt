@@ -1,11 +1,13 @@
-//! Recovery from two files to two files.
+//! Recovery from two files to two files, and the audit of two.
 
 use crate::{Options, Report, recover_bytes};
-use page::Fault;
+use audit::audit;
+use page::{Fault, decode_store};
 use std::alloc::Global;
 use std::fs::{File, OpenFile};
 use std::io::{self, ErrorKind, Read, Write};
 use std::rt::Files;
+use wal::read_log;
 
 /// Where a recovery reads and writes.
 #[derive(Clone, Copy)]
@@ -67,4 +69,17 @@ pub fn recover_files<R: Files + AllocGlobal>(
     write_whole(&mut out_log, &new_log).map_err(|e| fault_of(e, Fault::WriteLog))?;
     write_whole(&mut out_store, &new_store).map_err(|e| fault_of(e, Fault::WriteStore))?;
     Ok(report)
+}
+
+/// Whether the log and the store in two files are lawful. Both are read to their ends, the log first,
+/// before either is decoded.
+pub fn audit_files<R: Files + AllocGlobal>(rt: &R, log: &str, store: &str) -> Result<(), Fault> {
+    let alloc = rt.alloc();
+    let mut log = File::open(rt, log).map_err(|e| fault_of(e, Fault::ReadLog))?;
+    let log = read_whole(alloc, &mut log).map_err(|e| fault_of(e, Fault::ReadLog))?;
+    let mut store = File::open(rt, store).map_err(|e| fault_of(e, Fault::ReadStore))?;
+    let store = read_whole(alloc, &mut store).map_err(|e| fault_of(e, Fault::ReadStore))?;
+    let (log, _) = read_log(alloc, &log)?;
+    let store = decode_store(alloc, &store)?;
+    audit(alloc, &log, &store)
 }

@@ -1,6 +1,6 @@
 //! The program: from its words to its exit status.
 
-use crate::files::{Paths, recover_files};
+use crate::files::{Paths, audit_files, recover_files};
 use crate::{Job, Refusal, Report, command_of, report_text};
 use page::Fault;
 use std::alloc::Global;
@@ -32,6 +32,14 @@ fn explain<O: Write, E: Write>(error: clap::Error, out: &mut O, err: &mut E) -> 
     if printed.is_ok() { status } else { 1 }
 }
 
+/// The status of what was printed.
+fn status_of(printed: io::Result<()>) -> u8 {
+    match printed {
+        Ok(()) => 0,
+        Err(_) => 1,
+    }
+}
+
 /// Does the job.
 fn run_job<R: Files + AllocGlobal, O: Write, E: Write>(
     rt: &R,
@@ -39,25 +47,29 @@ fn run_job<R: Files + AllocGlobal, O: Write, E: Write>(
     out: &mut O,
     err: &mut E,
 ) -> u8 {
-    let Job::Recover {
-        log,
-        store,
-        out_log,
-        out_store,
-        options,
-    } = job;
-    let paths = Paths {
-        log: log.as_str(),
-        store: store.as_str(),
-        out_log: out_log.as_str(),
-        out_store: out_store.as_str(),
-    };
-    match recover_files(rt, &paths, options) {
-        Ok(report) => match print_report(rt.alloc(), &report, out) {
-            Ok(()) => 0,
-            Err(_) => 1,
+    match job {
+        Job::Recover {
+            log,
+            store,
+            out_log,
+            out_store,
+            options,
+        } => {
+            let paths = Paths {
+                log: log.as_str(),
+                store: store.as_str(),
+                out_log: out_log.as_str(),
+                out_store: out_store.as_str(),
+            };
+            match recover_files(rt, &paths, options) {
+                Ok(report) => status_of(print_report(rt.alloc(), &report, out)),
+                Err(fault) => refuse(fault, err),
+            }
+        }
+        Job::Audit { log, store } => match audit_files(rt, log.as_str(), store.as_str()) {
+            Ok(()) => status_of(writeln!(out, "lawful")),
+            Err(fault) => refuse(fault, err),
         },
-        Err(fault) => refuse(fault, err),
     }
 }
 

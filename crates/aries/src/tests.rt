@@ -159,7 +159,7 @@ fn program_explains_wrong_lines(rt: HostRuntime) -> Result<(), Fail> {
     );
     for line in [
         "aries",
-        "aries audit --log d-log --store d-store",
+        "aries audit --log d-log",
         "aries recover --log d-log --out-log d-1 --out-store d-2",
         "aries recover --log d-log --store d-store --out-log d-1 --out-store d-2 --workers 0",
         "aries recover --log d-log --store d-store --out-log d-1 --out-store d-2 --parts 4097",
@@ -171,5 +171,25 @@ fn program_explains_wrong_lines(rt: HostRuntime) -> Result<(), Fail> {
         fs::read(&rt, "d-1").is_err() && fs::read(&rt, "d-2").is_err(),
         "no file was made"
     );
+    Ok(())
+}
+
+#[test]
+fn program_audits(rt: HostRuntime) -> Result<(), Fail> {
+    put_row(&rt, "e-log", "e-store")?;
+    let (status, out, err) = printed(&rt, "aries audit --log e-log --store e-store")?;
+    assert_eq!(rt; (status, out.as_str(), err.as_str()), (0, "lawful\n", ""));
+    let (status, _, err) = printed(&rt, "aries audit --log e-none --store e-store")?;
+    assert_eq!(rt;
+        (status, err.as_str()),
+        (1, "fault 2: reading the log failed\n")
+    );
+    let (status, _, err) = printed(&rt, "aries audit --store e-none --log e-log")?;
+    assert_eq!(rt;
+        (status, err.as_str()),
+        (1, "fault 3: reading the store failed\n")
+    );
+    let (status, _, err) = printed(&rt, "aries audit --log e-store --store e-log")?;
+    assert_eq!(rt; (status, err.as_str()), (1, "fault 6: bad log header\n"));
     Ok(())
 }

@@ -45,7 +45,7 @@ impl Board {
     /// `seats` places (1 to 64). No number is drawn yet, the seat knows no range as ended, and it has
     /// neither stopped the board nor was it told so.
     ///
-    /// The only call that takes memory: `NoResource` where the words are refused.
+    /// The only call that takes memory: `NoResource` where it is refused, and then nothing is left.
     pub fn new(alloc: Global, parts: u32, ranges: u32, seats: u32) -> Result<(Board, Seat), Fault>
         requires parts { parts ≤ 4096 }
         requires ranges { (1 ≤ ranges) × (ranges ≤ 64) }
@@ -60,17 +60,13 @@ impl Board {
             seats,
         };
         let words = no_steps();
-        match Table::of_words(alloc, &words[..ranges as usize + 1], &plan) {
-            Ok((table, token)) => {
-                let seat = Seat {
-                    token,
-                    places: seats,
-                    ended: no_ends(),
-                };
-                Ok((Board { table, plan }, seat))
-            }
-            Err(_) => Err(Fault::NoResource),
-        }
+        let (table, token) = Table::of_words(alloc, &words[..ranges as usize + 1], &plan)?;
+        let seat = Seat {
+            token,
+            places: seats,
+            ended: no_ends(),
+        };
+        Ok((Board { table, plan }, seat))
     }
 
     /// Cuts a seat with at least two places in two: the first half gets one place, the second the

@@ -1,4 +1,5 @@
 //! A seat at a board.
+
 ghost use Rattle.std.specs.Prelude.{◌≡◌, ◌<◌, Contains, MatchBool};
 
 use crate::view::View;
@@ -6,8 +7,8 @@ use atomic_table::Seat as Token;
 use std::marker::Model;
 
 /// The right to draw from one board, in one thread at a time. It has at least one place, and can be cut
-/// into as many seats as it has places. It is a few marks of what it knows: the numbers that it drew
-/// stand in contracts alone.
+/// into as many seats as it has places. It holds no list: the numbers that it drew are seen by contracts
+/// alone.
 ///
 /// Contracts see it as its board, its places, the list of the numbers drawn, in order, the list of the
 /// ranges that it knows as ended, and its two notes: whether it stopped the board, and whether it was

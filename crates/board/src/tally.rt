@@ -37,8 +37,8 @@ impl Tally {
         self.words[range as usize]
     }
 
-    /// Whether the closing seat, or one that was joined into it or that it was split from, had stopped
-    /// the board.
+    /// Whether the closing seat had stopped the board: by its own call of `Board::stop`, or by the note
+    /// of a seat that was joined into it.
     pub fn stopped(&self) -> bool
         ensures { result ≡ self.now.stopped }
     {

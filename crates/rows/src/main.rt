@@ -70,15 +70,66 @@ fn recovers<R: Files + AllocGlobal>(
     Ok("ok")
 }
 
-/// Runs the rows that a text names, one a line: a folder, the workers and the parts.
+/// Whether an audit of the row's log and store prints what the row says.
+fn audits<R: Files + AllocGlobal>(rt: &R, row: &str) -> Result<&'static str> {
+    let alloc = rt.alloc();
+    let log = format!(in alloc; "{row}/log")?;
+    let store = format!(in alloc; "{row}/store")?;
+    let words = [
+        "aries",
+        "audit",
+        "--log",
+        log.as_str(),
+        "--store",
+        store.as_str(),
+    ];
+    let mut out = Vec::new(alloc);
+    let mut err = Vec::new(alloc);
+    let status = aries::run(rt, &words, &mut out, &mut err);
+    let expected = fs::read(rt, format!(in alloc; "{row}/audited")?)?;
+    let (stream, other) = if status == 0 { (out, err) } else { (err, out) };
+    if status < 2 && other.is_empty() && stream.as_slice() == expected.as_slice() {
+        return Ok("ok");
+    }
+    Ok("another answer")
+}
+
+/// Prints whether the audit of a row is as the row says.
+fn run_audit<R: Files + Print + AllocGlobal>(rt: &R, row: &str) -> Result<()> {
+    let verdict = audits(rt, row).context(format_args!("audit of {row}"))?;
+    println!(rt; "{row}, audit: {verdict}")?;
+    Ok(())
+}
+
+/// Prints whether a restart of a row is as the row says.
+fn run_restart<R: Files + Print + AllocGlobal>(
+    rt: &R,
+    row: &str,
+    workers: &str,
+    parts: &str,
+) -> Result<()> {
+    let verdict = recovers(rt, row, workers, parts).context(format_args!("row {row}"))?;
+    println!(rt; "{row}, {workers} workers, {parts} parts: {verdict}")?;
+    Ok(())
+}
+
+/// Runs what a line says of a row: the folder, and then `audit`, or the workers and the parts of a
+/// restart.
+fn run_line<R: Files + Print + AllocGlobal>(rt: &R, line: &str) -> Result<()> {
+    let mut words = line.split_whitespace();
+    let row = words.next().context("a row without a name")?;
+    let command = words.next().context("a row without a command")?;
+    if command == "audit" {
+        return run_audit(rt, row);
+    }
+    let parts = words.next().context("a row without parts")?;
+    run_restart(rt, row, command, parts)
+}
+
+/// Runs the lines of the index.
 fn run_rows<R: Files + Print + AllocGlobal>(rt: &R, index: &str) -> Result<()> {
     for line in index.lines() {
-        let mut words = line.split_whitespace();
-        let row = words.next().context("a row without a name")?;
-        let workers = words.next().context("a row without workers")?;
-        let parts = words.next().context("a row without parts")?;
-        let verdict = recovers(rt, row, workers, parts).context(format_args!("row {row}"))?;
-        println!(rt; "{row}, {workers} workers, {parts} parts: {verdict}")?;
+        run_line(rt, line)?;
     }
     Ok(())
 }

@@ -5,7 +5,7 @@ use Rattle.board.proofs.Seats.{first_seat, no_step}
 use Rattle.board.proofs.board.Board.new.Goals as goal
 
 pub invariant_of-seat : goal.invariant_of-seat
-invariant_of-seat c = first_seat c.in-Ok.token c.args.seats (record { parts = c.args.parts; ranges = c.args.ranges; seats = c.args.seats }) c.no_ends.result c.in-Ok.ensures.4 refl (omega (arith, c.requires.seats)) (omega (arith, c.requires.seats)) c.no_ends.ensures
+invariant_of-seat c = first_seat c.in_ok-table.token c.args.seats (record { parts = c.args.parts; ranges = c.args.ranges; seats = c.args.seats }) c.no_ends.result c.in_ok-table.ensures.4 refl (omega (arith, c.requires.seats)) (omega (arith, c.requires.seats)) c.no_ends.ensures
 
 pub of_words-requires : goal.of_words-requires
 of_words-requires c = opens (record { parts = c.args.parts; ranges = c.args.ranges; seats = c.args.seats }) (take (c.args.ranges + 1) c.no_steps-words.result) (c.requires.parts, c.requires.ranges.0, c.requires.ranges.1, c.requires.seats.1)

@@ -1,0 +1,119 @@
+-- What the state that is kept decides of the laws.
+use Rattle.std.proofs.Common.{◌≡◌, ◌<◌, ◌≤◌, ◌||◌, not, ℕ, Bool, true, false, List, [], ◌∷◌, length, Option, Some, None, refl, sym, ap, ap₂, subst, ◌∙◌, inl, inr, arith}
+use Rattle.std.proofs.lemmas.Bool.{cases_eq, both_ways}
+use Rattle.wal.specs.Records.{UpdateRecord, CompensationRecord, LogRecord, Update, Compensation, Commit, Abort, End, CheckpointBegin, CheckpointEnd, History, history, size, record_at}
+use Rattle.wal.specs.Meaning.{replay, pending, finished, aborted, ended}
+use Rattle.wal.specs.Laws.{IsLawful, Compensates, Strictness}
+use Rattle.wal.specs.Tail.{tx_of}
+use Rattle.wal.proofs.Histories.{record_none}
+use Rattle.wal.proofs.Holders.{held, strict_from_holder}
+use Rattle.audit.specs.declared.standing.Standing.{Standing}
+use Rattle.audit.specs.Standings.{Linked, Stands}
+use Rattle.audit.specs.Cells.{last_write, image_by}
+use Rattle.audit.specs.Passing.{Begins, Undoes, IsFreeFor}
+use Rattle.audit.proofs.Cells.{last_write_within, image_by_last, last_touches, holder_wrote}
+
+-- BEFORE IMAGES
+pub cell_value : (records : List LogRecord) (log : History) (page slot w : ℕ) → Begins log records → w ≡ last_write page slot log → image_by (record_at (history records) w) ≡ replay log page slot
+cell_value records log page slot w begins e =
+    ap (λ n. image_by (record_at (history records) n)) e
+    ∙ ap image_by (begins (last_write page slot log) (last_write_within page slot log))
+    ∙ image_by_last page slot log
+
+-- COMPENSATION
+module _ (records : List LogRecord) (log : History) (links : List ℕ) (c : CompensationRecord) (s : Standing) (begins : Begins log records) (len : length links ≡ size log) (h : Stands links c.tx log s) where
+  abbrev pub HasUndone : Type 0
+  HasUndone = (r : LogRecord) × (record_at (history records) s.newest ≡ Some r) × Undoes r c.page c.slot c.undo_next c.image
+
+  by_record : (r : LogRecord) (n : ℕ) (ns : List ℕ) → pending c.tx log ≡ n ∷ ns → record_at log n ≡ Some r → Undoes r c.page c.slot c.undo_next c.image → Compensates log c
+  by_record (Update u) n ns p found h =
+      record { lsn = n; below = ns; update = u; newest = p; found = found; page = h.0; slot = h.1; image = h.3; undo_next = h.2 }
+  by_record (Compensation c) n ns p found h = absurd h
+  by_record (Commit c) n ns p found h = absurd h
+  by_record (Abort c) n ns p found h = absurd h
+  by_record (End c) n ns p found h = absurd h
+  by_record CheckpointBegin n ns p found h = absurd h
+  by_record (CheckpointEnd b ts d) n ns p found h = absurd h
+
+  by_stack : (stack : List ℕ) → pending c.tx log ≡ stack → Linked links stack s.newest → HasUndone → Compensates log c
+  by_stack [] p l u =
+      (let none : record_at (history records) s.newest ≡ None = ap (record_at (history records)) l ∙ record_none (history records) 0 (inl refl) in
+      let some : record_at (history records) s.newest ≡ Some u.0 = u.1 in
+      absurd (cc))
+  by_stack (n ∷ ns) p l u =
+      let e : s.newest ≡ n = l.0 in
+      let room : n ≤ length links = l.2 in
+      let found : record_at log n ≡ Some u.0 = sym (begins n (omega arith)) ∙ ap (record_at (history records)) (sym e) ∙ u.1 in
+      by_record u.0 n ns p found u.2
+
+  pub undone_compensates : HasUndone → Compensates log c
+  undone_compensates = by_stack (pending c.tx log) refl h.pending
+
+  pub compensates_undone : Compensates log c → HasUndone
+  compensates_undone k =
+      let l : Linked links (k.lsn ∷ k.below) s.newest = subst (λ x. Linked links x s.newest) k.newest h.pending in
+      let room : k.lsn ≤ length links = l.2 in
+      let found : record_at (history records) s.newest ≡ Some (Update k.update) = ap (record_at (history records)) l.0 ∙ begins k.lsn (omega arith) ∙ k.found in
+      (Update k.update, found, (k.page, k.slot, k.undo_next, k.image))
+
+-- an end without a commit finds an empty stack
+empty_stack : (links stack : List ℕ) (top : ℕ) → Linked links stack top → top ≡ 0 → stack ≡ []
+empty_stack links [] top l e = refl
+empty_stack links (n ∷ ns) top l e = absurd (let a : top ≡ n = l.0 in let b : 0 < n = l.1 in omega arith)
+
+pub end_allowed : (links : List ℕ) (t : ℕ) (log : History) (s : Standing) → Stands links t log s → s.newest ≡ 0 → pending t log ≡ []
+end_allowed links t log s h e = empty_stack links (pending t log) s.newest h.pending e
+
+pub end_needs : (links : List ℕ) (t : ℕ) (log : History) (s : Standing) → Stands links t log s → pending t log ≡ [] → s.newest ≡ 0
+end_needs links t log s h e = (let l : Linked links [] s.newest = subst (λ x. Linked links x s.newest) e h.pending in l)
+
+-- STRICTNESS
+module _ (log : History) (lawful : IsLawful log) (links : List ℕ) (standing : ℕ → Standing) (stands : (t : ℕ) → Stands links t log (standing t)) (u : UpdateRecord) where
+  finished_is : (t : ℕ) → ((standing t).committed || (standing t).ended) ≡ finished t log
+  finished_is t = ap₂ (λ x y. x || y) (stands t).committed (stands t).ended
+
+  pub free_strict : (o : Option LogRecord) → record_at log (last_write u.page u.slot log) ≡ o → IsFreeFor standing o u.tx → Strictness log (Update u)
+  free_strict None e f = strict_from_holder log lawful u (λ t held_by. let p = holder_wrote u.page u.slot t log held_by in let q : record_at log (last_write u.page u.slot log) ≡ Some p.0 = p.1 in absurd (cc))
+  free_strict (Some r) e f =
+      strict_from_holder log lawful u
+      (λ t held_by.
+      let p = holder_wrote u.page u.slot t log held_by in
+      let q : record_at log (last_write u.page u.slot log) ≡ Some p.0 = p.1 in
+      let same : r ≡ p.0 = cc in
+      let own : tx_of r ≡ t = ap tx_of same ∙ p.2 in
+      elim f [
+        | inl i ↦ sym own ∙ i
+        | inr i ↦ absurd (both_ways (finished t log) (held log lawful u.page u.slot t held_by).0 (ap (λ x. finished x log) (sym own) ∙ sym (finished_is (tx_of r)) ∙ i))
+      ])
+
+  pub strict_free : (o : Option LogRecord) → record_at log (last_write u.page u.slot log) ≡ o → Strictness log (Update u) → IsFreeFor standing o u.tx
+  strict_free None e s = tt
+  strict_free (Some r) e s =
+      elim (cases_eq (tx_of r) u.tx) [
+        | inl i ↦ inl i
+        | inr n ↦ inr (finished_is (tx_of r) ∙ s (tx_of r) n (last_touches u.page u.slot log r e))
+      ]
+
+-- FINISH
+not_is : (a b : Bool) → a ≡ b → (not a ≡ true → b ≡ false) × (b ≡ false → not a ≡ true)
+not_is true true e = (λ h. absurd (cc), λ h. absurd (cc))
+not_is true false e = absurd (cc)
+not_is false true e = absurd (cc)
+not_is false false e = (λ h. refl, λ h. refl)
+
+module _ (links : List ℕ) (t : ℕ) (log : History) (s : Standing) (h : Stands links t log s) where
+  stands_finished : (s.committed || s.ended) ≡ finished t log
+  stands_finished = ap₂ (λ x y. x || y) h.committed h.ended
+
+  pub neither : (f : Bool) → f ≡ (s.committed || s.ended) → f ≡ false
+      → (not s.aborted ≡ true → (finished t log ≡ false) × (aborted t log ≡ false)) × ((finished t log ≡ false) × (aborted t log ≡ false) → not s.aborted ≡ true)
+  neither f e n = (
+    λ a. (sym stands_finished ∙ sym e ∙ n, (not_is s.aborted (aborted t log) h.aborted).0 a),
+    λ p. (not_is s.aborted (aborted t log) h.aborted).1 p.1,
+  )
+
+  pub not_finished : (f : Bool) → f ≡ (s.committed || s.ended) → (not f ≡ true → finished t log ≡ false) × (finished t log ≡ false → not f ≡ true)
+  not_finished f e = not_is f (finished t log) (e ∙ stands_finished)
+
+  pub not_ended : (not s.ended ≡ true → ended t log ≡ false) × (ended t log ≡ false → not s.ended ≡ true)
+  not_ended = not_is s.ended (ended t log) h.ended

@@ -1,0 +1,106 @@
+-- A lawful input has no fault.
+use Rattle.std.proofs.Common.{◌≡◌, ◌<◌, ℕ, List, length, take, get_or, Option, Some, None, Result, Ok, Err, refl, sym, ap, subst, ◌∙◌, inl, inr, arith}
+use Rattle.std.specs.Prelude.{All, IfErr, slice_get}
+use Rattle.std.proofs.lemmas.Option.{slice_get_within, get_or_from_slice_get}
+use Rattle.page.specs.declared.fault.Fault.{Fault}
+use Rattle.page.specs.declared.fault.Fault.TheVariants.{NoResource, NoSuchPage, Chain, AfterFinish, WrongCompensation, BeforeImage, DirtyWrite, EndTooEarly, PageAheadOfLog, PageImage, BadMaster, TransactionTable, DirtyTable}
+use Rattle.page.specs.declared.page.Page.{Page}
+use Rattle.page.specs.Store.{StoreContent}
+use Rattle.wal.specs.Records.{TableEntry, LogRecord, History, history}
+use Rattle.wal.specs.Laws.{Obeys, IsLawful}
+use Rattle.wal.specs.Store.{NamesPages, PageLaw, CheckpointLaw, Lawful}
+use Rattle.wal.proofs.Lists.{lawful_by_record}
+use Rattle.audit.specs.FirstFault.{BrokenAt, RecordFault, FirstBroken, BrokenPage, PagesFault, FirstBrokenPage, KeepsDirty, Names, MasterFault, FirstFault}
+
+not_broken : (count : ℕ) (log : History) (r : LogRecord) (e : Fault) → NamesPages count r → Obeys log r → BrokenAt count log r e → ⊥
+not_broken count log r (NoSuchPage n) named o b = b.1 named
+not_broken count log r (Chain n) named o b = b.2 o.chain
+not_broken count log r (AfterFinish n) named o b = b.3 o.finish
+not_broken count log r (WrongCompensation n) named o b = b.5 o.compensation
+not_broken count log r (EndTooEarly n) named o b = b.5 o.compensation
+not_broken count log r (DirtyWrite n) named o b = b.5 o.strict
+not_broken count log r (BeforeImage n) named o b = b.6 o.before
+not_broken count log r _ named o b = b
+
+none_broken : (count : ℕ) (xs : List LogRecord) (e : Fault) → IsLawful (history xs) → All (NamesPages count) xs → FirstBroken count xs e → ⊥
+none_broken count xs e lawful named f =
+    let within : f.place < length xs = slice_get_within xs f.place f.entry f.there in
+    let is : get_or xs f.place f.entry ≡ f.entry = get_or_from_slice_get xs f.place f.entry f.entry f.there in
+    not_broken count (history (take f.place xs)) f.entry e
+    (subst (NamesPages count) is (named f.place f.entry within))
+    (subst (Obeys (history (take f.place xs))) is ((lawful_by_record xs).0 lawful f.place f.entry within)) f.broken
+
+records_kept : (count : ℕ) (xs : List LogRecord) (e : Fault) → IsLawful (history xs) → All (NamesPages count) xs → RecordFault count xs e → e ≡ NoResource
+records_kept count xs NoResource lawful named f = refl
+records_kept count xs e lawful named f = absurd (none_broken count xs e lawful named f)
+
+page_not_broken : (log : History) (page : Page) (e : Fault) → PageLaw log page → BrokenPage log page e → ⊥
+page_not_broken log page (PageAheadOfLog n) law b = (let w = law.within in let a = b.1 in omega (arith, w, a))
+page_not_broken log page (PageImage n) law b = b.2 law
+page_not_broken log page _ law b = b
+
+at_place : (P : Page → Type 0) (pages : List Page) (place : ℕ) (page : Page) → slice_get pages place ≡ Some page → All P pages → P page
+at_place P pages place page there all = subst P (get_or_from_slice_get pages place page page there) (all place page (slice_get_within pages place page there))
+
+none_broken_page : (log : History) (pages : List Page) (e : Fault) → All (PageLaw log) pages → FirstBrokenPage log pages e → ⊥
+none_broken_page log pages e all f = page_not_broken log f.page e (at_place (PageLaw log) pages f.place f.page f.there all) f.broken
+
+pages_kept : (log : History) (pages : List Page) (e : Fault) → All (PageLaw log) pages → PagesFault log pages e → e ≡ NoResource
+pages_kept log pages NoResource all f = refl
+pages_kept log pages e all f = absurd (none_broken_page log pages e all f)
+
+-- there are no other tables
+abbrev transactions_or : List TableEntry → Option (List TableEntry × List (ℕ × ℕ)) → List TableEntry
+transactions_or ts None = ts
+transactions_or ts (Some x) = x.0
+
+abbrev dirty_or : List (ℕ × ℕ) → Option (List TableEntry × List (ℕ × ℕ)) → List (ℕ × ℕ)
+dirty_or d None = d
+dirty_or d (Some x) = x.1
+
+module _ (log : History) (m : ℕ) (ts ts' : List TableEntry) (d d' : List (ℕ × ℕ)) (x : Names log m ts d) (y : Names log m ts' d') where
+  same_tables : ◌≡◌ {A = Option (List TableEntry × List (ℕ × ℕ))} (Some (ts, d)) (Some (ts', d'))
+  same_tables = sym x.named ∙ y.named
+
+  same_transactions : ts ≡ ts'
+  same_transactions = ap (transactions_or ts) same_tables
+
+  same_dirty : d ≡ d'
+  same_dirty = ap (dirty_or d) same_tables
+
+master_kept : (log : History) (pages : List Page) (m : ℕ) (e : Fault) → CheckpointLaw log pages m → MasterFault log pages m e → e ≡ NoResource
+master_kept log pages m NoResource law f = refl
+master_kept log pages m BadMaster law f =
+    elim law [
+      | inl z ↦ absurd (f.0 z)
+      | inr t ↦ absurd (f.1 t.transactions t.dirty (record { begins = t.begins; named = t.named }))
+    ]
+master_kept log pages m TransactionTable law f =
+    elim law [
+      | inl z ↦ absurd (f.0 z)
+      | inr t ↦ absurd (f.1.3 (same_transactions log m f.1.0 t.transactions f.1.1 t.dirty f.1.2 (record { begins = t.begins; named = t.named }) ∙ t.transactions_are))
+    ]
+master_kept log pages m (DirtyTable n) law f =
+    elim law [
+      | inl z ↦ absurd (f.0 z)
+      | inr t ↦
+          (let u = f.1.4 in
+          let same : f.1.1 ≡ t.dirty = same_dirty log m f.1.0 t.transactions f.1.1 t.dirty f.1.2 (record { begins = t.begins; named = t.named }) in
+          absurd (u.broken (subst (λ d. KeepsDirty log m d u.page) (sym same) (at_place (KeepsDirty log m t.dirty) pages u.place u.page u.there t.dirty_are))))
+    ]
+master_kept log pages m _ law f = absurd f
+
+fault_kept : (records : List LogRecord) (store : StoreContent) (e : Fault) → Lawful records store → FirstFault records store e → e ≡ NoResource
+fault_kept records store e lawful f =
+    elim f [
+      | inl a ↦ records_kept (length store.pages) records e lawful.log lawful.names_pages a
+      | inr b ↦
+          elim b [
+            | inl p ↦ pages_kept (history records) store.pages e lawful.pages p.1
+            | inr q ↦ master_kept (history records) store.pages store.master e lawful.checkpoint q.2
+          ]
+    ]
+
+pub lawful_kept : (records : List LogRecord) (store : StoreContent) (r : Result (Unit {0}) Fault) → Lawful records store → IfErr r (FirstFault records store) → IfErr r (λ e. e ≡ NoResource)
+lawful_kept records store (Ok x) lawful f = tt
+lawful_kept records store (Err e) lawful f = fault_kept records store e lawful f

@@ -1,0 +1,10 @@
+pub mod Standings
+pub mod Cells
+pub mod Deciding
+pub mod Noting
+pub mod Passing
+pub mod PageImages
+pub mod Losers
+pub mod TrueTable
+pub mod Missing
+pub mod Kept

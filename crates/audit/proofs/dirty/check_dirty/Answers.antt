@@ -1,0 +1,61 @@
+use Rattle.std.proofs.Common.{◌≡◌, ◌<◌, ◌≤◌, ℕ, List, [], Option, Some, length, take, get_or, sym, ap, ap₂, subst, ◌∙◌, refl, arith}
+use Rattle.std.specs.Prelude.{All, ◌↔◌}
+use Rattle.std.proofs.lemmas.Bool.{iff_false}
+use Rattle.std.proofs.lemmas.Option.{slice_get-get_or}
+use Rattle.std.proofs.lemmas.List.{take_all, get_or_default}
+use Rattle.std.proofs.lemmas.List.Elements.{All-more}
+use Rattle.page.specs.declared.page.Page.{Page}
+use Rattle.wal.specs.Records.{History, LogRecord, history}
+use Rattle.wal.specs.Redo.{rec_lsn_of}
+use Rattle.audit.specs.Pages.{page_lsn}
+use Rattle.audit.specs.Dirty.{first_missing, KeepsMissing, IsInRange, IsCovered}
+use Rattle.audit.specs.FirstFault.{KeepsDirty}
+use Rattle.audit.proofs.Missing.{covered_law, law_covered}
+use Rattle.audit.proofs.dirty.check_dirty.Goals as goal
+
+-- what is kept for the page at its place
+kept : (pages : List Page) (log : History) (ms : List ℕ) (i n x : ℕ) (page : Page) → page ≡ get_or pages i page → i < length pages → page.number ≡ i → KeepsMissing pages log ms → n ≡ get_or ms i x → x ≡ n → n ≡ first_missing page.number page.lsn log
+kept pages log ms i n x page is lt number keeps at xn =
+    let blank : Page = record { number = 0; lsn = 0; slots = [] } in
+    let lsn : page_lsn pages i ≡ page.lsn = ap (λ (p : Page). p.lsn) (get_or_default pages i blank page lt ∙ sym is) in
+    let room : i < length ms = (let z = keeps.size_is in omega (arith, z)) in
+    at ∙ get_or_default ms i x 0 room ∙ keeps.each i lt ∙ ap₂ (λ q k. first_missing q k log) (sym number) lsn
+
+decided : (xs : List LogRecord) (m n : ℕ) (page : Page) (dirty : List (ℕ × ℕ)) (o : Option ℕ) → m ≤ length xs → o ≡ rec_lsn_of page.number dirty → n ≡ first_missing page.number page.lsn (history (take m xs))
+    → (IsInRange o m × IsCovered o n) ↔ KeepsDirty (history xs) m dirty page
+decided xs m n page dirty o le e f = (
+  λ h. covered_law xs m page.number page.lsn (rec_lsn_of page.number dirty) le (subst (λ z. IsInRange z m) e h.0) (subst (λ z. IsCovered (rec_lsn_of page.number dirty) z) f (subst (λ z. IsCovered z n) e h.1)),
+  λ law. let h = law_covered xs m page.number page.lsn (rec_lsn_of page.number dirty) le law in
+      (subst (λ z. IsInRange z m) (sym e) h.0, subst (λ z. IsCovered z n) (sym e) (subst (λ z. IsCovered (rec_lsn_of page.number dirty) z) (sym f) h.1)),
+)
+
+pub returns-then-not-is_covered-clause-err : goal.returns-then-not-is_covered-clause-err
+returns-then-not-is_covered-clause-err c =
+    let i = c.loop-number.number in
+    let page = c.index-pages-number.result in
+    let log : History = history (take c.args.master c.args.log.now) in
+    let number = ap (λ (p : Page). p.number) c.index-pages-number.is ∙ c.requires.numbered.at_place i page (omega arith) in
+    let n = kept c.args.pages.now log c.in_ok-missing.missing.items i c.index.result.now c.index.result.now page c.index-pages-number.is (omega arith) number c.in_ok-missing.ensures.ok c.index.ensures refl in
+    let d = decided c.args.log.now c.args.master c.index.result.now page c.args.dirty.now c.rec_lsn_in.result c.requires.master c.rec_lsn_in.ensures n in
+    record {
+      place = i;
+      page = page;
+      there = slice_get-get_or c.args.pages.now i page (omega arith) ∙ ap (λ (p : Page). Some p) (sym c.index-pages-number.is);
+      before = c.loop-number.invariant;
+      fault = refl;
+      broken = λ law. iff_false c.is_covered.ensures c.if-not-is_covered.true (d.1 law);
+    }
+
+pub loop-number-preserved : goal.loop-number-preserved
+loop-number-preserved c =
+    let i = c.loop-number.number in
+    let page = c.index-pages-number.result in
+    let log : History = history (take c.args.master c.args.log.now) in
+    let number = ap (λ (p : Page). p.number) c.index-pages-number.is ∙ c.requires.numbered.at_place i page (omega arith) in
+    let n = kept c.args.pages.now log c.in_ok-missing.missing.items i c.index.result.now c.index.result.now page c.index-pages-number.is (omega arith) number c.in_ok-missing.ensures.ok c.index.ensures refl in
+    let d = decided c.args.log.now c.args.master c.index.result.now page c.args.dirty.now c.rec_lsn_in.result c.requires.master c.rec_lsn_in.ensures n in
+    All-more (KeepsDirty (history c.args.log.now) c.args.master c.args.dirty.now) c.args.pages.now i page (omega arith) c.loop-number.invariant
+    (subst (KeepsDirty (history c.args.log.now) c.args.master c.args.dirty.now) c.index-pages-number.is (d.0 (c.is_covered.ensures.0 c.if-not-is_covered.false)))
+
+pub returns-clause-ok : goal.returns-clause-ok
+returns-clause-ok c = subst (λ (ps : List Page). All (KeepsDirty (history c.args.log.now) c.args.master c.args.dirty.now) ps) (take_all c.loop-number.number c.args.pages.now c.loop-number-test.false) c.loop-number.invariant

@@ -1,0 +1,31 @@
+-- Records that a page's image lacks, and whether a dirty page table covers them.
+use Rattle.std.specs.Prelude.{◌≡◌, ◌<◌, ◌≤◌, ℕ, suc, List, length, Option, Some, ◌==◌, ◌&&◌, nat_lt, if◌then◌else◌, slice_index, slice_set}
+use Rattle.page.specs.declared.page.Page.{Page}
+use Rattle.wal.specs.Records.{LogRecord, Update, Compensation, History, start, ◌▸◌, size}
+use Rattle.wal.specs.Meaning.{is_on}
+use Rattle.audit.specs.Pages.{page_lsn}
+
+-- the LSN of the first record on the page above its PageLSN, or 0
+abbrev pub first_missing : (page page_lsn : ℕ) → History → ℕ
+first_missing page page_lsn start = 0
+first_missing page page_lsn (log ▸ r) =
+    if first_missing page page_lsn log == 0 && (is_on page r && nat_lt page_lsn (suc (size log))) then suc (size log) else first_missing page page_lsn log
+
+-- for each page its first missing record
+pub record KeepsMissing (pages : List Page) (log : History) (missing : List ℕ) : Type 0 where
+  pub size_is : length missing ≡ length pages
+  pub each : (page : ℕ) → page < length pages → slice_index missing page ≡ first_missing page (page_lsn pages page) log
+
+-- after the record at an LSN
+abbrev pub noted_missing : (ℕ → ℕ) → List ℕ → LogRecord → ℕ → List ℕ
+noted_missing lsn_of missing (Update u) lsn = if slice_index missing u.page == 0 && nat_lt (lsn_of u.page) lsn then slice_set missing u.page lsn else missing
+noted_missing lsn_of missing (Compensation c) lsn = if slice_index missing c.page == 0 && nat_lt (lsn_of c.page) lsn then slice_set missing c.page lsn else missing
+noted_missing lsn_of missing _ lsn = missing
+
+-- a listed RecLSN lies in 1 to the master
+abbrev pub IsInRange : Option ℕ → ℕ → Type 0
+IsInRange listed master = (rec_lsn : ℕ) → listed ≡ Some rec_lsn → (1 ≤ rec_lsn) × (rec_lsn ≤ master)
+
+-- a missing record is listed from no later a RecLSN
+abbrev pub IsCovered : Option ℕ → ℕ → Type 0
+IsCovered listed missing = 0 < missing → (rec_lsn : ℕ) × (listed ≡ Some rec_lsn) × (rec_lsn ≤ missing)

@@ -1,0 +1,109 @@
+-- The first broken law, in the order: the records by LSN, the pages by number, the checkpoint.
+use Rattle.std.specs.Prelude.{◌≡◌, ◌<◌, ◌≤◌, ◌⊎◌, ℕ, suc, List, All, length, take, slice_get, Some, Bool, true, false}
+use Rattle.page.specs.declared.fault.Fault.{Fault}
+use Rattle.page.specs.declared.fault.Fault.TheVariants.{NoResource, NoSuchPage, Chain, AfterFinish, WrongCompensation, BeforeImage, DirtyWrite, EndTooEarly, PageAheadOfLog, PageImage, BadMaster, TransactionTable, DirtyTable}
+use Rattle.page.specs.declared.page.Page.{Page}
+use Rattle.wal.specs.Records.{LogRecord, TableEntry, End, CheckpointBegin, History, history, size, record_at, first}
+use Rattle.wal.specs.Laws.{ChainLaw, FinishLaw, CompensationLaw, BeforeLaw, Strictness, IsLawful}
+use Rattle.wal.specs.Store.{NamesPages, PageLaw, DirtyLaw, first_end, true_table}
+use Rattle.wal.specs.Redo.{rec_lsn_of}
+use Rattle.page.specs.Store.{StoreContent}
+
+-- whether it is an end
+abbrev pub is_end : LogRecord → Bool
+is_end (End s) = true
+is_end _ = false
+
+-- the fault names the record behind this log and the first law that the record breaks there
+abbrev pub BrokenAt : (count : ℕ) → History → LogRecord → Fault → Type 0
+BrokenAt count log r (NoSuchPage lsn) = (lsn ≡ suc (size log)) × (NamesPages count r → ⊥)
+BrokenAt count log r (Chain lsn) = (lsn ≡ suc (size log)) × NamesPages count r × (ChainLaw log r → ⊥)
+BrokenAt count log r (AfterFinish lsn) = (lsn ≡ suc (size log)) × NamesPages count r × ChainLaw log r × (FinishLaw log r → ⊥)
+BrokenAt count log r (WrongCompensation lsn) =
+    (lsn ≡ suc (size log)) × NamesPages count r × ChainLaw log r × FinishLaw log r × (is_end r ≡ false) × (CompensationLaw log r → ⊥)
+BrokenAt count log r (EndTooEarly lsn) =
+    (lsn ≡ suc (size log)) × NamesPages count r × ChainLaw log r × FinishLaw log r × (is_end r ≡ true) × (CompensationLaw log r → ⊥)
+BrokenAt count log r (DirtyWrite lsn) =
+    (lsn ≡ suc (size log)) × NamesPages count r × ChainLaw log r × FinishLaw log r × CompensationLaw log r × (Strictness log r → ⊥)
+BrokenAt count log r (BeforeImage lsn) =
+    (lsn ≡ suc (size log)) × NamesPages count r × ChainLaw log r × FinishLaw log r × CompensationLaw log r × Strictness log r × (BeforeLaw log r → ⊥)
+BrokenAt count log r _ = ⊥
+
+-- the records keep their laws, and name pages below the count
+pub record AreSound (count : ℕ) (records : List LogRecord) : Type 0 where
+  pub lawful : IsLawful (history records)
+  pub named : All (NamesPages count) records
+
+-- the fault is that of the first record that breaks a law
+pub record FirstBroken (count : ℕ) (records : List LogRecord) (e : Fault) : Type 0 where
+  pub place : ℕ
+  pub entry : LogRecord
+  pub there : slice_get records place ≡ Some entry
+  pub before : AreSound count (take place records)
+  pub broken : BrokenAt count (history (take place records)) entry e
+
+-- why the records are refused, want of memory aside
+abbrev pub RecordFault : (count : ℕ) → List LogRecord → Fault → Type 0
+RecordFault count records NoResource = Unit {0}
+RecordFault count records e = FirstBroken count records e
+
+-- the fault names the page and the first law that it breaks
+abbrev pub BrokenPage : History → Page → Fault → Type 0
+BrokenPage log page (PageAheadOfLog number) = (number ≡ page.number) × (size log < page.lsn)
+BrokenPage log page (PageImage number) = (number ≡ page.number) × (page.lsn ≤ size log) × (PageLaw log page → ⊥)
+BrokenPage log page _ = ⊥
+
+-- the fault is that of the first page that breaks its law
+pub record FirstBrokenPage (log : History) (pages : List Page) (e : Fault) : Type 0 where
+  pub place : ℕ
+  pub page : Page
+  pub there : slice_get pages place ≡ Some page
+  pub before : All (PageLaw log) (take place pages)
+  pub broken : BrokenPage log page e
+
+-- why the pages are refused, want of memory aside
+abbrev pub PagesFault : History → List Page → Fault → Type 0
+PagesFault log pages NoResource = Unit {0}
+PagesFault log pages e = FirstBrokenPage log pages e
+
+-- the dirty page table of the begin at m is true of the page
+abbrev pub KeepsDirty : History → ℕ → List (ℕ × ℕ) → Page → Type 0
+KeepsDirty log m dirty page = DirtyLaw log m page.number page.lsn (rec_lsn_of page.number dirty)
+
+-- the fault names the first page of which it is not
+pub record FirstUncovered (log : History) (m : ℕ) (dirty : List (ℕ × ℕ)) (pages : List Page) (e : Fault) : Type 0 where
+  pub place : ℕ
+  pub page : Page
+  pub there : slice_get pages place ≡ Some page
+  pub before : All (KeepsDirty log m dirty) (take place pages)
+  pub fault : e ≡ DirtyTable page.number
+  pub broken : KeepsDirty log m dirty page → ⊥
+
+-- why a dirty page table is refused, want of memory aside
+abbrev pub DirtyFault : History → ℕ → List (ℕ × ℕ) → List Page → Fault → Type 0
+DirtyFault log m dirty pages NoResource = Unit {0}
+DirtyFault log m dirty pages e = FirstUncovered log m dirty pages e
+
+-- m is a checkpoint begin, and these are the tables of the first end that names it
+pub record Names (log : History) (m : ℕ) (transactions : List TableEntry) (dirty : List (ℕ × ℕ)) : Type 0 where
+  pub begins : record_at log m ≡ Some CheckpointBegin
+  pub named : first_end m log ≡ Some (transactions, dirty)
+
+-- why the master m is refused, want of memory aside
+abbrev pub MasterFault : History → List Page → ℕ → Fault → Type 0
+MasterFault log pages m NoResource = Unit {0}
+MasterFault log pages m BadMaster = (m ≡ 0 → ⊥) × ((transactions : List TableEntry) (dirty : List (ℕ × ℕ)) → Names log m transactions dirty → ⊥)
+MasterFault log pages m TransactionTable =
+    (m ≡ 0 → ⊥) × ((transactions : List TableEntry) × (dirty : List (ℕ × ℕ)) × Names log m transactions dirty × (transactions ≡ true_table (first m log) → ⊥))
+MasterFault log pages m (DirtyTable number) =
+    (m ≡ 0 → ⊥)
+    × ((transactions : List TableEntry) × (dirty : List (ℕ × ℕ)) × Names log m transactions dirty × (transactions ≡ true_table (first m log))
+    × FirstUncovered log m dirty pages (DirtyTable number))
+MasterFault log pages m _ = ⊥
+
+-- FIRST FAULT. The first broken law: of the records, else of the pages, else of the checkpoint; want of memory aside.
+abbrev pub FirstFault : List LogRecord → StoreContent → Fault → Type 0
+FirstFault records store e =
+    RecordFault (length store.pages) records e
+    ⊎ ((AreSound (length store.pages) records × PagesFault (history records) store.pages e)
+    ⊎ (AreSound (length store.pages) records × All (PageLaw (history records)) store.pages × MasterFault (history records) store.pages store.master e))

@@ -1,0 +1,7 @@
+pub mod Standings
+pub mod Cells
+pub mod FirstFault
+pub mod Passing
+pub mod Pages
+pub mod Checkpoints
+pub mod Dirty

@@ -1,0 +1,23 @@
+-- The records that a page's image is to have.
+use Rattle.std.specs.Prelude.{◌≡◌, ◌<◌, ◌+◌, ◌*◌, ℕ, List, [], Bool, false, nat_le, slice_index, slice_index_or}
+use Rattle.page.specs.declared.page.Page.{Page}
+use Rattle.wal.specs.Records.{LogRecord, Update, Compensation, History, first}
+use Rattle.audit.specs.Cells.{last_write}
+
+-- the PageLSN of the page at a place
+abbrev pub page_lsn : List Page → ℕ → ℕ
+page_lsn pages number = (slice_index_or pages number (record { number = 0; lsn = 0; slots = [] })).lsn
+
+-- the log up to its PageLSN
+abbrev pub log_at : List Page → History → ℕ → History
+log_at pages log number = first (page_lsn pages number) log
+
+-- whether the record at an LSN is on a page, at or before its PageLSN
+abbrev pub counts_for : (ℕ → ℕ) → LogRecord → ℕ → Bool
+counts_for lsn_of (Update u) lsn = nat_le lsn (lsn_of u.page)
+counts_for lsn_of (Compensation c) lsn = nat_le lsn (lsn_of c.page)
+counts_for lsn_of _ lsn = false
+
+-- the numbers tell who wrote each cell of the page last, up to its PageLSN
+abbrev pub KeepsPage : History → List ℕ → Page → Type 0
+KeepsPage log writers page = (slot : ℕ) → slot < 16 → slice_index writers (16 * page.number + slot) ≡ last_write page.number slot (first page.lsn log)

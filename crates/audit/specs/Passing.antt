@@ -1,0 +1,29 @@
+-- What is kept while the records are gone through.
+use Rattle.std.specs.Prelude.{◌≡◌, ◌≤◌, ◌⊎◌, ◌||◌, ℕ, List, length, Option, Some, None, true}
+use Rattle.page.specs.Image.{Image}
+use Rattle.wal.specs.Records.{LogRecord, Update, History, history, size, record_at}
+use Rattle.wal.specs.Tail.{tx_of}
+use Rattle.audit.specs.declared.standing.Standing.{Standing}
+use Rattle.audit.specs.declared.running.Running.{Running}
+use Rattle.audit.specs.Standings.{Stands, standing_in}
+use Rattle.audit.specs.Cells.{KeepsCells}
+
+-- it tells how each transaction stands and who wrote each cell last
+pub record Tells (count : ℕ) (log : History) (running : Running) : Type 0 where
+  pub links : length running.links.items ≡ size log
+  pub stands : (t : ℕ) → Stands running.links.items t log (standing_in running.table t)
+  pub cells : KeepsCells count (λ _. log) running.writers.items
+
+-- the log is a beginning of these records
+abbrev pub Begins : History → List LogRecord → Type 0
+Begins log records = (n : ℕ) → n ≤ size log → record_at (history records) n ≡ record_at log n
+
+-- the record is an update that a CLR with this cell, UndoNxtLSN and image undoes
+abbrev pub Undoes : LogRecord → (page slot undo_next : ℕ) → Image → Type 0
+Undoes (Update u) page slot undo_next image = (page ≡ u.page) × (slot ≡ u.slot) × (undo_next ≡ u.prev) × (image ≡ u.before)
+Undoes _ page slot undo_next image = ⊥
+
+-- the writer of a cell, if there is one, is this transaction or has finished
+abbrev pub IsFreeFor : (ℕ → Standing) → Option LogRecord → ℕ → Type 0
+IsFreeFor standing None tx = Unit {0}
+IsFreeFor standing (Some r) tx = (tx_of r ≡ tx) ⊎ (((standing (tx_of r)).committed || (standing (tx_of r)).ended) ≡ true)

@@ -1,0 +1,233 @@
+//! Whether a record keeps a law: one function a law, exact.
+
+ghost use Rattle.std.specs.Prelude.{◌≡◌, ◌+◌, ◌*◌, ◌≤◌, ◌<◌, ◌⊎◌, ◌||◌, ◌↔◌, ℕ, List, All, IsTrue, Some, true, length, option_map, slice_index, slice_index_or};
+ghost use Rattle.page.specs.Image.{Image};
+ghost use Rattle.wal.specs.Records.{LogRecord, History, history, size, record_at};
+ghost use Rattle.wal.specs.Meaning.{image_of};
+ghost use Rattle.wal.specs.Laws.{IsLawful, ChainLaw, FinishLaw, CompensationLaw, BeforeLaw, Strictness};
+ghost use Rattle.wal.specs.Store.{NamesPages};
+ghost use Rattle.wal.specs.Spelling.{Fits};
+ghost use Rattle.wal.specs.Tail.{tx_of};
+ghost use Rattle.wal.specs.Shown.{shown};
+ghost use Rattle.audit.specs.Standings.{Stands, standing_in};
+ghost use Rattle.audit.specs.Cells.{HasCell, KeepsCells, image_by};
+ghost use Rattle.audit.specs.Passing.{Begins, Undoes, IsFreeFor};
+
+use crate::standing::{Standing, standing_of, transaction_of};
+use std::collections::HashMap;
+use wal::{DirtyTable, Log, RecordView};
+
+/// The page and its RecLSN at a place.
+pub fn dirty_page(dirty: &DirtyTable, place: usize) -> (u32, u64)
+    requires { place < length dirty.now }
+    ensures { (d : ℕ × ℕ) → slice_index_or dirty.now place d ≡ result }
+{
+    match dirty.get(place) {
+        Some(page) => page,
+        None => unreachable!(),
+    }
+}
+
+/// Whether each page of the table is below the count.
+fn are_below(dirty: &DirtyTable, count: usize) -> bool
+    ensures { IsTrue result ↔ All (λ d. d.0 < count) dirty.now }
+{
+    for place in 0..dirty.len() {
+        let (page, _) = dirty_page(dirty, place);
+        if page as usize >= count {
+            return false;
+        }
+    }
+    true
+}
+
+/// Whether each page that the record names is below the count.
+pub fn names_pages(view: &RecordView, count: usize) -> bool
+    ensures { IsTrue result ↔ NamesPages count (shown view.now) }
+{
+    match view {
+        RecordView::Update { page, .. } => (*page as usize) < count,
+        RecordView::Compensation { page, .. } => (*page as usize) < count,
+        RecordView::CheckpointEnd { dirty, .. } => are_below(dirty, count),
+        _ => true,
+    }
+}
+
+/// Whether PrevLSN is the transaction's last record.
+pub fn keeps_chain(view: &RecordView, standing: Standing) -> bool
+    ensures { (log : History) (links : List ℕ) → Stands links (tx_of (shown view.now)) log standing
+        → IsTrue result ↔ ChainLaw log (shown view.now) }
+{
+    match view {
+        RecordView::Update { prev, .. } => *prev == standing.last,
+        RecordView::Compensation { prev, .. } => *prev == standing.last,
+        RecordView::Commit { prev, .. } => *prev == standing.last,
+        RecordView::Abort { prev, .. } => *prev == standing.last,
+        RecordView::End { prev, .. } => *prev == standing.last,
+        RecordView::CheckpointBegin => true,
+        RecordView::CheckpointEnd { .. } => true,
+    }
+}
+
+/// Whether no commit, abort or end of its transaction forbids the record.
+pub fn keeps_finish(view: &RecordView, standing: Standing) -> bool
+    ensures { (log : History) (links : List ℕ) → Stands links (tx_of (shown view.now)) log standing
+        → IsTrue result ↔ FinishLaw log (shown view.now) }
+{
+    match view {
+        RecordView::Update { .. } => !standing.is_finished() && !standing.aborted,
+        RecordView::Compensation { .. } => !standing.is_finished(),
+        RecordView::Commit { .. } => !standing.is_finished() && !standing.aborted,
+        RecordView::Abort { .. } => !standing.is_finished() && !standing.aborted,
+        RecordView::End { .. } => !standing.ended,
+        RecordView::CheckpointBegin => true,
+        RecordView::CheckpointEnd { .. } => true,
+    }
+}
+
+/// Whether both images are absent, or hold the same bytes.
+fn are_same(left: Option<&[u8]>, right: Option<&[u8]>) -> bool
+    ensures { IsTrue result ↔ option_map (λ s. s.now) left.entry ≡ option_map (λ s. s.now) right.entry }
+{
+    match left {
+        None => match right {
+            None => true,
+            Some(_) => false,
+        },
+        Some(left) => match right {
+            None => false,
+            Some(right) => left == right,
+        },
+    }
+}
+
+/// Whether it is an update of this cell that has this before image and PrevLSN.
+fn undoes(view: &RecordView, cell: (u32, u8), undo_next: u64, image: Option<&[u8]>) -> bool
+    ensures { IsTrue result ↔ Undoes (shown view.now) cell.0 cell.1 undo_next (option_map (λ s. s.now) image.entry) }
+{
+    match view {
+        RecordView::Update {
+            prev,
+            page,
+            slot,
+            before,
+            ..
+        } => {
+            cell.0 == *page && cell.1 == *slot && undo_next == *prev && are_same(image, *before)
+        }
+        _ => false,
+    }
+}
+
+/// Whether such an update stands at an LSN.
+fn undoes_at(log: &Log, lsn: u64, cell: (u32, u8), undo_next: u64, image: Option<&[u8]>) -> bool
+    ensures { IsTrue result ↔ ((r : LogRecord) × (record_at (history log.now) lsn ≡ Some r) × Undoes r cell.0 cell.1 undo_next (option_map (λ s. s.now) image.entry)) }
+{
+    match log.get(lsn) {
+        None => false,
+        Some(view) => undoes(&view, cell, undo_next, image),
+    }
+}
+
+/// Whether a CLR undoes the newest pending update, and an end without a commit finds none.
+pub fn keeps_compensation(log: &Log, view: &RecordView, standing: Standing) -> bool
+    ensures { (so_far : History) (links : List ℕ) → Begins so_far log.now → length links ≡ size so_far
+        → Stands links (tx_of (shown view.now)) so_far standing
+        → IsTrue result ↔ CompensationLaw so_far (shown view.now) }
+{
+    match view {
+        RecordView::Compensation {
+            page,
+            slot,
+            undo_next,
+            image,
+            ..
+        } => undoes_at(log, standing.newest, (*page, *slot), *undo_next, *image),
+        RecordView::End { .. } => standing.committed || standing.newest == 0,
+        _ => true,
+    }
+}
+
+/// The LSN of the last writer of a cell.
+fn last_writer(writers: &[u64], page: u32, slot: u8) -> u64
+    requires { 16 * page + slot < length writers.now }
+    ensures { result ≡ slice_index writers.now (16 * page + slot) }
+{
+    writers[16 * page as usize + slot as usize]
+}
+
+/// Whether no other transaction than this one wrote the record at an LSN, or it has finished.
+fn is_free_for(log: &Log, table: &HashMap<u32, Standing>, writer: u64, tx: u32) -> bool
+    ensures { IsTrue result ↔ IsFreeFor (standing_in table.now) (record_at (history log.now) writer) tx }
+{
+    match log.get(writer) {
+        None => true,
+        Some(view) => {
+            let other = transaction_of(&view);
+            other == tx || standing_of(table, other).is_finished()
+        }
+    }
+}
+
+/// Whether no other unfinished transaction has an update or CLR in the cell of an update.
+pub fn keeps_strictness(
+    log: &Log,
+    table: &HashMap<u32, Standing>,
+    writers: &[u64],
+    view: &RecordView,
+) -> bool
+    requires { HasCell (length writers.now) (shown view.now) }
+    ensures { (so_far : History) (links : List ℕ) (count : ℕ) → Begins so_far log.now → IsLawful so_far
+        → ((t : ℕ) → Stands links t so_far (standing_in table.now t))
+        → KeepsCells count (λ _. so_far) writers.now → NamesPages count (shown view.now) → Fits (shown view.now)
+        → IsTrue result ↔ Strictness so_far (shown view.now) }
+{
+    match view {
+        RecordView::Update { tx, page, slot, .. } => is_free_for(
+            log,
+            table,
+            last_writer(writers, *page, *slot),
+            *tx,
+        ),
+        _ => true,
+    }
+}
+
+/// Whether a record puts this image into its cell.
+fn puts(view: &RecordView, image: Option<&[u8]>) -> bool
+    ensures { IsTrue result ↔ option_map (λ s. s.now) image.entry ≡ image_of (shown view.now) }
+{
+    match view {
+        RecordView::Update { after, .. } => are_same(image, *after),
+        RecordView::Compensation { image: put, .. } => are_same(image, *put),
+        _ => image.is_none(),
+    }
+}
+
+/// Whether the record at an LSN leaves this image, which is None where no record is.
+pub fn leaves(log: &Log, writer: u64, image: Option<&[u8]>) -> bool
+    ensures { IsTrue result ↔ option_map (λ s. s.now) image.entry ≡ image_by (record_at (history log.now) writer) }
+{
+    match log.get(writer) {
+        None => image.is_none(),
+        Some(view) => puts(&view, image),
+    }
+}
+
+/// Whether the before image of an update is its cell's value.
+pub fn keeps_before(log: &Log, writers: &[u64], view: &RecordView) -> bool
+    requires { HasCell (length writers.now) (shown view.now) }
+    ensures { (so_far : History) (count : ℕ) → Begins so_far log.now
+        → KeepsCells count (λ _. so_far) writers.now → NamesPages count (shown view.now) → Fits (shown view.now)
+        → IsTrue result ↔ BeforeLaw so_far (shown view.now) }
+{
+    match view {
+        RecordView::Update {
+            page,
+            slot,
+            before,
+            ..
+        } => leaves(log, last_writer(writers, *page, *slot), *before),
+        _ => true,
+    }
+}

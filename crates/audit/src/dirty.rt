@@ -1,0 +1,102 @@
+//! The dirty page table of a checkpoint, against the log and the pages.
+
+ghost use Rattle.std.specs.Prelude.{◌≡◌, ◌+◌, ◌≤◌, ◌<◌, ◌↔◌, ℕ, All, IsTrue, Some, length, take, IfOk, OnOk, IfErr};
+ghost use Rattle.page.specs.Store.{AreNumbered};
+ghost use Rattle.page.specs.declared.fault.Fault.TheVariants.{NoResource};
+ghost use Rattle.wal.specs.Records.{history};
+ghost use Rattle.wal.specs.Redo.{rec_lsn_of};
+ghost use Rattle.wal.specs.Store.{NamesPages, DirtyLaw};
+ghost use Rattle.wal.specs.Shown.{shown};
+ghost use Rattle.audit.specs.Pages.{page_lsn};
+ghost use Rattle.audit.specs.Dirty.{KeepsMissing, noted_missing, IsInRange, IsCovered};
+ghost use Rattle.audit.specs.FirstFault.{KeepsDirty, DirtyFault};
+
+use crate::decide::dirty_page;
+use crate::records::record_in;
+use page::{Fault, Page};
+use std::alloc::Global;
+use wal::{DirtyTable, Log, RecordView};
+
+/// Notes the record at an LSN, if it is the first on its page that the image lacks.
+fn note_missing(missing: &mut [u64], view: &RecordView, pages: &[Page], lsn: u64)
+    requires named { NamesPages (length pages.now) (shown view.now) }
+    requires size { length missing.old ≡ length pages.now }
+    ensures { missing.new ≡ noted_missing (page_lsn pages.now) missing.old (shown view.now) lsn }
+{
+    match view {
+        RecordView::Update { page, .. } => {
+            if missing[*page as usize] == 0 && pages[*page as usize].lsn < lsn {
+                missing[*page as usize] = lsn;
+            }
+        }
+        RecordView::Compensation { page, .. } => {
+            if missing[*page as usize] == 0 && pages[*page as usize].lsn < lsn {
+                missing[*page as usize] = lsn;
+            }
+        }
+        _ => {}
+    }
+}
+
+/// For each page the LSN of the first of so many records that is on it and above its PageLSN, 0 for
+/// none. The only error is `NoResource`.
+fn missing_in(alloc: Global, log: &Log, count: u64, pages: &[Page]) -> Result<Vec<u64>, Fault>
+    requires count { count ≤ length log.now }
+    requires named { All (NamesPages (length pages.now)) log.now }
+    ensures ok { IfOk result (λ v. KeepsMissing pages.now (history (take count log.now)) v.items) }
+    ensures err { IfErr result (λ e. e ≡ NoResource) }
+{
+    let mut missing = vec![in alloc; 0; pages.len()]?;
+    let _len = log.len();
+    for index in 0..count {
+        note_missing(&mut missing, &record_in(log, index), pages, index + 1);
+    }
+    Ok(missing)
+}
+
+/// The RecLSN of a page, if the table lists it.
+fn rec_lsn_in(dirty: &DirtyTable, page: u32) -> Option<u64>
+    ensures { result ≡ rec_lsn_of page dirty.now }
+{
+    for place in 0..dirty.len() {
+        let (other, rec_lsn) = dirty_page(dirty, place);
+        if other == page {
+            return Some(rec_lsn);
+        }
+    }
+    None
+}
+
+/// Whether a listed RecLSN lies in 1 to the master, and at or before the first missing record.
+fn is_covered(listed: Option<u64>, missing: u64, master: u64) -> bool
+    ensures { IsTrue result ↔ IsInRange listed master × IsCovered listed missing }
+{
+    match listed {
+        None => missing == 0,
+        Some(rec_lsn) => rec_lsn >= 1 && rec_lsn <= master && (missing == 0 || rec_lsn <= missing),
+    }
+}
+
+/// Refuses the smallest page of which the dirty page table of the begin at `master` is not true.
+/// `NoResource`, where memory is refused, may come in its place.
+pub fn check_dirty(
+    alloc: Global,
+    log: &Log,
+    master: u64,
+    pages: &[Page],
+    dirty: &DirtyTable,
+) -> Result<(), Fault>
+    requires master { master ≤ length log.now }
+    requires numbered { AreNumbered pages.now }
+    requires named { All (NamesPages (length pages.now)) log.now }
+    ensures ok { OnOk result (All (KeepsDirty (history log.now) master dirty.now) pages.now) }
+    ensures err { IfErr result (DirtyFault (history log.now) master dirty.now pages.now) }
+{
+    let missing = missing_in(alloc, log, master, pages)?;
+    for (number, page) in pages.iter().enumerate() {
+        if !is_covered(rec_lsn_in(dirty, page.number), missing[number], master) {
+            return Err(Fault::DirtyTable(page.number));
+        }
+    }
+    Ok(())
+}

@@ -1,0 +1,248 @@
+//! The law of the checkpoint that the master names.
+
+ghost use Rattle.std.specs.Prelude.{◌≡◌, ◌+◌, ◌*◌, ◌≤◌, ◌<◌, ◌⊎◌, ◌↔◌, ◌^◌, ℕ, List, All, IsTrue, Some, None, true, false, length, map, take, option_map, nat_le, IfOk, OnOk, IfErr, IfSome, slice_index, slice_index_or};
+ghost use Rattle.page.specs.declared.fault.Fault.TheVariants.{NoResource};
+ghost use Rattle.wal.specs.Records.{LogRecord, TableEntry, CheckpointBegin, tx_in, History, history, first, record_at, size};
+ghost use Rattle.wal.specs.Meaning.{is_loser, last_of};
+ghost use Rattle.wal.specs.Tail.{is_among};
+ghost use Rattle.wal.specs.Store.{first_end, true_entry, true_table, state_of, NamesPages, CheckpointLaw};
+ghost use Rattle.wal.specs.Spelling.{IsRising, Fits};
+ghost use Rattle.wal.specs.Content.{entry_of};
+ghost use Rattle.wal.specs.Shown.{shown};
+ghost use Rattle.audit.specs.Standings.{Stands, standing_in};
+ghost use Rattle.page.specs.Store.{AreNumbered};
+ghost use Rattle.audit.specs.Passing.{Tells};
+ghost use Rattle.audit.specs.FirstFault.{MasterFault};
+ghost use Rattle.audit.specs.Checkpoints.{named_in, IsTrueEntry, Lists};
+
+use crate::dirty::check_dirty;
+use crate::records::record_in;
+use crate::running::Running;
+use crate::standing::{Standing, standing_of, transaction_of};
+use page::{Fault, Page};
+use std::alloc::Global;
+use std::collections::HashMap;
+use wal::{DirtyTable, Entry, Log, RecordView, State, TransactionTable};
+
+/// Whether the record at an LSN is a checkpoint begin.
+fn is_begin(log: &Log, lsn: u64) -> bool
+    ensures { IsTrue result ↔ record_at (history log.now) lsn ≡ Some CheckpointBegin }
+{
+    match log.get(lsn) {
+        Some(RecordView::CheckpointBegin) => true,
+        _ => false,
+    }
+}
+
+/// The tables of a record, if it is a checkpoint end that names this begin.
+fn tables_in<'a>(
+    view: RecordView<'a>,
+    master: u64,
+) -> Option<(TransactionTable<'a>, DirtyTable<'a>)>
+    requires { Fits (shown view) }
+    ensures tables { result ≡ named_in master (shown view.entry) }
+    ensures rising { IfSome result (λ x. IsRising (map tx_in x.0)) }
+{
+    match view {
+        RecordView::CheckpointEnd {
+            begin,
+            transactions,
+            dirty,
+        } => {
+            if begin != master {
+                return None;
+            }
+            Some((transactions, dirty))
+        }
+        _ => None,
+    }
+}
+
+/// The tables of the first checkpoint end behind the master that names it.
+fn tables_of<'a>(log: &Log<'a>, master: u64) -> Option<(TransactionTable<'a>, DirtyTable<'a>)>
+    requires { master ≤ length log.now }
+    ensures first { result ≡ first_end master (history log.now) }
+    ensures rising { IfSome result (λ x. IsRising (map tx_in x.0)) }
+{
+    for index in master..log.len() {
+        if let Some(tables) = tables_in(record_in(log, index), master) {
+            return Some(tables);
+        }
+    }
+    None
+}
+
+/// Whether a transaction that stands so is a loser.
+fn is_lost(standing: Standing) -> bool
+    ensures { (t : ℕ) (log : History) (links : List ℕ) → Stands links t log standing → result ≡ is_loser t log }
+{
+    standing.last != 0 && !standing.is_finished()
+}
+
+/// Whether a state is that of a transaction that has or has not aborted.
+fn tells_abort(state: State, aborted: bool) -> bool
+    ensures { IsTrue result ↔ state ≡ state_of aborted }
+{
+    match state {
+        State::Active => !aborted,
+        State::Aborting => aborted,
+    }
+}
+
+/// Whether a transaction that stands so is a loser with this entry.
+fn is_true_entry(standing: Standing, entry: Entry) -> bool
+    ensures { (t : ℕ) (log : History) (links : List ℕ) → Stands links t log standing → IsTrue result ↔ IsTrueEntry log (entry_of (t, entry)) }
+{
+    is_lost(standing)
+        && entry.last == standing.last
+        && entry.undo_next == standing.undo_next
+        && tells_abort(entry.state, standing.aborted)
+}
+
+/// The transaction and its entry at a place.
+fn entry_at(transactions: &TransactionTable, place: usize) -> (u32, Entry)
+    requires { place < length transactions.now }
+    ensures { (d : TableEntry) → slice_index_or transactions.now place d ≡ entry_of result }
+{
+    match transactions.get(place) {
+        Some(entry) => entry,
+        None => unreachable!(),
+    }
+}
+
+/// Whether each entry is of a loser, and true of it.
+fn entries_are_true(table: &HashMap<u32, Standing>, transactions: &TransactionTable) -> bool
+    ensures { (log : History) (links : List ℕ) → ((t : ℕ) → Stands links t log (standing_in table.now t))
+        → IsTrue result ↔ All (IsTrueEntry log) transactions.now }
+{
+    for place in 0..transactions.len() {
+        let (tx, entry) = entry_at(transactions, place);
+        if !is_true_entry(standing_of(table, tx), entry) {
+            return false;
+        }
+    }
+    true
+}
+
+/// Whether a transaction has an entry.
+fn is_listed(transactions: &TransactionTable, tx: u32) -> bool
+    ensures { IsTrue result ↔ Lists transactions.now tx }
+{
+    for place in 0..transactions.len() {
+        let (other, _) = entry_at(transactions, place);
+        if other == tx {
+            return true;
+        }
+    }
+    false
+}
+
+/// Whether a transaction whose last record this is is a loser without an entry.
+fn is_missing(transactions: &TransactionTable, tx: u32, standing: Standing, lsn: u64) -> bool
+    ensures missing { result ≡ true → (log : History) (links : List ℕ) → Stands links tx log standing
+        → (is_loser tx log ≡ true) × (Lists transactions.now tx → ⊥) }
+    ensures found { result ≡ false → (log : History) (links : List ℕ) → Stands links tx log standing
+        → last_of tx log ≡ lsn → is_loser tx log ≡ true → Lists transactions.now tx }
+{
+    if standing.last != lsn || !is_lost(standing) {
+        return false;
+    }
+    !is_listed(transactions, tx)
+}
+
+/// Whether each loser among the first so many records has an entry.
+fn losers_are_listed(
+    log: &Log,
+    count: u64,
+    table: &HashMap<u32, Standing>,
+    transactions: &TransactionTable,
+) -> bool
+    requires { count ≤ length log.now }
+    ensures { (links : List ℕ) → ((t : ℕ) → Stands links t (history (take count log.now)) (standing_in table.now t))
+        → IsTrue result ↔ ((t : ℕ) → is_loser t (history (take count log.now)) ≡ true → Lists transactions.now t) }
+{
+    let _len = log.len();
+    for index in 0..count {
+        let tx = transaction_of(&record_in(log, index));
+        if is_missing(transactions, tx, standing_of(table, tx), index + 1) {
+            return false;
+        }
+    }
+    true
+}
+
+/// Whether the table is exactly that of the losers among the first so many records.
+fn is_true_table(
+    log: &Log,
+    count: u64,
+    table: &HashMap<u32, Standing>,
+    transactions: &TransactionTable,
+) -> bool
+    requires count { count ≤ length log.now }
+    requires rising { IsRising (map tx_in transactions.now) }
+    ensures { (links : List ℕ) → ((t : ℕ) → Stands links t (history (take count log.now)) (standing_in table.now t))
+        → IsTrue result ↔ transactions.now ≡ true_table (history (take count log.now)) }
+{
+    entries_are_true(table, transactions) && losers_are_listed(log, count, table, transactions)
+}
+
+/// How each transaction stands after the first so many records. The only error is `NoResource`.
+fn running_at(alloc: Global, log: &Log, count: u64, pages: usize) -> Result<Running, Fault>
+    requires count { count ≤ length log.now }
+    requires few { pages ≤ 4096 }
+    requires named { All (NamesPages pages) log.now }
+    ensures ok { IfOk result (Tells pages (history (take count log.now))) }
+    ensures err { IfErr result (λ e. e ≡ NoResource) }
+{
+    let mut running = Running::start(alloc, pages)?;
+    let _len = log.len();
+    for index in 0..count {
+        let view = record_in(log, index);
+        running.note(&view, index + 1)?;
+    }
+    Ok(running)
+}
+
+/// Refuses a transaction table that is not that of the losers at the begin.
+fn check_transactions(
+    alloc: Global,
+    log: &Log,
+    master: u64,
+    pages: usize,
+    transactions: &TransactionTable,
+) -> Result<bool, Fault>
+    requires count { master ≤ length log.now }
+    requires few { pages ≤ 4096 }
+    requires named { All (NamesPages pages) log.now }
+    requires rising { IsRising (map tx_in transactions.now) }
+    ensures ok { IfOk result (λ yes. IsTrue yes ↔ transactions.now ≡ true_table (first master (history log.now))) }
+    ensures err { IfErr result (λ e. e ≡ NoResource) }
+{
+    let running = running_at(alloc, log, master, pages)?;
+    Ok(is_true_table(log, master, &running.table, transactions))
+}
+
+/// Refuses the master for the first law that its checkpoint breaks. `NoResource`, where memory is
+/// refused, may come in its place.
+pub fn check_master(alloc: Global, log: &Log, master: u64, pages: &[Page]) -> Result<(), Fault>
+    requires numbered { AreNumbered pages.now }
+    requires named { All (NamesPages (length pages.now)) log.now }
+    ensures ok { OnOk result (CheckpointLaw (history log.now) pages.now master) }
+    ensures err { IfErr result (MasterFault (history log.now) pages.now master) }
+{
+    if master == 0 {
+        return Ok(());
+    }
+    if !is_begin(log, master) {
+        return Err(Fault::BadMaster);
+    }
+    let Some((transactions, dirty)) = tables_of(log, master) else {
+        return Err(Fault::BadMaster);
+    };
+    match check_transactions(alloc, log, master, pages.len(), &transactions) {
+        Err(fault) => return Err(fault),
+        Ok(false) => return Err(Fault::TransactionTable),
+        Ok(true) => {}
+    }
+    check_dirty(alloc, log, master, pages, &dirty)
+}

@@ -1,0 +1,132 @@
+//! The law of pages, by number.
+
+ghost use Rattle.std.specs.Prelude.{◌≡◌, ◌+◌, ◌*◌, ◌≤◌, ◌<◌, ◌⊎◌, ◌↔◌, ℕ, All, IsTrue, Some, None, true, length, IfOk, OnOk, IfErr, slice_index, slice_index_or};
+ghost use Rattle.page.specs.Store.{AreNumbered};
+ghost use Rattle.page.specs.declared.fault.Fault.TheVariants.{NoResource};
+ghost use Rattle.wal.specs.Records.{LogRecord, history, first, record_at};
+ghost use Rattle.wal.specs.Meaning.{is_on};
+ghost use Rattle.wal.specs.Store.{NamesPages, PageLaw};
+ghost use Rattle.wal.specs.Shown.{shown};
+ghost use Rattle.audit.specs.Cells.{KeepsCells, image_by};
+ghost use Rattle.audit.specs.Pages.{page_lsn, counts_for, log_at, KeepsPage};
+ghost use Rattle.audit.specs.FirstFault.{BrokenPage, PagesFault};
+
+use crate::decide::leaves;
+use crate::records::record_in;
+use crate::running::note_write;
+use page::{Fault, Page, Value};
+use std::alloc::Global;
+use wal::{Log, RecordView};
+
+/// Whether the record at an LSN is at or before its page's PageLSN.
+fn counts(view: &RecordView, pages: &[Page], lsn: u64) -> bool
+    requires { NamesPages (length pages.now) (shown view.now) }
+    ensures { result ≡ counts_for (page_lsn pages.now) (shown view.now) lsn }
+{
+    match view {
+        RecordView::Update { page, .. } => lsn <= pages[*page as usize].lsn,
+        RecordView::Compensation { page, .. } => lsn <= pages[*page as usize].lsn,
+        _ => false,
+    }
+}
+
+/// For each cell the LSN of its last writer at or before its page's PageLSN, 0 for none. The only
+/// error is `NoResource`.
+fn writers_at(alloc: Global, log: &Log, pages: &[Page]) -> Result<Vec<u64>, Fault>
+    requires few { length pages.now ≤ 4096 }
+    requires named { All (NamesPages (length pages.now)) log.now }
+    ensures ok { IfOk result (λ w. KeepsCells (length pages.now) (log_at pages.now (history log.now)) w.items) }
+    ensures err { IfErr result (λ e. e ≡ NoResource) }
+{
+    let mut writers = vec![in alloc; 0; 16 * pages.len()]?;
+    for index in 0..log.len() {
+        let view = record_in(log, index);
+        if counts(&view, pages, index + 1) {
+            note_write(&mut writers, &view, index + 1);
+        }
+    }
+    Ok(writers)
+}
+
+/// Whether it is an update or a CLR on this page.
+fn is_on_page(view: &RecordView, number: u32) -> bool
+    ensures { result ≡ is_on number (shown view.now) }
+{
+    match view {
+        RecordView::Update { page, .. } => *page == number,
+        RecordView::Compensation { page, .. } => *page == number,
+        _ => false,
+    }
+}
+
+/// Whether PageLSN is 0 or the LSN of a record on the page.
+fn lsn_is_on(log: &Log, page: &Page) -> bool
+    ensures { IsTrue result ↔ (page.now.lsn ≡ 0) ⊎ ((r : LogRecord) × (record_at (history log.now) page.now.lsn ≡ Some r) × (is_on page.now.number r ≡ true)) }
+{
+    if page.lsn == 0 {
+        return true;
+    }
+    match log.get(page.lsn) {
+        Some(view) => is_on_page(&view, page.number),
+        None => false,
+    }
+}
+
+/// Whether the record at an LSN leaves this value.
+fn leaves_value(log: &Log, writer: u64, value: Option<Value>) -> bool
+    ensures { IsTrue result ↔ value ≡ image_by (record_at (history log.now) writer) }
+{
+    match value {
+        None => leaves(log, writer, None),
+        Some(value) => leaves(log, writer, Some(value.as_slice())),
+    }
+}
+
+/// Whether each slot of the page of this number holds what its last writer left.
+fn slots_are_left(log: &Log, writers: &[u64], number: u32, slots: &[Option<Value>; 16]) -> bool
+    requires { 16 * number + 16 ≤ length writers.now }
+    ensures all { IsTrue result ↔ ((k : ℕ) → k < 16 → slice_index_or slots.now k None ≡ image_by (record_at (history log.now) (slice_index writers.now (16 * number + k)))) }
+    ensures count { length slots.now ≡ 16 }
+{
+    for (slot, value) in slots.iter().enumerate() {
+        if !leaves_value(log, writers[16 * number as usize + slot], *value) {
+            return false;
+        }
+    }
+    true
+}
+
+/// Refuses the page for the first law that it breaks.
+fn check_page(log: &Log, writers: &[u64], page: &Page) -> Result<(), Fault>
+    requires { 16 * page.now.number + 16 ≤ length writers.now }
+    ensures ok { OnOk result (KeepsPage (history log.now) writers.now page.now → PageLaw (history log.now) page.now) }
+    ensures err { IfErr result (λ e. KeepsPage (history log.now) writers.now page.now → BrokenPage (history log.now) page.now e) }
+{
+    if page.lsn > log.len() {
+        return Err(Fault::PageAheadOfLog(page.number));
+    }
+    if !lsn_is_on(log, page) {
+        return Err(Fault::PageImage(page.number));
+    }
+    if !slots_are_left(log, writers, page.number, &page.slots) {
+        return Err(Fault::PageImage(page.number));
+    }
+    Ok(())
+}
+
+/// Refuses the first page that is not what the log up to its PageLSN makes of it. `NoResource`, where
+/// memory is refused, may come in its place.
+pub fn check_pages(alloc: Global, log: &Log, pages: &[Page]) -> Result<(), Fault>
+    requires numbered { AreNumbered pages.now }
+    requires named { All (NamesPages (length pages.now)) log.now }
+    ensures ok { OnOk result (All (PageLaw (history log.now)) pages.now) }
+    ensures err { IfErr result (PagesFault (history log.now) pages.now) }
+{
+    let writers = writers_at(alloc, log, pages)?;
+    for page in pages {
+        if let Err(fault) = check_page(log, &writers, page) {
+            return Err(fault);
+        }
+    }
+    Ok(())
+}

@@ -1,0 +1,99 @@
+//! The laws of the records, in LSN order.
+
+ghost use Rattle.std.specs.Prelude.{◌≡◌, ◌+◌, ◌*◌, ◌≤◌, ◌<◌, ◌^◌, ℕ, length, take, slice_get, Some, OnOk, IfErr, if◌then◌else◌};
+ghost use Rattle.page.specs.declared.fault.Fault.TheVariants.{WrongCompensation, EndTooEarly};
+ghost use Rattle.wal.specs.Records.{History, ◌▸◌, history, size};
+ghost use Rattle.wal.specs.Laws.{IsLawful, Obeys};
+ghost use Rattle.wal.specs.Store.{NamesPages};
+ghost use Rattle.wal.specs.Spelling.{Fits};
+ghost use Rattle.wal.specs.Shown.{shown};
+ghost use Rattle.audit.specs.Passing.{Tells, Begins};
+ghost use Rattle.audit.specs.FirstFault.{is_end, BrokenAt, AreSound, RecordFault};
+
+use crate::decide::{
+    keeps_before, keeps_chain, keeps_compensation, keeps_finish, keeps_strictness, names_pages,
+};
+use crate::running::Running;
+use crate::standing::{standing_of, transaction_of};
+use page::Fault;
+use std::alloc::Global;
+use wal::{Log, RecordView};
+
+/// The record at place `index`, whose LSN is one more.
+pub fn record_in<'a>(log: &Log<'a>, index: u64) -> RecordView<'a>
+    requires within { index < length log.now }
+    requires few { length log.now < 2 ^ 64 }
+    ensures item { slice_get log.now index ≡ Some (shown result) }
+    ensures fits { Fits (shown result) }
+    ensures next { history (take (index + 1) log.now) ≡ history (take index log.now) ▸ shown result }
+{
+    match log.get(index + 1) {
+        Some(view) => view,
+        None => unreachable!(),
+    }
+}
+
+/// The fault of a record that breaks the law of compensation.
+fn wrong_compensation(view: &RecordView, lsn: u64) -> Fault
+    ensures { result ≡ (if is_end (shown view.now) then EndTooEarly lsn else WrongCompensation lsn) }
+{
+    match view {
+        RecordView::End { .. } => Fault::EndTooEarly(lsn),
+        _ => Fault::WrongCompensation(lsn),
+    }
+}
+
+/// Refuses the record at an LSN for the first law that it breaks after the log before it.
+fn check_record(
+    log: &Log,
+    running: &Running,
+    count: usize,
+    view: &RecordView,
+    lsn: u64,
+) -> Result<(), Fault>
+    requires size { length running.now.writers.items ≡ 16 * count }
+    requires fits { Fits (shown view.now) }
+    ensures ok { OnOk result ((so_far : History) → size so_far + 1 ≡ lsn → Begins so_far log.now → IsLawful so_far → Tells count so_far running.now
+        → NamesPages count (shown view.now) × Obeys so_far (shown view.now)) }
+    ensures err { IfErr result (λ e. (so_far : History) → size so_far + 1 ≡ lsn → Begins so_far log.now → IsLawful so_far → Tells count so_far running.now
+        → BrokenAt count so_far (shown view.now) e) }
+{
+    if !names_pages(view, count) {
+        return Err(Fault::NoSuchPage(lsn));
+    }
+    let standing = standing_of(&running.table, transaction_of(view));
+    if !keeps_chain(view, standing) {
+        return Err(Fault::Chain(lsn));
+    }
+    if !keeps_finish(view, standing) {
+        return Err(Fault::AfterFinish(lsn));
+    }
+    if !keeps_compensation(log, view, standing) {
+        return Err(wrong_compensation(view, lsn));
+    }
+    if !keeps_strictness(log, &running.table, &running.writers, view) {
+        return Err(Fault::DirtyWrite(lsn));
+    }
+    if !keeps_before(log, &running.writers, view) {
+        return Err(Fault::BeforeImage(lsn));
+    }
+    Ok(())
+}
+
+/// Refuses the first record that breaks a law, and names the law. `NoResource`, where memory is
+/// refused, may come in its place.
+pub fn check_records(alloc: Global, log: &Log, count: usize) -> Result<(), Fault>
+    requires { count ≤ 4096 }
+    ensures ok { OnOk result (AreSound count log.now) }
+    ensures err { IfErr result (RecordFault count log.now) }
+{
+    let mut running = Running::start(alloc, count)?;
+    for index in 0..log.len() {
+        let view = record_in(log, index);
+        if let Err(fault) = check_record(log, &running, count, &view, index + 1) {
+            return Err(fault);
+        }
+        running.note(&view, index + 1)?;
+    }
+    Ok(())
+}

@@ -1,0 +1,77 @@
+//! What is kept while the records are gone through.
+
+ghost use Rattle.std.specs.Prelude.{◌≡◌, ◌+◌, ◌≤◌, ℕ, length, IfOk, OnOk, IfErr};
+ghost use Rattle.page.specs.declared.fault.Fault.TheVariants.{NoResource};
+ghost use Rattle.wal.specs.Records.{History, start, ◌▸◌, size};
+ghost use Rattle.wal.specs.Store.{NamesPages};
+ghost use Rattle.wal.specs.Spelling.{Fits};
+ghost use Rattle.wal.specs.Shown.{shown};
+ghost use Rattle.audit.specs.Standings.{standing_in};
+ghost use Rattle.audit.specs.Cells.{HasCell, written};
+ghost use Rattle.audit.specs.Passing.{Tells};
+
+use crate::standing::{Standing, below_top, noted, standing_of, transaction_of};
+use page::Fault;
+use std::alloc::Global;
+use std::collections::HashMap;
+use wal::RecordView;
+
+/// What the records so far say: 8 bytes a record, 8 a cell and a standing a transaction.
+#[derive(Drop)]
+pub struct Running {
+    /// How each transaction stands.
+    pub table: HashMap<u32, Standing>,
+    /// For each record what stood on top of its transaction's stack of pending updates before it.
+    pub links: Vec<u64>,
+    /// For each cell the LSN of its last writer, 0 for none; 16 cells a page.
+    pub writers: Vec<u64>,
+}
+
+impl Running {
+    /// Before the first record, for so many pages. The only error is `NoResource`.
+    pub fn start(alloc: Global, count: usize) -> Result<Running, Fault>
+        requires { count ≤ 4096 }
+        ensures ok { IfOk result (Tells count start) }
+        ensures err { IfErr result (λ e. e ≡ NoResource) }
+    {
+        let writers = vec![in alloc; 0; 16 * count]?;
+        Ok(Running {
+            table: HashMap::new(alloc),
+            links: Vec::new(alloc),
+            writers,
+        })
+    }
+
+    /// Takes in the record at an LSN. The only error is `NoResource`.
+    pub fn note(&mut self, view: &RecordView, lsn: u64) -> Result<(), Fault>
+        requires cell { HasCell (length self.old.writers.items) (shown view.now) }
+        requires tops { (t : ℕ) → (standing_in self.old.table t).newest ≤ length self.old.links.items }
+        ensures ok { OnOk result ((count : ℕ) (log : History) → size log + 1 ≡ lsn → NamesPages count (shown view.now) → Fits (shown view.now)
+            → Tells count log self.old → Tells count (log ▸ shown view.now) self.new) }
+        ensures err { IfErr result (λ e. e ≡ NoResource) }
+    {
+        let tx = transaction_of(view);
+        let standing = standing_of(&self.table, tx);
+        let below = below_top(&self.links, standing.newest);
+        self.table.insert(tx, noted(standing, view, lsn, below))?;
+        self.links.push(standing.newest)?;
+        note_write(&mut self.writers, view, lsn);
+        Ok(())
+    }
+}
+
+/// Notes the record at an LSN as the last writer of its cell, if it has one.
+pub fn note_write(writers: &mut [u64], view: &RecordView, lsn: u64)
+    requires { HasCell (length writers.old) (shown view.now) }
+    ensures { writers.new ≡ written writers.old (shown view.now) lsn }
+{
+    match view {
+        RecordView::Update { page, slot, .. } => {
+            writers[16 * *page as usize + *slot as usize] = lsn;
+        }
+        RecordView::Compensation { page, slot, .. } => {
+            writers[16 * *page as usize + *slot as usize] = lsn;
+        }
+        _ => {}
+    }
+}

@@ -1,0 +1,123 @@
+//! How a transaction stands after the records so far.
+
+ghost use Rattle.std.specs.Prelude.{◌≡◌, ◌+◌, ◌≤◌, ◌++◌, ◌∷◌, [], ℕ, List, length, nat_eq, ◌||◌};
+ghost use Rattle.std.specs.HashMap.{get};
+ghost use Rattle.wal.specs.Records.{History, ◌▸◌, size};
+ghost use Rattle.wal.specs.Tail.{tx_of};
+ghost use Rattle.wal.specs.Shown.{shown};
+ghost use Rattle.audit.specs.Standings.{Stands, under, unknown, standing_in};
+
+use std::collections::HashMap;
+use wal::RecordView;
+
+/// How a transaction stands: what its records so far say. LSNs are 0 for none.
+#[derive(Clone, Copy)]
+pub struct Standing {
+    /// The LSN of its last record.
+    pub last: u64,
+    /// The raw undo-next: of its last update the LSN, of its last CLR the UndoNxtLSN.
+    pub undo_next: u64,
+    /// The LSN of its newest pending update.
+    pub newest: u64,
+    pub committed: bool,
+    pub aborted: bool,
+    pub ended: bool,
+}
+
+impl Standing {
+    /// How a transaction stands that has no record.
+    pub fn unknown() -> Standing
+        ensures { result ≡ unknown }
+    {
+        Standing {
+            last: 0,
+            undo_next: 0,
+            newest: 0,
+            committed: false,
+            aborted: false,
+            ended: false,
+        }
+    }
+
+    /// Whether it has committed or ended.
+    pub fn is_finished(&self) -> bool
+        ensures { result ≡ (self.now.committed || self.now.ended) }
+    {
+        self.committed || self.ended
+    }
+}
+
+/// How this transaction stands by the table.
+pub fn standing_of(table: &HashMap<u32, Standing>, tx: u32) -> Standing
+    ensures { result ≡ standing_in table.now tx }
+{
+    match table.get(&tx) {
+        Some(standing) => *standing,
+        None => Standing::unknown(),
+    }
+}
+
+/// The transaction of a record, 0 where it has none.
+pub fn transaction_of(view: &RecordView) -> u32
+    ensures { result ≡ tx_of (shown view.now) }
+{
+    match view {
+        RecordView::Update { tx, .. } => *tx,
+        RecordView::Compensation { tx, .. } => *tx,
+        RecordView::Commit { tx, .. } => *tx,
+        RecordView::Abort { tx, .. } => *tx,
+        RecordView::End { tx, .. } => *tx,
+        RecordView::CheckpointBegin | RecordView::CheckpointEnd { .. } => 0,
+    }
+}
+
+/// What stands below this number on its stack, 0 for nothing.
+pub fn below_top(links: &[u64], top: u64) -> u64
+    requires { top ≤ length links.now }
+    ensures { result ≡ under links.now top }
+{
+    if top == 0 {
+        return 0;
+    }
+    links[(top - 1) as usize]
+}
+
+/// How the transaction of a record stands after it. `below` is what stands below its newest pending
+/// update.
+pub fn noted(standing: Standing, view: &RecordView, lsn: u64, below: u64) -> Standing
+    ensures { (log : History) (links : List ℕ) → size log + 1 ≡ lsn → length links ≡ size log → below ≡ under links standing.newest
+        → Stands links (tx_of (shown view.now)) log standing
+        → Stands (links ++ standing.newest ∷ []) (tx_of (shown view.now)) (log ▸ shown view.now) result }
+{
+    match view {
+        RecordView::Update { .. } => Standing {
+            last: lsn,
+            undo_next: lsn,
+            newest: lsn,
+            ..standing
+        },
+        RecordView::Compensation { undo_next, .. } => Standing {
+            last: lsn,
+            undo_next: *undo_next,
+            newest: below,
+            ..standing
+        },
+        RecordView::Commit { .. } => Standing {
+            last: lsn,
+            committed: true,
+            ..standing
+        },
+        RecordView::Abort { .. } => Standing {
+            last: lsn,
+            aborted: true,
+            ..standing
+        },
+        RecordView::End { .. } => Standing {
+            last: lsn,
+            ended: true,
+            ..standing
+        },
+        RecordView::CheckpointBegin => standing,
+        RecordView::CheckpointEnd { .. } => standing,
+    }
+}
