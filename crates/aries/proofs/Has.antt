@@ -1,20 +1,10 @@
 -- Whether a log has a record that passes a test.
-use Rattle.std.proofs.Common.{ℕ, ◌≡◌, ◌+◌, ◌<◌, ◌⊎◌, inl, inr, Bool, true, false, ◌||◌, List, [], ◌∷◌, length, take, drop, get_or, refl, sym, ap, ◌∙◌}
+use Rattle.std.proofs.Common.{ℕ, ◌≡◌, ◌+◌, ◌<◌, Bool, true, List, [], ◌∷◌, length, take, drop, get_or, sym, ap, ◌∙◌}
+use Rattle.std.proofs.lemmas.Bool.{or_left, or_right}
 use Rattle.std.proofs.lemmas.List.{take-append-drop}
 use Rattle.wal.specs.Records.{LogRecord, History, start, ◌▸◌, ◌▸▸◌, history}
 use Rattle.wal.specs.Meaning.{has}
 use Rattle.wal.proofs.Histories.{history_more, after-append}
-
-pub or_cases : (a b : Bool) → (a || b) ≡ true → (a ≡ true) ⊎ (b ≡ true)
-or_cases true b e = inl refl
-or_cases false b e = inr e
-
-pub or_right : (a b : Bool) → b ≡ true → (a || b) ≡ true
-or_right true b e = refl
-or_right false b e = e
-
-or_left : (a b : Bool) → a ≡ true → (a || b) ≡ true
-or_left a b e = rw e refl
 
 -- what a log has, a longer one has
 has-after : (test : LogRecord → Bool) (log : History) (rs : List LogRecord) → has test log ≡ true → has test (log ▸▸ rs) ≡ true

@@ -11,7 +11,7 @@ use Rattle.wal.specs.Meaning.{State, replay, winners, writes, is_of, is_of_commi
 use Rattle.wal.specs.Redo.{slots_in}
 use Rattle.aries.specs.Pages.{page_of, pages_of}
 use Rattle.aries.specs.Treated.{IsEmptyPage, AllCommitted, IsTreated}
-use Rattle.aries.proofs.Has.{or_right}
+use Rattle.std.proofs.lemmas.Bool.{or_right}
 
 -- EMPTY PAGES are what the empty log leaves
 page_by : (p : Page) (number : ℕ) (slots : List _) → p.number ≡ number → p.lsn ≡ 0 → p.slots ≡ slots → p ≡ record { number = number; lsn = 0; slots = slots }

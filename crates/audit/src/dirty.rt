@@ -12,7 +12,6 @@ ghost use Rattle.audit.specs.Dirty.{KeepsMissing, noted_missing, IsInRange, IsCo
 ghost use Rattle.audit.specs.FirstFault.{KeepsDirty, DirtyFault};
 
 use crate::decide::dirty_page;
-use crate::records::record_in;
 use page::{Fault, Page};
 use std::alloc::Global;
 use wal::{DirtyTable, Log, RecordView};
@@ -49,7 +48,7 @@ fn missing_in(alloc: Global, log: &Log, count: u64, pages: &[Page]) -> Result<Ve
     let mut missing = vec![in alloc; 0; pages.len()]?;
     let _len = log.len();
     for index in 0..count {
-        note_missing(&mut missing, &record_in(log, index), pages, index + 1);
+        note_missing(&mut missing, &log.nth(index), pages, index + 1);
     }
     Ok(missing)
 }

@@ -1,6 +1,7 @@
 //! The law of the checkpoint that the master names.
 
-ghost use Rattle.std.specs.Prelude.{◌≡◌, ◌+◌, ◌*◌, ◌≤◌, ◌<◌, ◌⊎◌, ◌↔◌, ◌^◌, ℕ, List, All, IsTrue, Some, None, true, false, length, map, take, option_map, nat_le, IfOk, OnOk, IfErr, IfSome, slice_index, slice_index_or};
+ghost use Rattle.std.specs.Prelude.{◌≡◌, ◌+◌, ◌*◌, ◌≤◌, ◌<◌, ◌⊎◌, ◌↔◌, ◌^◌, ℕ, List, All, IsTrue, Some, None, true, false, length, map, take, option_map, nat_eq, nat_le, ◌||◌, IfOk, OnOk, IfErr, IfSome, slice_index, slice_index_or};
+ghost use Rattle.std.specs.HashSet.{contains};
 ghost use Rattle.page.specs.declared.fault.Fault.TheVariants.{NoResource};
 ghost use Rattle.wal.specs.Records.{LogRecord, TableEntry, CheckpointBegin, tx_in, History, history, first, record_at, size};
 ghost use Rattle.wal.specs.Meaning.{is_loser, last_of};
@@ -16,12 +17,11 @@ ghost use Rattle.audit.specs.FirstFault.{MasterFault};
 ghost use Rattle.audit.specs.Checkpoints.{named_in, IsTrueEntry, Lists};
 
 use crate::dirty::check_dirty;
-use crate::records::record_in;
 use crate::running::Running;
 use crate::standing::{Standing, standing_of, transaction_of};
 use page::{Fault, Page};
 use std::alloc::Global;
-use std::collections::HashMap;
+use std::collections::{HashMap, HashSet};
 use wal::{DirtyTable, Entry, Log, RecordView, State, TransactionTable};
 
 /// Whether the record at an LSN is a checkpoint begin.
@@ -65,7 +65,7 @@ fn tables_of<'a>(log: &Log<'a>, master: u64) -> Option<(TransactionTable<'a>, Di
     ensures rising { IfSome result (λ x. IsRising (map tx_in x.0)) }
 {
     for index in master..log.len() {
-        if let Some(tables) = tables_in(record_in(log, index), master) {
+        if let Some(tables) = tables_in(log.nth(index), master) {
             return Some(tables);
         }
     }
@@ -124,66 +124,60 @@ fn entries_are_true(table: &HashMap<u32, Standing>, transactions: &TransactionTa
     true
 }
 
-/// Whether a transaction has an entry.
-fn is_listed(transactions: &TransactionTable, tx: u32) -> bool
-    ensures { IsTrue result ↔ Lists transactions.now tx }
+/// Takes a transaction into the set. The only error is `NoResource`.
+fn list(listed: &mut HashSet<u32>, tx: u32) -> Result<(), Fault>
+    ensures ok { OnOk result ((t : ℕ) → contains nat_eq listed.new t ≡ (nat_eq t tx || contains nat_eq listed.old t)) }
+    ensures err { IfErr result (λ e. e ≡ NoResource) }
 {
-    for place in 0..transactions.len() {
-        let (other, _) = entry_at(transactions, place);
-        if other == tx {
-            return true;
-        }
-    }
-    false
+    listed.insert(tx)?;
+    Ok(())
 }
 
-/// Whether a transaction whose last record this is is a loser without an entry.
-fn is_missing(transactions: &TransactionTable, tx: u32, standing: Standing, lsn: u64) -> bool
+/// The transactions that have an entry. The only error is `NoResource`.
+fn listed_in(alloc: Global, transactions: &TransactionTable) -> Result<HashSet<u32>, Fault>
+    ensures ok { IfOk result (λ set. (t : ℕ) → IsTrue (contains nat_eq set t) ↔ Lists transactions.now t) }
+    ensures err { IfErr result (λ e. e ≡ NoResource) }
+{
+    let mut listed = HashSet::new(alloc);
+    for place in 0..transactions.len() {
+        let (tx, _) = entry_at(transactions, place);
+        list(&mut listed, tx)?;
+    }
+    Ok(listed)
+}
+
+/// Whether a transaction whose last record this is is a loser that is not listed.
+fn is_missing(listed: &HashSet<u32>, tx: u32, standing: Standing, lsn: u64) -> bool
     ensures missing { result ≡ true → (log : History) (links : List ℕ) → Stands links tx log standing
-        → (is_loser tx log ≡ true) × (Lists transactions.now tx → ⊥) }
+        → (is_loser tx log ≡ true) × (contains nat_eq listed.now tx ≡ false) }
     ensures found { result ≡ false → (log : History) (links : List ℕ) → Stands links tx log standing
-        → last_of tx log ≡ lsn → is_loser tx log ≡ true → Lists transactions.now tx }
+        → last_of tx log ≡ lsn → is_loser tx log ≡ true → contains nat_eq listed.now tx ≡ true }
 {
     if standing.last != lsn || !is_lost(standing) {
         return false;
     }
-    !is_listed(transactions, tx)
+    !listed.contains(&tx)
 }
 
-/// Whether each loser among the first so many records has an entry.
+/// Whether each loser among the first so many records is listed.
 fn losers_are_listed(
     log: &Log,
     count: u64,
     table: &HashMap<u32, Standing>,
-    transactions: &TransactionTable,
+    listed: &HashSet<u32>,
 ) -> bool
     requires { count ≤ length log.now }
     ensures { (links : List ℕ) → ((t : ℕ) → Stands links t (history (take count log.now)) (standing_in table.now t))
-        → IsTrue result ↔ ((t : ℕ) → is_loser t (history (take count log.now)) ≡ true → Lists transactions.now t) }
+        → IsTrue result ↔ ((t : ℕ) → is_loser t (history (take count log.now)) ≡ true → IsTrue (contains nat_eq listed.now t)) }
 {
     let _len = log.len();
     for index in 0..count {
-        let tx = transaction_of(&record_in(log, index));
-        if is_missing(transactions, tx, standing_of(table, tx), index + 1) {
+        let tx = transaction_of(&log.nth(index));
+        if is_missing(listed, tx, standing_of(table, tx), index + 1) {
             return false;
         }
     }
     true
-}
-
-/// Whether the table is exactly that of the losers among the first so many records.
-fn is_true_table(
-    log: &Log,
-    count: u64,
-    table: &HashMap<u32, Standing>,
-    transactions: &TransactionTable,
-) -> bool
-    requires count { count ≤ length log.now }
-    requires rising { IsRising (map tx_in transactions.now) }
-    ensures { (links : List ℕ) → ((t : ℕ) → Stands links t (history (take count log.now)) (standing_in table.now t))
-        → IsTrue result ↔ transactions.now ≡ true_table (history (take count log.now)) }
-{
-    entries_are_true(table, transactions) && losers_are_listed(log, count, table, transactions)
 }
 
 /// How each transaction stands after the first so many records. The only error is `NoResource`.
@@ -197,14 +191,15 @@ fn running_at(alloc: Global, log: &Log, count: u64, pages: usize) -> Result<Runn
     let mut running = Running::start(alloc, pages)?;
     let _len = log.len();
     for index in 0..count {
-        let view = record_in(log, index);
+        let view = log.nth(index);
         running.note(&view, index + 1)?;
     }
     Ok(running)
 }
 
-/// Refuses a transaction table that is not that of the losers at the begin.
-fn check_transactions(
+/// Whether the table is exactly that of the losers at the begin `master`. The only error is
+/// `NoResource`.
+fn is_true_table(
     alloc: Global,
     log: &Log,
     master: u64,
@@ -219,7 +214,11 @@ fn check_transactions(
     ensures err { IfErr result (λ e. e ≡ NoResource) }
 {
     let running = running_at(alloc, log, master, pages)?;
-    Ok(is_true_table(log, master, &running.table, transactions))
+    if !entries_are_true(&running.table, transactions) {
+        return Ok(false);
+    }
+    let listed = listed_in(alloc, transactions)?;
+    Ok(losers_are_listed(log, master, &running.table, &listed))
 }
 
 /// Refuses the master for the first law that its checkpoint breaks. `NoResource`, where memory is
@@ -239,7 +238,7 @@ pub fn check_master(alloc: Global, log: &Log, master: u64, pages: &[Page]) -> Re
     let Some((transactions, dirty)) = tables_of(log, master) else {
         return Err(Fault::BadMaster);
     };
-    match check_transactions(alloc, log, master, pages.len(), &transactions) {
+    match is_true_table(alloc, log, master, pages.len(), &transactions) {
         Err(fault) => return Err(fault),
         Ok(false) => return Err(Fault::TransactionTable),
         Ok(true) => {}

@@ -12,7 +12,6 @@ ghost use Rattle.audit.specs.Pages.{page_lsn, counts_for, log_at, KeepsPage};
 ghost use Rattle.audit.specs.FirstFault.{BrokenPage, PagesFault};
 
 use crate::decide::leaves;
-use crate::records::record_in;
 use crate::running::note_write;
 use page::{Fault, Page, Value};
 use std::alloc::Global;
@@ -40,7 +39,7 @@ fn writers_at(alloc: Global, log: &Log, pages: &[Page]) -> Result<Vec<u64>, Faul
 {
     let mut writers = vec![in alloc; 0; 16 * pages.len()]?;
     for index in 0..log.len() {
-        let view = record_in(log, index);
+        let view = log.nth(index);
         if counts(&view, pages, index + 1) {
             note_write(&mut writers, &view, index + 1);
         }

@@ -1,8 +1,8 @@
 //! The laws of the records, in LSN order.
 
-ghost use Rattle.std.specs.Prelude.{◌≡◌, ◌+◌, ◌*◌, ◌≤◌, ◌<◌, ◌^◌, ℕ, length, take, slice_get, Some, OnOk, IfErr, if◌then◌else◌};
+ghost use Rattle.std.specs.Prelude.{◌≡◌, ◌+◌, ◌*◌, ◌≤◌, length, OnOk, IfErr, if◌then◌else◌};
 ghost use Rattle.page.specs.declared.fault.Fault.TheVariants.{WrongCompensation, EndTooEarly};
-ghost use Rattle.wal.specs.Records.{History, ◌▸◌, history, size};
+ghost use Rattle.wal.specs.Records.{History, size};
 ghost use Rattle.wal.specs.Laws.{IsLawful, Obeys};
 ghost use Rattle.wal.specs.Store.{NamesPages};
 ghost use Rattle.wal.specs.Spelling.{Fits};
@@ -18,20 +18,6 @@ use crate::standing::{standing_of, transaction_of};
 use page::Fault;
 use std::alloc::Global;
 use wal::{Log, RecordView};
-
-/// The record at place `index`, whose LSN is one more.
-pub fn record_in<'a>(log: &Log<'a>, index: u64) -> RecordView<'a>
-    requires within { index < length log.now }
-    requires few { length log.now < 2 ^ 64 }
-    ensures item { slice_get log.now index ≡ Some (shown result) }
-    ensures fits { Fits (shown result) }
-    ensures next { history (take (index + 1) log.now) ≡ history (take index log.now) ▸ shown result }
-{
-    match log.get(index + 1) {
-        Some(view) => view,
-        None => unreachable!(),
-    }
-}
 
 /// The fault of a record that breaks the law of compensation.
 fn wrong_compensation(view: &RecordView, lsn: u64) -> Fault
@@ -89,7 +75,7 @@ pub fn check_records(alloc: Global, log: &Log, count: usize) -> Result<(), Fault
 {
     let mut running = Running::start(alloc, count)?;
     for index in 0..log.len() {
-        let view = record_in(log, index);
+        let view = log.nth(index);
         if let Err(fault) = check_record(log, &running, count, &view, index + 1) {
             return Err(fault);
         }

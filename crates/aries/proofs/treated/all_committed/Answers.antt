@@ -1,9 +1,10 @@
 use Rattle.std.proofs.Common.{rules, ◌≡◌, true, ◌||◌, inl, inr, sym, ap, ◌∙◌, get_or, refl, arith, take}
+use Rattle.std.proofs.lemmas.Bool.{or_cases}
 use Rattle.wal.specs.Meaning.{has, is_of}
 use Rattle.wal.specs.Records.{history}
 use Rattle.wal.specs.Shown.{shown}
 use Rattle.wal.proofs.Histories.{history_all}
-use Rattle.aries.proofs.Has.{has_item, or_cases}
+use Rattle.aries.proofs.Has.{has_item}
 use Rattle.aries.proofs.treated.all_committed.Goals as goal
 
 pub returns-then-not-is_of_member-clause-ok : goal.returns-then-not-is_of_member-clause-ok

@@ -1,12 +1,12 @@
-use Rattle.std.proofs.Common.{◌≡◌, ◌+◌, ◌≤◌, ℕ, Some, take, sym, ap, subst, ◌∙◌, inl, inr, refl, arith}
+use Rattle.std.proofs.Common.{◌≡◌, ◌+◌, ◌≤◌, ℕ, Some, take, sym, ap, subst, ◌∙◌, inl, inr, refl, true, eqb, arith}
 use Rattle.std.proofs.lemmas.Bool.{cases_eq, false≢true}
+use Rattle.std.specs.HashSet.{contains}
 use Rattle.wal.specs.Records.{LogRecord, History, history, size, record_at}
 use Rattle.wal.specs.Meaning.{last_of, is_loser}
 use Rattle.wal.specs.Tail.{tx_of}
 use Rattle.wal.specs.Shown.{shown}
 use Rattle.wal.proofs.Histories.{size_of_beginning, record_within, record_item}
 use Rattle.wal.proofs.Steps.{loser_has}
-use Rattle.std.proofs.lemmas.Option.{slice_get_within, get_or_from_slice_get}
 use Rattle.audit.specs.Standings.{Stands}
 use Rattle.audit.proofs.Losers.{last_found, last_within, has_none}
 use Rattle.audit.proofs.Passing.{begins_taken}
@@ -25,15 +25,15 @@ loop-index-preserved c = λ links stands t le lost.
       | inl e ↦
           (let p = last_found t log (loser_has t log lost) in
           let lsn : ℕ = c.loop-index.index + 1 in
-          let r : LogRecord = shown c.record_in.result in
+          let r : LogRecord = shown c.nth.result in
           let there : record_at log lsn ≡ Some p.0 = ap (record_at log) (sym e) ∙ p.1 in
           let within : lsn ≤ size log = record_within log lsn p.0 there in
           let item : record_at (history c.args.log.now) lsn ≡ Some r =
-          record_item c.args.log.now c.loop-index.index r (slice_get_within c.args.log.now c.loop-index.index r c.record_in.ensures.item) ∙ ap (λ x. Some x) (get_or_from_slice_get c.args.log.now c.loop-index.index r r c.record_in.ensures.item) in
+          record_item c.args.log.now c.loop-index.index r (omega arith) ∙ ap (λ x. Some x) c.nth.ensures.item in
           let same : Some r ≡ Some p.0 = sym item ∙ begins_taken c.args.log.now c.args.count lsn within ∙ there in
           let is : r ≡ p.0 = cc in
           let own : c.transaction_of-tx.result ≡ t = c.transaction_of-tx.ensures ∙ ap tx_of is ∙ p.2 in
-          subst (λ n. Rattle.audit.specs.Checkpoints.Lists c.args.transactions.now n) own
+          subst (λ n. contains eqb c.args.listed.now n ≡ true) own
           (c.is_missing.ensures.found c.if-is_missing.false log links s (ap (λ n. last_of n log) own ∙ e) (ap (λ n. is_loser n log) own ∙ lost)))
       | inr n ↦ c.loop-index.invariant links stands t (omega arith) lost
     ]

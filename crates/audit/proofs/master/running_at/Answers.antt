@@ -1,5 +1,4 @@
 use Rattle.std.proofs.Common.{◌≡◌, ◌+◌, length, take, sym, subst, arith}
-use Rattle.std.proofs.lemmas.Option.{slice_get_within, get_or_from_slice_get}
 use Rattle.wal.specs.Records.{History, LogRecord, history, size}
 use Rattle.wal.specs.Meaning.{pending}
 use Rattle.wal.specs.Store.{NamesPages}
@@ -12,10 +11,10 @@ use Rattle.audit.proofs.master.running_at.Goals as goal
 
 pub note-requires-clause-cell : goal.note-requires-clause-cell
 note-requires-clause-cell c =
-    let r : LogRecord = shown c.record_in-view.result in
+    let r : LogRecord = shown c.nth-view.result in
     let named : NamesPages c.args.pages r =
-    subst (NamesPages c.args.pages) (get_or_from_slice_get c.args.log.now c.loop-index.index r r c.record_in-view.ensures.item) (c.requires.named c.loop-index.index r (slice_get_within c.args.log.now c.loop-index.index r c.record_in-view.ensures.item)) in
-    has_cell c.args.pages (length c.loop-index.running.writers.items) r c.loop-index.invariant.cells.size_is named c.record_in-view.ensures.fits
+    subst (NamesPages c.args.pages) c.nth-view.ensures.item (c.requires.named c.loop-index.index r (omega arith)) in
+    has_cell c.args.pages (length c.loop-index.running.writers.items) r c.loop-index.invariant.cells.size_is named c.nth-view.ensures.fits
 
 pub note-requires-clause-tops : goal.note-requires-clause-tops
 note-requires-clause-tops c = λ t.
@@ -24,12 +23,12 @@ note-requires-clause-tops c = λ t.
 pub loop-index-preserved : goal.loop-index-preserved
 loop-index-preserved c =
     let so_far : History = history (take c.loop-index.index c.args.log.now) in
-    let r : LogRecord = shown c.record_in-view.result in
+    let r : LogRecord = shown c.nth-view.result in
     let at : size so_far + 1 ≡ c.loop-index.index + 1 = omega (arith, size_of_beginning c.args.log.now c.loop-index.index (omega arith)) in
     let named : NamesPages c.args.pages r =
-    subst (NamesPages c.args.pages) (get_or_from_slice_get c.args.log.now c.loop-index.index r r c.record_in-view.ensures.item) (c.requires.named c.loop-index.index r (slice_get_within c.args.log.now c.loop-index.index r c.record_in-view.ensures.item)) in
-    subst (λ (h : History). Tells c.args.pages h c.note.new.self) (sym c.record_in-view.ensures.next)
-    (c.in_ok-note.ensures.ok c.args.pages so_far at named c.record_in-view.ensures.fits c.loop-index.invariant)
+    subst (NamesPages c.args.pages) c.nth-view.ensures.item (c.requires.named c.loop-index.index r (omega arith)) in
+    subst (λ (h : History). Tells c.args.pages h c.note.new.self) (sym c.nth-view.ensures.next)
+    (c.in_ok-note.ensures.ok c.args.pages so_far at named c.nth-view.ensures.fits c.loop-index.invariant)
 
 pub returns-clause-ok : goal.returns-clause-ok
 returns-clause-ok c =

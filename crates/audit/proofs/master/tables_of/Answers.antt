@@ -13,8 +13,8 @@ loop-index-init c = end_early c.args.master (history (take c.args.master c.args.
 pub returns-in-Some-clause-first : goal.returns-in-Some-clause-first
 returns-in-Some-clause-first c =
     let so_far : History = history (take c.loop-index.index c.args.log.now) in
-    let r : LogRecord = shown c.record_in.result in
+    let r : LogRecord = shown c.nth.result in
     let le : c.args.master ≤ size so_far = omega (arith, size_of_beginning c.args.log.now c.loop-index.index (omega arith)) in
     let e : first_end c.args.master (so_far ▸ r) ≡ Some c.in-Some.tables =
     end_step c.args.master so_far r le ∙ ap (λ (o : Option (List TableEntry × List (ℕ × ℕ))). or_else o (named_in c.args.master r)) c.loop-index.invariant ∙ sym c.in-Some.ensures.tables in
-    sym (end_of_front c.args.master (c.loop-index.index + 1) c.args.log.now c.in-Some.tables (ap (first_end c.args.master) c.record_in.ensures.next ∙ e))
+    sym (end_of_front c.args.master (c.loop-index.index + 1) c.args.log.now c.in-Some.tables (ap (first_end c.args.master) c.nth.ensures.next ∙ e))

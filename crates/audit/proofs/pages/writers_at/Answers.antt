@@ -1,5 +1,4 @@
 use Rattle.std.proofs.Common.{◌≡◌, ◌+◌, length, take, true, false, sym, ap, subst, ◌∙◌, arith}
-use Rattle.std.proofs.lemmas.Option.{slice_get_within, get_or_from_slice_get}
 use Rattle.wal.specs.Records.{History, LogRecord, history, size, ◌▸◌}
 use Rattle.wal.specs.Store.{NamesPages}
 use Rattle.wal.specs.Shown.{shown}
@@ -14,11 +13,11 @@ use Rattle.audit.proofs.pages.writers_at.Goals as goal
 pub loop-index-preserved : goal.loop-index-preserved
 loop-index-preserved c =
     let so_far : History = history (take c.loop-index.index c.args.log.now) in
-    let r : LogRecord = shown c.record_in-view.result in
+    let r : LogRecord = shown c.nth-view.result in
     let at : size so_far + 1 ≡ c.loop-index.index + 1 = omega (arith, size_of_beginning c.args.log.now c.loop-index.index (omega arith)) in
     let named : NamesPages (length c.args.pages.now) r =
-    subst (NamesPages (length c.args.pages.now)) (get_or_from_slice_get c.args.log.now c.loop-index.index r r c.record_in-view.ensures.item) (c.requires.named c.loop-index.index r (slice_get_within c.args.log.now c.loop-index.index r c.record_in-view.ensures.item)) in
-    subst (λ (h : History). KeepsCells (length c.args.pages.now) (log_at c.args.pages.now h) c.if-counts.writers.items) (sym c.record_in-view.ensures.next)
+    subst (NamesPages (length c.args.pages.now)) c.nth-view.ensures.item (c.requires.named c.loop-index.index r (omega arith)) in
+    subst (λ (h : History). KeepsCells (length c.args.pages.now) (log_at c.args.pages.now h) c.if-counts.writers.items) (sym c.nth-view.ensures.next)
     (elim c.if-counts.branch [
       | then-counts w ↦
           (let yes : counts_for (page_lsn c.args.pages.now) r (c.loop-index.index + 1) ≡ true = sym c.counts.ensures ∙ w.if-counts.true in
@@ -27,7 +26,7 @@ loop-index-preserved c =
           let back = written_back c.loop-index.writers.len c.loop-index.writers.items w.note_write.new.writers len len' in
           let wrote : w.note_write.new.writers ≡ written c.loop-index.writers.items r (c.loop-index.index + 1) = w.note_write.ensures ∙ ap (λ xs. written xs r (c.loop-index.index + 1)) w.deref_mut.ensures.value in
           subst (λ xs. KeepsCells (length c.args.pages.now) (log_at c.args.pages.now (so_far ▸ r)) xs) (sym (ap (λ v. v.items) w.writers-is ∙ back ∙ wrote))
-          (cells_counted c.args.pages.now so_far r (c.loop-index.index + 1) at c.loop-index.writers.items yes named c.record_in-view.ensures.fits c.loop-index.invariant))
+          (cells_counted c.args.pages.now so_far r (c.loop-index.index + 1) at c.loop-index.writers.items yes named c.nth-view.ensures.fits c.loop-index.invariant))
       | else-counts w ↦
           (let no : counts_for (page_lsn c.args.pages.now) r (c.loop-index.index + 1) ≡ false = sym c.counts.ensures ∙ w.if-counts.false in
           subst (λ xs. KeepsCells (length c.args.pages.now) (log_at c.args.pages.now (so_far ▸ r)) xs) (sym (ap (λ v. v.items) w.writers-is))
