@@ -4,7 +4,7 @@ use Rattle.std.proofs.lemmas.Bool.{cases_Bool, or_parts, or_from, or_left, or_ri
 use Rattle.wal.specs.declared.record.State.{State}
 use Rattle.wal.specs.declared.record.State.TheVariants.{Active, Aborting}
 use Rattle.wal.specs.Records.{TableEntry, UpdateRecord, CompensationRecord, PlainRecord, LogRecord, Update, Compensation, Commit, Abort, End, CheckpointBegin, CheckpointEnd, History, start, ◌▸◌, size, first}
-use Rattle.wal.specs.Meaning.{is_of, is_commit_of, is_end_of, has, aborted, committed, ended, finished, is_loser, last_of, undo_next_of}
+use Rattle.wal.specs.Meaning.{is_of, has, aborted, committed, ended, finished, is_loser, last_of, undo_next_of}
 use Rattle.wal.specs.Laws.{IsLawful, Obeys}
 use Rattle.wal.specs.Store.{state_of, true_entry}
 use Rattle.analysis.specs.Tables.{is_work_of, finishes, work_since, finished_since, undo_next_in, is_aborting, aborts_in, entry_by, base_since, analysed_entry}

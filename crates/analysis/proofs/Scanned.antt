@@ -1,5 +1,5 @@
 -- One record more, looked at.
-use Rattle.std.proofs.Common.{ℕ, suc, ◌≡◌, ◌+◌, ◌<◌, ◌≤◌, Bool, true, false, ◌||◌, cond, eqb, eq-eqb, ltb, leb, List, [], ◌∷◌, length, take, drop, take-append-drop, Option, Some, None, refl, sym, ap, ap₂, ◌∙◌, arith, inl, inr}
+use Rattle.std.proofs.Common.{ℕ, suc, ◌≡◌, ◌+◌, ◌<◌, ◌≤◌, true, false, cond, eqb, eq-eqb, ltb, leb, List, [], ◌∷◌, length, take, drop, take-append-drop, Option, Some, None, refl, sym, ap, ap₂, ◌∙◌, arith, inl, inr}
 use Rattle.std.proofs.Math.Bool.{and-false}
 use Rattle.std.proofs.lemmas.Bool.{cases_Bool, le-ltb, lt-ltb, le-leb, lt-leb}
 use Rattle.wal.specs.declared.record.State.{State}
@@ -8,7 +8,7 @@ use Rattle.wal.specs.Records.{TableEntry, LogRecord, Update, Compensation, Commi
 use Rattle.wal.specs.Meaning.{is_on}
 use Rattle.wal.specs.Store.{or_else, first_end, state_of}
 use Rattle.wal.proofs.Histories.{after-append, size_of_beginning}
-use Rattle.analysis.specs.Tables.{is_work_of, finishes, work_since, finished_since, base_since, undo_next_in, aborts_in, is_aborting, entry_by, analysed_entry, first_behind, analysed_rec_lsn}
+use Rattle.analysis.specs.Tables.{work_since, finished_since, base_since, undo_next_in, aborts_in, is_aborting, entry_by, analysed_entry, first_behind, analysed_rec_lsn}
 use Rattle.analysis.specs.Steps.{state_in, undo_next_of_entry, entry_after, rec_lsn_after}
 
 -- what the entry says of the state and the undo-next

@@ -1,5 +1,5 @@
 -- The smallest RecLSN, page by page.
-use Rattle.std.proofs.Common.{ℕ, suc, zero, ◌≡◌, ◌+◌, ◌<◌, ◌≤◌, Bool, true, false, cond, ◌||◌, eqb, ne_eqb, ltb, List, [], ◌∷◌, ◌++◌, refl, sym, ap, ◌∙◌, arith, inl, inr, min, max}
+use Rattle.std.proofs.Common.{ℕ, ◌≡◌, ◌≤◌, false, eqb, ne_eqb, ltb, List, [], ◌∷◌, ◌++◌, refl, sym, ap, ◌∙◌, arith, inl, inr, min, max}
 use Rattle.std.proofs.lemmas.Bool.{cases_Bool, ltb-true, ltb-false}
 use Rattle.analysis.specs.Tables.{redo_lsn_of}
 use Rattle.analysis.specs.Steps.{lower}

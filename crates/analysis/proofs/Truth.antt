@@ -1,21 +1,18 @@
 -- The tables of a lawful log and its store are true.
-use Rattle.std.proofs.Common.{ℕ, suc, ◌≡◌, ◌<◌, ◌≤◌, ◌⊎◌, Bool, true, false, cond, ◌||◌, eqb, ne_eqb, eq-eqb, eqb-true, List, [], ◌∷◌, map, get_or, Option, Some, None, refl, sym, ap, ap₂, ◌∙◌, subst, arith, inl, inr}
+use Rattle.std.proofs.Common.{ℕ, ◌≡◌, ◌≤◌, true, false, eqb, ne_eqb, List, [], get_or, Option, Some, None, refl, sym, ap, ◌∙◌, subst, arith, inl, inr}
 use Rattle.std.specs.Prelude.{All}
-use Rattle.std.proofs.lemmas.Bool.{cases_Bool, cases_eq, or_right, or_left, or_cases, both_ways}
+use Rattle.std.proofs.lemmas.Bool.{cases_eq}
 use Rattle.page.specs.declared.page.Page.{Page}
 use Rattle.page.specs.Store.{StoreContent}
-use Rattle.wal.specs.Records.{TableEntry, LogRecord, CheckpointBegin, History, start, ◌▸◌, history, size, record_at, first}
-use Rattle.wal.specs.Meaning.{is_loser, is_on}
-use Rattle.wal.specs.Laws.{IsLawful}
-use Rattle.wal.specs.Tail.{losers_of, is_among}
+use Rattle.wal.specs.Records.{TableEntry, LogRecord, CheckpointBegin, History, history, size, record_at, first}
 use Rattle.wal.specs.Redo.{rec_lsn_of}
-use Rattle.wal.specs.Store.{true_entry, true_table, first_end, DirtyLaw, TablesLaw, CheckpointLaw, Lawful}
+use Rattle.wal.specs.Store.{first_end, DirtyLaw, CheckpointLaw, Lawful}
 use Rattle.wal.proofs.Histories.{record_none, record_within, first_none}
 use Rattle.wal.proofs.Undone.{true_entry_for}
 use Rattle.wal.specs.Undo.{entry_for}
 use Rattle.wal.specs.Theorems.{IsReached}
 use Rattle.analysis.specs.declared.tables.Tables.{Tables}
-use Rattle.analysis.specs.Tables.{base_of, is_begin, entry_at, analysed_entry, analysed_rec_lsn, redo_lsn_of, AreTablesOf}
+use Rattle.analysis.specs.Tables.{base_of, is_begin, analysed_entry, AreTablesOf}
 use Rattle.analysis.specs.Lawful.{loser_entry, AreTrue}
 use Rattle.analysis.proofs.Analysed.{analysis_is_true}
 use Rattle.analysis.proofs.Covered.{covered}

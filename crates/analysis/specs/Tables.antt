@@ -1,11 +1,11 @@
 -- TABLES-OF. What analysis finds from a checkpoint on: last and first records, not a scan (own, for every log).
-use Rattle.std.specs.Prelude.{◌≡◌, ◌≤◌, ℕ, suc, List, [], ◌∷◌, Option, Some, None, Bool, true, false, not, ◌||◌, ◌&&◌, ◌==◌, nat_lt, nat_le, min, max, map, option_map, if◌then◌else◌}
+use Rattle.std.specs.Prelude.{◌≡◌, ℕ, suc, List, [], ◌∷◌, Option, Some, None, Bool, true, false, ◌||◌, ◌&&◌, ◌==◌, nat_lt, nat_le, min, max, if◌then◌else◌}
 use Rattle.page.specs.declared.fault.Fault.{Fault}
 use Rattle.page.specs.declared.fault.Fault.TheVariants.{NoResource, BadMaster}
 use Rattle.wal.specs.declared.record.State.{State}
 use Rattle.wal.specs.declared.record.State.TheVariants.{Active, Aborting}
 use Rattle.wal.specs.declared.record.Entry.{Entry}
-use Rattle.wal.specs.Records.{TableEntry, tx_in, LogRecord, Update, Compensation, Abort, CheckpointBegin, History, start, ◌▸◌, history, size, record_at}
+use Rattle.wal.specs.Records.{TableEntry, LogRecord, Update, Compensation, Abort, CheckpointBegin, History, start, ◌▸◌, history, size, record_at}
 use Rattle.wal.specs.Meaning.{is_commit_of, is_end_of, is_on}
 use Rattle.wal.specs.Redo.{rec_lsn_of}
 use Rattle.wal.specs.Undo.{entry_for}

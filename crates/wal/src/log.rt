@@ -1,6 +1,6 @@
 //! A log that lies in bytes.
 
-ghost use Rattle.std.specs.Prelude.{◌≡◌, ◌+◌, ◌<◌, ◌≤◌, ℕ, List, All, length, map, take, drop, slice_index_or, option_map, IfErr, IfOk, IfSome, Ok};
+ghost use Rattle.std.specs.Prelude.{◌≡◌, ◌+◌, ◌<◌, ◌≤◌, ◌^◌, ℕ, List, All, length, map, take, drop, slice_index_or, option_map, IfErr, IfOk, IfSome, Ok};
 ghost use Rattle.wal.specs.Records.{LogRecord, ◌▸◌, history, record_at};
 ghost use Rattle.wal.specs.Frames.{IsPlace, record_of, length_of, frame_at, next_at, frames_at, log_at, Gives};
 ghost use Rattle.wal.specs.Reads.{Cause, Reads};
@@ -35,6 +35,15 @@ impl<'a> Log<'a> {
         ensures { result ≡ length self.now }
     {
         self.offsets.len() as u64
+    }
+
+    /// The LSN of a record that is to come behind the last one. It leaves room for as many further
+    /// records as a vector holds.
+    pub fn next_lsn(&self) -> u64
+        ensures next { result ≡ length self.now + 1 }
+        ensures room { result ≤ 2 ^ 63 }
+    {
+        self.offsets.len() as u64 + 1
     }
 
     /// The record at an LSN, None for 0 and past the end. It is decoded from the bytes at each call,

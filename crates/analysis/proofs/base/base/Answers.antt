@@ -1,4 +1,4 @@
-use Rattle.std.proofs.Common.{[], refl, sym, ap, ◌∙◌, ℕ, List}
+use Rattle.std.proofs.Common.{[], ap, ℕ, List}
 use Rattle.wal.specs.declared.record.Entry.{Entry}
 use Rattle.wal.specs.Redo.{rec_lsn_of}
 use Rattle.wal.specs.Records.{history}

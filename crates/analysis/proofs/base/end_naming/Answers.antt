@@ -1,4 +1,4 @@
-use Rattle.std.proofs.Common.{◌≤◌, take, arith, length, ◌∙◌}
+use Rattle.std.proofs.Common.{◌≤◌, take, arith}
 use Rattle.std.proofs.lemmas.List.{length-take}
 use Rattle.wal.specs.Records.{history, size}
 use Rattle.wal.proofs.Histories.{size_of_list}

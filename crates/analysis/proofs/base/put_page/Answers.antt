@@ -1,4 +1,4 @@
-use Rattle.std.proofs.Common.{Some, sym, ◌∙◌}
+use Rattle.std.proofs.Common.{Some, sym}
 use Rattle.analysis.proofs.Maps.{rec_lsn-changed, page_put, no_place}
 use Rattle.analysis.proofs.base.put_page.Goals as goal
 

@@ -1,4 +1,4 @@
-use Rattle.std.proofs.Common.{Some, sym, ◌∙◌}
+use Rattle.std.proofs.Common.{Some, sym}
 use Rattle.analysis.proofs.Maps.{entry_at-changed, entry_put, no_place}
 use Rattle.analysis.proofs.base.put_transaction.Goals as goal
 

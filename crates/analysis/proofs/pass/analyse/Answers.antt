@@ -1,6 +1,4 @@
-use Rattle.std.proofs.Common.{◌≡◌, sym, subst}
-use Rattle.page.specs.Store.{StoreContent}
-use Rattle.wal.specs.Store.{Lawful}
+use Rattle.std.proofs.Common.{sym, subst}
 use Rattle.analysis.specs.declared.tables.Tables.{Tables}
 use Rattle.analysis.specs.Tables.{AreTablesOf}
 use Rattle.analysis.proofs.Truth.{tables_true}

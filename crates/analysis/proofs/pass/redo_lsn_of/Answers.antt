@@ -1,4 +1,4 @@
-use Rattle.std.proofs.Common.{◌≡◌, ℕ, List, map, max, sym, ap, ◌∙◌}
+use Rattle.std.proofs.Common.{ℕ, map, max, sym, ap, ◌∙◌}
 use Rattle.std.proofs.lemmas.List.{map_push}
 use denote.Bor.{Bor}
 use Rattle.analysis.specs.Tables.{redo_lsn_of}

@@ -1,10 +1,9 @@
-use Rattle.std.proofs.Common.{◌≡◌, ◌+◌, ◌≤◌, ℕ, Option, take, sym, ap, ◌∙◌, subst, arith, length}
+use Rattle.std.proofs.Common.{◌≡◌, ◌+◌, ◌≤◌, take, sym, ap, ◌∙◌, arith}
 use Rattle.std.proofs.lemmas.List.{length-take}
-use Rattle.wal.specs.Records.{TableEntry, History, history, size}
-use Rattle.wal.specs.Redo.{rec_lsn_of}
+use Rattle.wal.specs.Records.{history, size}
 use Rattle.wal.specs.Shown.{shown}
 use Rattle.wal.proofs.Histories.{size_of_list, size_of_beginning}
-use Rattle.analysis.specs.Tables.{entry_at, analysed_entry, analysed_rec_lsn}
+use Rattle.analysis.specs.Tables.{analysed_entry, analysed_rec_lsn}
 use Rattle.analysis.proofs.Scanned.{entry_none, rec_lsn_none, entry_next, rec_lsn_next}
 use Rattle.analysis.proofs.scan.scan.Goals as goal
 

@@ -1,0 +1,78 @@
+-- One page among those of a part, changed in its place.
+use Rattle.std.proofs.Common.{◌≡◌, ◌≢◌, ℕ, ◌<◌, List, [], ◌∷◌, Option, Some, map, length, get_or, set, refl, sym, ap, ap₂, ◌∙◌, inl, inr, arith}
+use Rattle.std.specs.List.{slice_get}
+use Rattle.std.proofs.lemmas.Bool.{cases_eq}
+use Rattle.std.proofs.lemmas.List.{ext_get_or, get_or-set_same, get_or-set_other, length-set, length-map, get_or-map}
+use Rattle.std.proofs.lemmas.Option.{slice_get-get_or, slice_get_within, get_or_from_slice_get}
+use Rattle.redo.specs.declared.progress.Progress.{Progress}
+use Rattle.page.specs.Image.{Image}
+use denote.Bor.{Bor}
+use Rattle.wal.specs.declared.view.RecordView.{RecordView}
+use Rattle.wal.specs.declared.view.RecordView.TheVariants as code
+use Rattle.wal.specs.Shown.{shown}
+use Rattle.wal.specs.Records.{LogRecord}
+use Rattle.redo.specs.Changes.{page_named, put, advance}
+use Rattle.redo.specs.Rounds.{StandsAlone, numbers_of}
+use Rattle.redo.proofs.Reading.{get_same}
+use Rattle.redo.proofs.Advance.{advance_elsewhere}
+
+-- its place is one of theirs
+pub alone_within : (place_of : List ℕ) (ps : List Progress) (page : ℕ) (alone : StandsAlone place_of (numbers_of ps) page) → alone.place < length ps
+alone_within place_of ps page alone = omega (arith, slice_get_within (numbers_of ps) alone.place page alone.there, length-map ps (λ (p : Progress). p.page.number))
+
+-- a change of one page at its place is a change of all that leaves the others
+pub set_alone : (f : Progress → Progress) (place_of : List ℕ) (ps : List Progress) (page : ℕ) (alone : StandsAlone place_of (numbers_of ps) page) (place : ℕ) (new d : Progress)
+    → ((p : Progress) → p.page.number ≢ page → f p ≡ p) → place ≡ alone.place → new ≡ f (get_or ps place d) → set ps place new ≡ map f ps
+set_alone f place_of ps page alone place new d others at is =
+    ext_get_or d (set ps place new) (map f ps) (length-set ps place new ∙ sym (length-map ps f))
+    (λ k lt.
+    let below : k < length ps = omega (arith, length-set ps place new) in
+    elim (cases_eq k place) [
+      | inl e ↦
+          (ap (λ i. get_or (set ps place new) i d) e
+          ∙ (get_or-set_same ps place new d (omega (arith, alone_within place_of ps page alone))
+          ∙ (is ∙ (ap (λ i. f (get_or ps i d)) (sym e) ∙ sym (get_or-map f ps k d d below)))))
+      | inr ne ↦
+          (let other : (get_or ps k d).page.number ≢ page =
+          λ e. ne (alone.only k (slice_get-get_or (numbers_of ps) k page (omega (arith, length-map ps (λ (p : Progress). p.page.number))) ∙ ap Some (get_or-map (λ (p : Progress). p.page.number) ps k d page below ∙ e)) ∙ sym at) in
+          get_or-set_other ps place k new d ne ∙ (sym (others (get_or ps k d) other) ∙ sym (get_or-map f ps k d d below)))
+    ])
+
+-- so is the update or CLR of a page that stands alone
+pub put_alone : (redo_lsn lsn slot : ℕ) (value : Image) (r : LogRecord) (place_of : List ℕ) (ps new : List Progress) (page place : ℕ) (alone : StandsAlone place_of (numbers_of ps) page)
+    → slice_get place_of page ≡ Some place → page_named r ≡ Some page → ((p : Progress) → page ≡ p.page.number → advance redo_lsn lsn r p ≡ put redo_lsn lsn slot value p)
+    → ((d : Progress) → new ≡ set ps place (put redo_lsn lsn slot value (get_or ps place d))) → new ≡ map (advance redo_lsn lsn r) ps
+put_alone redo_lsn lsn slot value r place_of [] new page place alone noted names does is = absurd (let lt = alone_within place_of [] page alone in omega arith)
+put_alone redo_lsn lsn slot value r place_of (q ∷ qs) new page place alone noted names does is =
+    let ps = q ∷ qs in
+    let at : place ≡ alone.place = get_same place_of page place alone.place noted alone.noted in
+    let number : page ≡ (get_or ps place q).page.number =
+    sym (get_or_from_slice_get (numbers_of ps) alone.place page page alone.there)
+    ∙ (get_or-map (λ (p : Progress). p.page.number) ps alone.place q page (alone_within place_of ps page alone) ∙ ap (λ k. (get_or ps k q).page.number) (sym at)) in
+    is q
+    ∙ set_alone (advance redo_lsn lsn r) place_of ps page alone place (put redo_lsn lsn slot value (get_or ps place q)) q
+    (λ p other. advance_elsewhere redo_lsn lsn r p (λ named e f. other (f ∙ sym (named_once names e)))) at (sym (does (get_or ps place q) number))
+  where
+    named_once : {a b : ℕ} → page_named r ≡ Some a → page_named r ≡ Some b → a ≡ b
+    named_once e f = cc
+
+-- and a record on no page changes none
+pub map_idle : (redo_lsn lsn : ℕ) (r : LogRecord) (ps : List Progress) → ((page : ℕ) → page_named r ≡ Some page → ⊥) → ps ≡ map (advance redo_lsn lsn r) ps
+map_idle redo_lsn lsn r [] none = refl
+map_idle redo_lsn lsn r (p ∷ ps) none = ap₂ (λ x xs. x ∷ xs) (sym (advance_elsewhere redo_lsn lsn r p (λ page e _. none page e))) (map_idle redo_lsn lsn r ps none)
+
+-- what a view that is no update and no CLR shows
+abbrev pub IsNoUpdate : RecordView → Type 0
+IsNoUpdate v = (tx prev page slot : ℕ) (before after : Option (Bor (List ℕ))) → v ≡ code.Update tx prev page slot before after → ⊥
+
+abbrev pub IsNoCompensation : RecordView → Type 0
+IsNoCompensation v = (tx prev page slot undo_next : ℕ) (image : Option (Bor (List ℕ))) → v ≡ code.Compensation tx prev page slot undo_next image → ⊥
+
+pub names_none : (v : RecordView) → IsNoUpdate v → IsNoCompensation v → (page : ℕ) → page_named (shown v) ≡ Some page → ⊥
+names_none (code.Update tx prev page slot before after) no_update no_clr n e = no_update tx prev page slot before after refl
+names_none (code.Compensation tx prev page slot undo_next image) no_update no_clr n e = no_clr tx prev page slot undo_next image refl
+names_none (code.Commit tx prev) no_update no_clr n e = absurd (cc)
+names_none (code.Abort tx prev) no_update no_clr n e = absurd (cc)
+names_none (code.End tx prev) no_update no_clr n e = absurd (cc)
+names_none code.CheckpointBegin no_update no_clr n e = absurd (cc)
+names_none (code.CheckpointEnd begin transactions dirty) no_update no_clr n e = absurd (cc)

@@ -1,0 +1,50 @@
+-- What the first round has seen, in the words of redo's contract.
+use Rattle.std.proofs.Common.{◌≡◌, ℕ, zero, suc, ◌-◌, ◌<◌, ◌≤◌, min, List, Some, length, refl, ap, ◌∙◌, cond, ne_eqb, arith}
+use Rattle.page.specs.declared.fault.Fault.{Fault}
+use Rattle.page.specs.declared.fault.Fault.TheVariants.{NoResource, NoSuchPage}
+use Rattle.wal.specs.Records.{LogRecord, history, record_at}
+use Rattle.wal.proofs.Histories.{record_within, size_of_list}
+use Rattle.redo.specs.declared.route.Route.{Route}
+use Rattle.redo.specs.Passes.{PassContent}
+use Rattle.redo.specs.Rounds.{skipped, skipped_in, RoundFault, AreRoutes}
+use Rattle.redo.specs.Redone.{AreWorkers, IsLookedAt, AllExist, RedoFault}
+use Rattle.redo.proofs.Stretches.{boundary_last, skipped_within}
+use Rattle.redo.proofs.Routes.{all_exist}
+
+skipped_some : (n len : ℕ) → skipped (suc n) len ≡ min len n
+skipped_some n len = ap (λ b. cond b len (min len (suc n - 1))) (ne_eqb (suc n) 0 (λ e. omega arith)) ∙ omega arith
+
+-- what is not skipped is looked at
+looked_at : (redo_lsn len lsn : ℕ) → skipped redo_lsn len < lsn → lsn ≤ len → IsLookedAt redo_lsn lsn
+looked_at zero len lsn past within = absurd (let e : skipped 0 len ≡ len = refl in omega arith)
+looked_at (suc n) len lsn past within = let e = skipped_some n len in ((λ z. omega arith), omega arith)
+
+-- and what is looked at is not skipped
+not_skipped : (redo_lsn len lsn : ℕ) → IsLookedAt redo_lsn lsn → lsn ≤ len → skipped redo_lsn len < lsn
+not_skipped zero len lsn h within = absurd (h.0 refl)
+not_skipped (suc n) len lsn h within = let from = h.1 in let e = skipped_some n len in omega arith
+
+in_log : (records : List LogRecord) (lsn : ℕ) (r : LogRecord) → record_at (history records) lsn ≡ Some r → lsn ≤ length records
+in_log records lsn r e = omega (arith, record_within (history records) lsn r e, size_of_list records)
+
+pub exist_all : (pass : PassContent) (routes : List Route) → AreRoutes pass routes → AllExist pass.records (length pass.images) pass.redo_lsn
+exist_all pass routes are lsn r looked found =
+    let within = in_log pass.records lsn r found in
+    let len = length pass.records in
+    let last = boundary_last (skipped_in pass) len (length routes) (skipped_within pass.redo_lsn len) are.some in
+    all_exist pass routes are lsn r (not_skipped pass.redo_lsn len lsn looked within) (omega (arith, within, last)) found
+
+pub round_fault : (pass : PassContent) (workers : ℕ) (e : Fault) → AreWorkers workers → RoundFault pass e → RedoFault pass.records (length pass.images) pass.redo_lsn workers e
+round_fault pass workers NoResource fit cause = tt
+round_fault pass workers (NoSuchPage lsn) fit m =
+    let within = in_log pass.records lsn m.entry m.there in (
+      fit,
+      record {
+        entry = m.entry;
+        looked_at = looked_at pass.redo_lsn (length pass.records) lsn m.past within;
+        there = m.there;
+        beyond = m.beyond;
+        before = λ k r looked less found. m.before k r (not_skipped pass.redo_lsn (length pass.records) k looked (in_log pass.records k r found)) (omega arith) found;
+      },
+    )
+round_fault pass workers e fit cause = absurd cause

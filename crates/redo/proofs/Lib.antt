@@ -1,0 +1,13 @@
+pub mod Reading
+pub mod Members
+pub mod Stretches
+pub mod Routes
+pub mod Slots
+pub mod Advance
+pub mod Alone
+pub mod Replay
+pub mod Parts
+pub mod Noting
+pub mod Gathered
+pub mod Totals
+pub mod Causes

@@ -1,0 +1,260 @@
+-- The records of a stretch, applied by their LSNs in order.
+use Rattle.std.proofs.Common.{◌≡◌, ℕ, zero, suc, ◌+◌, ◌-◌, ◌<◌, ◌≤◌, ◌^◌, Bool, true, false, cond, ◌&&◌, not, eqb, leb, ltb, List, [], ◌∷◌, ◌++◌, All, Option, Some, None, map, take, drop, take-append-drop, replicate, length, get_or, min, refl, sym, ap, ◌∙◌, subst, inl, inr, arith, length-append, eq-eqb, eqb-true}
+use Rattle.std.specs.List.{fold, slice_get}
+use Rattle.std.proofs.lemmas.Bool.{cases_Bool, cond_both, and_right, and_parts, le-leb, leb-true, lt-leb, false≢true}
+use Rattle.std.proofs.lemmas.List.{length-map, get_or-map, ext_get_or}
+use Rattle.std.proofs.lemmas.List.Elements.{All-push}
+use Rattle.std.proofs.lemmas.List.Sums.{fold_push}
+use Rattle.std.proofs.lemmas.Option.{slice_get-get_or, slice_get_within}
+use mathlib.Core.Path.{fun_ext}
+use Rattle.page.specs.declared.page.Page.{Page}
+use Rattle.page.specs.Store.{AreNumbered}
+use Rattle.wal.specs.Records.{LogRecord, CheckpointBegin, History, start, ◌▸◌, size, history, record_at}
+use Rattle.std.proofs.lemmas.List.FromFn.{length-map-range_with_len, get_or-map-range_with_len}
+use Rattle.wal.specs.Redo.{is_redone, applied, rec_lsn_of, slots_in, held_by}
+use Rattle.wal.proofs.Histories.{history_more, record_item, size_of_beginning, record_more, record_last, record_within, record_in_front, after-append}
+use Rattle.redo.specs.declared.progress.Progress.{Progress}
+use Rattle.redo.specs.Changes.{part_of_page, is_part, on_part, lsns_where, progress_at, advance, advance_by, step}
+use Rattle.redo.specs.Parting.{AreMembers}
+use Rattle.redo.specs.Passes.{PassContent}
+use Rattle.redo.specs.Rounds.{skipped, skipped_in, progress_in, image_at, numbers_of, Stands, IsUpTo}
+use Rattle.redo.proofs.Reading.{get_same}
+use Rattle.redo.proofs.Routes.{lsns_none}
+use Rattle.redo.proofs.Stretches.{skipped_within}
+use Rattle.redo.proofs.Advance.{advanced, advance_had, advance_elsewhere, advance_count}
+
+-- ONE RECORD MORE OF A STRETCH
+pub lsns_more : (test : LogRecord → Bool) (from : ℕ) (log : History) (r : LogRecord) → from ≤ size log → lsns_where test from (log ▸ r) ≡ cond (test r) (lsns_where test from log ++ suc (size log) ∷ []) (lsns_where test from log)
+lsns_more test from log r le = ap (λ b. cond (b && test r) (lsns_where test from log ++ suc (size log) ∷ []) (lsns_where test from log)) (le-leb from (size log) le)
+
+-- a record on no page of a part changes none of them
+off_part : (part_of : List ℕ) (part redo_lsn lsn : ℕ) (r : LogRecord) (p : Progress) → slice_get part_of p.page.number ≡ Some part → on_part part_of part r ≡ false → advance redo_lsn lsn r p ≡ p
+off_part part_of part redo_lsn lsn r p here off =
+    advance_elsewhere redo_lsn lsn r p
+    (λ page named same.
+    let given : on_part part_of part r ≡ true =
+    ap (λ n. is_part part (part_of_page part_of n)) named ∙ (ap (λ n. is_part part (slice_get part_of n)) (sym same) ∙ (ap (is_part part) here ∙ eq-eqb part part refl)) in
+    false≢true (sym off ∙ given))
+
+-- the image itself, before any record
+pub image_begun : (pass : PassContent) (image : Page) → length image.slots ≡ 16 → progress_in pass start image ≡ record { page = image; rec_lsn = rec_lsn_of image.number pass.dirty; applied = 0 }
+image_begun pass image count =
+    let slots : slots_in (held_by image) image.number ≡ image.slots =
+    ext_get_or None (slots_in (held_by image) image.number) image.slots (length-map-range_with_len (held_by image image.number) 0 16 ∙ sym count)
+    (λ k lt. get_or-map-range_with_len (held_by image image.number) 0 16 k k None (omega (arith, length-map-range_with_len (held_by image image.number) 0 16)) (omega arith)) in
+    ap (λ xs. record { page = record { number = image.number; lsn = image.lsn; slots = xs }; rec_lsn = rec_lsn_of image.number pass.dirty; applied = 0 }) slots
+
+-- A STRETCH
+module _ (pass : PassContent) (part : ℕ) (image : Page) (here : slice_get pass.parting.part_of image.number ≡ Some part) where
+  -- the LSNs of the stretch from the first m records to the first m + k, applied in order
+  pub stretch : (m k : ℕ) → m + k ≤ length pass.records
+      → fold (step (history pass.records) pass.redo_lsn) (progress_in pass (history (take m pass.records)) image) (lsns_where (on_part pass.parting.part_of part) m (history (take (m + k) pass.records)))
+      ≡ progress_in pass (history (take (m + k) pass.records)) image
+  stretch m zero le =
+      let same : history (take (m + zero) pass.records) ≡ history (take m pass.records) = ap (λ n. history (take n pass.records)) (omega arith) in
+      let none : lsns_where (on_part pass.parting.part_of part) m (history (take (m + zero) pass.records)) ≡ [] =
+      lsns_none (on_part pass.parting.part_of part) m (history (take (m + zero) pass.records)) (omega (arith, size_of_beginning pass.records (m + zero) le)) in
+      ap (fold (step (history pass.records) pass.redo_lsn) (progress_in pass (history (take m pass.records)) image)) none ∙ ap (λ h. progress_in pass h image) (sym same)
+  stretch m (suc k) le =
+      let whole = history pass.records in
+      let log = history (take (m + k) pass.records) in
+      let r = get_or pass.records (m + k) CheckpointBegin in
+      let begun = progress_in pass (history (take m pass.records)) image in
+      let test = on_part pass.parting.part_of part in
+      let f = step whole pass.redo_lsn in
+      let long : m + k < length pass.records = omega (arith, le) in
+      let count : size log ≡ m + k = size_of_beginning pass.records (m + k) (omega (arith, le)) in
+      let next : history (take (m + suc k) pass.records) ≡ log ▸ r = ap (λ n. history (take n pass.records)) (omega arith) ∙ history_more pass.records (m + k) CheckpointBegin long in
+      let lsns : lsns_where test m (history (take (m + suc k) pass.records)) ≡ cond (test r) (lsns_where test m log ++ suc (size log) ∷ []) (lsns_where test m log) =
+      ap (lsns_where test m) next ∙ lsns_more test m log r (omega (arith, count)) in
+      let before : fold f begun (lsns_where test m log) ≡ progress_in pass log image = stretch m k (omega (arith, le)) in
+      let after : progress_in pass (log ▸ r) image ≡ advance pass.redo_lsn (suc (size log)) r (progress_in pass log image) = advanced (rec_lsn_of image.number pass.dirty) pass.redo_lsn log r image in
+      let there : record_at whole (suc (size log)) ≡ Some r = ap (record_at whole) (omega (arith, count)) ∙ record_item pass.records (m + k) CheckpointBegin long in
+      elim (cases_Bool (test r)) [
+        | inl is ↦
+            (ap (fold f begun) (lsns ∙ ap (λ b. cond b (lsns_where test m log ++ suc (size log) ∷ []) (lsns_where test m log)) is)
+            ∙ (fold_push f begun (lsns_where test m log) (suc (size log))
+            ∙ (ap (λ p. f p (suc (size log))) before
+            ∙ (ap (λ o. advance_by pass.redo_lsn (suc (size log)) o (progress_in pass log image)) there ∙ (sym after ∙ ap (λ h. progress_in pass h image) (sym next))))))
+        | inr off ↦
+            (ap (fold f begun) (lsns ∙ ap (λ b. cond b (lsns_where test m log ++ suc (size log) ∷ []) (lsns_where test m log)) off)
+            ∙ (before
+            ∙ (sym (off_part pass.parting.part_of part pass.redo_lsn (suc (size log)) r (progress_in pass log image) here off) ∙ (sym after ∙ ap (λ h. progress_in pass h image) (sym next)))))
+      ]
+
+-- a record of the log that passes a test
+pub record IsFound (test : LogRecord → Bool) (log : History) (lsn : ℕ) : Type 0 where
+  pub entry : LogRecord
+  pub there : record_at log lsn ≡ Some entry
+  pub passes : test entry ≡ true
+
+-- WHAT REDO DOES NOT LOOK AT
+not_looked_at : (rec_lsn : Option ℕ) (redo_lsn len k n : ℕ) → n ≤ skipped redo_lsn len → 0 < n → is_redone rec_lsn redo_lsn k n ≡ false
+not_looked_at None redo_lsn len k n le some = refl
+not_looked_at (Some x) redo_lsn len k n le some =
+    and_right (leb x n) (not (eqb redo_lsn 0) && (leb redo_lsn n && ltb k n))
+    (elim (cases_Bool (eqb redo_lsn 0)) [
+      | inl z ↦ ap (λ b. not b && (leb redo_lsn n && ltb k n)) z
+      | inr s ↦
+          (let few : n ≤ min len (redo_lsn - 1) = subst (λ m. n ≤ m) (ap (λ b. cond b len (min len (redo_lsn - 1))) s) le in
+          ap (λ b. not b && (leb redo_lsn n && ltb k n)) s ∙ ap (λ b. b && ltb k n) (lt-leb redo_lsn n (positive redo_lsn s (omega (arith, few)))))
+    ])
+  where
+    positive : (r : ℕ) → eqb r 0 ≡ false → n ≤ r - 1 → n < r
+    positive zero z le = absurd (false≢true (sym z))
+    positive (suc r) z le = omega arith
+
+-- the records that redo skips change nothing
+pub skips_none : (pass : PassContent) (image : Page) (n : ℕ) → n ≤ skipped_in pass → n ≤ length pass.records → progress_in pass (history (take n pass.records)) image ≡ progress_in pass start image
+skips_none pass image zero le within = refl
+skips_none pass image (suc n) le within =
+    let log = history (take n pass.records) in
+    let r = get_or pass.records n CheckpointBegin in
+    let count : size log ≡ n = size_of_beginning pass.records n (omega (arith, within)) in
+    let same : suc n ≡ n + 1 = omega arith in
+    let next : history (take (suc n) pass.records) ≡ log ▸ r = ap (λ k. history (take k pass.records)) same ∙ history_more pass.records n CheckpointBegin within in
+    ap (λ h. progress_in pass h image) next
+    ∙ (advanced (rec_lsn_of image.number pass.dirty) pass.redo_lsn log r image
+    ∙ (advance_had pass.redo_lsn (suc (size log)) r (progress_in pass log image) (not_looked_at (rec_lsn_of image.number pass.dirty) pass.redo_lsn (length pass.records) (progress_in pass log image).page.lsn (suc (size log)) (omega (arith, count, le)) (omega arith))
+    ∙ skips_none pass image n (omega (arith, le)) (omega (arith, within))))
+
+-- COUNTS
+pub applied_within : (rec_lsn : Option ℕ) (redo_lsn : ℕ) (image : Page) (log : History) → applied rec_lsn redo_lsn image log ≤ size log
+applied_within rec_lsn redo_lsn image start = omega arith
+applied_within rec_lsn redo_lsn image (log ▸ r) =
+    let fewer = applied_within rec_lsn redo_lsn image log in
+    let more : (progress_at rec_lsn redo_lsn (log ▸ r) image).applied ≤ suc (applied rec_lsn redo_lsn image log) =
+    subst (λ (p : Progress). p.applied ≤ suc (applied rec_lsn redo_lsn image log)) (sym (advanced rec_lsn redo_lsn log r image)) (advance_count redo_lsn (suc (size log)) r (progress_at rec_lsn redo_lsn log image)) in
+    omega (arith, more, fewer)
+
+pub lsns_few : (test : LogRecord → Bool) (from : ℕ) (log : History) → length (lsns_where test from log) ≤ size log - from
+lsns_few test from start = omega arith
+lsns_few test from (log ▸ r) =
+    cond_both (leb from (size log) && test r) (lsns_where test from log ++ suc (size log) ∷ []) (lsns_where test from log) (λ xs. length xs ≤ suc (size log) - from)
+    (λ e.
+    omega
+    (arith, length-append (lsns_where test from log) (suc (size log) ∷ []), lsns_few test from log, leb-true from (size log) (and_parts (leb from (size log)) (test r) e).0))
+    (λ _. omega (arith, lsns_few test from log))
+
+-- THE PAGES OF A PART
+-- what the LSNs of a part name, in a log that goes on
+pub lsns_found : (test : LogRecord → Bool) (from : ℕ) (log whole : History) → ((n : ℕ) (r : LogRecord) → record_at log n ≡ Some r → record_at whole n ≡ Some r)
+    → All (λ lsn. IsFound test whole lsn) (lsns_where test from log)
+lsns_found test from start whole on = λ k d lt. absurd (omega arith)
+lsns_found test from (log ▸ r) whole on =
+    let rest = lsns_found test from log whole (λ n x e. on n x (record_more log r n x e)) in
+    cond_both (leb from (size log) && test r) (lsns_where test from log ++ suc (size log) ∷ []) (lsns_where test from log) (All (λ lsn. IsFound test whole lsn))
+    (λ e. All-push (λ lsn. IsFound test whole lsn) (lsns_where test from log) (suc (size log)) rest (record { entry = r; there = on (suc (size log)) r (record_last log r); passes = (and_parts (leb from (size log)) (test r) e).1 }))
+    (λ _. rest)
+
+-- what stands in the first n records stands in the log
+found_first : (xs : List LogRecord) (n : ℕ) → n ≤ length xs → (k : ℕ) (r : LogRecord) → record_at (history (take n xs)) k ≡ Some r → record_at (history xs) k ≡ Some r
+found_first xs n le k r e =
+    ap (λ ys. record_at (history ys) k) (sym (take-append-drop n xs))
+    ∙ (ap (λ h. record_at h k) (after-append start (take n xs) (drop n xs))
+    ∙ (record_in_front (history (take n xs)) (drop n xs) k (record_within (history (take n xs)) k r e) ∙ e))
+
+-- an image has its number
+pub image_number : (images : List Page) (number : ℕ) → AreNumbered images → number < length images → (image_at images number).number ≡ number
+image_number images number numbered lt = numbered.at_place number (record { number = number; lsn = 0; slots = replicate 16 None }) lt
+
+module _ (pass : PassContent) (part : ℕ) (numbered : AreNumbered pass.images) (dealt : length pass.parting.part_of ≡ length pass.images) (fits : length pass.records < 2 ^ 64) where
+  -- a member has an image
+  pub member_image : (members : List ℕ) → AreMembers pass.parting.part_of pass.parting.place_of part members → (k d : ℕ) → k < length members
+      → (get_or members k d < length pass.images) × (slice_get pass.parting.part_of (image_at pass.images (get_or members k d)).number ≡ Some part)
+  member_image members are k d lt =
+      let m = get_or members k d in
+      let given = (are.only k m (slice_get-get_or members k d lt)).0 in
+      let within : m < length pass.images = omega (arith, slice_get_within pass.parting.part_of m part given, dealt) in (
+        within,
+        ap (slice_get pass.parting.part_of) (image_number pass.images m numbered within) ∙ given,
+      )
+
+  -- the pages have the members' numbers
+  numbers_are : (members : List ℕ) (log : History) → AreMembers pass.parting.part_of pass.parting.place_of part members → numbers_of (map (λ number. progress_in pass log (image_at pass.images number)) members) ≡ members
+  numbers_are members log are =
+      let at : ℕ → Progress = λ number. progress_in pass log (image_at pass.images number) in
+      ext_get_or 0 (numbers_of (map at members)) members (length-map (map at members) (λ (p : Progress). p.page.number) ∙ length-map members at)
+      (λ k lt.
+      let below : k < length members = omega (arith, length-map (map at members) (λ (p : Progress). p.page.number), length-map members at) in
+      get_or-map (λ (p : Progress). p.page.number) (map at members) k (at 0) 0 (omega (arith, length-map members at))
+      ∙ (ap (λ (p : Progress). p.page.number) (get_or-map at members k 0 (at 0) below) ∙ image_number pass.images (get_or members k 0) numbered (member_image members are k 0 below).0))
+
+  -- the page of each record of the part stands among them
+  pub all_stand : (m n : ℕ) (ps : List Progress) → n ≤ length pass.records → IsUpTo pass part m ps
+      → All (Stands (history pass.records) pass.parting.place_of (numbers_of ps)) (lsns_where (on_part pass.parting.part_of part) m (history (take n pass.records)))
+  all_stand m n ps le up k d lt =
+      let log = history (take m pass.records) in
+      let numbers : numbers_of ps ≡ up.members = ap numbers_of up.redone ∙ numbers_are up.members log up.are in
+      let found = lsns_found (on_part pass.parting.part_of part) m (history (take n pass.records)) (history pass.records) (found_first pass.records n le) k d lt in
+      record {
+        entry = found.entry;
+        there = found.there;
+        alone = λ page named.
+            let given : slice_get pass.parting.part_of page ≡ Some part = part_is (slice_get pass.parting.part_of page) (sym (ap (λ o. is_part part (part_of_page pass.parting.part_of o)) named) ∙ found.passes) in
+            let member = up.are.found page (omega (arith, slice_get_within pass.parting.part_of page part given, up.all)) given in
+            record {
+              place = member.place;
+              noted = member.noted;
+              there = ap (λ xs. slice_get xs member.place) numbers ∙ member.there;
+              only = λ j at. get_same pass.parting.place_of page j member.place (up.are.only j page (sym (ap (λ xs. slice_get xs j) numbers) ∙ at)).1 member.noted;
+            };
+      }
+    where
+      part_is : (o : Option ℕ) → is_part part o ≡ true → o ≡ Some part
+      part_is None e = absurd (cc)
+      part_is (Some x) e = ap Some (eqb-true x part e)
+
+  -- no count of theirs can overflow
+  pub all_room : (m n : ℕ) (ps : List Progress) → m ≤ n → n ≤ length pass.records → IsUpTo pass part m ps
+      → All (λ p. p.applied + length (lsns_where (on_part pass.parting.part_of part) m (history (take n pass.records))) < 2 ^ 64) ps
+  all_room m n ps less le up k d lt =
+      let at : ℕ → Progress = λ number. progress_in pass (history (take m pass.records)) (image_at pass.images number) in
+      let below : k < length up.members = omega (arith, ap length up.redone, length-map up.members at) in
+      let is : get_or ps k d ≡ at (get_or up.members k 0) = ap (λ xs. get_or xs k d) up.redone ∙ get_or-map at up.members k 0 d below in
+      let image = image_at pass.images (get_or up.members k 0) in
+      let few = applied_within (rec_lsn_of image.number pass.dirty) pass.redo_lsn image (history (take m pass.records)) in
+      let count : (get_or ps k d).applied ≡ applied (rec_lsn_of image.number pass.dirty) pass.redo_lsn image (history (take m pass.records)) = ap (λ (p : Progress). p.applied) is in
+      omega (
+        arith,
+        few,
+        count,
+        lsns_few (on_part pass.parting.part_of part) m (history (take n pass.records)),
+        size_of_beginning pass.records m (omega (arith, less, le)),
+        size_of_beginning pass.records n le,
+        fits,
+      )
+
+  -- one stretch further
+  pub further : (m n : ℕ) (old new : List Progress) → m ≤ n → n ≤ length pass.records → IsUpTo pass part m old
+      → new ≡ map (λ p. fold (step (history pass.records) pass.redo_lsn) p (lsns_where (on_part pass.parting.part_of part) m (history (take n pass.records)))) old → IsUpTo pass part n new
+  further m n old new less le up is =
+      let lsns = lsns_where (on_part pass.parting.part_of part) m (history (take n pass.records)) in
+      let run : Progress → Progress = λ p. fold (step (history pass.records) pass.redo_lsn) p lsns in
+      let at : ℕ → ℕ → Progress = λ i number. progress_in pass (history (take i pass.records)) (image_at pass.images number) in
+      let sum : m + (n - m) ≡ n = omega (arith, less) in
+      record {
+        members = up.members;
+        are = up.are;
+        all = up.all;
+        redone = is
+            ∙ (ap (map run) up.redone
+            ∙ ext_get_or (at 0 0) (map run (map (at m) up.members)) (map (at n) up.members) (length-map (map (at m) up.members) run ∙ (length-map up.members (at m) ∙ sym (length-map up.members (at n))))
+            (λ k lt.
+            let below : k < length up.members = omega (arith, length-map (map (at m) up.members) run, length-map up.members (at m)) in
+            let image = image_at pass.images (get_or up.members k 0) in
+            let here = (member_image up.members up.are k 0 below).1 in
+            get_or-map run (map (at m) up.members) k (at 0 0) (at 0 0) (omega (arith, length-map up.members (at m), below))
+            ∙ (ap run (get_or-map (at m) up.members k 0 (at 0 0) below)
+            ∙ (subst (λ i. fold (step (history pass.records) pass.redo_lsn) (at m (get_or up.members k 0)) (lsns_where (on_part pass.parting.part_of part) m (history (take i pass.records))) ≡ at i (get_or up.members k 0)) sum
+            (stretch pass part image here m (n - m) (omega (arith, less, le)))
+            ∙ sym (get_or-map (at n) up.members k 0 (at 0 0) below)))));
+      }
+
+  -- redo begins with the images
+  pub begins : (ps : List Progress) → IsUpTo pass part 0 ps → IsUpTo pass part (skipped_in pass) ps
+  begins ps up =
+      let at : ℕ → ℕ → Progress = λ i number. progress_in pass (history (take i pass.records)) (image_at pass.images number) in
+      let same : at 0 ≡ at (skipped_in pass) =
+      fun_ext (λ number. sym (skips_none pass (image_at pass.images number) (skipped_in pass) (omega arith) (skipped_within pass.redo_lsn (length pass.records)))) in
+      record { members = up.members; are = up.are; all = up.all; redone = up.redone ∙ ap (λ f. map f up.members) same }

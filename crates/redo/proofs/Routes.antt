@@ -1,0 +1,100 @@
+-- Routes: the LSNs of a stretch, and the stretches of all workers together.
+use Rattle.std.proofs.Common.{◌≡◌, ℕ, zero, suc, ◌+◌, ◌-◌, ◌<◌, ◌≤◌, Bool, false, cond, ◌&&◌, leb, List, [], ◌∷◌, ◌++◌, Result, Ok, Err, map, length, get_or, refl, sym, ap, ◌∙◌, subst, arith, length-append, append-nil}
+use Rattle.std.proofs.lemmas.Bool.{lt-leb}
+use Rattle.std.proofs.lemmas.List.{length-map, get_or_append_left}
+use Rattle.std.proofs.Math.Seq.{get_or-append_seam}
+use Rattle.std.proofs.Math.ListN.{get_or-map}
+use mathlib.Core.Logic.{dite}
+use native.Mathlib.Decide.{dec_lt}
+use Rattle.page.specs.declared.fault.Fault.{Fault}
+use Rattle.page.specs.declared.fault.Fault.TheVariants.{NoResource, NoSuchPage}
+use Rattle.wal.specs.Records.{LogRecord, History, start, ◌▸◌, size}
+use Rattle.redo.specs.Changes.{lsns_where}
+use Rattle.redo.specs.Passes.{PassContent}
+use Rattle.redo.specs.declared.route.Route.{Route}
+use Rattle.redo.specs.Rounds.{ExistWithin, RouteFault, IsRoute, IfRoute, IfEach, RoundFault, AreRoutes, boundary_in, skipped_in}
+use Rattle.redo.proofs.Stretches.{boundary_first}
+
+-- what a worker answers that has its route
+abbrev pub answered : Route → Result Route Fault
+answered route = Ok route
+
+-- nothing stands above the end of a log
+pub lsns_none : (test : LogRecord → Bool) (from : ℕ) (log : History) → size log ≤ from → lsns_where test from log ≡ []
+lsns_none test from start le = refl
+lsns_none test from (log ▸ r) le =
+    let b : leb from (size log) ≡ false = lt-leb from (size log) (omega arith) in
+    ap (λ t. cond (t && test r) (lsns_where test from log ++ suc (size log) ∷ []) (lsns_where test from log)) b ∙ lsns_none test from log (omega arith)
+
+-- stretch after stretch
+pub exist_join : (records : List LogRecord) (count a b c : ℕ) → ExistWithin records count a b → ExistWithin records count b c → ExistWithin records count a c
+exist_join records count a b c h g lsn r past within at = dite (dec_lt b lsn) (λ lt. g lsn r lt within at) (λ ge. h lsn r past (omega arith) at)
+
+pub exist_none : (records : List LogRecord) (count a : ℕ) → ExistWithin records count a a
+exist_none records count a lsn r past within at = absurd (omega arith)
+
+module _ (pass : PassContent) (workers : ℕ) where
+  -- the records of the first k stretches
+  exist_first : (k : ℕ) → ((j : ℕ) → j < k → ExistWithin pass.records (length pass.images) (boundary_in pass workers j) (boundary_in pass workers (j + 1)))
+      → ExistWithin pass.records (length pass.images) (skipped_in pass) (boundary_in pass workers k)
+  exist_first zero h =
+      subst (ExistWithin pass.records (length pass.images) (skipped_in pass)) (sym (boundary_first (skipped_in pass) (length pass.records) workers)) (exist_none pass.records (length pass.images) (skipped_in pass))
+  exist_first (suc k) h =
+      let here : ExistWithin pass.records (length pass.images) (boundary_in pass workers k) (boundary_in pass workers (suc k)) = subst (λ n. ExistWithin pass.records (length pass.images) (boundary_in pass workers k) (boundary_in pass workers n)) (omega arith) (h k (omega arith)) in
+      exist_join pass.records (length pass.images) (skipped_in pass) (boundary_in pass workers k) (boundary_in pass workers (suc k)) (exist_first k (λ j lt. h j (omega arith))) here
+
+-- all records that are looked at are on pages of the store
+pub all_exist : (pass : PassContent) (routes : List Route) → AreRoutes pass routes → ExistWithin pass.records (length pass.images) (skipped_in pass) (boundary_in pass (length routes) (length routes))
+all_exist pass [] are = absurd (let some = are.some in omega arith)
+all_exist pass (r ∷ rs) are = exist_first pass (length (r ∷ rs)) (length (r ∷ rs)) (λ j lt. (are.each j r lt).exist)
+
+module _ (pass : PassContent) (results : List (Result Route Fault)) (each : IfEach pass results) where
+  -- the route of a worker that answered
+  route_at : (routes : List Route) (more : List (Result Route Fault)) → results ≡ map answered routes ++ more → (k : ℕ) (d : Route) → k < length routes → IsRoute pass (boundary_in pass (length results) k) (boundary_in pass (length results) (k + 1)) (get_or routes k d)
+  route_at routes more are k d lt =
+      let within : k < length results = omega (arith, ap (λ (xs : List (Result Route Fault)). length xs) are, length-append (map answered routes) more, length-map routes answered) in
+      let at : get_or results k (Ok d) ≡ Ok (get_or routes k d) =
+      ap (λ (xs : List (Result Route Fault)). get_or xs k (Ok d)) are
+      ∙ get_or_append_left (map answered routes) more (Ok d) k (omega (arith, length-map routes answered))
+      ∙ get_or-map answered routes k d in
+      subst (IfRoute pass (length results) k) at (each k (Ok d) within)
+
+  pub routes_are : (routes : List Route) → 0 < length results → results ≡ map answered routes → AreRoutes pass routes
+  routes_are routes some are =
+      let count : length results ≡ length routes = ap (λ (xs : List (Result Route Fault)). length xs) are ∙ length-map routes answered in
+      record {
+        some = omega arith;
+        each = λ k d lt. subst (λ n. IsRoute pass (boundary_in pass n k) (boundary_in pass n (k + 1)) (get_or routes k d)) count (route_at routes [] (are ∙ sym (append-nil (map answered routes))) k d lt);
+      }
+
+  -- the first that gave no route
+  pub first_refused : (routes : List Route) (fault : Fault) (more : List (Result Route Fault)) → results ≡ map answered routes ++ Err fault ∷ more → RoundFault pass fault
+  first_refused routes fault more are =
+      let n = length results in
+      let k = length routes in
+      let count : length (map answered routes) ≡ k = length-map routes answered in
+      let within : k < n = omega (arith, ap (λ (xs : List (Result Route Fault)). length xs) are, length-append (map answered routes) (Err fault ∷ more), count) in
+      let at : get_or results k (Err fault) ≡ Err fault =
+      ap (λ (xs : List (Result Route Fault)). get_or xs k (Err fault)) are
+      ∙ ap (λ i. get_or (map answered routes ++ Err fault ∷ more) i (Err fault)) (sym count)
+      ∙ get_or-append_seam (map answered routes) (Err fault) more (Err fault) in
+      let cause : RouteFault pass (boundary_in pass n k) (boundary_in pass n (k + 1)) fault = subst (IfRoute pass n k) at (each k (Err fault) within) in
+      let exist : ExistWithin pass.records (length pass.images) (skipped_in pass) (boundary_in pass n k) = exist_first pass n k (exist_of routes are) in
+      of fault exist cause
+    where
+      exist_of : (rs : List Route) → results ≡ map answered rs ++ Err fault ∷ more → (j : ℕ) → j < length rs → ExistWithin pass.records (length pass.images) (boundary_in pass (length results) j) (boundary_in pass (length results) (j + 1))
+      exist_of [] is j lt = absurd (omega arith)
+      exist_of (r ∷ rs) is j lt = (route_at (r ∷ rs) (Err fault ∷ more) is j r lt).exist
+
+      of : (e : Fault) → ExistWithin pass.records (length pass.images) (skipped_in pass) (boundary_in pass (length results) (length routes)) → RouteFault pass (boundary_in pass (length results) (length routes)) (boundary_in pass (length results) (length routes + 1)) e → RoundFault pass e
+      of NoResource exist cause = tt
+      of (NoSuchPage lsn) exist cause =
+          let m = cause.1 in
+          record {
+            entry = m.entry;
+            past = omega (arith, m.past);
+            there = m.there;
+            beyond = m.beyond;
+            before = exist_join pass.records (length pass.images) (skipped_in pass) (boundary_in pass (length results) (length routes)) (lsn - 1) exist m.before;
+          }
+      of e exist cause = absurd cause

@@ -1,0 +1,17 @@
+use Rattle.std.proofs.Common.{◌≡◌, ◌+◌, false, All, length, vec_len}
+use Rattle.board.specs.Drawn.{AllEnded}
+use Rattle.redo.specs.Rounds.{IsBack, ArePut}
+use Rattle.redo.proofs.gather.gather.Given as goal
+
+abbrev pub invariant-loop-share : goal.invariant-loop-share
+invariant-loop-share l =
+    (l.seat.board ≡ l.board)
+    × (l.seat.places + vec_len l.shares ≡ vec_len l.fn.shares)
+    × All (IsBack l.pass l.board) l.shares.items
+    × (length l.pages ≡ length l.pass.images)
+    × (length l.counts ≡ length l.pass.images)
+    × (l.seat.stopped ≡ false → l.seat.told ≡ false → ArePut l.pass l.pages l.counts l.seat.drawn)
+    × (l.seat.stopped ≡ false → l.seat.told ≡ false → AllEnded l.board.ranges l.seat.ended)
+
+abbrev pub decreases-loop-share : goal.decreases-loop-share
+decreases-loop-share l = vec_len l.shares

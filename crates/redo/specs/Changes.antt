@@ -1,0 +1,62 @@
+-- What one record does to a page that is being redone. ARIES, section 6.2 (redo pass); pages in parts are own.
+use Rattle.std.specs.Prelude.{◌≡◌, ℕ, suc, ◌<◌, List, [], ◌∷◌, ◌++◌, Option, Some, None, Bool, false, ◌&&◌, ◌==◌, nat_le, if◌then◌else◌, slice_set}
+use Rattle.std.specs.List.{slice_get}
+use Rattle.page.specs.Image.{Image}
+use Rattle.page.specs.declared.page.Page.{Page}
+use Rattle.wal.specs.Records.{LogRecord, Update, Compensation, History, start, ◌▸◌, size, record_at}
+use Rattle.wal.specs.Redo.{is_redone, redo_of, applied}
+use Rattle.redo.specs.declared.progress.Progress.{Progress}
+
+-- the page that an update or a CLR is on
+abbrev pub page_named : LogRecord → Option ℕ
+page_named (Update u) = Some u.page
+page_named (Compensation c) = Some c.page
+page_named _ = None
+
+-- a record is on no page past the count
+abbrev pub NamesBelow : ℕ → LogRecord → Type 0
+NamesBelow count r = (page : ℕ) → page_named r ≡ Some page → page < count
+
+-- the part of the page that a record is on
+abbrev pub part_of_page : List ℕ → Option ℕ → Option ℕ
+part_of_page part_of None = None
+part_of_page part_of (Some page) = slice_get part_of page
+
+abbrev pub is_part : ℕ → Option ℕ → Bool
+is_part part None = false
+is_part part (Some x) = x == part
+
+-- whether it is on a page of this part
+abbrev pub on_part : List ℕ → ℕ → LogRecord → Bool
+on_part part_of part r = is_part part (part_of_page part_of (page_named r))
+
+-- the LSNs above `from` of the records that pass a test, in rising order
+abbrev pub lsns_where : (LogRecord → Bool) → (from : ℕ) → History → List ℕ
+lsns_where test from start = []
+lsns_where test from (log ▸ r) =
+    if nat_le from (size log) && test r then lsns_where test from log ++ suc (size log) ∷ [] else lsns_where test from log
+
+-- a page as redo has it when it has come to the end of a log, with how many records it applied
+abbrev pub progress_at : (rec_lsn : Option ℕ) (redo_lsn : ℕ) → History → Page → Progress
+progress_at rec_lsn redo_lsn log image = record { page = redo_of rec_lsn redo_lsn log image; rec_lsn = rec_lsn; applied = applied rec_lsn redo_lsn image log }
+
+-- a value put into a slot, where the page lacks the record at this LSN
+abbrev pub put : (redo_lsn lsn slot : ℕ) → Image → Progress → Progress
+put redo_lsn lsn slot image p =
+    if is_redone p.rec_lsn redo_lsn p.page.lsn lsn
+    then record { page = record { number = p.page.number; lsn = lsn; slots = slice_set p.page.slots slot image }; rec_lsn = p.rec_lsn; applied = suc p.applied }
+    else p
+
+-- what the record at an LSN does to a page
+abbrev pub advance : (redo_lsn lsn : ℕ) → LogRecord → Progress → Progress
+advance redo_lsn lsn (Update u) p = if u.page == p.page.number then put redo_lsn lsn u.slot u.after p else p
+advance redo_lsn lsn (Compensation c) p = if c.page == p.page.number then put redo_lsn lsn c.slot c.image p else p
+advance redo_lsn lsn _ p = p
+
+abbrev pub advance_by : (redo_lsn lsn : ℕ) → Option LogRecord → Progress → Progress
+advance_by redo_lsn lsn None p = p
+advance_by redo_lsn lsn (Some r) p = advance redo_lsn lsn r p
+
+-- the same by its LSN in a log
+abbrev pub step : History → (redo_lsn : ℕ) → Progress → (lsn : ℕ) → Progress
+step log redo_lsn p lsn = advance_by redo_lsn lsn (record_at log lsn) p

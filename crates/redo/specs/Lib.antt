@@ -1,0 +1,6 @@
+pub mod Lists
+pub mod Parting
+pub mod Changes
+pub mod Passes
+pub mod Rounds
+pub mod Redone

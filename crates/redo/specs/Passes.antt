@@ -1,0 +1,30 @@
+-- What redo looks at.
+use Rattle.std.specs.Prelude.{◌≡◌, ℕ, List, length}
+use Rattle.page.specs.declared.page.Page.{Page}
+use Rattle.page.specs.Store.{AreNumbered}
+use Rattle.wal.specs.Records.{LogRecord}
+use Rattle.redo.specs.declared.pass.Pass.TheInside.{Inside}
+use Rattle.redo.specs.Parting.{PartingContent}
+
+-- the records of the log, the pages of the store, the dirty page table and redo_lsn, and the parting
+pub record PassContent : Type 0 where
+  pub records : List LogRecord
+  pub images : List Page
+  pub dirty : List (ℕ × ℕ)
+  pub redo_lsn : ℕ
+  pub parting : PartingContent
+
+-- what contracts see of a pass
+abbrev pub pass_of : Inside → PassContent
+pass_of p = record {
+  records = p.log.now;
+  images = p.store.now.pages;
+  dirty = p.tables.now.dirty.entries;
+  redo_lsn = p.tables.now.redo_lsn;
+  parting = p.parting.now;
+}
+
+-- the pages stand at their numbers, and each has a part
+pub record IsPass (p : Inside) : Type 0 where
+  pub numbered : AreNumbered p.store.now.pages
+  pub dealt : length p.parting.now.part_of ≡ length p.store.now.pages

@@ -1,0 +1,125 @@
+//! The second round: workers draw parts and redo them.
+
+ghost use Rattle.std.specs.Prelude.{◌≡◌, ℕ, ◌+◌, ◌<◌, ◌≤◌, [], false, length, vec_len, All, IfOk, IfErr, OnOk};
+ghost use Rattle.page.specs.declared.fault.Fault.TheVariants.{NoResource};
+ghost use Rattle.board.specs.Drawn.{AllEnded};
+ghost use Rattle.redo.specs.Rounds.{AreRoutes, IsReady, IsBack, IsDone, HasPart};
+
+use crate::gate::Gate;
+use crate::part::redo_part;
+use crate::pass::Pass;
+use crate::progress::Progress;
+use crate::route::Route;
+use board::{Board, Draw, Seat};
+use page::Fault;
+use std::alloc::Global;
+use std::thread;
+use std::thread::Threads;
+
+/// What a worker begins with: its number, which is its home range, and a seat.
+#[derive(Drop)]
+pub struct Job {
+    pub home: u32,
+    pub seat: Seat,
+}
+
+/// What a worker brings back: its seat, and the pages of the parts that it drew.
+#[derive(Drop)]
+pub struct Share {
+    pub seat: Seat,
+    pub pages: Vec<Progress>,
+}
+
+/// A job for each worker. The only error is `NoResource`.
+pub fn deal(alloc: Global, board: &Board, seat: Seat, workers: u32) -> Result<Vec<Job>, Fault>
+    requires board { seat.board ≡ board.now }
+    requires places { (seat.places ≡ workers) × (1 ≤ workers) × (board.now.ranges ≡ workers) }
+    requires fresh { seat.drawn ≡ [] }
+    ensures len { IfOk result (λ jobs. vec_len jobs ≡ workers) }
+    ensures each { IfOk result (λ jobs. All (IsReady board.now) jobs.items) }
+    ensures err { IfErr result (λ e. e ≡ NoResource) }
+{
+    let mut jobs = Vec::new(alloc);
+    let mut rest = seat;
+    for home in 0..workers - 1 {
+        let (seat, others) = board.split(rest);
+        rest = others;
+        jobs.push(Job { home, seat })?;
+    }
+    jobs.push(Job {
+        home: workers - 1,
+        seat: rest,
+    })?;
+    Ok(jobs)
+}
+
+/// Redoes a part and puts its pages behind those that are done. The only error is `NoResource`.
+fn add_part(
+    alloc: Global,
+    pass: &Pass,
+    routes: &[Route],
+    part: u32,
+    pages: &mut Vec<Progress>,
+) -> Result<(), Fault>
+    requires part { part < pass.now.parting.parts }
+    requires routes { AreRoutes pass.now routes.now }
+    requires done { All (IsDone pass.now) pages.old.items }
+    ensures done { All (IsDone pass.now) pages.new.items }
+    ensures kept { OnOk result ((other : ℕ) → HasPart pass.now other pages.old.items → HasPart pass.now other pages.new.items) }
+    ensures added { OnOk result (HasPart pass.now part pages.new.items) }
+    ensures err { IfErr result (λ e. e ≡ NoResource) }
+{
+    let redone = redo_part(alloc, pass, routes, part)?;
+    pages.extend_from_slice(&redone)?;
+    Ok(())
+}
+
+/// Draws parts and redoes them until there is none, or until some worker was refused memory.
+fn work<G: Gate>(
+    alloc: Global,
+    pass: &Pass,
+    routes: &[Route],
+    board: &Board,
+    gate: &G,
+    job: Job,
+) -> Share
+    requires routes { AreRoutes pass.now routes.now }
+    requires parts { board.now.parts ≡ pass.now.parting.parts }
+    requires ready { IsReady board.now job }
+    ensures { IsBack pass.now board.now result }
+{
+    let Job { home, mut seat } = job;
+    let mut pages = Vec::new(alloc);
+    while let Draw::Part(part) = board.draw_or_stop(&mut seat, home) {
+        gate.enter(home, part);
+        if add_part(alloc, pass, routes, part, &mut pages).is_err() {
+            board.stop(&mut seat);
+            return Share { seat, pages };
+        }
+    }
+    Share { seat, pages }
+}
+
+/// Each job in a thread of its own. The only error is `NoResource`.
+pub fn run<G: Gate, R: Threads + Sync>(
+    rt: &R,
+    alloc: Global,
+    pass: &Pass,
+    routes: &[Route],
+    board: &Board,
+    gate: &G,
+    jobs: Vec<Job>,
+) -> Result<Vec<Share>, Fault>
+    requires routes { AreRoutes pass.now routes.now }
+    requires parts { board.now.parts ≡ pass.now.parting.parts }
+    requires ready { All (IsReady board.now) jobs.items }
+    ensures len { IfOk result (λ shares. vec_len shares ≡ vec_len jobs) }
+    ensures each { IfOk result (λ shares. All (IsBack pass.now board.now) shares.items) }
+    ensures err { IfErr result (λ e. e ≡ NoResource) }
+{
+    let worker = |job: Job| -> Share
+        requires { AreRoutes pass.now routes.now × (board.now.parts ≡ pass.now.parting.parts) × IsReady board.now job }
+        ensures { IsBack pass.entry.now board.entry.now result }
+    { work(alloc, pass, routes, board, gate, job) };
+    Ok(thread::map_vec(rt, jobs, &worker)?)
+}

@@ -1,0 +1,23 @@
+//! Redo: repeating history on the pages of a store, by workers that draw the parts of the pages from a
+//! board.
+#![tactic(auto)]
+
+mod crew;
+mod gate;
+mod gather;
+mod lists;
+mod part;
+mod parting;
+mod pass;
+mod progress;
+mod redone;
+mod rounds;
+mod route;
+
+pub use gate::{Gate, OpenGate};
+pub use parting::Parting;
+pub use redone::Redone;
+pub use rounds::redo;
+
+#[cfg(test)]
+mod tests;

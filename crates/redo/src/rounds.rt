@@ -1,0 +1,100 @@
+//! Redo: two rounds of workers.
+
+ghost use Rattle.std.specs.Prelude.{◌≡◌, ◌≤◌, Ok, Err, length, map, sum, IfOk, OnOk, IfErr, IsTrue, ◌↔◌};
+ghost use Rattle.page.specs.declared.fault.Fault.TheVariants.{NoResource, BadWorkers};
+ghost use Rattle.wal.specs.Records.{history};
+ghost use Rattle.redo.specs.Rounds.{AreRoutes, progress_in};
+ghost use Rattle.redo.specs.Redone.{redone_page, applied_to, AreWorkers, AllExist, RedoFault};
+
+use crate::crew::{deal, run};
+use crate::gate::Gate;
+use crate::gather::assemble;
+use crate::pass::Pass;
+use crate::route::{Route, routes};
+use crate::{Parting, Redone};
+use analysis::Tables;
+use board::Board;
+use page::{Fault, Store};
+use std::alloc::Global;
+use std::thread::Threads;
+use wal::Log;
+
+/// Whether there may be so many workers.
+fn are_workers(workers: u32) -> bool
+    ensures { IsTrue result ↔ AreWorkers workers }
+{
+    (1..=64).contains(&workers)
+}
+
+/// The second round of workers: each draws parts from a board and redoes them. The only error is
+/// `NoResource`.
+fn second_round<G: Gate, R: Threads + Sync>(
+    rt: &R,
+    alloc: Global,
+    pass: &Pass,
+    routes: &[Route],
+    gate: &G,
+) -> Result<Redone, Fault>
+    requires routes { AreRoutes pass.now routes.now }
+    requires workers { AreWorkers (length routes.now) }
+    ensures pages { IfOk result (λ redone. redone.pages.items ≡ map (λ image. (progress_in pass.now (history pass.now.records) image).page) pass.now.images) }
+    ensures applied { IfOk result (λ redone. redone.applied ≡ sum (map (λ image. (progress_in pass.now (history pass.now.records) image).applied) pass.now.images)) }
+    ensures err { IfErr result (λ e. e ≡ NoResource) }
+{
+    let workers = routes.len() as u32;
+    let (board, seat) = Board::new(alloc, pass.parting.parts(), workers, workers)?;
+    let jobs = deal(alloc, &board, seat, workers)?;
+    let shares = run(rt, alloc, pass, routes, &board, gate, jobs)?;
+    assemble(alloc, pass, board, shares)
+}
+
+/// Repeats history on the pages of a store (ARIES, section 6.2): to each page that is listed in the
+/// dirty page table, the updates and compensations on it, of all transactions, are applied in LSN order,
+/// where their LSN is at least its RecLSN, at least `redo_lsn`, and above its PageLSN; a `redo_lsn` of 0
+/// applies none. The pages are given back, the store stays as it is.
+///
+/// The work is done by `workers` threads at most, in two rounds. In the first each goes through its
+/// stretch of the log and notes, for each part of the parting, the LSNs of the records on that part's
+/// pages. In the second each draws parts from a board, calls the gate once for each, and applies the
+/// records noted for it. Whatever the workers, the parting and the gate, the outcome is the same.
+///
+/// Refuses by [`Fault::BadWorkers`] where `workers` is outside 1 to 64; then by [`Fault::NoSuchPage`]
+/// with the LSN of the first record from `redo_lsn` on that is on a page which the store lacks.
+/// [`Fault::NoResource`], where memory was refused, may come in place of any other answer.
+pub fn redo<G: Gate, R: Threads + Sync>(
+    rt: &R,
+    alloc: Global,
+    log: &Log,
+    store: &Store,
+    tables: &Tables,
+    parting: &Parting,
+    workers: u32,
+    gate: &G,
+) -> Result<Redone, Fault>
+    requires pages { length parting.now.part_of ≡ length store.now.pages }
+    ensures pages { IfOk result (λ redone. redone.pages.items ≡ map (redone_page log.now tables.now) store.now.pages) }
+    ensures applied { IfOk result (λ redone. redone.applied ≡ sum (map (applied_to log.now tables.now) store.now.pages)) }
+    ensures workers { OnOk result (AreWorkers workers) }
+    ensures exist { OnOk result (AllExist log.now (length store.now.pages) tables.now.redo_lsn) }
+
+    // A refusal has its cause, memory aside.
+    ensures fault { IfErr result (RedoFault log.now (length store.now.pages) tables.now.redo_lsn workers) }
+    ensures bad_workers { (AreWorkers workers → ⊥) → result ≡ Err BadWorkers }
+{
+    if !are_workers(workers) {
+        return Err(Fault::BadWorkers);
+    }
+    let _count = store.pages.len();
+    let pass = Pass {
+        log,
+        store,
+        tables,
+        parting,
+    };
+    let routes = match routes(rt, alloc, &pass, workers) {
+        Ok(routes) => routes,
+        Err(fault) => return Err(fault),
+    };
+    let redone = second_round(rt, alloc, &pass, &routes, gate)?;
+    Ok(redone)
+}

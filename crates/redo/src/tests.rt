@@ -1,0 +1,287 @@
+//! Worked rows of redo.
+
+use crate::{Gate, OpenGate, Parting, Redone, redo};
+use analysis::analyse;
+use page::{Fault, Page, Store, Value, decode_store, encode_page};
+use std::alloc::Global;
+use std::sync::atomic::{AtomicU64, Ordering};
+use std::test::Fail;
+use std::thread::Threads;
+use wal::{Record, read_log, write_frame};
+
+/// One page, empty or with what stands in it.
+fn one_page(alloc: Global, master: u64, page: Page) -> Result<Store, Fault> {
+    let mut pages = Vec::new(alloc);
+    pages.push(Page { number: 0, ..page })?;
+    Ok(Store { master, pages })
+}
+
+/// Redo by the tables that analysis finds.
+fn redone<R: Threads + Sync, G: Gate>(
+    rt: &R,
+    alloc: Global,
+    log: &[u8],
+    store: &Store,
+    parting: &Parting,
+    workers: u32,
+    gate: &G,
+) -> Result<Redone, Fault> {
+    let (log, _) = read_log(alloc, log)?;
+    let tables = analyse(alloc, &log, store.master)?;
+    if parting.pages() as usize != store.pages.len() {
+        return Err(Fault::BadParting);
+    }
+    redo(rt, alloc, &log, store, &tables, parting, workers, gate)
+}
+
+/// An update of page 0, slot 0, to "a".
+const ONE_LOSER: &[u8] =
+    b"ARIESLG1\x00\x00\x00\x1d\x01\x00\x00\x00\x00\x00\x00\x00\x01\x00\x00\x00\x01\x00\x00\x00\x00\x00\x00\x00\x00\x00\x00\x00\x00\x00\xff\x01a";
+
+/// The same, and a checkpoint that lists its transaction and page.
+const CHECKPOINT_LOSER: &[u8] =
+    b"ARIESLG1\x00\x00\x00\x1d\x01\x00\x00\x00\x00\x00\x00\x00\x01\x00\x00\x00\x01\x00\x00\x00\x00\x00\x00\x00\x00\x00\x00\x00\x00\x00\xff\x01a\x00\x00\x00\x09\x06\x00\x00\x00\x00\x00\x00\x00\x02\x00\x00\x00:\x07\x00\x00\x00\x00\x00\x00\x00\x03\x00\x00\x00\x00\x00\x00\x00\x02\x00\x00\x00\x01\x00\x00\x00\x01\x00\x00\x00\x00\x00\x00\x00\x00\x01\x00\x00\x00\x00\x00\x00\x00\x01\x00\x00\x00\x01\x00\x00\x00\x00\x00\x00\x00\x00\x00\x00\x00\x01";
+
+/// The update, and its commit.
+const ONE_COMMIT: &[u8] =
+    b"ARIESLG1\x00\x00\x00\x1d\x01\x00\x00\x00\x00\x00\x00\x00\x01\x00\x00\x00\x01\x00\x00\x00\x00\x00\x00\x00\x00\x00\x00\x00\x00\x00\xff\x01a\x00\x00\x00\x15\x03\x00\x00\x00\x00\x00\x00\x00\x02\x00\x00\x00\x01\x00\x00\x00\x00\x00\x00\x00\x01";
+
+/// Two updates of one slot and the CLR of the second, and the commit.
+const PARTIAL_ROLLBACK_COMMIT: &[u8] =
+    b"ARIESLG1\x00\x00\x00\x1d\x01\x00\x00\x00\x00\x00\x00\x00\x01\x00\x00\x00\x01\x00\x00\x00\x00\x00\x00\x00\x00\x00\x00\x00\x00\x00\xff\x01a\x00\x00\x00\x1e\x01\x00\x00\x00\x00\x00\x00\x00\x02\x00\x00\x00\x01\x00\x00\x00\x00\x00\x00\x00\x01\x00\x00\x00\x00\x00\x01a\x01b\x00\x00\x00\x24\x02\x00\x00\x00\x00\x00\x00\x00\x03\x00\x00\x00\x01\x00\x00\x00\x00\x00\x00\x00\x02\x00\x00\x00\x00\x00\x00\x00\x00\x00\x00\x00\x00\x01\x01a\x00\x00\x00\x15\x03\x00\x00\x00\x00\x00\x00\x00\x04\x00\x00\x00\x01\x00\x00\x00\x00\x00\x00\x00\x03";
+
+/// The first page, and an empty one where there is none.
+fn first_page(answer: &Redone) -> Page {
+    match answer.pages.first() {
+        Some(page) => *page,
+        None => Page::empty(0),
+    }
+}
+
+/// What a slot of a page is to hold.
+fn holds(page: &Page, slot: usize, value: Option<&[u8]>) -> bool {
+    match (page.slots.get(slot), value) {
+        (Some(Some(held)), Some(value)) => held.as_slice() == value,
+        (Some(None), None) => true,
+        _ => false,
+    }
+}
+
+#[test]
+fn partings_are_checked(rt: HostRuntime) -> Result<(), Fail> {
+    let alloc = rt.alloc();
+    let long = vec![in alloc; 0u32; 4097]?;
+    let bad = |pages, parts, entries: &[u32]| match Parting::new(alloc, pages, parts, entries) {
+        Ok(_) => false,
+        Err(fault) => fault == Fault::BadParting,
+    };
+    assert!(rt; bad(2, 2, &[0]), "one entry for two pages");
+    assert!(rt; bad(2, 2, &[0, 2]), "an entry of 2 in two parts");
+    assert!(rt; bad(0, 1, &[]), "no page");
+    assert!(rt; bad(1, 4097, &[0]), "too many parts");
+    assert!(rt; bad(4097, 1, &long), "too many pages");
+    let parting = Parting::new(alloc, 2, 2, &[1, 0])?;
+    assert_eq!(rt; (parting.pages(), parting.parts()), (2, 2));
+    for (pages, parts) in [(0, 1), (1, 0), (4097, 1), (1, 4097)] {
+        let is_refused = match Parting::by_number(alloc, pages, parts) {
+            Ok(_) => false,
+            Err(fault) => fault == Fault::BadParting,
+        };
+        assert!(rt; is_refused, "{pages} pages in {parts} parts");
+    }
+    Ok(())
+}
+
+#[test]
+fn workers_come_before_pages(rt: HostRuntime) -> Result<(), Fail> {
+    let alloc = rt.alloc();
+    let mut log = Vec::from_slice(alloc, b"ARIESLG1")?;
+    for (lsn, page) in [(1, 0), (2, 3), (3, 1), (4, 5)] {
+        let entry = Record::Update {
+            tx: 1,
+            prev: lsn - 1,
+            page,
+            slot: 0,
+            before: None,
+            after: None,
+        };
+        write_frame(&entry, lsn, &mut log)?;
+    }
+    let store = one_page(alloc, 0, Page::empty(0))?;
+    let parting = Parting::by_number(alloc, 1, 1)?;
+    for (workers, fault) in [
+        (0, Fault::BadWorkers),
+        (65, Fault::BadWorkers),
+        (1, Fault::NoSuchPage(2)),
+        (2, Fault::NoSuchPage(2)),
+        (3, Fault::NoSuchPage(2)),
+        (64, Fault::NoSuchPage(2)),
+    ] {
+        match redone(&rt, alloc, &log, &store, &parting, workers, &OpenGate) {
+            Ok(_) => assert!(rt; false, "{workers} workers"),
+            Err(other) => assert!(rt; other == fault, "{workers} workers: {other}"),
+        }
+    }
+    Ok(())
+}
+
+#[test]
+fn what_an_image_has_is_not_applied(rt: HostRuntime) -> Result<(), Fail> {
+    let alloc = rt.alloc();
+    let parting = Parting::by_number(alloc, 1, 1)?;
+    let mut flushed = Page::empty(0);
+    flushed.set(0, Value::new(b"a"), 1);
+    for (log, master) in [(ONE_LOSER, 0), (CHECKPOINT_LOSER, 2)] {
+        let store = one_page(alloc, master, flushed)?;
+        let answer = redone(&rt, alloc, log, &store, &parting, 2, &OpenGate)?;
+        let page = &first_page(&answer);
+        assert_eq!(rt; (answer.applied, page.lsn), (0, 1));
+        assert!(rt; holds(page, 0, Some(b"a")), "the value of the image");
+    }
+    Ok(())
+}
+
+#[test]
+fn what_an_image_lacks_is_applied(rt: HostRuntime) -> Result<(), Fail> {
+    let alloc = rt.alloc();
+    let parting = Parting::by_number(alloc, 1, 1)?;
+    let mut foreign = Page::empty(0);
+    foreign.set(5, Value::new(b"q"), 0);
+    let store = one_page(alloc, 0, foreign)?;
+    let answer = redone(&rt, alloc, ONE_COMMIT, &store, &parting, 2, &OpenGate)?;
+    let page = &first_page(&answer);
+    assert_eq!(rt; (answer.applied, page.lsn), (1, 1));
+    assert!(rt; holds(page, 0, Some(b"a")), "slot 0");
+    assert!(rt; holds(page, 5, Some(b"q")), "slot 5");
+    let store = one_page(alloc, 0, Page::empty(0))?;
+    let answer = redone(
+        &rt,
+        alloc,
+        PARTIAL_ROLLBACK_COMMIT,
+        &store,
+        &parting,
+        2,
+        &OpenGate,
+    )?;
+    let page = &first_page(&answer);
+    assert_eq!(rt; (answer.applied, page.lsn), (3, 3));
+    assert!(rt;
+        holds(page, 0, Some(b"a")),
+        "slot 0 after a partial rollback"
+    );
+    Ok(())
+}
+
+/// Ten pages, each changed once by one transaction, which commits.
+fn ten_updates(alloc: Global) -> Result<Vec<u8>, Fault> {
+    let mut log = Vec::from_slice(alloc, b"ARIESLG1")?;
+    for page in 0..10 {
+        let entry = Record::Update {
+            tx: 1,
+            prev: page as u64,
+            page,
+            slot: 0,
+            before: None,
+            after: Value::new(b"a"),
+        };
+        write_frame(&entry, page as u64 + 1, &mut log)?;
+    }
+    write_frame(&Record::Commit { tx: 1, prev: 10 }, 11, &mut log)?;
+    Ok(log)
+}
+
+/// The header of a store of ten pages.
+const TEN_PAGES: &[u8] =
+    b"ARIESPG1\x00\x00\x00\x0a\x00\x00\x00\x00\x00\x00\x00\x00\x00\x00\x00\x00";
+
+/// Ten empty pages.
+fn ten_pages(alloc: Global) -> Result<Store, Fault> {
+    let mut bytes = Vec::from_slice(alloc, TEN_PAGES)?;
+    for number in 0..10 {
+        bytes.extend_from_slice(&encode_page(&Page::empty(number)))?;
+    }
+    decode_store(alloc, &bytes)
+}
+
+/// Whether each of ten pages holds "a" in slot 0 by the record of its number.
+fn are_all_changed(pages: &[Page]) -> bool {
+    for (place, page) in pages.iter().enumerate() {
+        if page.lsn != place as u64 + 1 || !holds(page, 0, Some(b"a")) {
+            return false;
+        }
+    }
+    pages.len() == 10
+}
+
+#[test]
+fn any_workers_and_parting_give_the_same(rt: HostRuntime) -> Result<(), Fail> {
+    let alloc = rt.alloc();
+    let log = ten_updates(alloc)?;
+    let store = ten_pages(alloc)?;
+    for workers in [1, 2, 64] {
+        for parts in [1, 10, 4096] {
+            let parting = Parting::by_number(alloc, 10, parts)?;
+            let answer = redone(&rt, alloc, &log, &store, &parting, workers, &OpenGate)?;
+            assert_eq!(rt; answer.applied, 10);
+            assert!(rt;
+                are_all_changed(&answer.pages),
+                "{workers} workers, {parts} parts"
+            );
+        }
+    }
+    Ok(())
+}
+
+/// Holds whoever enters first until all ten parts were entered, for a while; then it is late.
+#[derive(Drop)]
+struct HeldGate {
+    entered: AtomicU64,
+    late: AtomicU64,
+    /// A count for each part, eight bits each for the parts 0 to 7 and 8 to 9.
+    low_parts: AtomicU64,
+    high_parts: AtomicU64,
+}
+
+impl Gate for HeldGate {
+    fn enter(&self, _worker: u32, part: u32) {
+        if part < 8 {
+            self.low_parts.fetch_add(1 << (8 * part), Ordering::SeqCst);
+        } else if part < 10 {
+            self.high_parts
+                .fetch_add(1 << (8 * (part - 8)), Ordering::SeqCst);
+        }
+        if self.entered.fetch_add(1, Ordering::SeqCst) > 0 {
+            return;
+        }
+        for _ in 0..100_000_000 {
+            if self.entered.load(Ordering::SeqCst) == 10 {
+                return;
+            }
+        }
+        self.late.store(1, Ordering::SeqCst);
+    }
+}
+
+#[test]
+fn two_workers_share_the_parts(rt: HostRuntime) -> Result<(), Fail> {
+    let alloc = rt.alloc();
+    let log = ten_updates(alloc)?;
+    let store = ten_pages(alloc)?;
+    let parting = Parting::by_number(alloc, 10, 10)?;
+    let gate = HeldGate {
+        entered: AtomicU64::new(0),
+        late: AtomicU64::new(0),
+        low_parts: AtomicU64::new(0),
+        high_parts: AtomicU64::new(0),
+    };
+    let answer = redone(&rt, alloc, &log, &store, &parting, 2, &gate)?;
+    assert!(rt; are_all_changed(&answer.pages), "pages");
+    assert_eq!(rt; gate.late.load(Ordering::SeqCst), 0);
+    assert_eq!(rt; gate.entered.load(Ordering::SeqCst), 10);
+    assert_eq!(rt;
+        gate.low_parts.load(Ordering::SeqCst),
+        0x0101_0101_0101_0101
+    );
+    assert_eq!(rt; gate.high_parts.load(Ordering::SeqCst), 0x0101);
+    Ok(())
+}
