@@ -1,5 +1,11 @@
-pub mod Tables
 pub mod Effects
-pub mod Has
-pub mod Restarted
+pub mod Settled
 pub mod Causes
+pub mod Walks
+pub mod UndonePages
+pub mod Meeting
+pub mod Rolling
+pub mod Placed
+pub mod Entries
+pub mod Beginning
+pub mod LawfulUndo

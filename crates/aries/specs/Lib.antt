@@ -1,5 +1,6 @@
-pub mod Pages
-pub mod Treated
+pub mod Restart
 pub mod Text
 pub mod Recovery
 pub mod Job
+pub mod Undone
+pub mod Rollback

@@ -3,10 +3,12 @@
 use crate::{Options, Report, recover_bytes};
 use audit::audit;
 use page::{Fault, decode_store};
+use redo::OpenGate;
 use std::alloc::Global;
 use std::fs::{File, OpenFile};
 use std::io::{self, ErrorKind, Read, Write};
 use std::rt::Files;
+use std::thread::Threads;
 use wal::read_log;
 
 /// Where a recovery reads and writes.
@@ -47,7 +49,7 @@ fn write_whole<F: Write + OpenFile>(file: &mut F, bytes: &[u8]) -> io::Result<()
 /// Recovers the store in a file by the log in another, into two files that are made anew. All four are
 /// opened, in the order of the paths, before the first is read; the new store is written when the new
 /// log is whole and synced. After a fault, new files made so far stay: empty, or a beginning.
-pub fn recover_files<R: Files + AllocGlobal>(
+pub fn recover_files<R: Files + AllocGlobal + Threads + Sync>(
     rt: &R,
     paths: &Paths,
     options: &Options,
@@ -65,7 +67,7 @@ pub fn recover_files<R: Files + AllocGlobal>(
     ))?;
     let log = read_whole(alloc, &mut log).map_err(|e| fault_of(e, Fault::ReadLog))?;
     let store = read_whole(alloc, &mut store).map_err(|e| fault_of(e, Fault::ReadStore))?;
-    let (new_log, new_store, report) = recover_bytes(alloc, &log, &store, options)?;
+    let (new_log, new_store, report) = recover_bytes(rt, alloc, &log, &store, options, &OpenGate)?;
     write_whole(&mut out_log, &new_log).map_err(|e| fault_of(e, Fault::WriteLog))?;
     write_whole(&mut out_store, &new_store).map_err(|e| fault_of(e, Fault::WriteStore))?;
     Ok(report)

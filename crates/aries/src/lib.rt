@@ -4,16 +4,23 @@
 
 mod command;
 mod files;
+mod losers;
 mod program;
 mod recover;
-mod replay;
 mod report;
-mod treated;
+mod restart;
+mod rollback;
+mod walk;
 
 pub use command::{Job, Refusal, command_of};
 pub use program::run;
 pub use recover::{Options, recover_bytes};
 pub use report::{Report, report_text};
+pub use rollback::undo;
 
 #[cfg(test)]
+mod gate_tests;
+#[cfg(test)]
 mod tests;
+#[cfg(test)]
+mod undo_tests;

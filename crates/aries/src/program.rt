@@ -6,6 +6,7 @@ use page::Fault;
 use std::alloc::Global;
 use std::io::{self, Write};
 use std::rt::Files;
+use std::thread::Threads;
 
 /// Prints a report.
 fn print_report<O: Write>(alloc: Global, report: &Report, out: &mut O) -> io::Result<()> {
@@ -41,7 +42,7 @@ fn status_of(printed: io::Result<()>) -> u8 {
 }
 
 /// Does the job.
-fn run_job<R: Files + AllocGlobal, O: Write, E: Write>(
+fn run_job<R: Files + AllocGlobal + Threads + Sync, O: Write, E: Write>(
     rt: &R,
     job: &Job,
     out: &mut O,
@@ -77,7 +78,7 @@ fn run_job<R: Files + AllocGlobal, O: Write, E: Write>(
 /// standard output and `err` for standard error. Answers the exit status: 0 where the job was done or
 /// help was asked for, 1 for a fault, printed to `err` as `fault N: text`, or a failed print, 2 for a
 /// line that is wrong.
-pub fn run<R: Files + AllocGlobal, O: Write, E: Write>(
+pub fn run<R: Files + AllocGlobal + Threads + Sync, O: Write, E: Write>(
     rt: &R,
     words: &[&str],
     out: &mut O,

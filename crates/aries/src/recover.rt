@@ -1,20 +1,17 @@
 //! Recovery from the bytes of a log and a store to the bytes of both after it.
 
-ghost use Rattle.std.specs.Prelude.{◌≡◌, ℕ, All, length, Ok, Err, IsTrue, ◌↔◌, IfOk, OnOk, IfErr};
-ghost use Rattle.page.specs.declared.fault.Fault.{Fault};
+ghost use Rattle.std.specs.Prelude.{◌≡◌, Err, IfOk, OnOk, IfErr, MatchResult};
 ghost use Rattle.page.specs.declared.fault.Fault.TheVariants.{NoResource, BadWorkers, BadParting};
-ghost use Rattle.page.specs.File.{FitsStore};
-ghost use Rattle.wal.specs.Records.{history};
-ghost use Rattle.aries.specs.Pages.{has_effect, NamesBelow, first_where, count_where};
-ghost use Rattle.aries.specs.Treated.{IsTreated};
-ghost use Rattle.aries.specs.Recovery.{recovered_store, Recovers, IsUpTo, AreInRange, OptionsFault, RestartCause, Cause};
+ghost use Rattle.page.specs.Store.{AreNumbered};
+ghost use Rattle.aries.specs.Recovery.{Recovers, AreLawful, Settles, AreInRange, OptionsFault, Cause};
 
 use crate::Report;
-use crate::replay::{Replayed, replay};
-use crate::treated::{all_committed, are_empty, check_pages};
-use page::{Fault, Store, decode_store, encode_store};
+use crate::restart::restart;
+use page::{Fault, Page, Store, decode_store, encode_store};
+use redo::{Gate, Parting};
 use std::alloc::Global;
-use wal::{Log, read_log};
+use std::thread::Threads;
+use wal::read_log;
 
 /// How a restart is to be run. What it writes does not depend on these.
 #[derive(Clone, Copy, Debug, PartialEq, Eq)]
@@ -41,74 +38,84 @@ fn check_options(options: &Options) -> Result<(), Fault>
     Ok(())
 }
 
-/// Whether the log and the store are of the kind that is treated so far.
-fn is_treated(alloc: Global, log: &Log, store: &Store) -> Result<bool, Fault>
-    ensures ok { IfOk result (λ treated. IsTrue treated ↔ IsTreated log.now store.now) }
-    ensures err { IfErr result (λ e. e ≡ NoResource) }
+/// The store with these pages in place of its own.
+fn with_pages(master: u64, pages: Vec<Page>) -> Store
+    requires { AreNumbered pages.items }
+    ensures { result ≡ record { master = master; pages = pages.items } }
 {
-    if store.master != 0 || !are_empty(&store.pages) {
-        return Ok(false);
-    }
-    let committed = all_committed(alloc, log)?;
-    Ok(committed)
+    Store { master, pages }
 }
 
-/// Restarts on a log and its store: repeats history on the pages.
-fn restart(alloc: Global, log: &Log, store: &mut Store) -> Result<Replayed, Fault>
-    requires fits { FitsStore store.old }
-    ensures treated { OnOk result (IsTreated log.now store.old) }
-    ensures exist { OnOk result (All (NamesBelow (length store.old.pages)) log.now) }
-    ensures store { OnOk result (store.new ≡ recovered_store log.now store.old) }
-    ensures from { IfOk result (λ replayed. replayed.from ≡ first_where has_effect (history log.now)) }
-    ensures count { IfOk result (λ replayed. replayed.count ≡ count_where has_effect (history log.now)) }
-    ensures fault { IfErr result (RestartCause log.now store.old) }
-{
-    if !is_treated(alloc, log, store)? {
-        return Err(Fault::NotYet);
-    }
-    check_pages(log, store.pages.len())?;
-    Ok(replay(log, &mut store.pages))
-}
-
-/// Recovers the bytes of a store by the bytes of its log.
+/// Recovers the bytes of a store by the bytes of its log (ARIES, section 6): analysis from the last
+/// checkpoint on, and redo by workers that draw the parts of the pages.
 ///
-/// Answers the new log (the log read without its torn tail), the new store (each page with what the
-/// committed transactions' updates, in LSN order, make of empty pages, and the LSN of its last record)
-/// and what was done.
+/// Answers the new log (the log read without its torn tail), the new store and what was done. On a
+/// lawful log and its store each page has what the committed transactions' updates and compensations,
+/// in LSN order, make of empty pages, and the LSN of its last record. The answer does not depend on the
+/// options or the gate.
 ///
 /// Refuses, in this order: [`Fault::BadWorkers`] and [`Fault::BadParting`] for options out of their
 /// ranges; the faults of [`wal::read_log`] for the log; those of [`page::decode_store`] for the store;
-/// [`Fault::NotYet`] where the store's master is not 0, a page of it is not empty or a transaction of
-/// the log has no commit; [`Fault::NoSuchPage`] with the LSN of the first record on a page that the
-/// store lacks. [`Fault::NoResource`], where memory was refused, may come in place of any answer.
-pub fn recover_bytes(
+/// [`Fault::PageAheadOfLog`] for the first page whose PageLSN is above the log's length;
+/// [`Fault::BadMaster`] for a master that no checkpoint has; [`Fault::NotYet`] where a transaction is to
+/// be rolled back; [`Fault::NoSuchPage`] with the LSN of the first record that redo looks at on a page
+/// which the store lacks. [`Fault::NoResource`], where memory was refused, may come in place of any
+/// answer.
+pub fn recover_bytes<G: Gate, R: Threads + Sync>(
+    rt: &R,
     alloc: Global,
     log: &[u8],
     store: &[u8],
     options: &Options,
+    gate: &G,
 ) -> Result<(Vec<u8>, Vec<u8>, Report), Fault>
     ensures answer { IfOk result (λ x. Recovers log.now store.now x.0.items x.1.items x.2) }
+
+    // On lawful bytes of a log whose transactions have all finished.
+    ensures lawful { AreInRange options.now → (lawful : AreLawful log.now store.now) → MatchResult result (λ x. Settles lawful x.0.items x.1.items) (λ e. e ≡ NoResource) }
 
     // A refusal has its cause in the input, memory aside.
     ensures cause { IfErr result (Cause log.now store.now options.now) }
     ensures workers { OptionsFault options.now BadWorkers → result ≡ Err BadWorkers }
     ensures parts { OptionsFault options.now BadParting → result ≡ Err BadParting }
 {
-    check_options(options)?;
-    let (records, torn) = read_log(alloc, log)?;
-    let mut pages = decode_store(alloc, store)?;
-    let replayed = restart(alloc, &records, &mut pages)?;
-    let new_log = Vec::from_slice(alloc, &log[..log.len() - torn])?;
-    let new_store = encode_store(alloc, &pages)?;
+    if let Err(fault) = check_options(options) {
+        return Err(fault);
+    }
+    let (records, torn) = match read_log(alloc, log) {
+        Ok(read) => read,
+        Err(fault) => return Err(fault),
+    };
+    let before = match decode_store(alloc, store) {
+        Ok(before) => before,
+        Err(fault) => return Err(fault),
+    };
+    let pages = before.pages.len() as u64;
+    let parting = Parting::by_number(alloc, pages as u32, options.parts)?;
+    let restarted = match restart(
+        rt,
+        alloc,
+        &records,
+        &before,
+        &parting,
+        options.workers,
+        gate,
+    ) {
+        Ok(restarted) => restarted,
+        Err(fault) => return Err(fault),
+    };
     let report = Report {
         records: records.len(),
         torn: torn as u64,
-        redo_from: replayed.from,
-        redone: replayed.count,
+        redo_from: restarted.redo_from,
+        redone: restarted.redone,
         losers: 0,
         compensated: 0,
         ended: 0,
-        pages: pages.pages.len() as u64,
+        pages,
     };
+    let new_log = Vec::from_slice(alloc, &log[..log.len() - torn])?;
+    let after = with_pages(before.master, restarted.pages);
+    let new_store = encode_store(alloc, &after)?;
     Ok((new_log, new_store, report))
 }

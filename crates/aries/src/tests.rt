@@ -2,9 +2,11 @@
 
 use crate::{Options, recover_bytes, run};
 use page::Fault;
+use redo::OpenGate;
 use std::alloc::Global;
 use std::rt::Files;
 use std::test::Fail;
+use std::thread::Threads;
 use std::{fs, io};
 
 /// One update of slot 0 of page 0 to "a", and its commit.
@@ -42,7 +44,14 @@ fn recovers_one_commit(rt: HostRuntime) -> Result<(), Fail> {
         workers: 4,
         parts: 16,
     };
-    let (new_log, new_store, report) = recover_bytes(rt.alloc(), ONE_COMMIT, &store, &options)?;
+    let (new_log, new_store, report) = recover_bytes(
+        &rt,
+        rt.alloc(),
+        ONE_COMMIT,
+        &store,
+        &options,
+        &OpenGate,
+    )?;
     assert_eq!(rt; new_log.as_slice(), ONE_COMMIT);
     assert_eq!(rt; new_store.as_slice(), store_with_a(rt.alloc())?.as_slice());
     assert_eq!(rt;
@@ -67,7 +76,7 @@ fn refuses_options_out_of_range(rt: HostRuntime) -> Result<(), Fail> {
         (1, 4097, Fault::BadParting),
     ] {
         let options = Options { workers, parts };
-        match recover_bytes(rt.alloc(), ONE_COMMIT, &store, &options) {
+        match recover_bytes(&rt, rt.alloc(), ONE_COMMIT, &store, &options, &OpenGate) {
             Ok(_) => assert!(rt; false, "{workers} workers, {parts} parts"),
             Err(refusal) => assert!(rt; refusal == fault, "{workers} workers, {parts} parts"),
         }
@@ -83,7 +92,10 @@ fn put_row<R: Files + AllocGlobal>(rt: &R, log: &str, store: &str) -> io::Result
 }
 
 /// Runs a line of words, and gives its status and what it printed to both streams.
-fn printed<R: Files + AllocGlobal>(rt: &R, line: &str) -> io::Result<(u8, String, String)> {
+fn printed<R: Files + AllocGlobal + Threads + Sync>(
+    rt: &R,
+    line: &str,
+) -> io::Result<(u8, String, String)> {
     let words: Vec<&str> = line.split_whitespace().collect(rt.alloc())?;
     let mut out = Vec::new(rt.alloc());
     let mut err = Vec::new(rt.alloc());

@@ -5,6 +5,7 @@
 use anyhow::{Context, Result};
 use std::fs;
 use std::rt::Files;
+use std::thread::Threads;
 
 /// Whether two files hold the same bytes.
 fn are_same<R: Files + AllocGlobal>(rt: &R, one: &str, other: &str) -> Result<bool> {
@@ -15,7 +16,7 @@ fn are_same<R: Files + AllocGlobal>(rt: &R, one: &str, other: &str) -> Result<bo
 
 /// Whether a restart on the row's log and store prints what the row says and, where it answers, makes
 /// the row's files.
-fn recovers<R: Files + AllocGlobal>(
+fn recovers<R: Files + AllocGlobal + Threads + Sync>(
     rt: &R,
     row: &str,
     workers: &str,
@@ -71,7 +72,7 @@ fn recovers<R: Files + AllocGlobal>(
 }
 
 /// Whether an audit of the row's log and store prints what the row says.
-fn audits<R: Files + AllocGlobal>(rt: &R, row: &str) -> Result<&'static str> {
+fn audits<R: Files + AllocGlobal + Threads + Sync>(rt: &R, row: &str) -> Result<&'static str> {
     let alloc = rt.alloc();
     let log = format!(in alloc; "{row}/log")?;
     let store = format!(in alloc; "{row}/store")?;
@@ -95,14 +96,14 @@ fn audits<R: Files + AllocGlobal>(rt: &R, row: &str) -> Result<&'static str> {
 }
 
 /// Prints whether the audit of a row is as the row says.
-fn run_audit<R: Files + Print + AllocGlobal>(rt: &R, row: &str) -> Result<()> {
+fn run_audit<R: Files + Print + AllocGlobal + Threads + Sync>(rt: &R, row: &str) -> Result<()> {
     let verdict = audits(rt, row).context(format_args!("audit of {row}"))?;
     println!(rt; "{row}, audit: {verdict}")?;
     Ok(())
 }
 
 /// Prints whether a restart of a row is as the row says.
-fn run_restart<R: Files + Print + AllocGlobal>(
+fn run_restart<R: Files + Print + AllocGlobal + Threads + Sync>(
     rt: &R,
     row: &str,
     workers: &str,
@@ -115,7 +116,7 @@ fn run_restart<R: Files + Print + AllocGlobal>(
 
 /// Runs what a line says of a row: the folder, and then `audit`, or the workers and the parts of a
 /// restart.
-fn run_line<R: Files + Print + AllocGlobal>(rt: &R, line: &str) -> Result<()> {
+fn run_line<R: Files + Print + AllocGlobal + Threads + Sync>(rt: &R, line: &str) -> Result<()> {
     let mut words = line.split_whitespace();
     let row = words.next().context("a row without a name")?;
     let command = words.next().context("a row without a command")?;
@@ -127,7 +128,7 @@ fn run_line<R: Files + Print + AllocGlobal>(rt: &R, line: &str) -> Result<()> {
 }
 
 /// Runs the lines of the index.
-fn run_rows<R: Files + Print + AllocGlobal>(rt: &R, index: &str) -> Result<()> {
+fn run_rows<R: Files + Print + AllocGlobal + Threads + Sync>(rt: &R, index: &str) -> Result<()> {
     for line in index.lines() {
         run_line(rt, line)?;
     }

@@ -1,38 +1,74 @@
-use Rattle.std.proofs.Common.{◌≡◌, ℕ, length, ap, ◌∙◌, refl}
-use Rattle.std.proofs.lemmas.Result.{err_from_is_err_and}
+use Rattle.std.proofs.Common.{◌≡◌, ℕ, ◌%◌, List, length, refl, ap, ap₂, ◌∙◌}
 use Rattle.std.proofs.lemmas.List.FromFn.{length-map-range_with_len}
 use Rattle.page.specs.Store.{StoreContent}
 use Rattle.page.specs.File.{store_text}
-use Rattle.wal.specs.Records.{history}
-use Rattle.wal.specs.Meaning.{winners}
-use Rattle.aries.specs.Pages.{page_of, pages_of}
+use Rattle.wal.specs.Reads.{log_text}
+use Rattle.wal.specs.Store.{store_out}
 use Rattle.aries.specs.declared.report.Report.{Report}
 use Rattle.aries.specs.Recovery.{Are}
-use Rattle.aries.proofs.Causes.{restart_cause, kept_text}
+use Rattle.aries.proofs.Causes.{restart_cause, kept_text, is_lawful, read_alone, read_same}
 use Rattle.aries.proofs.recover.recover_bytes.Goals as goal
 
-same_report : {records from count pages torn records' from' count' pages' : ℕ} → records ≡ records' → from ≡ from' → count ≡ count' → pages ≡ pages'
-    → ◌≡◌ {A = Report} (record { records = records; torn = torn; redo_from = from; redone = count; losers = 0; compensated = 0; ended = 0; pages = pages })
-    (record { records = records'; torn = torn; redo_from = from'; redone = count'; losers = 0; compensated = 0; ended = 0; pages = pages' })
-same_report a b c d = rw (a, b, c, d) refl
+same_report : {records pages torn records' redo_from redone pages' : ℕ} → records ≡ records' → pages ≡ pages'
+    → ◌≡◌ {A = Report} (record { records = records; torn = torn; redo_from = redo_from; redone = redone; losers = 0; compensated = 0; ended = 0; pages = pages })
+    (record { records = records'; torn = torn; redo_from = redo_from; redone = redone; losers = 0; compensated = 0; ended = 0; pages = pages' })
+same_report a b = rw (a, b) refl
 
-pub returns-in_err-replayed-clause-cause : goal.returns-in_err-replayed-clause-cause
-returns-in_err-replayed-clause-cause c =
-    let are : Are c.args.log.now c.args.store.now = record { records = c.in_ok-records.records; torn = c.in_ok-records.torn; before = c.in_ok-pages.pages; reads = c.in_ok-records.ensures.found; spells = c.in_ok-pages.ensures.found } in
-    let p = err_from_is_err_and c.from_residual-in_err-replayed.result c.from_residual-in_err-replayed.ensures.1 in
-    rw (p.1, p.2) (restart_cause c.args.log.now c.args.store.now c.args.options.now c.in_err-replayed.field-0.0 c.in_ok-check_options.ensures.ok are c.in_err-replayed.ensures.fault)
+pub returns-in-Err-read_log-clause-lawful : goal.returns-in-Err-read_log-clause-lawful
+returns-in-Err-read_log-clause-lawful g c = λ range lawful.
+    read_alone (λ x. x) c.in-Err-read_log.fault (lawful.are.records, lawful.are.torn) (c.in-Err-read_log.ensures.only lawful.are.records lawful.are.torn lawful.are.reads)
+
+pub returns-in-Err-decode_store-clause-lawful : goal.returns-in-Err-decode_store-clause-lawful
+returns-in-Err-decode_store-clause-lawful g c = λ range lawful. c.in-Err-decode_store.ensures.only lawful.are.before lawful.are.spells
+
+pub restart-requires-clause-pages : goal.restart-requires-clause-pages
+restart-requires-clause-pages g c κs within =
+    ap (λ (xs : List ℕ). length xs) c.in_ok-parting.ensures.ok.1
+    ∙ (length-map-range_with_len (λ page. page % c.args.options.now.parts) 0 c.len-pages.result ∙ (c.len-pages.ensures ∙ (c.before-2.inside.pages.ok.0 ∙ ap (λ (s : StoreContent). length s.pages) c.before-2.view_is)))
+
+pub returns-in-Err-restart-clause-lawful : goal.returns-in-Err-restart-clause-lawful
+returns-in-Err-restart-clause-lawful g c = λ range lawful.
+    let before = c.in-Ok-decode_store.before in
+    let records = c.in-Ok.read.0 in
+    let read = read_same (records, c.in-Ok.read.1) (lawful.are.records, lawful.are.torn) (c.in-Ok.ensures.only lawful.are.records lawful.are.torn lawful.are.reads) in
+    let same : before ≡ lawful.are.before = c.in-Ok-decode_store.ensures.only lawful.are.before lawful.are.spells in
+    let parts = is_lawful lawful records before (ap (λ x. x.0) read) same in
+    c.in-Err-restart.ensures.lawful parts.0 parts.1
+
+pub returns-in-Err-restart-clause-cause : goal.returns-in-Err-restart-clause-cause
+returns-in-Err-restart-clause-cause g c =
+    let are : Are c.args.log.now c.args.store.now = record { records = c.in-Ok.read.0; torn = c.in-Ok.read.1; before = c.in-Ok-decode_store.before; reads = c.in-Ok.ensures.found; spells = c.in-Ok-decode_store.ensures.found } in
+    restart_cause c.args.log.now c.args.store.now c.args.options.now c.in-Err-restart.fault c.in_default.ensures.ok are c.in-Err-restart.ensures.fault
 
 pub returns-clause-answer : goal.returns-clause-answer
-returns-clause-answer c =
-    let are : Are c.args.log.now c.args.store.now = record { records = c.in_ok-records.records; torn = c.in_ok-records.torn; before = c.in_ok-pages.pages; reads = c.in_ok-records.ensures.found; spells = c.in_ok-pages.ensures.found } in
-    let log = history c.in_ok-records.records in
-    let after : c.pages.inside.pages.items ≡ pages_of (winners log) log (length c.in_ok-pages.pages.pages) = ap (λ (s : StoreContent). s.pages) (c.pages.view_is ∙ c.in_ok-replayed.ensures.store) in
-    let pages : c.len-2.result ≡ length c.in_ok-pages.pages.pages = c.len-2.ensures ∙ c.pages.inside.pages.ok.0 ∙ ap length after ∙ length-map-range_with_len (page_of (winners log) log) 0 (length c.in_ok-pages.pages.pages) in
+returns-clause-answer g c =
+    let are : Are c.args.log.now c.args.store.now = record { records = c.in-Ok.read.0; torn = c.in-Ok.read.1; before = c.in-Ok-decode_store.before; reads = c.in-Ok.ensures.found; spells = c.in-Ok-decode_store.ensures.found } in
+    let after : c.with_pages-after.result ≡ record { master = c.in-Ok-decode_store.before.master; pages = c.in-Ok-restart.restarted.pages.items } =
+    c.with_pages-after.ensures ∙ ap (λ m. record { master = m; pages = c.in-Ok-restart.restarted.pages.items }) (ap (λ (s : StoreContent). s.master) c.before-2.view_is) in
+    let restarted = c.in-Ok-restart.restarted in
     record {
       are = are;
-      treated = c.in_ok-replayed.ensures.treated;
-      exist = c.in_ok-replayed.ensures.exist;
+      pages = restarted.pages.items;
+      restarts = c.in-Ok-restart.ensures.restarts;
       log_is = c.in_ok-new_log.ensures.items ∙ kept_text c.args.log.now are.records are.torn are.reads;
-      store_is = c.in_ok-new_store.ensures.ok ∙ ap store_text c.in_ok-replayed.ensures.store;
-      report_is = same_report c.len.ensures c.in_ok-replayed.ensures.from c.in_ok-replayed.ensures.count pages;
+      store_is = c.in_ok-new_store.ensures.ok ∙ ap store_text after;
+      report_is = same_report c.len.ensures (c.len-pages.ensures ∙ (c.before-2.inside.pages.ok.0 ∙ ap (λ (s : StoreContent). length s.pages) c.before-2.view_is));
     }
+
+pub returns-clause-lawful : goal.returns-clause-lawful
+returns-clause-lawful g c = λ range lawful.
+    let before = c.in-Ok-decode_store.before in
+    let records = c.in-Ok.read.0 in
+    let read = read_same (records, c.in-Ok.read.1) (lawful.are.records, lawful.are.torn) (c.in-Ok.ensures.only lawful.are.records lawful.are.torn lawful.are.reads) in
+    let same : before ≡ lawful.are.before = c.in-Ok-decode_store.ensures.only lawful.are.before lawful.are.spells in
+    let parts = is_lawful lawful records before (ap (λ x. x.0) read) same in
+    let after : c.with_pages-after.result ≡ record { master = c.in-Ok-decode_store.before.master; pages = c.in-Ok-restart.restarted.pages.items } =
+    c.with_pages-after.ensures ∙ ap (λ m. record { master = m; pages = c.in-Ok-restart.restarted.pages.items }) (ap (λ (s : StoreContent). s.master) c.before-2.view_is) in
+    let out : c.in-Ok-restart.restarted.pages.items ≡ (store_out records before).pages = c.in-Ok-restart.ensures.lawful parts.0 parts.1 in (
+      c.in_ok-new_log.ensures.items ∙ (kept_text c.args.log.now records c.in-Ok.read.1 c.in-Ok.ensures.found ∙ ap log_text (ap (λ x. x.0) read)),
+      c.in_ok-new_store.ensures.ok
+          ∙ ap store_text
+          (after
+          ∙ (ap (λ ps. record { master = before.master; pages = ps }) out
+          ∙ ap₂ store_out (ap (λ x. x.0) read) same)),
+    )

@@ -1,0 +1,25 @@
+use Rattle.std.proofs.Common.{◌≡◌, List, All, length, map}
+use Rattle.std.specs.Ordering.{nat_cmp}
+use Rattle.std.specs.BTreeMap.{get}
+use Rattle.page.specs.declared.page.Page.{Page}
+use Rattle.page.specs.Store.{AreNumbered}
+use Rattle.wal.specs.Records.{TableEntry, history}
+use Rattle.wal.specs.Content.{content}
+use Rattle.wal.specs.Store.{NamesPages}
+use Rattle.aries.specs.Undone.{undone_page}
+use Rattle.aries.specs.Rollback.{AreUpdates, Rolls}
+use Rattle.aries.proofs.Placed.{height}
+use Rattle.aries.proofs.rollback.undo_all.Given as goal
+
+abbrev pub invariant-loop-place : goal.invariant-loop-place
+invariant-loop-place l =
+    record {
+      updates : AreUpdates (history l.log) (get nat_cmp l.places);
+      rolls : (losers : List TableEntry) → Rolls (history l.log) losers (get nat_cmp l.fn.places) (map content l.fn.appended.items) → Rolls (history l.log) losers (get nat_cmp l.places) (map content l.appended.items);
+      exist : All (NamesPages (length l.fn.pages)) (map content l.fn.appended.items) → All (NamesPages (length l.fn.pages)) (map content l.appended.items);
+      pages_are : (given : List Page) → AreNumbered given → l.fn.pages ≡ map (undone_page (history l.log) (map content l.fn.appended.items)) given
+          → l.pages ≡ map (undone_page (history l.log) (map content l.appended.items)) given;
+    }
+
+abbrev pub decreases-loop-place : goal.decreases-loop-place
+decreases-loop-place l = height l.places.entries

@@ -1,0 +1,56 @@
+-- What undo makes of any log, tables and pages, and why it is refused. ARIES, section 6.3 (undo pass).
+use Rattle.std.specs.Prelude.{◌≡◌, ℕ, ◌≤◌, List, Some, true, length, map, nat_lt}
+use Rattle.std.specs.List.{range_with_len}
+use Rattle.page.specs.Image.{Image}
+use Rattle.page.specs.declared.page.Page.{Page}
+use Rattle.page.specs.declared.fault.Fault.{Fault}
+use Rattle.page.specs.declared.fault.Fault.TheVariants.{NoResource, NoSuchPage, BrokenChain}
+use Rattle.wal.specs.Records.{TableEntry, UpdateRecord, LogRecord, Update, History, size, record_at, ◌▸▸◌}
+use Rattle.wal.specs.Meaning.{State, effects}
+use Rattle.wal.specs.Tail.{is_among}
+use Rattle.wal.specs.Redo.{held_by, last_where}
+use Rattle.wal.specs.Undo.{entry_for, walk_of}
+use Rattle.wal.specs.Content.{entry_of}
+use Rattle.analysis.specs.declared.tables.Tables.{Tables}
+
+-- the losers: the transaction table, in rising number
+abbrev pub losers_in : Tables → List TableEntry
+losers_in tables = map entry_of tables.transactions.entries
+
+-- no hop of a loser is bad: each walk comes to 0
+abbrev pub NoBadHop : History → List TableEntry → Type 0
+NoBadHop log losers = (t : ℕ) → (walk_of log (entry_for t losers)).ends ≡ 0
+
+-- the slots of an image in a state (there are 16)
+abbrev pub slots_of : State → Page → List Image
+slots_of state image = map (λ slot. state image.number slot) (range_with_len 0 (length image.slots))
+
+-- UNDONE PAGE. An image with the effects of the records behind the log, in order, and as PageLSN the last of them on the page,
+-- else the old one.
+abbrev pub undone_page : History → List LogRecord → Page → Page
+undone_page log appended image = record {
+  number = image.number;
+  lsn = last_where (λ lsn. nat_lt (size log) lsn) image.number image.lsn (log ▸▸ appended);
+  slots = slots_of (effects (λ lsn _. nat_lt (size log) lsn) (held_by image) (log ▸▸ appended)) image;
+}
+
+-- an update that the hops of a loser meet is on a page past the count
+pub record MeetsMissing (log : History) (losers : List TableEntry) (count lsn : ℕ) : Type 0 where
+  pub loser : ℕ
+  pub update : UpdateRecord
+  pub met : is_among lsn (walk_of log (entry_for loser losers)).met ≡ true
+  pub found : record_at log lsn ≡ Some (Update update)
+  pub missing : count ≤ update.page
+
+-- a walk of a loser ends at a bad hop to this LSN
+pub record Breaks (log : History) (losers : List TableEntry) (lsn : ℕ) : Type 0 where
+  pub loser : ℕ
+  pub ends : (walk_of log (entry_for loser losers)).ends ≡ lsn
+  pub bad : lsn ≡ 0 → ⊥
+
+-- why undo is refused, memory aside
+abbrev pub UndoFault : History → List TableEntry → ℕ → Fault → Type 0
+UndoFault log losers count NoResource = Unit {0}
+UndoFault log losers count (NoSuchPage lsn) = MeetsMissing log losers count lsn
+UndoFault log losers count (BrokenChain lsn) = Breaks log losers lsn
+UndoFault log losers count e = ⊥
