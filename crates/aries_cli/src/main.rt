@@ -4,15 +4,21 @@
 use std::env;
 use std::io::{self, ErrorKind, Write};
 use std::process::ExitCode;
+use std::rt::{Env, Files};
+use std::thread::Threads;
 
 /// The words of the command line, each of them text.
-fn words_of(rt: &HostRuntime) -> io::Result<Vec<String>> {
+fn words_of<R: Env + AllocGlobal>(rt: &R) -> io::Result<Vec<String>> {
     let words = env::args(rt)?.collect(rt.alloc())?;
     Ok(words)
 }
 
 /// Runs the program and gives its status. Words that are no text are a wrong line.
-fn status_of<O: Write, E: Write>(rt: &HostRuntime, out: &mut O, err: &mut E) -> io::Result<u8> {
+fn status_of<R: Env + Files + AllocGlobal + Threads + Sync, O: Write, E: Write>(
+    rt: &R,
+    out: &mut O,
+    err: &mut E,
+) -> io::Result<u8> {
     let words = match words_of(rt) {
         Ok(words) => words,
         Err(error) if error.kind() == ErrorKind::InvalidData => {
