@@ -1,6 +1,5 @@
 pub mod Effects
-pub mod Settled
-pub mod Causes
+pub mod Restored
 pub mod Walks
 pub mod UndonePages
 pub mod Meeting

@@ -54,14 +54,14 @@ by_log b log image = record {
 }
 
 -- of none
-no_effects : (b : ℕ) (state : State) (log : History) (page slot : ℕ) → size log ≤ b → effects (λ lsn _. ltb b lsn) state log page slot ≡ state page slot
+pub no_effects : (b : ℕ) (state : State) (log : History) (page slot : ℕ) → size log ≤ b → effects (λ lsn _. ltb b lsn) state log page slot ≡ state page slot
 no_effects b state start page slot h = refl
 no_effects b state (log ▸ r) page slot h =
     cond-false (writes page slot r && ltb b (suc (size log))) (image_of r) (effects (λ lsn _. ltb b lsn) state log page slot)
     (and_right (writes page slot r) (ltb b (suc (size log))) (le-ltb b (suc (size log)) (omega arith)))
     ∙ no_effects b state log page slot (omega arith)
 
-no_last : (b page lsn : ℕ) (log : History) → size log ≤ b → last_where (λ n. ltb b n) page lsn log ≡ lsn
+pub no_last : (b page lsn : ℕ) (log : History) → size log ≤ b → last_where (λ n. ltb b n) page lsn log ≡ lsn
 no_last b page lsn start h = refl
 no_last b page lsn (log ▸ r) h =
     cond-false (is_on page r && ltb b (suc (size log))) (suc (size log)) (last_where (λ n. ltb b n) page lsn log)

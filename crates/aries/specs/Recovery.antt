@@ -1,14 +1,15 @@
 -- What a recovery makes of the bytes of a log and a store, and why it is refused.
-use Rattle.std.specs.Prelude.{◌≡◌, ℕ, ◌≤◌, ◌⊎◌, List, length}
+use Rattle.std.specs.Prelude.{◌≡◌, ℕ, ◌≤◌, ◌⊎◌, List, ◌++◌, length}
 use Rattle.page.specs.declared.fault.Fault.{Fault}
 use Rattle.page.specs.declared.fault.Fault.TheVariants.{NoResource, BadWorkers, BadParting}
-use Rattle.page.specs.declared.page.Page.{Page}
 use Rattle.page.specs.Store.{StoreContent}
 use Rattle.page.specs.File.{store_text, SpellsStore, StoreFault}
-use Rattle.wal.specs.Records.{LogRecord}
+use Rattle.wal.specs.Records.{LogRecord, history}
+use Rattle.wal.specs.Tail.{losers_of, tail_of}
 use Rattle.wal.specs.Reads.{Reads, log_text, Cause as LogFault}
 use Rattle.wal.specs.Store.{Lawful, store_out}
-use Rattle.aries.specs.Restart.{Restarts, RestartFault, AllFinished}
+use Rattle.aries.specs.declared.outcome.Outcome.{Outcome}
+use Rattle.aries.specs.Restart.{appended_by, clrs_in, Restarts, IsSettled, InputFault}
 use Rattle.aries.specs.declared.recover.Options.{Options}
 use Rattle.aries.specs.declared.report.Report.{Report}
 
@@ -20,38 +21,46 @@ pub record Are (log store : List ℕ) : Type 0 where
   pub reads : Reads log records torn
   pub spells : SpellsStore store before
 
--- the numbers of a restart that rolls nobody back
-abbrev pub report_of : List LogRecord → (torn redo_from redone pages : ℕ) → Report
-report_of records torn redo_from redone pages = record {
+-- THE ANSWER
+-- the numbers of a restart
+abbrev pub report_of : List LogRecord → (torn : ℕ) → Outcome → Report
+report_of records torn x = record {
   records = length records;
   torn = torn;
-  redo_from = redo_from;
-  redone = redone;
-  losers = 0;
-  compensated = 0;
-  ended = 0;
-  pages = pages;
+  redo_from = x.redo_from;
+  redone = x.redone;
+  losers = x.losers;
+  compensated = x.compensated;
+  ended = x.ended;
+  pages = length x.store.pages;
 }
 
--- an answer: the new log is the log without its torn tail, the new store has the pages of the restart
+-- EVERY INPUT. The new log is the log without its torn tail and what a restart appends, the new store is that of the restart.
 pub record Recovers (log store new_log new_store : List ℕ) (report : Report) : Type 0 where
   pub are : Are log store
-  pub pages : List Page
-  pub restarts : Restarts are.records are.before pages report.redo_from report.redone
-  pub log_is : new_log ≡ log_text are.records
-  pub store_is : new_store ≡ store_text (record { master = are.before.master; pages = pages })
-  pub report_is : report ≡ report_of are.records are.torn report.redo_from report.redone (length are.before.pages)
+  pub outcome : Outcome
+  pub restarts : Restarts are.records are.before outcome
+  pub log_is : new_log ≡ log_text (are.records ++ appended_by outcome)
+  pub store_is : new_store ≡ store_text outcome.store
+  pub report_is : report ≡ report_of are.records are.torn outcome
 
--- lawful bytes of a log whose transactions have all finished
+-- LAWFUL INPUT
+-- the bytes of a lawful log and its store
 pub record AreLawful (log store : List ℕ) : Type 0 where
   pub are : Are log store
   pub lawful : Lawful are.records are.before
-  pub finished : AllFinished are.records
 
--- the answer to lawful bytes: the log, and the store that the winners leave
-abbrev pub Settles : {log store : List ℕ} → AreLawful log store → (new_log new_store : List ℕ) → Type 0
-Settles lawful new_log new_store = (new_log ≡ log_text lawful.are.records) × (new_store ≡ store_text (store_out lawful.are.records lawful.are.before))
+-- the new log is the log and its tail, the new store what the winners leave; a restart on both appends nothing and leaves
+-- the store as it is
+pub record Recovered (records : List LogRecord) (before : StoreContent) (new_log new_store : List ℕ) (report : Report) : Type 0 where
+  pub log_is : new_log ≡ log_text (records ++ tail_of records)
+  pub store_is : new_store ≡ store_text (store_out records before)
+  pub settled : IsSettled (records ++ tail_of records) (store_out records before)
+  pub losers_are : report.losers ≡ length (losers_of (history records))
+  pub ended_are : report.ended ≡ length (losers_of (history records))
+  pub compensated_are : report.compensated ≡ clrs_in (tail_of records)
 
+-- REFUSALS
 abbrev pub IsUpTo : ℕ → ℕ → Type 0
 IsUpTo most n = (1 ≤ n) × (n ≤ most)
 
@@ -74,4 +83,4 @@ Cause log store options BadParting = OptionsFault options BadParting
 Cause log store options e =
     AreInRange options
     × (LogFault log e ⊎ ((records : List LogRecord) × (torn : ℕ) × Reads log records torn × StoreFault store e)
-    ⊎ ((are : Are log store) × RestartFault are.records are.before e))
+    ⊎ ((are : Are log store) × InputFault are.records are.before e))

@@ -1,5 +1,5 @@
 -- What undo makes of any log, tables and pages, and why it is refused. ARIES, section 6.3 (undo pass).
-use Rattle.std.specs.Prelude.{◌≡◌, ℕ, ◌≤◌, List, Some, true, length, map, nat_lt}
+use Rattle.std.specs.Prelude.{◌≡◌, ℕ, ◌≤◌, List, All, Some, None, true, length, map, nat_lt}
 use Rattle.std.specs.List.{range_with_len}
 use Rattle.page.specs.Image.{Image}
 use Rattle.page.specs.declared.page.Page.{Page}
@@ -10,8 +10,11 @@ use Rattle.wal.specs.Meaning.{State, effects}
 use Rattle.wal.specs.Tail.{is_among}
 use Rattle.wal.specs.Redo.{held_by, last_where}
 use Rattle.wal.specs.Undo.{entry_for, walk_of}
-use Rattle.wal.specs.Content.{entry_of}
+use Rattle.wal.specs.declared.record.Record.{Record}
+use Rattle.wal.specs.Spelling.{Fits}
+use Rattle.wal.specs.Content.{entry_of, content}
 use Rattle.analysis.specs.declared.tables.Tables.{Tables}
+use Rattle.analysis.specs.Tables.{entry_at}
 
 -- the losers: the transaction table, in rising number
 abbrev pub losers_in : Tables → List TableEntry
@@ -54,3 +57,12 @@ UndoFault log losers count NoResource = Unit {0}
 UndoFault log losers count (NoSuchPage lsn) = MeetsMissing log losers count lsn
 UndoFault log losers count (BrokenChain lsn) = Breaks log losers lsn
 UndoFault log losers count e = ⊥
+
+-- WHAT CAN BE WRITTEN
+-- no loser has the number 0, which is no transaction's (own)
+abbrev pub AreCounted : Tables → Type 0
+AreCounted tables = entry_at 0 tables.transactions.entries ≡ None
+
+-- each of these records has a spelling
+abbrev pub AreSpelled : List Record → Type 0
+AreSpelled records = All (λ r. Fits (content r)) records

@@ -5,14 +5,17 @@
 mod command;
 mod files;
 mod losers;
+mod outcome;
+mod passes;
 mod program;
 mod recover;
 mod report;
-mod restart;
 mod rollback;
 mod walk;
 
 pub use command::{Job, Refusal, command_of};
+pub use outcome::Outcome;
+pub use passes::restart;
 pub use program::run;
 pub use recover::{Options, recover_bytes};
 pub use report::{Report, report_text};

@@ -1,0 +1,183 @@
+-- A restart of a lawful log and its store.
+use Rattle.std.proofs.Common.{ℕ, suc, ◌≡◌, ◌<◌, ◌≤◌, true, cond, ◌&&◌, eqb, ltb, List, [], ◌∷◌, ◌++◌, Some, None, length, get_or, map, refl, sym, ap, ap₂, ◌∙◌, subst, inl, inr, arith}
+use Rattle.std.specs.List.{range_with_len}
+use Rattle.std.proofs.lemmas.Bool.{cases_Bool, cond_both, lt-ltb}
+use Rattle.std.proofs.lemmas.List.{length-map, get_or-map, ext_get_or}
+use Rattle.std.proofs.lemmas.List.FromFn.{length-map-range_with_len, get_or-map-range_with_len}
+use Rattle.std.proofs.lemmas.Option.{slice_get_within, get_or_from_slice_get}
+use Rattle.page.specs.declared.page.Page.{Page}
+use Rattle.page.specs.declared.fault.Fault.{Fault}
+use Rattle.page.specs.declared.fault.Fault.TheVariants.{NoResource, BadWorkers, BadParting, BadMaster, PageAheadOfLog, NoSuchPage}
+use Rattle.page.specs.Store.{StoreContent, AreNumbered}
+use Rattle.wal.specs.Records.{LogRecord, Update, Compensation, Commit, Abort, End, CheckpointBegin, CheckpointEnd, History, start, ◌▸◌, ◌▸▸◌, history, size, record_at}
+use Rattle.wal.specs.Meaning.{State, effects, replay, writes, image_of, is_on, last_on}
+use Rattle.wal.specs.Redo.{held_by, last_where, slots_in}
+use Rattle.wal.specs.Store.{Lawful, NamesPages, true_entry, true_table, store_out, page_out, first_end}
+use Rattle.wal.specs.Tail.{is_clr, is_end, losers_of, tail_of}
+use Rattle.wal.specs.Theorems.{replayed_page}
+use Rattle.wal.proofs.Histories.{size_of_list, each_found, after-append}
+use Rattle.wal.proofs.Lists.{replay_is_winners, tail_settles}
+use Rattle.wal.proofs.Pages.{same_slots, slot_held}
+use Rattle.wal.proofs.Redone.{redo_suffices}
+use Rattle.wal.proofs.Settled.{store_settles}
+use Rattle.wal.proofs.Ends.{losers_end}
+use Rattle.analysis.specs.declared.tables.Tables.{Tables}
+use Rattle.analysis.specs.Lawful.{AreTrue}
+use Rattle.analysis.specs.Tables.{base_of, is_begin, BaseFault}
+use Rattle.redo.specs.Changes.{NamesBelow}
+use Rattle.redo.specs.declared.redone.Redone.{Redone}
+use Rattle.redo.specs.Redone.{redone_page, IsFirstMissing, AreWorkers, RedoFault}
+use Rattle.aries.specs.declared.outcome.Outcome.{Outcome}
+use Rattle.aries.specs.Undone.{losers_in, slots_of, undone_page}
+use Rattle.aries.proofs.UndonePages.{no_effects, no_last}
+use Rattle.aries.specs.Restart.{IsFirstAhead, AheadFault, appended_by, clrs_in, ends_in, RollsBack, IsSettled, Restores}
+
+some_none : {X : Type 0} {x : X} → Some x ≡ None → ⊥
+some_none e = cc
+
+some_same : {X : Type 0} {x y : X} → Some x ≡ Some y → x ≡ y
+some_same e = cc
+
+-- A PAGE THAT A LOG MADE, UNDONE
+-- the effects of the records behind the first b, on what the log up to there replays to, are the replay
+effects_on : (b page slot : ℕ) (state : State) (log : History) (xs : List LogRecord) → b ≤ size log
+    → effects (λ lsn _. ltb b lsn) state log page slot ≡ replay log page slot → effects (λ lsn _. ltb b lsn) state (log ▸▸ xs) page slot ≡ replay (log ▸▸ xs) page slot
+effects_on b page slot state log [] le e = e
+effects_on b page slot state log (r ∷ xs) le e =
+    effects_on b page slot state (log ▸ r) xs (omega arith)
+    (ap₂ (λ chosen v. cond (writes page slot r && chosen) (image_of r) v) (lt-ltb b (suc (size log)) (omega arith)) e)
+
+-- and the last of them, else the last before, is the last of all
+last_after : (b page lsn : ℕ) (log : History) (xs : List LogRecord) → b ≤ size log
+    → last_where (λ n. ltb b n) page lsn log ≡ last_on page log → last_where (λ n. ltb b n) page lsn (log ▸▸ xs) ≡ last_on page (log ▸▸ xs)
+last_after b page lsn log [] le e = e
+last_after b page lsn log (r ∷ xs) le e = last_after b page lsn (log ▸ r) xs (omega arith) one_more
+  where
+    one_more : last_where (λ n. ltb b n) page lsn (log ▸ r) ≡ last_on page (log ▸ r)
+    one_more =
+        (let behind : ltb b (suc (size log)) ≡ true = lt-ltb b (suc (size log)) (omega arith) in
+        elim (cases_Bool (is_on page r)) [
+          | inl on ↦ rw (on, behind) refl
+          | inr off ↦ rw off e
+        ])
+
+-- what a log and the records behind it make of a page
+undone_replayed : (log : History) (xs : List LogRecord) (page : ℕ) → undone_page log xs (replayed_page log page) ≡ replayed_page (log ▸▸ xs) page
+undone_replayed log xs page =
+    let image : Page = replayed_page log page in
+    let undone : State = effects (λ lsn _. ltb (size log) lsn) (held_by image) (log ▸▸ xs) in
+    let held : (slot : ℕ) → slot < 16 → undone page slot ≡ replay (log ▸▸ xs) page slot =
+    λ slot lt. effects_on (size log) page slot (held_by image) log xs (omega arith)
+    (no_effects (size log) (held_by image) log page slot (omega arith) ∙ slot_held (replay log) page slot lt) in
+    let sixteen : length image.slots ≡ 16 = length-map-range_with_len (λ slot. replay log page slot) 0 16 in
+    ap₂ (λ l s. record { number = page; lsn = l; slots = s })
+    (last_after (size log) page image.lsn log xs (omega arith) (no_last (size log) page image.lsn log (omega arith)))
+    (ap (λ n. map (λ slot. undone page slot) (range_with_len 0 n)) sixteen ∙ same_slots undone (replay (log ▸▸ xs)) page held)
+
+module _ (records : List LogRecord) (before : StoreContent) (lawful : Lawful records before) where
+  -- THE PAGES
+  whole_is : history records ▸▸ tail_of records ≡ history (records ++ tail_of records)
+  whole_is = sym (after-append start records (tail_of records))
+
+  -- what the log and its tail make of a page is what the winners leave
+  page_is_out : (page : ℕ) → replayed_page (history records ▸▸ tail_of records) page ≡ page_out records page
+  page_is_out page =
+      ap (λ log. replayed_page log page) whole_is
+      ∙ ap (λ state. record { number = page; lsn = last_on page (history (records ++ tail_of records)); slots = slots_in state page }) (replay_is_winners records lawful.log)
+
+  module _ (numbered : AreNumbered before.pages) (tables : Tables) (truth : AreTrue records before tables) where
+    -- redo by true tables, and then the tail, make the pages what the winners leave
+    pages_out : map (undone_page (history records) (tail_of records)) (map (redone_page records tables) before.pages) ≡ (store_out records before).pages
+    pages_out =
+        let images = before.pages in
+        let n = length images in
+        let redone : List Page = map (redone_page records tables) images in
+        let d = page_out records 0 in
+        let count : length redone ≡ n = length-map images (redone_page records tables) in
+        ext_get_or d (map (undone_page (history records) (tail_of records)) redone) (map (page_out records) (range_with_len 0 n))
+        (length-map redone (undone_page (history records) (tail_of records)) ∙ count ∙ sym (length-map-range_with_len (page_out records) 0 n))
+        (λ k lt.
+        let below : k < n = omega (arith, count, length-map redone (undone_page (history records) (tail_of records))) in
+        get_or-map (undone_page (history records) (tail_of records)) redone k d d (omega (arith, count))
+        ∙ ap (undone_page (history records) (tail_of records)) (get_or-map (redone_page records tables) images k d d below ∙ redo_suffices records before tables.dirty.entries tables.redo_lsn lawful truth.reaches k d below)
+        ∙ undone_replayed (history records) (tail_of records) (get_or images k d).number
+        ∙ page_is_out (get_or images k d).number
+        ∙ ap (page_out records) (numbered.at_place k d below)
+        ∙ sym (get_or-map-range_with_len (page_out records) 0 n k k d below (omega arith)))
+
+    -- THE OUTCOME
+    losers_count : length (losers_in tables) ≡ length (losers_of (history records))
+    losers_count = ap length truth.losers ∙ length-map (losers_of (history records)) (true_entry (history records))
+
+    settles : IsSettled (records ++ tail_of records) (store_out records before)
+    settles =
+        let s = store_settles records before numbered lawful in
+        record { lawful = s.lawful; no_tail = (tail_settles records lawful.log).no_tail; same_store = s.same_store }
+
+    pub restores : (redone : Redone) (x : Outcome) → redone.pages.items ≡ map (redone_page records tables) before.pages → RollsBack records before.master tables redone x → appended_by x ≡ tail_of records → Restores records before x
+    restores redone x redone_is back tail =
+        let store : x.store ≡ store_out records before =
+        ap₂ (λ m (ps : List Page). record { master = m; pages = ps }) back.master_kept
+        (back.pages ∙ ap₂ (λ rs ps. map (undone_page (history records) rs) ps) tail redone_is ∙ pages_out) in
+        record {
+          appended = tail;
+          store = store;
+          settled = subst (λ s. IsSettled (records ++ appended_by x) s) (sym store) (subst (λ rs. IsSettled (records ++ rs) (store_out records before)) (sym tail) settles);
+          losers = back.losers ∙ losers_count;
+          ended = back.ended ∙ ap ends_in tail ∙ losers_end records lawful.log;
+          compensated = back.compensated ∙ ap clrs_in tail;
+        }
+
+  -- WHAT DOES NOT COME
+  none_ahead : (number : ℕ) → IsFirstAhead records before.pages number → ⊥
+  none_ahead number h =
+      let within = slice_get_within before.pages h.place h.page h.there in
+      let is = get_or_from_slice_get before.pages h.place h.page h.page h.there in
+      omega (arith, (lawful.pages h.place h.page within).within, ap (λ (p : Page). p.lsn) is, size_of_list records, h.ahead)
+
+  based : base_of before.master (history records) ≡ None → ⊥
+  based none =
+      elim lawful.checkpoint [
+        | inl z ↦ absurd (some_none (sym (ap (λ m. base_of m (history records)) z) ∙ none))
+        | inr t ↦
+            cond_both (eqb before.master 0) (Some ([], [])) (cond (is_begin (record_at (history records) before.master)) (first_end before.master (history records)) None) (λ o. o ≡ None → ⊥) (λ _ e. some_none e)
+            (λ _ e. some_none (sym (ap (λ r. cond (is_begin r) (first_end before.master (history records)) None) t.begins ∙ t.named) ∙ e)) none
+      ]
+
+  none_missing : (redo_lsn lsn : ℕ) → IsFirstMissing records (length before.pages) redo_lsn lsn → ⊥
+  none_missing redo_lsn lsn m = m.beyond (below m.entry (each_found (NamesPages (length before.pages)) records lawful.names_pages lsn m.entry m.there))
+    where
+      below : (r : LogRecord) → NamesPages (length before.pages) r → NamesBelow (length before.pages) r
+      below (Update u) h page e = subst (λ p. p < length before.pages) (some_same e) h
+      below (Compensation c) h page e = subst (λ p. p < length before.pages) (some_same e) h
+      below (Commit _) h page e = absurd (cc)
+      below (Abort _) h page e = absurd (cc)
+      below (End _) h page e = absurd (cc)
+      below CheckpointBegin h page e = absurd (cc)
+      below (CheckpointEnd _ _ _) h page e = absurd (cc)
+
+  -- so memory alone is refused
+  pub base_alone : (e : Fault) → BaseFault before.master (history records) e → e ≡ NoResource
+  base_alone NoResource cause = refl
+  base_alone BadMaster cause = absurd (based cause)
+  base_alone e cause = absurd cause
+
+  pub redo_alone : (redo_lsn workers : ℕ) (e : Fault) → AreWorkers workers → RedoFault records (length before.pages) redo_lsn workers e → e ≡ NoResource
+  redo_alone redo_lsn workers NoResource fit cause = refl
+  redo_alone redo_lsn workers BadWorkers fit cause = absurd (cause fit)
+  redo_alone redo_lsn workers (NoSuchPage lsn) fit cause = absurd (none_missing redo_lsn lsn cause.1)
+  redo_alone redo_lsn workers e fit cause = absurd cause
+
+  pub ahead_alone : (e : Fault) → AheadFault records before.pages e → e ≡ NoResource
+  ahead_alone (PageAheadOfLog number) cause = absurd (none_ahead number cause)
+  ahead_alone e cause = absurd cause
+
+-- redone pages stand at their numbers
+pub redone_numbered : (records : List LogRecord) (tables : Tables) (images : List Page) → AreNumbered images → AreNumbered (map (redone_page records tables) images)
+redone_numbered records tables images numbered =
+    let len = length-map images (redone_page records tables) in
+    record {
+      some = omega (arith, len, numbered.some);
+      few = omega (arith, len, numbered.few);
+      at_place = λ i d lt. (let below : i < length images = omega (arith, len) in ap (λ (p : Page). p.number) (get_or-map (redone_page records tables) images i d d below) ∙ numbered.at_place i d below);
+    }
