@@ -4,3 +4,4 @@ pub mod Smallest
 pub mod Analysed
 pub mod Covered
 pub mod Truth
+pub mod Numbers

@@ -1,30 +1,19 @@
 -- Maps from numbers, read key by key.
-use Rattle.std.proofs.Common.{ℕ, suc, ◌≡◌, ◌<◌, Bool, true, false, cond, eqb, ltb, ne_eqb, eq-eqb, eqb-true, ◌+◌, List, [], ◌∷◌, length, drop, get_or, drop-cons, Option, Some, None, refl, sym, ap, ap₂, ◌∙◌, arith, inl, inr}
+use Rattle.std.proofs.Common.{ℕ, suc, ◌≡◌, ◌<◌, Bool, true, false, cond, eqb, eq-eqb, eqb-true, ◌+◌, List, [], ◌∷◌, length, drop, get_or, drop-cons, Option, Some, None, refl, sym, ap, ap₂, ◌∙◌, arith, inl, inr}
 use Rattle.std.specs.Prelude.{option_map, is_some}
 use Rattle.std.specs.List.{slice_get}
 use Rattle.std.proofs.lemmas.Option.{slice_get_within, get_or_from_slice_get, slice_get-get_or}
 use Rattle.wal.specs.Records.{TableEntry}
 use Rattle.std.specs.Ordering.{is_eq, nat_cmp}
-use Rattle.std.specs.declared.cmp.Ordering.TheVariants.{Equal, Greater}
 use Rattle.std.specs.Map.{lookup}
-use Rattle.std.proofs.lemmas.Bool.{cases_Bool, ltb-true}
+use Rattle.std.proofs.lemmas.Bool.{cases_Bool}
 use Rattle.wal.specs.declared.record.Entry.{Entry}
 use Rattle.wal.specs.Content.{entry_of}
 use Rattle.wal.specs.Redo.{rec_lsn_of}
 use Rattle.wal.specs.Store.{or_else}
 use Rattle.wal.specs.Undo.{entry_for}
+use Rattle.wal.proofs.Entries.{is_eq-nat_cmp, entry_for-lookup}
 use Rattle.analysis.specs.Tables.{entry_at}
-
-is_eq-cond : (b : Bool) → is_eq (cond b Equal Greater) ≡ b
-is_eq-cond true = refl
-is_eq-cond false = refl
-
-pub is_eq-nat_cmp : (x y : ℕ) → is_eq (nat_cmp x y) ≡ eqb x y
-is_eq-nat_cmp x y =
-    elim (cases_Bool (ltb x y)) [
-      | inl l ↦ (let e : eqb x y ≡ false = ne_eqb x y (λ i. omega (arith, ltb-true x y l, i)) in rw (l, e) refl)
-      | inr l ↦ rw l (is_eq-cond (eqb x y))
-    ]
 
 pub eqb-sym : (x y : ℕ) → eqb x y ≡ eqb y x
 eqb-sym x y =
@@ -37,15 +26,6 @@ eqb-sym x y =
     by_other true f e = eq-eqb x y (sym (eqb-true y x f)) ∙ sym f
     by_other false f e = e ∙ sym f
 
-pub entry_at-lookup : (t : ℕ) (es : List (ℕ × Entry)) → entry_at t es ≡ option_map (λ e. entry_of (t, e)) (lookup (λ k. is_eq (nat_cmp t k)) es)
-entry_at-lookup t [] = refl
-entry_at-lookup t (e ∷ es) = rw (is_eq-nat_cmp t e.0) (mapped (eqb t e.0) (entry_at-lookup t es))
-  where
-    mapped : (b : Bool) → entry_at t es ≡ option_map (λ x. entry_of (t, x)) (lookup (λ k. is_eq (nat_cmp t k)) es)
-        → cond b (Some (entry_of (t, e.1))) (entry_at t es) ≡ option_map (λ x. entry_of (t, x)) (cond b (Some e.1) (lookup (λ k. is_eq (nat_cmp t k)) es))
-    mapped true below = refl
-    mapped false below = below
-
 pub rec_lsn_of-lookup : (page : ℕ) (es : List (ℕ × ℕ)) → rec_lsn_of page es ≡ lookup (λ k. is_eq (nat_cmp page k)) es
 rec_lsn_of-lookup page [] = refl
 rec_lsn_of-lookup page (e ∷ es) = rw (is_eq-nat_cmp page e.0, eqb-sym e.0 page) (ap (λ o. cond (eqb page e.0) (Some e.1) o) (rec_lsn_of-lookup page es))
@@ -54,12 +34,12 @@ rec_lsn_of-lookup page (e ∷ es) = rw (is_eq-nat_cmp page e.0, eqb-sym e.0 page
 pub entry_at-changed : (t tx : ℕ) (old new : List (ℕ × Entry)) (w : Option Entry) → lookup (λ k. is_eq (nat_cmp t k)) new ≡ cond (is_eq (nat_cmp tx t)) w (lookup (λ k. is_eq (nat_cmp t k)) old)
     → entry_at t new ≡ cond (eqb tx t) (option_map (λ e. entry_of (t, e)) w) (entry_at t old)
 entry_at-changed t tx old new w e =
-    entry_at-lookup t new ∙ ap (option_map (λ x. entry_of (t, x))) (e ∙ ap (λ b. cond b w (lookup (λ k. is_eq (nat_cmp t k)) old)) (is_eq-nat_cmp tx t))
+    entry_for-lookup t new ∙ ap (option_map (λ x. entry_of (t, x))) (e ∙ ap (λ b. cond b w (lookup (λ k. is_eq (nat_cmp t k)) old)) (is_eq-nat_cmp tx t))
     ∙ mapped (eqb tx t)
   where
     mapped : (b : Bool) → option_map (λ x. entry_of (t, x)) (cond b w (lookup (λ k. is_eq (nat_cmp t k)) old)) ≡ cond b (option_map (λ x. entry_of (t, x)) w) (entry_at t old)
     mapped true = refl
-    mapped false = sym (entry_at-lookup t old)
+    mapped false = sym (entry_for-lookup t old)
 
 pub rec_lsn-changed : (p page : ℕ) (old new : List (ℕ × ℕ)) (w : Option ℕ) → lookup (λ k. is_eq (nat_cmp p k)) new ≡ cond (is_eq (nat_cmp page p)) w (lookup (λ k. is_eq (nat_cmp p k)) old)
     → rec_lsn_of p new ≡ cond (eqb page p) w (rec_lsn_of p old)

@@ -1,5 +1,5 @@
 -- TABLES-OF. What analysis finds from a checkpoint on: last and first records, not a scan (own, for every log).
-use Rattle.std.specs.Prelude.{◌≡◌, ℕ, suc, List, [], ◌∷◌, Option, Some, None, Bool, true, false, ◌||◌, ◌&&◌, ◌==◌, nat_lt, nat_le, min, max, if◌then◌else◌}
+use Rattle.std.specs.Prelude.{◌≡◌, ℕ, suc, List, [], ◌∷◌, Option, Some, None, Bool, true, false, ◌||◌, ◌&&◌, ◌==◌, nat_lt, nat_le, min, max, map, if◌then◌else◌}
 use Rattle.page.specs.declared.fault.Fault.{Fault}
 use Rattle.page.specs.declared.fault.Fault.TheVariants.{NoResource, BadMaster}
 use Rattle.wal.specs.declared.record.State.{State}
@@ -90,8 +90,7 @@ redo_lsn_of (d ∷ e ∷ dirty) = min (max 1 d.1) (redo_lsn_of (e ∷ dirty))
 
 -- WHAT THE TABLES SAY
 abbrev pub entry_at : ℕ → List (ℕ × Entry) → Option TableEntry
-entry_at t [] = None
-entry_at t (e ∷ entries) = if t == e.0 then Some (entry_of (t, e.1)) else entry_at t entries
+entry_at t entries = entry_for t (map entry_of entries)
 
 -- the tables of this log behind the LSN m, key by key (a map's keys are always in order, each once)
 pub record AreTablesOf (records : List LogRecord) (m : ℕ) (tables : Tables) : Type 0 where

@@ -1,6 +1,6 @@
 //! The base: the tables of the checkpoint that the master names.
 
-ghost use Rattle.std.specs.Prelude.{◌≡◌, ℕ, Option, Some, None, option_map, IfOk, OnOk, IfErr, [], length, drop, ◌<◌, ◌+◌};
+ghost use Rattle.std.specs.Prelude.{◌≡◌, ℕ, Option, Some, None, option_map, IfOk, OnOk, IfErr, IfSome, [], length, drop, ◌<◌, ◌+◌};
 ghost use Rattle.page.specs.declared.fault.Fault.TheVariants.{NoResource};
 ghost use Rattle.wal.specs.Records.{history, record_at};
 ghost use Rattle.wal.specs.Redo.{rec_lsn_of};
@@ -16,7 +16,8 @@ use wal::{DirtyTable, Entry, Log, RecordView, TransactionTable};
 
 /// The tables of the first checkpoint end behind the LSN `master` that names it.
 fn end_naming<'a>(log: &Log<'a>, master: u64) -> Option<(TransactionTable<'a>, DirtyTable<'a>)>
-    ensures { option_map (λ x. (x.0, x.1)) result ≡ first_end master (history log.now) }
+    ensures found { option_map (λ x. (x.0, x.1)) result ≡ first_end master (history log.now) }
+    ensures numbered { IfSome result (λ x. entry_for 0 x.0 ≡ None) }
 {
     for index in master..log.len() {
         if let RecordView::CheckpointEnd {
@@ -105,6 +106,7 @@ pub fn base(
     master: u64,
 ) -> Result<(BTreeMap<u32, Entry>, BTreeMap<u32, u64>), Fault>
     ensures found { IfOk result (λ x. IsBase master (history log.now) x.0.entries x.1.entries) }
+    ensures numbered { IfOk result (λ x. entry_at 0 x.0.entries ≡ None) }
     ensures fault { IfErr result (BaseFault master (history log.now)) }
 {
     if master == 0 {

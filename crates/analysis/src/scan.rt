@@ -124,6 +124,7 @@ pub fn scan(
         → entry_at t transactions.new.entries ≡ analysed_entry t master base (history log.now)) }
     ensures pages { OnOk result ((p : ℕ) (base : Option ℕ) → rec_lsn_of p dirty.old.entries ≡ base
         → rec_lsn_of p dirty.new.entries ≡ analysed_rec_lsn p master base (history log.now)) }
+    ensures numbered { OnOk result (entry_at 0 transactions.old.entries ≡ None → entry_at 0 transactions.new.entries ≡ None) }
     ensures err { IfErr result (λ e. e ≡ NoResource) }
 {
     for index in master..log.len() {

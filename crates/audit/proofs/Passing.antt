@@ -9,10 +9,11 @@ use Rattle.page.specs.declared.fault.Fault.TheVariants.{NoResource, EndTooEarly,
 use Rattle.std.proofs.lemmas.Bool.{cases_Bool}
 use Rattle.wal.specs.Records.{LogRecord, History, start, ◌▸◌, history, size, record_at}
 use Rattle.wal.specs.Laws.{IsLawful, Obeys, ChainLaw, FinishLaw, CompensationLaw}
+use Rattle.wal.specs.Tail.{is_end}
 use Rattle.wal.specs.Store.{NamesPages}
 use Rattle.wal.proofs.Histories.{after-append, record_in_front}
 use Rattle.audit.specs.Passing.{Begins}
-use Rattle.audit.specs.FirstFault.{is_end, BrokenAt, AreSound, FirstBroken, RecordFault}
+use Rattle.audit.specs.FirstFault.{BrokenAt, AreSound, FirstBroken, RecordFault}
 
 pub begins_taken : (xs : List LogRecord) (i : ℕ) → Begins (history (take i xs)) xs
 begins_taken xs i n le =

@@ -1,18 +1,14 @@
 -- The first broken law, in the order: the records by LSN, the pages by number, the checkpoint.
-use Rattle.std.specs.Prelude.{◌≡◌, ◌<◌, ◌≤◌, ◌⊎◌, ℕ, suc, List, All, length, take, slice_get, Some, Bool, true, false}
+use Rattle.std.specs.Prelude.{◌≡◌, ◌<◌, ◌≤◌, ◌⊎◌, ℕ, suc, List, All, length, take, slice_get, Some, true, false}
 use Rattle.page.specs.declared.fault.Fault.{Fault}
 use Rattle.page.specs.declared.fault.Fault.TheVariants.{NoResource, NoSuchPage, Chain, AfterFinish, WrongCompensation, BeforeImage, DirtyWrite, EndTooEarly, PageAheadOfLog, PageImage, BadMaster, TransactionTable, DirtyTable}
 use Rattle.page.specs.declared.page.Page.{Page}
-use Rattle.wal.specs.Records.{LogRecord, TableEntry, End, CheckpointBegin, History, history, size, record_at, first}
+use Rattle.wal.specs.Records.{LogRecord, TableEntry, CheckpointBegin, History, history, size, record_at, first}
 use Rattle.wal.specs.Laws.{ChainLaw, FinishLaw, CompensationLaw, BeforeLaw, Strictness, IsLawful}
+use Rattle.wal.specs.Tail.{is_end}
 use Rattle.wal.specs.Store.{NamesPages, PageLaw, DirtyLaw, first_end, true_table}
 use Rattle.wal.specs.Redo.{rec_lsn_of}
 use Rattle.page.specs.Store.{StoreContent}
-
--- whether it is an end
-abbrev pub is_end : LogRecord → Bool
-is_end (End s) = true
-is_end _ = false
 
 -- the fault names the record behind this log and the first law that the record breaks there
 abbrev pub BrokenAt : (count : ℕ) → History → LogRecord → Fault → Type 0

@@ -4,11 +4,12 @@ ghost use Rattle.std.specs.Prelude.{◌≡◌, ◌+◌, ◌*◌, ◌≤◌, leng
 ghost use Rattle.page.specs.declared.fault.Fault.TheVariants.{WrongCompensation, EndTooEarly};
 ghost use Rattle.wal.specs.Records.{History, size};
 ghost use Rattle.wal.specs.Laws.{IsLawful, Obeys};
+ghost use Rattle.wal.specs.Tail.{is_end};
 ghost use Rattle.wal.specs.Store.{NamesPages};
 ghost use Rattle.wal.specs.Spelling.{Fits};
 ghost use Rattle.wal.specs.Shown.{shown};
 ghost use Rattle.audit.specs.Passing.{Tells, Begins};
-ghost use Rattle.audit.specs.FirstFault.{is_end, BrokenAt, AreSound, RecordFault};
+ghost use Rattle.audit.specs.FirstFault.{BrokenAt, AreSound, RecordFault};
 
 use crate::decide::{
     keeps_before, keeps_chain, keeps_compensation, keeps_finish, keeps_strictness, names_pages,

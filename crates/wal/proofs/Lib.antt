@@ -20,7 +20,9 @@ pub mod Lists
 pub mod Pages
 pub mod Redone
 pub mod Actions
+pub mod Ends
 pub mod Undone
+pub mod Entries
 pub mod Appended
 pub mod Settled
 pub mod CutBytes

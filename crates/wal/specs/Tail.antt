@@ -34,6 +34,15 @@ written last lsn [] = []
 written last lsn (a ∷ actions) =
     record_for last a ∷ written (λ t. if tx_for a == t then lsn else last t) (suc lsn) actions
 
+-- whether it is a CLR, and whether it is an end
+abbrev pub is_clr : LogRecord → Bool
+is_clr (Compensation c) = true
+is_clr _ = false
+
+abbrev pub is_end : LogRecord → Bool
+is_end (End s) = true
+is_end _ = false
+
 -- HOW LOSERS ARE ROLLED BACK
 abbrev pub is_empty : List ℕ → Bool
 is_empty [] = true

@@ -1,11 +1,11 @@
 -- What is proved of the definitions alone.
-use Rattle.std.specs.Prelude.{◌≡◌, ◌↔◌, ◌≤◌, ◌<◌, ℕ, List, [], ◌++◌, length, take, slice_index_or, true, false, Option, Some, All}
+use Rattle.std.specs.Prelude.{◌≡◌, ◌↔◌, ◌≤◌, ◌<◌, ℕ, List, [], ◌++◌, length, take, slice_index_or, true, false, Option, Some, filter, All}
 use Rattle.page.specs.declared.page.Page.{Page}
 use Rattle.page.specs.Store.{StoreContent, AreNumbered}
 use Rattle.wal.specs.Records.{LogRecord, History, history, record_at}
 use Rattle.wal.specs.Meaning.{is_loser, pending, undo_next_of, replay, winners, is_on, last_on}
 use Rattle.wal.specs.Laws.{Obeys, IsLawful}
-use Rattle.wal.specs.Tail.{tail, tail_of}
+use Rattle.wal.specs.Tail.{is_end, losers_of, tail, tail_of}
 use Rattle.wal.specs.Hops.{hops}
 use Rattle.wal.specs.Redo.{rec_lsn_of, is_redone, slots_in, redo_of}
 use Rattle.wal.specs.Undo.{entry_for, walk_of, undone_by}
@@ -40,6 +40,10 @@ pub record Settles (records : List LogRecord) : Type 0 where
 
 abbrev pub TailSettles : Type 0
 TailSettles = (records : List LogRecord) → AreLawful records → Settles records
+
+-- In the tail of a lawful log as many transactions end as there are losers: each loser once.
+abbrev pub LosersEnd : Type 0
+LosersEnd = (records : List LogRecord) → AreLawful records → length (filter is_end (tail_of records)) ≡ length (losers_of (history records))
 
 -- A log that was cut within its tail is lawful, and its own tail completes it to the same whole.
 pub record Resumes (records : List LogRecord) (n : ℕ) : Type 0 where

@@ -1,7 +1,7 @@
 //! Laws of logs. Each function is its law: what it ensures holds of the definitions alone.
 
 ghost use Rattle.wal.specs.Reads.{OneReading};
-ghost use Rattle.wal.specs.Theorems.{LawfulByRecord, HopsMeetPending, ReplayIsWinners, TailSettles, CutsResume, RedoReplays, RedoSuffices, UndoIsTail, StoreSettles, RestartGoesOn, CutsSettle, CutsCompose};
+ghost use Rattle.wal.specs.Theorems.{LawfulByRecord, HopsMeetPending, ReplayIsWinners, TailSettles, LosersEnd, CutsResume, RedoReplays, RedoSuffices, UndoIsTail, StoreSettles, RestartGoesOn, CutsSettle, CutsCompose};
 
 /// No text is two logs.
 pub fn one_reading()
@@ -27,6 +27,11 @@ pub fn replay_is_winners()
 /// A lawful log and its tail are lawful, have no loser, no tail, and the same winners.
 pub fn tail_settles()
     ensures { TailSettles }
+{}
+
+/// In the tail of a lawful log as many transactions end as there are losers.
+pub fn losers_end()
+    ensures { LosersEnd }
 {}
 
 /// A lawful log that was cut within its tail is lawful, and its tail completes it to the same whole.

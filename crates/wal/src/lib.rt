@@ -16,8 +16,9 @@ mod view;
 
 pub use frame::write_frame;
 pub use laws::{
-    cuts_resume, hops_meet_pending, lawful_by_record, one_reading, redo_replays, replay_is_winners,
-    tail_settles,
+    cuts_compose, cuts_resume, cuts_settle, hops_meet_pending, lawful_by_record, losers_end,
+    one_reading, redo_replays, redo_suffices, replay_is_winners, restart_goes_on, store_settles,
+    tail_settles, undo_is_tail,
 };
 pub use log::{Log, read_log};
 pub use record::{Entry, Record, State};

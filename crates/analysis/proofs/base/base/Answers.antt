@@ -1,4 +1,4 @@
-use Rattle.std.proofs.Common.{[], ap, ℕ, List}
+use Rattle.std.proofs.Common.{[], ap, ◌∙◌, ℕ, List}
 use Rattle.wal.specs.declared.record.Entry.{Entry}
 use Rattle.wal.specs.Redo.{rec_lsn_of}
 use Rattle.wal.specs.Records.{history}
@@ -13,3 +13,9 @@ returns-then-master-eq0-clause-found c = record {
   entries_are = λ t. ap (λ (es : List (ℕ × Entry)). entry_at t es) c.new.ensures.empty;
   pages_are = λ p. ap (λ (es : List (ℕ × ℕ)). rec_lsn_of p es) c.new-then-master-eq0.ensures.empty;
 }
+
+pub returns-then-master-eq0-clause-numbered : goal.returns-then-master-eq0-clause-numbered
+returns-then-master-eq0-clause-numbered c = ap (λ (es : List (ℕ × Entry)). entry_at 0 es) c.new.ensures.empty
+
+pub returns-clause-numbered : goal.returns-clause-numbered
+returns-clause-numbered c = c.in_ok-transactions.ensures.ok 0 ∙ c.in-Some.ensures.numbered

@@ -1,4 +1,4 @@
-use Rattle.std.proofs.Common.{◌≡◌, ℕ, Option, take}
+use Rattle.std.proofs.Common.{◌≡◌, ℕ, Option, None, take}
 use Rattle.wal.specs.Records.{TableEntry, history}
 use Rattle.wal.specs.Redo.{rec_lsn_of}
 use Rattle.analysis.specs.Tables.{entry_at, analysed_entry, analysed_rec_lsn}
@@ -10,3 +10,4 @@ invariant-loop-index l =
     → entry_at t l.transactions.entries ≡ analysed_entry t l.master base (history (take l.index l.log)))
     × ((p : ℕ) (base : Option ℕ) → rec_lsn_of p l.fn.dirty.entries ≡ base
     → rec_lsn_of p l.dirty.entries ≡ analysed_rec_lsn p l.master base (history (take l.index l.log)))
+    × (entry_at 0 l.fn.transactions.entries ≡ None → entry_at 0 l.transactions.entries ≡ None)
