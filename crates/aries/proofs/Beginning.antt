@@ -15,7 +15,7 @@ use Rattle.aries.specs.declared.losers.Loser.{Loser}
 use Rattle.aries.specs.Undone.{UndoFault}
 use Rattle.aries.specs.Rollback.{walk_from, WalkFault, Places, Ends, Stays, Resolved, Waits, IsDone, HasPlace, undos, Rolls, met_by, last_by, meets_nothing, end_of, AreEnds, Begun}
 use Rattle.aries.proofs.Walks.{first_whole}
-use Rattle.aries.proofs.Entries.{AreDistinct, entry_own}
+use Rattle.wal.proofs.Entries.{AreDistinct, entry_own}
 
 -- WHAT IS WRITTEN OF TWO LISTS
 after : (ℕ → ℕ) → ℕ → List Action → ℕ → ℕ
@@ -265,3 +265,8 @@ pub ends_name_no_page : (count : ℕ) (rs : List LogRecord) → AreEnds rs → A
 ends_name_no_page count [] h = All-nil (NamesPages count)
 ends_name_no_page count (End s ∷ rs) h = All-cons (NamesPages count) (End s) rs tt (ends_name_no_page count rs h)
 ends_name_no_page count (_ ∷ rs) h = absurd h
+
+-- where 0 has no entry, who has one is not 0
+pub some_tx : (t : ℕ) (e : TableEntry) (losers : List TableEntry) → entry_for 0 losers ≡ None → entry_for t losers ≡ Some e → 0 < t
+some_tx zero e losers none some = absurd (let f : None ≡ Some e = sym none ∙ some in cc)
+some_tx (suc t) e losers none some = omega arith

@@ -1,35 +1,25 @@
 -- Undo of a lawful log by true tables: the tail, and no fault but want of memory.
 use Rattle.std.proofs.Common.{ℕ, ◌≡◌, ◌<◌, List, length, refl, sym, ap, ◌∙◌, arith}
-use Rattle.std.specs.Ordering.{nat_cmp}
-use Rattle.std.specs.Map.{keys_of}
-use Rattle.std.specs.List.Sorted.{IsStrictlySortedBy}
 use Rattle.page.specs.declared.fault.Fault.{Fault}
 use Rattle.page.specs.declared.fault.Fault.TheVariants.{NoResource, NoSuchPage, BrokenChain}
 use Rattle.page.specs.Store.{StoreContent}
 use Rattle.wal.specs.Records.{LogRecord, Update, history}
 use Rattle.wal.specs.Tail.{tail_of}
 use Rattle.wal.specs.Undo.{entry_for, walk_of, undone_by}
-use Rattle.wal.specs.Store.{NamesPages, Lawful, true_table}
+use Rattle.wal.specs.Store.{NamesPages, Lawful}
 use Rattle.wal.specs.Theorems.{UndoesAll}
 use Rattle.wal.proofs.Histories.{each_found}
-use Rattle.wal.proofs.Undone.{true_entry_for, undo_is_tail}
+use Rattle.wal.proofs.Undone.{undo_is_tail}
 use Rattle.analysis.specs.declared.tables.Tables.{Tables}
 use Rattle.analysis.specs.Lawful.{AreTrue}
 use Rattle.aries.specs.Undone.{losers_in, UndoFault}
-use Rattle.aries.proofs.Entries.{entry_for-map, rise, same_table, true_table_rises}
 
-module _ (records : List LogRecord) (store : StoreContent) (tables : Tables) (lawful : Lawful records store) (are_true : AreTrue records store tables)
-    (ordered : IsStrictlySortedBy nat_cmp (keys_of tables.transactions.entries)) where
-  same : losers_in tables ≡ true_table (history records)
-  same =
-      same_table 0 (losers_in tables) (true_table (history records)) (rise tables.transactions.entries ordered) (true_table_rises (history records))
-      (λ t. entry_for-map t tables.transactions.entries ∙ are_true.losers t ∙ sym (true_entry_for (history records) t))
-
+module _ (records : List LogRecord) (store : StoreContent) (tables : Tables) (lawful : Lawful records store) (are_true : AreTrue records store tables) where
   undoes_all : UndoesAll (history records)
   undoes_all = undo_is_tail records lawful.log
 
   pub tail_is : undone_by (history records) (losers_in tables) ≡ tail_of records
-  tail_is = ap (undone_by (history records)) same ∙ undoes_all.appended
+  tail_is = ap (undone_by (history records)) are_true.losers ∙ undoes_all.appended
 
   pub memory_alone : (count : ℕ) (e : Fault) → count ≡ length store.pages → UndoFault (history records) (losers_in tables) count e → e ≡ NoResource
   memory_alone count NoResource len h = refl
@@ -37,5 +27,5 @@ module _ (records : List LogRecord) (store : StoreContent) (tables : Tables) (la
       absurd (let named : h.update.page < length store.pages = each_found (NamesPages (length store.pages)) records lawful.names_pages n (Update h.update) h.found in
       omega (arith, named, h.missing, len))
   memory_alone count (BrokenChain n) len h =
-      absurd (h.bad (sym h.ends ∙ ap (λ losers. (walk_of (history records) (entry_for h.loser losers)).ends) same ∙ undoes_all.no_bad_hop h.loser))
+      absurd (h.bad (sym h.ends ∙ ap (λ losers. (walk_of (history records) (entry_for h.loser losers)).ends) are_true.losers ∙ undoes_all.no_bad_hop h.loser))
   memory_alone count _ len h = absurd h

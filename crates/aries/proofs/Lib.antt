@@ -5,6 +5,7 @@ pub mod UndonePages
 pub mod Meeting
 pub mod Rolling
 pub mod Placed
-pub mod Entries
 pub mod Beginning
 pub mod LawfulUndo
+pub mod Causes
+pub mod Bytes

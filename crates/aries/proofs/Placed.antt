@@ -5,7 +5,7 @@ use Rattle.std.specs.Ordering.{is_eq, is_lt, nat_cmp}
 use Rattle.std.specs.declared.cmp.Ordering.TheVariants.{Less, Equal, Greater}
 use Rattle.std.specs.Prelude.{is_some}
 use Rattle.std.specs.Map.{lookup}
-use Rattle.analysis.proofs.Maps.{is_eq-nat_cmp}
+use Rattle.wal.proofs.Entries.{is_eq-nat_cmp}
 use Rattle.wal.specs.Records.{History}
 use Rattle.aries.specs.declared.losers.Loser.{Loser}
 use Rattle.aries.specs.Rollback.{Places, Taken, AreBelow, AreUpdates}

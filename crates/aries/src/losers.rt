@@ -2,10 +2,10 @@
 
 ghost use Rattle.std.specs.Prelude.{◌≡◌, ◌≤◌, ◌<◌, ◌+◌, ℕ, length, map, OnOk, IfOk, IfErr, IfSome, IfNone};
 ghost use Rattle.std.specs.Ordering.{nat_cmp};
-ghost use Rattle.std.specs.BTreeMap.{get, IsOrdered};
+ghost use Rattle.std.specs.BTreeMap.{get};
 ghost use Rattle.wal.specs.Records.{history};
 ghost use Rattle.wal.specs.Content.{content};
-ghost use Rattle.aries.specs.Undone.{losers_in, UndoFault};
+ghost use Rattle.aries.specs.Undone.{losers_in, AreCounted, AreSpelled, UndoFault};
 ghost use Rattle.aries.specs.Rollback.{walk_from, WalkFault, Resolved, Taken, AreEnds, Rolls};
 
 use crate::walk::next_update;
@@ -38,6 +38,7 @@ pub fn resolve(
     requires within { from ≤ length log.now + 1 }
     ensures ok { OnOk result (Resolved (history log.now) loser from lsn
         (get nat_cmp places.old) (get nat_cmp places.new) (map content appended.old.items) (map content appended.new.items)) }
+    ensures spelled { OnOk result (0 < loser.tx → AreSpelled appended.old.items → AreSpelled appended.new.items) }
     ensures fault { IfErr result (WalkFault (walk_from (history log.now) loser.tx from lsn)) }
 {
     match next_update(log, loser.tx, from, lsn)? {
@@ -70,7 +71,7 @@ pub fn begin(
 ) -> Result<(BTreeMap<u64, Loser>, Vec<Record>), Fault>
     ensures ok { IfOk result (λ x. Rolls (history log.now) (losers_in tables.now) (get nat_cmp x.0) (map content x.1.items)) }
     ensures ends { IfOk result (λ x. AreEnds (map content x.1.items)) }
-    ensures ordered { IsOrdered nat_cmp tables.now.transactions }
+    ensures spelled { IfOk result (λ x. AreCounted tables.now → AreSpelled x.1.items) }
     ensures fault { IfErr result (λ e. (count : ℕ) → UndoFault (history log.now) (losers_in tables.now) count e) }
 {
     let mut places = BTreeMap::new(alloc);

@@ -12,7 +12,7 @@ ghost use Rattle.wal.specs.Tail.{tail_of};
 ghost use Rattle.wal.specs.Undo.{undone_by};
 ghost use Rattle.wal.specs.Store.{NamesPages, Lawful};
 ghost use Rattle.analysis.specs.Lawful.{AreTrue};
-ghost use Rattle.aries.specs.Undone.{losers_in, NoBadHop, undone_page, UndoFault};
+ghost use Rattle.aries.specs.Undone.{losers_in, NoBadHop, undone_page, UndoFault, AreCounted, AreSpelled};
 ghost use Rattle.aries.specs.Rollback.{Places, IsUpdate, IsUpdateAt, Compensated, CompensationFault, Taken, AreBelow, AreUpdates, Rolls};
 
 use crate::losers::{Loser, begin, resolve, take_newest};
@@ -39,6 +39,8 @@ fn compensate(
     ensures pages { OnOk result ((given : List Page) → AreNumbered given
         → pages.old ≡ map (undone_page (history log.now) (map content appended.old.items)) given
         → pages.new ≡ map (undone_page (history log.now) (map content appended.new.items)) given) }
+    ensures spelled { OnOk result (AreSpelled appended.old.items → AreSpelled appended.new.items) }
+    ensures counted { (u : UpdateRecord) → record_at (history log.now) place ≡ Some (Update u) → 0 < u.tx }
     ensures fault { IfErr result (CompensationFault (history log.now) place (length pages.old)) }
 {
     let Some(
@@ -88,6 +90,7 @@ fn undo_at(
     ensures pages { OnOk result ((given : List Page) → AreNumbered given
         → pages.old ≡ map (undone_page (history log.now) (map content appended.old.items)) given
         → pages.new ≡ map (undone_page (history log.now) (map content appended.new.items)) given) }
+    ensures spelled { OnOk result (AreSpelled appended.old.items → AreSpelled appended.new.items) }
     ensures fault { IfErr result (λ e. (losers : List TableEntry) (at : Places) → Taken place loser at (get nat_cmp places.old)
         → Rolls (history log.now) losers at (map content appended.old.items) → UndoFault (history log.now) losers (length pages.old) e) }
 {
@@ -116,6 +119,7 @@ fn undo_all(
     ensures pages { OnOk result ((given : List Page) → AreNumbered given
         → pages.old ≡ map (undone_page (history log.now) (map content appended.old.items)) given
         → pages.new ≡ map (undone_page (history log.now) (map content appended.new.items)) given) }
+    ensures spelled { OnOk result (AreSpelled appended.old.items → AreSpelled appended.new.items) }
     ensures fault { IfErr result (λ e. (losers : List TableEntry) → Rolls (history log.now) losers (get nat_cmp places.old) (map content appended.old.items)
         → UndoFault (history log.now) losers (length pages.old) e) }
 {
@@ -152,6 +156,9 @@ pub fn undo(
     // What is appended: the rollback of the losers, each by the updates that its hops meet.
     ensures appended { IfOk result (λ x. map content x.1.items ≡ undone_by (history log.now) (losers_in tables.now)) }
     ensures pages { IfOk result (λ x. x.0.items ≡ map (undone_page (history log.now) (map content x.1.items)) pages.items) }
+
+    // Each appended record has a spelling, where no loser has the number 0.
+    ensures spelled { IfOk result (λ x. AreCounted tables.now → AreSpelled x.1.items) }
 
     // An answer means that no hop is bad and no page is missing, a refusal the contrary, memory aside.
     ensures ends { OnOk result (NoBadHop (history log.now) (losers_in tables.now)) }

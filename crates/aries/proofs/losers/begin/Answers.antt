@@ -13,8 +13,8 @@ use Rattle.wal.specs.Undo.{entry_for}
 use Rattle.wal.proofs.Histories.{size_of_list}
 use Rattle.aries.specs.Undone.{losers_in}
 use Rattle.aries.specs.Rollback.{AreEnds, Begun, meets_nothing}
-use Rattle.aries.proofs.Entries.{entry_found, rise, distinct}
-use Rattle.aries.proofs.Beginning.{broken_start, begun_more, begun_rolls, are_ends}
+use Rattle.wal.proofs.Entries.{entry_found, rise, distinct}
+use Rattle.aries.proofs.Beginning.{broken_start, begun_more, begun_rolls, are_ends, some_tx}
 use Rattle.aries.proofs.losers.begin.Goals as goal
 
 pub returns-in_err-resolve-clause-fault : goal.returns-in_err-resolve-clause-fault
@@ -29,7 +29,7 @@ returns-in_err-resolve-clause-fault c =
     rw (exit.1, exit.2)
     (λ count. broken_start (history c.args.log.now) (losers_in c.args.tables.now) (map entry_of (map deref_pair c.loop-tx.yielded)) (get nat_cmp c.loop-tx.places) (get nat_cmp c.resolve.new.places)
     (map content c.loop-tx.appended.items) (map content c.resolve.new.appended.items) c.next_lsn-end.result (omega (arith, c.next_lsn-end.ensures.next, size_of_list c.args.log.now))
-    (entry_of (c.in-Some.tx.now, c.in-Some.entry.now)) own c.loop-tx.invariant count c.in_err-resolve.field-0.0 c.in_err-resolve.ensures.fault)
+    (entry_of (c.in-Some.tx.now, c.in-Some.entry.now)) own c.loop-tx.invariant.begun count c.in_err-resolve.field-0.0 c.in_err-resolve.ensures.fault)
 
 pub loop-tx-preserved : goal.loop-tx-preserved
 loop-tx-preserved c =
@@ -42,10 +42,14 @@ loop-tx-preserved c =
     entry_found c.in-Some.tx.now c.in-Some.entry.now c.args.tables.now.transactions.entries turn.1 in
     let more : map entry_of (map deref_pair (c.loop-tx.yielded ++ (c.in-Some.tx, c.in-Some.entry) ∷ [])) ≡ map entry_of (map deref_pair c.loop-tx.yielded) ++ e ∷ [] =
     ap (map entry_of) (map_push deref_pair c.loop-tx.yielded (c.in-Some.tx, c.in-Some.entry)) ∙ map_push entry_of (map deref_pair c.loop-tx.yielded) (c.in-Some.tx.now, c.in-Some.entry.now) in
-    subst (λ done. Begun (history c.args.log.now) (losers_in c.args.tables.now) done (get nat_cmp c.resolve.new.places) (map content c.resolve.new.appended.items)) (sym more)
-    (begun_more (history c.args.log.now) (losers_in c.args.tables.now) (map entry_of (map deref_pair c.loop-tx.yielded)) (get nat_cmp c.loop-tx.places) (get nat_cmp c.resolve.new.places)
-    (map content c.loop-tx.appended.items) (map content c.resolve.new.appended.items) c.next_lsn-end.result (omega (arith, c.next_lsn-end.ensures.next, size_of_list c.args.log.now))
-    e own c.loop-tx.invariant c.in_ok-resolve.ensures.ok)
+    record {
+      begun =
+          subst (λ done. Begun (history c.args.log.now) (losers_in c.args.tables.now) done (get nat_cmp c.resolve.new.places) (map content c.resolve.new.appended.items)) (sym more)
+          (begun_more (history c.args.log.now) (losers_in c.args.tables.now) (map entry_of (map deref_pair c.loop-tx.yielded)) (get nat_cmp c.loop-tx.places) (get nat_cmp c.resolve.new.places)
+          (map content c.loop-tx.appended.items) (map content c.resolve.new.appended.items) c.next_lsn-end.result (omega (arith, c.next_lsn-end.ensures.next, size_of_list c.args.log.now))
+          e own c.loop-tx.invariant.begun c.in_ok-resolve.ensures.ok);
+      spelled = λ counted. c.in_ok-resolve.ensures.spelled (some_tx c.in-Some.tx.now e (losers_in c.args.tables.now) counted own) (c.loop-tx.invariant.spelled counted);
+    }
 
 pub returns-clause-ok : goal.returns-clause-ok
 returns-clause-ok c =
@@ -54,7 +58,7 @@ returns-clause-ok c =
     iter_end deref_pair c.args.tables.now.transactions.entries c.loop-tx.yielded c.into_iter-tx-iterator.result c.loop-tx.tx-iterator c.next.new.self c.next.result gives.0 c.loop-tx.yielded_by c.in-None.is c.next.ensures.steps in
     begun_rolls (history c.args.log.now) (losers_in c.args.tables.now) (get nat_cmp c.loop-tx.places) (map content c.loop-tx.appended.items)
     (distinct 0 (losers_in c.args.tables.now) (rise c.args.tables.now.transactions.entries gives.5))
-    (subst (λ es. Begun (history c.args.log.now) (losers_in c.args.tables.now) (map entry_of es) (get nat_cmp c.loop-tx.places) (map content c.loop-tx.appended.items)) all.0 c.loop-tx.invariant)
+    (subst (λ es. Begun (history c.args.log.now) (losers_in c.args.tables.now) (map entry_of es) (get nat_cmp c.loop-tx.places) (map content c.loop-tx.appended.items)) all.0 c.loop-tx.invariant.begun)
 
 pub returns-clause-ends : goal.returns-clause-ends
-returns-clause-ends c = subst AreEnds (sym c.loop-tx.invariant.ends) (are_ends (filter (meets_nothing (history c.args.log.now)) (map entry_of (map deref_pair c.loop-tx.yielded))))
+returns-clause-ends c = subst AreEnds (sym c.loop-tx.invariant.begun.ends) (are_ends (filter (meets_nothing (history c.args.log.now)) (map entry_of (map deref_pair c.loop-tx.yielded))))

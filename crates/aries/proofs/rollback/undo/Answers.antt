@@ -21,7 +21,7 @@ pub returns-in_err-places-clause-lawful : goal.returns-in_err-places-clause-lawf
 returns-in_err-places-clause-lawful c = λ store lawful are_true len.
     let p = err_from_is_err_and c.from_residual.result c.from_residual.ensures.1 in
     rw (p.1, p.2)
-    (memory_alone c.args.log.now store c.args.tables.now lawful are_true c.in_err-places.ensures.ordered (length c.args.pages.items) c.in_err-places.field-0.0 len
+    (memory_alone c.args.log.now store c.args.tables.now lawful are_true (length c.args.pages.items) c.in_err-places.field-0.0 len
     (c.in_err-places.ensures.fault (length c.args.pages.items)))
 
 pub undo_all-requires : goal.undo_all-requires
@@ -31,7 +31,7 @@ pub returns-in_err-undo_all-clause-lawful : goal.returns-in_err-undo_all-clause-
 returns-in_err-undo_all-clause-lawful c = λ store lawful are_true len.
     let p = err_from_is_err_and c.from_residual-in_err-undo_all.result c.from_residual-in_err-undo_all.ensures.1 in
     rw (p.1, p.2)
-    (memory_alone c.args.log.now store c.args.tables.now lawful are_true c.in_ok-places.ensures.ordered (length c.deref_mut.result.now) c.in_err-undo_all.field-0.0 (ap length c.deref_mut.ensures.value ∙ len)
+    (memory_alone c.args.log.now store c.args.tables.now lawful are_true (length c.deref_mut.result.now) c.in_err-undo_all.field-0.0 (ap length c.deref_mut.ensures.value ∙ len)
     (c.in_err-undo_all.ensures.fault (losers_in c.args.tables.now) c.in_ok-places.ensures.ok))
 
 pub returns-clause-pages : goal.returns-clause-pages
@@ -53,4 +53,4 @@ returns-clause-exist c =
 pub returns-clause-lawful : goal.returns-clause-lawful
 returns-clause-lawful c = λ store lawful are_true len.
     c.in_ok-undo_all.ensures.appended (losers_in c.args.tables.now) c.in_ok-places.ensures.ok
-    ∙ tail_is c.args.log.now store c.args.tables.now lawful are_true c.in_ok-places.ensures.ordered
+    ∙ tail_is c.args.log.now store c.args.tables.now lawful are_true

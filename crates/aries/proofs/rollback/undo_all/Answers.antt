@@ -39,6 +39,7 @@ loop-place-preserved c =
       exist = λ all.
           subst (λ count. All (NamesPages count) (map content c.undo_at.new.appended.items)) c.loop-place.auto.pages
           (done.exist (subst (λ count. All (NamesPages count) (map content c.loop-place.appended.items)) (sym c.loop-place.auto.pages) (c.loop-place.invariant.exist all)));
+      spelled = λ all. done.spelled (c.loop-place.invariant.spelled all);
       pages_are = λ given numbered same. done.pages given numbered (c.loop-place.invariant.pages_are given numbered same);
     }
 

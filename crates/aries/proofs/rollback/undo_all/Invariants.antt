@@ -6,7 +6,7 @@ use Rattle.page.specs.Store.{AreNumbered}
 use Rattle.wal.specs.Records.{TableEntry, history}
 use Rattle.wal.specs.Content.{content}
 use Rattle.wal.specs.Store.{NamesPages}
-use Rattle.aries.specs.Undone.{undone_page}
+use Rattle.aries.specs.Undone.{undone_page, AreSpelled}
 use Rattle.aries.specs.Rollback.{AreUpdates, Rolls}
 use Rattle.aries.proofs.Placed.{height}
 use Rattle.aries.proofs.rollback.undo_all.Given as goal
@@ -17,6 +17,7 @@ invariant-loop-place l =
       updates : AreUpdates (history l.log) (get nat_cmp l.places);
       rolls : (losers : List TableEntry) → Rolls (history l.log) losers (get nat_cmp l.fn.places) (map content l.fn.appended.items) → Rolls (history l.log) losers (get nat_cmp l.places) (map content l.appended.items);
       exist : All (NamesPages (length l.fn.pages)) (map content l.fn.appended.items) → All (NamesPages (length l.fn.pages)) (map content l.appended.items);
+      spelled : AreSpelled l.fn.appended.items → AreSpelled l.appended.items;
       pages_are : (given : List Page) → AreNumbered given → l.fn.pages ≡ map (undone_page (history l.log) (map content l.fn.appended.items)) given
           → l.pages ≡ map (undone_page (history l.log) (map content l.appended.items)) given;
     }

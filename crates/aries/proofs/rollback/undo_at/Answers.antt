@@ -1,4 +1,4 @@
-use Rattle.std.proofs.Common.{◌+◌, length, map, arith}
+use Rattle.std.proofs.Common.{◌+◌, ◌<◌, length, map, subst, arith}
 use Rattle.std.proofs.lemmas.List.{length-map}
 use Rattle.std.proofs.lemmas.Result.{err_from_is_err_and, on_ok_weaker, IfErr-weaker}
 use Rattle.wal.specs.Records.{history}
@@ -58,3 +58,8 @@ returns-clause-fault c =
     (λ e h losers at taken rolls.
     broken_walk (history c.args.log.now) losers at _ (map content c.args.appended.now.items) (length c.args.pages.now) c.args.place c.args.loser taken rolls u c.requires.found c.in_ok-prev.prev done.goes_on e h)
     c.resolve.ensures.fault
+
+pub returns-clause-spelled : goal.returns-clause-spelled
+returns-clause-spelled c =
+    let some : 0 < c.args.loser.tx = subst (λ t. 0 < t) c.requires.own (c.in_ok-prev.ensures.counted c.requires.update c.requires.found) in
+    on_ok_weaker c.resolve.result (λ more all. more some (c.in_ok-prev.ensures.spelled all)) c.resolve.ensures.spelled

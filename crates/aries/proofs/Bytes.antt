@@ -1,0 +1,84 @@
+-- A recovery of bytes: what was read, what is written, and why it is refused.
+use Rattle.std.proofs.Common.{ℕ, ◌≡◌, ◌+◌, ◌-◌, ◌≤◌, List, [], ◌∷◌, ◌++◌, length, take, Ok, Err, refl, sym, subst, ap, ap₂, ◌∙◌, arith, inl, inr, append_assoc}
+use Rattle.std.proofs.lemmas.List.{take_at, length-append}
+use Rattle.page.specs.Store.{StoreContent}
+use Rattle.page.specs.declared.fault.Fault.{Fault}
+use Rattle.page.specs.declared.fault.Fault.TheVariants.{NoResource, BadWorkers, BadParting}
+use Rattle.wal.specs.Records.{LogRecord}
+use Rattle.wal.specs.Frames.{header, Gives}
+use Rattle.wal.specs.Reads.{Reads, spellings, log_text}
+use Rattle.wal.specs.Spelling.{frame}
+use Rattle.wal.specs.Store.{Lawful}
+use Rattle.redo.specs.Parting.{PartingContent}
+use Rattle.aries.specs.declared.recover.Options.{Options}
+use Rattle.aries.specs.Restart.{AreSettings, InputFault, RestartFault}
+use Rattle.aries.specs.Recovery.{Are, AreLawful, AreInRange, OptionsFault, Cause}
+use Rattle.aries.proofs.Causes.{settings_hold}
+
+-- OPTIONS
+pub options_hold : (options : Options) (e : Fault) → AreInRange options → OptionsFault options e → ⊥
+options_hold options BadWorkers range h = h range.workers
+options_hold options BadParting range h = h.1 range.parts
+options_hold options e range h = absurd h
+
+pub options_cause : (log store : List ℕ) (options : Options) (e : Fault) → OptionsFault options e → Cause log store options e
+options_cause log store options BadWorkers h = h
+options_cause log store options BadParting h = h
+options_cause log store options e h = absurd h
+
+-- WHAT WAS READ
+-- the log without its torn tail
+pub kept_text : (bytes : List ℕ) (records : List LogRecord) (torn : ℕ) → Reads bytes records torn → take (length bytes - torn) bytes ≡ log_text records
+kept_text bytes records torn reads =
+    let len : length bytes ≡ length (log_text records) + torn = ap length reads.text ∙ omega (arith, length-append (log_text records) reads.tail, reads.torn_count) in
+    let front : length bytes - torn ≡ length (log_text records) = omega (arith, len) in
+    ap₂ (λ n (b : List ℕ). take n b) front reads.text ∙ take_at (log_text records) reads.tail (length (log_text records)) refl
+
+pub torn_within : (bytes : List ℕ) (records : List LogRecord) (torn : ℕ) → Reads bytes records torn → torn ≤ length bytes
+torn_within bytes records torn reads = omega (arith, ap length reads.text, length-append (log_text records) reads.tail, reads.torn_count)
+
+-- what was read of lawful bytes is lawful
+pub is_lawful : {log store : List ℕ} (bytes : AreLawful log store) (records : List LogRecord) (before : StoreContent) → records ≡ bytes.are.records → before ≡ bytes.are.before → Lawful records before
+is_lawful bytes records before e f = subst (λ rs. Lawful rs before) (sym e) (subst (Lawful bytes.are.records) (sym f) bytes.lawful)
+
+-- what stands there is read, unless memory is refused
+pub read_alone : {X Y : Type 0} (view : X → Y) (e : Fault) (y : Y) → Gives view (Err e) (Ok y) → e ≡ NoResource
+read_alone view NoResource y gives = refl
+read_alone view e y gives = absurd (cc)
+
+pub read_same : {X : Type 0} (x y : X) → Gives (λ (z : X). z) (Ok x) (Ok y) → x ≡ y
+read_same x y gives = cc
+
+-- WHAT IS WRITTEN
+spellings-append : (lsn : ℕ) (xs ys : List LogRecord) → spellings lsn (xs ++ ys) ≡ spellings lsn xs ++ spellings (lsn + length xs) ys
+spellings-append lsn [] ys = ap (λ n. spellings n ys) (omega arith)
+spellings-append lsn (x ∷ xs) ys =
+    ap (λ (rest : List ℕ). frame x lsn ++ rest) (spellings-append (lsn + 1) xs ys ∙ ap (λ n. spellings (lsn + 1) xs ++ spellings n ys) (omega arith))
+    ∙ sym (append_assoc (frame x lsn) (spellings (lsn + 1) xs) (spellings (lsn + length (x ∷ xs)) ys))
+
+-- one frame more
+pub spellings_push : (old out new : List ℕ) (lsn next : ℕ) (xs : List LogRecord) (x : LogRecord) → next ≡ lsn + length xs → out ≡ old ++ spellings lsn xs → new ≡ out ++ frame x next → new ≡ old ++ spellings lsn (xs ++ x ∷ [])
+spellings_push old out new lsn next xs x at before after =
+    after ∙ ap₂ (λ (o : List ℕ) n. o ++ frame x n) before at
+    ∙ append_assoc old (spellings lsn xs) (frame x (lsn + length xs))
+    ∙ ap (λ (s : List ℕ). old ++ s) (sym (spellings-append lsn xs (x ∷ []) ∙ ap (λ (s : List ℕ). spellings lsn xs ++ s) (simp append_assoc)))
+
+-- the text of a log, and behind it the frames of more records
+pub text_extended : (records more : List LogRecord) (kept text : List ℕ) (lsn : ℕ) → kept ≡ log_text records → lsn ≡ length records + 1 → text ≡ kept ++ spellings lsn more → text ≡ log_text (records ++ more)
+text_extended records more kept text lsn front at is =
+    is ∙ ap₂ (λ (k : List ℕ) n. k ++ spellings n more) front (at ∙ omega arith)
+    ∙ append_assoc header (spellings 1 records) (spellings (1 + length records) more)
+    ∙ ap (λ (s : List ℕ). header ++ s) (sym (spellings-append 1 records more))
+
+-- WHY IT IS REFUSED
+-- a refusal of the restart is one of the recovery
+pub restart_cause : (log store : List ℕ) (options : Options) (parting : PartingContent) (e : Fault) → AreInRange options → (are : Are log store) → AreSettings (length are.before.pages) parting options.workers
+    → RestartFault are.records are.before parting options.workers e → Cause log store options e
+restart_cause log store options parting e range are fit (inl h) = absurd (settings_hold (length are.before.pages) parting options.workers e fit h)
+restart_cause log store options parting e range are fit (inr h) = by_input e h
+  where
+    by_input : (e : Fault) → InputFault are.records are.before e → Cause log store options e
+    by_input NoResource h = tt
+    by_input BadWorkers h = absurd h.1.holds
+    by_input BadParting h = absurd h.1.holds
+    by_input e h = (range, inr (inr (are, h)))
