@@ -1,5 +1,6 @@
 -- A restart of a lawful log and its store.
-use Rattle.std.proofs.Common.{ℕ, suc, ◌≡◌, ◌<◌, ◌≤◌, true, cond, ◌&&◌, eqb, ltb, List, [], ◌∷◌, ◌++◌, Some, None, length, get_or, map, refl, sym, ap, ap₂, ◌∙◌, subst, inl, inr, arith}
+use Rattle.std.proofs.Common.{ℕ, suc, ◌≡◌, ◌<◌, ◌≤◌, true, cond, ◌&&◌, eqb, ltb, List, [], ◌∷◌, ◌++◌, Some, None, Result, Ok, Err, length, get_or, map, refl, sym, ap, ap₂, ◌∙◌, subst, inl, inr, arith}
+use Rattle.std.specs.Prelude.{IfOk, MatchResult}
 use Rattle.std.specs.List.{range_with_len}
 use Rattle.std.proofs.lemmas.Bool.{cases_Bool, cond_both, lt-ltb}
 use Rattle.std.proofs.lemmas.List.{length-map, get_or-map, ext_get_or}
@@ -114,7 +115,7 @@ module _ (records : List LogRecord) (before : StoreContent) (lawful : Lawful rec
         let s = store_settles records before numbered lawful in
         record { lawful = s.lawful; no_tail = (tail_settles records lawful.log).no_tail; same_store = s.same_store }
 
-    pub restores : (redone : Redone) (x : Outcome) → redone.pages.items ≡ map (redone_page records tables) before.pages → RollsBack records before.master tables redone x → appended_by x ≡ tail_of records → Restores records before x
+    restores : (redone : Redone) (x : Outcome) → redone.pages.items ≡ map (redone_page records tables) before.pages → RollsBack records before.master tables redone x → appended_by x ≡ tail_of records → Restores records before x
     restores redone x redone_is back tail =
         let store : x.store ≡ store_out records before =
         ap₂ (λ m (ps : List Page). record { master = m; pages = ps }) back.master_kept
@@ -127,6 +128,11 @@ module _ (records : List LogRecord) (before : StoreContent) (lawful : Lawful rec
           ended = back.ended ∙ ap ends_in tail ∙ losers_end records lawful.log;
           compensated = back.compensated ∙ ap clrs_in tail;
         }
+
+    pub outcome_restores : (redone : Redone) (r : Result Outcome Fault) → redone.pages.items ≡ map (redone_page records tables) before.pages → IfOk r (RollsBack records before.master tables redone)
+        → MatchResult r (λ x. appended_by x ≡ tail_of records) (λ e. e ≡ NoResource) → MatchResult r (Restores records before) (λ e. e ≡ NoResource)
+    outcome_restores redone (Ok x) redone_is back tail = restores redone x redone_is back tail
+    outcome_restores redone (Err e) redone_is back alone = alone
 
   -- WHAT DOES NOT COME
   none_ahead : (number : ℕ) → IsFirstAhead records before.pages number → ⊥
@@ -172,12 +178,12 @@ module _ (records : List LogRecord) (before : StoreContent) (lawful : Lawful rec
   ahead_alone (PageAheadOfLog number) cause = absurd (none_ahead number cause)
   ahead_alone e cause = absurd cause
 
--- redone pages stand at their numbers
-pub redone_numbered : (records : List LogRecord) (tables : Tables) (images : List Page) → AreNumbered images → AreNumbered (map (redone_page records tables) images)
-redone_numbered records tables images numbered =
-    let len = length-map images (redone_page records tables) in
+-- pages of which each is changed, but for its number, stand at their numbers
+pub changed_numbered : (change : Page → Page) (pages : List Page) → ((page : Page) → (change page).number ≡ page.number) → AreNumbered pages → AreNumbered (map change pages)
+changed_numbered change pages same numbered =
+    let len = length-map pages change in
     record {
       some = omega (arith, len, numbered.some);
       few = omega (arith, len, numbered.few);
-      at_place = λ i d lt. (let below : i < length images = omega (arith, len) in ap (λ (p : Page). p.number) (get_or-map (redone_page records tables) images i d d below) ∙ numbered.at_place i d below);
+      at_place = λ i d lt. (let below : i < length pages = omega (arith, len) in ap (λ (p : Page). p.number) (get_or-map change pages i d d below) ∙ (same (get_or pages i d) ∙ numbered.at_place i d below));
     }
