@@ -1,6 +1,7 @@
 -- A recovery of bytes: what was read, what is written, and why it is refused.
-use Rattle.std.proofs.Common.{ℕ, ◌≡◌, ◌+◌, ◌-◌, ◌≤◌, List, [], ◌∷◌, ◌++◌, length, take, Ok, Err, refl, sym, subst, ap, ap₂, ◌∙◌, arith, inl, inr, append_assoc}
+use Rattle.std.proofs.Common.{ℕ, ◌≡◌, ◌+◌, ◌-◌, ◌≤◌, List, [], ◌∷◌, ◌++◌, length, take, Ok, Err, refl, sym, subst, ap, ap₂, ◌∙◌, arith, inl, inr, append_assoc, append-nil, ◌%◌}
 use Rattle.std.proofs.lemmas.List.{take_at, length-append}
+use Rattle.std.proofs.lemmas.List.FromFn.{length-map-range_with_len}
 use Rattle.page.specs.Store.{StoreContent}
 use Rattle.page.specs.declared.fault.Fault.{Fault}
 use Rattle.page.specs.declared.fault.Fault.TheVariants.{NoResource, BadWorkers, BadParting}
@@ -9,7 +10,7 @@ use Rattle.wal.specs.Frames.{header, Gives}
 use Rattle.wal.specs.Reads.{Reads, spellings, log_text}
 use Rattle.wal.specs.Spelling.{frame}
 use Rattle.wal.specs.Store.{Lawful}
-use Rattle.redo.specs.Parting.{PartingContent}
+use Rattle.redo.specs.Parting.{PartingContent, by_number}
 use Rattle.aries.specs.declared.recover.Options.{Options}
 use Rattle.aries.specs.Restart.{AreSettings, InputFault, RestartFault}
 use Rattle.aries.specs.Recovery.{Are, AreLawful, AreInRange, OptionsFault, Cause}
@@ -61,7 +62,7 @@ pub spellings_push : (old out new : List ℕ) (lsn next : ℕ) (xs : List LogRec
 spellings_push old out new lsn next xs x at before after =
     after ∙ ap₂ (λ (o : List ℕ) n. o ++ frame x n) before at
     ∙ append_assoc old (spellings lsn xs) (frame x (lsn + length xs))
-    ∙ ap (λ (s : List ℕ). old ++ s) (sym (spellings-append lsn xs (x ∷ []) ∙ ap (λ (s : List ℕ). spellings lsn xs ++ s) (simp append_assoc)))
+    ∙ ap (λ (s : List ℕ). old ++ s) (sym (spellings-append lsn xs (x ∷ []) ∙ ap (λ (s : List ℕ). spellings lsn xs ++ s) (append-nil (frame x (lsn + length xs)))))
 
 -- the text of a log, and behind it the frames of more records
 pub text_extended : (records more : List LogRecord) (kept text : List ℕ) (lsn : ℕ) → kept ≡ log_text records → lsn ≡ length records + 1 → text ≡ kept ++ spellings lsn more → text ≡ log_text (records ++ more)
@@ -69,6 +70,10 @@ text_extended records more kept text lsn front at is =
     is ∙ ap₂ (λ (k : List ℕ) n. k ++ spellings n more) front (at ∙ omega arith)
     ∙ append_assoc header (spellings 1 records) (spellings (1 + length records) more)
     ∙ ap (λ (s : List ℕ). header ++ s) (sym (spellings-append 1 records more))
+
+-- the pages of a parting by number
+pub dealt_by_number : (pages parts : ℕ) (part_of : List ℕ) → part_of ≡ by_number pages parts → length part_of ≡ pages
+dealt_by_number pages parts part_of is = ap length is ∙ length-map-range_with_len (λ page. page % parts) 0 pages
 
 -- WHY IT IS REFUSED
 -- a refusal of the restart is one of the recovery

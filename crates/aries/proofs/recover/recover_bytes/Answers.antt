@@ -1,0 +1,79 @@
+use Rattle.std.proofs.Common.{◌≡◌, ◌++◌, List, length, map, ap, ◌∙◌, subst}
+use Rattle.std.proofs.lemmas.Result.{err_from_is_err_and}
+use Rattle.page.specs.Store.{StoreContent}
+use Rattle.page.specs.File.{store_text}
+use Rattle.wal.specs.Records.{LogRecord}
+use Rattle.wal.specs.Content.{content}
+use Rattle.wal.specs.Tail.{tail_of}
+use Rattle.wal.specs.Reads.{log_text}
+use Rattle.wal.specs.Store.{Lawful, store_out}
+use Rattle.aries.specs.declared.report.Report.{Report}
+use Rattle.aries.specs.Restart.{AreSettings, IsPartingOf, IsSettled}
+use Rattle.aries.specs.Recovery.{Are, Recovered}
+use Rattle.aries.proofs.Bytes.{restart_cause, is_lawful, read_alone, read_same, dealt_by_number}
+use Rattle.aries.proofs.recover.recover_bytes.Goals as goal
+
+pub returns-in_err-records-clause-lawful : goal.returns-in_err-records-clause-lawful
+returns-in_err-records-clause-lawful g c = λ range bytes.
+    let exit = err_from_is_err_and c.from_residual-in_err-records.result c.from_residual-in_err-records.ensures.1 in
+    rw (exit.1, exit.2)
+    (read_alone (λ x. x) c.in_err-records.field-0.0 (bytes.are.records, bytes.are.torn) (c.in_err-records.ensures.only bytes.are.records bytes.are.torn bytes.are.reads))
+
+pub returns-in_err-outcome-clause-lawful : goal.returns-in_err-outcome-clause-lawful
+returns-in_err-outcome-clause-lawful g c = λ range bytes.
+    let exit = err_from_is_err_and c.from_residual-in_err-outcome.result c.from_residual-in_err-outcome.ensures.1 in
+    let records = c.in_ok-records.records in
+    let before = c.in_ok-before.before in
+    let read = read_same (records, c.in_ok-records.torn) (bytes.are.records, bytes.are.torn) (c.in_ok-records.ensures.only bytes.are.records bytes.are.torn bytes.are.reads) in
+    let same : before ≡ bytes.are.before = c.in_ok-before.ensures.only bytes.are.before bytes.are.spells in
+    let dealt : IsPartingOf (length before.pages) c.in_ok-parting.parting =
+    dealt_by_number c.len.result c.args.options.now.parts c.in_ok-parting.parting.part_of c.in_ok-parting.ensures.ok.1
+    ∙ (c.len.ensures ∙ (c.before-2.inside.pages.ok.0 ∙ ap (λ (s : StoreContent). length s.pages) c.before-2.view_is)) in
+    rw (exit.1, exit.2) (c.in_err-outcome.ensures.lawful (is_lawful bytes records before (ap (λ x. x.0) read) same) (record { fit = range.workers; dealt = dealt }))
+
+pub returns-in_err-outcome-clause-cause : goal.returns-in_err-outcome-clause-cause
+returns-in_err-outcome-clause-cause g c =
+    let exit = err_from_is_err_and c.from_residual-in_err-outcome.result c.from_residual-in_err-outcome.ensures.1 in
+    let before = c.in_ok-before.before in
+    let range = c.in_ok-check_options.ensures.ok in
+    let are : Are c.args.log.now c.args.store.now = record { records = c.in_ok-records.records; torn = c.in_ok-records.torn; before = before; reads = c.in_ok-records.ensures.found; spells = c.in_ok-before.ensures.found } in
+    let dealt : IsPartingOf (length before.pages) c.in_ok-parting.parting =
+    dealt_by_number c.len.result c.args.options.now.parts c.in_ok-parting.parting.part_of c.in_ok-parting.ensures.ok.1
+    ∙ (c.len.ensures ∙ (c.before-2.inside.pages.ok.0 ∙ ap (λ (s : StoreContent). length s.pages) c.before-2.view_is)) in
+    rw (exit.1, exit.2)
+    (restart_cause c.args.log.now c.args.store.now c.args.options.now c.in_ok-parting.parting c.in_err-outcome.field-0.0 range are (record { fit = range.workers; dealt = dealt }) c.in_err-outcome.ensures.fault)
+
+pub returns-clause-answer : goal.returns-clause-answer
+returns-clause-answer g c =
+    let records = c.in_ok-records.records in
+    record {
+      are = record { records = records; torn = c.in_ok-records.torn; before = c.in_ok-before.before; reads = c.in_ok-records.ensures.found; spells = c.in_ok-before.ensures.found };
+      outcome = c.in_ok-outcome.outcome;
+      restarts = c.in_ok-outcome.ensures.restarts;
+      log_is = c.in_ok-new_log.ensures.text ∙ ap (λ rs. log_text (records ++ map content rs)) c.deref.ensures.value;
+      store_is = c.in_ok-new_store.ensures.ok;
+      report_is = c.report_of.ensures;
+    }
+
+pub returns-clause-lawful : goal.returns-clause-lawful
+returns-clause-lawful g c = λ range bytes.
+    let records = c.in_ok-records.records in
+    let before = c.in_ok-before.before in
+    let outcome = c.in_ok-outcome.outcome in
+    let read = read_same (records, c.in_ok-records.torn) (bytes.are.records, bytes.are.torn) (c.in_ok-records.ensures.only bytes.are.records bytes.are.torn bytes.are.reads) in
+    let same : before ≡ bytes.are.before = c.in_ok-before.ensures.only bytes.are.before bytes.are.spells in
+    let dealt : IsPartingOf (length before.pages) c.in_ok-parting.parting =
+    dealt_by_number c.len.result c.args.options.now.parts c.in_ok-parting.parting.part_of c.in_ok-parting.ensures.ok.1
+    ∙ (c.len.ensures ∙ (c.before-2.inside.pages.ok.0 ∙ ap (λ (s : StoreContent). length s.pages) c.before-2.view_is)) in
+    let restored = c.in_ok-outcome.ensures.lawful (is_lawful bytes records before (ap (λ x. x.0) read) same) (record { fit = range.workers; dealt = dealt }) in
+    let here : Recovered records before c.in_ok-new_log.new_log.items c.in_ok-new_store.new_store.items c.report_of.result =
+    record {
+      log_is = c.in_ok-new_log.ensures.text ∙ (ap (λ rs. log_text (records ++ map content rs)) c.deref.ensures.value ∙ ap (λ (rs : List LogRecord). log_text (records ++ rs)) restored.appended);
+      store_is = c.in_ok-new_store.ensures.ok ∙ ap store_text restored.store;
+      settled = subst (λ s. IsSettled (records ++ tail_of records) s) restored.store (subst (λ (rs : List LogRecord). IsSettled (records ++ rs) outcome.store) restored.appended restored.settled);
+      losers_are = ap (λ (r : Report). r.losers) c.report_of.ensures ∙ restored.losers;
+      ended_are = ap (λ (r : Report). r.ended) c.report_of.ensures ∙ restored.ended;
+      compensated_are = ap (λ (r : Report). r.compensated) c.report_of.ensures ∙ restored.compensated;
+    } in
+    subst (λ rs. Recovered rs bytes.are.before c.in_ok-new_log.new_log.items c.in_ok-new_store.new_store.items c.report_of.result) (ap (λ x. x.0) read)
+    (subst (λ b. Recovered records b c.in_ok-new_log.new_log.items c.in_ok-new_store.new_store.items c.report_of.result) same here)
