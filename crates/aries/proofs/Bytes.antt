@@ -10,6 +10,7 @@ use Rattle.wal.specs.Frames.{header, Gives}
 use Rattle.wal.specs.Reads.{Reads, spellings, log_text}
 use Rattle.wal.specs.Spelling.{frame}
 use Rattle.wal.specs.Store.{Lawful}
+use Rattle.wal.proofs.CutBytes.{spellings-append}
 use Rattle.redo.specs.Parting.{PartingContent, by_number}
 use Rattle.aries.specs.declared.recover.Options.{Options}
 use Rattle.aries.specs.Restart.{AreSettings, InputFault, RestartFault}
@@ -51,12 +52,6 @@ pub read_same : {X : Type 0} (x y : X) → Gives (λ (z : X). z) (Ok x) (Ok y) �
 read_same x y gives = cc
 
 -- WHAT IS WRITTEN
-spellings-append : (lsn : ℕ) (xs ys : List LogRecord) → spellings lsn (xs ++ ys) ≡ spellings lsn xs ++ spellings (lsn + length xs) ys
-spellings-append lsn [] ys = ap (λ n. spellings n ys) (omega arith)
-spellings-append lsn (x ∷ xs) ys =
-    ap (λ (rest : List ℕ). frame x lsn ++ rest) (spellings-append (lsn + 1) xs ys ∙ ap (λ n. spellings (lsn + 1) xs ++ spellings n ys) (omega arith))
-    ∙ sym (append_assoc (frame x lsn) (spellings (lsn + 1) xs) (spellings (lsn + length (x ∷ xs)) ys))
-
 -- one frame more
 pub spellings_push : (old out new : List ℕ) (lsn next : ℕ) (xs : List LogRecord) (x : LogRecord) → next ≡ lsn + length xs → out ≡ old ++ spellings lsn xs → new ≡ out ++ frame x next → new ≡ old ++ spellings lsn (xs ++ x ∷ [])
 spellings_push old out new lsn next xs x at before after =

@@ -1,7 +1,7 @@
 -- The numbers of the faults (own).
 use Rattle.std.specs.Prelude.{ℕ}
 use Rattle.page.specs.declared.fault.Fault.{Fault}
-use Rattle.page.specs.declared.fault.Fault.TheVariants.{NoResource, ReadLog, ReadStore, WriteLog, WriteStore, BadLogHeader, BadLength, BadRecord, BadLsn, BadStoreHeader, StoreSize, BadPage, BadMaster, NoSuchPage, PageAheadOfLog, BrokenChain, BadParting, BadWorkers, NotYet, Chain, AfterFinish, WrongCompensation, BeforeImage, DirtyWrite, EndTooEarly, PageImage, TransactionTable, DirtyTable}
+use Rattle.page.specs.declared.fault.Fault.TheVariants.{NoResource, ReadLog, ReadStore, WriteLog, WriteStore, BadLogHeader, BadLength, BadRecord, BadLsn, BadStoreHeader, StoreSize, BadPage, BadMaster, NoSuchPage, PageAheadOfLog, BrokenChain, BadParting, BadWorkers, Chain, AfterFinish, WrongCompensation, BeforeImage, DirtyWrite, EndTooEarly, PageImage, TransactionTable, DirtyTable}
 
 abbrev pub number_of : Fault → ℕ
 number_of NoResource = 1
@@ -22,7 +22,6 @@ number_of (PageAheadOfLog number) = 15
 number_of (BrokenChain lsn) = 16
 number_of BadParting = 17
 number_of BadWorkers = 18
-number_of NotYet = 19
 number_of (Chain lsn) = 20
 number_of (AfterFinish lsn) = 21
 number_of (WrongCompensation lsn) = 22

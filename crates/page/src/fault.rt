@@ -66,9 +66,6 @@ pub enum Fault {
     /// Workers outside 1 to 64.
     #[error("bad worker count")]
     BadWorkers,
-    /// What the product does not treat yet.
-    #[error("not yet")]
-    NotYet,
     /// The PrevLSN of the record at this LSN is not its transaction's last record.
     #[error("wrong previous LSN at LSN {0}")]
     Chain(u64),
@@ -100,7 +97,7 @@ pub enum Fault {
 }
 
 impl Fault {
-    /// Its number, 1 to 28, as the program prints it.
+    /// Its number, 1 to 28 without 19, as the program prints it.
     pub fn number(self) -> u8
         ensures { result ≡ number_of self }
     {
@@ -123,7 +120,6 @@ impl Fault {
             Fault::BrokenChain(_) => 16,
             Fault::BadParting => 17,
             Fault::BadWorkers => 18,
-            Fault::NotYet => 19,
             Fault::Chain(_) => 20,
             Fault::AfterFinish(_) => 21,
             Fault::WrongCompensation(_) => 22,

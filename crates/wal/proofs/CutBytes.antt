@@ -59,7 +59,7 @@ as_many lsn (x ∷ xs) (y ∷ ys) more torn fits_x fits_y few t e =
     (sym (append_assoc (frame y lsn) (spellings (lsn + 1) ys) torn) ∙ e ∙ append_assoc (frame x lsn) (spellings (lsn + 1) xs) more) in
     omega (arith, as_many (lsn + 1) xs ys more torn fits_x.1 fits_y.1 (omega (arith, few)) t both.1)
 
-spellings-append : (lsn : ℕ) (xs ys : List LogRecord) → spellings lsn (xs ++ ys) ≡ spellings lsn xs ++ spellings (lsn + length xs) ys
+pub spellings-append : (lsn : ℕ) (xs ys : List LogRecord) → spellings lsn (xs ++ ys) ≡ spellings lsn xs ++ spellings (lsn + length xs) ys
 spellings-append lsn [] ys = ap (λ n. spellings n ys) (omega arith)
 spellings-append lsn (x ∷ xs) ys =
     ap (λ (rest : List ℕ). frame x lsn ++ rest) (spellings-append (lsn + 1) xs ys ∙ ap (λ n. spellings (lsn + 1) xs ++ spellings n ys) (omega arith))
