@@ -24,6 +24,8 @@ pub use rollback::undo;
 #[cfg(test)]
 mod gate_tests;
 #[cfg(test)]
+mod restart_tests;
+#[cfg(test)]
 mod rows;
 #[cfg(test)]
 mod tests;
