@@ -1,5 +1,5 @@
-//! Restarts that were interrupted: a log cut short at each byte, and a page that was written out on the
-//! way.
+//! Restarts that were interrupted: the log that a restart makes, cut short at each byte, and a page that
+//! was written out on the way.
 
 use crate::program::{audit, recover, remove_new_files};
 use crate::verdict::{Verdict, of_new_files};
@@ -64,10 +64,10 @@ fn of_sizes<R: Files + AllocGlobal + Threads + Sync>(
     Ok(Verdict::Same)
 }
 
-/// Whether all cuts of a row lead to its files.
+/// Whether all cuts of the row's new log lead to its files.
 pub fn of_cuts<R: Files + AllocGlobal + Threads + Sync>(rt: &R, cuts: &Cuts) -> Result<Verdict> {
     let Cuts { row, page, .. } = cuts;
-    let log = fs::read(rt, format!(in rt.alloc(); "{row}/log")?)?;
+    let log = fs::read(rt, format!(in rt.alloc(); "{row}/out-log")?)?;
     let store = format!(in rt.alloc(); "{row}/store-{page}")?;
     let verdict = of_sizes(rt, cuts, &log, store.as_str())?;
     fs::remove_file(rt, CUT_LOG)?;
