@@ -3,26 +3,31 @@
 
 usage: time_undo.py PROGRAM
 
-Each line has the seconds of `aries recover` on a log with losers and on the same log where they commit, each the least of
-three runs, their difference, and the difference for each update undone.
+Each line has the seconds of processor time, of all threads, that `aries recover` takes on a log with losers and on the same
+log where they commit, each the least of three runs; their difference; and the difference for each update undone.
 """
 import os
+import resource
 import subprocess
 import sys
 import tempfile
-import time
 
 MAKER = os.path.join(os.path.dirname(os.path.abspath(__file__)), "make_undo_log.py")
 RECORDS, PAGES, UPDATES, SEED = 1_000_000, 4_096, 10, 7
+
+
+def spent():
+    """The seconds of processor time of all processes that have ended."""
+    return resource.getrusage(resource.RUSAGE_CHILDREN).ru_utime
 
 
 def seconds_of(program, folder):
     """The seconds of one recovery of the folder's files, and the count of CLRs that it reports."""
     new = [os.path.join(folder, name) for name in ("new-log", "new-store")]
     files = ["--log", folder + "/log", "--store", folder + "/store", "--out-log", new[0], "--out-store", new[1]]
-    begin = time.monotonic()
+    begin = spent()
     done = subprocess.run([program, "recover", *files], capture_output=True, check=True, text=True)
-    seconds = time.monotonic() - begin
+    seconds = spent() - begin
     for path in new:
         os.remove(path)
     return seconds, int(dict(line.split() for line in done.stdout.splitlines())["compensated"])
