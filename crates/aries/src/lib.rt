@@ -24,6 +24,10 @@ pub use rollback::undo;
 #[cfg(test)]
 mod gate_tests;
 #[cfg(test)]
+mod restart_tests;
+#[cfg(test)]
+mod rows;
+#[cfg(test)]
 mod tests;
 #[cfg(test)]
 mod undo_tests;

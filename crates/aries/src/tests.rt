@@ -1,13 +1,14 @@
 //! What no clause says: that calls succeed, what the program prints, its statuses and its files.
 
+use crate::rows::{Row, checkpoint_loser, one_loser, page_with, store_of, two_losers};
 use crate::{Options, recover_bytes, run};
-use page::Fault;
+use page::{Fault, Page};
 use redo::OpenGate;
 use std::alloc::Global;
 use std::rt::Files;
 use std::test::Fail;
 use std::thread::Threads;
-use std::{fs, io};
+use std::{fs, io, mem};
 
 /// One update of slot 0 of page 0 to "a", and its commit.
 const ONE_COMMIT: &[u8] =
@@ -63,6 +64,106 @@ fn recovers_one_commit(rt: HostRuntime) -> Result<(), Fail> {
         ),
         (2, 1, 1, 1)
     );
+    Ok(())
+}
+
+/// Two workers, two parts.
+const TWO: Options = Options {
+    workers: 2,
+    parts: 2,
+};
+
+#[test]
+fn restarts_what_a_restart_wrote(rt: HostRuntime) -> Result<(), Fail> {
+    let alloc = rt.alloc();
+    for (row, master, lsn, records) in [
+        (one_loser(alloc)?, 0, 2, 3),
+        (two_losers(alloc)?, 0, 7, 8),
+        (checkpoint_loser(alloc)?, 2, 4, 5),
+    ] {
+        let Row { given, made } = row;
+        let store = store_of(alloc, master, &Page::empty(0))?;
+        let after = store_of(alloc, master, &page_with(lsn, None, None))?;
+        let (log, store, _) = recover_bytes(&rt, alloc, &given.bytes, &store, &TWO, &OpenGate)?;
+        assert_eq!(rt; log.as_slice(), made.bytes.as_slice());
+        assert_eq!(rt; store.as_slice(), after.as_slice());
+        let (log, store, report) = recover_bytes(&rt, alloc, &log, &store, &TWO, &OpenGate)?;
+        assert_eq!(rt; log.as_slice(), made.bytes.as_slice());
+        assert_eq!(rt; store.as_slice(), after.as_slice());
+        assert_eq!(rt;
+            (report.records, report.redone, report.losers, report.ended),
+            (records, 0, 0, 0)
+        );
+    }
+    Ok(())
+}
+
+/// Whether a restart on these bytes ends as the rules have it: by an answer, or by a fault of theirs,
+/// among which 19 has no place.
+fn ends<R: Threads + Sync>(rt: &R, alloc: Global, log: &[u8], store: &[u8]) -> bool {
+    match recover_bytes(rt, alloc, log, store, &TWO, &OpenGate) {
+        Ok(_) => true,
+        Err(fault) => (6..=18).contains(&fault.number()) && fault.number() != 17,
+    }
+}
+
+/// Changes the bits of a byte that are set in the mask.
+fn flip(bytes: &mut [u8], place: usize, mask: u8) {
+    if let Some(byte) = bytes.get_mut(place) {
+        *byte ^= mask;
+    }
+}
+
+#[test]
+fn ends_on_a_log_with_a_flipped_byte(rt: HostRuntime) -> Result<(), Fail> {
+    let alloc = rt.alloc();
+    let mut log = checkpoint_loser(alloc)?.given.bytes;
+    let store = store_of(alloc, 2, &Page::empty(0))?;
+    for place in 0..log.len() {
+        for mask in [1, 0xff] {
+            flip(&mut log, place, mask);
+            assert!(rt; ends(&rt, alloc, &log, &store), "byte {place} by {mask}");
+            flip(&mut log, place, mask);
+        }
+    }
+    Ok(())
+}
+
+/// Sets a byte, and gives what stood there.
+fn replace(bytes: &mut [u8], place: usize, byte: u8) -> u8 {
+    match bytes.get_mut(place) {
+        Some(old) => mem::replace(old, byte),
+        None => byte,
+    }
+}
+
+#[test]
+fn ends_on_a_log_with_a_byte_set(rt: HostRuntime) -> Result<(), Fail> {
+    let alloc = rt.alloc();
+    let mut log = checkpoint_loser(alloc)?.given.bytes;
+    let store = store_of(alloc, 2, &Page::empty(0))?;
+    for place in 0..log.len() {
+        for byte in [0, 0xff] {
+            let old = replace(&mut log, place, byte);
+            assert!(rt; ends(&rt, alloc, &log, &store), "byte {place} is {byte}");
+            replace(&mut log, place, old);
+        }
+    }
+    Ok(())
+}
+
+#[test]
+fn ends_on_a_store_with_a_byte_set(rt: HostRuntime) -> Result<(), Fail> {
+    let alloc = rt.alloc();
+    let log = checkpoint_loser(alloc)?.given.bytes;
+    let mut store = store_of(alloc, 2, &Page::empty(0))?;
+    for place in 0..store.len() {
+        for byte in [0, 0xff] {
+            let old = replace(&mut store, place, byte);
+            assert!(rt; ends(&rt, alloc, &log, &store), "byte {place} is {byte}");
+            replace(&mut store, place, old);
+        }
+    }
     Ok(())
 }
 

@@ -1,0 +1,75 @@
+//! Restarts that were interrupted: the log that a restart makes, cut short at each byte, and a page that
+//! was written out on the way.
+
+use crate::program::{audit, recover, remove_new_files};
+use crate::verdict::{Verdict, of_new_files};
+use anyhow::{Context, Result};
+use std::fs;
+use std::rt::Files;
+use std::thread::Threads;
+
+/// Where a log that was cut short lies.
+const CUT_LOG: &str = "cut-log";
+
+/// The cuts of a row.
+#[derive(Clone, Copy, Debug)]
+pub struct Cuts<'a> {
+    /// The folder of the row.
+    pub row: &'a str,
+    /// The PageLSN of the page in the store: the store lies in `store-` and this number.
+    pub page: &'a str,
+    /// The size of the shortest log.
+    pub first: usize,
+    /// The size of the longest log.
+    pub last: usize,
+}
+
+/// Whether an audit of the cut log and this store finds them lawful, and a restart on them makes the
+/// row's files.
+fn of_cut<R: Files + AllocGlobal + Threads + Sync>(
+    rt: &R,
+    row: &str,
+    store: &str,
+) -> Result<Verdict> {
+    let audited = audit(rt, CUT_LOG, store);
+    if audited.status != 0 {
+        return Ok(Verdict::AnotherAnswer);
+    }
+    let printed = recover(rt, CUT_LOG, store, "2", "2");
+    let verdict = if printed.status == 0 {
+        of_new_files(rt, row)?
+    } else {
+        Verdict::AnotherAnswer
+    };
+    remove_new_files(rt)?;
+    Ok(verdict)
+}
+
+/// Whether the log, cut to each of the sizes, leads with this store to the row's files; else the verdict
+/// on the shortest cut that does not.
+fn of_sizes<R: Files + AllocGlobal + Threads + Sync>(
+    rt: &R,
+    cuts: &Cuts,
+    log: &[u8],
+    store: &str,
+) -> Result<Verdict> {
+    for size in cuts.first..=cuts.last {
+        let bytes = log.get(..size).context("a cut past the log's end")?;
+        fs::write(rt, CUT_LOG, bytes)?;
+        let verdict = of_cut(rt, cuts.row, store)?;
+        if verdict != Verdict::Same {
+            return Ok(verdict);
+        }
+    }
+    Ok(Verdict::Same)
+}
+
+/// Whether all cuts of the row's new log lead to its files.
+pub fn of_cuts<R: Files + AllocGlobal + Threads + Sync>(rt: &R, cuts: &Cuts) -> Result<Verdict> {
+    let Cuts { row, page, .. } = cuts;
+    let log = fs::read(rt, format!(in rt.alloc(); "{row}/out-log")?)?;
+    let store = format!(in rt.alloc(); "{row}/store-{page}")?;
+    let verdict = of_sizes(rt, cuts, &log, store.as_str())?;
+    fs::remove_file(rt, CUT_LOG)?;
+    Ok(verdict)
+}
