@@ -192,6 +192,14 @@ fn put_row<R: Files + AllocGlobal>(rt: &R, log: &str, store: &str) -> io::Result
     fs::write(rt, store, bytes.as_slice())
 }
 
+/// Removes files that a test has made.
+fn remove<R: Files>(rt: &R, files: &[&str]) -> io::Result<()> {
+    for file in files {
+        fs::remove_file(rt, *file)?;
+    }
+    Ok(())
+}
+
 /// Runs a line of words, and gives its status and what it printed to both streams.
 fn printed<R: Files + AllocGlobal + Threads + Sync>(
     rt: &R,
@@ -220,6 +228,7 @@ fn program_recovers_one_commit(rt: HostRuntime) -> Result<(), Fail> {
         fs::read(&rt, "a-new-store")?.as_slice(),
         store_with_a(rt.alloc())?.as_slice()
     );
+    remove(&rt, &["a-log", "a-store", "a-new-log", "a-new-store"])?;
     Ok(())
 }
 
@@ -240,6 +249,7 @@ fn program_leaves_a_file_that_stands(rt: HostRuntime) -> Result<(), Fail> {
         (1, "fault 5: writing the store failed\n")
     );
     assert_eq!(rt; fs::read_to_string(&rt, "b-both")?.as_str(), "");
+    remove(&rt, &["b-log", "b-store", "b-new-log", "b-both"])?;
     Ok(())
 }
 
@@ -259,6 +269,7 @@ fn program_names_a_missing_file(rt: HostRuntime) -> Result<(), Fail> {
         (1, "fault 3: reading the store failed\n")
     );
     assert!(rt; fs::read(&rt, "c-3").is_err(), "no file was made");
+    remove(&rt, &["c-log", "c-store"])?;
     Ok(())
 }
 
@@ -284,6 +295,7 @@ fn program_explains_wrong_lines(rt: HostRuntime) -> Result<(), Fail> {
         fs::read(&rt, "d-1").is_err() && fs::read(&rt, "d-2").is_err(),
         "no file was made"
     );
+    remove(&rt, &["d-log", "d-store"])?;
     Ok(())
 }
 
@@ -304,5 +316,6 @@ fn program_audits(rt: HostRuntime) -> Result<(), Fail> {
     );
     let (status, _, err) = printed(&rt, "aries audit --log e-store --store e-log")?;
     assert_eq!(rt; (status, err.as_str()), (1, "fault 6: bad log header\n"));
+    remove(&rt, &["e-log", "e-store"])?;
     Ok(())
 }
