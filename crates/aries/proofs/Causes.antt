@@ -1,5 +1,5 @@
 -- Why a restart is refused: the faults of its parts, in its own words.
-use Rattle.std.proofs.Common.{ℕ, ◌≡◌, List, length, refl, inl, inr}
+use Rattle.std.proofs.Common.{ℕ, List, length, inl, inr}
 use Rattle.page.specs.declared.fault.Fault.{Fault}
 use Rattle.page.specs.declared.fault.Fault.TheVariants.{NoResource, BadWorkers, BadParting, BadMaster, PageAheadOfLog, NoSuchPage, BrokenChain}
 use Rattle.page.specs.Store.{StoreContent}

@@ -8,13 +8,13 @@ use Rattle.std.proofs.lemmas.List.FromFn.{length-map-range_with_len, get_or-map-
 use Rattle.std.proofs.lemmas.Option.{slice_get_within, get_or_from_slice_get}
 use Rattle.page.specs.declared.page.Page.{Page}
 use Rattle.page.specs.declared.fault.Fault.{Fault}
-use Rattle.page.specs.declared.fault.Fault.TheVariants.{NoResource, BadWorkers, BadParting, BadMaster, PageAheadOfLog, NoSuchPage}
+use Rattle.page.specs.declared.fault.Fault.TheVariants.{NoResource, BadWorkers, BadMaster, PageAheadOfLog, NoSuchPage}
 use Rattle.page.specs.Store.{StoreContent, AreNumbered}
 use Rattle.wal.specs.Records.{LogRecord, Update, Compensation, Commit, Abort, End, CheckpointBegin, CheckpointEnd, History, start, ◌▸◌, ◌▸▸◌, history, size, record_at}
 use Rattle.wal.specs.Meaning.{State, effects, replay, writes, image_of, is_on, last_on}
 use Rattle.wal.specs.Redo.{held_by, last_where, slots_in}
-use Rattle.wal.specs.Store.{Lawful, NamesPages, true_entry, true_table, store_out, page_out, first_end}
-use Rattle.wal.specs.Tail.{is_clr, is_end, losers_of, tail_of}
+use Rattle.wal.specs.Store.{Lawful, NamesPages, true_entry, store_out, page_out, first_end}
+use Rattle.wal.specs.Tail.{losers_of, tail_of}
 use Rattle.wal.specs.Theorems.{replayed_page}
 use Rattle.wal.proofs.Histories.{size_of_list, each_found, after-append}
 use Rattle.wal.proofs.Lists.{replay_is_winners, tail_settles}
@@ -29,7 +29,7 @@ use Rattle.redo.specs.Changes.{NamesBelow}
 use Rattle.redo.specs.declared.redone.Redone.{Redone}
 use Rattle.redo.specs.Redone.{redone_page, IsFirstMissing, AreWorkers, RedoFault}
 use Rattle.aries.specs.declared.outcome.Outcome.{Outcome}
-use Rattle.aries.specs.Undone.{losers_in, slots_of, undone_page}
+use Rattle.aries.specs.Undone.{losers_in, undone_page}
 use Rattle.aries.proofs.UndonePages.{no_effects, no_last}
 use Rattle.aries.specs.Restart.{IsFirstAhead, AheadFault, appended_by, clrs_in, ends_in, RollsBack, IsSettled, Restores}
 

@@ -125,7 +125,15 @@ pub fn recover_bytes<G: Gate, R: Threads + Sync>(
     let (records, torn) = read_log(alloc, log)?;
     let before = decode_store(alloc, store)?;
     let parting = Parting::by_number(alloc, before.pages.len() as u32, options.parts)?;
-    let outcome = restart(rt, alloc, &records, &before, &parting, options.workers, gate)?;
+    let outcome = restart(
+        rt,
+        alloc,
+        &records,
+        &before,
+        &parting,
+        options.workers,
+        gate,
+    )?;
     let new_log = with_appended(alloc, log, &records, torn, &outcome.appended)?;
     let new_store = encode_store(alloc, &outcome.store)?;
     Ok((new_log, new_store, report_of(&records, torn, &outcome)))

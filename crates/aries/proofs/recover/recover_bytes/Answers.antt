@@ -6,9 +6,8 @@ use Rattle.wal.specs.Records.{LogRecord}
 use Rattle.wal.specs.Content.{content}
 use Rattle.wal.specs.Tail.{tail_of}
 use Rattle.wal.specs.Reads.{log_text}
-use Rattle.wal.specs.Store.{Lawful, store_out}
 use Rattle.aries.specs.declared.report.Report.{Report}
-use Rattle.aries.specs.Restart.{AreSettings, IsPartingOf, IsSettled}
+use Rattle.aries.specs.Restart.{IsPartingOf, IsSettled}
 use Rattle.aries.specs.Recovery.{Are, Recovered}
 use Rattle.aries.proofs.Bytes.{restart_cause, is_lawful, read_alone, read_same, dealt_by_number}
 use Rattle.aries.proofs.recover.recover_bytes.Goals as goal
