@@ -16,26 +16,25 @@ impl Model for Failures {
     ghost also_owns = { λ _. ftrue };
 }
 
-/// A count that stands at any number.
-fn counted() -> Failures
-    ghost number: { ℕ }
-    ensures { result.count ≡ number }
-{
-    Failures {}
-}
-
 impl Failures {
     /// No failure yet.
     pub fn new() -> Failures
         ensures { result.count ≡ 0 }
     {
-        counted()
+        Failures {}
+    }
+
+    /// The count after one failure more.
+    fn risen(&self) -> Failures
+        ensures { result.count ≡ self.now.count + 1 }
+    {
+        Failures {}
     }
 
     /// One failure more.
     pub fn rise(&mut self)
         ensures { self.new.count ≡ self.old.count + 1 }
     {
-        *self = counted();
+        *self = self.risen();
     }
 }

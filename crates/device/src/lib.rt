@@ -3,9 +3,13 @@
 #![tactic(auto)]
 
 mod failures;
+mod file;
 mod memory;
 mod traits;
+mod whole;
 
 pub use failures::Failures;
+pub use file::{FileSink, FileSource};
 pub use memory::{MemorySink, MemorySource};
 pub use traits::{Failed, Sink, Source};
+pub use whole::{ReadFault, read_all, write_all};

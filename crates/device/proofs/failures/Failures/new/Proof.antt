@@ -1,32 +1,30 @@
--- `counted` makes the empty struct, at the number that its clause names. Assumes `Logic`.
+-- `new` makes the empty struct, at the count that its clause names. Assumes `Logic`.
 use Rattle.std.proofs.Common.{[], ◌∷◌, refl}
 use Rattle.std.proofs.raw_atomic.Walks.{proved}
-use contract.Running.{tables}
 use base.Fml.{ftrue}
-use types.Kit.{‵, raw, ◌⊛◌, ◌$◌, ◌∵◌, !, qed, move, keep, split, fjoin, suffices, done}
+use types.Kit.{‵, ◌⊛◌, ◌$◌, ◌∵◌, !, qed, move, keep, split, fjoin, suffices, done}
 use types.Part.{agg}
 use types.Run.{enter, returns, no_more}
 use types.ByLocal.{alloc_all, pass_all, free_all, look_at, sets}
 use denote.Steps.{nothing}
-use denote.Triple.Entry.{on_entry}
 use denote.Triple.Walked.{says, Stays, walk_of, ends_at}
 use Rattle.device.proofs.Empty.{none, none_made}
 use Rattle.device.specs.contracts.failures.Failures as Failures
-use Rattle.device.specs.contracts.failures.counted as f
-use Rattle.device.proofs.failures.counted.Statement.{statement}
-use Rattle.device.proofs.failures.counted.Code as code
+use Rattle.device.specs.contracts.failures.Failures.new as f
+use Rattle.device.proofs.failures.Failures.new.Statement.{statement}
+use Rattle.device.proofs.failures.Failures.new.Code as code
 
 abbrev stayed : Stays f.ended.signature.params f.ended.kept
 stayed = tt
 
-pub counted_spec : {M : Type 1} → statement M
-counted_spec 𝓤 𝓛 𝓜 𝓡 wired =
+pub new_spec : {M : Type 1} → statement M
+new_spec 𝓤 𝓛 𝓜 𝓡 wired =
     let c = f.clauses 𝓛 𝓜.mem 𝓡.returns in let W = walk_of 𝓛 f.ended stayed c in
     proved 𝓛 f.ended stayed c 𝓜 𝓡 tt
     f.Key.name code.function (code.unfolded 𝓤 𝓛.H 𝓜 𝓡 wired)
-    (λ κs. tt) (λ κs. tt) (λ κs qs bounds a number are.
-    let y : W.Ghost = ((κs, qs, bounds, a, tt), number) in
-    let made : Failures.the_row.Denot = record { count = number } in
+    (λ κs. tt) (λ κs. tt) (λ κs qs bounds a n are.
+    let y : W.Ghost = ((κs, qs, bounds, a, tt), n) in
+    let made : Failures.the_row.Denot = record { count = 0 } in
     qed 𝓛 ((‵ ftrue ⊛ ‵ ftrue) ∷ ‵ ftrue ∷ []) ∵ split ! $ keep ! (0 ∷ []) $
     enter ! _ _ _ _ _ $ alloc_all ! (λ l. pass_all ! refl tt $
     sets ! (agg ! (no_more !)) refl (tt, tt) $
