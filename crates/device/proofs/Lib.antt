@@ -1,1 +1,2 @@
 mod Empty
+mod Pieces
