@@ -4,7 +4,13 @@
 
 mod failures;
 mod file;
+#[cfg(test)]
+mod file_tests;
 mod memory;
+#[cfg(test)]
+mod slow;
+#[cfg(test)]
+mod tests;
 mod traits;
 mod whole;
 

@@ -1,6 +1,6 @@
 //! Reading all of a source, writing all to a sink.
 
-ghost use Rattle.std.specs.Prelude.{◌≡◌, ◌+◌, ◌≤◌, ◌<◌, take, drop, length, vec_len, IfErr, IfOk, OnErr, OnOk};
+ghost use Rattle.std.specs.Prelude.{◌≡◌, ◌+◌, ◌≤◌, ◌<◌, take, drop, length, vec_len, IfErr, IfOk, IfSome, OnErr, OnOk};
 ghost use Rattle.std.specs.Io.KnownBytes.{Appends, Consumes, IsAtEnd, Keeps};
 ghost use Rattle.device.specs.Failures.{Counts};
 ghost use Rattle.device.specs.Whole.{failures_of, ReadBeginning, TookBeginning};
@@ -57,7 +57,8 @@ fn read_behind<S: Source>(source: &mut S, bytes: &mut [u8], filled: usize) -> Re
 /// for the bytes was refused; no failure is counted. After either a beginning of the bytes that were
 /// left has been read, and is dropped.
 pub fn read_all<S: Source>(alloc: Global, source: &mut S) -> Result<Vec<u8>, ReadFault>
-    ensures all { IfOk result (λ bytes. Consumes (S.left source.old) (S.left source.new) bytes.items) }
+    ensures all { IfOk result (λ bytes. IfSome (S.left source.old) (λ left. bytes.items ≡ left)) }
+    ensures read { IfOk result (λ bytes. Consumes (S.left source.old) (S.left source.new) bytes.items) }
     ensures end { OnOk result (IsAtEnd (S.left source.new)) }
     ensures no_failure { OnOk result (S.failures source.new ≡ S.failures source.old) }
     ensures cause { IfErr result (λ fault. S.failures source.new ≡ S.failures source.old + failures_of fault) }
