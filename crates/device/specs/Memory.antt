@@ -1,5 +1,5 @@
 -- What the devices over memory tell (own).
-use Rattle.std.specs.Prelude.{ℕ, List, Some}
+use Rattle.std.specs.Prelude.{ℕ, List}
 use Rattle.device.specs.declared.memory.MemorySource.{MemorySource}
 use Rattle.device.specs.declared.memory.MemorySink.{MemorySink}
 

@@ -17,19 +17,16 @@ pub enum ReadFault {
     NoMemory,
 }
 
-/// How many bytes a read is given room for at least.
+/// How many bytes a read is given room for.
 const PIECE: usize = 64 * 1024;
 
-/// Room for one read more at the end of a buffer of which this many bytes are read.
+/// Makes room for one read more in a buffer of which this many bytes are read.
 fn make_room(bytes: &mut Vec<u8>, filled: usize) -> Result<(), AllocError>
     requires { filled ≤ vec_len bytes.old }
     ensures front { take filled bytes.new.items ≡ take filled bytes.old.items }
     ensures within { filled ≤ vec_len bytes.new }
     ensures room { OnOk result (filled < vec_len bytes.new) }
 {
-    if filled < bytes.len() {
-        return Ok(());
-    }
     match filled.checked_add(PIECE) {
         Some(length) => bytes.resize(length, 0),
         None => Err(AllocError),
@@ -50,8 +47,8 @@ fn read_behind<S: Source>(source: &mut S, bytes: &mut [u8], filled: usize) -> Re
     source.read(&mut bytes[filled..])
 }
 
-/// All bytes that a source has left, in reads of 64 KiB and more. It returns for a source without end
-/// too: that finds no memory.
+/// All bytes that a source has left, by reads of up to 64 KiB. A source without end ends in want of
+/// memory.
 ///
 /// `Failed` where the source failed; its count of failures has risen by one. `NoMemory` where memory
 /// for the bytes was refused; no failure is counted. After either a beginning of the bytes that were

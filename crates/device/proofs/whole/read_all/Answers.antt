@@ -1,4 +1,4 @@
-use Rattle.std.proofs.Common.{rules, ◌≡◌, take, drop, ap, ◌∙◌}
+use Rattle.std.proofs.Common.{rules, ◌≡◌, take, ap, ◌∙◌}
 use Rattle.std.proofs.lemmas.List.{with_items_is, places}
 use Rattle.device.proofs.Pieces.{filled_by}
 use Rattle.device.proofs.whole.read_all.Goals as goal

@@ -4,7 +4,6 @@ use Rattle.std.proofs.raw_atomic.Walks.{proved_at}
 use prog.Wp.{WpFn}
 use mir.Val.{Val}
 use contract.Running.{tables}
-use base.Fml.{ftrue}
 use types.Kit.{‵, raw, ◌⊛◌, prop, ◌$◌, ◌∵◌, !, qed, move, keep, drop, split, fsplit, fjoin, feq_l, regoal, suffices, done}
 use types.Part.{agg}
 use types.Run.{enter, returns, no_more}
