@@ -1,0 +1,2 @@
+mod Empty
+mod Pieces

@@ -1,0 +1,27 @@
+-- Bytes that go piece by piece.
+use Rattle.std.proofs.Common.{◌≡◌, ℕ, ◌+◌, ◌-◌, List, ◌++◌, length, take, drop, sym, ap, ◌∙◌, subst, arith, append_assoc, length-append, take-append-drop, take-add}
+use Rattle.std.proofs.lemmas.List.{take_rest}
+use Rattle.std.proofs.Math.Seq.{take-append_seam}
+use Rattle.std.specs.declared.option.Option.{Option}
+use Rattle.std.specs.Io.KnownBytes.{Appends, Consumes, Keeps}
+use Rattle.std.proofs.KnownBytes.{Appends-kept, Consumes-trans}
+use Rattle.device.specs.Whole.{TookBeginning}
+
+-- what is done grows by a piece of the rest, and the rest is what stands behind it
+pub goes_on : (all done rest : List ℕ) (n : ℕ) → all ≡ done ++ rest → all ≡ (done ++ take n rest) ++ take (length rest - n) (drop n rest)
+goes_on all done rest n e =
+    e ∙ ap (λ l. done ++ l) (sym (take-append-drop n rest)) ∙ sym (append_assoc done (take n rest) (drop n rest))
+    ∙ ap (λ l. (done ++ take n rest) ++ l) (sym (take_rest rest n))
+
+-- what a failure leaves taken is a beginning
+pub stays_beginning : (a b c : Option (List ℕ)) (all done rest : List ℕ) → all ≡ done ++ rest → Appends a b done → Keeps b c → TookBeginning a c all
+stays_beginning a b c all done rest e taken kept =
+    let front : take (length done) all ≡ done = ap (take (length done)) e ∙ take-append_seam done rest in
+    (length done, omega (arith, ap length e, length-append done rest), subst (Appends a c) (sym front) (Appends-kept a b c done taken kept))
+
+-- a buffer filled up to f, and then by n bytes more
+pub filled_by : (a b c : Option (List ℕ)) (old room new : List ℕ) (f n : ℕ) → take f room ≡ take f old → take f new ≡ take f room
+    → Consumes a b (take f old) → Consumes b c (take n (drop f new)) → Consumes a c (take (f + n) new)
+filled_by a b c old room new f n kept front before read =
+    subst (Consumes a c) (sym (take-add f n new))
+    (Consumes-trans a b c (take f new) (take n (drop f new)) (subst (Consumes a b) (sym (front ∙ kept)) before) read)

@@ -1,0 +1,4 @@
+pub mod Failures
+pub mod Files
+pub mod Memory
+pub mod Whole

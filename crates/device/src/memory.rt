@@ -1,0 +1,84 @@
+//! Devices over memory. They tell their bytes.
+
+ghost use Rattle.std.specs.Prelude.{◌≡◌, ℕ, Some, []};
+ghost use Rattle.device.specs.Memory.{bytes_left, bytes_taken, failures_met};
+
+use crate::{Failed, Failures, Sink, Source};
+use std::alloc::Global;
+use std::io::Read;
+
+/// A source of lent bytes. It never fails.
+#[derive(Drop)]
+pub struct MemorySource<'a> {
+    rest: &'a [u8],
+}
+
+impl<'a> MemorySource<'a> {
+    /// A source that has all of these bytes left.
+    pub fn new(bytes: &'a [u8]) -> MemorySource<'a>
+        ensures { bytes_left result ≡ bytes.now }
+    {
+        MemorySource { rest: bytes }
+    }
+}
+
+impl<'a> Source for MemorySource<'a> {
+    ghost failures = { λ _. 0 };
+
+    ghost left = { λ source. Some (bytes_left source) };
+
+    fn read(&mut self, buffer: &mut [u8]) -> Result<usize, Failed> {
+        let count = self.rest.len().min(buffer.len());
+        let (front, rest) = self.rest.split_at(count);
+        buffer[..count].copy_from_slice(front);
+        self.rest = rest;
+        Ok(count)
+    }
+}
+
+/// A sink that keeps what it takes. It fails where it is refused the memory for it.
+#[derive(Drop)]
+pub struct MemorySink {
+    bytes: Vec<u8>,
+    failures: Failures,
+}
+
+impl MemorySink {
+    /// A sink that has taken nothing. It takes no memory before its first byte.
+    pub fn new(alloc: Global) -> MemorySink
+        ensures taken { bytes_taken result ≡ [] }
+        ensures failures { failures_met result ≡ 0 }
+    {
+        MemorySink {
+            bytes: Vec::new(alloc),
+            failures: Failures::new(),
+        }
+    }
+
+    /// The bytes taken so far.
+    pub fn bytes(&self) -> &[u8]
+        ensures { result.now ≡ bytes_taken self.now }
+    {
+        &self.bytes
+    }
+}
+
+impl Sink for MemorySink {
+    ghost failures = { failures_met };
+
+    ghost taken = { λ sink. Some (bytes_taken sink) };
+
+    fn write(&mut self, bytes: &[u8]) -> Result<usize, Failed> {
+        match self.bytes.extend_from_slice(bytes) {
+            Ok(()) => Ok(bytes.len()),
+            Err(_) => {
+                self.failures.rise();
+                Err(Failed)
+            }
+        }
+    }
+
+    fn flush(&mut self) -> Result<(), Failed> {
+        Ok(())
+    }
+}

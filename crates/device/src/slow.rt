@@ -1,0 +1,131 @@
+//! Devices over memory that pass a few bytes a call, and fail at a call that is said beforehand.
+
+ghost use Rattle.std.specs.Prelude.{Some};
+
+use crate::{Failed, Failures, Sink, Source};
+use std::alloc::{AllocError, Global};
+
+/// How a device goes.
+#[derive(Clone, Copy)]
+pub struct Pace {
+    /// How many bytes a call passes at most. 0 is taken for 1.
+    pub step: usize,
+    /// The call that fails, the first being 1.
+    pub fails_at: Option<u32>,
+    /// Whether each flush fails.
+    pub fails_flush: bool,
+}
+
+impl Pace {
+    /// A device that passes this many bytes a call and never fails.
+    pub fn of_step(step: usize) -> Pace {
+        Pace {
+            step,
+            fails_at: None,
+            fails_flush: false,
+        }
+    }
+
+    /// Counts a call. Whether it fails.
+    fn is_due(&mut self) -> bool {
+        match self.fails_at {
+            Some(1) => {
+                self.fails_at = None;
+                true
+            }
+            Some(call) => {
+                self.fails_at = Some(call.saturating_sub(1));
+                false
+            }
+            None => false,
+        }
+    }
+
+    /// How many of so many bytes a call passes.
+    fn count_of(&self, bytes: usize) -> usize {
+        bytes.min(self.step.max(1))
+    }
+}
+
+/// A source of lent bytes.
+#[derive(Drop)]
+pub struct SlowSource<'a> {
+    rest: &'a [u8],
+    pace: Pace,
+    failures: Failures,
+}
+
+impl<'a> SlowSource<'a> {
+    pub fn new(bytes: &'a [u8], pace: Pace) -> SlowSource<'a> {
+        SlowSource {
+            rest: bytes,
+            pace,
+            failures: Failures::new(),
+        }
+    }
+}
+
+impl<'a> Source for SlowSource<'a> {
+    ghost failures = { λ source. source.failures.count };
+
+    ghost left = { λ source. Some source.rest.now };
+
+    fn read(&mut self, buffer: &mut [u8]) -> Result<usize, Failed> {
+        if self.pace.is_due() {
+            self.failures.rise();
+            return Err(Failed);
+        }
+        let count = self.pace.count_of(self.rest.len().min(buffer.len()));
+        let (front, rest) = self.rest.split_at(count);
+        buffer[..count].copy_from_slice(front);
+        self.rest = rest;
+        Ok(count)
+    }
+}
+
+/// A sink that keeps what it takes, in room that it has beforehand. It fails where that is full.
+#[derive(Drop)]
+pub struct SlowSink {
+    bytes: Vec<u8>,
+    pace: Pace,
+    failures: Failures,
+}
+
+impl SlowSink {
+    /// A sink with room for so many bytes. `AllocError` where that was refused.
+    pub fn new(alloc: Global, room: usize, pace: Pace) -> Result<SlowSink, AllocError> {
+        Ok(SlowSink {
+            bytes: Vec::with_capacity(alloc, room)?,
+            pace,
+            failures: Failures::new(),
+        })
+    }
+
+    /// The bytes taken so far.
+    pub fn bytes(&self) -> &[u8] {
+        &self.bytes
+    }
+}
+
+impl Sink for SlowSink {
+    ghost failures = { λ sink. sink.failures.count };
+
+    ghost taken = { λ sink. Some sink.bytes.items };
+
+    fn write(&mut self, bytes: &[u8]) -> Result<usize, Failed> {
+        let count = self.pace.count_of(bytes.len());
+        if self.pace.is_due() || self.bytes.extend_from_slice(&bytes[..count]).is_err() {
+            self.failures.rise();
+            return Err(Failed);
+        }
+        Ok(count)
+    }
+
+    fn flush(&mut self) -> Result<(), Failed> {
+        if self.pace.fails_flush || self.pace.is_due() {
+            self.failures.rise();
+            return Err(Failed);
+        }
+        Ok(())
+    }
+}

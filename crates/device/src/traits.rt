@@ -1,0 +1,59 @@
+//! What a device is.
+
+ghost use Rattle.std.specs.Prelude.{ℕ, List, None, IfOk, ◌<◌, length};
+ghost use Rattle.std.specs.declared.option.Option.{Option};
+ghost use Rattle.std.specs.Io.{ReadsAtMost, WritesAtMost};
+ghost use Rattle.std.specs.Io.KnownBytes.{Keeps, ReadConsumes, WriteAppends};
+ghost use Rattle.device.specs.Failures.{Counts};
+
+/// A device failed. Why, it does not say.
+#[derive(Clone, Copy, Debug, PartialEq, Eq, Drop)]
+pub struct Failed;
+
+/// A device that bytes are read from. A contract sees how often it has failed and, where it tells
+/// them, the bytes that it has left.
+pub trait Source {
+    /// How often the device has failed so far.
+    ghost failures: { Self → ℕ };
+
+    /// The bytes left to be read, or `None` where the device does not tell them.
+    ghost left: { Self → Option (List ℕ) } = { λ _. None };
+
+    /// Puts a beginning of the bytes that are left to the front of the buffer, and gives its length: 0
+    /// only at the end or where the buffer is empty. What stands behind it in the buffer is not told.
+    ///
+    /// `Failed` where the device failed. Its count of failures has then risen by one, nothing was read,
+    /// and what the buffer holds is not told.
+    fn read(&mut self, buffer: &mut [u8]) -> Result<usize, Failed>
+        ensures bound { ReadsAtMost result buffer.new }
+        ensures bytes { ReadConsumes (left self.old) (left self.new) result buffer.new }
+        ensures cause { Counts (failures self.old) (failures self.new) result };
+}
+
+/// A device that bytes are written to. A contract sees how often it has failed and, where it tells
+/// them, the bytes that it has taken.
+pub trait Sink {
+    /// How often the device has failed so far.
+    ghost failures: { Self → ℕ };
+
+    /// The bytes taken so far, or `None` where the device does not tell them.
+    ghost taken: { Self → Option (List ℕ) } = { λ _. None };
+
+    /// Takes a beginning of the bytes behind those taken so far, and gives its length: 0 only where
+    /// there are no bytes.
+    ///
+    /// `Failed` where the device failed. Its count of failures has then risen by one, and nothing was
+    /// taken.
+    fn write(&mut self, bytes: &[u8]) -> Result<usize, Failed>
+        ensures bound { WritesAtMost result bytes.now }
+        ensures progress { IfOk result (λ count. 0 < length bytes.now → 0 < count) }
+        ensures bytes { WriteAppends (taken self.old) (taken self.new) result bytes.now }
+        ensures cause { Counts (failures self.old) (failures self.new) result };
+
+    /// Asks that the bytes taken so far reach the place where they stay. None is taken by it.
+    ///
+    /// `Failed` where the device failed. Its count of failures has then risen by one.
+    fn flush(&mut self) -> Result<(), Failed>
+        ensures bytes { Keeps (taken self.old) (taken self.new) }
+        ensures cause { Counts (failures self.old) (failures self.new) result };
+}
