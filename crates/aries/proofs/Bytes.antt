@@ -12,7 +12,7 @@ use Rattle.wal.specs.Spelling.{frame}
 use Rattle.wal.specs.Store.{Lawful}
 use Rattle.wal.proofs.CutBytes.{spellings-append}
 use Rattle.redo.specs.Parting.{PartingContent, by_number}
-use Rattle.aries.specs.declared.recover.Options.{Options}
+use Rattle.aries.specs.declared.recovery.Options.{Options}
 use Rattle.aries.specs.Restart.{AreSettings, InputFault, RestartFault}
 use Rattle.aries.specs.Recovery.{Are, AreLawful, AreInRange, OptionsFault, Cause}
 use Rattle.aries.proofs.Causes.{settings_hold}

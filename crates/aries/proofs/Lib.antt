@@ -9,3 +9,4 @@ pub mod Beginning
 pub mod LawfulUndo
 pub mod Causes
 pub mod Bytes
+pub mod Delivered

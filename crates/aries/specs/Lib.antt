@@ -4,3 +4,4 @@ pub mod Recovery
 pub mod Job
 pub mod Undone
 pub mod Rollback
+pub mod Devices

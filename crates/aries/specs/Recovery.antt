@@ -10,7 +10,7 @@ use Rattle.wal.specs.Reads.{Reads, log_text, Cause as LogFault}
 use Rattle.wal.specs.Store.{Lawful, store_out}
 use Rattle.aries.specs.declared.outcome.Outcome.{Outcome}
 use Rattle.aries.specs.Restart.{appended_by, clrs_in, Restarts, IsSettled, InputFault}
-use Rattle.aries.specs.declared.recover.Options.{Options}
+use Rattle.aries.specs.declared.recovery.Options.{Options}
 use Rattle.aries.specs.declared.report.Report.{Report}
 
 -- what the bytes of a log and of a store are

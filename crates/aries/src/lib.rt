@@ -3,21 +3,23 @@
 #![tactic(auto)]
 
 mod command;
+mod devices;
 mod files;
 mod losers;
 mod outcome;
 mod passes;
 mod program;
-mod recover;
+mod recovery;
 mod report;
 mod rollback;
 mod walk;
 
 pub use command::{Job, Refusal, command_of};
+pub use devices::recover;
 pub use outcome::Outcome;
 pub use passes::restart;
 pub use program::run;
-pub use recover::{Options, recover_bytes};
+pub use recovery::{Options, recover_bytes};
 pub use report::{Report, report_text};
 pub use rollback::undo;
 

@@ -1,7 +1,7 @@
 use Rattle.std.proofs.Common.{◌≡◌, ◌+◌, ◌++◌, map, take}
 use Rattle.wal.specs.Content.{content}
 use Rattle.wal.specs.Reads.{spellings}
-use Rattle.aries.proofs.recover.write_frames.Given as goal
+use Rattle.aries.proofs.recovery.write_frames.Given as goal
 
 abbrev pub invariant-loop-record : goal.invariant-loop-record
 invariant-loop-record l =

@@ -1,7 +1,7 @@
 use Rattle.std.proofs.Common.{map, ◌∙◌}
 use Rattle.wal.specs.Content.{content}
 use Rattle.aries.proofs.Bytes.{kept_text, text_extended}
-use Rattle.aries.proofs.recover.with_appended.Goals as goal
+use Rattle.aries.proofs.recovery.with_appended.Goals as goal
 
 pub returns-clause-text : goal.returns-clause-text
 returns-clause-text c =

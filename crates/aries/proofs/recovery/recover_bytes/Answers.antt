@@ -10,7 +10,7 @@ use Rattle.aries.specs.declared.report.Report.{Report}
 use Rattle.aries.specs.Restart.{IsPartingOf, IsSettled}
 use Rattle.aries.specs.Recovery.{Are, Recovered}
 use Rattle.aries.proofs.Bytes.{restart_cause, is_lawful, read_alone, read_same, dealt_by_number}
-use Rattle.aries.proofs.recover.recover_bytes.Goals as goal
+use Rattle.aries.proofs.recovery.recover_bytes.Goals as goal
 
 pub returns-in_err-records-clause-lawful : goal.returns-in_err-records-clause-lawful
 returns-in_err-records-clause-lawful g c = λ range bytes.

@@ -25,7 +25,7 @@ pub struct Options {
 }
 
 /// Refuses options out of their ranges.
-fn check_options(options: &Options) -> Result<(), Fault>
+pub fn check_options(options: &Options) -> Result<(), Fault>
     ensures ok { OnOk result (AreInRange options.now) }
     ensures fault { IfErr result (OptionsFault options.now) }
     ensures refused { (e : Fault) → OptionsFault options.now e → result ≡ Err e }

@@ -4,7 +4,7 @@ use Rattle.wal.specs.Records.{LogRecord}
 use Rattle.wal.specs.Content.{content}
 use Rattle.wal.specs.Reads.{spellings}
 use Rattle.aries.proofs.Bytes.{spellings_push}
-use Rattle.aries.proofs.recover.write_frames.Goals as goal
+use Rattle.aries.proofs.recovery.write_frames.Goals as goal
 
 pub loop-record-preserved : goal.loop-record-preserved
 loop-record-preserved c =

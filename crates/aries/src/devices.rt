@@ -1,0 +1,136 @@
+//! Recovery over devices: the log and the store are read to their ends, the new ones made in memory,
+//! and then written, the log first.
+
+ghost use Rattle.std.specs.Prelude.{◌≡◌, ◌≢◌, ℕ, List, ◌+◌, Some, IfOk, IfErr, IfSome, OnOk, OnErr, Err, MatchResult};
+ghost use Rattle.std.specs.Io.KnownBytes.{Appends};
+ghost use Rattle.page.specs.declared.fault.Fault.{Fault};
+ghost use Rattle.page.specs.declared.fault.Fault.TheVariants.{NoResource, ReadLog, ReadStore, WriteLog, WriteStore};
+ghost use Rattle.device.specs.Failures.{Counts};
+ghost use Rattle.device.specs.Whole.{TookBeginning};
+ghost use Rattle.aries.specs.Recovery.{AreLawful, AreInRange, OptionsFault};
+ghost use Rattle.aries.specs.Devices.{Fails, Gave, IsFaultOf, AreRead, Writes, Leaves, IsOut, IsReadFault, DeviceCause, Delivers, IsResourceOrDevice};
+
+use crate::recovery::check_options;
+use crate::{Options, Report, recover_bytes};
+use device::{Failed, ReadFault, Sink, Source, read_all, write_all};
+use page::Fault;
+use redo::Gate;
+use std::alloc::Global;
+use std::thread::Threads;
+
+/// All bytes that a source has left. Where it fails the fault is `failed`.
+fn read_source<S: Source>(alloc: Global, source: &mut S, failed: Fault) -> Result<Vec<u8>, Fault>
+    requires { failed ≢ NoResource }
+    ensures gave { IfOk result (λ bytes. Gave (S.left source.old) bytes.items) }
+    ensures fault { IfErr result (IsFaultOf failed) }
+    ensures cause { Fails failed result (S.failures source.old) (S.failures source.new) }
+{
+    match read_all(alloc, source) {
+        Ok(bytes) => Ok(bytes),
+        Err(ReadFault::Failed) => Err(failed),
+        Err(ReadFault::NoMemory) => Err(Fault::NoResource),
+    }
+}
+
+/// All bytes that two sources have left, those of the log read first.
+fn read_both<L: Source, S: Source>(
+    alloc: Global,
+    log: &mut L,
+    store: &mut S,
+) -> Result<(Vec<u8>, Vec<u8>), Fault>
+    ensures read { IfOk result (λ x. AreRead (L.left log.old) (S.left store.old) x.0.items x.1.items) }
+    ensures fault { IfErr result IsReadFault }
+    ensures log_source { Fails ReadLog result (L.failures log.old) (L.failures log.new) }
+    ensures store_source { Fails ReadStore result (S.failures store.old) (S.failures store.new) }
+{
+    let log_text = read_source(alloc, log, Fault::ReadLog)?;
+    let store_text = read_source(alloc, store, Fault::ReadStore)?;
+    Ok((log_text, store_text))
+}
+
+/// Writes bytes to a sink and asks that they stay.
+fn write_whole<S: Sink>(sink: &mut S, bytes: &[u8]) -> Result<(), Failed>
+    ensures all { OnOk result (Appends (S.taken sink.old) (S.taken sink.new) bytes.now) }
+    ensures beginning { OnErr result (TookBeginning (S.taken sink.old) (S.taken sink.new) bytes.now) }
+    ensures cause { Counts (S.failures sink.old) (S.failures sink.new) result }
+{
+    write_all(sink, bytes)?;
+    sink.flush()
+}
+
+/// Writes the new log, and then the new store, each whole before the next thing is done.
+fn write_both<L: Sink, S: Sink>(
+    log: &mut L,
+    store: &mut S,
+    new_log: &[u8],
+    new_store: &[u8],
+) -> Result<(), Fault>
+    ensures log_out { OnOk result (Appends (L.taken log.old) (L.taken log.new) new_log.now) }
+    ensures store_out { OnOk result (Appends (S.taken store.old) (S.taken store.new) new_store.now) }
+    ensures fault { IfErr result (Leaves new_log.now new_store.now (L.taken log.old) (L.taken log.new) (S.taken store.old) (S.taken store.new)) }
+    ensures log_sink { Fails WriteLog result (L.failures log.old) (L.failures log.new) }
+    ensures store_sink { Fails WriteStore result (S.failures store.old) (S.failures store.new) }
+{
+    match write_whole(log, new_log) {
+        Ok(()) => match write_whole(store, new_store) {
+            Ok(()) => Ok(()),
+            Err(Failed) => Err(Fault::WriteStore),
+        },
+        Err(Failed) => Err(Fault::WriteLog),
+    }
+}
+
+/// Recovers the store in a device by the log in another: both are read to their ends, the new ones are
+/// made in memory, and then the new log is written and flushed, and only then the new store.
+///
+/// What is written is what [`recover_bytes`] makes of the bytes read; the report is its report.
+///
+/// Refuses, in this order: [`Fault::BadWorkers`] and [`Fault::BadParting`] for options out of their
+/// ranges; [`Fault::ReadLog`] and [`Fault::ReadStore`] where a source failed; the faults of
+/// [`recover_bytes`]; [`Fault::WriteLog`] and [`Fault::WriteStore`] where a sink failed, at a write or
+/// its flush. [`Fault::NoResource`], where memory or a thread was refused, may come in place of any of
+/// these up to the first write. After `WriteLog` a beginning of the new log is out and nothing of the
+/// store; after `WriteStore` the new log and a beginning of the new store; after any other fault
+/// nothing.
+pub fn recover<LR: Source, SR: Source, LW: Sink, SW: Sink, G: Gate, R: Threads + Sync>(
+    rt: &R,
+    alloc: Global,
+    log: &mut LR,
+    store: &mut SR,
+    out_log: &mut LW,
+    out_store: &mut SW,
+    options: &Options,
+    gate: &G,
+) -> Result<Report, Fault>
+    // On the bytes of a lawful log and its store: both are out, and a fault is want of memory or a device's.
+    ensures lawful { (log_text store_text : List ℕ) → LR.left log.old ≡ Some log_text → SR.left store.old ≡ Some store_text → AreInRange options.now
+        → (bytes : AreLawful log_text store_text)
+        → MatchResult result (Delivers bytes.are.records bytes.are.before (LW.taken out_log.old) (LW.taken out_log.new) (SW.taken out_store.old) (SW.taken out_store.new)) IsResourceOrDevice }
+
+    // Wherever it answers.
+    ensures answer { IfOk result (Writes (LR.left log.old) (SR.left store.old) (LW.taken out_log.old) (LW.taken out_log.new) (SW.taken out_store.old) (SW.taken out_store.new)) }
+    ensures options { (e : Fault) → OptionsFault options.now e → result ≡ Err e }
+
+    // A refusal has its cause, and what is out after it.
+    ensures cause { IfErr result (DeviceCause (LR.left log.old) (SR.left store.old) options.now) }
+    ensures out { IfErr result (IsOut (LR.left log.old) (SR.left store.old) (LW.taken out_log.old) (LW.taken out_log.new) (SW.taken out_store.old) (SW.taken out_store.new)) }
+
+    // A device is blamed where it failed, and nowhere else.
+    ensures log_source { Fails ReadLog result (LR.failures log.old) (LR.failures log.new) }
+    ensures store_source { Fails ReadStore result (SR.failures store.old) (SR.failures store.new) }
+    ensures log_sink { Fails WriteLog result (LW.failures out_log.old) (LW.failures out_log.new) }
+    ensures store_sink { Fails WriteStore result (SW.failures out_store.old) (SW.failures out_store.new) }
+{
+    check_options(options)?;
+    let (log_text, store_text) = read_both(alloc, log, store)?;
+    let (new_log, new_store, report) = recover_bytes(
+        rt,
+        alloc,
+        &log_text,
+        &store_text,
+        options,
+        gate,
+    )?;
+    write_both(out_log, out_store, &new_log, &new_store)?;
+    Ok(report)
+}
