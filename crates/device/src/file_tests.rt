@@ -147,8 +147,8 @@ fn a_file_of_the_system(rt: HostRuntime) -> Result<(), Fail> {
     let mut out = FileSink::new(File::create_new(&rt, path)?);
     write_all(&mut out, b"bytes")?;
     out.flush()?;
-    let read = read_all(rt.alloc(), &mut FileSource::new(File::open(&rt, path)?))?;
+    let read = read_all(rt.alloc(), &mut FileSource::new(File::open(&rt, path)?));
     fs::remove_file(&rt, path)?;
-    assert!(rt; read.as_slice() == b"bytes".as_slice());
+    assert!(rt; read?.as_slice() == b"bytes".as_slice());
     Ok(())
 }

@@ -1,6 +1,6 @@
 //! Devices over memory that pass a few bytes a call, and fail at a call that is said beforehand.
 
-ghost use Rattle.std.specs.Prelude.{Some};
+ghost use Rattle.std.specs.Prelude.{Some, ◌<◌, ◌≤◌};
 
 use crate::{Failed, Failures, Sink, Source};
 use std::alloc::{AllocError, Global};
@@ -42,7 +42,10 @@ impl Pace {
     }
 
     /// How many of so many bytes a call passes.
-    fn count_of(&self, bytes: usize) -> usize {
+    fn count_of(&self, bytes: usize) -> usize
+        ensures within { result ≤ bytes }
+        ensures progress { 0 < bytes → 0 < result }
+    {
         bytes.min(self.step.max(1))
     }
 }

@@ -29,7 +29,7 @@ fn write_out(
         Err(failed) => Err(failed),
     };
     let taken = sink.bytes().len();
-    if sink.bytes() != &bytes[..taken.min(length)] {
+    if !bytes.starts_with(sink.bytes()) {
         return Err(Fail::new("not a beginning"));
     }
     Ok((answer, taken))
@@ -67,8 +67,9 @@ fn memory_gives_and_takes_all(rt: HostRuntime) -> Result<(), Fail> {
     let read = read_all(rt.alloc(), &mut MemorySource::new(&bytes))?;
     assert!(rt; read == bytes);
     let mut sink = MemorySink::new(rt.alloc());
-    write_all(&mut sink, &read[..7])?;
-    write_all(&mut sink, &read[7..])?;
+    let (front, back) = read.split_at(read.len().min(7));
+    write_all(&mut sink, front)?;
+    write_all(&mut sink, back)?;
     sink.flush()?;
     assert!(rt; sink.bytes() == bytes.as_slice());
     Ok(())
