@@ -24,6 +24,8 @@ pub use report::{Report, report_text};
 pub use rollback::undo;
 
 #[cfg(test)]
+mod device_tests;
+#[cfg(test)]
 mod gate_tests;
 #[cfg(test)]
 mod restart_tests;
