@@ -1,5 +1,5 @@
 -- A recovery over devices: what was read, what is out, and why it is refused.
-use Rattle.std.proofs.Common.{ℕ, ◌≡◌, List, Option, Some, None, refl, sym, subst, ◌∙◌}
+use Rattle.std.proofs.Common.{ℕ, ◌≡◌, List, Option, Some, None, sym, subst, ◌∙◌}
 use Rattle.page.specs.declared.fault.Fault.{Fault}
 use Rattle.page.specs.declared.fault.Fault.TheVariants.{NoResource, ReadLog, ReadStore, WriteLog, WriteStore, BadWorkers, BadParting}
 use Rattle.page.specs.Store.{StoreContent}

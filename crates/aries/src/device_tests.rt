@@ -1,6 +1,8 @@
 //! Recovery over devices in memory.
 
-use crate::rows::{Row, clr_points_past_zero, one_loser, page_with, several_kinds_of_loser, store_of, two_losers};
+use crate::rows::{
+    Row, clr_points_past_zero, one_loser, page_with, several_kinds_of_loser, store_of, two_losers,
+};
 use crate::{Options, recover};
 use device::{MemorySink, MemorySource};
 use page::{Fault, Page};

@@ -19,7 +19,11 @@ use std::alloc::Global;
 use std::thread::Threads;
 
 /// All bytes that a source has left. Where it fails the fault is `failed`.
-pub fn read_source<S: Source>(alloc: Global, source: &mut S, failed: Fault) -> Result<Vec<u8>, Fault>
+pub fn read_source<S: Source>(
+    alloc: Global,
+    source: &mut S,
+    failed: Fault,
+) -> Result<Vec<u8>, Fault>
     requires { failed ≢ NoResource }
     ensures gave { IfOk result (λ bytes. Gave (S.left source.old) bytes.items) }
     ensures fault { IfErr result (IsFaultOf failed) }

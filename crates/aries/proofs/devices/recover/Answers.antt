@@ -1,4 +1,4 @@
-use Rattle.std.proofs.Common.{◌≡◌, refl, sym, subst, ◌∙◌}
+use Rattle.std.proofs.Common.{◌≡◌, refl, ◌∙◌}
 use Rattle.std.proofs.lemmas.Result.{err_from_is_err_and}
 use Rattle.aries.specs.Devices.{Makes}
 use Rattle.aries.proofs.Delivered.{told, lent_read, lent_lawful, device_cause, is_resource, left_out, lent_recovers, lent_recovered}
