@@ -1,10 +1,9 @@
 #!/usr/bin/env python3
 """Makes a lawful log of updates and commits, and the store of empty pages that it belongs to.
 
-usage: make_log.py RECORDS PAGES LOG STORE [LOSERS UPDATES]
+usage: make_log.py RECORDS PAGES LOG STORE
 
-Transactions update eight cells each and commit. With LOSERS, so many more begin at the end, make UPDATES updates each and
-stay unfinished. Values have 9 bytes, so a frame of an update has about 50 bytes.
+Transactions update eight cells each and commit. Values have 9 bytes, so a frame of an update has about 50 bytes.
 """
 import struct
 import sys
@@ -12,7 +11,6 @@ import sys
 
 def main():
     records, pages = int(sys.argv[1]), int(sys.argv[2])
-    losers, updates = (int(sys.argv[5]), int(sys.argv[6])) if len(sys.argv) > 5 else (0, 0)
     cells = {}
     frames = [b"ARIESLG1"]
     lsn = 0
@@ -40,12 +38,6 @@ def main():
             update(tx, prev, place)
             prev, place = lsn, (place + 4093) % (16 * pages)
         frame(3, struct.pack(">IQ", tx, prev))
-    first, last = tx + 1, {}
-    for turn in range(updates):
-        for loser in range(losers):
-            cell = loser if losers <= 16 * pages else loser % (16 * pages)
-            update(first + loser, last.get(loser, 0), cell)
-            last[loser] = lsn
     with open(sys.argv[3], "wb") as log:
         log.write(b"".join(frames))
     with open(sys.argv[4], "wb") as store:
