@@ -53,11 +53,10 @@ read_same x y gives = cc
 
 -- WHAT IS WRITTEN
 -- one frame more
-pub spellings_push : (old out new : List ℕ) (lsn next : ℕ) (xs : List LogRecord) (x : LogRecord) → next ≡ lsn + length xs → out ≡ old ++ spellings lsn xs → new ≡ out ++ frame x next → new ≡ old ++ spellings lsn (xs ++ x ∷ [])
-spellings_push old out new lsn next xs x at before after =
+pub spellings_push : (out new : List ℕ) (lsn next : ℕ) (xs : List LogRecord) (x : LogRecord) → next ≡ lsn + length xs → out ≡ spellings lsn xs → new ≡ out ++ frame x next → new ≡ spellings lsn (xs ++ x ∷ [])
+spellings_push out new lsn next xs x at before after =
     after ∙ ap₂ (λ (o : List ℕ) n. o ++ frame x n) before at
-    ∙ append_assoc old (spellings lsn xs) (frame x (lsn + length xs))
-    ∙ ap (λ (s : List ℕ). old ++ s) (sym (spellings-append lsn xs (x ∷ []) ∙ ap (λ (s : List ℕ). spellings lsn xs ++ s) (append-nil (frame x (lsn + length xs)))))
+    ∙ sym (spellings-append lsn xs (x ∷ []) ∙ ap (λ (s : List ℕ). spellings lsn xs ++ s) (append-nil (frame x (lsn + length xs))))
 
 -- the text of a log, and behind it the frames of more records
 pub text_extended : (records more : List LogRecord) (kept text : List ℕ) (lsn : ℕ) → kept ≡ log_text records → lsn ≡ length records + 1 → text ≡ kept ++ spellings lsn more → text ≡ log_text (records ++ more)

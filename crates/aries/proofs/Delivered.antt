@@ -1,15 +1,21 @@
 -- A recovery over devices: what was read, what is out, and why it is refused.
-use Rattle.std.proofs.Common.{ℕ, ◌≡◌, List, Option, Some, None, sym, subst, ◌∙◌}
+use Rattle.std.proofs.Common.{ℕ, ◌≡◌, ◌+◌, List, ◌++◌, length, take, Option, Some, None, sym, subst, ap, ◌∙◌, arith, length-append, take-append-le}
+use Rattle.std.proofs.Math.Seq.{take-append-add}
+use Rattle.std.proofs.KnownBytes.{Appends-trans}
+use Rattle.std.specs.Io.KnownBytes.{Appends}
 use Rattle.page.specs.declared.fault.Fault.{Fault}
 use Rattle.page.specs.declared.fault.Fault.TheVariants.{NoResource, ReadLog, ReadStore, WriteLog, WriteStore, BadWorkers, BadParting}
 use Rattle.page.specs.Store.{StoreContent}
-use Rattle.page.specs.File.{SpellsStore}
+use Rattle.page.specs.File.{SpellsStore, store_text}
 use Rattle.wal.specs.Records.{LogRecord}
-use Rattle.wal.specs.Reads.{Reads}
+use Rattle.wal.specs.Reads.{Reads, log_text}
+use Rattle.wal.specs.Theorems.{GoesOn}
+use Rattle.wal.proofs.CutBytes.{cuts_settle}
+use Rattle.device.specs.Whole.{TookBeginning}
 use Rattle.aries.specs.declared.recovery.Options.{Options}
 use Rattle.aries.specs.declared.report.Report.{Report}
-use Rattle.aries.specs.Recovery.{Recovers, AreLawful, Recovered, Cause}
-use Rattle.aries.specs.Devices.{Gave, AreRead, Makes, Leaves, IsOut, DeviceCause, IsResourceOrDevice}
+use Rattle.aries.specs.Recovery.{AreLawful, AreCut, Cause}
+use Rattle.aries.specs.Devices.{Gave, AreRead, Makes, Leaves, IsOut, DeviceCause, Delivers, Completes, IsResourceOrDevice}
 
 some_same : {X : Type 0} {x y : X} → Some x ≡ Some y → x ≡ y
 some_same e = cc
@@ -57,12 +63,34 @@ left_out log_left store_left log_before log_after store_before store_after made 
 left_out log_left store_left log_before log_after store_before store_after made WriteStore h = (made, h)
 left_out log_left store_left log_before log_after store_before store_after made e h = absurd h
 
--- what was made, as it is lent
-pub lent_recovers : (log store new_log new_store lent_log lent_store : List ℕ) (report : Report) → lent_log ≡ new_log → lent_store ≡ new_store → Recovers log store new_log new_store report → Recovers log store lent_log lent_store report
-lent_recovers log store new_log new_store lent_log lent_store report e f h =
-    subst (λ l. Recovers log store l lent_store report) (sym e) (subst (λ s. Recovers log store new_log s report) (sym f) h)
+-- A LOG IN TWO PIECES
+-- a beginning of the first piece is one of both
+pub in_front : (before after : Option (List ℕ)) (front back : List ℕ) → TookBeginning before after front → TookBeginning before after (front ++ back)
+in_front before after front back (count, within, taken) =
+    (count, omega (arith, within, length-append front back), subst (Appends before after) (sym (take-append-le count front back within)) taken)
 
-pub lent_recovered : (records : List LogRecord) (before : StoreContent) (new_log new_store lent_log lent_store : List ℕ) (report : Report) → lent_log ≡ new_log → lent_store ≡ new_store
-    → Recovered records before new_log new_store report → Recovered records before lent_log lent_store report
-lent_recovered records before new_log new_store lent_log lent_store report e f h =
-    subst (λ l. Recovered records before l lent_store report) (sym e) (subst (λ s. Recovered records before new_log s report) (sym f) h)
+-- and the first piece with a beginning of the second is
+pub behind_front : (before between after : Option (List ℕ)) (front back : List ℕ) → Appends before between front → TookBeginning between after back → TookBeginning before after (front ++ back)
+behind_front before between after front back out (count, within, taken) =
+    (length front + count, omega (arith, within, length-append front back), subst (Appends before after) (sym (take-append-add front back count)) (Appends-trans before between after front (take count back) out taken))
+
+-- AFTER AN INTERRUPTION
+module _ {log store : List ℕ} (bytes : AreCut log store) where
+  goes_on : GoesOn bytes.first.are.records bytes.first.are.before bytes.cut.whole bytes.left
+  goes_on = cuts_settle bytes.first.are.records bytes.first.are.before bytes.first_log bytes.first.are.torn log bytes.left
+  bytes.first.are.reads bytes.first.are.spells.fits.numbered bytes.spells.fits.numbered bytes.first.lawful bytes.cut
+
+  -- what an interrupted restart leaves is lawful
+  abbrev pub cut_lawful : AreLawful log store
+  cut_lawful = record {
+    are = record { records = bytes.cut.whole; torn = bytes.cut.torn; before = bytes.left; reads = bytes.cut.reads; spells = bytes.spells };
+    lawful = goes_on.lawful;
+  }
+
+  -- and what a restart on it puts out is what the first would have
+  pub completed : (log_before log_after store_before store_after : Option (List ℕ)) (report : Report) → Delivers bytes.cut.whole bytes.left log_before log_after store_before store_after report
+      → Completes bytes.first.are.records bytes.first.are.before log_before log_after store_before store_after
+  completed log_before log_after store_before store_after report out = record {
+    log_out = subst (Appends log_before log_after) (out.recovered.log_is ∙ ap log_text goes_on.same_log) out.log_out;
+    store_out = subst (Appends store_before store_after) (out.recovered.store_is ∙ ap store_text goes_on.same_store) out.store_out;
+  }

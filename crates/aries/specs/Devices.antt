@@ -1,10 +1,14 @@
 -- What a recovery over devices reads, writes and leaves (own).
-use Rattle.std.specs.Prelude.{◌≡◌, ℕ, ◌+◌, ◌⊎◌, List, Option, IfSome, Result, Err}
+use Rattle.std.specs.Prelude.{◌≡◌, ℕ, ◌+◌, ◌⊎◌, List, ◌++◌, Option, IfSome, Result, Err}
 use Rattle.std.specs.Io.KnownBytes.{Appends, Keeps}
 use Rattle.page.specs.declared.fault.Fault.{Fault}
 use Rattle.page.specs.declared.fault.Fault.TheVariants.{NoResource, ReadLog, ReadStore, WriteLog, WriteStore, BadWorkers, BadParting}
 use Rattle.page.specs.Store.{StoreContent}
+use Rattle.page.specs.File.{store_text}
 use Rattle.wal.specs.Records.{LogRecord}
+use Rattle.wal.specs.Tail.{tail_of}
+use Rattle.wal.specs.Reads.{log_text}
+use Rattle.wal.specs.Store.{store_out}
 use Rattle.device.specs.Whole.{TookBeginning}
 use Rattle.aries.specs.declared.recovery.Options.{Options}
 use Rattle.aries.specs.declared.report.Report.{Report}
@@ -89,6 +93,12 @@ pub record Delivers (records : List LogRecord) (before : StoreContent) (log_befo
   pub recovered : Recovered records before new_log new_store report
   pub log_out : Appends log_before log_after new_log
   pub store_out : Appends store_before store_after new_store
+
+-- AFTER AN INTERRUPTION
+-- what an uninterrupted restart of this log and its store writes is out
+pub record Completes (records : List LogRecord) (before : StoreContent) (log_before log_after store_before store_after : Option (List ℕ)) : Type 0 where
+  pub log_out : Appends log_before log_after (log_text (records ++ tail_of records))
+  pub store_out : Appends store_before store_after (store_text (store_out records before))
 
 -- a refusal that is no fault of the input
 abbrev pub IsResourceOrDevice : Fault → Type 0

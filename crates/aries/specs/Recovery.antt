@@ -7,10 +7,11 @@ use Rattle.page.specs.File.{store_text, SpellsStore, StoreFault}
 use Rattle.wal.specs.Records.{LogRecord, history}
 use Rattle.wal.specs.Tail.{losers_of, tail_of}
 use Rattle.wal.specs.Reads.{Reads, log_text, Cause as LogFault}
-use Rattle.wal.specs.Store.{Lawful, store_out}
+use Rattle.wal.specs.Store.{Lawful, Cut, store_out}
 use Rattle.aries.specs.declared.outcome.Outcome.{Outcome}
 use Rattle.aries.specs.Restart.{appended_by, clrs_in, Restarts, IsSettled, InputFault}
 use Rattle.aries.specs.declared.recovery.Options.{Options}
+use Rattle.aries.specs.declared.recovery.Recovery.{Recovery}
 use Rattle.aries.specs.declared.report.Report.{Report}
 
 -- what the bytes of a log and of a store are
@@ -22,6 +23,10 @@ pub record Are (log store : List ℕ) : Type 0 where
   pub spells : SpellsStore store before
 
 -- THE ANSWER
+-- what stays of the log, and behind it the frames of what is appended
+abbrev pub new_log : Recovery → List ℕ
+new_log x = x.kept.now ++ x.frames.items
+
 -- the numbers of a restart
 abbrev pub report_of : List LogRecord → (torn : ℕ) → Outcome → Report
 report_of records torn x = record {
@@ -59,6 +64,16 @@ pub record Recovered (records : List LogRecord) (before : StoreContent) (new_log
   pub losers_are : report.losers ≡ length (losers_of (history records))
   pub ended_are : report.ended ≡ length (losers_of (history records))
   pub compensated_are : report.compensated ≡ clrs_in (tail_of records)
+
+-- AFTER AN INTERRUPTION
+-- bytes that a restart on the bytes of a lawful log and its store may have left, if it was interrupted
+pub record AreCut (log store : List ℕ) : Type 0 where
+  pub first_log : List ℕ
+  pub first_store : List ℕ
+  pub first : AreLawful first_log first_store
+  pub left : StoreContent
+  pub spells : SpellsStore store left
+  pub cut : Cut first.are.records first.are.before log left
 
 -- REFUSALS
 abbrev pub IsUpTo : ℕ → ℕ → Type 0

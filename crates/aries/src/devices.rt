@@ -1,17 +1,17 @@
 //! Recovery over devices: the log and the store are read to their ends, the new ones made in memory,
 //! and then written, the log first.
 
-ghost use Rattle.std.specs.Prelude.{◌≡◌, ◌≢◌, ℕ, List, ◌+◌, Some, IfOk, IfErr, IfSome, OnOk, OnErr, Err, MatchResult};
+ghost use Rattle.std.specs.Prelude.{◌≡◌, ◌≢◌, ℕ, List, ◌++◌, Some, IfOk, IfErr, IfSome, OnOk, OnErr, Err, MatchResult};
 ghost use Rattle.std.specs.Io.KnownBytes.{Appends};
 ghost use Rattle.page.specs.declared.fault.Fault.{Fault};
 ghost use Rattle.page.specs.declared.fault.Fault.TheVariants.{NoResource, ReadLog, ReadStore, WriteLog, WriteStore};
 ghost use Rattle.device.specs.Failures.{Counts};
 ghost use Rattle.device.specs.Whole.{TookBeginning};
-ghost use Rattle.aries.specs.Recovery.{AreLawful, AreInRange, OptionsFault};
-ghost use Rattle.aries.specs.Devices.{Fails, Gave, IsFaultOf, AreRead, Writes, Leaves, IsOut, IsReadFault, DeviceCause, Delivers, IsResourceOrDevice};
+ghost use Rattle.aries.specs.Recovery.{new_log, AreLawful, AreCut, AreInRange, OptionsFault};
+ghost use Rattle.aries.specs.Devices.{Fails, Gave, IsFaultOf, AreRead, Writes, Leaves, IsOut, IsReadFault, DeviceCause, Delivers, Completes, IsResourceOrDevice};
 
-use crate::recovery::check_options;
-use crate::{Options, Report, recover_bytes};
+use crate::recovery::{Recovery, check_options, recovery_of};
+use crate::{Options, Report};
 use device::{Failed, ReadFault, Sink, Source, read_all, write_all};
 use page::Fault;
 use redo::Gate;
@@ -62,21 +62,31 @@ fn write_whole<S: Sink>(sink: &mut S, bytes: &[u8]) -> Result<(), Failed>
     sink.flush()
 }
 
+/// Writes a log in two pieces, and asks that it stays: what is kept of the log read, and behind it the
+/// frames appended.
+fn write_log<S: Sink>(sink: &mut S, kept: &[u8], frames: &[u8]) -> Result<(), Failed>
+    ensures all { OnOk result (Appends (S.taken sink.old) (S.taken sink.new) (kept.now ++ frames.now)) }
+    ensures beginning { OnErr result (TookBeginning (S.taken sink.old) (S.taken sink.new) (kept.now ++ frames.now)) }
+    ensures cause { Counts (S.failures sink.old) (S.failures sink.new) result }
+{
+    write_all(sink, kept)?;
+    write_whole(sink, frames)
+}
+
 /// Writes the new log, and then the new store, each whole before the next thing is done.
 fn write_both<L: Sink, S: Sink>(
     log: &mut L,
     store: &mut S,
-    new_log: &[u8],
-    new_store: &[u8],
+    recovery: &Recovery,
 ) -> Result<(), Fault>
-    ensures log_out { OnOk result (Appends (L.taken log.old) (L.taken log.new) new_log.now) }
-    ensures store_out { OnOk result (Appends (S.taken store.old) (S.taken store.new) new_store.now) }
-    ensures fault { IfErr result (Leaves new_log.now new_store.now (L.taken log.old) (L.taken log.new) (S.taken store.old) (S.taken store.new)) }
+    ensures log_out { OnOk result (Appends (L.taken log.old) (L.taken log.new) (new_log recovery.now)) }
+    ensures store_out { OnOk result (Appends (S.taken store.old) (S.taken store.new) recovery.now.store.items) }
+    ensures fault { IfErr result (Leaves (new_log recovery.now) recovery.now.store.items (L.taken log.old) (L.taken log.new) (S.taken store.old) (S.taken store.new)) }
     ensures log_sink { Fails WriteLog result (L.failures log.old) (L.failures log.new) }
     ensures store_sink { Fails WriteStore result (S.failures store.old) (S.failures store.new) }
 {
-    match write_whole(log, new_log) {
-        Ok(()) => match write_whole(store, new_store) {
+    match write_log(log, recovery.kept, &recovery.frames) {
+        Ok(()) => match write_whole(store, &recovery.store) {
             Ok(()) => Ok(()),
             Err(Failed) => Err(Fault::WriteStore),
         },
@@ -84,17 +94,24 @@ fn write_both<L: Sink, S: Sink>(
     }
 }
 
-/// Recovers the store in a device by the log in another: both are read to their ends, the new ones are
-/// made in memory, and then the new log is written and flushed, and only then the new store.
+/// Recovers the store in a device by the log in another: both are read to their ends, what is to be
+/// written is made in memory by [`restart`](crate::restart) on what they spell, the pages parted by
+/// number; and then the new log is written and flushed, and only then the new store.
 ///
-/// What is written is what [`recover_bytes`] makes of the bytes read; the report is its report.
+/// The new log is the log read without its torn tail, and behind it the records that the restart
+/// appends. What is written does not depend on the options or the gate. On a lawful log and its store
+/// the new log is the log and its tail, each page of the new store has what the committed transactions'
+/// updates and compensations, in LSN order, make of an empty page, and a recovery of these bytes writes
+/// them again. On what an interrupted recovery leaves, a beginning of the new log beside pages of which
+/// some are new, it writes what the first would have written. Answers the report.
 ///
 /// Refuses, in this order: [`Fault::BadWorkers`] and [`Fault::BadParting`] for options out of their
 /// ranges; [`Fault::ReadLog`] and [`Fault::ReadStore`] where a source failed; the faults of
-/// [`recover_bytes`]; [`Fault::WriteLog`] and [`Fault::WriteStore`] where a sink failed, at a write or
-/// its flush. [`Fault::NoResource`], where memory or a thread was refused, may come in place of any of
-/// these up to the first write. After `WriteLog` a beginning of the new log is out and nothing of the
-/// store; after `WriteStore` the new log and a beginning of the new store; after any other fault
+/// [`wal::read_log`] for the log, of [`page::decode_store`] for the store, and of
+/// [`restart`](crate::restart); [`Fault::WriteLog`] and [`Fault::WriteStore`] where a sink failed, at a
+/// write or its flush. [`Fault::NoResource`], where memory or a thread was refused, may come in place of
+/// any of these up to the first write. After `WriteLog` a beginning of the new log is out and nothing of
+/// the store; after `WriteStore` the new log and a beginning of the new store; after any other fault
 /// nothing.
 pub fn recover<LR: Source, SR: Source, LW: Sink, SW: Sink, G: Gate, R: Threads + Sync>(
     rt: &R,
@@ -110,6 +127,11 @@ pub fn recover<LR: Source, SR: Source, LW: Sink, SW: Sink, G: Gate, R: Threads +
     ensures lawful { (log_text store_text : List ℕ) → LR.left log.old ≡ Some log_text → SR.left store.old ≡ Some store_text → AreInRange options.now
         → (bytes : AreLawful log_text store_text)
         → MatchResult result (Delivers bytes.are.records bytes.are.before (LW.taken out_log.old) (LW.taken out_log.new) (SW.taken out_store.old) (SW.taken out_store.new)) IsResourceOrDevice }
+
+    // On what a restart of them may leave that was interrupted: what it would have written is out.
+    ensures interrupted { (log_text store_text : List ℕ) → LR.left log.old ≡ Some log_text → SR.left store.old ≡ Some store_text → AreInRange options.now
+        → (bytes : AreCut log_text store_text)
+        → MatchResult result (λ _. Completes bytes.first.are.records bytes.first.are.before (LW.taken out_log.old) (LW.taken out_log.new) (SW.taken out_store.old) (SW.taken out_store.new)) IsResourceOrDevice }
 
     // Wherever it answers.
     ensures answer { IfOk result (Writes (LR.left log.old) (SR.left store.old) (LW.taken out_log.old) (LW.taken out_log.new) (SW.taken out_store.old) (SW.taken out_store.new)) }
@@ -127,14 +149,7 @@ pub fn recover<LR: Source, SR: Source, LW: Sink, SW: Sink, G: Gate, R: Threads +
 {
     check_options(options)?;
     let (log_text, store_text) = read_both(alloc, log, store)?;
-    let (new_log, new_store, report) = recover_bytes(
-        rt,
-        alloc,
-        &log_text,
-        &store_text,
-        options,
-        gate,
-    )?;
-    write_both(out_log, out_store, &new_log, &new_store)?;
-    Ok(report)
+    let recovery = recovery_of(rt, alloc, &log_text, &store_text, options, gate)?;
+    write_both(out_log, out_store, &recovery)?;
+    Ok(recovery.report)
 }

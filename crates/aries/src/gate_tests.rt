@@ -1,6 +1,7 @@
 //! The gate, seen through a whole recovery: two workers share the parts.
 
-use crate::{Options, recover_bytes};
+use crate::Options;
+use crate::rows::recover_in_memory;
 use page::{Fault, Page, Value, decode_store, encode_page};
 use redo::{Gate, OpenGate};
 use std::alloc::Global;
@@ -86,7 +87,7 @@ fn two_workers_share_the_parts(rt: HostRuntime) -> Result<(), Fail> {
     };
     let log = ten_updates(alloc)?;
     let store = ten_pages(alloc)?;
-    let (_, new_store, report) = recover_bytes(&rt, alloc, &log, &store, &options, &gate)?;
+    let (_, new_store, report) = recover_in_memory(&rt, alloc, &log, &store, &options, &gate)?;
     let after = decode_store(alloc, &new_store)?;
     assert!(rt; are_all_changed(&after.pages), "pages");
     assert_eq!(rt; (report.redo_from, report.redone), (1, 10));
@@ -103,7 +104,7 @@ fn any_options_give_the_same(rt: HostRuntime) -> Result<(), Fail> {
     for workers in [1, 2, 64] {
         for parts in [1, 10, 4096] {
             let options = Options { workers, parts };
-            let (_, new_store, _) = recover_bytes(&rt, alloc, &log, &store, &options, &OpenGate)?;
+            let (_, new_store, _) = recover_in_memory(&rt, alloc, &log, &store, &options, &OpenGate)?;
             let after = decode_store(alloc, &new_store)?;
             assert!(rt;
                 are_all_changed(&after.pages),

@@ -19,7 +19,7 @@ pub use devices::recover;
 pub use outcome::Outcome;
 pub use passes::restart;
 pub use program::run;
-pub use recovery::{Options, recover_bytes};
+pub use recovery::Options;
 pub use report::{Report, report_text};
 pub use rollback::undo;
 

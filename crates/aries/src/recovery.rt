@@ -1,12 +1,12 @@
-//! Recovery from the bytes of a log and a store to the bytes of both after it.
+//! Recovery in memory: from the bytes of a log and a store to the bytes of both after it.
 
-ghost use Rattle.std.specs.Prelude.{◌≡◌, ◌≤◌, ◌<◌, ◌^◌, ◌++◌, Err, map, IfOk, OnOk, IfErr, MatchResult};
+ghost use Rattle.std.specs.Prelude.{◌≡◌, ◌≤◌, ◌<◌, ◌^◌, Err, map, IfOk, OnOk, IfErr, MatchResult};
 ghost use Rattle.page.specs.declared.fault.Fault.{Fault};
 ghost use Rattle.page.specs.declared.fault.Fault.TheVariants.{NoResource};
 ghost use Rattle.wal.specs.Content.{content};
-ghost use Rattle.wal.specs.Reads.{Reads, spellings, log_text};
+ghost use Rattle.wal.specs.Reads.{spellings};
 ghost use Rattle.aries.specs.Undone.{AreSpelled};
-ghost use Rattle.aries.specs.Recovery.{report_of, Recovers, AreLawful, Recovered, AreInRange, OptionsFault, Cause};
+ghost use Rattle.aries.specs.Recovery.{report_of, new_log, Recovers, AreLawful, Recovered, AreInRange, OptionsFault, Cause};
 
 use crate::{Outcome, Report, restart};
 use page::{Fault, decode_store, encode_store};
@@ -39,38 +39,21 @@ pub fn check_options(options: &Options) -> Result<(), Fault>
     Ok(())
 }
 
-/// Appends the frames of records, the first of which has this LSN.
-fn write_frames(records: &[Record], lsn: u64, out: &mut Vec<u8>) -> Result<(), Fault>
+/// The frames of records, the first of which has this LSN.
+fn frames_of(alloc: Global, records: &[Record], first: u64) -> Result<Vec<u8>, Fault>
     requires spelled { AreSpelled records.now }
-    requires some { 0 < lsn }
-    requires room { lsn ≤ 2 ^ 63 }
-    ensures ok { OnOk result (out.new.items ≡ out.old.items ++ spellings lsn (map content records.now)) }
+    requires some { 0 < first }
+    requires room { first ≤ 2 ^ 63 }
+    ensures frames { IfOk result (λ x. x.items ≡ spellings first (map content records.now)) }
     ensures err { IfErr result (λ e. e ≡ NoResource) }
 {
-    let mut next = lsn;
+    let mut frames = Vec::new(alloc);
+    let mut lsn = first;
     for record in records {
-        write_frame(record, next, out)?;
-        next += 1;
+        write_frame(record, lsn, &mut frames)?;
+        lsn += 1;
     }
-    Ok(())
-}
-
-/// The text of a log without its torn tail, and behind it the frames of the appended records.
-fn with_appended(
-    alloc: Global,
-    text: &[u8],
-    log: &Log,
-    torn: usize,
-    appended: &[Record],
-) -> Result<Vec<u8>, Fault>
-    requires read { Reads text.now log.now torn }
-    requires spelled { AreSpelled appended.now }
-    ensures text { IfOk result (λ x. x.items ≡ log_text (log.now ++ map content appended.now)) }
-    ensures err { IfErr result (λ e. e ≡ NoResource) }
-{
-    let mut bytes = Vec::from_slice(alloc, &text[..text.len() - torn])?;
-    write_frames(appended, log.next_lsn(), &mut bytes)?;
-    Ok(bytes)
+    Ok(frames)
 }
 
 /// The report of a restart.
@@ -89,39 +72,44 @@ fn report_of(log: &Log, torn: usize, outcome: &Outcome) -> Report
     }
 }
 
-/// Recovers the bytes of a store by the bytes of its log: [`restart`] on what they spell, with the pages
-/// parted by number.
+/// What is made of a log and a store before any of it is written.
+#[derive(Drop)]
+pub struct Recovery<'a> {
+    /// The log without its torn tail: the beginning of the new log.
+    pub kept: &'a [u8],
+    /// The frames of the records appended: the rest of the new log.
+    pub frames: Vec<u8>,
+    /// The new store.
+    pub store: Vec<u8>,
+    pub report: Report,
+}
+
+/// Recovers a store by its log, both read: [`restart`] on what their bytes spell, with the pages parted
+/// by number.
 ///
-/// Answers the new log (the log read without its torn tail, and the records that the restart appends),
-/// the new store and the report. The bytes do not depend on the options or the gate. On a lawful log and
-/// its store the new log is the log and its tail, each page of the new store has what the committed
-/// transactions' updates and compensations, in LSN order, make of an empty page, and a recovery of these
-/// bytes writes them again.
-///
-/// Refuses, in this order: [`Fault::BadWorkers`] and [`Fault::BadParting`] for options out of their
-/// ranges; the faults of [`wal::read_log`] for the log; those of [`page::decode_store`] for the store;
-/// those of [`restart`]. [`Fault::NoResource`], where memory or a thread was refused, may come in place of
-/// any answer.
-pub fn recover_bytes<G: Gate, R: Threads + Sync>(
+/// Refuses, in this order: the faults of [`wal::read_log`] for the log; those of [`page::decode_store`]
+/// for the store; those of [`restart`]. [`Fault::NoResource`], where memory or a thread was refused, may
+/// come in place of any answer.
+pub fn recovery_of<'a, G: Gate, R: Threads + Sync>(
     rt: &R,
     alloc: Global,
-    log: &[u8],
+    log: &'a [u8],
     store: &[u8],
     options: &Options,
     gate: &G,
-) -> Result<(Vec<u8>, Vec<u8>, Report), Fault>
+) -> Result<Recovery<'a>, Fault>
+    requires { AreInRange options.now }
+
     // On the bytes of a lawful log and its store.
-    ensures lawful { AreInRange options.now → (bytes : AreLawful log.now store.now)
-        → MatchResult result (λ x. Recovered bytes.are.records bytes.are.before x.0.items x.1.items x.2) (λ e. e ≡ NoResource) }
+    ensures lawful { (bytes : AreLawful log.now store.now)
+        → MatchResult result (λ x. Recovered bytes.are.records bytes.are.before (new_log x) x.store.items x.report) (λ e. e ≡ NoResource) }
 
     // Wherever it answers.
-    ensures answer { IfOk result (λ x. Recovers log.now store.now x.0.items x.1.items x.2) }
-    ensures options { (e : Fault) → OptionsFault options.now e → result ≡ Err e }
+    ensures answer { IfOk result (λ x. Recovers log.now store.now (new_log x) x.store.items x.report) }
 
     // A refusal has its cause in the input, memory aside.
     ensures cause { IfErr result (Cause log.now store.now options.now) }
 {
-    check_options(options)?;
     let (records, torn) = read_log(alloc, log)?;
     let before = decode_store(alloc, store)?;
     let parting = Parting::by_number(alloc, before.pages.len() as u32, options.parts)?;
@@ -134,7 +122,10 @@ pub fn recover_bytes<G: Gate, R: Threads + Sync>(
         options.workers,
         gate,
     )?;
-    let new_log = with_appended(alloc, log, &records, torn, &outcome.appended)?;
-    let new_store = encode_store(alloc, &outcome.store)?;
-    Ok((new_log, new_store, report_of(&records, torn, &outcome)))
+    Ok(Recovery {
+        kept: &log[..log.len() - torn],
+        frames: frames_of(alloc, &outcome.appended, records.next_lsn())?,
+        store: encode_store(alloc, &outcome.store)?,
+        report: report_of(&records, torn, &outcome),
+    })
 }

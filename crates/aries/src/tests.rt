@@ -1,7 +1,9 @@
 //! What no clause says: that calls succeed, what the program prints, its statuses and its files.
 
-use crate::rows::{Row, checkpoint_loser, one_loser, page_with, store_of, two_losers};
-use crate::{Options, recover_bytes, run};
+use crate::rows::{
+    Row, checkpoint_loser, one_loser, page_with, recover_in_memory, store_of, two_losers,
+};
+use crate::{Options, run};
 use page::{Fault, Page};
 use redo::OpenGate;
 use std::alloc::Global;
@@ -45,7 +47,7 @@ fn recovers_one_commit(rt: HostRuntime) -> Result<(), Fail> {
         workers: 4,
         parts: 16,
     };
-    let (new_log, new_store, report) = recover_bytes(
+    let (new_log, new_store, report) = recover_in_memory(
         &rt,
         rt.alloc(),
         ONE_COMMIT,
@@ -84,10 +86,10 @@ fn restarts_what_a_restart_wrote(rt: HostRuntime) -> Result<(), Fail> {
         let Row { given, made } = row;
         let store = store_of(alloc, master, &Page::empty(0))?;
         let after = store_of(alloc, master, &page_with(lsn, None, None))?;
-        let (log, store, _) = recover_bytes(&rt, alloc, &given.bytes, &store, &TWO, &OpenGate)?;
+        let (log, store, _) = recover_in_memory(&rt, alloc, &given.bytes, &store, &TWO, &OpenGate)?;
         assert_eq!(rt; log.as_slice(), made.bytes.as_slice());
         assert_eq!(rt; store.as_slice(), after.as_slice());
-        let (log, store, report) = recover_bytes(&rt, alloc, &log, &store, &TWO, &OpenGate)?;
+        let (log, store, report) = recover_in_memory(&rt, alloc, &log, &store, &TWO, &OpenGate)?;
         assert_eq!(rt; log.as_slice(), made.bytes.as_slice());
         assert_eq!(rt; store.as_slice(), after.as_slice());
         assert_eq!(rt;
@@ -101,7 +103,7 @@ fn restarts_what_a_restart_wrote(rt: HostRuntime) -> Result<(), Fail> {
 /// Whether a restart on these bytes ends as the rules have it: by an answer, or by a fault of theirs,
 /// among which 19 has no place.
 fn ends<R: Threads + Sync>(rt: &R, alloc: Global, log: &[u8], store: &[u8]) -> bool {
-    match recover_bytes(rt, alloc, log, store, &TWO, &OpenGate) {
+    match recover_in_memory(rt, alloc, log, store, &TWO, &OpenGate) {
         Ok(_) => true,
         Err(fault) => (6..=18).contains(&fault.number()) && fault.number() != 17,
     }
@@ -177,7 +179,7 @@ fn refuses_options_out_of_range(rt: HostRuntime) -> Result<(), Fail> {
         (1, 4097, Fault::BadParting),
     ] {
         let options = Options { workers, parts };
-        match recover_bytes(&rt, rt.alloc(), ONE_COMMIT, &store, &options, &OpenGate) {
+        match recover_in_memory(&rt, rt.alloc(), ONE_COMMIT, &store, &options, &OpenGate) {
             Ok(_) => assert!(rt; false, "{workers} workers, {parts} parts"),
             Err(refusal) => assert!(rt; refusal == fault, "{workers} workers, {parts} parts"),
         }

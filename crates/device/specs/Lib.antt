@@ -1,4 +1,5 @@
 pub mod Failures
 pub mod Files
 pub mod Memory
+pub mod Slow
 pub mod Whole

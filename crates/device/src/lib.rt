@@ -1,5 +1,6 @@
 //! Devices that bytes are read from and written to, each of which may fail at any call: over memory,
-//! over files, and what reads and writes all of one.
+//! over files, and what reads and writes all of one; and devices that fail when they are told to, for
+//! tests.
 #![tactic(auto)]
 
 mod failures;
@@ -7,7 +8,6 @@ mod file;
 #[cfg(test)]
 mod file_tests;
 mod memory;
-#[cfg(test)]
 mod slow;
 #[cfg(test)]
 mod tests;
@@ -17,5 +17,6 @@ mod whole;
 pub use failures::Failures;
 pub use file::{FileSink, FileSource};
 pub use memory::{MemorySink, MemorySource};
+pub use slow::{Pace, SlowSink, SlowSource};
 pub use traits::{Failed, Sink, Source};
 pub use whole::{ReadFault, read_all, write_all};

@@ -1,12 +1,14 @@
-//! Devices over memory that pass a few bytes a call, and fail at a call that is said beforehand.
+//! Devices for tests: over memory, they pass a few bytes a call and fail at a call that is said
+//! beforehand. They tell their bytes.
 
-ghost use Rattle.std.specs.Prelude.{Some, ◌<◌, ◌≤◌};
+ghost use Rattle.std.specs.Prelude.{◌≡◌, Some, None, [], IfOk, ◌<◌, ◌≤◌};
+ghost use Rattle.device.specs.Slow.{bytes_left, bytes_taken, read_failures, write_failures};
 
 use crate::{Failed, Failures, Sink, Source};
 use std::alloc::{AllocError, Global};
 
 /// How a device goes.
-#[derive(Clone, Copy)]
+#[derive(Clone, Copy, Debug)]
 pub struct Pace {
     /// How many bytes a call passes at most. 0 is taken for 1.
     pub step: usize,
@@ -18,7 +20,9 @@ pub struct Pace {
 
 impl Pace {
     /// A device that passes this many bytes a call and never fails.
-    pub fn of_step(step: usize) -> Pace {
+    pub fn of_step(step: usize) -> Pace
+        ensures { result ≡ record { step = step; fails_at = None; fails_flush = false } }
+    {
         Pace {
             step,
             fails_at: None,
@@ -59,7 +63,11 @@ pub struct SlowSource<'a> {
 }
 
 impl<'a> SlowSource<'a> {
-    pub fn new(bytes: &'a [u8], pace: Pace) -> SlowSource<'a> {
+    /// A source that has all of these bytes left.
+    pub fn new(bytes: &'a [u8], pace: Pace) -> SlowSource<'a>
+        ensures left { bytes_left result ≡ bytes.now }
+        ensures failures { read_failures result ≡ 0 }
+    {
         SlowSource {
             rest: bytes,
             pace,
@@ -69,9 +77,9 @@ impl<'a> SlowSource<'a> {
 }
 
 impl<'a> Source for SlowSource<'a> {
-    ghost failures = { λ source. source.failures.count };
+    ghost failures = { read_failures };
 
-    ghost left = { λ source. Some source.rest.now };
+    ghost left = { λ source. Some (bytes_left source) };
 
     fn read(&mut self, buffer: &mut [u8]) -> Result<usize, Failed> {
         if self.pace.is_due() {
@@ -95,8 +103,11 @@ pub struct SlowSink {
 }
 
 impl SlowSink {
-    /// A sink with room for so many bytes. `AllocError` where that was refused.
-    pub fn new(alloc: Global, room: usize, pace: Pace) -> Result<SlowSink, AllocError> {
+    /// A sink that has taken nothing, with room for so many bytes. `AllocError` where that was refused.
+    pub fn new(alloc: Global, room: usize, pace: Pace) -> Result<SlowSink, AllocError>
+        ensures taken { IfOk result (λ sink. bytes_taken sink ≡ []) }
+        ensures failures { IfOk result (λ sink. write_failures sink ≡ 0) }
+    {
         Ok(SlowSink {
             bytes: Vec::with_capacity(alloc, room)?,
             pace,
@@ -105,15 +116,17 @@ impl SlowSink {
     }
 
     /// The bytes taken so far.
-    pub fn bytes(&self) -> &[u8] {
+    pub fn bytes(&self) -> &[u8]
+        ensures { result.now ≡ bytes_taken self.now }
+    {
         &self.bytes
     }
 }
 
 impl Sink for SlowSink {
-    ghost failures = { λ sink. sink.failures.count };
+    ghost failures = { write_failures };
 
-    ghost taken = { λ sink. Some sink.bytes.items };
+    ghost taken = { λ sink. Some (bytes_taken sink) };
 
     fn write(&mut self, bytes: &[u8]) -> Result<usize, Failed> {
         let count = self.pace.count_of(bytes.len());

@@ -1,17 +1,20 @@
 //! The worked rows as files: runs `aries` on each row that `data/index` names, and compares what it
-//! prints and the files it makes with those of the row.
+//! prints and the files it makes with those of the row; restarts are run over devices in memory, too.
 #![tactic(auto)]
 
 mod cuts;
+mod memory;
 mod program;
 mod verdict;
 
 use anyhow::{Context, Result};
+use aries::Options;
 use cuts::Cuts;
 use std::fs;
 use std::rt::Files;
 use std::str::SplitWhitespace;
 use std::thread::Threads;
+use verdict::Verdict;
 
 /// Prints whether the audit of a row is as the row says.
 fn run_audit<R: Files + Print + AllocGlobal + Threads + Sync>(rt: &R, row: &str) -> Result<()> {
@@ -20,14 +23,21 @@ fn run_audit<R: Files + Print + AllocGlobal + Threads + Sync>(rt: &R, row: &str)
     Ok(())
 }
 
-/// Prints whether a restart of a row is as the row says.
+/// Prints whether a restart of a row is as the row says, over files and over memory.
 fn run_restart<R: Files + Print + AllocGlobal + Threads + Sync>(
     rt: &R,
     row: &str,
     workers: &str,
     parts: &str,
 ) -> Result<()> {
-    let verdict = verdict::of_restart(rt, row, workers, parts).context(format_args!("row {row}"))?;
+    let mut verdict = verdict::of_restart(rt, row, workers, parts).context(format_args!("row {row}"))?;
+    if verdict == Verdict::Same {
+        let options = Options {
+            workers: workers.parse::<u32>()?,
+            parts: parts.parse::<u32>()?,
+        };
+        verdict = memory::of_recovery(rt, row, &options).context(format_args!("row {row} in memory"))?;
+    }
     println!(rt; "{row}, {workers} workers, {parts} parts: {verdict}")?;
     Ok(())
 }

@@ -39,7 +39,7 @@ fn are_same<R: Files + AllocGlobal>(rt: &R, one: &str, other: &str) -> Result<bo
 
 /// Whether a run printed this and nothing else: to standard output where it answers by status 0, to
 /// standard error where it refuses by status 1.
-fn has_printed(printed: &Printed, expected: &[u8]) -> bool {
+pub fn has_printed(printed: &Printed, expected: &[u8]) -> bool {
     match printed.status {
         0 => printed.out.as_slice() == expected && printed.err.is_empty(),
         1 => printed.err.as_slice() == expected && printed.out.is_empty(),

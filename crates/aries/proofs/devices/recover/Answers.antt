@@ -1,38 +1,44 @@
 use Rattle.std.proofs.Common.{◌≡◌, refl, ◌∙◌}
 use Rattle.std.proofs.lemmas.Result.{err_from_is_err_and}
+use Rattle.aries.specs.Recovery.{new_log}
 use Rattle.aries.specs.Devices.{Makes}
-use Rattle.aries.proofs.Delivered.{told, lent_read, lent_lawful, device_cause, is_resource, left_out, lent_recovers, lent_recovered}
+use Rattle.aries.proofs.Delivered.{told, lent_read, lent_lawful, device_cause, is_resource, left_out, cut_lawful, completed}
 use Rattle.aries.proofs.devices.recover.Goals as goal
 
-pub returns-in_err-new_log-clause-lawful : goal.returns-in_err-new_log-clause-lawful
-returns-in_err-new_log-clause-lawful g c = λ log_text store_text tells_log tells_store range bytes.
-    let exit = err_from_is_err_and c.from_residual-in_err-new_log.result c.from_residual-in_err-new_log.ensures.1 in
+pub returns-in_err-recovery-clause-lawful : goal.returns-in_err-recovery-clause-lawful
+returns-in_err-recovery-clause-lawful g c = λ log_text store_text tells_log tells_store range bytes.
+    let exit = err_from_is_err_and c.from_residual-in_err-recovery.result c.from_residual-in_err-recovery.ensures.1 in
     let read = c.in_ok-log_text.ensures.read in
     let log_is : c.deref.result.now ≡ log_text = c.deref.ensures.value ∙ told _ c.in_ok-log_text.log_text.items log_text read.log_read tells_log in
     let store_is : c.deref-2.result.now ≡ store_text = c.deref-2.ensures.value ∙ told _ c.in_ok-log_text.store_text.items store_text read.store_read tells_store in
     rw (exit.1, exit.2)
-    (is_resource c.in_err-new_log.field-0.0 (c.in_err-new_log.ensures.lawful range (lent_lawful log_text store_text c.deref.result.now c.deref-2.result.now log_is store_is bytes)))
+    (is_resource c.in_err-recovery.field-0.0 (c.in_err-recovery.ensures.lawful (lent_lawful log_text store_text c.deref.result.now c.deref-2.result.now log_is store_is bytes)))
 
-pub returns-in_err-new_log-clause-cause : goal.returns-in_err-new_log-clause-cause
-returns-in_err-new_log-clause-cause g c =
-    let exit = err_from_is_err_and c.from_residual-in_err-new_log.result c.from_residual-in_err-new_log.ensures.1 in
+pub returns-in_err-recovery-clause-cause : goal.returns-in_err-recovery-clause-cause
+returns-in_err-recovery-clause-cause g c =
+    let exit = err_from_is_err_and c.from_residual-in_err-recovery.result c.from_residual-in_err-recovery.ensures.1 in
     rw (exit.1, exit.2)
-    (device_cause (g.LR.Source.left c.args.log.now) (g.SR.Source.left c.args.store.now) c.args.options.now c.deref.result.now c.deref-2.result.now c.in_err-new_log.field-0.0
+    (device_cause (g.LR.Source.left c.args.log.now) (g.SR.Source.left c.args.store.now) c.args.options.now c.deref.result.now c.deref-2.result.now c.in_err-recovery.field-0.0
     (lent_read _ _ c.in_ok-log_text.log_text.items c.in_ok-log_text.store_text.items c.deref.result.now c.deref-2.result.now c.in_ok-log_text.ensures.read c.deref.ensures.value c.deref-2.ensures.value)
-    c.in_err-new_log.ensures.cause)
+    c.in_err-recovery.ensures.cause)
+
+pub returns-in_err-recovery-clause-interrupted : goal.returns-in_err-recovery-clause-interrupted
+returns-in_err-recovery-clause-interrupted g c = λ log_text store_text tells_log tells_store range bytes.
+    returns-in_err-recovery-clause-lawful g c log_text store_text tells_log tells_store range (cut_lawful bytes)
 
 pub returns-in_err-write_both-clause-out : goal.returns-in_err-write_both-clause-out
 returns-in_err-write_both-clause-out g c =
     let exit = err_from_is_err_and c.from_residual-in_err-write_both.result c.from_residual-in_err-write_both.ensures.1 in
+    let recovery = c.in_ok-recovery.recovery in
     let made : Makes (g.LR.Source.left c.args.log.now) (g.SR.Source.left c.args.store.now) =
     record {
       log = c.deref.result.now;
       store = c.deref-2.result.now;
-      new_log = c.deref-3.result.now;
-      new_store = c.deref-4.result.now;
-      report = c.in_ok-new_log.report;
+      new_log = new_log recovery;
+      new_store = recovery.store.items;
+      report = recovery.report;
       are_read = lent_read _ _ c.in_ok-log_text.log_text.items c.in_ok-log_text.store_text.items c.deref.result.now c.deref-2.result.now c.in_ok-log_text.ensures.read c.deref.ensures.value c.deref-2.ensures.value;
-      recovers = lent_recovers c.deref.result.now c.deref-2.result.now c.in_ok-new_log.new_log.items c.in_ok-new_log.new_store.items c.deref-3.result.now c.deref-4.result.now c.in_ok-new_log.report c.deref-3.ensures.value c.deref-4.ensures.value c.in_ok-new_log.ensures.answer;
+      recovers = c.in_ok-recovery.ensures.answer;
     } in
     rw (exit.1, exit.2) (left_out _ _ _ _ _ _ made c.in_err-write_both.field-0.0 c.in_err-write_both.ensures.fault)
 
@@ -41,26 +47,31 @@ returns-clause-lawful g c = λ log_text store_text tells_log tells_store range b
     let read = c.in_ok-log_text.ensures.read in
     let log_is : c.deref.result.now ≡ log_text = c.deref.ensures.value ∙ told _ c.in_ok-log_text.log_text.items log_text read.log_read tells_log in
     let store_is : c.deref-2.result.now ≡ store_text = c.deref-2.ensures.value ∙ told _ c.in_ok-log_text.store_text.items store_text read.store_read tells_store in
-    let lawful = lent_lawful log_text store_text c.deref.result.now c.deref-2.result.now log_is store_is bytes in
+    let recovery = c.in_ok-recovery.recovery in
     record {
-      new_log = c.deref-3.result.now;
-      new_store = c.deref-4.result.now;
-      recovered = lent_recovered bytes.are.records bytes.are.before c.in_ok-new_log.new_log.items c.in_ok-new_log.new_store.items c.deref-3.result.now c.deref-4.result.now c.in_ok-new_log.report c.deref-3.ensures.value c.deref-4.ensures.value (c.in_ok-new_log.ensures.lawful range lawful);
+      new_log = new_log recovery;
+      new_store = recovery.store.items;
+      recovered = c.in_ok-recovery.ensures.lawful (lent_lawful log_text store_text c.deref.result.now c.deref-2.result.now log_is store_is bytes);
       log_out = c.in_ok-write_both.ensures.log_out;
       store_out = c.in_ok-write_both.ensures.store_out;
     }
 
+pub returns-clause-interrupted : goal.returns-clause-interrupted
+returns-clause-interrupted g c = λ log_text store_text tells_log tells_store range bytes.
+    completed bytes _ _ _ _ _ (returns-clause-lawful g c log_text store_text tells_log tells_store range (cut_lawful bytes))
+
 pub returns-clause-answer : goal.returns-clause-answer
 returns-clause-answer g c =
+    let recovery = c.in_ok-recovery.recovery in
     record {
       made = record {
         log = c.deref.result.now;
         store = c.deref-2.result.now;
-        new_log = c.deref-3.result.now;
-        new_store = c.deref-4.result.now;
-        report = c.in_ok-new_log.report;
+        new_log = new_log recovery;
+        new_store = recovery.store.items;
+        report = recovery.report;
         are_read = lent_read _ _ c.in_ok-log_text.log_text.items c.in_ok-log_text.store_text.items c.deref.result.now c.deref-2.result.now c.in_ok-log_text.ensures.read c.deref.ensures.value c.deref-2.ensures.value;
-        recovers = lent_recovers c.deref.result.now c.deref-2.result.now c.in_ok-new_log.new_log.items c.in_ok-new_log.new_store.items c.deref-3.result.now c.deref-4.result.now c.in_ok-new_log.report c.deref-3.ensures.value c.deref-4.ensures.value c.in_ok-new_log.ensures.answer;
+        recovers = c.in_ok-recovery.ensures.answer;
       };
       report_is = refl;
       log_out = c.in_ok-write_both.ensures.log_out;

@@ -10,16 +10,16 @@ use Rattle.aries.specs.declared.report.Report.{Report}
 use Rattle.aries.specs.Restart.{IsPartingOf, IsSettled}
 use Rattle.aries.specs.Recovery.{Are, Recovered}
 use Rattle.aries.proofs.Bytes.{restart_cause, is_lawful, read_alone, read_same, dealt_by_number}
-use Rattle.aries.proofs.recovery.recover_bytes.Goals as goal
+use Rattle.aries.proofs.recovery.recovery_of.Goals as goal
 
 pub returns-in_err-records-clause-lawful : goal.returns-in_err-records-clause-lawful
-returns-in_err-records-clause-lawful g c = λ range bytes.
+returns-in_err-records-clause-lawful g c = λ bytes.
     let exit = err_from_is_err_and c.from_residual-in_err-records.result c.from_residual-in_err-records.ensures.1 in
     rw (exit.1, exit.2)
     (read_alone (λ x. x) c.in_err-records.field-0.0 (bytes.are.records, bytes.are.torn) (c.in_err-records.ensures.only bytes.are.records bytes.are.torn bytes.are.reads))
 
 pub returns-in_err-outcome-clause-lawful : goal.returns-in_err-outcome-clause-lawful
-returns-in_err-outcome-clause-lawful g c = λ range bytes.
+returns-in_err-outcome-clause-lawful g c = λ bytes.
     let exit = err_from_is_err_and c.from_residual-in_err-outcome.result c.from_residual-in_err-outcome.ensures.1 in
     let records = c.in_ok-records.records in
     let before = c.in_ok-before.before in
@@ -28,19 +28,19 @@ returns-in_err-outcome-clause-lawful g c = λ range bytes.
     let dealt : IsPartingOf (length before.pages) c.in_ok-parting.parting =
     dealt_by_number c.len.result c.args.options.now.parts c.in_ok-parting.parting.part_of c.in_ok-parting.ensures.ok.1
     ∙ (c.len.ensures ∙ (c.before-2.inside.pages.ok.0 ∙ ap (λ (s : StoreContent). length s.pages) c.before-2.view_is)) in
-    rw (exit.1, exit.2) (c.in_err-outcome.ensures.lawful (is_lawful bytes records before (ap (λ x. x.0) read) same) (record { fit = range.workers; dealt = dealt }))
+    rw (exit.1, exit.2) (c.in_err-outcome.ensures.lawful (is_lawful bytes records before (ap (λ x. x.0) read) same) (record { fit = c.requires.workers; dealt = dealt }))
 
 pub returns-in_err-outcome-clause-cause : goal.returns-in_err-outcome-clause-cause
 returns-in_err-outcome-clause-cause g c =
     let exit = err_from_is_err_and c.from_residual-in_err-outcome.result c.from_residual-in_err-outcome.ensures.1 in
     let before = c.in_ok-before.before in
-    let range = c.in_ok-check_options.ensures.ok in
+    let range = c.requires in
     let are : Are c.args.log.now c.args.store.now = record { records = c.in_ok-records.records; torn = c.in_ok-records.torn; before = before; reads = c.in_ok-records.ensures.found; spells = c.in_ok-before.ensures.found } in
     let dealt : IsPartingOf (length before.pages) c.in_ok-parting.parting =
     dealt_by_number c.len.result c.args.options.now.parts c.in_ok-parting.parting.part_of c.in_ok-parting.ensures.ok.1
     ∙ (c.len.ensures ∙ (c.before-2.inside.pages.ok.0 ∙ ap (λ (s : StoreContent). length s.pages) c.before-2.view_is)) in
     rw (exit.1, exit.2)
-    (restart_cause c.args.log.now c.args.store.now c.args.options.now c.in_ok-parting.parting c.in_err-outcome.field-0.0 range are (record { fit = range.workers; dealt = dealt }) c.in_err-outcome.ensures.fault)
+    (restart_cause c.args.log.now c.args.store.now c.args.options.now c.in_ok-parting.parting c.in_err-outcome.field-0.0 range are (record { fit = c.requires.workers; dealt = dealt }) c.in_err-outcome.ensures.fault)
 
 pub returns-clause-answer : goal.returns-clause-answer
 returns-clause-answer g c =
@@ -55,7 +55,7 @@ returns-clause-answer g c =
     }
 
 pub returns-clause-lawful : goal.returns-clause-lawful
-returns-clause-lawful g c = λ range bytes.
+returns-clause-lawful g c = λ bytes.
     let records = c.in_ok-records.records in
     let before = c.in_ok-before.before in
     let outcome = c.in_ok-outcome.outcome in
@@ -64,7 +64,7 @@ returns-clause-lawful g c = λ range bytes.
     let dealt : IsPartingOf (length before.pages) c.in_ok-parting.parting =
     dealt_by_number c.len.result c.args.options.now.parts c.in_ok-parting.parting.part_of c.in_ok-parting.ensures.ok.1
     ∙ (c.len.ensures ∙ (c.before-2.inside.pages.ok.0 ∙ ap (λ (s : StoreContent). length s.pages) c.before-2.view_is)) in
-    let restored = c.in_ok-outcome.ensures.lawful (is_lawful bytes records before (ap (λ x. x.0) read) same) (record { fit = range.workers; dealt = dealt }) in
+    let restored = c.in_ok-outcome.ensures.lawful (is_lawful bytes records before (ap (λ x. x.0) read) same) (record { fit = c.requires.workers; dealt = dealt }) in
     let here : Recovered records before c.in_ok-new_log.new_log.items c.in_ok-new_store.new_store.items c.report_of.result =
     record {
       log_is = c.in_ok-new_log.ensures.text ∙ (ap (λ rs. log_text (records ++ map content rs)) c.deref.ensures.value ∙ ap (λ (rs : List LogRecord). log_text (records ++ rs)) restored.appended);

@@ -4,7 +4,7 @@ use Rattle.wal.specs.Records.{LogRecord}
 use Rattle.wal.specs.Content.{content}
 use Rattle.wal.specs.Reads.{spellings}
 use Rattle.aries.proofs.Bytes.{spellings_push}
-use Rattle.aries.proofs.recovery.write_frames.Goals as goal
+use Rattle.aries.proofs.recovery.frames_of.Goals as goal
 
 pub loop-record-preserved : goal.loop-record-preserved
 loop-record-preserved c =
@@ -17,9 +17,9 @@ loop-record-preserved c =
     let more : map content (take (i + 1) records) ≡ done ++ content entry ∷ [] =
     ap (map content) (take_more records i entry within ∙ ap (λ r. take i records ++ r ∷ []) (sym c.record-item.is)) ∙ map_push content (take i records) entry in
     record {
-      next_is = omega (arith, c.loop-record.invariant.next_is);
-      out_is =
-          spellings_push c.args.out.now.items c.loop-record.out.items c.write_frame.new.out.items c.args.lsn c.loop-record.next done (content entry)
-          (omega (arith, c.loop-record.invariant.next_is, count)) c.loop-record.invariant.out_is c.in_ok-write_frame.ensures.ok
-          ∙ ap (λ (rs : List LogRecord). c.args.out.now.items ++ spellings c.args.lsn rs) (sym more);
+      lsn_is = omega (arith, c.loop-record.invariant.lsn_is);
+      frames_are =
+          spellings_push c.loop-record.frames.items c.write_frame.new.out.items c.args.first c.loop-record.lsn done (content entry)
+          (omega (arith, c.loop-record.invariant.lsn_is, count)) c.loop-record.invariant.frames_are c.in_ok-write_frame.ensures.ok
+          ∙ ap (spellings c.args.first) (sym more);
     }

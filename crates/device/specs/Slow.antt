@@ -1,0 +1,20 @@
+-- What the devices for tests tell (own).
+use Rattle.std.specs.Prelude.{ℕ, List}
+use Rattle.device.specs.declared.slow.SlowSource.{SlowSource}
+use Rattle.device.specs.declared.slow.SlowSink.{SlowSink}
+
+-- the bytes that are left to be read
+abbrev pub bytes_left : SlowSource → List ℕ
+bytes_left source = source.rest.now
+
+-- the bytes taken so far
+abbrev pub bytes_taken : SlowSink → List ℕ
+bytes_taken sink = sink.bytes.items
+
+-- how often it failed, reading
+abbrev pub read_failures : SlowSource → ℕ
+read_failures source = source.failures.count
+
+-- how often it failed, writing
+abbrev pub write_failures : SlowSink → ℕ
+write_failures sink = sink.failures.count
