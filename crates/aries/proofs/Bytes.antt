@@ -59,9 +59,9 @@ spellings_push out new lsn next xs x at before after =
     ∙ sym (spellings-append lsn xs (x ∷ []) ∙ ap (λ (s : List ℕ). spellings lsn xs ++ s) (append-nil (frame x (lsn + length xs))))
 
 -- the text of a log, and behind it the frames of more records
-pub text_extended : (records more : List LogRecord) (kept text : List ℕ) (lsn : ℕ) → kept ≡ log_text records → lsn ≡ length records + 1 → text ≡ kept ++ spellings lsn more → text ≡ log_text (records ++ more)
-text_extended records more kept text lsn front at is =
-    is ∙ ap₂ (λ (k : List ℕ) n. k ++ spellings n more) front (at ∙ omega arith)
+pub text_extended : (records more : List LogRecord) (kept frames : List ℕ) (lsn : ℕ) → kept ≡ log_text records → lsn ≡ length records + 1 → frames ≡ spellings lsn more → kept ++ frames ≡ log_text (records ++ more)
+text_extended records more kept frames lsn front at behind =
+    ap₂ (λ (k : List ℕ) (f : List ℕ). k ++ f) front (behind ∙ ap (λ n. spellings n more) (at ∙ omega arith))
     ∙ append_assoc header (spellings 1 records) (spellings (1 + length records) more)
     ∙ ap (λ (s : List ℕ). header ++ s) (sym (spellings-append 1 records more))
 

@@ -1,5 +1,6 @@
 -- A recovery over devices: what was read, what is out, and why it is refused.
-use Rattle.std.proofs.Common.{ℕ, ◌≡◌, ◌+◌, List, ◌++◌, length, take, Option, Some, None, sym, subst, ap, ◌∙◌, arith, length-append, take-append-le}
+use Rattle.std.proofs.Common.{ℕ, ◌≡◌, ◌+◌, List, ◌++◌, length, take, Option, Some, None, sym, subst, ap, ◌∙◌, arith, length-append}
+use Rattle.std.proofs.lemmas.List.{take-append-le}
 use Rattle.std.proofs.Math.Seq.{take-append-add}
 use Rattle.std.proofs.KnownBytes.{Appends-trans}
 use Rattle.std.specs.Io.KnownBytes.{Appends}
@@ -30,14 +31,16 @@ pub lent_read : (log_left store_left : Option (List ℕ)) (log store lent_log le
 lent_read log_left store_left log store lent_log lent_store read e f =
     record { log_read = subst (Gave log_left) (sym e) read.log_read; store_read = subst (Gave store_left) (sym f) read.store_read }
 
-abbrev pub lent_lawful : (log store lent_log lent_store : List ℕ) → lent_log ≡ log → lent_store ≡ store → AreLawful log store → AreLawful lent_log lent_store
-lent_lawful log store lent_log lent_store e f bytes = record {
+-- and where the sources tell lawful bytes, it is lawful
+abbrev pub lent_lawful : {log_left store_left : Option (List ℕ)} (log store lent_log lent_store log_text store_text : List ℕ) → AreRead log_left store_left log store → lent_log ≡ log → lent_store ≡ store
+    → log_left ≡ Some log_text → store_left ≡ Some store_text → AreLawful log_text store_text → AreLawful lent_log lent_store
+lent_lawful {log_left} {store_left} log store lent_log lent_store log_text store_text read e f tells_log tells_store bytes = record {
   are = record {
     records = bytes.are.records;
     torn = bytes.are.torn;
     before = bytes.are.before;
-    reads = subst (λ l. Reads l bytes.are.records bytes.are.torn) (sym e) bytes.are.reads;
-    spells = subst (λ s. SpellsStore s bytes.are.before) (sym f) bytes.are.spells;
+    reads = subst (λ l. Reads l bytes.are.records bytes.are.torn) (sym (e ∙ told log_left log log_text read.log_read tells_log)) bytes.are.reads;
+    spells = subst (λ s. SpellsStore s bytes.are.before) (sym (f ∙ told store_left store store_text read.store_read tells_store)) bytes.are.spells;
   };
   lawful = bytes.lawful;
 }
@@ -76,9 +79,10 @@ behind_front before between after front back out (count, within, taken) =
 
 -- AFTER AN INTERRUPTION
 module _ {log store : List ℕ} (bytes : AreCut log store) where
-  goes_on : GoesOn bytes.first.are.records bytes.first.are.before bytes.cut.whole bytes.left
-  goes_on = cuts_settle bytes.first.are.records bytes.first.are.before bytes.first_log bytes.first.are.torn log bytes.left
-  bytes.first.are.reads bytes.first.are.spells.fits.numbered bytes.spells.fits.numbered bytes.first.lawful bytes.cut
+  pub goes_on : GoesOn bytes.first.are.records bytes.first.are.before bytes.cut.whole bytes.left
+  goes_on =
+      cuts_settle bytes.first.are.records bytes.first.are.before bytes.first_log bytes.first.are.torn log bytes.left
+      bytes.first.are.reads bytes.first.are.spells.fits.numbered bytes.spells.fits.numbered bytes.first.lawful bytes.cut
 
   -- what an interrupted restart leaves is lawful
   abbrev pub cut_lawful : AreLawful log store

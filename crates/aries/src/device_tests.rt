@@ -89,7 +89,11 @@ fn seen<R: Threads + Sync>(
     if !new_log.starts_with(out_log.bytes()) || !new_store.starts_with(out_store.bytes()) {
         return Err(Fail::new("not a beginning"));
     }
-    Ok((answer.map(|_| ()), out_log.bytes().len(), out_store.bytes().len()))
+    Ok((
+        answer.map(|_| ()),
+        out_log.bytes().len(),
+        out_store.bytes().len(),
+    ))
 }
 
 #[test]
@@ -102,27 +106,42 @@ fn one_loser_over_devices(rt: HostRuntime) -> Result<(), Fail> {
         ("one-byte-a-call", Paces::of_step(1), (Ok(()), 105, 1048)),
         (
             "log-sink-fails-at-40",
-            Paces { log_sink: failing(40, 2), ..fast },
+            Paces {
+                log_sink: failing(40, 2),
+                ..fast
+            },
             (Err(Fault::WriteLog), 40, 0),
         ),
         (
             "log-flush-fails",
-            Paces { log_sink: unflushed(), ..fast },
+            Paces {
+                log_sink: unflushed(),
+                ..fast
+            },
             (Err(Fault::WriteLog), 105, 0),
         ),
         (
             "store-sink-fails-at-24",
-            Paces { store_sink: failing(24, 2), ..fast },
+            Paces {
+                store_sink: failing(24, 2),
+                ..fast
+            },
             (Err(Fault::WriteStore), 105, 24),
         ),
         (
             "store-flush-fails",
-            Paces { store_sink: unflushed(), ..fast },
+            Paces {
+                store_sink: unflushed(),
+                ..fast
+            },
             (Err(Fault::WriteStore), 105, 1048),
         ),
         (
             "store-source-fails",
-            Paces { store_source: failing(1000, 2), ..fast },
+            Paces {
+                store_source: failing(1000, 2),
+                ..fast
+            },
             (Err(Fault::ReadStore), 0, 0),
         ),
     ] {
@@ -140,12 +159,18 @@ fn one_commit_over_devices(rt: HostRuntime) -> Result<(), Fail> {
     };
     let after = page_with(1, Some(b'a'), None);
     let fast = Paces::fast();
-    let log_writer_fails = Paces { log_sink: failing(usize::MAX, 1), ..fast };
+    let log_writer_fails = Paces {
+        log_sink: failing(usize::MAX, 1),
+        ..fast
+    };
     assert_eq!(rt;
         seen(&rt, alloc, &row, &after, &log_writer_fails)?,
         (Err(Fault::WriteLog), 0, 0)
     );
-    let store_writer_fails = Paces { store_sink: failing(usize::MAX, 1), ..fast };
+    let store_writer_fails = Paces {
+        store_sink: failing(usize::MAX, 1),
+        ..fast
+    };
     assert_eq!(rt;
         seen(&rt, alloc, &row, &after, &store_writer_fails)?,
         (Err(Fault::WriteStore), 66, 0)
@@ -168,10 +193,22 @@ impl Device {
         let paces = Paces::of_step(7);
         let pace = failing(7, call);
         match self {
-            Device::LogSource => Paces { log_source: pace, ..paces },
-            Device::StoreSource => Paces { store_source: pace, ..paces },
-            Device::LogSink => Paces { log_sink: pace, ..paces },
-            Device::StoreSink => Paces { store_sink: pace, ..paces },
+            Device::LogSource => Paces {
+                log_source: pace,
+                ..paces
+            },
+            Device::StoreSource => Paces {
+                store_source: pace,
+                ..paces
+            },
+            Device::LogSink => Paces {
+                log_sink: pace,
+                ..paces
+            },
+            Device::StoreSink => Paces {
+                store_sink: pace,
+                ..paces
+            },
         }
     }
 
@@ -182,7 +219,8 @@ impl Device {
             (Device::LogSource, (Err(Fault::ReadLog), 0, 0)) => true,
             (Device::StoreSource, (Err(Fault::ReadStore), 0, 0)) => true,
             (Device::LogSink, (Err(Fault::WriteLog), taken, 0)) => *taken <= log,
-            (Device::StoreSink, (Err(Fault::WriteStore), whole, taken)) => *whole == log && *taken <= store,
+            (Device::StoreSink, (Err(Fault::WriteStore), whole, taken)) => *whole == log
+                && *taken <= store,
             _ => false,
         }
     }
@@ -225,7 +263,11 @@ fn each_device_fails_at_each_call(rt: HostRuntime) -> Result<(), Fail> {
             (Device::LogSink, new_log_calls),
             (Device::StoreSink, 151),
         ] {
-            assert_eq!(rt; failing_calls(&rt, alloc, &row, &after, device)?, calls, "{device:?}");
+            assert_eq!(rt;
+                failing_calls(&rt, alloc, &row, &after, device)?,
+                calls,
+                "{device:?}"
+            );
         }
     }
     Ok(())

@@ -104,7 +104,9 @@ fn any_options_give_the_same(rt: HostRuntime) -> Result<(), Fail> {
     for workers in [1, 2, 64] {
         for parts in [1, 10, 4096] {
             let options = Options { workers, parts };
-            let (_, new_store, _) = recover_in_memory(&rt, alloc, &log, &store, &options, &OpenGate)?;
+            let (_, new_store, _) = recover_in_memory(
+                &rt, alloc, &log, &store, &options, &OpenGate,
+            )?;
             let after = decode_store(alloc, &new_store)?;
             assert!(rt;
                 are_all_changed(&after.pages),

@@ -1,7 +1,7 @@
 //! Devices for tests: over memory, they pass a few bytes a call and fail at a call that is said
 //! beforehand. They tell their bytes.
 
-ghost use Rattle.std.specs.Prelude.{◌≡◌, Some, None, [], IfOk, ◌<◌, ◌≤◌};
+ghost use Rattle.std.specs.Prelude.{◌≡◌, Some, None, false, [], IfOk, ◌<◌, ◌≤◌};
 ghost use Rattle.device.specs.Slow.{bytes_left, bytes_taken, read_failures, write_failures};
 
 use crate::{Failed, Failures, Sink, Source};

@@ -30,15 +30,32 @@ fn run_restart<R: Files + Print + AllocGlobal + Threads + Sync>(
     workers: &str,
     parts: &str,
 ) -> Result<()> {
-    let mut verdict = verdict::of_restart(rt, row, workers, parts).context(format_args!("row {row}"))?;
+    let mut verdict = verdict::of_restart(rt, row, workers, parts).context(format_args!(
+        "row {row}"
+    ))?;
     if verdict == Verdict::Same {
         let options = Options {
             workers: workers.parse::<u32>()?,
             parts: parts.parse::<u32>()?,
         };
-        verdict = memory::of_recovery(rt, row, &options).context(format_args!("row {row} in memory"))?;
+        verdict = memory::of_recovery(rt, row, &options).context(format_args!(
+            "row {row} in memory"
+        ))?;
     }
     println!(rt; "{row}, {workers} workers, {parts} parts: {verdict}")?;
+    Ok(())
+}
+
+/// Prints whether a restart of a row over slow devices is as the row says.
+fn run_slow<R: Files + Print + AllocGlobal + Threads + Sync>(rt: &R, row: &str) -> Result<()> {
+    let options = Options {
+        workers: 2,
+        parts: 3,
+    };
+    let verdict = memory::of_slow_recovery(rt, row, &options).context(format_args!(
+        "row {row}, slow"
+    ))?;
+    println!(rt; "{row}, slow devices: {verdict}")?;
     Ok(())
 }
 
@@ -62,14 +79,17 @@ fn run_cuts<R: Files + Print + AllocGlobal + Threads + Sync>(
     Ok(())
 }
 
-/// Runs what a line says of a row: the folder, and then `audit`; or `cuts`, the PageLSN of the page and
-/// the sizes of the shortest and the longest log; or the workers and the parts of a restart.
+/// Runs what a line says of a row: the folder, and then `audit`; or `slow`; or `cuts`, the PageLSN of the
+/// page and the sizes of the shortest and the longest log; or the workers and the parts of a restart.
 fn run_line<R: Files + Print + AllocGlobal + Threads + Sync>(rt: &R, line: &str) -> Result<()> {
     let mut words = line.split_whitespace();
     let row = words.next().context("a row without a name")?;
     let command = words.next().context("a row without a command")?;
     if command == "audit" {
         return run_audit(rt, row);
+    }
+    if command == "slow" {
+        return run_slow(rt, row);
     }
     if command == "cuts" {
         return run_cuts(rt, row, &mut words);

@@ -1,10 +1,9 @@
-//! Recovery over devices in memory.
+//! Recovery over devices in memory, fast and slow.
 
-use crate::program::Printed;
-use crate::verdict::{Verdict, has_printed};
-use anyhow::Result;
-use aries::{Options, recover, report_text};
-use device::{MemorySink, MemorySource};
+use crate::verdict::Verdict;
+use anyhow::{Context, Result};
+use aries::{Options, Report, recover, report_text};
+use device::{MemorySink, MemorySource, Pace, SlowSink, SlowSource};
 use page::Fault;
 use redo::OpenGate;
 use std::fs;
@@ -12,73 +11,124 @@ use std::io::Write;
 use std::rt::Files;
 use std::thread::Threads;
 
-/// What the program prints of this answer.
-fn printed_of<R: AllocGlobal>(rt: &R, answer: Result<aries::Report, Fault>) -> Result<Printed> {
-    let mut printed = Printed {
-        status: 0,
-        out: Vec::new(rt.alloc()),
-        err: Vec::new(rt.alloc()),
-    };
+/// A row: what is read, and what comes of it.
+#[derive(Drop)]
+struct Row {
+    log: Vec<u8>,
+    store: Vec<u8>,
+    /// The report, or the line of a fault.
+    printed: Vec<u8>,
+    /// The new log; nothing after a fault.
+    new_log: Vec<u8>,
+    /// The new store; nothing after a fault.
+    new_store: Vec<u8>,
+}
+
+/// The bytes of a row's file.
+fn file_of<R: Files + AllocGlobal>(rt: &R, row: &str, file: &str) -> Result<Vec<u8>> {
+    let path = format!(in rt.alloc(); "{row}/{file}")?;
+    let bytes = fs::read(rt, path.as_str()).context(format_args!("reading {row}/{file}"))?;
+    Ok(bytes)
+}
+
+impl Row {
+    fn read<R: Files + AllocGlobal>(rt: &R, row: &str) -> Result<Row> {
+        let printed = file_of(rt, row, "printed")?;
+        let (new_log, new_store) = if printed.starts_with(b"fault ") {
+            (Vec::new(rt.alloc()), Vec::new(rt.alloc()))
+        } else {
+            (file_of(rt, row, "out-log")?, file_of(rt, row, "out-store")?)
+        };
+        Ok(Row {
+            log: file_of(rt, row, "log")?,
+            store: file_of(rt, row, "store")?,
+            printed,
+            new_log,
+            new_store,
+        })
+    }
+
+    /// Whether an answer, and what the sinks took, are the row's.
+    fn verdict_on<R: AllocGlobal>(
+        &self,
+        rt: &R,
+        answer: Result<Report, Fault>,
+        log: &[u8],
+        store: &[u8],
+    ) -> Result<Verdict> {
+        if answer == Err(Fault::NoResource) && log.is_empty() && store.is_empty() {
+            return Ok(Verdict::NoResource);
+        }
+        if printed_of(rt, answer)? != self.printed {
+            return Ok(Verdict::AnotherAnswer);
+        }
+        if log != self.new_log.as_slice() {
+            return Ok(Verdict::AnotherLog);
+        }
+        if store != self.new_store.as_slice() {
+            return Ok(Verdict::AnotherStore);
+        }
+        Ok(Verdict::Same)
+    }
+}
+
+/// What the program prints of an answer.
+fn printed_of<R: AllocGlobal>(rt: &R, answer: Result<Report, Fault>) -> Result<Vec<u8>> {
     match answer {
-        Ok(report) => printed.out = report_text(rt.alloc(), &report)?,
+        Ok(report) => Ok(report_text(rt.alloc(), &report)?),
         Err(fault) => {
-            printed.status = 1;
-            writeln!(printed.err, "fault {}: {fault}", fault.number())?;
+            let mut line = Vec::new(rt.alloc());
+            writeln!(line, "fault {}: {fault}", fault.number())?;
+            Ok(line)
         }
     }
-    Ok(printed)
 }
 
-/// Whether sinks took the row's new log and store.
-fn of_sinks<R: Files + AllocGlobal>(
-    rt: &R,
-    row: &str,
-    log: &MemorySink,
-    store: &MemorySink,
-) -> Result<Verdict> {
-    let new_log = fs::read(rt, format!(in rt.alloc(); "{row}/out-log")?)?;
-    if log.bytes() != new_log.as_slice() {
-        return Ok(Verdict::AnotherLog);
-    }
-    let new_store = fs::read(rt, format!(in rt.alloc(); "{row}/out-store")?)?;
-    if store.bytes() != new_store.as_slice() {
-        return Ok(Verdict::AnotherStore);
-    }
-    Ok(Verdict::Same)
-}
-
-/// Whether a recovery of the row's log and store over memory answers what the row says, and its sinks
-/// take the row's new log and store, or nothing where it refuses.
+/// Whether a recovery of a row over memory does what the row says.
 pub fn of_recovery<R: Files + AllocGlobal + Threads + Sync>(
     rt: &R,
     row: &str,
     options: &Options,
 ) -> Result<Verdict> {
-    let log = fs::read(rt, format!(in rt.alloc(); "{row}/log")?)?;
-    let store = fs::read(rt, format!(in rt.alloc(); "{row}/store")?)?;
-    let expected = fs::read(rt, format!(in rt.alloc(); "{row}/printed")?)?;
+    let row = Row::read(rt, row)?;
     let mut out_log = MemorySink::new(rt.alloc());
     let mut out_store = MemorySink::new(rt.alloc());
     let answer = recover(
         rt,
         rt.alloc(),
-        &mut MemorySource::new(&log),
-        &mut MemorySource::new(&store),
+        &mut MemorySource::new(&row.log),
+        &mut MemorySource::new(&row.store),
         &mut out_log,
         &mut out_store,
         options,
         &OpenGate,
     );
-    let printed = printed_of(rt, answer)?;
-    if !has_printed(&printed, &expected) {
-        return Ok(Verdict::AnotherAnswer);
-    }
-    if printed.status == 0 {
-        return of_sinks(rt, row, &out_log, &out_store);
-    }
-    Ok(if out_log.bytes().is_empty() && out_store.bytes().is_empty() {
-        Verdict::Same
-    } else {
-        Verdict::AnotherLog
-    })
+    row.verdict_on(rt, answer, out_log.bytes(), out_store.bytes())
+}
+
+/// How many bytes a slow device passes a call.
+const STEP: usize = 7;
+
+/// Whether a recovery of a row over slow devices does what the row says. The sinks have their room
+/// before it starts.
+pub fn of_slow_recovery<R: Files + AllocGlobal + Threads + Sync>(
+    rt: &R,
+    row: &str,
+    options: &Options,
+) -> Result<Verdict> {
+    let row = Row::read(rt, row)?;
+    let pace = Pace::of_step(STEP);
+    let mut out_log = SlowSink::new(rt.alloc(), row.new_log.len(), pace)?;
+    let mut out_store = SlowSink::new(rt.alloc(), row.new_store.len(), pace)?;
+    let answer = recover(
+        rt,
+        rt.alloc(),
+        &mut SlowSource::new(&row.log, pace),
+        &mut SlowSource::new(&row.store, pace),
+        &mut out_log,
+        &mut out_store,
+        options,
+        &OpenGate,
+    );
+    row.verdict_on(rt, answer, out_log.bytes(), out_store.bytes())
 }

@@ -17,6 +17,8 @@ pub enum Verdict {
     AnotherLog,
     /// It made another store.
     AnotherStore,
+    /// Memory or a thread was refused, and nothing is out.
+    NoResource,
 }
 
 impl fmt::Display for Verdict {
@@ -26,6 +28,7 @@ impl fmt::Display for Verdict {
             Verdict::AnotherAnswer => "another answer",
             Verdict::AnotherLog => "another log",
             Verdict::AnotherStore => "another store",
+            Verdict::NoResource => "no resource, and nothing out",
         })
     }
 }
@@ -39,7 +42,7 @@ fn are_same<R: Files + AllocGlobal>(rt: &R, one: &str, other: &str) -> Result<bo
 
 /// Whether a run printed this and nothing else: to standard output where it answers by status 0, to
 /// standard error where it refuses by status 1.
-pub fn has_printed(printed: &Printed, expected: &[u8]) -> bool {
+fn has_printed(printed: &Printed, expected: &[u8]) -> bool {
     match printed.status {
         0 => printed.out.as_slice() == expected && printed.err.is_empty(),
         1 => printed.err.as_slice() == expected && printed.out.is_empty(),

@@ -1,18 +1,25 @@
-use Rattle.std.proofs.Common.{◌≡◌, refl, ◌∙◌}
+use Rattle.std.proofs.Common.{refl}
 use Rattle.std.proofs.lemmas.Result.{err_from_is_err_and}
 use Rattle.aries.specs.Recovery.{new_log}
 use Rattle.aries.specs.Devices.{Makes}
-use Rattle.aries.proofs.Delivered.{told, lent_read, lent_lawful, device_cause, is_resource, left_out, cut_lawful, completed}
+use Rattle.aries.proofs.Delivered.{lent_read, lent_lawful, device_cause, is_resource, left_out, cut_lawful, completed}
 use Rattle.aries.proofs.devices.recover.Goals as goal
 
 pub returns-in_err-recovery-clause-lawful : goal.returns-in_err-recovery-clause-lawful
 returns-in_err-recovery-clause-lawful g c = λ log_text store_text tells_log tells_store range bytes.
     let exit = err_from_is_err_and c.from_residual-in_err-recovery.result c.from_residual-in_err-recovery.ensures.1 in
-    let read = c.in_ok-log_text.ensures.read in
-    let log_is : c.deref.result.now ≡ log_text = c.deref.ensures.value ∙ told _ c.in_ok-log_text.log_text.items log_text read.log_read tells_log in
-    let store_is : c.deref-2.result.now ≡ store_text = c.deref-2.ensures.value ∙ told _ c.in_ok-log_text.store_text.items store_text read.store_read tells_store in
+    let read = c.in_ok-log_text in
     rw (exit.1, exit.2)
-    (is_resource c.in_err-recovery.field-0.0 (c.in_err-recovery.ensures.lawful (lent_lawful log_text store_text c.deref.result.now c.deref-2.result.now log_is store_is bytes)))
+    (is_resource c.in_err-recovery.field-0.0
+    (c.in_err-recovery.ensures.lawful (lent_lawful read.log_text.items read.store_text.items c.deref.result.now c.deref-2.result.now log_text store_text read.ensures.read c.deref.ensures.value c.deref-2.ensures.value tells_log tells_store bytes)))
+
+pub returns-in_err-recovery-clause-interrupted : goal.returns-in_err-recovery-clause-interrupted
+returns-in_err-recovery-clause-interrupted g c = λ log_text store_text tells_log tells_store range bytes.
+    let exit = err_from_is_err_and c.from_residual-in_err-recovery.result c.from_residual-in_err-recovery.ensures.1 in
+    let read = c.in_ok-log_text in
+    rw (exit.1, exit.2)
+    (is_resource c.in_err-recovery.field-0.0
+    (c.in_err-recovery.ensures.lawful (lent_lawful read.log_text.items read.store_text.items c.deref.result.now c.deref-2.result.now log_text store_text read.ensures.read c.deref.ensures.value c.deref-2.ensures.value tells_log tells_store (cut_lawful bytes))))
 
 pub returns-in_err-recovery-clause-cause : goal.returns-in_err-recovery-clause-cause
 returns-in_err-recovery-clause-cause g c =
@@ -21,10 +28,6 @@ returns-in_err-recovery-clause-cause g c =
     (device_cause (g.LR.Source.left c.args.log.now) (g.SR.Source.left c.args.store.now) c.args.options.now c.deref.result.now c.deref-2.result.now c.in_err-recovery.field-0.0
     (lent_read _ _ c.in_ok-log_text.log_text.items c.in_ok-log_text.store_text.items c.deref.result.now c.deref-2.result.now c.in_ok-log_text.ensures.read c.deref.ensures.value c.deref-2.ensures.value)
     c.in_err-recovery.ensures.cause)
-
-pub returns-in_err-recovery-clause-interrupted : goal.returns-in_err-recovery-clause-interrupted
-returns-in_err-recovery-clause-interrupted g c = λ log_text store_text tells_log tells_store range bytes.
-    returns-in_err-recovery-clause-lawful g c log_text store_text tells_log tells_store range (cut_lawful bytes)
 
 pub returns-in_err-write_both-clause-out : goal.returns-in_err-write_both-clause-out
 returns-in_err-write_both-clause-out g c =
@@ -44,14 +47,13 @@ returns-in_err-write_both-clause-out g c =
 
 pub returns-clause-lawful : goal.returns-clause-lawful
 returns-clause-lawful g c = λ log_text store_text tells_log tells_store range bytes.
-    let read = c.in_ok-log_text.ensures.read in
-    let log_is : c.deref.result.now ≡ log_text = c.deref.ensures.value ∙ told _ c.in_ok-log_text.log_text.items log_text read.log_read tells_log in
-    let store_is : c.deref-2.result.now ≡ store_text = c.deref-2.ensures.value ∙ told _ c.in_ok-log_text.store_text.items store_text read.store_read tells_store in
+    let read = c.in_ok-log_text in
     let recovery = c.in_ok-recovery.recovery in
     record {
       new_log = new_log recovery;
       new_store = recovery.store.items;
-      recovered = c.in_ok-recovery.ensures.lawful (lent_lawful log_text store_text c.deref.result.now c.deref-2.result.now log_is store_is bytes);
+      recovered =
+          c.in_ok-recovery.ensures.lawful (lent_lawful read.log_text.items read.store_text.items c.deref.result.now c.deref-2.result.now log_text store_text read.ensures.read c.deref.ensures.value c.deref-2.ensures.value tells_log tells_store bytes);
       log_out = c.in_ok-write_both.ensures.log_out;
       store_out = c.in_ok-write_both.ensures.store_out;
     }

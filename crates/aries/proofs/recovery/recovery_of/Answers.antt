@@ -1,20 +1,20 @@
-use Rattle.std.proofs.Common.{◌≡◌, ◌++◌, List, length, map, ap, ◌∙◌, subst}
+use Rattle.std.proofs.Common.{◌≡◌, ◌-◌, ◌++◌, List, length, take, map, ap, ◌∙◌, subst}
 use Rattle.std.proofs.lemmas.Result.{err_from_is_err_and}
 use Rattle.page.specs.Store.{StoreContent}
 use Rattle.page.specs.File.{store_text}
 use Rattle.wal.specs.Records.{LogRecord}
 use Rattle.wal.specs.Content.{content}
 use Rattle.wal.specs.Tail.{tail_of}
-use Rattle.wal.specs.Reads.{log_text}
+use Rattle.wal.specs.Reads.{spellings, log_text}
 use Rattle.aries.specs.declared.report.Report.{Report}
 use Rattle.aries.specs.Restart.{IsPartingOf, IsSettled}
 use Rattle.aries.specs.Recovery.{Are, Recovered}
-use Rattle.aries.proofs.Bytes.{restart_cause, is_lawful, read_alone, read_same, dealt_by_number}
+use Rattle.aries.proofs.Bytes.{kept_text, text_extended, restart_cause, is_lawful, read_alone, read_same, dealt_by_number}
 use Rattle.aries.proofs.recovery.recovery_of.Goals as goal
 
 pub returns-in_err-records-clause-lawful : goal.returns-in_err-records-clause-lawful
 returns-in_err-records-clause-lawful g c = λ bytes.
-    let exit = err_from_is_err_and c.from_residual-in_err-records.result c.from_residual-in_err-records.ensures.1 in
+    let exit = err_from_is_err_and c.from_residual.result c.from_residual.ensures.1 in
     rw (exit.1, exit.2)
     (read_alone (λ x. x) c.in_err-records.field-0.0 (bytes.are.records, bytes.are.torn) (c.in_err-records.ensures.only bytes.are.records bytes.are.torn bytes.are.reads))
 
@@ -45,16 +45,22 @@ returns-in_err-outcome-clause-cause g c =
 pub returns-clause-answer : goal.returns-clause-answer
 returns-clause-answer g c =
     let records = c.in_ok-records.records in
+    let torn = c.in_ok-records.torn in
+    let appended = map content c.in_ok-outcome.outcome.appended.items in
     record {
-      are = record { records = records; torn = c.in_ok-records.torn; before = c.in_ok-before.before; reads = c.in_ok-records.ensures.found; spells = c.in_ok-before.ensures.found };
+      are = record { records = records; torn = torn; before = c.in_ok-before.before; reads = c.in_ok-records.ensures.found; spells = c.in_ok-before.ensures.found };
       outcome = c.in_ok-outcome.outcome;
       restarts = c.in_ok-outcome.ensures.restarts;
-      log_is = c.in_ok-new_log.ensures.text ∙ ap (λ rs. log_text (records ++ map content rs)) c.deref.ensures.value;
-      store_is = c.in_ok-new_store.ensures.ok;
+      log_is =
+          text_extended records appended (take (length c.args.log.now - torn) c.args.log.now) c.in_ok-frames_of.field-0.items c.next_lsn.result
+          (kept_text c.args.log.now records torn c.in_ok-records.ensures.found) c.next_lsn.ensures.next
+          (c.in_ok-frames_of.ensures.frames ∙ ap (λ rs. spellings c.next_lsn.result (map content rs)) c.deref.ensures.value);
+      store_is = c.in_ok-encode_store.ensures.ok;
       report_is = c.report_of.ensures;
     }
 
 pub returns-clause-lawful : goal.returns-clause-lawful
+unfolding returns-clause-answer
 returns-clause-lawful g c = λ bytes.
     let records = c.in_ok-records.records in
     let before = c.in_ok-before.before in
@@ -65,14 +71,17 @@ returns-clause-lawful g c = λ bytes.
     dealt_by_number c.len.result c.args.options.now.parts c.in_ok-parting.parting.part_of c.in_ok-parting.ensures.ok.1
     ∙ (c.len.ensures ∙ (c.before-2.inside.pages.ok.0 ∙ ap (λ (s : StoreContent). length s.pages) c.before-2.view_is)) in
     let restored = c.in_ok-outcome.ensures.lawful (is_lawful bytes records before (ap (λ x. x.0) read) same) (record { fit = c.requires.workers; dealt = dealt }) in
-    let here : Recovered records before c.in_ok-new_log.new_log.items c.in_ok-new_store.new_store.items c.report_of.result =
+    let answer = returns-clause-answer g c in
+    let log = take (length c.args.log.now - c.in_ok-records.torn) c.args.log.now ++ c.in_ok-frames_of.field-0.items in
+    let store = c.in_ok-encode_store.field-0.items in
+    let here : Recovered records before log store c.report_of.result =
     record {
-      log_is = c.in_ok-new_log.ensures.text ∙ (ap (λ rs. log_text (records ++ map content rs)) c.deref.ensures.value ∙ ap (λ (rs : List LogRecord). log_text (records ++ rs)) restored.appended);
-      store_is = c.in_ok-new_store.ensures.ok ∙ ap store_text restored.store;
+      log_is = answer.log_is ∙ ap (λ (rs : List LogRecord). log_text (records ++ rs)) restored.appended;
+      store_is = answer.store_is ∙ ap store_text restored.store;
       settled = subst (λ s. IsSettled (records ++ tail_of records) s) restored.store (subst (λ (rs : List LogRecord). IsSettled (records ++ rs) outcome.store) restored.appended restored.settled);
       losers_are = ap (λ (r : Report). r.losers) c.report_of.ensures ∙ restored.losers;
       ended_are = ap (λ (r : Report). r.ended) c.report_of.ensures ∙ restored.ended;
       compensated_are = ap (λ (r : Report). r.compensated) c.report_of.ensures ∙ restored.compensated;
     } in
-    subst (λ rs. Recovered rs bytes.are.before c.in_ok-new_log.new_log.items c.in_ok-new_store.new_store.items c.report_of.result) (ap (λ x. x.0) read)
-    (subst (λ b. Recovered records b c.in_ok-new_log.new_log.items c.in_ok-new_store.new_store.items c.report_of.result) same here)
+    subst (λ rs. Recovered rs bytes.are.before log store c.report_of.result) (ap (λ x. x.0) read)
+    (subst (λ b. Recovered records b log store c.report_of.result) same here)
