@@ -6,9 +6,7 @@ use Rattle.std.proofs.KnownBytes.{Appends-trans}
 use Rattle.std.specs.Io.KnownBytes.{Appends}
 use Rattle.page.specs.declared.fault.Fault.{Fault}
 use Rattle.page.specs.declared.fault.Fault.TheVariants.{NoResource, ReadLog, ReadStore, WriteLog, WriteStore, BadWorkers, BadParting}
-use Rattle.page.specs.Store.{StoreContent}
 use Rattle.page.specs.File.{SpellsStore, store_text}
-use Rattle.wal.specs.Records.{LogRecord}
 use Rattle.wal.specs.Reads.{Reads, log_text}
 use Rattle.wal.specs.Theorems.{GoesOn}
 use Rattle.wal.proofs.CutBytes.{cuts_settle}

@@ -1,5 +1,5 @@
 use Rattle.std.proofs.lemmas.Result.{on_err_weaker}
-use Rattle.aries.proofs.Delivered.{in_front, behind_front}
+use Rattle.aries.proofs.Delivered.{behind_front}
 use Rattle.aries.proofs.devices.write_log.Goals as goal
 
 pub returns-clause-beginning : goal.returns-clause-beginning
