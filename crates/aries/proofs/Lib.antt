@@ -10,3 +10,4 @@ pub mod LawfulUndo
 pub mod Causes
 pub mod Bytes
 pub mod Delivered
+pub mod Lines

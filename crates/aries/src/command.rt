@@ -1,7 +1,9 @@
 //! The command line.
 
-ghost use Rattle.std.specs.Prelude.{◌≤◌, IfOk};
-ghost use Rattle.aries.specs.Job.{HasRanges};
+ghost use Rattle.std.specs.Prelude.{◌≡◌, ◌≤◌, Some, IfOk, codes, false, map, string_bytes};
+ghost use Rattle.clap.specs.Words.{app_of, first_of, found_of, rows_of, rule_of, shape_of};
+ghost use Rattle.aries.specs.Job.{AsksFor, HasFiles, HasRanges};
+ghost use Rattle.aries.specs.Line.{aries_line, audit_line, file_rule, number_rule, recover_line};
 
 use crate::Options;
 use clap::error::ErrorKind;
@@ -51,7 +53,10 @@ impl From<clap::Error> for Refusal {
 }
 
 /// An option that names a file.
-fn file_option<'a>(alloc: Global, name: &'a str, help: &'a str) -> Arg<'a> {
+fn file_option<'a>(alloc: Global, name: &'a str, help: &'a str) -> Arg<'a>
+    ensures rule { rule_of result ≡ file_rule name.entry.now }
+    ensures local { result.global ≡ false }
+{
     Arg::new(alloc, name)
         .long(name)
         .value_name("FILE")
@@ -63,20 +68,25 @@ fn file_option<'a>(alloc: Global, name: &'a str, help: &'a str) -> Arg<'a> {
 fn number_option<'a>(
     alloc: Global,
     name: &'a str,
-    most: i64,
+    most: u32,
     default: &'a str,
     help: &'a str,
-) -> Arg<'a> {
+) -> Arg<'a>
+    ensures rule { rule_of result ≡ number_rule name.entry.now most default.entry.now }
+    ensures local { result.global ≡ false }
+{
     Arg::new(alloc, name)
         .long(name)
         .value_name("N")
-        .value_parser(value_parser!(u32).range(1..=most))
+        .value_parser(value_parser!(u32).range(1..=i64::from(most)))
         .default_value(default)
         .help(help)
 }
 
 /// The command `recover`.
-fn recover_command<'a>(alloc: Global) -> Result<Command<'a>, AllocError> {
+fn recover_command<'a>(alloc: Global) -> Result<Command<'a>, AllocError>
+    ensures { IfOk result (λ c. shape_of c ≡ recover_line) }
+{
     Command::new(alloc, "recover")
         .about("Restart after a crash: read a log and a store, write both anew")
         .arg(file_option(alloc, "log", "The log to restart by"))?
@@ -108,7 +118,9 @@ fn recover_command<'a>(alloc: Global) -> Result<Command<'a>, AllocError> {
 }
 
 /// The command `audit`.
-fn audit_command<'a>(alloc: Global) -> Result<Command<'a>, AllocError> {
+fn audit_command<'a>(alloc: Global) -> Result<Command<'a>, AllocError>
+    ensures { IfOk result (λ c. shape_of c ≡ audit_line) }
+{
     Command::new(alloc, "audit")
         .about("Say whether a log and its store are lawful, or the first law that is broken")
         .arg(file_option(alloc, "log", "The log to look at"))?
@@ -116,7 +128,9 @@ fn audit_command<'a>(alloc: Global) -> Result<Command<'a>, AllocError> {
 }
 
 /// The whole command line.
-fn aries_command<'a>(alloc: Global) -> Result<Command<'a>, AllocError> {
+fn aries_command<'a>(alloc: Global) -> Result<Command<'a>, AllocError>
+    ensures { IfOk result (λ c. app_of c ≡ aries_line) }
+{
     Command::new(alloc, "aries")
         .version("0.1.0")
         .about("Crash recovery that is proved")
@@ -125,9 +139,23 @@ fn aries_command<'a>(alloc: Global) -> Result<Command<'a>, AllocError> {
         .subcommand(audit_command(alloc)?)
 }
 
-/// The name that an option gives a file.
-fn file_of(alloc: Global, matches: &ArgMatches, name: &str) -> Result<String, AllocError> {
-    String::from_str(alloc, matches.get_str(name).unwrap_or(""))
+/// The name that an option gives a file. Such an option is required, so a line without it was refused.
+fn file_of(
+    alloc: Global,
+    command: &mut Command,
+    matches: &ArgMatches,
+    name: &str,
+) -> Result<String, Refusal>
+    ensures { IfOk result (λ file.
+        first_of name.now (rows_of (found_of matches.now)) ≡ Some (string_bytes file)) }
+{
+    match matches.get_str(name) {
+        Some(file) => Ok(String::from_str(alloc, file)?),
+        None => {
+            let error = command.error(ErrorKind::MissingRequiredArgument, "a file is needed")?;
+            Err(Refusal::Line(error))
+        }
+    }
 }
 
 /// The number that an option gives, or its default.
@@ -144,14 +172,15 @@ fn number_of(matches: &ArgMatches, name: &str, most: u32, default: u32) -> u32
 }
 
 /// What the options of `recover` ask for.
-fn recover_job(alloc: Global, matches: &ArgMatches) -> Result<Job, Refusal>
-    ensures { IfOk result HasRanges }
+fn recover_job(alloc: Global, command: &mut Command, matches: &ArgMatches) -> Result<Job, Refusal>
+    ensures files { IfOk result (AsksFor (codes "recover") (rows_of (found_of matches.now))) }
+    ensures ranges { IfOk result HasRanges }
 {
     Ok(Job::Recover {
-        log: file_of(alloc, matches, "log")?,
-        store: file_of(alloc, matches, "store")?,
-        out_log: file_of(alloc, matches, "out-log")?,
-        out_store: file_of(alloc, matches, "out-store")?,
+        log: file_of(alloc, command, matches, "log")?,
+        store: file_of(alloc, command, matches, "store")?,
+        out_log: file_of(alloc, command, matches, "out-log")?,
+        out_store: file_of(alloc, command, matches, "out-store")?,
         options: Options {
             workers: number_of(matches, "workers", 64, 4),
             parts: number_of(matches, "parts", 4096, 16),
@@ -160,12 +189,13 @@ fn recover_job(alloc: Global, matches: &ArgMatches) -> Result<Job, Refusal>
 }
 
 /// What the options of `audit` ask for.
-fn audit_job(alloc: Global, matches: &ArgMatches) -> Result<Job, Refusal>
-    ensures { IfOk result HasRanges }
+fn audit_job(alloc: Global, command: &mut Command, matches: &ArgMatches) -> Result<Job, Refusal>
+    ensures files { IfOk result (AsksFor (codes "audit") (rows_of (found_of matches.now))) }
+    ensures ranges { IfOk result HasRanges }
 {
     Ok(Job::Audit {
-        log: file_of(alloc, matches, "log")?,
-        store: file_of(alloc, matches, "store")?,
+        log: file_of(alloc, command, matches, "log")?,
+        store: file_of(alloc, command, matches, "store")?,
     })
 }
 
@@ -173,13 +203,14 @@ fn audit_job(alloc: Global, matches: &ArgMatches) -> Result<Job, Refusal>
 /// asks for help or the version by [`Refusal::Line`], and by [`Refusal::Memory`] where memory was
 /// refused.
 pub fn command_of<'a>(alloc: Global, words: &'a [&'a str]) -> Result<Job, Refusal>
-    ensures { IfOk result HasRanges }
+    ensures files { IfOk result (HasFiles (map (λ w. w.now) words.now)) }
+    ensures ranges { IfOk result HasRanges }
 {
     let mut command = aries_command(alloc)?;
     let matches = command.try_get_matches_from_mut(words)?;
     match matches.subcommand() {
-        Some(("recover", options)) => recover_job(alloc, options),
-        Some(("audit", options)) => audit_job(alloc, options),
+        Some(("recover", options)) => recover_job(alloc, &mut command, options),
+        Some(("audit", options)) => audit_job(alloc, &mut command, options),
         _ => {
             let error = command.error(ErrorKind::MissingSubcommand, "a command is needed")?;
             Err(Refusal::Line(error))
