@@ -6,8 +6,6 @@ use Rattle.clap.specs.declared.builder.arg.Arg.{Arg}
 use Rattle.clap.specs.declared.builder.command.Command.{Command}
 use Rattle.clap.specs.declared.parser.matches.ArgMatches.{ArgMatches}
 use Rattle.clap.specs.Words.{AddsArg, AddsSubcommand, App, HasMatchesOf, Row, Rule, Shape, Text, app_of, is_simple, rule_of, shape_of, subcommand_name_of, subcommand_of, subcommand_rows_of, with_rule, with_subcommand}
-use Rattle.aries.specs.declared.command.Job.{Job}
-use Rattle.aries.specs.Job.{AsksFor, HasFiles}
 use Rattle.aries.specs.Line.{aries_line, audit_line, recover_line}
 
 -- a command with one more option
@@ -41,10 +39,9 @@ command_met : (matches : ArgMatches) (words : List Text) (line : App) (name : Te
 command_met matches words line name rows line_is has name_is rows_are =
     ap (λ a. subcommand_of a words) (sym line_is) ∙ sym (has (ap is_simple line_is ∙ is_simple-aries_line)).1 ∙ met _ _ name rows rows_are name_is
 
--- a job that the command and its rows ask for has the files of the words
-pub files_given : (matches : ArgMatches) (words : List Text) (line : App) (name : Text) (rows : List Row) (job : Job) → line ≡ aries_line
+-- what holds of the command that a parse entered and of its rows, holds of what the words give
+pub given : (matches : ArgMatches) (words : List Text) (line : App) (name : Text) (rows : List Row) (P : Text × List Row → Type 0) → line ≡ aries_line
     → HasMatchesOf line words matches → subcommand_name_of matches ≡ Some name → option_map (λ p. p.1) (subcommand_rows_of matches) ≡ Some rows
-    → AsksFor name rows job → HasFiles words job
-files_given matches words line name rows job line_is has name_is rows_are asks =
-    let P : Option (Text × List Row) → Type 0 = λ o. IsSomeAnd o (λ found. AsksFor found.0 found.1 job) in
-    subst P (sym (command_met matches words line name rows line_is has name_is rows_are)) asks
+    → P (name, rows) → IsSomeAnd (subcommand_of aries_line words) P
+given matches words line name rows P line_is has name_is rows_are holds =
+    subst (λ o. IsSomeAnd o P) (sym (command_met matches words line name rows line_is has name_is rows_are)) holds

@@ -2,7 +2,8 @@
 
 ghost use Rattle.std.specs.Prelude.{◌≡◌, ◌≤◌, Some, IfOk, codes, false, map, string_bytes};
 ghost use Rattle.clap.specs.Words.{app_of, first_of, found_of, rows_of, rule_of, shape_of};
-ghost use Rattle.aries.specs.Job.{AsksFor, HasFiles, HasRanges};
+ghost use Rattle.aries.specs.Job.{GivesNumbers, HasFiles, HasNumbers, HasRanges};
+ghost use Rattle.aries.specs.Job.{IsNumberOf, NamesFiles};
 ghost use Rattle.aries.specs.Line.{aries_line, audit_line, file_rule, number_rule, recover_line};
 
 use crate::Options;
@@ -164,6 +165,7 @@ fn number_of(matches: &ArgMatches, name: &str, most: u32, default: u32) -> u32
     requires high { default ≤ most }
     ensures low { 1 ≤ result }
     ensures high { result ≤ most }
+    ensures given { IsNumberOf (rows_of (found_of matches.now)) name.now most result }
 {
     matches
         .get_one::<u32>(name)
@@ -173,7 +175,8 @@ fn number_of(matches: &ArgMatches, name: &str, most: u32, default: u32) -> u32
 
 /// What the options of `recover` ask for.
 fn recover_job(alloc: Global, command: &mut Command, matches: &ArgMatches) -> Result<Job, Refusal>
-    ensures files { IfOk result (AsksFor (codes "recover") (rows_of (found_of matches.now))) }
+    ensures files { IfOk result (NamesFiles (codes "recover") (rows_of (found_of matches.now))) }
+    ensures numbers { IfOk result (GivesNumbers (rows_of (found_of matches.now))) }
     ensures ranges { IfOk result HasRanges }
 {
     Ok(Job::Recover {
@@ -190,7 +193,8 @@ fn recover_job(alloc: Global, command: &mut Command, matches: &ArgMatches) -> Re
 
 /// What the options of `audit` ask for.
 fn audit_job(alloc: Global, command: &mut Command, matches: &ArgMatches) -> Result<Job, Refusal>
-    ensures files { IfOk result (AsksFor (codes "audit") (rows_of (found_of matches.now))) }
+    ensures files { IfOk result (NamesFiles (codes "audit") (rows_of (found_of matches.now))) }
+    ensures numbers { IfOk result (GivesNumbers (rows_of (found_of matches.now))) }
     ensures ranges { IfOk result HasRanges }
 {
     Ok(Job::Audit {
@@ -204,6 +208,7 @@ fn audit_job(alloc: Global, command: &mut Command, matches: &ArgMatches) -> Resu
 /// refused.
 pub fn command_of<'a>(alloc: Global, words: &'a [&'a str]) -> Result<Job, Refusal>
     ensures files { IfOk result (HasFiles (map (λ w. w.now) words.now)) }
+    ensures numbers { IfOk result (HasNumbers (map (λ w. w.now) words.now)) }
     ensures ranges { IfOk result HasRanges }
 {
     let mut command = aries_command(alloc)?;
