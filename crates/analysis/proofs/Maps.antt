@@ -1,5 +1,5 @@
 -- Maps from numbers, read key by key.
-use Rattle.std.proofs.Common.{ℕ, suc, ◌≡◌, ◌<◌, Bool, true, false, cond, eqb, eq-eqb, eqb-true, ◌+◌, List, [], ◌∷◌, length, drop, get_or, drop-cons, Option, Some, None, refl, sym, ap, ap₂, ◌∙◌, arith, inl, inr}
+use Rattle.std.proofs.Common.{ℕ, zero, suc, ◌≡◌, ◌<◌, Bool, true, false, cond, eqb, eq-eqb, eqb-true, ◌+◌, List, [], ◌∷◌, length, drop, get_or, set, replicate, drop-cons, Option, Some, None, refl, sym, ap, ap₂, ◌∙◌, arith, inl, inr}
 use Rattle.std.specs.Prelude.{option_map, is_some}
 use Rattle.std.specs.List.{slice_get}
 use Rattle.std.proofs.lemmas.Option.{slice_get_within, get_or_from_slice_get, slice_get-get_or}
@@ -13,7 +13,9 @@ use Rattle.wal.specs.Redo.{rec_lsn_of}
 use Rattle.wal.specs.Store.{or_else}
 use Rattle.wal.specs.Undo.{entry_for}
 use Rattle.wal.proofs.Entries.{is_eq-nat_cmp, entry_for-lookup}
+use Rattle.std.proofs.lemmas.List.{get_or-set_other}
 use Rattle.analysis.specs.Tables.{entry_at}
+use Rattle.analysis.specs.Steps.{AreListed}
 
 pub eqb-sym : (x y : ℕ) → eqb x y ≡ eqb y x
 eqb-sym x y =
@@ -47,11 +49,11 @@ rec_lsn-changed p page old new w e =
     rec_lsn_of-lookup p new ∙ e ∙ ap (λ b. cond b w (lookup (λ k. is_eq (nat_cmp p k)) old)) (is_eq-nat_cmp page p) ∙ ap (λ o. cond (eqb page p) w o) (sym (rec_lsn_of-lookup p old))
 
 -- a page that is listed stays as it is
-pub listed_stays : (p page lsn : ℕ) (old : List (ℕ × ℕ)) → is_some (lookup (λ k. is_eq (nat_cmp page k)) old) ≡ true → rec_lsn_of p old ≡ or_else (rec_lsn_of p old) (cond (eqb page p) (Some lsn) None)
+pub listed_stays : (p page lsn : ℕ) (old : List (ℕ × ℕ)) → is_some (rec_lsn_of page old) ≡ true → rec_lsn_of p old ≡ or_else (rec_lsn_of p old) (cond (eqb page p) (Some lsn) None)
 listed_stays p page lsn old h =
     elim (cases_Bool (eqb page p)) [
       | inl e ↦
-          (let listed : is_some (rec_lsn_of p old) ≡ true = ap is_some (rec_lsn_of-lookup p old) ∙ ap (λ q. is_some (lookup (λ k. is_eq (nat_cmp q k)) old)) (sym (eqb-true page p e)) ∙ h in
+          (let listed : is_some (rec_lsn_of p old) ≡ true = ap (λ q. is_some (rec_lsn_of q old)) (sym (eqb-true page p e)) ∙ h in
           by_listed (rec_lsn_of p old) (cond (eqb page p) (Some lsn) None) listed)
       | inr e ↦ rw e (by_none (rec_lsn_of p old))
     ]
@@ -84,6 +86,37 @@ unlisted_begins p page lsn old new h e =
     by_none : (o : Option ℕ) → o ≡ or_else o None
     by_none None = refl
     by_none (Some x) = refl
+
+-- none is known at first
+pub none_known : {X : Type 0} (n page : ℕ) → get_or (replicate n false) page false ≡ true → X
+none_known n page e = (let f : get_or (replicate n false) page false ≡ false = never n page in absurd cc)
+  where
+    never : (n page : ℕ) → get_or (replicate n false) page false ≡ false
+    never zero page = refl
+    never (suc n) zero = refl
+    never (suc n) (suc page) = never n page
+
+-- one that is noted as known is listed by then
+pub listed_noted : (known : List Bool) (old new : List (ℕ × ℕ)) (page lsn : ℕ) → ((p : ℕ) → rec_lsn_of p new ≡ or_else (rec_lsn_of p old) (cond (eqb page p) (Some lsn) None))
+    → AreListed known old → AreListed (set known page true) new
+listed_noted known old new page lsn step listed p noted =
+    elim (cases_Bool (eqb page p)) [
+      | inl e ↦ ap is_some (step p ∙ ap (λ b. or_else (rec_lsn_of p old) (cond b (Some lsn) None)) e) ∙ by_new (rec_lsn_of p old)
+      | inr e ↦
+          (let before : get_or known p false ≡ true = sym (get_or-set_other known page p true false (λ same. by_other same e)) ∙ noted in
+          ap is_some (step p ∙ ap (λ b. or_else (rec_lsn_of p old) (cond b (Some lsn) None)) e) ∙ by_none (rec_lsn_of p old) ∙ listed p before)
+    ]
+  where
+    by_new : (o : Option ℕ) → is_some (or_else o (Some lsn)) ≡ true
+    by_new None = refl
+    by_new (Some x) = refl
+
+    by_none : (o : Option ℕ) → is_some (or_else o None) ≡ is_some o
+    by_none None = refl
+    by_none (Some x) = refl
+
+    by_other : p ≡ page → eqb page p ≡ false → ⊥
+    by_other same e = (let f : eqb page p ≡ true = eq-eqb page p (sym same) in cc)
 
 -- LENT TABLES, from their end to their front
 pub drop-get : {X : Type 0} (xs : List X) (i : ℕ) (x : X) → slice_get xs i ≡ Some x → drop i xs ≡ x ∷ drop (i + 1) xs

@@ -1,9 +1,10 @@
 -- What one record more does to the tables (ARIES section 6.1, the analysis pass).
-use Rattle.std.specs.Prelude.{ℕ, nat_lt, ◌||◌, Option, Some, None, ◌==◌, if◌then◌else◌}
+use Rattle.std.specs.Prelude.{◌≡◌, ℕ, nat_lt, ◌||◌, Bool, true, false, List, slice_index_or, Option, Some, None, is_some, ◌==◌, if◌then◌else◌}
 use Rattle.wal.specs.declared.record.State.{State}
 use Rattle.wal.specs.declared.record.State.TheVariants.{Active, Aborting}
 use Rattle.wal.specs.Records.{TableEntry, LogRecord, Update, Compensation, Commit, Abort, End}
 use Rattle.wal.specs.Meaning.{is_on}
+use Rattle.wal.specs.Redo.{rec_lsn_of}
 use Rattle.wal.specs.Store.{or_else}
 
 -- a transaction without an entry is active, and has nothing to undo
@@ -30,6 +31,10 @@ entry_after lsn _ t old = old
 -- the RecLSN of a page then
 abbrev pub rec_lsn_after : ℕ → LogRecord → ℕ → Option ℕ → Option ℕ
 rec_lsn_after lsn r page old = or_else old (if is_on page r then Some lsn else None)
+
+-- pages that are noted as known are listed (own)
+abbrev pub AreListed : List Bool → List (ℕ × ℕ) → Type 0
+AreListed known dirty = (page : ℕ) → slice_index_or known page false ≡ true → is_some (rec_lsn_of page dirty) ≡ true
 
 -- the smaller of the smallest so far, 0 for none, and another
 abbrev pub lower : ℕ → ℕ → ℕ

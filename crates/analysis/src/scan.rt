@@ -1,6 +1,6 @@
 //! The scan: what each record does to the tables.
 
-ghost use Rattle.std.specs.Prelude.{◌≡◌, ℕ, OnOk, IfErr, nat_eq, if◌then◌else◌, ◌==◌, Some, None, Option};
+ghost use Rattle.std.specs.Prelude.{◌≡◌, ℕ, IfOk, OnOk, IfErr, nat_eq, if◌then◌else◌, ◌==◌, Some, None, Option, true, false, slice_index_or, slice_set};
 ghost use Rattle.page.specs.declared.fault.Fault.TheVariants.{NoResource};
 ghost use Rattle.wal.specs.Content.{entry_of};
 ghost use Rattle.wal.specs.Records.{LogRecord, TableEntry, history};
@@ -8,11 +8,14 @@ ghost use Rattle.wal.specs.Redo.{rec_lsn_of};
 ghost use Rattle.wal.specs.Shown.{shown};
 ghost use Rattle.wal.specs.Store.{or_else};
 ghost use Rattle.analysis.specs.Tables.{entry_at, analysed_entry, analysed_rec_lsn};
-ghost use Rattle.analysis.specs.Steps.{state_in, undo_next_of_entry, entry_after, rec_lsn_after};
+ghost use Rattle.analysis.specs.Steps.{state_in, undo_next_of_entry, entry_after, rec_lsn_after, AreListed};
 
 use page::Fault;
 use std::collections::BTreeMap;
 use wal::{Entry, Log, RecordView, State};
+
+/// How many pages a store has at most.
+const PAGES: usize = 4096;
 
 /// The entry of a transaction: a new one is active, and has nothing to undo.
 fn entry_in(transactions: &BTreeMap<u32, Entry>, tx: u32) -> Entry
@@ -100,14 +103,60 @@ fn list_page(dirty: &mut BTreeMap<u32, u64>, page: u32, lsn: u64) -> Result<(), 
     Ok(())
 }
 
+/// Whether a page is known.
+fn is_known(known: &[bool; PAGES], page: u32) -> bool
+    ensures { result ≡ slice_index_or known.now page false }
+{
+    let place = page as usize;
+    place < PAGES && known[place]
+}
+
+/// Notes that a page is known, where it is below their number.
+fn note_known(known: &mut [bool; PAGES], page: u32)
+    ensures { known.new ≡ slice_set known.old page true }
+{
+    let place = page as usize;
+    if place < PAGES {
+        known[place] = true;
+    }
+}
+
+/// Lists a page from this LSN on, if it is not listed. The table is searched once for a page below
+/// `PAGES`: then it is known to be listed.
+fn list_unknown(
+    dirty: &mut BTreeMap<u32, u64>,
+    known: &mut [bool; PAGES],
+    page: u32,
+    lsn: u64,
+) -> Result<(), Fault>
+    requires { AreListed known.old dirty.old.entries }
+    ensures ok { OnOk result ((p : ℕ) → rec_lsn_of p dirty.new.entries ≡ or_else (rec_lsn_of p dirty.old.entries) (if page == p then Some lsn else None)) }
+    ensures known { OnOk result (AreListed known.new dirty.new.entries) }
+    ensures err { IfErr result (λ e. e ≡ NoResource) }
+{
+    if is_known(known, page) {
+        return Ok(());
+    }
+    list_page(dirty, page, lsn)?;
+    note_known(known, page);
+    Ok(())
+}
+
 /// What a record does to the dirty page table.
-fn note_page(dirty: &mut BTreeMap<u32, u64>, view: &RecordView, lsn: u64) -> Result<(), Fault>
+fn note_page(
+    dirty: &mut BTreeMap<u32, u64>,
+    known: &mut [bool; PAGES],
+    view: &RecordView,
+    lsn: u64,
+) -> Result<(), Fault>
+    requires { AreListed known.old dirty.old.entries }
     ensures ok { OnOk result ((p : ℕ) → rec_lsn_of p dirty.new.entries ≡ rec_lsn_after lsn (shown view.now) p (rec_lsn_of p dirty.old.entries)) }
+    ensures known { OnOk result (AreListed known.new dirty.new.entries) }
     ensures err { IfErr result (λ e. e ≡ NoResource) }
 {
     match view {
-        RecordView::Update { page, .. } => list_page(dirty, *page, lsn)?,
-        RecordView::Compensation { page, .. } => list_page(dirty, *page, lsn)?,
+        RecordView::Update { page, .. } => list_unknown(dirty, known, *page, lsn)?,
+        RecordView::Compensation { page, .. } => list_unknown(dirty, known, *page, lsn)?,
         _ => {}
     }
     Ok(())
@@ -127,10 +176,11 @@ pub fn scan(
     ensures numbered { OnOk result (entry_at 0 transactions.old.entries ≡ None → entry_at 0 transactions.new.entries ≡ None) }
     ensures err { IfErr result (λ e. e ≡ NoResource) }
 {
+    let mut known = [false; PAGES];
     for index in master..log.len() {
         let view = log.nth(index);
         note_transaction(transactions, &view, index + 1)?;
-        note_page(dirty, &view, index + 1)?;
+        note_page(dirty, &mut known, &view, index + 1)?;
     }
     Ok(())
 }

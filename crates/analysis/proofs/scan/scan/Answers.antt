@@ -6,13 +6,14 @@ use Rattle.wal.proofs.Histories.{size_of_list, size_of_beginning}
 use Rattle.analysis.specs.Tables.{analysed_entry, analysed_rec_lsn}
 use Rattle.analysis.specs.Steps.{entry_after}
 use Rattle.analysis.proofs.Scanned.{entry_none, rec_lsn_none, entry_next, rec_lsn_next}
+use Rattle.analysis.proofs.Maps.{none_known}
 use Rattle.analysis.proofs.Numbers.{none_noted}
 use Rattle.analysis.proofs.scan.scan.Goals as goal
 
 pub loop-index-init : goal.loop-index-init
 loop-index-init c =
     let short : size (history (take c.args.master c.args.log.now)) ≤ c.args.master = omega (arith, size_of_list (take c.args.master c.args.log.now), length-take c.args.master c.args.log.now) in
-    (λ t base e. e ∙ sym (entry_none t c.args.master base (history (take c.args.master c.args.log.now)) short), λ p base e. e ∙ sym (rec_lsn_none p c.args.master base (history (take c.args.master c.args.log.now)) short), λ none. none)
+    (λ t base e. e ∙ sym (entry_none t c.args.master base (history (take c.args.master c.args.log.now)) short), λ p base e. e ∙ sym (rec_lsn_none p c.args.master base (history (take c.args.master c.args.log.now)) short), λ none. none, λ page noted. none_known 4096 page noted)
 
 pub loop-index-preserved : goal.loop-index-preserved
 loop-index-preserved c =
@@ -26,4 +27,5 @@ loop-index-preserved c =
           ∙ ap (analysed_rec_lsn p c.args.master base) (sym c.nth-view.ensures.next),
       λ none. c.in_ok-note_transaction.ensures.ok 0 ∙ ap (entry_after (c.loop-index.index + 1) (shown c.nth-view.result) 0) (c.loop-index.invariant.2 none)
           ∙ none_noted (c.loop-index.index + 1) (shown c.nth-view.result) c.nth-view.ensures.fits,
+      c.in_ok-note_page.ensures.known,
     )
