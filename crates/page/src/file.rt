@@ -23,20 +23,33 @@ fn header(count: u32, master: u64) -> [u8; 24]
     header
 }
 
-/// The one spelling of a store: `ARIESPG1`, page count, four zeros, master; then the images of the
-/// pages in order: 24 + 1,024 x count bytes, all numbers big endian. The only error is `NoResource`,
+/// The one spelling of a store, in place of what the vector holds: `ARIESPG1`, page count, four zeros,
+/// master; then the images of the pages in order: 24 + 1,024 x count bytes, all numbers big endian. The
+/// vector's room is used, and takes memory only where it is too small. The only error is `NoResource`,
+/// where memory is refused; then a beginning of the spelling stands there.
+pub fn encode_store_into(store: &Store, bytes: &mut Vec<u8>) -> Result<(), Fault>
+    ensures ok { OnOk result (bytes.new.items ≡ store_text store.now) }
+    ensures fits { OnOk result (FitsStore store.now) }
+    ensures err { IfErr result (λ e. e ≡ Fault.NoResource) }
+{
+    let pages = &store.pages;
+    bytes.clear();
+    bytes.extend_from_slice(&header(pages.len() as u32, store.master))?;
+    for page in pages {
+        bytes.extend_from_slice(&encode_page(page))?;
+    }
+    Ok(())
+}
+
+/// The one spelling of a store, as [`encode_store_into`] writes it. The only error is `NoResource`,
 /// where memory is refused.
 pub fn encode_store(alloc: Global, store: &Store) -> Result<Vec<u8>, Fault>
     ensures ok { IfOk result (λ bytes. bytes.items ≡ store_text store.now) }
     ensures fits { OnOk result (FitsStore store.now) }
     ensures err { IfErr result (λ e. e ≡ Fault.NoResource) }
 {
-    let pages = &store.pages;
-    let mut bytes = Vec::with_capacity(alloc, 24 + 1024 * pages.len())?;
-    bytes.extend_from_slice(&header(pages.len() as u32, store.master))?;
-    for page in pages {
-        bytes.extend_from_slice(&encode_page(page))?;
-    }
+    let mut bytes = Vec::with_capacity(alloc, 24 + 1024 * store.pages.len())?;
+    encode_store_into(store, &mut bytes)?;
     Ok(bytes)
 }
 

@@ -14,7 +14,7 @@ mod tests;
 mod value;
 
 pub use fault::Fault;
-pub use file::{decode_store, encode_store};
+pub use file::{decode_store, encode_store, encode_store_into};
 pub use image::{decode_page, encode_page};
 pub use laws::{one_page_spelling, one_store_spelling};
 pub use page::Page;

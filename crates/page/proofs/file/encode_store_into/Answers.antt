@@ -1,6 +1,6 @@
 use Rattle.std.proofs.Common.{arith, ◌∙◌, ap}
 use Rattle.page.proofs.Writing.{listed_more}
-use Rattle.page.proofs.file.encode_store.Goals as goal
+use Rattle.page.proofs.file.encode_store_into.Goals as goal
 
 pub loop-page-preserved : goal.loop-page-preserved
 loop-page-preserved c =
