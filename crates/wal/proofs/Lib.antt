@@ -6,6 +6,8 @@ pub mod Rising
 pub mod Tables
 pub mod TableFields
 pub mod Bodies
+pub mod Glances
+pub mod Images
 pub mod Whole
 pub mod Keeping
 pub mod Stacks

@@ -1,5 +1,5 @@
 -- Reading frames one after the other, as a loop does.
-use Rattle.std.proofs.Common.{◌≡◌, ℕ, suc, ◌-◌, ◌+◌, ◌≤◌, ◌<◌, ◌⊎◌, inl, inr, Bool, true, false, ◌||◌, cond, eqb, ltb, List, [], ◌∷◌, ◌++◌, length, drop, Option, Some, None, Result, Ok, Err, refl, sym, ap, ap₂, ◌∙◌, append_assoc, arith, eqb-true, map}
+use Rattle.std.proofs.Common.{◌≡◌, ℕ, suc, ◌-◌, ◌+◌, ◌≤◌, ◌<◌, ◌⊎◌, inl, inr, Bool, true, false, ◌||◌, cond, eqb, ltb, List, [], ◌∷◌, ◌++◌, length, drop, Option, Some, None, Result, Ok, Err, refl, sym, ap, ap₂, ◌∙◌, append_assoc, arith, eqb-true, map, ◌*◌, length-append}
 use Rattle.std.specs.Prelude.{All, is_some, option_map, unwrap_or}
 use Rattle.std.proofs.lemmas.Bool.{ltb-false, or_parts}
 use Rattle.std.proofs.lemmas.List.{append-nil, map_push, length-drop, drop-drop}
@@ -7,7 +7,7 @@ use Rattle.std.proofs.lemmas.List.Elements.{All-push}
 use Rattle.page.specs.declared.fault.Fault.{Fault}
 use Rattle.page.specs.declared.fault.Fault.TheVariants.{NoResource, BadLsn}
 use Rattle.wal.specs.Records.{LogRecord, CheckpointBegin}
-use Rattle.wal.specs.Frames.{length_of, frame_at, judged, next_at, frames_at, ◌>>=◌, IsPlace, record_of, Fails}
+use Rattle.wal.specs.Frames.{length_of, frame_at, judged, next_at, frames_at, ◌>>=◌, IsPlace, ArePlaces, record_of, Fails}
 
 pub chosen : {A : Type 0} (b : Bool) (x y z : A) → cond b x y ≡ z → ((b ≡ true) × (x ≡ z)) ⊎ ((b ≡ false) × (y ≡ z))
 chosen true x y z e = inl (refl, e)
@@ -107,6 +107,7 @@ is_done front limit i offset bytes total le so_far =
 -- so many frames were read, and this offset stands behind them
 pub record SoFar (bytes : List ℕ) (offsets : List ℕ) (i offset : ℕ) : Type 0 where
   pub room : offset ≤ length bytes
+  pub long : 8 + 13 * length offsets ≤ offset
   pub places : All (IsPlace bytes) offsets
   pub read : with_front (map (record_of bytes) offsets) (frames_at (length bytes - i) (i + 1) offset (drop offset bytes)) ≡ frames_at (length bytes) 1 8 (drop 8 bytes)
 
@@ -117,9 +118,13 @@ nothing_in_front (Err e) = refl
 pub begins : (bytes : List ℕ) → 8 ≤ length bytes → SoFar bytes [] 0 8
 begins bytes h = record {
   room = h;
+  long = omega arith;
   places = λ i d l. absurd (omega (arith, l));
   read = ap (λ k. with_front [] (frames_at k 1 8 (drop 8 bytes))) (omega arith) ∙ nothing_in_front (frames_at (length bytes) 1 8 (drop 8 bytes));
 }
+
+pub placed : (bytes offsets : List ℕ) (i offset : ℕ) → SoFar bytes offsets i offset → ArePlaces bytes offsets
+placed bytes offsets i offset so_far = record { each = so_far.places; room = omega (arith, so_far.long, so_far.room) }
 
 record_read : (bytes : List ℕ) (offset lsn : ℕ) (r : LogRecord) → frame_at (drop offset bytes) ≡ Some (r, lsn) → record_of bytes offset ≡ r
 unfolding record_of
@@ -134,6 +139,7 @@ more bytes offsets i offset r size lt so_far e =
     let behind : drop size (drop offset bytes) ≡ drop (offset + size) bytes = drop-drop size offset bytes in
     record {
       room = omega (arith, so_far.room, found.size_is, found.whole, rest);
+      long = omega (arith, so_far.long, found.size_is, found.low, length-append offsets (offset ∷ []));
       places = All-push (IsPlace bytes) offsets offset so_far.places (record {
         room = omega (arith, so_far.room, found.whole, rest);
         whole = omega (arith, so_far.room, found.whole, rest);

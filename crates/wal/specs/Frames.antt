@@ -1,5 +1,5 @@
 -- Reading the frames of a log from left to right, with the first fault that is met.
-use Rattle.std.specs.Prelude.{◌≡◌, ℕ, zero, suc, ◌+◌, ◌≤◌, true, ◌||◌, List, [], ◌∷◌, length, take, drop, Option, Some, None, Result, Ok, Err, nat_lt, nat_eq, ◌==◌, if◌then◌else◌, is_some, option_map, unwrap_or}
+use Rattle.std.specs.Prelude.{◌≡◌, ℕ, zero, suc, ◌+◌, ◌*◌, ◌≤◌, true, All, ◌||◌, List, [], ◌∷◌, length, take, drop, Option, Some, None, Result, Ok, Err, nat_lt, nat_eq, ◌==◌, if◌then◌else◌, is_some, option_map, unwrap_or}
 use Rattle.std.specs.List.{starts_with}
 use Rattle.std.specs.Int.{w32, from_be_bytes}
 use Rattle.page.specs.declared.fault.Fault.{Fault}
@@ -24,6 +24,11 @@ pub record IsPlace (bytes : List ℕ) (offset : ℕ) : Type 0 where
   pub room : offset + 4 ≤ length bytes
   pub whole : offset + 4 + length_of (drop offset bytes) ≤ length bytes
   pub spelled : is_some (frame_at (drop offset bytes)) ≡ true
+
+-- so does at each, each in bytes of its own: a frame takes 13 at least, and 8 stand before them
+pub record ArePlaces (bytes : List ℕ) (offsets : List ℕ) : Type 0 where
+  pub each : All (IsPlace bytes) offsets
+  pub room : 8 + 13 * length offsets ≤ length bytes
 
 -- the record of the frame at an offset (some record, where none is)
 unfoldable pub record_of : List ℕ → ℕ → LogRecord

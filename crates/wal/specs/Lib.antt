@@ -12,4 +12,6 @@ pub mod Frames
 pub mod Reads
 pub mod Content
 pub mod Shown
+pub mod Glances
+pub mod Images
 pub mod Theorems

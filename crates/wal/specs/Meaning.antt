@@ -1,5 +1,5 @@
 -- What a log means: who has finished, what it leaves in the cells, what is pending.
-use Rattle.std.specs.Prelude.{ℕ, suc, List, [], ◌∷◌, None, Bool, true, false, not, ◌&&◌, ◌||◌, ◌==◌, if◌then◌else◌, drop}
+use Rattle.std.specs.Prelude.{ℕ, suc, List, [], ◌∷◌, Option, Some, None, Bool, true, false, not, ◌&&◌, ◌||◌, ◌==◌, if◌then◌else◌, drop}
 use Rattle.page.specs.Image.{Image}
 use Rattle.wal.specs.Records.{LogRecord, Update, Compensation, Commit, Abort, End, CheckpointBegin, CheckpointEnd, History, start, ◌▸◌, size}
 
@@ -60,6 +60,11 @@ abbrev pub image_of : LogRecord → Image
 image_of (Update u) = u.after
 image_of (Compensation c) = c.image
 image_of _ = None
+
+-- what the record at an LSN did, where there is one
+abbrev pub image_in : Option LogRecord → Image
+image_in None = None
+image_in (Some r) = image_of r
 
 -- STATE. What is in each cell, by page and slot: nothing, or a value. Own.
 abbrev pub State : Type 0

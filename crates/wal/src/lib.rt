@@ -7,14 +7,18 @@
 
 mod field;
 mod frame;
+mod glance;
+mod image;
 mod laws;
 mod log;
+mod offsets;
 mod record;
 #[cfg(test)]
 mod tests;
 mod view;
 
 pub use frame::write_frame;
+pub use glance::Glance;
 pub use laws::{
     cuts_compose, cuts_resume, cuts_settle, hops_meet_pending, lawful_by_record, losers_end,
     one_reading, redo_replays, redo_suffices, replay_is_winners, restart_goes_on, store_settles,

@@ -1,32 +1,38 @@
 //! A log that lies in bytes.
 
 ghost use Rattle.std.specs.Prelude.{◌≡◌, ◌+◌, ◌<◌, ◌≤◌, ◌^◌, ℕ, List, All, length, map, take, drop, slice_index_or, option_map, IfErr, IfOk, IfSome, Ok};
-ghost use Rattle.wal.specs.Records.{LogRecord, ◌▸◌, history, record_at};
-ghost use Rattle.wal.specs.Frames.{IsPlace, record_of, length_of, frame_at, next_at, frames_at, log_at, Gives};
+ghost use Rattle.wal.specs.Glances.{glance_of};
+ghost use Rattle.wal.specs.Meaning.{image_in};
+ghost use Rattle.wal.specs.Records.{LogRecord, CheckpointBegin, ◌▸◌, history, record_at};
+ghost use Rattle.wal.specs.Frames.{IsPlace, ArePlaces, record_of, length_of, frame_at, next_at, frames_at, log_at, Gives};
 ghost use Rattle.wal.specs.Reads.{Cause, Reads};
 ghost use Rattle.wal.specs.Spelling.{Fits};
 ghost use Rattle.wal.specs.Shown.{shown};
 
 use crate::frame::{body_at, next_at};
+use crate::glance::{Glance, glance_here};
+use crate::image::image_here;
+use crate::offsets::Offsets;
 use crate::view::RecordView;
-use page::Fault;
+use page::{Fault, Value};
 use std::alloc::Global;
 use std::marker::Model;
 
-/// A log that stays in the bytes that it was read from. Beside them it holds one offset of 8 bytes for
-/// each record. Contracts see it as the list of its records, the first of which has LSN 1.
+/// A log that stays in the bytes that it was read from. Beside them it holds one offset for each record,
+/// of 4 bytes in the first 4 GiB and of 8 behind them. Contracts see it as the list of its records, the
+/// first of which has LSN 1.
 #[derive(Drop)]
 pub struct Log<'a> {
     bytes: &'a [u8],
-    offsets: Vec<usize>,
+    offsets: Offsets,
 }
 
 impl<'a> Model for Log<'a> {
     ghost Value = { List LogRecord };
 
-    ghost view = { λ log. map (record_of log.bytes.now) log.offsets.items };
+    ghost view = { λ log. map (record_of log.bytes.now) log.offsets };
 
-    ghost invariant = { λ log. All (IsPlace log.bytes.now) log.offsets.items };
+    ghost invariant = { λ log. ArePlaces log.bytes.now log.offsets };
 }
 
 impl<'a> Log<'a> {
@@ -43,6 +49,7 @@ impl<'a> Log<'a> {
         ensures next { result ≡ length self.now + 1 }
         ensures room { result ≤ 2 ^ 63 }
     {
+        let _room = self.bytes.len();
         self.offsets.len() as u64 + 1
     }
 
@@ -53,6 +60,24 @@ impl<'a> Log<'a> {
         ensures fits { IfSome result (λ view. Fits (shown view)) }
     {
         record_in(self.bytes, &self.offsets, lsn)
+    }
+
+    /// The image that the record at an LSN put into its cell: None where that was no value, for a record
+    /// that is in no cell, and for 0 and past the end. No more of the record is decoded than that.
+    pub fn image(&self, lsn: u64) -> Option<Value>
+        ensures { result ≡ image_in (record_at (history self.now) lsn) }
+    {
+        if lsn == 0 {
+            return None;
+        }
+        if lsn > self.len() {
+            return None;
+        }
+        let offset = self.offsets.get((lsn - 1) as usize);
+        match image_here(self.bytes, offset) {
+            Some(image) => image,
+            None => unreachable!(),
+        }
     }
 
     /// The record at a place, from 0: the one whose LSN is one more.
@@ -68,9 +93,24 @@ impl<'a> Log<'a> {
             None => unreachable!(),
         }
     }
+
+    /// The record at a place, from 0, at a glance: as `nth`, but no more of it is decoded than that.
+    #[inline(always)]
+    pub fn glance(&self, index: u64) -> Glance
+        requires { index < length self.now }
+        ensures item { result ≡ glance_of (slice_index_or self.now index CheckpointBegin) }
+        ensures fits { Fits (slice_index_or self.now index CheckpointBegin) }
+        ensures next { history (take (index + 1) self.now) ≡ history (take index self.now) ▸ slice_index_or self.now index CheckpointBegin }
+    {
+        let offset = self.offsets.get(index as usize);
+        match glance_here(self.bytes, offset) {
+            Some(glance) => glance,
+            None => unreachable!(),
+        }
+    }
 }
 
-fn record_in<'a>(bytes: &'a [u8], offsets: &[usize], lsn: u64) -> Option<RecordView<'a>>
+fn record_in<'a>(bytes: &'a [u8], offsets: &Offsets, lsn: u64) -> Option<RecordView<'a>>
     requires { All (IsPlace bytes.now) offsets.now }
     ensures found { option_map shown result ≡ record_at (history (map (record_of bytes.now) offsets.now)) lsn }
     ensures fits { IfSome result (λ view. Fits (shown view)) }
@@ -81,7 +121,7 @@ fn record_in<'a>(bytes: &'a [u8], offsets: &[usize], lsn: u64) -> Option<RecordV
     if lsn > offsets.len() as u64 {
         return None;
     }
-    let offset = offsets[(lsn - 1) as usize];
+    let offset = offsets.get((lsn - 1) as usize);
     record_here(bytes, offset)
 }
 
@@ -98,12 +138,12 @@ fn record_here(bytes: &[u8], offset: usize) -> Option<RecordView>
     }
 }
 
-fn offsets_of(alloc: Global, bytes: &[u8]) -> Result<(Vec<usize>, usize), Fault>
+fn offsets_of(alloc: Global, bytes: &[u8]) -> Result<(Offsets, usize), Fault>
     requires { 8 ≤ length bytes.now }
-    ensures places { IfOk result (λ x. All (IsPlace bytes.now) x.0.items) }
-    ensures read { Gives (λ x. (map (record_of bytes.now) x.0.items, x.1)) result (frames_at (length bytes.now) 1 8 (drop 8 bytes.now)) }
+    ensures places { IfOk result (λ x. ArePlaces bytes.now x.0) }
+    ensures read { Gives (λ x. (map (record_of bytes.now) x.0, x.1)) result (frames_at (length bytes.now) 1 8 (drop 8 bytes.now)) }
 {
-    let mut offsets = Vec::new(alloc);
+    let mut offsets = Offsets::new(alloc);
     let mut offset = 8;
     for number in 0..bytes.len() {
         let (_, rest) = bytes.split_at(offset);

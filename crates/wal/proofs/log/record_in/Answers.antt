@@ -1,6 +1,6 @@
-use Rattle.std.proofs.Common.{map, sym, ◌∙◌, inl, inr, arith}
+use Rattle.std.proofs.Common.{map, drop, option_map, sym, ap, ◌∙◌, inl, inr, arith}
 use Rattle.wal.specs.Records.{history}
-use Rattle.wal.specs.Frames.{record_of}
+use Rattle.wal.specs.Frames.{record_of, frame_at}
 use Rattle.wal.proofs.Histories.{record_none}
 use Rattle.wal.proofs.Places.{size_of, record_there}
 use Rattle.wal.proofs.log.record_in.Goals as goal
@@ -8,8 +8,12 @@ use Rattle.wal.proofs.log.record_in.Goals as goal
 pub returns-then-lsn-eq0-clause-found : goal.returns-then-lsn-eq0-clause-found
 returns-then-lsn-eq0-clause-found c = sym (record_none (history (map (record_of c.args.bytes.now) c.args.offsets.now)) c.args.lsn (inl (omega arith)))
 
-pub returns-then-lsn-offsets-clause-found : goal.returns-then-lsn-offsets-clause-found
-returns-then-lsn-offsets-clause-found c = sym (record_none (history (map (record_of c.args.bytes.now) c.args.offsets.now)) c.args.lsn (inr (omega (arith, size_of (record_of c.args.bytes.now) c.args.offsets.now))))
+pub returns-then-lsn-len-clause-found : goal.returns-then-lsn-len-clause-found
+returns-then-lsn-len-clause-found c = sym (record_none (history (map (record_of c.args.bytes.now) c.args.offsets.now)) c.args.lsn (inr (omega (arith, size_of (record_of c.args.bytes.now) c.args.offsets.now))))
 
 pub returns-clause-found : goal.returns-clause-found
-returns-clause-found c = c.record_here.ensures.found ∙ sym (record_there c.args.bytes.now c.args.offsets.now c.args.lsn 0 c.requires (omega arith) (omega arith))
+returns-clause-found c =
+    let offset = c.get-offset.result in
+    c.record_here.ensures.found
+    ∙ (ap (λ o. option_map (λ x. x.0) (frame_at (drop o c.args.bytes.now))) c.get-offset.ensures
+    ∙ sym (record_there c.args.bytes.now c.args.offsets.now c.args.lsn offset c.requires (omega arith) (omega (arith, c.len.ensures))))

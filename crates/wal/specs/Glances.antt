@@ -1,0 +1,62 @@
+-- What is seen of a record at a glance.
+use Rattle.std.specs.Prelude.{ℕ, List, [], ◌∷◌, Option, Some, None, ◌==◌, if◌then◌else◌}
+use Rattle.std.specs.Int.{w32, w64}
+use Rattle.wal.specs.declared.glance.Glance.{Glance}
+use Rattle.wal.specs.declared.glance.Glance.TheVariants as seen
+use Rattle.wal.specs.Records.{LogRecord, Update, Compensation, Commit, Abort, End}
+use Rattle.wal.specs.Reading.{◌>>=◌, number_at, slot_at, plain_at}
+
+-- the record without its images, its tables and its PrevLSN
+abbrev pub glance_of : LogRecord → Glance
+glance_of (Update u) = seen.Update u.tx u.page u.slot
+glance_of (Compensation c) = seen.Compensation c.tx c.page c.slot c.undo_next
+glance_of (Commit s) = seen.Commit s.tx
+glance_of (Abort s) = seen.Abort s.tx
+glance_of (End s) = seen.End s.tx
+glance_of _ = seen.Checkpoint
+
+-- READING. As much of a body as it takes.
+unfoldable pub update_glance : List ℕ → Option Glance
+update_glance bytes = do
+  own ← plain_at bytes
+  page ← number_at w32 own.1
+  slot ← slot_at page.1
+  Some (seen.Update own.0.tx page.0 slot.0)
+
+unfoldable pub compensation_glance : List ℕ → Option Glance
+compensation_glance bytes = do
+  own ← plain_at bytes
+  page ← number_at w32 own.1
+  slot ← slot_at page.1
+  undo_next ← number_at w64 slot.1
+  Some (seen.Compensation own.0.tx page.0 slot.0 undo_next.0)
+
+unfoldable pub commit_glance : List ℕ → Option Glance
+commit_glance bytes = do
+  own ← plain_at bytes
+  Some (seen.Commit own.0.tx)
+
+unfoldable pub abort_glance : List ℕ → Option Glance
+abort_glance bytes = do
+  own ← plain_at bytes
+  Some (seen.Abort own.0.tx)
+
+unfoldable pub end_glance : List ℕ → Option Glance
+end_glance bytes = do
+  own ← plain_at bytes
+  Some (seen.End own.0.tx)
+
+unfoldable pub fields_glance : ℕ → List ℕ → Option Glance
+fields_glance kind bytes =
+    if kind == 1 then update_glance bytes
+    else if kind == 2 then compensation_glance bytes
+    else if kind == 3 then commit_glance bytes
+    else if kind == 4 then abort_glance bytes
+    else if kind == 5 then end_glance bytes
+    else Some seen.Checkpoint
+
+unfoldable pub body_glance : List ℕ → Option Glance
+body_glance [] = None
+body_glance (kind ∷ bytes) = do
+  lsn ← number_at w64 bytes
+  fields_glance kind lsn.1

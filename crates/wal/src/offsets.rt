@@ -1,0 +1,68 @@
+//! Offsets of frames.
+
+ghost use Rattle.std.specs.Prelude.{◌≡◌, ◌<◌, ◌++◌, ◌∷◌, [], ℕ, List, length, slice_index_or, OnOk, IfErr};
+ghost use Rattle.page.specs.declared.fault.Fault.TheVariants.{NoResource};
+
+use page::Fault;
+use std::alloc::Global;
+use std::marker::Model;
+
+/// Offsets in a text, one behind the other: in 4 bytes each as far as that holds them, in 8 from the
+/// first one past 4 GiB on. Contracts see their list.
+#[derive(Drop)]
+pub struct Offsets {
+    short: Vec<u32>,
+    long: Vec<usize>,
+}
+
+impl Model for Offsets {
+    ghost Value = { List ℕ };
+
+    ghost view = { λ s. s.short.items ++ s.long.items };
+}
+
+impl Offsets {
+    /// No offset.
+    pub fn new(alloc: Global) -> Offsets
+        ensures { result ≡ [] }
+    {
+        Offsets {
+            short: Vec::new(alloc),
+            long: Vec::new(alloc),
+        }
+    }
+
+    /// How many there are.
+    pub fn len(&self) -> usize
+        ensures { result ≡ length self.now }
+    {
+        self.short.len() + self.long.len()
+    }
+
+    /// The one at an index.
+    #[inline]
+    pub fn get(&self, index: usize) -> usize
+        requires { index < length self.now }
+        ensures { result ≡ slice_index_or self.now index result }
+    {
+        let short = self.short.len();
+        if index < short {
+            self.short[index] as usize
+        } else {
+            self.long[index - short]
+        }
+    }
+
+    /// Puts one behind the others. The only error is `NoResource`.
+    pub fn push(&mut self, offset: usize) -> Result<(), Fault>
+        ensures ok { OnOk result (self.new ≡ self.old ++ offset ∷ []) }
+        ensures err { IfErr result (λ e. e ≡ NoResource) }
+    {
+        if self.long.is_empty() && offset < 1 << 32 {
+            self.short.push(offset as u32)?;
+        } else {
+            self.long.push(offset)?;
+        }
+        Ok(())
+    }
+}
