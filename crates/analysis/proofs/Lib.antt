@@ -1,4 +1,5 @@
 pub mod Maps
+pub mod Keeping
 pub mod Scanned
 pub mod Smallest
 pub mod Analysed

@@ -9,7 +9,9 @@ use Rattle.wal.specs.Meaning.{is_on}
 use Rattle.wal.specs.Store.{or_else, first_end, state_of}
 use Rattle.wal.proofs.Histories.{after-append, size_of_beginning}
 use Rattle.analysis.specs.Tables.{work_since, finished_since, base_since, undo_next_in, aborts_in, is_aborting, entry_by, analysed_entry, first_behind, analysed_rec_lsn}
-use Rattle.analysis.specs.Steps.{state_in, undo_next_of_entry, entry_after, rec_lsn_after}
+use Rattle.analysis.specs.Steps.{state_in, undo_next_of_entry, entry_after, rec_lsn_after, entry_seen, rec_lsn_seen}
+use Rattle.wal.specs.declared.glance.Glance.{Glance}
+use Rattle.wal.specs.Glances.{glance_of}
 
 -- what the entry says of the state and the undo-next
 state_of-aborting : (s : State) → state_of (is_aborting s) ≡ s
@@ -137,3 +139,28 @@ first_end_met records m i begin ts d lt le own none next =
     let here : first_end m (history (take (i + 1) records)) ≡ Some (ts, d) = ap (first_end m) next ∙ (rw (none, named, behind) refl) in
     let whole : history records ≡ history (take (i + 1) records) ▸▸ drop (i + 1) records = ap history (sym (take-append-drop (i + 1) records)) ∙ after-append start (take (i + 1) records) (drop (i + 1) records) in
     sym (ap (first_end m) whole ∙ first_end_after m (history (take (i + 1) records)) (drop (i + 1) records) (ts, d) here)
+
+-- AT A GLANCE
+pub entry_glanced : (lsn t : ℕ) (r : LogRecord) (g : Glance) (old new : Option TableEntry) → g ≡ glance_of r → new ≡ entry_seen lsn g t old → new ≡ entry_after lsn r t old
+entry_glanced lsn t r g old new is e = e ∙ (ap (λ x. entry_seen lsn x t old) is ∙ same r)
+  where
+    same : (r : LogRecord) → entry_seen lsn (glance_of r) t old ≡ entry_after lsn r t old
+    same (Update u) = refl
+    same (Compensation c) = refl
+    same (Commit s) = refl
+    same (Abort s) = refl
+    same (End s) = refl
+    same CheckpointBegin = refl
+    same (CheckpointEnd b x d) = refl
+
+pub rec_lsn_glanced : (lsn page : ℕ) (r : LogRecord) (g : Glance) (old new : Option ℕ) → g ≡ glance_of r → new ≡ rec_lsn_seen lsn g page old → new ≡ rec_lsn_after lsn r page old
+rec_lsn_glanced lsn page r g old new is e = e ∙ (ap (λ x. rec_lsn_seen lsn x page old) is ∙ same r)
+  where
+    same : (r : LogRecord) → rec_lsn_seen lsn (glance_of r) page old ≡ rec_lsn_after lsn r page old
+    same (Update u) = refl
+    same (Compensation c) = refl
+    same (Commit s) = refl
+    same (Abort s) = refl
+    same (End s) = refl
+    same CheckpointBegin = refl
+    same (CheckpointEnd b x d) = refl

@@ -1,11 +1,16 @@
 -- What one record more does to the tables (ARIES section 6.1, the analysis pass).
-use Rattle.std.specs.Prelude.{◌≡◌, ℕ, nat_lt, ◌||◌, Bool, true, false, List, slice_index_or, Option, Some, None, is_some, ◌==◌, if◌then◌else◌}
+use Rattle.std.specs.Prelude.{◌≡◌, ℕ, ◌%◌, nat_lt, ◌||◌, Bool, true, false, List, slice_index_or, Option, Some, None, is_some, ◌==◌, if◌then◌else◌}
 use Rattle.wal.specs.declared.record.State.{State}
 use Rattle.wal.specs.declared.record.State.TheVariants.{Active, Aborting}
 use Rattle.wal.specs.Records.{TableEntry, LogRecord, Update, Compensation, Commit, Abort, End}
+use Rattle.wal.specs.declared.glance.Glance.{Glance}
+use Rattle.wal.specs.declared.glance.Glance.TheVariants as seen
 use Rattle.wal.specs.Meaning.{is_on}
 use Rattle.wal.specs.Redo.{rec_lsn_of}
 use Rattle.wal.specs.Store.{or_else}
+use Rattle.wal.specs.Content.{entry_of}
+use Rattle.wal.specs.declared.record.Entry.{Entry}
+use Rattle.analysis.specs.Tables.{entry_at}
 
 -- a transaction without an entry is active, and has nothing to undo
 abbrev pub state_in : Option TableEntry → State
@@ -32,9 +37,47 @@ entry_after lsn _ t old = old
 abbrev pub rec_lsn_after : ℕ → LogRecord → ℕ → Option ℕ → Option ℕ
 rec_lsn_after lsn r page old = or_else old (if is_on page r then Some lsn else None)
 
+-- the same by what is seen of the record at a glance
+abbrev pub entry_seen : ℕ → Glance → ℕ → Option TableEntry → Option TableEntry
+entry_seen lsn (seen.Update tx page slot) t old =
+    if tx == t then Some (record { tx = t; state = state_in old; last = lsn; undo_next = lsn }) else old
+entry_seen lsn (seen.Compensation tx page slot undo_next) t old =
+    if tx == t then Some (record { tx = t; state = state_in old; last = lsn; undo_next = undo_next }) else old
+entry_seen lsn (seen.Abort tx) t old =
+    if tx == t then Some (record { tx = t; state = Aborting; last = lsn; undo_next = undo_next_of_entry old }) else old
+entry_seen lsn (seen.Commit tx) t old = if tx == t then None else old
+entry_seen lsn (seen.End tx) t old = if tx == t then None else old
+entry_seen lsn _ t old = old
+
+abbrev pub is_seen_on : ℕ → Glance → Bool
+is_seen_on page (seen.Update tx own slot) = own == page
+is_seen_on page (seen.Compensation tx own slot undo_next) = own == page
+is_seen_on page _ = false
+
+abbrev pub rec_lsn_seen : ℕ → Glance → ℕ → Option ℕ → Option ℕ
+rec_lsn_seen lsn g page old = or_else old (if is_seen_on page g then Some lsn else None)
+
 -- pages that are noted as known are listed (own)
 abbrev pub AreListed : List Bool → List (ℕ × ℕ) → Type 0
 AreListed known dirty = (page : ℕ) → slice_index_or known page false ≡ true → is_some (rec_lsn_of page dirty) ≡ true
+
+-- an entry that is kept aside, where it is of t, else another
+abbrev pub kept_entry : ℕ → Option (ℕ × Entry) → Option TableEntry → Option TableEntry
+kept_entry t None other = other
+kept_entry t (Some p) other = if p.0 == t then Some (entry_of (t, p.1)) else other
+
+-- the entry of t, which is kept at the place t modulo 256 or stands in the table (own)
+abbrev pub held_entry : ℕ → List (Option (ℕ × Entry)) → List (ℕ × Entry) → Option TableEntry
+held_entry t kept entries = kept_entry t (slice_index_or kept (t % 256) None) (entry_at t entries)
+
+-- an entry is kept at its transaction's place
+abbrev pub AreKept : List (Option (ℕ × Entry)) → Type 0
+AreKept kept = (place : ℕ) (p : ℕ × Entry) → slice_index_or kept place None ≡ Some p → p.0 % 256 ≡ place
+
+-- the entry that is kept at the place of tx stands in the table, if it is another's
+pub record IsMoved (tx : ℕ) (kept : List (Option (ℕ × Entry))) (old new : List (ℕ × Entry)) : Type 0 where
+  pub here : (t : ℕ) → (t ≡ tx → ⊥) → t % 256 ≡ tx % 256 → entry_at t new ≡ held_entry t kept old
+  pub elsewhere : (t : ℕ) → (t % 256 ≡ tx % 256 → ⊥) → entry_at t new ≡ entry_at t old
 
 -- the smaller of the smallest so far, 0 for none, and another
 abbrev pub lower : ℕ → ℕ → ℕ

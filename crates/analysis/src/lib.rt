@@ -2,6 +2,7 @@
 #![tactic(auto)]
 
 mod base;
+mod kept;
 mod pass;
 mod scan;
 mod tables;

@@ -5,89 +5,61 @@ ghost use Rattle.page.specs.declared.fault.Fault.TheVariants.{NoResource};
 ghost use Rattle.wal.specs.Content.{entry_of};
 ghost use Rattle.wal.specs.Records.{LogRecord, TableEntry, history};
 ghost use Rattle.wal.specs.Redo.{rec_lsn_of};
-ghost use Rattle.wal.specs.Shown.{shown};
 ghost use Rattle.wal.specs.Store.{or_else};
 ghost use Rattle.analysis.specs.Tables.{entry_at, analysed_entry, analysed_rec_lsn};
-ghost use Rattle.analysis.specs.Steps.{state_in, undo_next_of_entry, entry_after, rec_lsn_after, AreListed};
+ghost use Rattle.analysis.specs.Steps.{entry_seen, rec_lsn_seen, AreListed, held_entry, AreKept};
 
+use crate::kept::{entry_in, finish, keep, put_back};
 use page::Fault;
 use std::collections::BTreeMap;
-use wal::{Entry, Log, RecordView, State};
+use wal::{Entry, Glance, Log, State};
 
 /// How many pages a store has at most.
 const PAGES: usize = 4096;
 
-/// The entry of a transaction: a new one is active, and has nothing to undo.
-fn entry_in(transactions: &BTreeMap<u32, Entry>, tx: u32) -> Entry
-    ensures state { result.state ≡ state_in (entry_at tx transactions.now.entries) }
-    ensures undo_next { result.undo_next ≡ undo_next_of_entry (entry_at tx transactions.now.entries) }
-{
-    match transactions.get(&tx) {
-        Some(entry) => *entry,
-        None => Entry {
-            state: State::Active,
-            last: 0,
-            undo_next: 0,
-        },
-    }
-}
-
-/// Puts the entry of a transaction.
-fn put(transactions: &mut BTreeMap<u32, Entry>, tx: u32, entry: Entry) -> Result<(), Fault>
-    ensures ok { OnOk result ((t : ℕ) → entry_at t transactions.new.entries ≡ (if tx == t then Some (entry_of (t, entry)) else entry_at t transactions.old.entries)) }
-    ensures err { IfErr result (λ e. e ≡ NoResource) }
-{
-    transactions.insert(tx, entry)?;
-    Ok(())
-}
-
-/// Takes the entry of a transaction away, if it has one.
-fn finish(transactions: &mut BTreeMap<u32, Entry>, tx: u32)
-    ensures { (t : ℕ) → entry_at t transactions.new.entries ≡ (if tx == t then None else entry_at t transactions.old.entries) }
-{
-    transactions.remove(&tx);
-}
-
 /// What a record does to the transaction table.
 fn note_transaction(
     transactions: &mut BTreeMap<u32, Entry>,
-    view: &RecordView,
+    kept: &mut [Option<(u32, Entry)>; 256],
+    glance: Glance,
     lsn: u64,
 ) -> Result<(), Fault>
-    ensures ok { OnOk result ((t : ℕ) → entry_at t transactions.new.entries ≡ entry_after lsn (shown view.now) t (entry_at t transactions.old.entries)) }
+    requires { AreKept kept.old }
+    ensures ok { OnOk result ((t : ℕ) → held_entry t kept.new transactions.new.entries ≡ entry_seen lsn glance t (held_entry t kept.old transactions.old.entries)) }
+    ensures kept { AreKept kept.new }
     ensures err { IfErr result (λ e. e ≡ NoResource) }
 {
-    match view {
-        RecordView::Update { tx, .. } => {
-            let state = entry_in(transactions, *tx).state;
+    match glance {
+        Glance::Update { tx, .. } => {
+            let state = entry_in(transactions, kept, tx).state;
             let entry = Entry {
                 state,
                 last: lsn,
                 undo_next: lsn,
             };
-            put(transactions, *tx, entry)?;
+            keep(transactions, kept, tx, entry)?;
         }
-        RecordView::Compensation { tx, undo_next, .. } => {
-            let state = entry_in(transactions, *tx).state;
+        Glance::Compensation { tx, undo_next, .. } => {
+            let state = entry_in(transactions, kept, tx).state;
             let entry = Entry {
                 state,
                 last: lsn,
-                undo_next: *undo_next,
+                undo_next,
             };
-            put(transactions, *tx, entry)?;
+            keep(transactions, kept, tx, entry)?;
         }
-        RecordView::Abort { tx, .. } => {
-            let undo_next = entry_in(transactions, *tx).undo_next;
+        Glance::Abort { tx, .. } => {
+            let undo_next = entry_in(transactions, kept, tx).undo_next;
             let entry = Entry {
                 state: State::Aborting,
                 last: lsn,
                 undo_next,
             };
-            put(transactions, *tx, entry)?;
+            keep(transactions, kept, tx, entry)?;
         }
-        RecordView::Commit { tx, .. } => finish(transactions, *tx),
-        RecordView::End { tx, .. } => finish(transactions, *tx),
-        RecordView::CheckpointBegin | RecordView::CheckpointEnd { .. } => {}
+        Glance::Commit { tx, .. } => finish(transactions, kept, tx),
+        Glance::End { tx, .. } => finish(transactions, kept, tx),
+        Glance::Checkpoint => {}
     }
     Ok(())
 }
@@ -146,17 +118,17 @@ fn list_unknown(
 fn note_page(
     dirty: &mut BTreeMap<u32, u64>,
     known: &mut [bool; PAGES],
-    view: &RecordView,
+    glance: Glance,
     lsn: u64,
 ) -> Result<(), Fault>
     requires { AreListed known.old dirty.old.entries }
-    ensures ok { OnOk result ((p : ℕ) → rec_lsn_of p dirty.new.entries ≡ rec_lsn_after lsn (shown view.now) p (rec_lsn_of p dirty.old.entries)) }
+    ensures ok { OnOk result ((p : ℕ) → rec_lsn_of p dirty.new.entries ≡ rec_lsn_seen lsn glance p (rec_lsn_of p dirty.old.entries)) }
     ensures known { OnOk result (AreListed known.new dirty.new.entries) }
     ensures err { IfErr result (λ e. e ≡ NoResource) }
 {
-    match view {
-        RecordView::Update { page, .. } => list_unknown(dirty, known, *page, lsn)?,
-        RecordView::Compensation { page, .. } => list_unknown(dirty, known, *page, lsn)?,
+    match glance {
+        Glance::Update { page, .. } => list_unknown(dirty, known, page, lsn)?,
+        Glance::Compensation { page, .. } => list_unknown(dirty, known, page, lsn)?,
         _ => {}
     }
     Ok(())
@@ -177,10 +149,12 @@ pub fn scan(
     ensures err { IfErr result (λ e. e ≡ NoResource) }
 {
     let mut known = [false; PAGES];
+    let mut kept = [None; 256];
     for index in master..log.len() {
-        let view = log.nth(index);
-        note_transaction(transactions, &view, index + 1)?;
-        note_page(dirty, &mut known, &view, index + 1)?;
+        let glance = log.glance(index);
+        note_transaction(transactions, &mut kept, glance, index + 1)?;
+        note_page(dirty, &mut known, glance, index + 1)?;
     }
+    put_back(transactions, &kept)?;
     Ok(())
 }

@@ -1,0 +1,169 @@
+-- Entries that are kept aside.
+use Rattle.std.proofs.Common.{◌≡◌, ℕ, zero, suc, replicate, ◌%◌, ◌+◌, ◌<◌, cond, eqb, List, Option, Some, None, length, get_or, set, refl, sym, ap, ◌∙◌, inl, inr, arith, eq-eqb, ne_eqb}
+use Rattle.std.proofs.lemmas.Bool.{cases_eq}
+use Rattle.std.proofs.lemmas.List.{get_or-set_same, get_or-set_other}
+use Rattle.std.proofs.Math.Nat.{mod-lt}
+use Rattle.wal.specs.Records.{TableEntry}
+use Rattle.wal.specs.declared.record.Entry.{Entry}
+use Rattle.wal.specs.Content.{entry_of}
+use Rattle.analysis.specs.Tables.{entry_at}
+use Rattle.analysis.specs.Steps.{kept_entry, held_entry, AreKept, IsMoved}
+
+abbrev pub Slots : Type 0
+Slots = List (Option (ℕ × Entry))
+
+some_same : {X : Type 0} {x y : X} → Some x ≡ Some y → x ≡ y
+some_same e = cc
+
+-- what is kept of another transaction is nothing of this one
+kept_other : (t : ℕ) (p : ℕ × Entry) (other : Option TableEntry) → (t ≡ p.0 → ⊥) → kept_entry t (Some p) other ≡ other
+kept_other t p other ne = ap (λ b. cond b (Some (entry_of (t, p.1))) other) (ne_eqb p.0 t (λ e. ne (sym e)))
+
+kept_own : (t : ℕ) (p : ℕ × Entry) (other : Option TableEntry) → p.0 ≡ t → kept_entry t (Some p) other ≡ Some (entry_of (t, p.1))
+kept_own t p other e = ap (λ b. cond b (Some (entry_of (t, p.1))) other) (eq-eqb p.0 t e)
+
+-- by what is kept at the place
+pub held_by : (t : ℕ) (kept : Slots) (entries : List (ℕ × Entry)) (place : ℕ) (o : Option (ℕ × Entry)) → t % 256 ≡ place → get_or kept place None ≡ o → held_entry t kept entries ≡ kept_entry t o (entry_at t entries)
+held_by t kept entries place o at is = ap (λ x. kept_entry t x (entry_at t entries)) (ap (λ i. get_or kept i None) at ∙ is)
+
+pub held_none : (t : ℕ) (kept : Slots) (entries : List (ℕ × Entry)) (place : ℕ) → t % 256 ≡ place → get_or kept place None ≡ None → held_entry t kept entries ≡ entry_at t entries
+held_none t kept entries place at is = held_by t kept entries place None at is
+
+pub held_other : (t : ℕ) (kept : Slots) (entries : List (ℕ × Entry)) (place : ℕ) (p : ℕ × Entry) → t % 256 ≡ place → get_or kept place None ≡ Some p → (t ≡ p.0 → ⊥) → held_entry t kept entries ≡ entry_at t entries
+held_other t kept entries place p at is ne = held_by t kept entries place (Some p) at is ∙ kept_other t p (entry_at t entries) ne
+
+pub held_own : (t : ℕ) (kept : Slots) (entries : List (ℕ × Entry)) (place : ℕ) (p : ℕ × Entry) → t % 256 ≡ place → get_or kept place None ≡ Some p → p.0 ≡ t → held_entry t kept entries ≡ Some (entry_of (t, p.1))
+held_own t kept entries place p at is own = held_by t kept entries place (Some p) at is ∙ kept_own t p (entry_at t entries) own
+
+-- nothing is kept at first
+empty_at : (n k : ℕ) → get_or (replicate {A = Option (ℕ × Entry)} n None) k None ≡ None
+empty_at zero k = refl
+empty_at (suc n) zero = refl
+empty_at (suc n) (suc k) = empty_at n k
+
+pub none_held : (t : ℕ) (entries : List (ℕ × Entry)) → held_entry t (replicate 256 None) entries ≡ entry_at t entries
+none_held t entries = held_none t (replicate 256 None) entries (t % 256) refl (empty_at 256 (t % 256))
+
+pub none_kept : AreKept (replicate 256 None)
+none_kept place p is = absurd (none (sym (empty_at 256 place) ∙ is))
+  where
+    none : {X : Type 0} {x : X} → None ≡ Some x → ⊥
+    none e = cc
+
+-- MOVED
+pub moved_none : (tx : ℕ) (kept : Slots) (entries : List (ℕ × Entry)) → get_or kept (tx % 256) None ≡ None → IsMoved tx kept entries entries
+moved_none tx kept entries is = record { here = λ t ne at. sym (held_none t kept entries (tx % 256) at is); elsewhere = λ t ne. refl }
+
+pub moved_own : (tx : ℕ) (kept : Slots) (entries : List (ℕ × Entry)) (p : ℕ × Entry) → get_or kept (tx % 256) None ≡ Some p → p.0 ≡ tx → IsMoved tx kept entries entries
+moved_own tx kept entries p is own = record { here = λ t ne at. sym (held_other t kept entries (tx % 256) p at is (λ e. ne (e ∙ own))); elsewhere = λ t ne. refl }
+
+pub moved_other : (tx : ℕ) (kept : Slots) (old new : List (ℕ × Entry)) (p : ℕ × Entry) → AreKept kept → get_or kept (tx % 256) None ≡ Some p
+    → ((t : ℕ) → entry_at t new ≡ cond (eqb p.0 t) (Some (entry_of (t, p.1))) (entry_at t old)) → IsMoved tx kept old new
+moved_other tx kept old new p are is put = record {
+  here = λ t ne at. put t ∙ sym (held_by t kept old (tx % 256) (Some p) at is);
+  elsewhere = λ t ne.
+      put t ∙ ap (λ b. cond b (Some (entry_of (t, p.1))) (entry_at t old)) (ne_eqb p.0 t (λ e. ne (ap (λ n. n % 256) (sym e) ∙ are (tx % 256) p is)));
+}
+
+-- KEPT
+pub within : (tx : ℕ) (kept : Slots) → length kept ≡ 256 → tx % 256 < length kept
+within tx kept count = let some : 0 < 256 = omega arith in omega (arith, count, mod-lt tx some)
+
+pub keep_are : (tx : ℕ) (entry : Entry) (kept : Slots) → length kept ≡ 256 → AreKept kept → AreKept (set kept (tx % 256) (Some (tx, entry)))
+keep_are tx entry kept count are place p is =
+    elim (cases_eq place (tx % 256)) [
+      | inl e ↦
+          (let own : Some (tx, entry) ≡ Some p = sym (get_or-set_same kept (tx % 256) (Some (tx, entry)) None (within tx kept count)) ∙ (ap (λ i. get_or (set kept (tx % 256) (Some (tx, entry))) i None) (sym e) ∙ is) in
+          ap (λ n. n % 256) (sym (number own)) ∙ sym e)
+      | inr ne ↦ are place p (sym (get_or-set_other kept (tx % 256) place (Some (tx, entry)) None ne) ∙ is)
+    ]
+  where
+    number : {a b : ℕ × Entry} → Some a ≡ Some b → a.0 ≡ b.0
+    number e = ap (λ (x : ℕ × Entry). x.0) (some_same e)
+
+pub forget_are : (place : ℕ) (kept : Slots) → place < length kept → AreKept kept → AreKept (set kept place None)
+forget_are place kept lt are other p is =
+    elim (cases_eq other place) [
+      | inl e ↦ absurd (none (sym (ap (λ i. get_or (set kept place None) i None) e ∙ get_or-set_same kept place None None lt) ∙ is))
+      | inr ne ↦ are other p (sym (get_or-set_other kept place other None None ne) ∙ is)
+    ]
+  where
+    none : None ≡ Some p → ⊥
+    none e = cc
+
+pub keep_held : (tx : ℕ) (entry : Entry) (kept : Slots) (old new : List (ℕ × Entry)) → length kept ≡ 256 → IsMoved tx kept old new → (t : ℕ)
+    → held_entry t (set kept (tx % 256) (Some (tx, entry))) new ≡ cond (eqb tx t) (Some (entry_of (t, entry))) (held_entry t kept old)
+keep_held tx entry kept old new count moved t =
+    let now = set kept (tx % 256) (Some (tx, entry)) in
+    let there : get_or now (tx % 256) None ≡ Some (tx, entry) = get_or-set_same kept (tx % 256) (Some (tx, entry)) None (within tx kept count) in
+    elim (cases_eq t tx) [
+      | inl e ↦ held_own t now new (tx % 256) (tx, entry) (ap (λ n. n % 256) e) there (sym e) ∙ sym (ap (λ b. cond b (Some (entry_of (t, entry))) (held_entry t kept old)) (eq-eqb tx t (sym e)))
+      | inr ne ↦
+          (let off : cond (eqb tx t) (Some (entry_of (t, entry))) (held_entry t kept old) ≡ held_entry t kept old = ap (λ b. cond b (Some (entry_of (t, entry))) (held_entry t kept old)) (ne_eqb tx t (λ e. ne (sym e))) in
+          elim (cases_eq (t % 256) (tx % 256)) [
+            | inl at ↦ held_other t now new (tx % 256) (tx, entry) at there ne ∙ (moved.here t ne at ∙ sym off)
+            | inr far ↦
+                (ap (λ x. kept_entry t x (entry_at t new)) (get_or-set_other kept (tx % 256) (t % 256) (Some (tx, entry)) None far)
+                ∙ (ap (kept_entry t (get_or kept (t % 256) None)) (moved.elsewhere t far) ∙ sym off))
+          ])
+    ]
+
+-- FORGOTTEN
+pub forget_other : (tx : ℕ) (kept : Slots) (p : ℕ × Entry) → length kept ≡ 256 → get_or kept (tx % 256) None ≡ Some p → p.0 ≡ tx → (t : ℕ) (entries : List (ℕ × Entry)) → (t ≡ tx → ⊥)
+    → held_entry t (set kept (tx % 256) None) entries ≡ held_entry t kept entries
+forget_other tx kept p count is own t entries ne =
+    let now = set kept (tx % 256) None in
+    elim (cases_eq (t % 256) (tx % 256)) [
+      | inl at ↦ held_none t now entries (tx % 256) at (get_or-set_same kept (tx % 256) None None (within tx kept count)) ∙ sym (held_other t kept entries (tx % 256) p at is (λ e. ne (e ∙ own)))
+      | inr far ↦ ap (λ x. kept_entry t x (entry_at t entries)) (get_or-set_other kept (tx % 256) (t % 256) None None far)
+    ]
+
+pub forget_own : (tx : ℕ) (kept : Slots) → length kept ≡ 256 → (entries : List (ℕ × Entry)) → held_entry tx (set kept (tx % 256) None) entries ≡ entry_at tx entries
+forget_own tx kept count entries = held_none tx (set kept (tx % 256) None) entries (tx % 256) refl (get_or-set_same kept (tx % 256) None None (within tx kept count))
+
+-- taken from both, it is in neither
+pub removed : (t tx : ℕ) (kept left : Slots) (old new : List (ℕ × Entry)) → ((t : ℕ) (entries : List (ℕ × Entry)) → (t ≡ tx → ⊥) → held_entry t left entries ≡ held_entry t kept entries)
+    → ((entries : List (ℕ × Entry)) → held_entry tx left entries ≡ entry_at tx entries) → ((n : ℕ) → entry_at n new ≡ cond (eqb tx n) None (entry_at n old)) → held_entry t left new ≡ cond (eqb tx t) None (held_entry t kept old)
+removed t tx kept left old new other own gone =
+    elim (cases_eq t tx) [
+      | inl e ↦
+          (ap (λ n. held_entry n left new) e ∙ (own new ∙ (gone tx ∙ (ap (λ b. cond b None (entry_at tx old)) (eq-eqb tx tx refl) ∙ sym (ap (λ b. cond b None (held_entry t kept old)) (eq-eqb tx t (sym e)))))))
+      | inr ne ↦
+          (let off = ne_eqb tx t (λ e. ne (sym e)) in
+          other t new ne ∙ (ap (kept_entry t (get_or kept (t % 256) None)) (gone t ∙ ap (λ b. cond b None (entry_at t old)) off) ∙ sym (ap (λ b. cond b None (held_entry t kept old)) off)))
+    ]
+
+-- PUT BACK
+-- the table has what it is to have up to a place
+pub record IsBackTo (place : ℕ) (kept : Slots) (first now : List (ℕ × Entry)) : Type 0 where
+  pub same : (t : ℕ) → held_entry t kept now ≡ held_entry t kept first
+  pub back : (t : ℕ) → t % 256 < place → entry_at t now ≡ held_entry t kept first
+
+pub back_begun : (kept : Slots) (first : List (ℕ × Entry)) → IsBackTo 0 kept first first
+back_begun kept first = record { same = λ t. refl; back = λ t lt. absurd (omega arith) }
+
+pub back_none : (place : ℕ) (kept : Slots) (first now : List (ℕ × Entry)) → get_or kept place None ≡ None → IsBackTo place kept first now → IsBackTo (place + 1) kept first now
+back_none place kept first now is before = record {
+  same = before.same;
+  back = λ t lt. elim (cases_eq (t % 256) place) [
+    | inl at ↦ sym (held_none t kept now place at is) ∙ before.same t
+    | inr ne ↦ before.back t (omega (arith, lt, ne))
+  ];
+}
+
+pub back_put : (place : ℕ) (kept : Slots) (first now new : List (ℕ × Entry)) (p : ℕ × Entry) → AreKept kept → get_or kept place None ≡ Some p
+    → ((t : ℕ) → entry_at t new ≡ cond (eqb p.0 t) (Some (entry_of (t, p.1))) (entry_at t now)) → IsBackTo place kept first now → IsBackTo (place + 1) kept first new
+back_put place kept first now new p are is put before = record {
+  same = λ t. same t ∙ before.same t;
+  back = λ t lt. elim (cases_eq (t % 256) place) [
+    | inl at ↦ put t ∙ (sym (held_by t kept now place (Some p) at is) ∙ before.same t)
+    | inr ne ↦ put t ∙ (ap (λ b. cond b (Some (entry_of (t, p.1))) (entry_at t now)) (ne_eqb p.0 t (λ e. ne (ap (λ n. n % 256) (sym e) ∙ are place p is))) ∙ before.back t (omega (arith, lt, ne)))
+  ];
+}
+  where
+    same : (t : ℕ) → held_entry t kept new ≡ held_entry t kept now
+    same t =
+        elim (cases_eq t p.0) [
+          | inl e ↦ (let at : t % 256 ≡ place = ap (λ n. n % 256) e ∙ are place p is in held_own t kept new place p at is (sym e) ∙ sym (held_own t kept now place p at is (sym e)))
+          | inr ne ↦ ap (kept_entry t (get_or kept (t % 256) None)) (put t ∙ ap (λ b. cond b (Some (entry_of (t, p.1))) (entry_at t now)) (ne_eqb p.0 t (λ e. ne (sym e))))
+        ]

@@ -1,0 +1,127 @@
+//! The transaction table during the scan: of 256 transactions the entries are kept aside, each at the
+//! place of its transaction's number modulo 256, where it is found at once.
+
+ghost use Rattle.std.specs.Prelude.{◌≡◌, ℕ, List, OnOk, IfErr, if◌then◌else◌, ◌==◌, Some, None};
+ghost use Rattle.page.specs.declared.fault.Fault.TheVariants.{NoResource};
+ghost use Rattle.wal.specs.declared.record.Entry.{Entry};
+ghost use Rattle.wal.specs.Content.{entry_of};
+ghost use Rattle.analysis.specs.Tables.{entry_at};
+ghost use Rattle.analysis.specs.Steps.{state_in, undo_next_of_entry, held_entry, AreKept, IsMoved};
+
+use page::Fault;
+use std::collections::BTreeMap;
+use wal::{Entry, State};
+
+/// The entry of a transaction: a new one is active, and has nothing to undo.
+pub fn entry_in(
+    transactions: &BTreeMap<u32, Entry>,
+    kept: &[Option<(u32, Entry)>; 256],
+    tx: u32,
+) -> Entry
+    ensures state { result.state ≡ state_in (held_entry tx kept.now transactions.now.entries) }
+    ensures undo_next { result.undo_next ≡ undo_next_of_entry (held_entry tx kept.now transactions.now.entries) }
+{
+    if let Some((own, entry)) = kept[(tx % 256) as usize] {
+        if own == tx {
+            return entry;
+        }
+    }
+    match transactions.get(&tx) {
+        Some(entry) => *entry,
+        None => Entry {
+            state: State::Active,
+            last: 0,
+            undo_next: 0,
+        },
+    }
+}
+
+/// Puts the entry of a transaction.
+fn put(transactions: &mut BTreeMap<u32, Entry>, tx: u32, entry: Entry) -> Result<(), Fault>
+    ensures ok { OnOk result ((t : ℕ) → entry_at t transactions.new.entries ≡ (if tx == t then Some (entry_of (t, entry)) else entry_at t transactions.old.entries)) }
+    ensures err { IfErr result (λ e. e ≡ NoResource) }
+{
+    transactions.insert(tx, entry)?;
+    Ok(())
+}
+
+/// Puts the entry that is kept at the place of a transaction, if it is another's.
+fn make_place(
+    transactions: &mut BTreeMap<u32, Entry>,
+    kept: &[Option<(u32, Entry)>; 256],
+    tx: u32,
+) -> Result<(), Fault>
+    requires { AreKept kept.now }
+    ensures ok { OnOk result (IsMoved tx kept.now transactions.old.entries transactions.new.entries) }
+    ensures err { IfErr result (λ e. e ≡ NoResource) }
+{
+    if let Some((own, entry)) = kept[(tx % 256) as usize] {
+        if own != tx {
+            put(transactions, own, entry)?;
+        }
+    }
+    Ok(())
+}
+
+/// Keeps the entry of a transaction.
+pub fn keep(
+    transactions: &mut BTreeMap<u32, Entry>,
+    kept: &mut [Option<(u32, Entry)>; 256],
+    tx: u32,
+    entry: Entry,
+) -> Result<(), Fault>
+    requires { AreKept kept.old }
+    ensures ok { OnOk result ((t : ℕ) → held_entry t kept.new transactions.new.entries ≡ (if tx == t then Some (entry_of (t, entry)) else held_entry t kept.old transactions.old.entries)) }
+    ensures kept { AreKept kept.new }
+    ensures err { IfErr result (λ e. e ≡ NoResource) }
+{
+    make_place(transactions, kept, tx)?;
+    kept[(tx % 256) as usize] = Some((tx, entry));
+    Ok(())
+}
+
+/// Keeps no entry of a transaction.
+fn forget(kept: &mut [Option<(u32, Entry)>; 256], tx: u32)
+    requires { AreKept kept.old }
+    ensures other { (t : ℕ) (entries : List (ℕ × Entry)) → (t ≡ tx → ⊥) → held_entry t kept.new entries ≡ held_entry t kept.old entries }
+    ensures own { (entries : List (ℕ × Entry)) → held_entry tx kept.new entries ≡ entry_at tx entries }
+    ensures kept { AreKept kept.new }
+{
+    let place = (tx % 256) as usize;
+    if let Some((own, _)) = kept[place] {
+        if own == tx {
+            kept[place] = None;
+        }
+    }
+}
+
+/// Takes the entry of a transaction away, if it has one.
+pub fn finish(
+    transactions: &mut BTreeMap<u32, Entry>,
+    kept: &mut [Option<(u32, Entry)>; 256],
+    tx: u32,
+)
+    requires { AreKept kept.old }
+    ensures entries { (t : ℕ) → held_entry t kept.new transactions.new.entries ≡ (if tx == t then None else held_entry t kept.old transactions.old.entries) }
+    ensures kept { AreKept kept.new }
+{
+    forget(kept, tx);
+    transactions.remove(&tx);
+}
+
+/// Puts all entries that are kept.
+pub fn put_back(
+    transactions: &mut BTreeMap<u32, Entry>,
+    kept: &[Option<(u32, Entry)>; 256],
+) -> Result<(), Fault>
+    requires { AreKept kept.now }
+    ensures ok { OnOk result ((t : ℕ) → entry_at t transactions.new.entries ≡ held_entry t kept.now transactions.old.entries) }
+    ensures err { IfErr result (λ e. e ≡ NoResource) }
+{
+    for place in 0..256 {
+        if let Some((tx, entry)) = kept[place] {
+            put(transactions, tx, entry)?;
+        }
+    }
+    Ok(())
+}
