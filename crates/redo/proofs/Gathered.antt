@@ -93,6 +93,14 @@ both_put pass pages counts xs ys drawn is first second number part given has =
       | inr h ↦ second number part given h
     ]
 
+-- where all parts are drawn, all pages are put
+pub all_put : (pass : PassContent) (pages : List Page) (counts drawn : List ℕ) → length pass.parting.part_of ≡ length pass.images → All (λ part. part < pass.parting.parts) pass.parting.part_of
+    → ((part : ℕ) → part < pass.parting.parts → Contains drawn part) → ArePut pass pages counts drawn → (number : ℕ) → number < length pass.images → IsPut pass pages counts number
+all_put pass pages counts drawn dealt below all put number lt =
+    let part_of = pass.parting.part_of in
+    let within : number < length part_of = omega (arith, lt, dealt) in
+    put number (get_or part_of number 0) (slice_get-get_or part_of number 0 within) (all (get_or part_of number 0) (below number 0 within))
+
 -- a page that stands in the store has a place
 pub done_below : (pass : PassContent) (ps : List Progress) (n : ℕ) → n ≡ length pass.images → All (IsDone pass) ps → All (λ p. p.page.number < n) ps
 done_below pass ps n count done k d lt =

@@ -6,7 +6,9 @@ pub mod Slots
 pub mod Advance
 pub mod Alone
 pub mod Replay
+pub mod Tallies
 pub mod Parts
+pub mod Notes
 pub mod Noting
 pub mod Gathered
 pub mod Totals

@@ -1,8 +1,8 @@
 -- The pages of each part while pages are dealt.
-use Rattle.std.proofs.Common.{◌≡◌, ◌≢◌, ℕ, ◌+◌, ◌<◌, true, false, List, [], ◌∷◌, ◌++◌, Some, Vec, Result, Ok, Err, IfErr, ◌%◌, cond, eqb, get_or, length, sym, ap, ◌∙◌, subst, inl, inr, arith, length-append, eq-eqb, ne_eqb}
+use Rattle.std.proofs.Common.{◌≡◌, ◌≢◌, ℕ, ◌+◌, ◌<◌, ◌≤◌, true, false, List, [], ◌∷◌, ◌++◌, Some, Vec, Result, Ok, Err, IfErr, ◌%◌, cond, eqb, get_or, length, sym, ap, ◌∙◌, subst, inl, inr, arith, length-append, eq-eqb, ne_eqb}
 use Rattle.std.specs.declared.alloc.Global.{Global}
 use Rattle.std.specs.List.{slice_get}
-use Rattle.std.proofs.lemmas.Bool.{cases_eq}
+use Rattle.std.proofs.lemmas.Bool.{cases_eq, cond_both}
 use Rattle.std.proofs.lemmas.Option.{slice_get_within}
 use mathlib.Core.Logic.{dite}
 use native.Mathlib.Decide.{dec_lt}
@@ -77,6 +77,11 @@ none_dealt part_of lists empty part = record {
   where
     none : (place page : ℕ) → slice_get {X = ℕ} [] place ≡ Some page → ⊥
     none place page e = let lt = slice_get_within [] place page e in omega arith
+
+-- no part has more pages than were dealt
+pub low_next : (page part k : ℕ) (old new : List ℕ) → new ≡ cond (eqb k part) (old ++ page ∷ []) old → length old ≤ page → length new ≤ page + 1
+low_next page part k old new is low =
+    subst (λ (xs : List ℕ). length xs ≤ page + 1) (sym is) (cond_both (eqb k part) (old ++ page ∷ []) old (λ xs. length xs ≤ page + 1) (λ _. omega (arith, low, length-append old (page ∷ []))) (λ _. omega (arith, low)))
 
 -- BY NUMBER
 pub number_more : (parts page : ℕ) → by_number page parts ++ (page % parts) ∷ [] ≡ by_number (page + 1) parts

@@ -1,21 +1,28 @@
 -- One record more of a stretch, noted for its part.
-use Rattle.std.proofs.Common.{◌≡◌, ℕ, suc, ◌+◌, ◌<◌, ◌≤◌, List, [], ◌∷◌, ◌++◌, Some, cond, take, length, get_or, sym, ap, ◌∙◌, subst, arith}
+use Rattle.std.proofs.Common.{◌≡◌, ℕ, suc, ◌+◌, ◌<◌, ◌≤◌, List, [], ◌∷◌, ◌++◌, All, Bool, Some, None, true, false, refl, map, inl, inr, eq-eqb, ne_eqb, cond, eqb, take, length, get_or, sym, ap, ◌∙◌, subst, arith}
 use mathlib.Core.Logic.{dite}
 use native.Mathlib.Decide.{dec_lt}
 use Rattle.page.specs.declared.fault.Fault.{Fault}
 use Rattle.page.specs.declared.fault.Fault.TheVariants.{NoResource, NoSuchPage}
-use Rattle.wal.specs.Records.{LogRecord, ◌▸◌, size, history, record_at}
+use Rattle.std.specs.List.{slice_get}
+use Rattle.std.proofs.lemmas.Bool.{cond_both, cases_eq}
+use Rattle.std.proofs.lemmas.List.{map-append}
+use Rattle.std.proofs.lemmas.List.Elements.{All-push}
+use Rattle.std.proofs.lemmas.Option.{slice_get-get_or}
+use Rattle.wal.specs.Spelling.{Fits}
+use Rattle.redo.specs.declared.note.Note.{Note}
+use Rattle.wal.specs.Records.{LogRecord, Update, Compensation, Commit, Abort, End, CheckpointBegin, CheckpointEnd, History, ◌▸◌, size, history, record_at}
 use Rattle.wal.proofs.Histories.{record_item, size_of_beginning}
-use Rattle.redo.specs.Changes.{NamesBelow, on_part, lsns_where}
+use Rattle.redo.specs.Changes.{page_named, part_of_page, is_part, cell_named, IsNote, NamesBelow, on_part, lsns_where, lsn_in}
 use Rattle.redo.specs.Passes.{PassContent}
 use Rattle.redo.specs.Rounds.{ExistWithin, NoteFault, RouteFault}
 use Rattle.redo.proofs.Reading.{some_same}
 use Rattle.redo.proofs.Routes.{lsns_none}
-use Rattle.redo.proofs.Replay.{lsns_more}
+use Rattle.redo.proofs.Replay.{lsns_more, page_of_cell}
 
 -- the record at a place of the log
-pub there : (records : List LogRecord) (i : ℕ) (r : LogRecord) → i < length records → get_or records i r ≡ r → record_at (history records) (i + 1) ≡ Some r
-there records i r lt is = record_item records i r lt ∙ ap Some is
+pub item_there : (records : List LogRecord) (i : ℕ) (r : LogRecord) → i < length records → get_or records i CheckpointBegin ≡ r → record_at (history records) (i + 1) ≡ Some r
+item_there records i r lt is = record_item records i CheckpointBegin lt ∙ ap Some is
 
 -- nothing is noted before the first
 pub none_noted : (pass : PassContent) (from part : ℕ) → from ≤ length pass.records → lsns_where (on_part pass.parting.part_of part) from (history (take from pass.records)) ≡ []
@@ -57,3 +64,55 @@ module _ (pass : PassContent) (from index : ℕ) (r : LogRecord) (le : from ≤ 
         },
       )
   refused count to e same within old cause = absurd cause
+
+-- THE NOTES
+-- a slot is one of 16
+pub small_slot : (r : LogRecord) (page slot : ℕ) → Fits r → cell_named r ≡ Some (page, slot) → slot < 16
+small_slot (Update u) page slot fits e = let is : u.slot ≡ slot = ap (λ (x : ℕ × ℕ). x.1) (some_same e) in omega (arith, is, fits.slot)
+small_slot (Compensation c) page slot fits e = let is : c.slot ≡ slot = ap (λ (x : ℕ × ℕ). x.1) (some_same e) in omega (arith, is, fits.slot)
+small_slot (Commit s) page slot fits e = absurd (cc)
+small_slot (Abort s) page slot fits e = absurd (cc)
+small_slot (End s) page slot fits e = absurd (cc)
+small_slot CheckpointBegin page slot fits e = absurd (cc)
+small_slot (CheckpointEnd b t d) page slot fits e = absurd (cc)
+
+-- what is in no cell is on no page
+pub no_page : (r : LogRecord) → None ≡ cell_named r → page_named r ≡ None
+no_page (Update u) e = absurd (cc)
+no_page (Compensation c) e = absurd (cc)
+no_page (Commit s) e = refl
+no_page (Abort s) e = refl
+no_page (End s) e = refl
+no_page CheckpointBegin e = refl
+no_page (CheckpointEnd b t d) e = refl
+
+pub no_cell : (part_of : List ℕ) (part : ℕ) (r : LogRecord) → None ≡ cell_named r → on_part part_of part r ≡ false
+no_cell part_of part r e = ap (λ o. is_part part (part_of_page part_of o)) (no_page r e)
+
+-- one note more
+pub notes_more : (log : History) (place_of : List ℕ) (note : Note) (k part : ℕ) (old new : List Note) → new ≡ cond (eqb k part) (old ++ note ∷ []) old → IsNote log place_of note → All (IsNote log place_of) old → All (IsNote log place_of) new
+notes_more log place_of note k part old new is one all =
+    subst (All (IsNote log place_of)) (sym is) (cond_both (eqb k part) (old ++ note ∷ []) old (All (IsNote log place_of)) (λ _. All-push (IsNote log place_of) old note all one) (λ _. all))
+
+-- what is not there is past the end
+pub past_end : {X : Type 0} (xs : List X) (i : ℕ) → None ≡ slice_get xs i → i < length xs → ⊥
+past_end [] i e lt = omega arith
+past_end (x ∷ xs) i e lt = (let f : None ≡ Some (get_or (x ∷ xs) i x) = e ∙ slice_get-get_or (x ∷ xs) i x lt in cc)
+
+-- the LSNs with it
+pub lsns_noted : (part_of : List ℕ) (k part : ℕ) (r : LogRecord) (page slot : ℕ) (note : Note) (old new : List Note) → cell_named r ≡ Some (page, slot) → slice_get part_of page ≡ Some part → new ≡ cond (eqb k part) (old ++ note ∷ []) old
+    → map lsn_in new ≡ cond (on_part part_of k r) (map lsn_in old ++ note.lsn ∷ []) (map lsn_in old)
+lsns_noted part_of k part r page slot note old new cell given is =
+    let own : on_part part_of k r ≡ eqb k part = ap (λ o. is_part k (part_of_page part_of o)) (page_of_cell r page slot cell) ∙ (ap (is_part k) given ∙ eqb-turned part k) in
+    ap (map lsn_in) is ∙ (mapped (eqb k part) ∙ ap (λ b. cond b (map lsn_in old ++ note.lsn ∷ []) (map lsn_in old)) (sym own))
+  where
+    mapped : (b : Bool) → map lsn_in (cond b (old ++ note ∷ []) old) ≡ cond b (map lsn_in old ++ note.lsn ∷ []) (map lsn_in old)
+    mapped true = map-append lsn_in old (note ∷ [])
+    mapped false = refl
+
+    eqb-turned : (x y : ℕ) → eqb x y ≡ eqb y x
+    eqb-turned x y =
+        elim (cases_eq x y) [
+          | inl e ↦ eq-eqb x y e ∙ sym (eq-eqb y x (sym e))
+          | inr ne ↦ ne_eqb x y ne ∙ sym (ne_eqb y x (λ e. ne (sym e)))
+        ]

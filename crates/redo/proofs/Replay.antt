@@ -9,19 +9,30 @@ use Rattle.std.proofs.lemmas.Option.{slice_get-get_or, slice_get_within}
 use mathlib.Core.Path.{fun_ext}
 use Rattle.page.specs.declared.page.Page.{Page}
 use Rattle.page.specs.Store.{AreNumbered}
-use Rattle.wal.specs.Records.{LogRecord, CheckpointBegin, History, start, ◌▸◌, size, history, record_at}
+use Rattle.wal.specs.Records.{LogRecord, Update, Compensation, Commit, Abort, End, CheckpointBegin, CheckpointEnd, History, start, ◌▸◌, size, history, record_at}
 use Rattle.std.proofs.lemmas.List.FromFn.{length-map-range_with_len, get_or-map-range_with_len}
 use Rattle.wal.specs.Redo.{is_redone, applied, rec_lsn_of, slots_in, held_by}
 use Rattle.wal.proofs.Histories.{history_more, record_item, size_of_beginning, record_more, record_last, record_within, record_in_front, after-append}
 use Rattle.redo.specs.declared.progress.Progress.{Progress}
-use Rattle.redo.specs.Changes.{part_of_page, is_part, on_part, lsns_where, progress_at, advance, advance_by, step}
+use Rattle.redo.specs.declared.note.Note.{Note}
+use Rattle.redo.specs.Changes.{page_named, cell_named, lsn_in, IsNote, part_of_page, is_part, on_part, lsns_where, progress_at, advance, advance_by, step}
 use Rattle.redo.specs.Parting.{AreMembers}
 use Rattle.redo.specs.Passes.{PassContent}
 use Rattle.redo.specs.Rounds.{skipped, skipped_in, progress_in, image_at, numbers_of, Stands, IsUpTo}
-use Rattle.redo.proofs.Reading.{get_same}
+use Rattle.redo.proofs.Reading.{get_same, some_same}
 use Rattle.redo.proofs.Routes.{lsns_none}
 use Rattle.redo.proofs.Stretches.{skipped_within}
 use Rattle.redo.proofs.Advance.{advanced, advance_had, advance_elsewhere, advance_count}
+
+-- a cell names its page
+pub page_of_cell : (r : LogRecord) (page slot : ℕ) → cell_named r ≡ Some (page, slot) → page_named r ≡ Some page
+page_of_cell (Update u) page slot e = ap (λ (x : ℕ × ℕ). Some x.0) (some_same e)
+page_of_cell (Compensation c) page slot e = ap (λ (x : ℕ × ℕ). Some x.0) (some_same e)
+page_of_cell (Commit s) page slot e = absurd (cc)
+page_of_cell (Abort s) page slot e = absurd (cc)
+page_of_cell (End s) page slot e = absurd (cc)
+page_of_cell CheckpointBegin page slot e = absurd (cc)
+page_of_cell (CheckpointEnd b t d) page slot e = absurd (cc)
 
 -- ONE RECORD MORE OF A STRETCH
 pub lsns_more : (test : LogRecord → Bool) (from : ℕ) (log : History) (r : LogRecord) → from ≤ size log → lsns_where test from (log ▸ r) ≡ cond (test r) (lsns_where test from log ++ suc (size log) ∷ []) (lsns_where test from log)
@@ -180,25 +191,36 @@ module _ (pass : PassContent) (part : ℕ) (numbered : AreNumbered pass.images) 
       get_or-map (λ (p : Progress). p.page.number) (map at members) k (at 0) 0 (omega (arith, length-map members at))
       ∙ (ap (λ (p : Progress). p.page.number) (get_or-map at members k 0 (at 0) below) ∙ image_number pass.images (get_or members k 0) numbered (member_image members are k 0 below).0))
 
-  -- the page of each record of the part stands among them
-  pub all_stand : (m n : ℕ) (ps : List Progress) → n ≤ length pass.records → IsUpTo pass part m ps
-      → All (Stands (history pass.records) pass.parting.place_of (numbers_of ps)) (lsns_where (on_part pass.parting.part_of part) m (history (take n pass.records)))
-  all_stand m n ps le up k d lt =
+  -- the page of each noted record of the part stands among them
+  pub all_stand : (m n : ℕ) (ps : List Progress) (notes : List Note) → n ≤ length pass.records → IsUpTo pass part m ps
+      → map lsn_in notes ≡ lsns_where (on_part pass.parting.part_of part) m (history (take n pass.records)) → All (IsNote (history pass.records) pass.parting.place_of) notes
+      → All (Stands (history pass.records) pass.parting.place_of (numbers_of ps)) notes
+  all_stand m n ps notes le up are noted k d lt =
       let log = history (take m pass.records) in
+      let lsns = lsns_where (on_part pass.parting.part_of part) m (history (take n pass.records)) in
       let numbers : numbers_of ps ≡ up.members = ap numbers_of up.redone ∙ numbers_are up.members log up.are in
-      let found = lsns_found (on_part pass.parting.part_of part) m (history (take n pass.records)) (history pass.records) (found_first pass.records n le) k d lt in
+      let note = get_or notes k d in
+      let is = noted k d lt in
+      let lsn : get_or lsns k 0 ≡ note.lsn = sym (ap (λ xs. get_or xs k 0) are) ∙ get_or-map lsn_in notes k d 0 lt in
+      let below : k < length lsns = omega (arith, lt, ap (λ (xs : List ℕ). length xs) are, length-map notes lsn_in) in
+      let found = lsns_found (on_part pass.parting.part_of part) m (history (take n pass.records)) (history pass.records) (found_first pass.records n le) k 0 below in
+      let same : found.entry ≡ is.entry = some_same (sym found.there ∙ (ap (record_at (history pass.records)) lsn ∙ is.there)) in
+      let named : page_named is.entry ≡ Some is.page = page_of_cell is.entry is.page note.slot is.cell in
+      let given : slice_get pass.parting.part_of is.page ≡ Some part = part_is (slice_get pass.parting.part_of is.page) (sym (ap (λ o. is_part part (part_of_page pass.parting.part_of o)) (ap page_named same ∙ named)) ∙ found.passes) in
+      let member = up.are.found is.page (omega (arith, slice_get_within pass.parting.part_of is.page part given, up.all)) given in
       record {
-        entry = found.entry;
-        there = found.there;
-        alone = λ page named.
-            let given : slice_get pass.parting.part_of page ≡ Some part = part_is (slice_get pass.parting.part_of page) (sym (ap (λ o. is_part part (part_of_page pass.parting.part_of o)) named) ∙ found.passes) in
-            let member = up.are.found page (omega (arith, slice_get_within pass.parting.part_of page part given, up.all)) given in
-            record {
-              place = member.place;
-              noted = member.noted;
-              there = ap (λ xs. slice_get xs member.place) numbers ∙ member.there;
-              only = λ j at. get_same pass.parting.place_of page j member.place (up.are.only j page (sym (ap (λ xs. slice_get xs j) numbers) ∙ at)).1 member.noted;
-            };
+        entry = is.entry;
+        there = is.there;
+        page = is.page;
+        cell = is.cell;
+        small = is.small;
+        alone = record {
+          place = member.place;
+          noted = member.noted;
+          there = ap (λ xs. slice_get xs member.place) numbers ∙ member.there;
+          only = λ j at. get_same pass.parting.place_of is.page j member.place (up.are.only j is.page (sym (ap (λ xs. slice_get xs j) numbers) ∙ at)).1 member.noted;
+        };
+        place = get_same pass.parting.place_of is.page note.place member.place is.place member.noted;
       }
     where
       part_is : (o : Option ℕ) → is_part part o ≡ true → o ≡ Some part

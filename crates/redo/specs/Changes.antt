@@ -4,14 +4,23 @@ use Rattle.std.specs.List.{slice_get}
 use Rattle.page.specs.Image.{Image}
 use Rattle.page.specs.declared.page.Page.{Page}
 use Rattle.wal.specs.Records.{LogRecord, Update, Compensation, History, start, ◌▸◌, size, record_at}
+use Rattle.wal.specs.Meaning.{image_in}
 use Rattle.wal.specs.Redo.{is_redone, redo_of, applied}
 use Rattle.redo.specs.declared.progress.Progress.{Progress}
+use Rattle.redo.specs.declared.tally.Tally.{Tally}
+use Rattle.redo.specs.declared.note.Note.{Note}
 
 -- the page that an update or a CLR is on
 abbrev pub page_named : LogRecord → Option ℕ
 page_named (Update u) = Some u.page
 page_named (Compensation c) = Some c.page
 page_named _ = None
+
+-- the page and the slot that an update or a CLR is in
+abbrev pub cell_named : LogRecord → Option (ℕ × ℕ)
+cell_named (Update u) = Some (u.page, u.slot)
+cell_named (Compensation c) = Some (c.page, c.slot)
+cell_named _ = None
 
 -- a record is on no page past the count
 abbrev pub NamesBelow : ℕ → LogRecord → Type 0
@@ -35,6 +44,19 @@ abbrev pub lsns_where : (LogRecord → Bool) → (from : ℕ) → History → Li
 lsns_where test from start = []
 lsns_where test from (log ▸ r) =
     if nat_le from (size log) && test r then lsns_where test from log ++ suc (size log) ∷ [] else lsns_where test from log
+
+-- the LSN of a note
+abbrev pub lsn_in : Note → ℕ
+lsn_in n = n.lsn
+
+-- a note is of a record in a cell: it has the place of the cell's page, and the slot
+pub record IsNote (log : History) (place_of : List ℕ) (n : Note) : Type 0 where
+  pub entry : LogRecord
+  pub there : record_at log n.lsn ≡ Some entry
+  pub page : ℕ
+  pub cell : cell_named entry ≡ Some (page, n.slot)
+  pub small : n.slot < 16
+  pub place : slice_get place_of page ≡ Some n.place
 
 -- a page as redo has it when it has come to the end of a log, with how many records it applied
 abbrev pub progress_at : (rec_lsn : Option ℕ) (redo_lsn : ℕ) → History → Page → Progress
@@ -60,3 +82,21 @@ advance_by redo_lsn lsn (Some r) p = advance redo_lsn lsn r p
 -- the same by its LSN in a log
 abbrev pub step : History → (redo_lsn : ℕ) → Progress → (lsn : ℕ) → Progress
 step log redo_lsn p lsn = advance_by redo_lsn lsn (record_at log lsn) p
+
+-- BY LSNS ALONE
+-- a record at this LSN counted for a slot, where the page lacks it
+abbrev pub counted : (redo_lsn lsn slot : ℕ) → Tally → Tally
+counted redo_lsn lsn slot t =
+    if is_redone t.rec_lsn redo_lsn t.lsn lsn
+    then record { number = t.number; lsn = lsn; rec_lsn = t.rec_lsn; applied = suc t.applied; lasts = slice_set t.lasts slot lsn }
+    else t
+
+-- what a slot holds by the LSN of its last record, where 0 says that there is none
+abbrev pub held_after : History → (lsn : ℕ) → Image → Image
+held_after log lsn image = if lsn == 0 then image else image_in (record_at log lsn)
+
+-- so do all of them
+abbrev pub slots_after : History → (lasts : List ℕ) → List Image → List Image
+slots_after log lasts [] = []
+slots_after log [] (x ∷ xs) = []
+slots_after log (l ∷ ls) (x ∷ xs) = held_after log l x ∷ slots_after log ls xs

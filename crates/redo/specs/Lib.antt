@@ -1,4 +1,5 @@
 pub mod Lists
+pub mod Notes
 pub mod Parting
 pub mod Changes
 pub mod Passes

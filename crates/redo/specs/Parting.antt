@@ -55,6 +55,7 @@ pub record IsParting (s : Inside) : Type 0 where
   pub places : length s.place_of.items ≡ length s.part_of.items
   pub count : length s.members.items ≡ s.parts
   pub lists : AreLists s.part_of.items s.place_of.items s.members.items
+  pub low : All (λ place. place < 4096) s.place_of.items
 
 -- page p has part p modulo the count
 abbrev pub by_number : (pages parts : ℕ) → List ℕ

@@ -3,6 +3,7 @@ use Rattle.std.specs.Prelude.{◌≡◌, ℕ, List, length}
 use Rattle.page.specs.declared.page.Page.{Page}
 use Rattle.page.specs.Store.{AreNumbered}
 use Rattle.wal.specs.Records.{LogRecord}
+use Rattle.analysis.specs.declared.tables.Tables.{Tables}
 use Rattle.redo.specs.declared.pass.Pass.TheInside.{Inside}
 use Rattle.redo.specs.Parting.{PartingContent}
 
@@ -14,15 +15,13 @@ pub record PassContent : Type 0 where
   pub redo_lsn : ℕ
   pub parting : PartingContent
 
+-- these, taken from a log, pages, tables and a parting
+abbrev pub pass_over : List LogRecord → List Page → Tables → PartingContent → PassContent
+pass_over records images tables parting = record { records = records; images = images; dirty = tables.dirty.entries; redo_lsn = tables.redo_lsn; parting = parting }
+
 -- what contracts see of a pass
 abbrev pub pass_of : Inside → PassContent
-pass_of p = record {
-  records = p.log.now;
-  images = p.store.now.pages;
-  dirty = p.tables.now.dirty.entries;
-  redo_lsn = p.tables.now.redo_lsn;
-  parting = p.parting.now;
-}
+pass_of p = pass_over p.log.now p.store.now.pages p.tables.now p.parting.now
 
 -- the pages stand at their numbers, and each has a part
 pub record IsPass (p : Inside) : Type 0 where

@@ -6,14 +6,19 @@ use Rattle.page.specs.declared.fault.Fault.TheVariants.{NoResource, NoSuchPage}
 use Rattle.page.specs.declared.page.Page.{Page}
 use Rattle.wal.specs.Records.{LogRecord, History, history, record_at}
 use Rattle.wal.specs.Redo.{rec_lsn_of}
+use Rattle.wal.specs.declared.glance.Glance.{Glance}
+use Rattle.wal.specs.Glances.{glance_of}
+use Rattle.wal.specs.Spelling.{Fits}
 use Rattle.board.specs.Drawn.{BoardId, AllEnded}
 use Rattle.redo.specs.declared.progress.Progress.{Progress}
+use Rattle.redo.specs.declared.tally.Tally.{Tally}
+use Rattle.redo.specs.declared.note.Note.{Note}
 use Rattle.redo.specs.declared.route.Route.{Route}
 use Rattle.redo.specs.declared.crew.Job.{Job}
 use Rattle.redo.specs.declared.crew.Share.{Share}
-use Rattle.redo.specs.Lists.{list_at}
+use Rattle.redo.specs.Notes.{notes_at}
 use Rattle.redo.specs.Parting.{AreMembers}
-use Rattle.redo.specs.Changes.{page_named, NamesBelow, on_part, lsns_where, progress_at}
+use Rattle.redo.specs.Changes.{cell_named, NamesBelow, on_part, lsns_where, lsn_in, IsNote, progress_at, slots_after}
 use Rattle.redo.specs.Passes.{PassContent}
 
 -- THE FIRST ROUND
@@ -49,6 +54,12 @@ RouteFault pass from to NoResource = Unit {0}
 RouteFault pass from to (NoSuchPage lsn) = (lsn ≤ to) × IsMissing pass.records (length pass.images) from lsn
 RouteFault pass from to e = ⊥
 
+-- what is seen at a glance is seen of a record that has a spelling
+pub record IsSeen (glance : Glance) : Type 0 where
+  pub entry : LogRecord
+  pub seen : glance ≡ glance_of entry
+  pub fits : Fits entry
+
 -- why the record at an LSN is not noted
 abbrev pub NoteFault : (count lsn : ℕ) → LogRecord → Fault → Type 0
 NoteFault count lsn r NoResource = Unit {0}
@@ -58,7 +69,8 @@ NoteFault count lsn r e = ⊥
 -- for each part the LSNs above `from` up to `to` of the records on its pages
 pub record IsRoute (pass : PassContent) (from to : ℕ) (route : Route) : Type 0 where
   pub count : length route.lists.items ≡ pass.parting.parts
-  pub lsns : (part : ℕ) → part < pass.parting.parts → list_at route.lists.items part ≡ lsns_where (on_part pass.parting.part_of part) from (history (take to pass.records))
+  pub lsns : (part : ℕ) → part < pass.parting.parts → map lsn_in (notes_at route.lists.items part) ≡ lsns_where (on_part pass.parting.part_of part) from (history (take to pass.records))
+  pub notes : (part : ℕ) → part < pass.parting.parts → All (IsNote (history pass.records) pass.parting.place_of) (notes_at route.lists.items part)
   pub exist : ExistWithin pass.records (length pass.images) from to
 
 -- what one worker of so many answers
@@ -89,11 +101,15 @@ pub record StandsAlone (place_of numbers : List ℕ) (page : ℕ) : Type 0 where
   pub there : slice_get numbers place ≡ Some page
   pub only : (k : ℕ) → slice_get numbers k ≡ Some page → k ≡ place
 
--- so is the page of the record at an LSN
-pub record Stands (log : History) (place_of numbers : List ℕ) (lsn : ℕ) : Type 0 where
+-- so is the page of a noted record, and the place is the one noted
+pub record Stands (log : History) (place_of numbers : List ℕ) (n : Note) : Type 0 where
   pub entry : LogRecord
-  pub there : record_at log lsn ≡ Some entry
-  pub alone : (page : ℕ) → page_named entry ≡ Some page → StandsAlone place_of numbers page
+  pub there : record_at log n.lsn ≡ Some entry
+  pub page : ℕ
+  pub cell : cell_named entry ≡ Some (page, n.slot)
+  pub small : n.slot < 16
+  pub alone : StandsAlone place_of numbers page
+  pub place : n.place ≡ alone.place
 
 -- the numbers of pages
 abbrev pub numbers_of : List Progress → List ℕ
@@ -113,6 +129,14 @@ pub record IsUpTo (pass : PassContent) (part n : ℕ) (ps : List Progress) : Typ
   pub are : AreMembers pass.parting.part_of pass.parting.place_of part members
   pub all : length pass.parting.place_of ≡ length pass.parting.part_of
   pub redone : ps ≡ map (λ number. progress_in pass (history (take n pass.records)) (image_at pass.images number)) members
+
+-- what a tally tells of a page: its image in the store, and the values of the records that are the last in their slots
+abbrev pub resolved : PassContent → Tally → Progress
+resolved pass t = record {
+  page = record { number = t.number; lsn = t.lsn; slots = slots_after (history pass.records) t.lasts (image_at pass.images t.number).slots };
+  rec_lsn = t.rec_lsn;
+  applied = t.applied;
+}
 
 -- a page that is redone as a whole
 pub record IsDone (pass : PassContent) (p : Progress) : Type 0 where

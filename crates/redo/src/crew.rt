@@ -53,27 +53,6 @@ pub fn deal(alloc: Global, board: &Board, seat: Seat, workers: u32) -> Result<Ve
     Ok(jobs)
 }
 
-/// Redoes a part and puts its pages behind those that are done. The only error is `NoResource`.
-fn add_part(
-    alloc: Global,
-    pass: &Pass,
-    routes: &[Route],
-    part: u32,
-    pages: &mut Vec<Progress>,
-) -> Result<(), Fault>
-    requires part { part < pass.now.parting.parts }
-    requires routes { AreRoutes pass.now routes.now }
-    requires done { All (IsDone pass.now) pages.old.items }
-    ensures done { All (IsDone pass.now) pages.new.items }
-    ensures kept { OnOk result ((other : ℕ) → HasPart pass.now other pages.old.items → HasPart pass.now other pages.new.items) }
-    ensures added { OnOk result (HasPart pass.now part pages.new.items) }
-    ensures err { IfErr result (λ e. e ≡ NoResource) }
-{
-    let redone = redo_part(alloc, pass, routes, part)?;
-    pages.extend_from_slice(&redone)?;
-    Ok(())
-}
-
 /// Draws parts and redoes them until there is none, or until some worker was refused memory.
 fn work<G: Gate>(
     alloc: Global,
@@ -92,7 +71,7 @@ fn work<G: Gate>(
     let mut pages = Vec::new(alloc);
     while let Draw::Part(part) = board.draw_or_stop(&mut seat, home) {
         gate.enter(home, part);
-        if add_part(alloc, pass, routes, part, &mut pages).is_err() {
+        if redo_part(alloc, pass, routes, part, &mut pages).is_err() {
             board.stop(&mut seat);
             return Share { seat, pages };
         }

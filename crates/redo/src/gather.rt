@@ -2,19 +2,21 @@
 
 ghost use Rattle.std.specs.Prelude.{◌≡◌, ℕ, ◌+◌, ◌<◌, ◌≤◌, ◌^◌, ◌⊎◌, Some, false, length, vec_len, map, sum, All, Contains, IfOk, IfErr};
 ghost use Rattle.page.specs.declared.fault.Fault.TheVariants.{NoResource};
-ghost use Rattle.wal.specs.Records.{history};
+ghost use Rattle.page.specs.Store.{AreNumbered};
 ghost use Rattle.std.specs.List.{slice_get};
 ghost use Rattle.board.specs.Drawn.{AllEnded};
-ghost use Rattle.redo.specs.Passes.{PassContent};
-ghost use Rattle.redo.specs.Rounds.{progress_in, IsBack, IsDone, HasPage, IsPut, ArePut};
+ghost use Rattle.redo.specs.Passes.{PassContent, pass_over};
+ghost use Rattle.redo.specs.Redone.{redone_page, applied_to};
+ghost use Rattle.redo.specs.Rounds.{IsBack, IsDone, HasPage, IsPut, ArePut};
 
-use crate::Redone;
 use crate::crew::Share;
-use crate::pass::Pass;
 use crate::progress::Progress;
+use crate::{Parting, Redone};
+use analysis::Tables;
 use board::{Board, Seat};
 use page::{Fault, Page};
 use std::alloc::Global;
+use wal::Log;
 
 /// Puts redone pages to their places, and beside them how many records were applied to each.
 fn place(done: &[Progress], pages: &mut [Page], counts: &mut [u64])
@@ -33,21 +35,22 @@ fn place(done: &[Progress], pages: &mut [Page], counts: &mut [u64])
 
 /// Takes in what the workers bring back: one seat with all places, and the pages.
 fn gather(
-    pass: &Pass,
+    log: &Log,
+    tables: &Tables,
+    parting: &Parting,
     board: &Board,
     mut shares: Vec<Share>,
     pages: &mut [Page],
     counts: &mut [u64],
 ) -> Seat
     requires some { 0 < vec_len shares }
-    requires each { All (IsBack pass.now board.now) shares.items }
-    requires pages_count { length pages.old ≡ length pass.now.images }
-    requires counts_count { length counts.old ≡ length pass.now.images }
+    requires each { All (IsBack (pass_over log.now pages.old tables.now parting.now) board.now) shares.items }
+    requires count { length counts.old ≡ length pages.old }
     ensures board { result.board ≡ board.now }
     ensures places { result.places ≡ vec_len shares }
-    ensures pages_count { length pages.new ≡ length pass.now.images }
-    ensures counts_count { length counts.new ≡ length pass.now.images }
-    ensures put { result.stopped ≡ false → result.told ≡ false → ArePut pass.now pages.new counts.new result.drawn }
+    ensures pages_count { length pages.new ≡ length pages.old }
+    ensures counts_count { length counts.new ≡ length pages.old }
+    ensures put { result.stopped ≡ false → result.told ≡ false → ArePut (pass_over log.now pages.old tables.now parting.now) pages.new counts.new result.drawn }
     ensures ended { result.stopped ≡ false → result.told ≡ false → AllEnded board.now.ranges result.ended }
 {
     let Some(last) = shares.pop() else {
@@ -71,28 +74,39 @@ fn total(counts: &[u64]) -> u64
     counts.iter().sum()
 }
 
-/// What the workers bring back as an answer, if no worker was refused memory. The only error is
-/// `NoResource`.
+/// What the workers bring back as an answer, put into the pages that they redid, if no worker was
+/// refused memory. The only error is `NoResource`.
 pub fn assemble(
     alloc: Global,
-    pass: &Pass,
+    log: &Log,
+    tables: &Tables,
+    parting: &Parting,
     board: Board,
+    mut pages: Vec<Page>,
     shares: Vec<Share>,
 ) -> Result<Redone, Fault>
+    requires numbered { AreNumbered pages.items }
+    requires dealt { length parting.now.part_of ≡ length pages.items }
     requires some { 0 < vec_len shares }
     requires seats { board.seats ≡ vec_len shares }
-    requires parts { board.parts ≡ pass.now.parting.parts }
-    requires each { All (IsBack pass.now board) shares.items }
-    ensures pages { IfOk result (λ redone. redone.pages.items ≡ map (λ image. (progress_in pass.now (history pass.now.records) image).page) pass.now.images) }
-    ensures applied { IfOk result (λ redone. redone.applied ≡ sum (map (λ image. (progress_in pass.now (history pass.now.records) image).applied) pass.now.images)) }
+    requires parts { board.parts ≡ parting.now.parts }
+    requires each { All (IsBack (pass_over log.now pages.items tables.now parting.now) board) shares.items }
+    ensures pages { IfOk result (λ redone. redone.pages.items ≡ map (redone_page log.now tables.now) pages.items) }
+    ensures applied { IfOk result (λ redone. redone.applied ≡ sum (map (applied_to log.now tables.now) pages.items)) }
     ensures err { IfErr result (λ e. e ≡ NoResource) }
 {
-    let store = pass.store;
-    let _parts = pass.parting.parts();
-    let _len = pass.log.len();
-    let mut pages = Vec::from_slice(alloc, &store.pages)?;
+    let _parts = parting.parts();
+    let _len = log.len();
     let mut counts = vec![in alloc; 0; pages.len()]?;
-    let seat = gather(pass, &board, shares, &mut pages, &mut counts);
+    let seat = gather(
+        log,
+        tables,
+        parting,
+        &board,
+        shares,
+        &mut pages,
+        &mut counts,
+    );
     if board.close(seat).stopped() {
         return Err(Fault::NoResource);
     }

@@ -6,6 +6,7 @@ mod crew;
 mod gate;
 mod gather;
 mod lists;
+mod note;
 mod part;
 mod parting;
 mod pass;
@@ -13,11 +14,12 @@ mod progress;
 mod redone;
 mod rounds;
 mod route;
+mod tally;
 
 pub use gate::{Gate, OpenGate};
 pub use parting::Parting;
 pub use redone::Redone;
-pub use rounds::redo;
+pub use rounds::{redo, redo_in_place};
 
 #[cfg(test)]
 mod tests;

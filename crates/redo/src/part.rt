@@ -1,164 +1,185 @@
 //! The work on one part: its pages with the records that they lack.
 
-ghost use Rattle.std.specs.Prelude.{◌≡◌, ℕ, ◌+◌, ◌<◌, ◌≤◌, ◌^◌, All, length, map, take, slice_set, slice_index_or, IfOk, IfErr, Some};
+ghost use Rattle.std.specs.Prelude.{◌≡◌, ℕ, ◌+◌, ◌<◌, ◌≤◌, ◌^◌, ◌++◌, All, length, map, take, slice_set, slice_index_or, IfOk, IfErr, OnOk, Some};
 ghost use Rattle.std.specs.List.{fold};
 ghost use Rattle.page.specs.declared.fault.Fault.TheVariants.{NoResource};
-ghost use Rattle.wal.specs.Records.{start, history};
-ghost use Rattle.wal.specs.Redo.{rec_lsn_of};
-ghost use Rattle.wal.specs.Shown.{shown};
-ghost use Rattle.wal.specs.Spelling.{Fits};
-ghost use Rattle.redo.specs.Changes.{put, advance, step, page_named};
-ghost use Rattle.redo.specs.Rounds.{AreRoutes, IsUpTo, IsDone, HasPart, StandsAlone, Stands, numbers_of, progress_in, image_at};
-ghost use Rattle.redo.specs.declared.progress.Progress.{Progress};
+ghost use Rattle.wal.specs.Records.{start, history, record_at};
+ghost use Rattle.redo.specs.Changes.{counted, step, lsn_in, held_after, slots_after};
+ghost use Rattle.redo.specs.Rounds.{AreRoutes, IsUpTo, IsDone, HasPart, Stands, numbers_of, progress_in, image_at, resolved};
+ghost use Rattle.redo.specs.declared.tally.Tally.{Tally};
 
-use crate::Parting;
+use crate::note::{Note, NoteList};
 use crate::pass::Pass;
 use crate::progress::Progress;
 use crate::route::Route;
+use crate::tally::Tally;
 use page::{Fault, Page, Value};
 use std::alloc::Global;
-use wal::{Log, RecordView, value_of};
+use wal::Log;
+
+/// A page has 16 slots.
+fn count_slots(slots: &[Option<Value>; 16]) -> usize
+    ensures { length slots.now ≡ 16 }
+{
+    slots.len()
+}
 
 /// A page as it is in the store; an empty one where the store has none of this number.
-fn image(pass: &Pass, number: u32) -> Progress
-    ensures { result ≡ progress_in pass.now start (image_at pass.now.images number) }
+fn image(pass: &Pass, number: u32) -> Page
+    ensures image { result ≡ image_at pass.now.images number }
+    ensures number { result.number ≡ number }
+    ensures slots { length result.slots ≡ 16 }
 {
     let store = pass.store;
-    let rec_lsn = pass.tables.rec_lsn(number);
-    match store.pages.get(number as usize) {
-        Some(page) => Progress::begin(page, rec_lsn),
-        None => Progress::begin(&Page::empty(number), rec_lsn),
-    }
+    let page = match store.pages.get(number as usize) {
+        Some(page) => *page,
+        None => Page::empty(number),
+    };
+    let _count = count_slots(&page.slots);
+    page
 }
 
-/// Pages as they are in the store. The only error is `NoResource`.
-fn images(alloc: Global, pass: &Pass, numbers: &[u32]) -> Result<Vec<Progress>, Fault>
-    ensures images { IfOk result (λ pages. pages.items ≡ map (λ number. progress_in pass.now start (image_at pass.now.images number)) numbers.now) }
-    ensures err { IfErr result (λ e. e ≡ NoResource) }
+/// A page to which no record was applied.
+fn begin_page(pass: &Pass, number: u32) -> Tally
+    ensures { resolved pass.now result ≡ progress_in pass.now start (image_at pass.now.images number) }
 {
-    let pages = numbers
-        .iter()
-        .map(|number| image(pass, *number))
-        .collect(alloc)?;
-    Ok(pages)
+    let image = image(pass, number);
+    Tally::begin(number, image.lsn, pass.tables.rec_lsn(number))
 }
 
-/// The pages of a part as they are in the store. The only error is `NoResource`.
-fn begin(alloc: Global, pass: &Pass, part: u32) -> Result<Vec<Progress>, Fault>
+/// The pages of a part, to which no record was applied. The only error is `NoResource`.
+fn begin(alloc: Global, pass: &Pass, part: u32) -> Result<Vec<Tally>, Fault>
     requires { part < pass.now.parting.parts }
-    ensures begun { IfOk result (λ pages. IsUpTo pass.now part 0 pages.items) }
+    ensures begun { IfOk result (λ tallies. IsUpTo pass.now part 0 (map (resolved pass.now) tallies.items)) }
     ensures err { IfErr result (λ e. e ≡ NoResource) }
 {
-    let pages = images(alloc, pass, pass.parting.members(part))?;
-    Ok(pages)
+    let members = pass.parting.members(part);
+    let mut tallies = Vec::new(alloc);
+    for number in members {
+        tallies.push(begin_page(pass, *number))?;
+    }
+    Ok(tallies)
 }
 
-/// Puts a value into a slot of the page at a place, as the record at an LSN did, if the page lacks it.
-fn put_at(
-    pages: &mut [Progress],
-    place: usize,
-    redo_lsn: u64,
-    lsn: u64,
-    slot: usize,
-    value: Option<Value>,
-)
-    requires place { place < length pages.old }
+/// Counts the record at an LSN for the page at a place, if the page lacks it.
+fn count_at(tallies: &mut [Tally], place: usize, redo_lsn: u64, lsn: u64, slot: usize)
+    requires place { place < length tallies.old }
     requires slot { slot < 16 }
-    requires room { All (λ p. p.applied + 1 < 2 ^ 64) pages.old }
-    ensures { (d : Progress) → pages.new ≡ slice_set pages.old place (put redo_lsn lsn slot value (slice_index_or pages.old place d)) }
+    requires room { All (λ t. t.applied + 1 < 2 ^ 64) tallies.old }
+    ensures { (d : Tally) → tallies.new ≡ slice_set tallies.old place (counted redo_lsn lsn slot (slice_index_or tallies.old place d)) }
 {
-    pages[place].put(redo_lsn, lsn, slot, value);
+    tallies[place].count(redo_lsn, lsn, slot);
 }
 
-/// Applies the record at an LSN to its page, if the page lacks it.
-fn redo_record(
-    parting: &Parting,
-    view: &RecordView,
-    redo_lsn: u64,
-    lsn: u64,
-    pages: &mut [Progress],
-)
-    requires fits { Fits (shown view.now) }
-    requires alone { (page : ℕ) → page_named (shown view.now) ≡ Some page → StandsAlone parting.now.place_of (numbers_of pages.old) page }
-    requires room { All (λ p. p.applied + 1 < 2 ^ 64) pages.old }
-    ensures { pages.new ≡ map (advance redo_lsn lsn (shown view.now)) pages.old }
+/// Counts a noted record of the log for its page, one of these.
+fn redo_noted(pass: &Pass, note: Note, tallies: &mut [Tally])
+    requires stands { Stands (history pass.now.records) pass.now.parting.place_of (numbers_of (map (resolved pass.now) tallies.old)) note }
+    requires room { All (λ p. p.applied + 1 < 2 ^ 64) (map (resolved pass.now) tallies.old) }
+    ensures { map (resolved pass.now) tallies.new ≡ map (λ p. step (history pass.now.records) pass.now.redo_lsn p note.lsn) (map (resolved pass.now) tallies.old) }
 {
-    match view {
-        RecordView::Update {
-            page,
-            slot,
-            after,
-            ..
-        } => {
-            let place = parting.place_of(*page);
-            put_at(
-                pages,
-                place,
-                redo_lsn,
-                lsn,
-                *slot as usize,
-                value_of(*after),
-            );
-        }
-        RecordView::Compensation {
-            page,
-            slot,
-            image,
-            ..
-        } => {
-            let place = parting.place_of(*page);
-            put_at(
-                pages,
-                place,
-                redo_lsn,
-                lsn,
-                *slot as usize,
-                value_of(*image),
-            );
-        }
-        _ => {}
+    let redo_lsn = pass.tables.redo_lsn;
+    count_at(
+        tallies,
+        note.place as usize,
+        redo_lsn,
+        note.lsn,
+        note.slot as usize,
+    );
+}
+
+/// Counts noted records for the pages of a part, in this order.
+fn replay(pass: &Pass, notes: &NoteList, tallies: &mut [Tally])
+    requires stand { All (Stands (history pass.now.records) pass.now.parting.place_of (numbers_of (map (resolved pass.now) tallies.old))) notes.now }
+    requires room { All (λ p. p.applied + length notes.now < 2 ^ 64) (map (resolved pass.now) tallies.old) }
+    ensures { map (resolved pass.now) tallies.new ≡ map (λ p. fold (step (history pass.now.records) pass.now.redo_lsn) p (map lsn_in notes.now)) (map (resolved pass.now) tallies.old) }
+{
+    for index in 0..notes.len() {
+        redo_noted(pass, notes.get(index), tallies);
     }
 }
 
-/// Applies the record at an LSN of the log to its page, one of these.
-fn redo_at(pass: &Pass, lsn: u64, pages: &mut [Progress])
-    requires stands { Stands (history pass.now.records) pass.now.parting.place_of (numbers_of pages.old) lsn }
-    requires room { All (λ p. p.applied + 1 < 2 ^ 64) pages.old }
-    ensures { pages.new ≡ map (λ p. step (history pass.now.records) pass.now.redo_lsn p lsn) pages.old }
+/// What a slot holds by the LSN of its last record, where 0 says that there is none.
+fn held(log: &Log, lsn: u64, image: Option<Value>) -> Option<Value>
+    ensures { result ≡ held_after (history log.now) lsn image }
 {
-    if let Some(view) = pass.log.get(lsn) {
-        redo_record(pass.parting, &view, pass.tables.redo_lsn, lsn, pages);
+    if lsn == 0 { image } else { log.image(lsn) }
+}
+
+/// Puts the values of the last records into their slots.
+fn fill(log: &Log, lasts: &[u64; 16], slots: &mut [Option<Value>; 16])
+    ensures { slots.new ≡ slots_after (history log.now) lasts.now slots.old }
+{
+    for slot in 0..16 {
+        slots[slot] = held(log, lasts[slot], slots[slot]);
     }
 }
 
-/// Applies the records at these LSNs to the pages of a part, in this order.
-fn replay(pass: &Pass, lsns: &[u64], pages: &mut [Progress])
-    requires stand { All (Stands (history pass.now.records) pass.now.parting.place_of (numbers_of pages.old)) lsns.now }
-    requires room { All (λ p. p.applied + length lsns.now < 2 ^ 64) pages.old }
-    ensures { pages.new ≡ map (λ p. fold (step (history pass.now.records) pass.now.redo_lsn) p lsns.now) pages.old }
+/// The page that a tally tells of.
+fn finish_page(pass: &Pass, tally: &Tally) -> Progress
+    ensures { result ≡ resolved pass.now tally.now }
 {
-    for lsn in lsns {
-        redo_at(pass, *lsn, pages);
+    let mut page = image(pass, tally.number);
+    fill(pass.log, &tally.lasts, &mut page.slots);
+    page.lsn = tally.lsn;
+    Progress {
+        page,
+        rec_lsn: tally.rec_lsn,
+        applied: tally.applied,
     }
 }
 
-/// Redoes the pages of a part, by the routes in their order. The only error is `NoResource`.
+/// The tallies of the pages of a part, by the routes in their order. The only error is `NoResource`.
+fn count_part(alloc: Global, pass: &Pass, routes: &[Route], part: u32) -> Result<Vec<Tally>, Fault>
+    requires part { part < pass.now.parting.parts }
+    requires routes { AreRoutes pass.now routes.now }
+    ensures done { IfOk result (λ tallies. All (IsDone pass.now) (map (resolved pass.now) tallies.items)) }
+    ensures all { IfOk result (λ tallies. HasPart pass.now part (map (resolved pass.now) tallies.items)) }
+    ensures err { IfErr result (λ e. e ≡ NoResource) }
+{
+    let _len = pass.log.len();
+    let mut tallies = begin(alloc, pass, part)?;
+    for route in routes {
+        replay(pass, route.notes(part), &mut tallies);
+    }
+    Ok(tallies)
+}
+
+/// Puts the pages that tallies tell of behind others. The only error is `NoResource`.
+fn finish(pass: &Pass, tallies: &[Tally], pages: &mut Vec<Progress>) -> Result<(), Fault>
+    requires tallied { All (IsDone pass.now) (map (resolved pass.now) tallies.now) }
+    requires done { All (IsDone pass.now) pages.old.items }
+    ensures done { All (IsDone pass.now) pages.new.items }
+    ensures added { OnOk result (pages.new.items ≡ pages.old.items ++ map (resolved pass.now) tallies.now) }
+    ensures err { IfErr result (λ e. e ≡ NoResource) }
+{
+    for tally in tallies {
+        let done = finish_page(pass, tally);
+        // Taken apart, since the check has to see the type of a slot where a page is pushed.
+        let slots = done.page.slots;
+        let page = Page { slots, ..done.page };
+        pages.push(Progress { page, ..done })?;
+    }
+    Ok(())
+}
+
+/// Redoes the pages of a part, by the routes in their order, and puts them behind those that are done.
+/// Of all records in one slot the value of the last alone is fetched. The only error is `NoResource`.
 pub fn redo_part(
     alloc: Global,
     pass: &Pass,
     routes: &[Route],
     part: u32,
-) -> Result<Vec<Progress>, Fault>
+    pages: &mut Vec<Progress>,
+) -> Result<(), Fault>
     requires part { part < pass.now.parting.parts }
     requires routes { AreRoutes pass.now routes.now }
-    ensures done { IfOk result (λ pages. All (IsDone pass.now) pages.items) }
-    ensures all { IfOk result (λ pages. HasPart pass.now part pages.items) }
+    requires done { All (IsDone pass.now) pages.old.items }
+    ensures done { All (IsDone pass.now) pages.new.items }
+    ensures kept { OnOk result ((other : ℕ) → HasPart pass.now other pages.old.items → HasPart pass.now other pages.new.items) }
+    ensures added { OnOk result (HasPart pass.now part pages.new.items) }
     ensures err { IfErr result (λ e. e ≡ NoResource) }
 {
-    let _len = pass.log.len();
-    let mut pages = begin(alloc, pass, part)?;
-    for route in routes {
-        replay(pass, route.lsns(part), &mut pages);
-    }
-    Ok(pages)
+    let tallies = count_part(alloc, pass, routes, part)?;
+    finish(pass, &tallies, pages)?;
+    Ok(())
 }

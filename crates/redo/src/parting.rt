@@ -18,7 +18,7 @@ use std::marker::Model;
 pub struct Parting {
     parts: u32,
     part_of: Vec<u32>,
-    place_of: Vec<usize>,
+    place_of: Vec<u16>,
     members: Vec<Vec<u32>>,
 }
 
@@ -47,11 +47,12 @@ fn are_below(parts: u32, part_of: &[u32]) -> bool
 }
 
 /// The pages of each part, and each page's place among them.
-fn index(alloc: Global, parts: u32, part_of: &[u32]) -> Result<(Vec<usize>, Vec<Vec<u32>>), Fault>
+fn index(alloc: Global, parts: u32, part_of: &[u32]) -> Result<(Vec<u16>, Vec<Vec<u32>>), Fault>
     requires { IsDealt (length part_of.now) parts part_of.now }
     ensures places { IfOk result (λ x. length x.0.items ≡ length part_of.now) }
     ensures count { IfOk result (λ x. length x.1.items ≡ parts) }
     ensures lists { IfOk result (λ x. AreLists part_of.now x.0.items x.1.items) }
+    ensures low { IfOk result (λ x. All (λ place. place < 4096) x.0.items) }
     ensures err { IfErr result (λ e. e ≡ NoResource) }
 {
     let mut place_of = Vec::new(alloc);
@@ -59,7 +60,7 @@ fn index(alloc: Global, parts: u32, part_of: &[u32]) -> Result<(Vec<usize>, Vec<
     for page in 0..part_of.len() {
         let part = part_of[page] as usize;
         let place = len_at(&members, part);
-        place_of.push(place)?;
+        place_of.push(place as u16)?;
         push_to(&mut members, part, page as u32)?;
     }
     Ok((place_of, members))
@@ -129,14 +130,16 @@ impl Parting {
     pub(crate) fn part_at(&self, page: u32) -> Option<u32>
         ensures part { result ≡ slice_get self.now.part_of page }
         ensures below { IfSome result (λ part. part < self.now.parts) }
+        ensures all { length self.now.place_of ≡ length self.now.part_of }
     {
         self.part_of.get(page as usize).copied()
     }
 
     /// A page's place among those of its part.
-    pub(crate) fn place_of(&self, page: u32) -> usize
+    pub(crate) fn place_of(&self, page: u32) -> u16
         requires { page < length self.now.place_of }
-        ensures { slice_get self.now.place_of page ≡ Some result }
+        ensures place { slice_get self.now.place_of page ≡ Some result }
+        ensures low { result < 4096 }
     {
         self.place_of[page as usize]
     }

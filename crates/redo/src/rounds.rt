@@ -1,12 +1,12 @@
 //! Redo: two rounds of workers.
 
-ghost use Rattle.std.specs.Prelude.{◌≡◌, ◌≤◌, Ok, Err, length, map, sum, IfOk, OnOk, IfErr, IsTrue, ◌↔◌};
+ghost use Rattle.std.specs.Prelude.{◌≡◌, ◌≤◌, Ok, Err, length, map, sum, IfOk, OnOk, IfErr, IsTrue, ◌↔◌, ◌<◌, All, vec_len};
 ghost use Rattle.page.specs.declared.fault.Fault.TheVariants.{NoResource, BadWorkers};
-ghost use Rattle.wal.specs.Records.{history};
-ghost use Rattle.redo.specs.Rounds.{AreRoutes, progress_in};
+ghost use Rattle.redo.specs.Passes.{pass_over};
+ghost use Rattle.redo.specs.Rounds.{AreRoutes, IsBack};
 ghost use Rattle.redo.specs.Redone.{redone_page, applied_to, AreWorkers, AllExist, RedoFault};
 
-use crate::crew::{deal, run};
+use crate::crew::{Share, deal, run};
 use crate::gate::Gate;
 use crate::gather::assemble;
 use crate::pass::Pass;
@@ -26,26 +26,96 @@ fn are_workers(workers: u32) -> bool
     (1..=64).contains(&workers)
 }
 
-/// The second round of workers: each draws parts from a board and redoes them. The only error is
-/// `NoResource`.
+/// The second round of workers: each draws parts from a board and redoes them. The board, and what
+/// they bring back. The only error is `NoResource`.
 fn second_round<G: Gate, R: Threads + Sync>(
     rt: &R,
     alloc: Global,
     pass: &Pass,
     routes: &[Route],
     gate: &G,
-) -> Result<Redone, Fault>
+) -> Result<(Board, Vec<Share>), Fault>
     requires routes { AreRoutes pass.now routes.now }
     requires workers { AreWorkers (length routes.now) }
-    ensures pages { IfOk result (λ redone. redone.pages.items ≡ map (λ image. (progress_in pass.now (history pass.now.records) image).page) pass.now.images) }
-    ensures applied { IfOk result (λ redone. redone.applied ≡ sum (map (λ image. (progress_in pass.now (history pass.now.records) image).applied) pass.now.images)) }
+    ensures some { IfOk result (λ x. 0 < vec_len x.1) }
+    ensures seats { IfOk result (λ x. x.0.seats ≡ vec_len x.1) }
+    ensures parts { IfOk result (λ x. x.0.parts ≡ pass.now.parting.parts) }
+    ensures each { IfOk result (λ x. All (IsBack pass.now x.0) x.1.items) }
     ensures err { IfErr result (λ e. e ≡ NoResource) }
 {
     let workers = routes.len() as u32;
     let (board, seat) = Board::new(alloc, pass.parting.parts(), workers, workers)?;
     let jobs = deal(alloc, &board, seat, workers)?;
     let shares = run(rt, alloc, pass, routes, &board, gate, jobs)?;
-    assemble(alloc, pass, board, shares)
+    Ok((board, shares))
+}
+
+/// Both rounds of workers, who leave the store as it is: the board, and what they bring back.
+fn shares_of<G: Gate, R: Threads + Sync>(
+    rt: &R,
+    alloc: Global,
+    log: &Log,
+    store: &Store,
+    tables: &Tables,
+    parting: &Parting,
+    workers: u32,
+    gate: &G,
+) -> Result<(Board, Vec<Share>), Fault>
+    requires pages { length parting.now.part_of ≡ length store.now.pages }
+    requires workers { AreWorkers workers }
+    ensures some { IfOk result (λ x. 0 < vec_len x.1) }
+    ensures seats { IfOk result (λ x. x.0.seats ≡ vec_len x.1) }
+    ensures parts { IfOk result (λ x. x.0.parts ≡ parting.now.parts) }
+    ensures each { IfOk result (λ x. All (IsBack (pass_over log.now store.now.pages tables.now parting.now) x.0) x.1.items) }
+    ensures exist { OnOk result (AllExist log.now (length store.now.pages) tables.now.redo_lsn) }
+    ensures fault { IfErr result (RedoFault log.now (length store.now.pages) tables.now.redo_lsn workers) }
+{
+    let _count = store.pages.len();
+    let pass = Pass {
+        log,
+        store,
+        tables,
+        parting,
+    };
+    let routes = match routes(rt, alloc, &pass, workers) {
+        Ok(routes) => routes,
+        Err(fault) => return Err(fault),
+    };
+    let shares = second_round(rt, alloc, &pass, &routes, gate)?;
+    Ok(shares)
+}
+
+/// [`redo`] of a store that is given away: its pages are changed in place and not copied. With an
+/// error they are gone.
+pub fn redo_in_place<G: Gate, R: Threads + Sync>(
+    rt: &R,
+    alloc: Global,
+    log: &Log,
+    store: Store,
+    tables: &Tables,
+    parting: &Parting,
+    workers: u32,
+    gate: &G,
+) -> Result<Redone, Fault>
+    requires pages { length parting.now.part_of ≡ length store.pages }
+    ensures pages { IfOk result (λ redone. redone.pages.items ≡ map (redone_page log.now tables.now) store.pages) }
+    ensures applied { IfOk result (λ redone. redone.applied ≡ sum (map (applied_to log.now tables.now) store.pages)) }
+    ensures workers { OnOk result (AreWorkers workers) }
+    ensures exist { OnOk result (AllExist log.now (length store.pages) tables.now.redo_lsn) }
+
+    // A refusal has its cause, memory aside.
+    ensures fault { IfErr result (RedoFault log.now (length store.pages) tables.now.redo_lsn workers) }
+    ensures bad_workers { (AreWorkers workers → ⊥) → result ≡ Err BadWorkers }
+{
+    if !are_workers(workers) {
+        return Err(Fault::BadWorkers);
+    }
+    let (board, shares) = match shares_of(rt, alloc, log, &store, tables, parting, workers, gate) {
+        Ok(answer) => answer,
+        Err(fault) => return Err(fault),
+    };
+    let redone = assemble(alloc, log, tables, parting, board, store.pages, shares)?;
+    Ok(redone)
 }
 
 /// Repeats history on the pages of a store (ARIES, section 6.2): to each page that is listed in the
@@ -84,17 +154,10 @@ pub fn redo<G: Gate, R: Threads + Sync>(
     if !are_workers(workers) {
         return Err(Fault::BadWorkers);
     }
-    let _count = store.pages.len();
-    let pass = Pass {
-        log,
-        store,
-        tables,
-        parting,
+    let pages = Vec::from_slice(alloc, &store.pages)?;
+    let copy = Store {
+        master: store.master,
+        pages,
     };
-    let routes = match routes(rt, alloc, &pass, workers) {
-        Ok(routes) => routes,
-        Err(fault) => return Err(fault),
-    };
-    let redone = second_round(rt, alloc, &pass, &routes, gate)?;
-    Ok(redone)
+    redo_in_place(rt, alloc, log, copy, tables, parting, workers, gate)
 }

@@ -1,62 +1,99 @@
 //! The first round: which records each part is to look at.
 
-ghost use Rattle.std.specs.Prelude.{◌≡◌, ℕ, ◌+◌, ◌<◌, ◌≤◌, [], ◌∷◌, ◌++◌, length, vec_len, OnOk, IfOk, IfErr, MatchResult, if◌then◌else◌};
-ghost use Rattle.wal.specs.Shown.{shown};
-ghost use Rattle.redo.specs.Lists.{list_at};
-ghost use Rattle.redo.specs.Changes.{page_named, NamesBelow, on_part};
-ghost use Rattle.redo.specs.Rounds.{IsRoute, AreRoutes, ExistWithin, RouteFault, NoteFault, IfRoute, IfEach, RoundFault, boundary_in};
+ghost use Rattle.std.specs.Prelude.{◌≡◌, ℕ, ◌+◌, ◌<◌, ◌≤◌, [], ◌∷◌, ◌++◌, All, Some, length, map, vec_len, slice_set, OnOk, IfOk, IfErr, MatchResult, if◌then◌else◌};
+ghost use Rattle.page.specs.declared.fault.Fault.TheVariants.{NoResource};
+ghost use Rattle.wal.specs.Records.{LogRecord, History, record_at};
+ghost use Rattle.wal.specs.Glances.{glance_of};
+ghost use Rattle.redo.specs.Notes.{notes_at};
+ghost use Rattle.redo.specs.Changes.{cell_named, NamesBelow, on_part, lsn_in, IsNote};
+ghost use Rattle.redo.specs.Rounds.{IsRoute, AreRoutes, ExistWithin, RouteFault, IsSeen, NoteFault, IfRoute, IfEach, RoundFault, boundary_in};
 
 use crate::Parting;
-use crate::lists::{empty_lists, push_to};
+use crate::note::{Note, NoteList};
 use crate::pass::Pass;
 use page::Fault;
 use std::alloc::Global;
 use std::thread;
 use std::thread::Threads;
-use wal::RecordView;
+use wal::Glance;
 
-/// For each part the LSNs of one stretch of the log that are on its pages, in rising order.
+/// For each part the LSNs of one stretch of the log that are on its pages, in rising order, each with
+/// the cell that its record is in.
 #[derive(Drop)]
 pub struct Route {
-    pub lists: Vec<Vec<u64>>,
+    pub lists: Vec<NoteList>,
 }
 
 impl Route {
-    /// The LSNs for a part.
-    pub fn lsns(&self, part: u32) -> &[u64]
+    /// The notes for a part.
+    pub fn notes(&self, part: u32) -> &NoteList
         requires { part < length self.now.lists.items }
-        ensures { result.now ≡ list_at self.now.lists.items part }
+        ensures { result.now ≡ notes_at self.now.lists.items part }
     {
         &self.lists[part as usize]
     }
 }
 
-/// The page that a record is on.
-fn page_of(view: &RecordView) -> Option<u32>
-    ensures { result ≡ page_named (shown view.now) }
+/// No notes for any part. The only error is `NoResource`.
+fn empty_notes(alloc: Global, parts: u32) -> Result<Vec<NoteList>, Fault>
+    ensures count { IfOk result (λ lists. length lists.items ≡ parts) }
+    ensures empty { IfOk result (λ lists. (part : ℕ) → notes_at lists.items part ≡ []) }
+    ensures err { IfErr result (λ e. e ≡ NoResource) }
 {
-    match view {
-        RecordView::Update { page, .. } => Some(*page),
-        RecordView::Compensation { page, .. } => Some(*page),
+    let mut lists = Vec::new(alloc);
+    for _ in 0..parts {
+        lists.push(NoteList::new(alloc))?;
+    }
+    Ok(lists)
+}
+
+/// Puts a note behind those for a part. The only error is `NoResource`.
+fn note_for(lists: &mut [NoteList], part: usize, note: Note) -> Result<(), Fault>
+    requires part { part < length lists.old }
+    requires place { note.place < 4096 }
+    requires slot { note.slot < 16 }
+    ensures count { length lists.new ≡ length lists.old }
+    ensures ok { OnOk result (lists.new ≡ slice_set lists.old part (notes_at lists.old part ++ note ∷ [])) }
+    ensures err { IfErr result (λ e. e ≡ NoResource) }
+{
+    lists[part].push(note)?;
+    Ok(())
+}
+
+/// The page and the slot that a record is in.
+fn cell_of(glance: Glance) -> Option<(u32, u8)>
+    ensures { (r : LogRecord) → glance ≡ glance_of r → result ≡ cell_named r }
+{
+    match glance {
+        Glance::Update { page, slot, .. } => Some((page, slot)),
+        Glance::Compensation { page, slot, .. } => Some((page, slot)),
         _ => None,
     }
 }
 
-/// Notes the LSN of a record for the part of its page.
-fn note(parting: &Parting, view: &RecordView, lsn: u64, lists: &mut [Vec<u64>]) -> Result<(), Fault>
-    requires { length lists.old ≡ parting.now.parts }
+/// Notes a record for the part of its page.
+fn put_note(
+    parting: &Parting,
+    glance: Glance,
+    lsn: u64,
+    lists: &mut [NoteList],
+) -> Result<(), Fault>
+    requires lists { length lists.old ≡ parting.now.parts }
+    requires seen { IsSeen glance }
     ensures count { length lists.new ≡ length lists.old }
-    ensures exists { OnOk result (NamesBelow (length parting.now.part_of) (shown view.now)) }
-    ensures lists { OnOk result ((part : ℕ) → list_at lists.new part ≡ (if on_part parting.now.part_of part (shown view.now) then list_at lists.old part ++ lsn ∷ [] else list_at lists.old part)) }
-    ensures fault { IfErr result (NoteFault (length parting.now.part_of) lsn (shown view.now)) }
+    ensures exists { OnOk result ((r : LogRecord) → glance ≡ glance_of r → NamesBelow (length parting.now.part_of) r) }
+    ensures lsns { OnOk result ((r : LogRecord) → glance ≡ glance_of r → (part : ℕ) → map lsn_in (notes_at lists.new part) ≡ (if on_part parting.now.part_of part r then map lsn_in (notes_at lists.old part) ++ lsn ∷ [] else map lsn_in (notes_at lists.old part))) }
+    ensures notes { OnOk result ((log : History) (r : LogRecord) → glance ≡ glance_of r → record_at log lsn ≡ Some r → (part : ℕ) → All (IsNote log parting.now.place_of) (notes_at lists.old part) → All (IsNote log parting.now.place_of) (notes_at lists.new part)) }
+    ensures fault { IfErr result (λ e. (r : LogRecord) → glance ≡ glance_of r → NoteFault (length parting.now.part_of) lsn r e) }
 {
-    let Some(page) = page_of(view) else {
+    let Some((page, slot)) = cell_of(glance) else {
         return Ok(());
     };
     let Some(part) = parting.part_at(page) else {
         return Err(Fault::NoSuchPage(lsn));
     };
-    push_to(lists, part as usize, lsn)?;
+    let place = parting.place_of(page);
+    note_for(lists, part as usize, Note { lsn, place, slot })?;
     Ok(())
 }
 
@@ -68,10 +105,10 @@ fn route_through(alloc: Global, pass: &Pass, from: u64, to: u64) -> Result<Route
     ensures ok { IfOk result (IsRoute pass.now from to) }
     ensures fault { IfErr result (RouteFault pass.now from to) }
 {
-    let mut lists = empty_lists(alloc, pass.parting.parts() as usize)?;
+    let mut lists = empty_notes(alloc, pass.parting.parts())?;
     for index in from..to {
-        let view = pass.log.nth(index);
-        if let Err(fault) = note(pass.parting, &view, index + 1, &mut lists) {
+        let glance = pass.log.glance(index);
+        if let Err(fault) = put_note(pass.parting, glance, index + 1, &mut lists) {
             return Err(fault);
         }
     }

@@ -11,10 +11,10 @@ loop-part-preserved g c =
     let answered = sym c.is_err.ensures.value ∙ c.if-is_err.false in (
       drew.seat.0 ∙ old.0,
       drew.seat.1 ∙ old.1,
-      c.add_part.ensures.done,
+      c.redo_part.ensures.done,
       (λ part has.
           elim (Contains-append_cases c.loop-part.seat.drawn (c.in-Part.part ∷ []) part (subst (λ xs. Contains xs part) drew.part.2 has)) [
-            | inl h ↦ on_ok c.add_part.result answered c.add_part.ensures.kept part (old.3 part h)
-            | inr h ↦ subst (λ p. HasPart c.args.pass.now p c.add_part.new.pages.items) (contains_one c.in-Part.part part h) (on_ok c.add_part.result answered c.add_part.ensures.added)
+            | inl h ↦ on_ok c.redo_part.result answered c.redo_part.ensures.kept part (old.3 part h)
+            | inr h ↦ subst (λ p. HasPart c.args.pass.now p c.redo_part.new.pages.items) (contains_one c.in-Part.part part h) (on_ok c.redo_part.result answered c.redo_part.ensures.added)
           ]),
     )

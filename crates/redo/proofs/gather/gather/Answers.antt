@@ -1,5 +1,6 @@
 use Rattle.std.proofs.Common.{ℕ, ◌-◌, ◌<◌, List, All, Contains, vec_len, length, sym, ◌∙◌, subst, inl, inr, arith}
 use Rattle.std.proofs.lemmas.List.Elements.{All-take, Contains-append_left}
+use Rattle.redo.specs.Passes.{PassContent, pass_over}
 use Rattle.redo.specs.declared.crew.Share.{Share}
 use Rattle.redo.specs.Rounds.{IsBack, IsDone, HasPage}
 use Rattle.redo.proofs.Reading.{popped, or_false}
@@ -8,7 +9,7 @@ use Rattle.redo.proofs.gather.gather.Goals as goal
 
 pub loop-share-init : goal.loop-share-init
 loop-share-init c =
-    let pass = c.args.pass.now in
+    let pass : PassContent = pass_over c.args.log.now c.args.pages.now c.args.tables.now c.args.parting.now in
     let board = c.args.board.now in
     let pop = c.in-Some.ensures in
     let share : Share = c.in-Some.last in
@@ -18,8 +19,8 @@ loop-share-init c =
       back.at_board,
       (let a = pop.len in let b = back.one_place in omega arith),
       subst (All (IsBack pass board)) (sym pop.rest) (All-take (IsBack pass board) (vec_len c.args.shares - 1) c.args.shares.items c.requires.each),
-      c.place.ensures.pages_count ∙ c.requires.pages_count,
-      c.place.ensures.counts_count ∙ c.requires.counts_count,
+      c.place.ensures.pages_count,
+      c.place.ensures.counts_count ∙ c.requires.count,
       (λ stopped told.
           share_put pass board share c.place.new.pages c.place.new.counts back stopped told
           (λ number has. c.place.ensures.put pass done number (inr (subst (λ ps. HasPage ps number) (sym c.deref.ensures.value) has)))),
@@ -28,7 +29,7 @@ loop-share-init c =
 
 pub place-requires-in-Some-pop-clause-below : goal.place-requires-in-Some-pop-clause-below
 place-requires-in-Some-pop-clause-below c =
-    let pass = c.args.pass.now in
+    let pass : PassContent = pass_over c.args.log.now c.args.pages.now c.args.tables.now c.args.parting.now in
     let old = c.loop-share.invariant in
     let pop = c.in-Some-pop.ensures in
     let share : Share = c.in-Some-pop.share in
@@ -38,7 +39,7 @@ place-requires-in-Some-pop-clause-below c =
 
 pub loop-share-preserved : goal.loop-share-preserved
 loop-share-preserved c =
-    let pass = c.args.pass.now in
+    let pass : PassContent = pass_over c.args.log.now c.args.pages.now c.args.tables.now c.args.parting.now in
     let board = c.args.board.now in
     let old = c.loop-share.invariant in
     let pop = c.in-Some-pop.ensures in

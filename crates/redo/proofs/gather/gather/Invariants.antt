@@ -1,5 +1,6 @@
 use Rattle.std.proofs.Common.{◌≡◌, ◌+◌, false, All, length, vec_len}
 use Rattle.board.specs.Drawn.{AllEnded}
+use Rattle.redo.specs.Passes.{pass_over}
 use Rattle.redo.specs.Rounds.{IsBack, ArePut}
 use Rattle.redo.proofs.gather.gather.Given as goal
 
@@ -7,10 +8,10 @@ abbrev pub invariant-loop-share : goal.invariant-loop-share
 invariant-loop-share l =
     (l.seat.board ≡ l.board)
     × (l.seat.places + vec_len l.shares ≡ vec_len l.fn.shares)
-    × All (IsBack l.pass l.board) l.shares.items
-    × (length l.pages ≡ length l.pass.images)
-    × (length l.counts ≡ length l.pass.images)
-    × (l.seat.stopped ≡ false → l.seat.told ≡ false → ArePut l.pass l.pages l.counts l.seat.drawn)
+    × All (IsBack (pass_over l.log l.fn.pages l.tables l.parting) l.board) l.shares.items
+    × (length l.pages ≡ length l.fn.pages)
+    × (length l.counts ≡ length l.fn.pages)
+    × (l.seat.stopped ≡ false → l.seat.told ≡ false → ArePut (pass_over l.log l.fn.pages l.tables l.parting) l.pages l.counts l.seat.drawn)
     × (l.seat.stopped ≡ false → l.seat.told ≡ false → AllEnded l.board.ranges l.seat.ended)
 
 abbrev pub decreases-loop-share : goal.decreases-loop-share

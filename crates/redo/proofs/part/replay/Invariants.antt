@@ -1,12 +1,12 @@
 use Rattle.std.proofs.Common.{◌≡◌, ◌+◌, ◌-◌, ◌<◌, ◌^◌, All, length, map, take}
 use Rattle.std.specs.List.{fold}
 use Rattle.wal.specs.Records.{history}
-use Rattle.redo.specs.Changes.{step}
-use Rattle.redo.specs.Rounds.{numbers_of}
+use Rattle.redo.specs.Changes.{step, lsn_in}
+use Rattle.redo.specs.Rounds.{numbers_of, resolved}
 use Rattle.redo.proofs.part.replay.Given as goal
 
-abbrev pub invariant-loop-lsn : goal.invariant-loop-lsn
-invariant-loop-lsn l =
-    (l.pages ≡ map (λ p. fold (step (history l.pass.records) l.pass.redo_lsn) p (take l.lsn-index l.lsns)) l.fn.pages)
-    × (numbers_of l.pages ≡ numbers_of l.fn.pages)
-    × All (λ p. p.applied + (length l.lsns - l.lsn-index) < 2 ^ 64) l.pages
+abbrev pub invariant-loop-index : goal.invariant-loop-index
+invariant-loop-index l =
+    (map (resolved l.pass) l.tallies ≡ map (λ p. fold (step (history l.pass.records) l.pass.redo_lsn) p (take l.index (map lsn_in l.notes))) (map (resolved l.pass) l.fn.tallies))
+    × (numbers_of (map (resolved l.pass) l.tallies) ≡ numbers_of (map (resolved l.pass) l.fn.tallies))
+    × All (λ p. p.applied + (length l.notes - l.index) < 2 ^ 64) (map (resolved l.pass) l.tallies)

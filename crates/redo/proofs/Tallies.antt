@@ -1,0 +1,114 @@
+-- Pages by LSNs alone: what a tally tells of a page.
+use Rattle.std.proofs.Common.{◌≡◌, ℕ, zero, suc, ◌<◌, false, cond, eqb, List, [], ◌∷◌, Option, Some, None, map, replicate, length, get_or, set, refl, sym, ap, ◌∙◌, inl, inr, arith, ne_eqb, eq-eqb}
+use Rattle.std.specs.List.{slice_get}
+use Rattle.std.proofs.lemmas.Bool.{cases_Bool}
+use Rattle.std.proofs.lemmas.List.{length-map, get_or-map, map-set}
+use Rattle.page.specs.Image.{Image}
+use Rattle.wal.specs.Records.{LogRecord, Update, Compensation, Commit, Abort, End, CheckpointBegin, CheckpointEnd, History, start, history, record_at}
+use Rattle.wal.specs.Meaning.{image_of, image_in}
+use Rattle.wal.specs.Redo.{is_redone, rec_lsn_of}
+use Rattle.wal.proofs.Histories.{record_none}
+use Rattle.redo.specs.declared.progress.Progress.{Progress}
+use Rattle.redo.specs.declared.tally.Tally.{Tally}
+use Rattle.redo.specs.declared.note.Note.{Note}
+use Rattle.redo.specs.Changes.{cell_named, put, advance, advance_by, step, counted, held_after, slots_after}
+use Rattle.redo.specs.Passes.{PassContent}
+use Rattle.redo.specs.Rounds.{Stands, numbers_of, progress_in, image_at, resolved}
+use Rattle.redo.proofs.Reading.{some_same}
+use Rattle.redo.proofs.Alone.{alone_within, put_alone}
+use Rattle.redo.proofs.Replay.{image_begun, page_of_cell}
+
+-- a record stands at no LSN but a positive one
+pub positive : (log : History) (lsn : ℕ) (r : LogRecord) → record_at log lsn ≡ Some r → eqb lsn 0 ≡ false
+positive log zero r there = absurd (none (sym (record_none log zero (inl refl)) ∙ there))
+  where
+    none : None ≡ Some r → ⊥
+    none e = cc
+positive log (suc n) r there = ne_eqb (suc n) 0 (λ e. omega (arith, e))
+
+-- a record in a cell of a page puts its image there
+does : (redo_lsn lsn : ℕ) (r : LogRecord) (page slot : ℕ) → cell_named r ≡ Some (page, slot) → (p : Progress) → page ≡ p.page.number → advance redo_lsn lsn r p ≡ put redo_lsn lsn slot (image_of r) p
+does redo_lsn lsn (Update u) page slot e p here =
+    let own : u.page ≡ page = ap (λ (x : ℕ × ℕ). x.0) (some_same e) in
+    let at : u.slot ≡ slot = ap (λ (x : ℕ × ℕ). x.1) (some_same e) in
+    ap (λ b. cond b (put redo_lsn lsn u.slot u.after p) p) (eq-eqb u.page p.page.number (own ∙ here)) ∙ ap (λ s. put redo_lsn lsn s u.after p) at
+does redo_lsn lsn (Compensation c) page slot e p here =
+    let own : c.page ≡ page = ap (λ (x : ℕ × ℕ). x.0) (some_same e) in
+    let at : c.slot ≡ slot = ap (λ (x : ℕ × ℕ). x.1) (some_same e) in
+    ap (λ b. cond b (put redo_lsn lsn c.slot c.image p) p) (eq-eqb c.page p.page.number (own ∙ here)) ∙ ap (λ s. put redo_lsn lsn s c.image p) at
+does redo_lsn lsn (Commit s) page slot e p here = absurd (cc)
+does redo_lsn lsn (Abort s) page slot e p here = absurd (cc)
+does redo_lsn lsn (End s) page slot e p here = absurd (cc)
+does redo_lsn lsn CheckpointBegin page slot e p here = absurd (cc)
+does redo_lsn lsn (CheckpointEnd b t d) page slot e p here = absurd (cc)
+
+-- SLOTS
+-- one LSN changed is one slot changed
+slots_set : (log : History) (ls : List ℕ) (xs : List Image) (i l : ℕ) (v : Image) → ((x : Image) → held_after log l x ≡ v) → slots_after log (set ls i l) xs ≡ set (slots_after log ls xs) i v
+slots_set log ls [] i l v h = refl
+slots_set log [] (x ∷ xs) i l v h = refl
+slots_set log (a ∷ ls) (x ∷ xs) zero l v h = ap (λ y. y ∷ slots_after log ls xs) (h x)
+slots_set log (a ∷ ls) (x ∷ xs) (suc i) l v h = ap (λ ys. held_after log a x ∷ ys) (slots_set log ls xs i l v h)
+
+-- no LSN changes nothing
+slots_none : (log : History) (xs : List Image) → slots_after log (replicate (length xs) 0) xs ≡ xs
+slots_none log [] = refl
+slots_none log (x ∷ xs) = ap (λ ys. x ∷ ys) (slots_none log xs)
+
+-- slot by slot
+pub slot_after : (log : History) (ls : List ℕ) (xs : List Image) (k : ℕ) → k < length ls → k < length xs → get_or (slots_after log ls xs) k None ≡ held_after log (get_or ls k 0) (get_or xs k None)
+slot_after log ls [] k a b = absurd (omega arith)
+slot_after log [] (x ∷ xs) k a b = absurd (omega arith)
+slot_after log (l ∷ ls) (x ∷ xs) zero a b = refl
+slot_after log (l ∷ ls) (x ∷ xs) (suc k) a b = slot_after log ls xs k (omega (arith, a)) (omega (arith, b))
+
+pub slots_count : (log : History) (ls : List ℕ) (xs : List Image) → length ls ≡ length xs → length (slots_after log ls xs) ≡ length xs
+slots_count log ls [] e = refl
+slots_count log [] (x ∷ xs) e = absurd (omega (arith, e))
+slots_count log (l ∷ ls) (x ∷ xs) e = ap suc (slots_count log ls xs (omega (arith, e)))
+
+-- A RECORD MORE
+pub counted_put : (pass : PassContent) (redo_lsn lsn slot : ℕ) (r : LogRecord) (t : Tally) → record_at (history pass.records) lsn ≡ Some r
+    → resolved pass (counted redo_lsn lsn slot t) ≡ put redo_lsn lsn slot (image_of r) (resolved pass t)
+counted_put pass redo_lsn lsn slot r t there =
+    elim (cases_Bool (is_redone t.rec_lsn redo_lsn t.lsn lsn)) [
+      | inl lacking ↦
+          (let held : (x : Image) → held_after (history pass.records) lsn x ≡ image_of r =
+          λ x. ap (λ b. cond b x (image_in (record_at (history pass.records) lsn))) (positive (history pass.records) lsn r there) ∙ ap image_in there in
+          let slots = slots_set (history pass.records) t.lasts (image_at pass.images t.number).slots slot lsn (image_of r) held in
+          rw lacking (ap (λ xs. record { page = record { number = t.number; lsn = lsn; slots = xs }; rec_lsn = t.rec_lsn; applied = suc t.applied }) slots))
+      | inr over ↦ rw over refl
+    ]
+
+-- a noted record, counted for its page, is that record applied to the pages
+pub counted_alone : (pass : PassContent) (ts new : List Tally) (n : Note) → Stands (history pass.records) pass.parting.place_of (numbers_of (map (resolved pass) ts)) n
+    → ((d : Tally) → new ≡ set ts n.place (counted pass.redo_lsn n.lsn n.slot (get_or ts n.place d)))
+    → map (resolved pass) new ≡ map (λ p. step (history pass.records) pass.redo_lsn p n.lsn) (map (resolved pass) ts)
+counted_alone pass [] new n stands is = absurd (let lt = alone_within pass.parting.place_of [] stands.page stands.alone in omega arith)
+counted_alone pass (q ∷ qs) new n stands is =
+    let ts = q ∷ qs in
+    let ps = map (resolved pass) ts in
+    let r = stands.entry in
+    let value = image_of r in
+    let long : n.place < length ts = omega (arith, alone_within pass.parting.place_of ps stands.page stands.alone, stands.place, length-map ts (resolved pass)) in
+    let noted : slice_get pass.parting.place_of stands.page ≡ Some n.place = stands.alone.noted ∙ ap Some (sym stands.place) in
+    let one : resolved pass (counted pass.redo_lsn n.lsn n.slot (get_or ts n.place q)) ≡ put pass.redo_lsn n.lsn n.slot value (resolved pass (get_or ts n.place q)) =
+    counted_put pass pass.redo_lsn n.lsn n.slot r (get_or ts n.place q) stands.there in
+    let written : (d : Progress) → map (resolved pass) new ≡ set ps n.place (put pass.redo_lsn n.lsn n.slot value (get_or ps n.place d)) =
+    λ d. ap (map (resolved pass)) (is q)
+    ∙ (map-set (resolved pass) ts n.place (counted pass.redo_lsn n.lsn n.slot (get_or ts n.place q))
+    ∙ ap (λ p. set ps n.place p) (one ∙ ap (put pass.redo_lsn n.lsn n.slot value) (sym (get_or-map (resolved pass) ts n.place q d long)))) in
+    put_alone pass.redo_lsn n.lsn n.slot value r pass.parting.place_of ps (map (resolved pass) new) stands.page n.place stands.alone noted (page_of_cell r stands.page n.slot stands.cell)
+    (does pass.redo_lsn n.lsn r stands.page n.slot stands.cell) written
+    ∙ ap (λ o. map (advance_by pass.redo_lsn n.lsn o) ps) (sym stands.there)
+
+-- AT THE BEGINNING
+pub begun_page : (pass : PassContent) (number : ℕ) (rec_lsn : Option ℕ) → (image_at pass.images number).number ≡ number → length (image_at pass.images number).slots ≡ 16 → rec_lsn ≡ rec_lsn_of number pass.dirty
+    → resolved pass (record { number = number; lsn = (image_at pass.images number).lsn; rec_lsn = rec_lsn; applied = 0; lasts = replicate 16 0 }) ≡ progress_in pass start (image_at pass.images number)
+begun_page pass number rec_lsn own count listed =
+    let image = image_at pass.images number in
+    let slots : slots_after (history pass.records) (replicate 16 0) image.slots ≡ image.slots =
+    ap (λ n. slots_after (history pass.records) (replicate n 0) image.slots) (sym count) ∙ slots_none (history pass.records) image.slots in
+    ap (λ xs. record { page = record { number = number; lsn = image.lsn; slots = xs }; rec_lsn = rec_lsn; applied = 0 }) slots
+    ∙ (ap (λ n. record { page = record { number = n; lsn = image.lsn; slots = image.slots }; rec_lsn = rec_lsn; applied = 0 }) (sym own)
+    ∙ (ap (λ o. record { page = image; rec_lsn = o; applied = 0 }) (listed ∙ ap (λ n. rec_lsn_of n pass.dirty) (sym own)) ∙ sym (image_begun pass image count)))

@@ -1,0 +1,87 @@
+//! Notes: which record is in which cell of a part.
+
+ghost use Rattle.std.specs.Prelude.{◌≡◌, ◌<◌, [], ◌∷◌, ◌++◌, length, slice_index_or, OnOk, IfErr};
+ghost use Rattle.page.specs.declared.fault.Fault.TheVariants.{NoResource};
+
+use page::Fault;
+use std::alloc::Global;
+use std::marker::Model;
+
+/// What is noted of an update or a compensation: its LSN, the place of its page among those of the
+/// part, and its slot.
+#[derive(Clone, Copy)]
+pub struct Note {
+    pub lsn: u64,
+    pub place: u16,
+    pub slot: u8,
+}
+
+/// Notes in 10 bytes each: beside the LSNs there is a number for each cell, 16 times the place and the
+/// slot. Contracts see the list of the notes.
+#[derive(Drop)]
+pub struct NoteList {
+    lsns: Vec<u64>,
+    cells: Vec<u16>,
+}
+
+impl Model for NoteList {
+    ghost use Rattle.std.specs.Prelude.{List};
+    ghost use Rattle.redo.specs.declared.note.Note.{Note};
+
+    ghost Value = { List Note };
+
+    ghost use Rattle.redo.specs.Notes.{notes_in, AreNotes};
+
+    ghost view = { notes_in };
+
+    ghost invariant = { AreNotes };
+}
+
+impl NoteList {
+    /// No note.
+    pub fn new(alloc: Global) -> NoteList
+        ensures { result ≡ [] }
+    {
+        NoteList {
+            lsns: Vec::new(alloc),
+            cells: Vec::new(alloc),
+        }
+    }
+
+    /// How many notes there are.
+    pub fn len(&self) -> usize
+        ensures { result ≡ length self.now }
+    {
+        self.lsns.len()
+    }
+
+    /// The note at an index.
+    pub fn get(&self, index: usize) -> Note
+        requires { index < length self.now }
+        ensures { result ≡ slice_index_or self.now index result }
+    {
+        let cell = self.cells[index];
+        Note {
+            lsn: self.lsns[index],
+            place: cell / 16,
+            slot: (cell % 16) as u8,
+        }
+    }
+
+    /// Puts a note behind the others. The only error is `NoResource`.
+    pub fn push(&mut self, note: Note) -> Result<(), Fault>
+        requires place { note.place < 4096 }
+        requires slot { note.slot < 16 }
+        ensures ok { OnOk result (self.new ≡ self.old ++ note ∷ []) }
+        ensures err { IfErr result (λ e. e ≡ NoResource) }
+    {
+        self.cells.push(16 * note.place + note.slot as u16)?;
+        match self.lsns.push(note.lsn) {
+            Ok(()) => Ok(()),
+            Err(_) => {
+                self.cells.pop();
+                Err(Fault::NoResource)
+            }
+        }
+    }
+}
