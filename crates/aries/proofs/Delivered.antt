@@ -1,6 +1,5 @@
 -- A recovery over devices: what was read, what is out, and why it is refused.
 use Rattle.std.proofs.Common.{ℕ, ◌≡◌, ◌+◌, List, ◌++◌, length, take, Option, Some, None, sym, subst, ap, ◌∙◌, arith, length-append}
-use Rattle.std.proofs.lemmas.List.{take-append-le}
 use Rattle.std.proofs.Math.Seq.{take-append-add}
 use Rattle.std.proofs.KnownBytes.{Appends-trans}
 use Rattle.std.specs.Io.KnownBytes.{Appends}
@@ -24,21 +23,20 @@ pub told : (left : Option (List ℕ)) (bytes known : List ℕ) → Gave left byt
 told None bytes known gave e = absurd (cc)
 told (Some xs) bytes known gave e = gave ∙ some_same e
 
--- what was read, as it is lent
-pub lent_read : (log_left store_left : Option (List ℕ)) (log store lent_log lent_store : List ℕ) → AreRead log_left store_left log store → lent_log ≡ log → lent_store ≡ store → AreRead log_left store_left lent_log lent_store
-lent_read log_left store_left log store lent_log lent_store read e f =
-    record { log_read = subst (Gave log_left) (sym e) read.log_read; store_read = subst (Gave store_left) (sym f) read.store_read }
+-- what was read, the log as it is lent
+pub lent_read : (log_left store_left : Option (List ℕ)) (log lent_log store : List ℕ) → AreRead log_left store_left log store → lent_log ≡ log → AreRead log_left store_left lent_log store
+lent_read log_left store_left log lent_log store read e = record { log_read = subst (Gave log_left) (sym e) read.log_read; store_read = read.store_read }
 
 -- and where the sources tell lawful bytes, it is lawful
-abbrev pub lent_lawful : {log_left store_left : Option (List ℕ)} (log store lent_log lent_store log_text store_text : List ℕ) → AreRead log_left store_left log store → lent_log ≡ log → lent_store ≡ store
-    → log_left ≡ Some log_text → store_left ≡ Some store_text → AreLawful log_text store_text → AreLawful lent_log lent_store
-lent_lawful {log_left} {store_left} log store lent_log lent_store log_text store_text read e f tells_log tells_store bytes = record {
+abbrev pub lent_lawful : {log_left store_left : Option (List ℕ)} (log lent_log store log_text store_text : List ℕ) → AreRead log_left store_left log store → lent_log ≡ log
+    → log_left ≡ Some log_text → store_left ≡ Some store_text → AreLawful log_text store_text → AreLawful lent_log store
+lent_lawful {log_left} {store_left} log lent_log store log_text store_text read e tells_log tells_store bytes = record {
   are = record {
     records = bytes.are.records;
     torn = bytes.are.torn;
     before = bytes.are.before;
     reads = subst (λ l. Reads l bytes.are.records bytes.are.torn) (sym (e ∙ told log_left log log_text read.log_read tells_log)) bytes.are.reads;
-    spells = subst (λ s. SpellsStore s bytes.are.before) (sym (f ∙ told store_left store store_text read.store_read tells_store)) bytes.are.spells;
+    spells = subst (λ s. SpellsStore s bytes.are.before) (sym (told store_left store store_text read.store_read tells_store)) bytes.are.spells;
   };
   lawful = bytes.lawful;
 }
@@ -65,12 +63,7 @@ left_out log_left store_left log_before log_after store_before store_after made 
 left_out log_left store_left log_before log_after store_before store_after made e h = absurd h
 
 -- A LOG IN TWO PIECES
--- a beginning of the first piece is one of both
-pub in_front : (before after : Option (List ℕ)) (front back : List ℕ) → TookBeginning before after front → TookBeginning before after (front ++ back)
-in_front before after front back (count, within, taken) =
-    (count, omega (arith, within, length-append front back), subst (Appends before after) (sym (take-append-le count front back within)) taken)
-
--- and the first piece with a beginning of the second is
+-- the first piece with a beginning of the second is a beginning of both
 pub behind_front : (before between after : Option (List ℕ)) (front back : List ℕ) → Appends before between front → TookBeginning between after back → TookBeginning before after (front ++ back)
 behind_front before between after front back out (count, within, taken) =
     (length front + count, omega (arith, within, length-append front back), subst (Appends before after) (sym (take-append-add front back count)) (Appends-trans before between after front (take count back) out taken))

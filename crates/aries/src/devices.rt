@@ -149,7 +149,7 @@ pub fn recover<LR: Source, SR: Source, LW: Sink, SW: Sink, G: Gate, R: Threads +
 {
     check_options(options)?;
     let (log_text, store_text) = read_both(alloc, log, store)?;
-    let recovery = recovery_of(rt, alloc, &log_text, &store_text, options, gate)?;
+    let recovery = recovery_of(rt, alloc, &log_text, store_text, options, gate)?;
     write_both(out_log, out_store, &recovery)?;
     Ok(recovery.report)
 }

@@ -15,7 +15,7 @@ ghost use Rattle.aries.specs.Restart.{AreSettings, SettingsFault, AheadFault, ap
 use crate::{Outcome, undo};
 use analysis::{Tables, analyse};
 use page::{Fault, Page, Store};
-use redo::{Gate, Parting, Redone, redo};
+use redo::{Gate, Parting, Redone, redo_in_place};
 use std::alloc::Global;
 use std::thread::Threads;
 use wal::{Log, Record};
@@ -101,6 +101,39 @@ fn roll_back(
     })
 }
 
+/// [`restart`] on a store that is given away: its pages are changed in place and not copied. With an
+/// error they are gone.
+pub(crate) fn restart_in_place<G: Gate, R: Threads + Sync>(
+    rt: &R,
+    alloc: Global,
+    log: &Log,
+    store: Store,
+    parting: &Parting,
+    workers: u32,
+    gate: &G,
+) -> Result<Outcome, Fault>
+    // On a lawful log and its store: the log's tail and the store that the winners leave.
+    ensures lawful { Lawful log.now store → AreSettings (length store.pages) parting.now workers
+        → MatchResult result (Restores log.now store) (λ e. e ≡ NoResource) }
+
+    // Wherever it answers: what analysis, redo and undo make of log and store, and no cause of a refusal stands.
+    ensures restarts { IfOk result (Restarts log.now store) }
+    ensures settings { (e : Fault) → SettingsFault (length store.pages) parting.now workers e → result ≡ Err e }
+
+    // Each appended record has a spelling.
+    ensures spelled { IfOk result (λ x. AreSpelled x.appended.items) }
+
+    // A refusal has its cause in the input, memory aside.
+    ensures fault { IfErr result (RestartFault log.now store parting.now workers) }
+{
+    check_settings(&store, parting, workers)?;
+    check_lsns(log, &store.pages)?;
+    let tables = analyse(alloc, log, store.master)?;
+    let master = store.master;
+    let redone = redo_in_place(rt, alloc, log, store, &tables, parting, workers, gate)?;
+    roll_back(alloc, log, master, &tables, redone)
+}
+
 /// Restarts on a log and its store after a crash (ARIES, section 6): analysis from the last checkpoint
 /// on, redo by `workers` threads that draw the parts of the pages and call the gate for each, undo of
 /// the transactions that have not finished.
@@ -142,8 +175,7 @@ pub fn restart<G: Gate, R: Threads + Sync>(
     ensures fault { IfErr result (RestartFault log.now store.now parting.now workers) }
 {
     check_settings(store, parting, workers)?;
-    check_lsns(log, &store.pages)?;
-    let tables = analyse(alloc, log, store.master)?;
-    let redone = redo(rt, alloc, log, store, &tables, parting, workers, gate)?;
-    roll_back(alloc, log, store.master, &tables, redone)
+    let pages = Vec::from_slice(alloc, &store.pages)?;
+    let copy = store_of(store.master, pages);
+    restart_in_place(rt, alloc, log, copy, parting, workers, gate)
 }

@@ -8,8 +8,9 @@ ghost use Rattle.wal.specs.Reads.{spellings};
 ghost use Rattle.aries.specs.Undone.{AreSpelled};
 ghost use Rattle.aries.specs.Recovery.{report_of, new_log, Recovers, AreLawful, Recovered, AreInRange, OptionsFault, Cause};
 
-use crate::{Outcome, Report, restart};
-use page::{Fault, decode_store, encode_store};
+use crate::passes::restart_in_place;
+use crate::{Outcome, Report};
+use page::{Fault, decode_store, encode_store_into};
 use redo::{Gate, Parting};
 use std::alloc::Global;
 use std::thread::Threads;
@@ -84,48 +85,41 @@ pub struct Recovery<'a> {
     pub report: Report,
 }
 
-/// Recovers a store by its log, both read: [`restart`] on what their bytes spell, with the pages parted
-/// by number.
+/// Recovers a store by its log, both read: [`restart`](crate::restart) on what their bytes spell, with
+/// the pages parted by number. The new store is made in the room of the bytes read.
 ///
 /// Refuses, in this order: the faults of [`wal::read_log`] for the log; those of [`page::decode_store`]
-/// for the store; those of [`restart`]. [`Fault::NoResource`], where memory or a thread was refused, may
-/// come in place of any answer.
+/// for the store; those of [`restart`](crate::restart). [`Fault::NoResource`], where memory or a thread
+/// was refused, may come in place of any answer.
 pub fn recovery_of<'a, G: Gate, R: Threads + Sync>(
     rt: &R,
     alloc: Global,
     log: &'a [u8],
-    store: &[u8],
+    mut store: Vec<u8>,
     options: &Options,
     gate: &G,
 ) -> Result<Recovery<'a>, Fault>
     requires { AreInRange options.now }
 
     // On the bytes of a lawful log and its store.
-    ensures lawful { (bytes : AreLawful log.now store.now)
+    ensures lawful { (bytes : AreLawful log.now store.items)
         → MatchResult result (λ x. Recovered bytes.are.records bytes.are.before (new_log x) x.store.items x.report) (λ e. e ≡ NoResource) }
 
     // Wherever it answers.
-    ensures answer { IfOk result (λ x. Recovers log.now store.now (new_log x) x.store.items x.report) }
+    ensures answer { IfOk result (λ x. Recovers log.now store.items (new_log x) x.store.items x.report) }
 
     // A refusal has its cause in the input, memory aside.
-    ensures cause { IfErr result (Cause log.now store.now options.now) }
+    ensures cause { IfErr result (Cause log.now store.items options.now) }
 {
     let (records, torn) = read_log(alloc, log)?;
-    let before = decode_store(alloc, store)?;
+    let before = decode_store(alloc, &store)?;
     let parting = Parting::by_number(alloc, before.pages.len() as u32, options.parts)?;
-    let outcome = restart(
-        rt,
-        alloc,
-        &records,
-        &before,
-        &parting,
-        options.workers,
-        gate,
-    )?;
+    let outcome = restart_in_place(rt, alloc, &records, before, &parting, options.workers, gate)?;
+    encode_store_into(&outcome.store, &mut store)?;
     Ok(Recovery {
         kept: &log[..log.len() - torn],
         frames: frames_of(alloc, &outcome.appended, records.next_lsn())?,
-        store: encode_store(alloc, &outcome.store)?,
+        store,
         report: report_of(&records, torn, &outcome),
     })
 }

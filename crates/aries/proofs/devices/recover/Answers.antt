@@ -11,7 +11,7 @@ returns-in_err-recovery-clause-lawful g c = λ log_text store_text tells_log tel
     let read = c.in_ok-log_text in
     rw (exit.1, exit.2)
     (is_resource c.in_err-recovery.field-0.0
-    (c.in_err-recovery.ensures.lawful (lent_lawful read.log_text.items read.store_text.items c.deref.result.now c.deref-2.result.now log_text store_text read.ensures.read c.deref.ensures.value c.deref-2.ensures.value tells_log tells_store bytes)))
+    (c.in_err-recovery.ensures.lawful (lent_lawful read.log_text.items c.deref.result.now read.store_text.items log_text store_text read.ensures.read c.deref.ensures.value tells_log tells_store bytes)))
 
 pub returns-in_err-recovery-clause-interrupted : goal.returns-in_err-recovery-clause-interrupted
 returns-in_err-recovery-clause-interrupted g c = λ log_text store_text tells_log tells_store range bytes.
@@ -19,14 +19,14 @@ returns-in_err-recovery-clause-interrupted g c = λ log_text store_text tells_lo
     let read = c.in_ok-log_text in
     rw (exit.1, exit.2)
     (is_resource c.in_err-recovery.field-0.0
-    (c.in_err-recovery.ensures.lawful (lent_lawful read.log_text.items read.store_text.items c.deref.result.now c.deref-2.result.now log_text store_text read.ensures.read c.deref.ensures.value c.deref-2.ensures.value tells_log tells_store (cut_lawful bytes))))
+    (c.in_err-recovery.ensures.lawful (lent_lawful read.log_text.items c.deref.result.now read.store_text.items log_text store_text read.ensures.read c.deref.ensures.value tells_log tells_store (cut_lawful bytes))))
 
 pub returns-in_err-recovery-clause-cause : goal.returns-in_err-recovery-clause-cause
 returns-in_err-recovery-clause-cause g c =
     let exit = err_from_is_err_and c.from_residual-in_err-recovery.result c.from_residual-in_err-recovery.ensures.1 in
     rw (exit.1, exit.2)
-    (device_cause (g.LR.Source.left c.args.log.now) (g.SR.Source.left c.args.store.now) c.args.options.now c.deref.result.now c.deref-2.result.now c.in_err-recovery.field-0.0
-    (lent_read _ _ c.in_ok-log_text.log_text.items c.in_ok-log_text.store_text.items c.deref.result.now c.deref-2.result.now c.in_ok-log_text.ensures.read c.deref.ensures.value c.deref-2.ensures.value)
+    (device_cause (g.LR.Source.left c.args.log.now) (g.SR.Source.left c.args.store.now) c.args.options.now c.deref.result.now c.in_ok-log_text.store_text.items c.in_err-recovery.field-0.0
+    (lent_read _ _ c.in_ok-log_text.log_text.items c.deref.result.now c.in_ok-log_text.store_text.items c.in_ok-log_text.ensures.read c.deref.ensures.value)
     c.in_err-recovery.ensures.cause)
 
 pub returns-in_err-write_both-clause-out : goal.returns-in_err-write_both-clause-out
@@ -36,11 +36,11 @@ returns-in_err-write_both-clause-out g c =
     let made : Makes (g.LR.Source.left c.args.log.now) (g.SR.Source.left c.args.store.now) =
     record {
       log = c.deref.result.now;
-      store = c.deref-2.result.now;
+      store = c.in_ok-log_text.store_text.items;
       new_log = new_log recovery;
       new_store = recovery.store.items;
       report = recovery.report;
-      are_read = lent_read _ _ c.in_ok-log_text.log_text.items c.in_ok-log_text.store_text.items c.deref.result.now c.deref-2.result.now c.in_ok-log_text.ensures.read c.deref.ensures.value c.deref-2.ensures.value;
+      are_read = lent_read _ _ c.in_ok-log_text.log_text.items c.deref.result.now c.in_ok-log_text.store_text.items c.in_ok-log_text.ensures.read c.deref.ensures.value;
       recovers = c.in_ok-recovery.ensures.answer;
     } in
     rw (exit.1, exit.2) (left_out _ _ _ _ _ _ made c.in_err-write_both.field-0.0 c.in_err-write_both.ensures.fault)
@@ -53,7 +53,7 @@ returns-clause-lawful g c = λ log_text store_text tells_log tells_store range b
       new_log = new_log recovery;
       new_store = recovery.store.items;
       recovered =
-          c.in_ok-recovery.ensures.lawful (lent_lawful read.log_text.items read.store_text.items c.deref.result.now c.deref-2.result.now log_text store_text read.ensures.read c.deref.ensures.value c.deref-2.ensures.value tells_log tells_store bytes);
+          c.in_ok-recovery.ensures.lawful (lent_lawful read.log_text.items c.deref.result.now read.store_text.items log_text store_text read.ensures.read c.deref.ensures.value tells_log tells_store bytes);
       log_out = c.in_ok-write_both.ensures.log_out;
       store_out = c.in_ok-write_both.ensures.store_out;
     }
@@ -68,11 +68,11 @@ returns-clause-answer g c =
     record {
       made = record {
         log = c.deref.result.now;
-        store = c.deref-2.result.now;
+        store = c.in_ok-log_text.store_text.items;
         new_log = new_log recovery;
         new_store = recovery.store.items;
         report = recovery.report;
-        are_read = lent_read _ _ c.in_ok-log_text.log_text.items c.in_ok-log_text.store_text.items c.deref.result.now c.deref-2.result.now c.in_ok-log_text.ensures.read c.deref.ensures.value c.deref-2.ensures.value;
+        are_read = lent_read _ _ c.in_ok-log_text.log_text.items c.deref.result.now c.in_ok-log_text.store_text.items c.in_ok-log_text.ensures.read c.deref.ensures.value;
         recovers = c.in_ok-recovery.ensures.answer;
       };
       report_is = refl;

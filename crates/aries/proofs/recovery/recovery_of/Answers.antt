@@ -1,7 +1,7 @@
-use Rattle.std.proofs.Common.{◌≡◌, ◌-◌, ◌++◌, List, length, take, map, ap, ◌∙◌, subst}
+use Rattle.std.proofs.Common.{◌≡◌, ℕ, ◌-◌, ◌++◌, List, length, take, map, sym, ap, ◌∙◌, subst}
 use Rattle.std.proofs.lemmas.Result.{err_from_is_err_and}
 use Rattle.page.specs.Store.{StoreContent}
-use Rattle.page.specs.File.{store_text}
+use Rattle.page.specs.File.{store_text, SpellsStore}
 use Rattle.wal.specs.Records.{LogRecord}
 use Rattle.wal.specs.Content.{content}
 use Rattle.wal.specs.Tail.{tail_of}
@@ -24,7 +24,7 @@ returns-in_err-outcome-clause-lawful g c = λ bytes.
     let records = c.in_ok-records.records in
     let before = c.in_ok-before.before in
     let read = read_same (records, c.in_ok-records.torn) (bytes.are.records, bytes.are.torn) (c.in_ok-records.ensures.only bytes.are.records bytes.are.torn bytes.are.reads) in
-    let same : before ≡ bytes.are.before = c.in_ok-before.ensures.only bytes.are.before bytes.are.spells in
+    let same : before ≡ bytes.are.before = c.in_ok-before.ensures.only bytes.are.before (subst (λ (text : List ℕ). SpellsStore text bytes.are.before) (sym c.deref.ensures.value) bytes.are.spells) in
     let dealt : IsPartingOf (length before.pages) c.in_ok-parting.parting =
     dealt_by_number c.len.result c.args.options.now.parts c.in_ok-parting.parting.part_of c.in_ok-parting.ensures.ok.1
     ∙ (c.len.ensures ∙ (c.before-2.inside.pages.ok.0 ∙ ap (λ (s : StoreContent). length s.pages) c.before-2.view_is)) in
@@ -35,12 +35,12 @@ returns-in_err-outcome-clause-cause g c =
     let exit = err_from_is_err_and c.from_residual-in_err-outcome.result c.from_residual-in_err-outcome.ensures.1 in
     let before = c.in_ok-before.before in
     let range = c.requires in
-    let are : Are c.args.log.now c.args.store.now = record { records = c.in_ok-records.records; torn = c.in_ok-records.torn; before = before; reads = c.in_ok-records.ensures.found; spells = c.in_ok-before.ensures.found } in
+    let are : Are c.args.log.now c.args.store.items = record { records = c.in_ok-records.records; torn = c.in_ok-records.torn; before = before; reads = c.in_ok-records.ensures.found; spells = subst (λ (text : List ℕ). SpellsStore text c.in_ok-before.before) c.deref.ensures.value c.in_ok-before.ensures.found } in
     let dealt : IsPartingOf (length before.pages) c.in_ok-parting.parting =
     dealt_by_number c.len.result c.args.options.now.parts c.in_ok-parting.parting.part_of c.in_ok-parting.ensures.ok.1
     ∙ (c.len.ensures ∙ (c.before-2.inside.pages.ok.0 ∙ ap (λ (s : StoreContent). length s.pages) c.before-2.view_is)) in
     rw (exit.1, exit.2)
-    (restart_cause c.args.log.now c.args.store.now c.args.options.now c.in_ok-parting.parting c.in_err-outcome.field-0.0 range are (record { fit = c.requires.workers; dealt = dealt }) c.in_err-outcome.ensures.fault)
+    (restart_cause c.args.log.now c.args.store.items c.args.options.now c.in_ok-parting.parting c.in_err-outcome.field-0.0 range are (record { fit = c.requires.workers; dealt = dealt }) c.in_err-outcome.ensures.fault)
 
 pub returns-clause-answer : goal.returns-clause-answer
 returns-clause-answer g c =
@@ -48,14 +48,14 @@ returns-clause-answer g c =
     let torn = c.in_ok-records.torn in
     let appended = map content c.in_ok-outcome.outcome.appended.items in
     record {
-      are = record { records = records; torn = torn; before = c.in_ok-before.before; reads = c.in_ok-records.ensures.found; spells = c.in_ok-before.ensures.found };
+      are = record { records = records; torn = torn; before = c.in_ok-before.before; reads = c.in_ok-records.ensures.found; spells = subst (λ (text : List ℕ). SpellsStore text c.in_ok-before.before) c.deref.ensures.value c.in_ok-before.ensures.found };
       outcome = c.in_ok-outcome.outcome;
       restarts = c.in_ok-outcome.ensures.restarts;
       log_is =
           text_extended records appended (take (length c.args.log.now - torn) c.args.log.now) c.in_ok-frames_of.field-0.items c.next_lsn.result
           (kept_text c.args.log.now records torn c.in_ok-records.ensures.found) c.next_lsn.ensures.next
-          (c.in_ok-frames_of.ensures.frames ∙ ap (λ rs. spellings c.next_lsn.result (map content rs)) c.deref.ensures.value);
-      store_is = c.in_ok-encode_store.ensures.ok;
+          (c.in_ok-frames_of.ensures.frames ∙ ap (λ rs. spellings c.next_lsn.result (map content rs)) c.deref-2.ensures.value);
+      store_is = c.in_ok-encode_store_into.ensures.ok;
       report_is = c.report_of.ensures;
     }
 
@@ -66,14 +66,14 @@ returns-clause-lawful g c = λ bytes.
     let before = c.in_ok-before.before in
     let outcome = c.in_ok-outcome.outcome in
     let read = read_same (records, c.in_ok-records.torn) (bytes.are.records, bytes.are.torn) (c.in_ok-records.ensures.only bytes.are.records bytes.are.torn bytes.are.reads) in
-    let same : before ≡ bytes.are.before = c.in_ok-before.ensures.only bytes.are.before bytes.are.spells in
+    let same : before ≡ bytes.are.before = c.in_ok-before.ensures.only bytes.are.before (subst (λ (text : List ℕ). SpellsStore text bytes.are.before) (sym c.deref.ensures.value) bytes.are.spells) in
     let dealt : IsPartingOf (length before.pages) c.in_ok-parting.parting =
     dealt_by_number c.len.result c.args.options.now.parts c.in_ok-parting.parting.part_of c.in_ok-parting.ensures.ok.1
     ∙ (c.len.ensures ∙ (c.before-2.inside.pages.ok.0 ∙ ap (λ (s : StoreContent). length s.pages) c.before-2.view_is)) in
     let restored = c.in_ok-outcome.ensures.lawful (is_lawful bytes records before (ap (λ x. x.0) read) same) (record { fit = c.requires.workers; dealt = dealt }) in
     let answer = returns-clause-answer g c in
     let log = take (length c.args.log.now - c.in_ok-records.torn) c.args.log.now ++ c.in_ok-frames_of.field-0.items in
-    let store = c.in_ok-encode_store.field-0.items in
+    let store = c.encode_store_into.new.bytes.items in
     let here : Recovered records before log store c.report_of.result =
     record {
       log_is = answer.log_is ∙ ap (λ (rs : List LogRecord). log_text (records ++ rs)) restored.appended;
