@@ -1,4 +1,5 @@
 pub mod BigEndian
+pub mod Causes
 pub mod Files
 pub mod Once
 pub mod Pages

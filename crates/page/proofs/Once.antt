@@ -12,7 +12,7 @@ use Rattle.page.specs.Parts.{BeginsWithSlot, SpellsSlots}
 use Rattle.page.proofs.Slots.{length-cells-le}
 use Rattle.page.proofs.Reading.{slot_inside}
 use Rattle.page.proofs.Pages.{page_parts, same_header, same_page}
-use Rattle.page.specs.File.{SpellsStore}
+use Rattle.page.specs.File.{BeginsWithHeader, SpellsStore}
 use Rattle.page.proofs.Files.{image_inside, header_parts, store_header_of, store_pages_of}
 
 same_16 : (a b : ℕ) → a < 2 ^ 16 → b < 2 ^ 16 → to_be_bytes w16 a ≡ to_be_bytes w16 b → a ≡ b
@@ -74,14 +74,18 @@ store_of master pages = record { master = master; pages = pages }
 pub same_store : (store : StoreContent) (master : ℕ) (pages : List Page) → master ≡ store.master → pages ≡ store.pages → store_of master pages ≡ store
 same_store store master pages em ep = ap (λ m. store_of m pages) em ∙ ap (store_of store.master) ep
 
+-- a header has one page count and one master
+pub same_numbers : (bytes : List ℕ) (count master other lsn : ℕ) → BeginsWithHeader bytes count master → BeginsWithHeader bytes other lsn → (count ≡ other) × (master ≡ lsn)
+same_numbers bytes count master other lsn a b =
+    let front = take 24 bytes in
+    let in_a = header_parts bytes front (take 8 front) (drop 8 front) count master a refl refl refl in
+    let in_b = header_parts bytes front (take 8 front) (drop 8 front) other lsn b refl refl refl in
+    let numbers = same_header (drop 8 front) count 0 master other lsn in_a.back (omega (arith, a.few)) (omega arith) a.small in_b.back (omega (arith, b.few)) b.small in
+    (numbers.0, numbers.2)
+
 pub one_store : (bytes : List ℕ) (a b : StoreContent) → SpellsStore bytes a → SpellsStore bytes b → a ≡ b
 one_store bytes a b sa sb =
-    let ha = store_header_of bytes a sa in
-    let hb = store_header_of bytes b sb in
-    let front = take 24 bytes in
-    let in_a = header_parts bytes front (take 8 front) (drop 8 front) (length a.pages) a.master ha refl refl refl in
-    let in_b = header_parts bytes front (take 8 front) (drop 8 front) (length b.pages) b.master hb refl refl refl in
-    let numbers = same_header (drop 8 front) (length a.pages) 0 a.master (length b.pages) b.master in_a.back (omega (arith, ha.few)) (omega arith) ha.small in_b.back (omega (arith, hb.few)) hb.small in
+    let numbers = same_numbers bytes (length a.pages) a.master (length b.pages) b.master (store_header_of bytes a sa) (store_header_of bytes b sb) in
     let images = drop 24 bytes in
     let pages_a = subst (λ n. SpellPages images n a.pages) numbers.0 (store_pages_of bytes images a sa refl) in
-    same_store b a.master a.pages numbers.2 (one_pages images (length b.pages) a.pages b.pages pages_a (store_pages_of bytes images b sb refl))
+    same_store b a.master a.pages numbers.1 (one_pages images (length b.pages) a.pages b.pages pages_a (store_pages_of bytes images b sb refl))

@@ -1,3 +1,4 @@
+pub mod Causes
 pub mod Fault
 pub mod File
 pub mod Image

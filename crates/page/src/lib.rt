@@ -16,7 +16,7 @@ mod value;
 pub use fault::Fault;
 pub use file::{decode_store, encode_store, encode_store_into};
 pub use image::{decode_page, encode_page};
-pub use laws::{one_page_spelling, one_store_spelling};
+pub use laws::{no_fault_of_a_store, one_page_spelling, one_store_fault, one_store_spelling};
 pub use page::Page;
 pub use store::Store;
 pub use value::Value;

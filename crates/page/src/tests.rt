@@ -199,9 +199,9 @@ fn largest_store(rt: HostRuntime) -> Result<(), Fail> {
     Ok(())
 }
 
-#[test]
-fn fault_texts(rt: HostRuntime) -> Result<(), Fail> {
-    let texts = [
+/// Each fault, and its text.
+fn texts() -> [(Fault, &'static str); 27] {
+    [
         (Fault::NoResource, "no resource"),
         (Fault::ReadLog, "reading the log failed"),
         (Fault::ReadStore, "reading the store failed"),
@@ -232,11 +232,28 @@ fn fault_texts(rt: HostRuntime) -> Result<(), Fail> {
         (Fault::PageImage(0), "wrong content of page 0"),
         (Fault::TransactionTable, "wrong transaction table"),
         (Fault::DirtyTable(0), "wrong dirty page table at page 0"),
-    ];
-    for (i, &(fault, text)) in texts.iter().enumerate() {
+    ]
+}
+
+#[test]
+fn fault_texts(rt: HostRuntime) -> Result<(), Fail> {
+    for (i, &(fault, text)) in texts().iter().enumerate() {
         let number = if i < 18 { i + 1 } else { i + 2 };
         assert_eq!(rt; fault.number() as usize, number);
         assert_eq!(rt; format!(in rt.alloc(); "{fault}")?.as_str(), text);
     }
     Ok(())
+}
+
+#[test]
+fn faults_are_told_apart(rt: HostRuntime) {
+    let faults = texts();
+    for (i, (fault, _)) in faults.iter().enumerate() {
+        for (j, (other, _)) in faults.iter().enumerate() {
+            assert_eq!(rt; fault == other, i == j);
+        }
+    }
+    assert!(rt; Fault::BadLsn(41) != Fault::BadLsn(42));
+    assert!(rt; Fault::BadPage(0) != Fault::BadPage(1));
+    assert!(rt; Fault::NoSuchPage(1) != Fault::NoSuchPage(1 << 32 | 1));
 }
