@@ -70,7 +70,7 @@ none_among b t [] r h = refl
 none_among b t (e ∷ es) r h =
     or_from (eqb t e.tx) (is_among t (map tx_in es)) (ne_eqb t e.tx (λ i. omega (arith, i, r.0))) (none_among (suc e.tx) t es r.1 (omega (arith, r.0)))
 
-none_for : (b t : ℕ) (es : List TableEntry) → Rise b es → t < b → entry_for t es ≡ None
+pub none_for : (b t : ℕ) (es : List TableEntry) → Rise b es → t < b → entry_for t es ≡ None
 none_for b t [] r h = refl
 none_for b t (e ∷ es) r h =
     let d : eqb e.tx t ≡ false = ne_eqb e.tx t (λ i. omega (arith, i, r.0)) in

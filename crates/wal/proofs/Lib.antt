@@ -9,6 +9,7 @@ pub mod Bodies
 pub mod Glances
 pub mod Images
 pub mod Whole
+pub mod Causes
 pub mod Keeping
 pub mod Stacks
 pub mod Walks

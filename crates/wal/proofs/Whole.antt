@@ -25,10 +25,10 @@ bind_ok : {A B : Type 0} (r : Result A Fault) (f : A → Result B Fault) (y : B)
 bind_ok (Ok x) f y e = (x, refl, e)
 bind_ok (Err d) f y e = absurd cc
 
-abbrev done : {A : Type 0} → A → Result A Fault
+abbrev pub done : {A : Type 0} → A → Result A Fault
 done x = Ok x
 
-ok_is : {A : Type 0} (x y : A) → done x ≡ done y → x ≡ y
+pub ok_is : {A : Type 0} (x y : A) → done x ≡ done y → x ≡ y
 ok_is x y e = cc
 
 -- ---- one frame
@@ -83,7 +83,7 @@ body_size (CheckpointEnd begin transactions dirty) lsn fits =
     (omega (arith, a, b, c, d, e), omega (arith, a, b, c, d, e))
 
 -- a frame that stands in front is read
-frame_length : (r : LogRecord) (lsn : ℕ) (rest : List ℕ) → Fits r → length_of (frame r lsn ++ rest) ≡ length (body r lsn)
+pub frame_length : (r : LogRecord) (lsn : ℕ) (rest : List ℕ) → Fits r → length_of (frame r lsn ++ rest) ≡ length (body r lsn)
 frame_length r lsn rest fits =
     ap length_of (append_assoc (to_be_bytes w32 (length (body r lsn))) (body r lsn) rest)
     ∙ ap (from_be_bytes w32) (take_at (to_be_bytes w32 (length (body r lsn))) (body r lsn ++ rest) 4 refl)
@@ -92,13 +92,15 @@ frame_length r lsn rest fits =
 frame_body : (r : LogRecord) (lsn : ℕ) (rest : List ℕ) → drop 4 (frame r lsn ++ rest) ≡ body r lsn ++ rest
 frame_body r lsn rest = ap (drop 4) (append_assoc (to_be_bytes w32 (length (body r lsn))) (body r lsn) rest) ∙ drop_at (to_be_bytes w32 (length (body r lsn))) (body r lsn ++ rest) 4 refl
 
+pub right_body : (r : LogRecord) (lsn : ℕ) (rest : List ℕ) → Fits r → body_of (frame r lsn ++ rest) ≡ body r lsn
+right_body r lsn rest fits =
+    ap₂ (λ (n : ℕ) (x : List ℕ). take n x) (frame_length r lsn rest fits) (frame_body r lsn rest) ∙ take_at (body r lsn) rest (length (body r lsn)) refl
+
 frame_spells : (r : LogRecord) (lsn : ℕ) (rest : List ℕ) → Fits r → lsn < 2 ^ 64 → frame_at (frame r lsn ++ rest) ≡ Some (r, lsn)
 frame_spells r lsn rest fits lt =
-    ap₂ (λ n x. body_at (take n x)) (frame_length r lsn rest fits) (frame_body r lsn rest)
-    ∙ ap body_at (take_at (body r lsn) rest (length (body r lsn)) refl)
-    ∙ body_again r lsn fits lt
+    ap body_at (right_body r lsn rest fits) ∙ body_again r lsn fits lt
 
-frame_rest : (r : LogRecord) (lsn : ℕ) (rest : List ℕ) → drop (4 + length (body r lsn)) (frame r lsn ++ rest) ≡ rest
+pub frame_rest : (r : LogRecord) (lsn : ℕ) (rest : List ℕ) → drop (4 + length (body r lsn)) (frame r lsn ++ rest) ≡ rest
 frame_rest r lsn rest = drop_at (frame r lsn) rest (4 + length (body r lsn)) (omega (arith, length-append (to_be_bytes w32 (length (body r lsn))) (body r lsn)))
 
 pub frame_next : (r : LogRecord) (lsn offset : ℕ) (rest : List ℕ) → Fits r → lsn < 2 ^ 64 → next_at lsn offset (frame r lsn ++ rest) ≡ Ok (Some (r, 4 + length (body r lsn)))
@@ -259,7 +261,7 @@ judged_fault lsn offset bytes e fits whole (Some x) is h =
       | inl p ↦ absurd cc
       | inr p ↦
           (let inner = body_takes (body_of bytes) x.0 x.1 (IsBytes-take (length_of bytes) (drop 4 bytes) (IsBytes-drop 4 bytes fits)) is in
-          subst (λ d. HasFault d lsn offset bytes) (err_is {B = Option (LogRecord × ℕ)} (BadLsn offset) e p.1) (refl, whole, x.0, x.1, inner.1, inner.0, eqb-false _ _ p.0))
+          subst (λ d. HasFault d lsn offset bytes) (err_is {B = Option (LogRecord × ℕ)} (BadLsn offset) e p.1) (refl, whole, x.0, x.1, inner.1, inner.2, inner.0, eqb-false _ _ p.0))
     ]
 
 next_fault : (lsn offset : ℕ) (bytes : List ℕ) (e : Fault) → IsBytes bytes → next_at lsn offset bytes ≡ Err e → HasFault e lsn offset bytes
@@ -282,17 +284,17 @@ next_fault lsn offset bytes e fits h =
           ]
     ]
 
-fault_next : (limit lsn offset : ℕ) (bytes : List ℕ) (e : Fault) → IsBytes bytes
-    → ((size : ℕ) → frames_at limit (lsn + 1) (offset + size) (drop size bytes) ≡ Err e → FaultBehind (lsn + 1) (offset + size) (drop size bytes) e)
+fault_next : (limit lsn offset : ℕ) (bytes : List ℕ) (e : Fault) → IsBytes bytes → lsn + length bytes < 2 ^ 64
+    → ((size : ℕ) → lsn + 1 + length (drop size bytes) < 2 ^ 64 → frames_at limit (lsn + 1) (offset + size) (drop size bytes) ≡ Err e → FaultBehind (lsn + 1) (offset + size) (drop size bytes) e)
     → (o : Option (LogRecord × ℕ)) → next_at lsn offset bytes ≡ Ok o → followed bytes (λ size. frames_at limit (lsn + 1) (offset + size) (drop size bytes)) o ≡ Err e → FaultBehind lsn offset bytes e
-fault_next limit lsn offset bytes e fits others None n h = absurd cc
-fault_next limit lsn offset bytes e fits others (Some y) n h =
+fault_next limit lsn offset bytes e fits room others None n h = absurd cc
+fault_next limit lsn offset bytes e fits room others (Some y) n h =
     let found = next_is lsn offset bytes y.0 y.1 n in
     let one = found_frame lsn bytes y.0 y.1 fits found in
     elim (bind_err (frames_at limit (lsn + 1) (offset + y.1) (drop y.1 bytes)) (λ z. Ok (y.0 ∷ z.0, z.1)) e h) [
       | inr p ↦ absurd cc
       | inl p ↦
-          (let behind = others y.1 p in
+          (let behind = others y.1 (omega (arith, room, length-drop y.1 bytes, found.size_is, found.whole)) p in
           let size : y.1 ≡ length (frame y.0 lsn) = omega (arith, ap length one.0, length-append (frame y.0 lsn) (drop y.1 bytes), length-drop y.1 bytes, found.size_is, found.whole) in
           let place : (offset + y.1) + length (spellings (lsn + 1) behind.records) ≡ offset + length (spellings lsn (y.0 ∷ behind.records)) = omega (arith, size, length-append (frame y.0 lsn) (spellings (lsn + 1) behind.records)) in
           let number : lsn + 1 + length behind.records ≡ lsn + length (y.0 ∷ behind.records) = omega arith in
@@ -301,36 +303,40 @@ fault_next limit lsn offset bytes e fits others (Some y) n h =
             rest = behind.rest;
             text = one.0 ∙ ap (λ (t : List ℕ). frame y.0 lsn ++ t) behind.text ∙ sym (append_assoc (frame y.0 lsn) (spellings (lsn + 1) behind.records) behind.rest);
             each = (one.1, behind.each);
+            few = omega (arith, number, behind.few);
             fault = subst (λ k. HasFault e k (offset + length (spellings lsn (y.0 ∷ behind.records))) behind.rest) number (subst (λ k. HasFault e (lsn + 1 + length behind.records) k behind.rest) place behind.fault);
           })
     ]
 
-frames_fault : (limit lsn offset : ℕ) (bytes : List ℕ) (e : Fault) → IsBytes bytes → frames_at limit lsn offset bytes ≡ Err e → FaultBehind lsn offset bytes e
+frames_fault : (limit lsn offset : ℕ) (bytes : List ℕ) (e : Fault) → IsBytes bytes → lsn + length bytes < 2 ^ 64 → frames_at limit lsn offset bytes ≡ Err e → FaultBehind lsn offset bytes e
 unfolding frames_at
-frames_fault zero lsn offset bytes e fits h = absurd cc
-frames_fault (suc limit) lsn offset bytes e fits h =
+frames_fault zero lsn offset bytes e fits room h = absurd cc
+frames_fault (suc limit) lsn offset bytes e fits room h =
     elim (bind_err (next_at lsn offset bytes) (followed bytes (λ size. frames_at limit (lsn + 1) (offset + size) (drop size bytes))) e h) [
       | inl p ↦ (let here = next_fault lsn offset bytes e fits p in
-          record { records = []; rest = bytes; text = refl; each = tt; fault = subst (λ n. HasFault e n (offset + 0) bytes) (omega arith) (subst (λ o. HasFault e lsn o bytes) (omega arith) here) })
-      | inr p ↦ fault_next limit lsn offset bytes e fits (λ size f. frames_fault limit (lsn + 1) (offset + size) (drop size bytes) e (IsBytes-drop size bytes fits) f) p.0 p.1 p.2
+          record { records = []; rest = bytes; text = refl; each = tt; few = omega (arith, room); fault = subst (λ n. HasFault e n (offset + 0) bytes) (omega arith) (subst (λ o. HasFault e lsn o bytes) (omega arith) here) })
+      | inr p ↦ fault_next limit lsn offset bytes e fits room (λ size more f. frames_fault limit (lsn + 1) (offset + size) (drop size bytes) e (IsBytes-drop size bytes fits) more f) p.0 p.1 p.2
     ]
 
-log_fault : (bytes : List ℕ) (e : Fault) → IsBytes bytes → log_at bytes ≡ Err e → ((bytes ≡ header ++ drop 8 bytes) × FaultBehind 1 8 (drop 8 bytes) e) ⊎ ((starts_with eqb bytes header ≡ false) × (BadLogHeader ≡ e))
+log_fault : (bytes : List ℕ) (e : Fault) → IsBytes bytes → length bytes < 2 ^ 64 → log_at bytes ≡ Err e → ((bytes ≡ header ++ drop 8 bytes) × FaultBehind 1 8 (drop 8 bytes) e) ⊎ ((starts_with eqb bytes header ≡ false) × (BadLogHeader ≡ e))
 unfolding log_at
-log_fault bytes e fits h =
+log_fault bytes e fits short h =
     elim (chosen (starts_with eqb bytes header) _ _ _ h) [
-      | inl p ↦ inl ((starts_is Decides-eqb bytes header (starts_with eqb bytes header) refl).0 p.0, frames_fault (length bytes) 1 8 (drop 8 bytes) e (IsBytes-drop 8 bytes fits) p.1)
+      | inl p ↦
+          (let front : bytes ≡ header ++ drop 8 bytes = (starts_is Decides-eqb bytes header (starts_with eqb bytes header) refl).0 p.0 in
+          let room : 1 + length (drop 8 bytes) < 2 ^ 64 = omega (arith, short, ap length front) in
+          inl (front, frames_fault (length bytes) 1 8 (drop 8 bytes) e (IsBytes-drop 8 bytes fits) room p.1))
       | inr p ↦ inr (p.0, err_is {B = List LogRecord × ℕ} BadLogHeader e p.1)
     ]
 
 no_header : (bytes : List ℕ) → starts_with eqb bytes header ≡ false → (rest : List ℕ) → bytes ≢ header ++ rest
 no_header bytes e rest text = both_ways (starts_with eqb bytes header) e ((starts_is Decides-eqb bytes header (starts_with eqb bytes header) refl).1 rest text)
 
-cause : (bytes : List ℕ) (e : Fault) → IsBytes bytes → Fails e (log_at bytes) → Cause bytes e
-cause bytes NoResource fits h = tt
-cause bytes BadLogHeader fits h = elim (log_fault bytes BadLogHeader fits h) [ inl p ↦ absurd p.1.fault | inr p ↦ no_header bytes p.0 ]
-cause bytes e fits h = elim (log_fault bytes e fits h) [ inl p ↦ p | inr p ↦ absurd cc ]
+cause : (bytes : List ℕ) (e : Fault) → IsBytes bytes → length bytes < 2 ^ 64 → Fails e (log_at bytes) → Cause bytes e
+cause bytes NoResource fits short h = tt
+cause bytes BadLogHeader fits short h = elim (log_fault bytes BadLogHeader fits short h) [ inl p ↦ absurd p.1.fault | inr p ↦ no_header bytes p.0 ]
+cause bytes e fits short h = elim (log_fault bytes e fits short h) [ inl p ↦ p | inr p ↦ absurd cc ]
 
-pub is_cause : {X : Type 0} (view : X → List LogRecord × ℕ) (bytes : List ℕ) (r : Result X Fault) → IsBytes bytes → Gives view r (log_at bytes) → IfErr r (λ e. Cause bytes e)
-is_cause view bytes (Ok x) fits given = tt
-is_cause view bytes (Err e) fits given = cause bytes e fits given
+pub is_cause : {X : Type 0} (view : X → List LogRecord × ℕ) (bytes : List ℕ) (r : Result X Fault) → IsBytes bytes → length bytes < 2 ^ 64 → Gives view r (log_at bytes) → IfErr r (λ e. Cause bytes e)
+is_cause view bytes (Ok x) fits short given = tt
+is_cause view bytes (Err e) fits short given = cause bytes e fits short given

@@ -2,6 +2,7 @@
 use Rattle.std.specs.Prelude.{◌≡◌, ◌≢◌, ℕ, ◌+◌, ◌<◌, ◌≤◌, ◌^◌, List, [], ◌∷◌, ◌++◌, length, drop, ◌⊎◌}
 use Rattle.std.specs.List.{AllByRecursion}
 use Rattle.wal.specs.Records.{LogRecord}
+use Rattle.page.specs.Causes.{HasOneCause, HasNoCause}
 use Rattle.wal.specs.Spelling.{body, frame, Fits}
 use Rattle.page.specs.declared.fault.Fault.{Fault}
 use Rattle.page.specs.declared.fault.Fault.TheVariants.{NoResource, BadLogHeader, BadLength, BadRecord, BadLsn}
@@ -39,7 +40,7 @@ IsWhole bytes = (9 ≤ length_of bytes) × (length_of bytes ≤ 70681) × (4 + l
 abbrev pub HasFault : Fault → (lsn offset : ℕ) → List ℕ → Type 0
 HasFault (BadLength place) lsn offset bytes = (place ≡ offset) × (4 ≤ length bytes) × ((length_of bytes < 9) ⊎ (70681 < length_of bytes))
 HasFault (BadRecord place) lsn offset bytes = (place ≡ offset) × IsWhole bytes × ((r : LogRecord) (n : ℕ) → Fits r → n < 2 ^ 64 → body_of bytes ≢ body r n)
-HasFault (BadLsn place) lsn offset bytes = (place ≡ offset) × IsWhole bytes × (r : LogRecord) × (n : ℕ) × Fits r × (body_of bytes ≡ body r n) × (n ≢ lsn)
+HasFault (BadLsn place) lsn offset bytes = (place ≡ offset) × IsWhole bytes × (r : LogRecord) × (n : ℕ) × Fits r × (n < 2 ^ 64) × (body_of bytes ≡ body r n) × (n ≢ lsn)
 HasFault e lsn offset bytes = ⊥
 
 -- whole frames with right LSNs, and behind them the fault
@@ -48,6 +49,7 @@ pub record FaultBehind (lsn offset : ℕ) (bytes : List ℕ) (e : Fault) : Type 
   pub rest : List ℕ
   pub text : bytes ≡ spellings lsn records ++ rest
   pub each : AllByRecursion Fits records
+  pub few : lsn + length records < 2 ^ 64
   pub fault : HasFault e (lsn + length records) (offset + length (spellings lsn records)) rest
 
 -- why a log is refused, memory aside
@@ -55,3 +57,11 @@ abbrev pub Cause : List ℕ → Fault → Type 0
 Cause bytes NoResource = Unit {0}
 Cause bytes BadLogHeader = (rest : List ℕ) → bytes ≢ header ++ rest
 Cause bytes e = (bytes ≡ header ++ drop 8 bytes) × FaultBehind 1 8 (drop 8 bytes) e
+
+-- a text that is no log is refused for one cause
+abbrev pub OneLogFault : Type 0
+OneLogFault = (bytes : List ℕ) → HasOneCause (Cause bytes)
+
+-- and one that is a log for none
+abbrev pub NoFaultOfALog : Type 0
+NoFaultOfALog = (bytes : List ℕ) (records : List LogRecord) (torn : ℕ) → Reads bytes records torn → HasNoCause (Cause bytes)

@@ -1,11 +1,21 @@
 //! Laws of logs. Each function is its law: what it ensures holds of the definitions alone.
 
-ghost use Rattle.wal.specs.Reads.{OneReading};
+ghost use Rattle.wal.specs.Reads.{OneReading, OneLogFault, NoFaultOfALog};
 ghost use Rattle.wal.specs.Theorems.{LawfulByRecord, HopsMeetPending, ReplayIsWinners, TailSettles, LosersEnd, CutsResume, RedoReplays, RedoSuffices, UndoIsTail, StoreSettles, RestartGoesOn, CutsSettle, CutsCompose};
 
 /// No text is two logs.
 pub fn one_reading()
     ensures { OneReading }
+{}
+
+/// No text is refused as a log for two causes, want of memory aside.
+pub fn one_log_fault()
+    ensures { OneLogFault }
+{}
+
+/// No text that is a log is refused as one, want of memory aside.
+pub fn no_fault_of_a_log()
+    ensures { NoFaultOfALog }
 {}
 
 /// A log is lawful exactly where each record obeys the laws after those before it.

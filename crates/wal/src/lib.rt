@@ -21,8 +21,8 @@ pub use frame::write_frame;
 pub use glance::Glance;
 pub use laws::{
     cuts_compose, cuts_resume, cuts_settle, hops_meet_pending, lawful_by_record, losers_end,
-    one_reading, redo_replays, redo_suffices, replay_is_winners, restart_goes_on, store_settles,
-    tail_settles, undo_is_tail,
+    no_fault_of_a_log, one_log_fault, one_reading, redo_replays, redo_suffices, replay_is_winners,
+    restart_goes_on, store_settles, tail_settles, undo_is_tail,
 };
 pub use log::{Log, read_log};
 pub use record::{Entry, Record, State};

@@ -125,3 +125,65 @@ fn refused_growth_leaves_the_vector(rt: HostRuntime) -> Result<(), Fail> {
     assert_eq!(rt; out.len() % 25, 0);
     Ok(())
 }
+
+#[test]
+fn writes_the_largest_numbers(rt: HostRuntime) -> Result<(), Fail> {
+    let tx = u32::MAX;
+    let prev = u64::MAX;
+    let plain = [
+        (3, Record::Commit { tx, prev }),
+        (4, Record::Abort { tx, prev }),
+        (5, Record::End { tx, prev }),
+    ];
+    for (kind, record) in plain {
+        let mut out = Vec::new(rt.alloc());
+        put(&rt, &mut out, u64::MAX, record)?;
+        let mut expected = Vec::from_slice(rt.alloc(), &[0, 0, 0, 21, kind])?;
+        expected.extend_from_slice(&[0xff; 20])?;
+        assert_eq!(rt; out.as_slice(), expected.as_slice());
+    }
+    let mut out = Vec::new(rt.alloc());
+    put(
+        &rt,
+        &mut out,
+        u64::MAX,
+        Record::Update {
+            tx,
+            prev,
+            page: u32::MAX,
+            slot: 15,
+            before: None,
+            after: None,
+        },
+    )?;
+    let mut expected = Vec::from_slice(rt.alloc(), &[0, 0, 0, 28, 1])?;
+    expected.extend_from_slice(&[0xff; 24])?;
+    expected.extend_from_slice(&[15, 0xff, 0xff])?;
+    assert_eq!(rt; out.as_slice(), expected.as_slice());
+    Ok(())
+}
+
+#[test]
+fn entries_are_told_apart(rt: HostRuntime) {
+    let entry = Entry {
+        state: State::Active,
+        last: 5,
+        undo_next: 4,
+    };
+    let others = [
+        Entry {
+            state: State::Aborting,
+            ..entry
+        },
+        Entry { last: 6, ..entry },
+        Entry {
+            undo_next: 0,
+            ..entry
+        },
+    ];
+    assert_eq!(rt; entry, entry);
+    for other in others {
+        assert!(rt; entry != other);
+    }
+    assert!(rt; State::Active != State::Aborting);
+}
