@@ -10,9 +10,9 @@ use Rattle.wal.specs.Records.{TableEntry, LogRecord, History, history}
 use Rattle.wal.specs.Laws.{Obeys, IsLawful}
 use Rattle.wal.specs.Store.{NamesPages, PageLaw, CheckpointLaw, Lawful}
 use Rattle.wal.proofs.Lists.{lawful_by_record}
-use Rattle.audit.specs.FirstFault.{BrokenAt, RecordFault, FirstBroken, BrokenPage, PagesFault, FirstBrokenPage, KeepsDirty, Names, MasterFault, FirstFault}
+use Rattle.audit.specs.FirstFault.{BrokenAt, RecordFault, FirstBroken, BrokenPage, PagesFault, FirstBrokenPage, KeepsDirty, Names, MasterFault, FirstFault, NoFaultOfTheLawful}
 
-not_broken : (count : ℕ) (log : History) (r : LogRecord) (e : Fault) → NamesPages count r → Obeys log r → BrokenAt count log r e → ⊥
+pub not_broken : (count : ℕ) (log : History) (r : LogRecord) (e : Fault) → NamesPages count r → Obeys log r → BrokenAt count log r e → ⊥
 not_broken count log r (NoSuchPage n) named o b = b.1 named
 not_broken count log r (Chain n) named o b = b.2 o.chain
 not_broken count log r (AfterFinish n) named o b = b.3 o.finish
@@ -22,7 +22,7 @@ not_broken count log r (DirtyWrite n) named o b = b.5 o.strict
 not_broken count log r (BeforeImage n) named o b = b.6 o.before
 not_broken count log r _ named o b = b
 
-none_broken : (count : ℕ) (xs : List LogRecord) (e : Fault) → IsLawful (history xs) → All (NamesPages count) xs → FirstBroken count xs e → ⊥
+pub none_broken : (count : ℕ) (xs : List LogRecord) (e : Fault) → IsLawful (history xs) → All (NamesPages count) xs → FirstBroken count xs e → ⊥
 none_broken count xs e lawful named f =
     let within : f.place < length xs = slice_get_within xs f.place f.entry f.there in
     let is : get_or xs f.place f.entry ≡ f.entry = get_or_from_slice_get xs f.place f.entry f.entry f.there in
@@ -34,7 +34,7 @@ records_kept : (count : ℕ) (xs : List LogRecord) (e : Fault) → IsLawful (his
 records_kept count xs NoResource lawful named f = refl
 records_kept count xs e lawful named f = absurd (none_broken count xs e lawful named f)
 
-page_not_broken : (log : History) (page : Page) (e : Fault) → PageLaw log page → BrokenPage log page e → ⊥
+pub page_not_broken : (log : History) (page : Page) (e : Fault) → PageLaw log page → BrokenPage log page e → ⊥
 page_not_broken log page (PageAheadOfLog n) law b = (let w = law.within in let a = b.1 in omega (arith, w, a))
 page_not_broken log page (PageImage n) law b = b.2 law
 page_not_broken log page _ law b = b
@@ -42,7 +42,7 @@ page_not_broken log page _ law b = b
 at_place : (P : Page → Type 0) (pages : List Page) (place : ℕ) (page : Page) → slice_get pages place ≡ Some page → All P pages → P page
 at_place P pages place page there all = subst P (get_or_from_slice_get pages place page page there) (all place page (slice_get_within pages place page there))
 
-none_broken_page : (log : History) (pages : List Page) (e : Fault) → All (PageLaw log) pages → FirstBrokenPage log pages e → ⊥
+pub none_broken_page : (log : History) (pages : List Page) (e : Fault) → All (PageLaw log) pages → FirstBrokenPage log pages e → ⊥
 none_broken_page log pages e all f = page_not_broken log f.page e (at_place (PageLaw log) pages f.place f.page f.there all) f.broken
 
 pages_kept : (log : History) (pages : List Page) (e : Fault) → All (PageLaw log) pages → PagesFault log pages e → e ≡ NoResource
@@ -62,10 +62,10 @@ module _ (log : History) (m : ℕ) (ts ts' : List TableEntry) (d d' : List (ℕ 
   same_tables : ◌≡◌ {A = Option (List TableEntry × List (ℕ × ℕ))} (Some (ts, d)) (Some (ts', d'))
   same_tables = sym x.named ∙ y.named
 
-  same_transactions : ts ≡ ts'
+  pub same_transactions : ts ≡ ts'
   same_transactions = ap (transactions_or ts) same_tables
 
-  same_dirty : d ≡ d'
+  pub same_dirty : d ≡ d'
   same_dirty = ap (dirty_or d) same_tables
 
 master_kept : (log : History) (pages : List Page) (m : ℕ) (e : Fault) → CheckpointLaw log pages m → MasterFault log pages m e → e ≡ NoResource
@@ -90,8 +90,8 @@ master_kept log pages m (DirtyTable n) law f =
     ]
 master_kept log pages m _ law f = absurd f
 
-fault_kept : (records : List LogRecord) (store : StoreContent) (e : Fault) → Lawful records store → FirstFault records store e → e ≡ NoResource
-fault_kept records store e lawful f =
+pub fault_kept : NoFaultOfTheLawful
+fault_kept records store lawful e f =
     elim f [
       | inl a ↦ records_kept (length store.pages) records e lawful.log lawful.names_pages a
       | inr b ↦
@@ -103,4 +103,4 @@ fault_kept records store e lawful f =
 
 pub lawful_kept : (records : List LogRecord) (store : StoreContent) (r : Result (Unit {0}) Fault) → Lawful records store → IfErr r (FirstFault records store) → IfErr r (λ e. e ≡ NoResource)
 lawful_kept records store (Ok x) lawful f = tt
-lawful_kept records store (Err e) lawful f = fault_kept records store e lawful f
+lawful_kept records store (Err e) lawful f = fault_kept records store lawful e f

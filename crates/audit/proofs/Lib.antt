@@ -8,3 +8,4 @@ pub mod Losers
 pub mod TrueTable
 pub mod Missing
 pub mod Kept
+pub mod OneFault

@@ -6,8 +6,9 @@ use Rattle.page.specs.declared.page.Page.{Page}
 use Rattle.wal.specs.Records.{LogRecord, TableEntry, CheckpointBegin, History, history, size, record_at, first}
 use Rattle.wal.specs.Laws.{ChainLaw, FinishLaw, CompensationLaw, BeforeLaw, Strictness, IsLawful}
 use Rattle.wal.specs.Tail.{is_end}
-use Rattle.wal.specs.Store.{NamesPages, PageLaw, DirtyLaw, first_end, true_table}
+use Rattle.wal.specs.Store.{NamesPages, PageLaw, DirtyLaw, Lawful, first_end, true_table}
 use Rattle.wal.specs.Redo.{rec_lsn_of}
+use Rattle.page.specs.Causes.{HasOneCause, HasNoCause}
 use Rattle.page.specs.Store.{StoreContent}
 
 -- the fault names the record behind this log and the first law that the record breaks there
@@ -103,3 +104,11 @@ FirstFault records store e =
     RecordFault (length store.pages) records e
     ⊎ ((AreSound (length store.pages) records × PagesFault (history records) store.pages e)
     ⊎ (AreSound (length store.pages) records × All (PageLaw (history records)) store.pages × MasterFault (history records) store.pages store.master e))
+
+-- an input that is not lawful has one first fault
+abbrev pub OneFirstFault : Type 0
+OneFirstFault = (records : List LogRecord) (store : StoreContent) → HasOneCause (FirstFault records store)
+
+-- and a lawful one has none
+abbrev pub NoFaultOfTheLawful : Type 0
+NoFaultOfTheLawful = (records : List LogRecord) (store : StoreContent) → Lawful records store → HasNoCause (FirstFault records store)

@@ -3,6 +3,7 @@
 
 mod decide;
 mod dirty;
+mod laws;
 mod master;
 mod pages;
 mod records;
@@ -12,4 +13,5 @@ mod standing;
 mod tests;
 mod verdict;
 
+pub use laws::{no_fault_of_the_lawful, one_first_fault};
 pub use verdict::audit;

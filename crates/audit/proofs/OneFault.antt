@@ -1,0 +1,218 @@
+-- An input that is not lawful has one first fault.
+use Rattle.std.proofs.Common.{◌≡◌, ◌⊎◌, ◌<◌, ℕ, suc, List, length, take, get_or, Some, cond, refl, sym, ap, subst, ◌∙◌, inl, inr, arith}
+use Rattle.std.specs.Prelude.{All, slice_get}
+use Rattle.std.proofs.lemmas.List.{get_or-take, length-take, take-take}
+use Rattle.std.proofs.lemmas.Option.{slice_get_within, get_or_from_slice_get}
+use Rattle.page.specs.declared.fault.Fault.{Fault}
+use Rattle.page.specs.declared.fault.Fault.TheVariants.{NoResource, NoSuchPage, Chain, AfterFinish, WrongCompensation, BeforeImage, DirtyWrite, EndTooEarly, PageAheadOfLog, PageImage, BadMaster, TransactionTable, DirtyTable}
+use Rattle.page.specs.declared.page.Page.{Page}
+use Rattle.page.specs.Causes.{HasOneCause}
+use Rattle.page.specs.Store.{StoreContent}
+use Rattle.wal.specs.Records.{LogRecord, History, history, size}
+use Rattle.wal.specs.Laws.{ChainLaw, FinishLaw, CompensationLaw, BeforeLaw, Strictness, Obeys}
+use Rattle.wal.specs.Tail.{is_end}
+use Rattle.wal.specs.Store.{NamesPages, PageLaw}
+use Rattle.wal.proofs.Lists.{lawful_by_record}
+use Rattle.audit.specs.FirstFault.{BrokenAt, AreSound, RecordFault, FirstBroken, BrokenPage, PagesFault, FirstBrokenPage, KeepsDirty, FirstUncovered, MasterFault, FirstFault, OneFirstFault}
+use Rattle.audit.proofs.Kept.{not_broken, none_broken, page_not_broken, none_broken_page, same_transactions, same_dirty}
+
+-- A LAW BEFORE OTHERS
+-- it is broken, which is this fault; or it holds, and the fault is one of the others
+abbrev Either : Type 0 → Fault → (Fault → Type 0) → Fault → Type 0
+Either Law fault Others e = ((Law → ⊥) × (e ≡ fault)) ⊎ (Law × Others e)
+
+abbrev IsOne : (Fault → Type 0) → Type 0
+IsOne Faults = (d e : Fault) → Faults d → Faults e → d ≡ e
+
+one_of : (Law : Type 0) (fault : Fault) (Others : Fault → Type 0) → IsOne Others → IsOne (Either Law fault Others)
+one_of Law fault Others others d e x y =
+    elim x [
+      | inl a ↦ elim y [ inl b ↦ a.1 ∙ sym b.1 | inr b ↦ absurd (a.0 b.0) ]
+      | inr a ↦ elim y [ inl b ↦ absurd (b.0 a.0) | inr b ↦ others d e a.1 b.1 ]
+    ]
+
+abbrev NoOther : Fault → Type 0
+NoOther e = ⊥
+
+no_other : IsOne NoOther
+no_other d e x y = absurd x
+
+-- WHAT STANDS BEFORE A PLACE
+before : {X : Type 0} (P : X → Type 0) (xs : List X) (i j : ℕ) (x : X) → slice_get xs i ≡ Some x → i < j → All P (take j xs) → P x
+before P xs i j x there lt all =
+    let within : i < length xs = slice_get_within xs i x there in
+    subst P (get_or-take j xs i x lt ∙ get_or_from_slice_get xs i x x there) (all i x (omega (arith, length-take j xs, within, lt)))
+
+same_at : {X : Type 0} (xs : List X) (i j : ℕ) (x y : X) → slice_get xs i ≡ Some x → slice_get xs j ≡ Some y → i ≡ j → x ≡ y
+same_at xs i j x y a b e = (let c : Some x ≡ Some y = sym a ∙ ap (slice_get xs) e ∙ b in cc)
+
+-- RECORDS
+abbrev compensation_fault : LogRecord → ℕ → Fault
+compensation_fault r lsn = cond (is_end r) (EndTooEarly lsn) (WrongCompensation lsn)
+
+-- the laws of a record in the order in which they are looked at
+abbrev RecordFaults : ℕ → History → LogRecord → Fault → Type 0
+RecordFaults count log r =
+    let lsn = suc (size log) in
+    Either (NamesPages count r) (NoSuchPage lsn)
+    (Either (ChainLaw log r) (Chain lsn)
+    (Either (FinishLaw log r) (AfterFinish lsn)
+    (Either (CompensationLaw log r) (compensation_fault r lsn)
+    (Either (Strictness log r) (DirtyWrite lsn)
+    (Either (BeforeLaw log r) (BeforeImage lsn) NoOther)))))
+
+in_order : (count : ℕ) (log : History) (r : LogRecord) (e : Fault) → BrokenAt count log r e → RecordFaults count log r e
+in_order count log r (NoSuchPage n) b = inl (b.1, ap (λ k. NoSuchPage k) b.0)
+in_order count log r (Chain n) b = inr (b.1, inl (b.2, ap (λ k. Chain k) b.0))
+in_order count log r (AfterFinish n) b = inr (b.1, inr (b.2, inl (b.3, ap (λ k. AfterFinish k) b.0)))
+in_order count log r (WrongCompensation n) b =
+    let is : compensation_fault r (suc (size log)) ≡ WrongCompensation (suc (size log)) = ap (λ x. cond x (EndTooEarly (suc (size log))) (WrongCompensation (suc (size log)))) b.4 in
+    inr (b.1, inr (b.2, inr (b.3, inl (b.5, ap (λ k. WrongCompensation k) b.0 ∙ sym is))))
+in_order count log r (EndTooEarly n) b =
+    let is : compensation_fault r (suc (size log)) ≡ EndTooEarly (suc (size log)) = ap (λ x. cond x (EndTooEarly (suc (size log))) (WrongCompensation (suc (size log)))) b.4 in
+    inr (b.1, inr (b.2, inr (b.3, inl (b.5, ap (λ k. EndTooEarly k) b.0 ∙ sym is))))
+in_order count log r (DirtyWrite n) b = inr (b.1, inr (b.2, inr (b.3, inr (b.4, inl (b.5, ap (λ k. DirtyWrite k) b.0)))))
+in_order count log r (BeforeImage n) b = inr (b.1, inr (b.2, inr (b.3, inr (b.4, inr (b.5, inl (b.6, ap (λ k. BeforeImage k) b.0))))))
+in_order count log r _ b = absurd b
+
+one_broken : (count : ℕ) (log : History) (r : LogRecord) → IsOne (BrokenAt count log r)
+one_broken count log r d e x y =
+    let lsn = suc (size log) in
+    one_of (NamesPages count r) (NoSuchPage lsn) _
+    (one_of (ChainLaw log r) (Chain lsn) _
+    (one_of (FinishLaw log r) (AfterFinish lsn) _
+    (one_of (CompensationLaw log r) (compensation_fault r lsn) _
+    (one_of (Strictness log r) (DirtyWrite lsn) _
+    (one_of (BeforeLaw log r) (BeforeImage lsn) _ no_other)))))
+    d e (in_order count log r d x) (in_order count log r e y)
+
+-- what stands before a sound record is not broken
+not_sound : (count : ℕ) (xs : List LogRecord) (d e : Fault) (x : FirstBroken count xs d) (y : FirstBroken count xs e) → x.place < y.place → ⊥
+not_sound count xs d e x y lt =
+    let front = take y.place xs in
+    let within : x.place < length xs = slice_get_within xs x.place x.entry x.there in
+    let inside : x.place < length front = omega (arith, length-take y.place xs, within, lt) in
+    let is : get_or front x.place x.entry ≡ x.entry = get_or-take y.place xs x.place x.entry lt ∙ get_or_from_slice_get xs x.place x.entry x.entry x.there in
+    let obeys : Obeys (history (take x.place xs)) x.entry =
+    subst (λ (rs : List LogRecord). Obeys (history rs) x.entry) (take-take x.place y.place xs (omega (arith, lt)))
+    (subst (Obeys (history (take x.place front))) is ((lawful_by_record front).0 y.before.lawful x.place x.entry inside)) in
+    not_broken count (history (take x.place xs)) x.entry d (before (NamesPages count) xs x.place y.place x.entry x.there lt y.before.named) obeys x.broken
+
+one_record_fault : (count : ℕ) (xs : List LogRecord) → IsOne (FirstBroken count xs)
+one_record_fault count xs d e x y =
+    let place : x.place ≡ y.place = omega (arith, not_sound count xs d e x y, not_sound count xs e d y x) in
+    let entry : x.entry ≡ y.entry = same_at xs x.place y.place x.entry y.entry x.there y.there place in
+    one_broken count (history (take y.place xs)) y.entry d e
+    (subst (λ (r : LogRecord). BrokenAt count (history (take y.place xs)) r d) entry
+    (subst (λ n. BrokenAt count (history (take n xs)) x.entry d) place x.broken))
+    y.broken
+
+-- PAGES
+one_broken_page : (log : History) (page : Page) → IsOne (BrokenPage log page)
+one_broken_page log page (PageAheadOfLog n) (PageAheadOfLog m) x y = ap (λ k. PageAheadOfLog k) (x.0 ∙ sym y.0)
+one_broken_page log page (PageAheadOfLog n) (PageImage m) x y = absurd (omega (arith, x.1, y.1))
+one_broken_page log page (PageAheadOfLog n) _ x y = absurd y
+one_broken_page log page (PageImage n) (PageAheadOfLog m) x y = absurd (omega (arith, x.1, y.1))
+one_broken_page log page (PageImage n) (PageImage m) x y = ap (λ k. PageImage k) (x.0 ∙ sym y.0)
+one_broken_page log page (PageImage n) _ x y = absurd y
+one_broken_page log page _ e x y = absurd x
+
+not_kept : (log : History) (pages : List Page) (d e : Fault) (x : FirstBrokenPage log pages d) (y : FirstBrokenPage log pages e) → x.place < y.place → ⊥
+not_kept log pages d e x y lt = page_not_broken log x.page d (before (PageLaw log) pages x.place y.place x.page x.there lt y.before) x.broken
+
+one_page_fault : (log : History) (pages : List Page) → IsOne (FirstBrokenPage log pages)
+one_page_fault log pages d e x y =
+    let place : x.place ≡ y.place = omega (arith, not_kept log pages d e x y, not_kept log pages e d y x) in
+    let page : x.page ≡ y.page = same_at pages x.place y.place x.page y.page x.there y.there place in
+    one_broken_page log y.page d e (subst (λ (p : Page). BrokenPage log p d) page x.broken) y.broken
+
+-- THE CHECKPOINT
+not_covered : (log : History) (m : ℕ) (dirty : List (ℕ × ℕ)) (pages : List Page) (d e : Fault) (x : FirstUncovered log m dirty pages d) (y : FirstUncovered log m dirty pages e)
+    → x.place < y.place → ⊥
+not_covered log m dirty pages d e x y lt = x.broken (before (KeepsDirty log m dirty) pages x.place y.place x.page x.there lt y.before)
+
+one_uncovered : (log : History) (m : ℕ) (dirty : List (ℕ × ℕ)) (pages : List Page) → IsOne (FirstUncovered log m dirty pages)
+one_uncovered log m dirty pages d e x y =
+    let place : x.place ≡ y.place = omega (arith, not_covered log m dirty pages d e x y, not_covered log m dirty pages e d y x) in
+    let page : x.page ≡ y.page = same_at pages x.place y.place x.page y.page x.there y.there place in
+    x.fault ∙ ap (λ (p : Page). DirtyTable p.number) page ∙ sym y.fault
+
+one_master_fault : (log : History) (pages : List Page) (m : ℕ) → HasOneCause (MasterFault log pages m)
+one_master_fault log pages m NoResource e some other x y = absurd (some refl)
+one_master_fault log pages m BadMaster NoResource some other x y = absurd (other refl)
+one_master_fault log pages m BadMaster BadMaster some other x y = refl
+one_master_fault log pages m BadMaster TransactionTable some other x y = absurd (x.1 y.1.0 y.1.1 y.1.2)
+one_master_fault log pages m BadMaster (DirtyTable b) some other x y = absurd (x.1 y.1.0 y.1.1 y.1.2)
+one_master_fault log pages m BadMaster _ some other x y = absurd y
+one_master_fault log pages m TransactionTable NoResource some other x y = absurd (other refl)
+one_master_fault log pages m TransactionTable BadMaster some other x y = absurd (y.1 x.1.0 x.1.1 x.1.2)
+one_master_fault log pages m TransactionTable TransactionTable some other x y = refl
+one_master_fault log pages m TransactionTable (DirtyTable b) some other x y =
+    absurd (x.1.3 (same_transactions log m x.1.0 y.1.0 x.1.1 y.1.1 x.1.2 y.1.2 ∙ y.1.3))
+one_master_fault log pages m TransactionTable _ some other x y = absurd y
+one_master_fault log pages m (DirtyTable a) NoResource some other x y = absurd (other refl)
+one_master_fault log pages m (DirtyTable a) BadMaster some other x y = absurd (y.1 x.1.0 x.1.1 x.1.2)
+one_master_fault log pages m (DirtyTable a) TransactionTable some other x y =
+    absurd (y.1.3 (same_transactions log m y.1.0 x.1.0 y.1.1 x.1.1 y.1.2 x.1.2 ∙ x.1.3))
+one_master_fault log pages m (DirtyTable a) (DirtyTable b) some other x y =
+    one_uncovered log m y.1.1 pages (DirtyTable a) (DirtyTable b)
+    (subst (λ dirty. FirstUncovered log m dirty pages (DirtyTable a)) (same_dirty log m x.1.0 y.1.0 x.1.1 y.1.1 x.1.2 y.1.2) x.1.4)
+    y.1.4
+one_master_fault log pages m (DirtyTable a) _ some other x y = absurd y
+one_master_fault log pages m _ e some other x y = absurd x
+
+-- ALL THREE
+records_broken : (count : ℕ) (records : List LogRecord) (e : Fault) → (e ≡ NoResource → ⊥) → RecordFault count records e → FirstBroken count records e
+records_broken count records NoResource some x = absurd (some refl)
+records_broken count records e some x = x
+
+pages_broken : (log : History) (pages : List Page) (e : Fault) → (e ≡ NoResource → ⊥) → PagesFault log pages e → FirstBrokenPage log pages e
+pages_broken log pages NoResource some x = absurd (some refl)
+pages_broken log pages e some x = x
+
+module _ (records : List LogRecord) (store : StoreContent) (d e : Fault) (some : d ≡ NoResource → ⊥) (other : e ≡ NoResource → ⊥) where
+  abbrev log : History
+  log = history records
+
+  abbrev count : ℕ
+  count = length store.pages
+
+  sound_not_broken : (f : Fault) → (f ≡ NoResource → ⊥) → AreSound count records → RecordFault count records f → ⊥
+  sound_not_broken f is sound x = none_broken count records f sound.lawful sound.named (records_broken count records f is x)
+
+  kept_not_broken : (f : Fault) → (f ≡ NoResource → ⊥) → All (PageLaw log) store.pages → PagesFault log store.pages f → ⊥
+  kept_not_broken f is all x = none_broken_page log store.pages f all (pages_broken log store.pages f is x)
+
+  pub same_fault : FirstFault records store d → FirstFault records store e → d ≡ e
+  same_fault x y =
+      elim x [
+        | inl a ↦
+            elim y [
+              | inl b ↦ one_record_fault count records d e (records_broken count records d some a) (records_broken count records e other b)
+              | inr b ↦ elim b [ inl p ↦ absurd (sound_not_broken d some p.0 a) | inr q ↦ absurd (sound_not_broken d some q.0 a) ]
+            ]
+        | inr a ↦
+            elim a [
+              | inl o ↦
+                  elim y [
+                    | inl b ↦ absurd (sound_not_broken e other o.0 b)
+                    | inr b ↦
+                        elim b [
+                          | inl p ↦ one_page_fault log store.pages d e (pages_broken log store.pages d some o.1) (pages_broken log store.pages e other p.1)
+                          | inr q ↦ absurd (kept_not_broken d some q.1 o.1)
+                        ]
+                  ]
+              | inr o ↦
+                  elim y [
+                    | inl b ↦ absurd (sound_not_broken e other o.0 b)
+                    | inr b ↦
+                        elim b [
+                          | inl p ↦ absurd (kept_not_broken e other o.1 p.1)
+                          | inr q ↦ one_master_fault log store.pages store.master d e some other o.2 q.2
+                        ]
+                  ]
+            ]
+      ]
+
+pub one_first_fault : OneFirstFault
+one_first_fault records store d e some other x y = same_fault records store d e some other x y
