@@ -6,3 +6,5 @@ pub mod Analysed
 pub mod Covered
 pub mod Truth
 pub mod Numbers
+pub mod OneTables
+pub mod NoTables

@@ -1,9 +1,6 @@
 -- The tables of a lawful log and its store are true.
 use Rattle.std.proofs.Common.{ℕ, ◌≡◌, ◌≤◌, true, false, eqb, ne_eqb, List, [], get_or, Option, Some, None, refl, sym, ap, ◌∙◌, subst, arith, inl, inr}
 use Rattle.std.specs.Prelude.{All, map}
-use Rattle.std.specs.Ordering.{nat_cmp}
-use Rattle.std.specs.Map.{keys_of}
-use Rattle.std.specs.List.Sorted.{IsStrictlySortedBy}
 use Rattle.std.proofs.lemmas.Bool.{cases_eq}
 use Rattle.page.specs.declared.page.Page.{Page}
 use Rattle.page.specs.Store.{StoreContent}
@@ -70,12 +67,12 @@ true_base log pages m transactions dirty law e =
           ]
     ]
 
-pub tables_true : (records : List LogRecord) (store : StoreContent) (tables : Tables) → IsStrictlySortedBy nat_cmp (keys_of tables.transactions.entries) → Lawful records store → AreTablesOf records store.master tables → AreTrue records store tables
-tables_true records store tables in_order lawful are =
+pub tables_true : (records : List LogRecord) (store : StoreContent) (tables : Tables) → Lawful records store → AreTablesOf records store.master tables → AreTrue records store tables
+tables_true records store tables lawful are =
     let log = history records in
     let base = true_base log store.pages store.master are.transactions are.dirty lawful.checkpoint are.base in
     record {
-      losers = same_table 0 (map entry_of tables.transactions.entries) (true_table log) (rise tables.transactions.entries in_order) (true_table_rises log)
+      losers = same_table 0 (map entry_of tables.transactions.entries) (true_table log) (rise tables.transactions.entries are.entries_rise) (true_table_rises log)
           (λ t. are.entries t ∙ ap (λ o. analysed_entry t store.master o log) (base.entries t) ∙ analysis_is_true log t store.master lawful.log base.within
           ∙ sym (true_entry_for log t));
       reaches = λ i d lt lsn r found on later.

@@ -1,7 +1,10 @@
 -- TABLES-OF. What analysis finds from a checkpoint on: last and first records, not a scan (own, for every log).
 use Rattle.std.specs.Prelude.{◌≡◌, ℕ, suc, List, [], ◌∷◌, Option, Some, None, Bool, true, false, ◌||◌, ◌&&◌, ◌==◌, nat_lt, nat_le, min, max, map, if◌then◌else◌}
+use Rattle.std.specs.Ordering.{nat_cmp}
+use Rattle.std.specs.BTreeMap.{IsOrdered}
 use Rattle.page.specs.declared.fault.Fault.{Fault}
 use Rattle.page.specs.declared.fault.Fault.TheVariants.{NoResource, BadMaster}
+use Rattle.page.specs.Causes.{HasOneCause, HasNoCause}
 use Rattle.wal.specs.declared.record.State.{State}
 use Rattle.wal.specs.declared.record.State.TheVariants.{Active, Aborting}
 use Rattle.wal.specs.declared.record.Entry.{Entry}
@@ -92,14 +95,25 @@ redo_lsn_of (d ∷ e ∷ dirty) = min (max 1 d.1) (redo_lsn_of (e ∷ dirty))
 abbrev pub entry_at : ℕ → List (ℕ × Entry) → Option TableEntry
 entry_at t entries = entry_for t (map entry_of entries)
 
--- the tables of this log behind the LSN m, key by key (a map's keys are always in order, each once)
+-- the tables of this log behind the LSN m: in both the numbers rise, each once, and at each stands what the log says
 pub record AreTablesOf (records : List LogRecord) (m : ℕ) (tables : Tables) : Type 0 where
   pub transactions : List TableEntry
   pub dirty : List (ℕ × ℕ)
   pub base : base_of m (history records) ≡ Some (transactions, dirty)
   pub entries : (t : ℕ) → entry_at t tables.transactions.entries ≡ analysed_entry t m (entry_for t transactions) (history records)
   pub pages : (page : ℕ) → rec_lsn_of page tables.dirty.entries ≡ analysed_rec_lsn page m (rec_lsn_of page dirty) (history records)
+  pub entries_rise : IsOrdered nat_cmp tables.transactions
+  pub pages_rise : IsOrdered nat_cmp tables.dirty
   pub redo_lsn : tables.redo_lsn ≡ redo_lsn_of tables.dirty.entries
+
+-- ONE ANSWER. No log has two such tables behind one LSN.
+pub record AreSame (a b : Tables) : Type 0 where
+  pub transactions : a.transactions.entries ≡ b.transactions.entries
+  pub dirty : a.dirty.entries ≡ b.dirty.entries
+  pub redo_lsn : a.redo_lsn ≡ b.redo_lsn
+
+abbrev pub OneTables : Type 0
+OneTables = (records : List LogRecord) (m : ℕ) (a b : Tables) → AreTablesOf records m a → AreTablesOf records m b → AreSame a b
 
 -- the maps hold the base
 pub record IsBase (m : ℕ) (log : History) (entries : List (ℕ × Entry)) (pages : List (ℕ × ℕ)) : Type 0 where
@@ -114,3 +128,11 @@ abbrev pub BaseFault : ℕ → History → Fault → Type 0
 BaseFault m log NoResource = Unit {0}
 BaseFault m log BadMaster = base_of m log ≡ None
 BaseFault m log e = ⊥
+
+-- a log without tables behind an LSN has none for one cause
+abbrev pub OneBaseFault : Type 0
+OneBaseFault = (records : List LogRecord) (m : ℕ) → HasOneCause (BaseFault m (history records))
+
+-- and one with tables for none
+abbrev pub NoFaultOfTables : Type 0
+NoFaultOfTables = (records : List LogRecord) (m : ℕ) (tables : Tables) → AreTablesOf records m tables → HasNoCause (BaseFault m (history records))

@@ -3,10 +3,12 @@
 
 mod base;
 mod kept;
+mod laws;
 mod pass;
 mod scan;
 mod tables;
 
+pub use laws::{no_fault_of_tables, one_base_fault, one_tables};
 pub use pass::analyse;
 pub use tables::Tables;
 

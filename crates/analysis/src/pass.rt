@@ -56,8 +56,9 @@ pub fn analyse(alloc: Global, log: &Log, master: u64) -> Result<Tables, Fault>
     let (mut transactions, mut dirty) = base(alloc, log, master)?;
     scan(log, master, &mut transactions, &mut dirty)?;
     let redo_lsn = redo_lsn_of(&dirty);
-    // For the proof: the map's keys rise.
+    // For the proof: the keys of both maps rise.
     let _in_order = transactions.iter();
+    let _in_order_too = dirty.iter();
     Ok(Tables {
         transactions,
         dirty,

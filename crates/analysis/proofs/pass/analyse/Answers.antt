@@ -13,13 +13,15 @@ returns-clause-tables c =
       base = base.base;
       entries = λ t. c.in_ok-scan.ensures.entries t _ (base.entries_are t);
       pages = λ p. c.in_ok-scan.ensures.pages p _ (base.pages_are p);
+      entries_rise = c.iter-in_order.ensures.ordered;
+      pages_rise = c.iter-in_order_too.ensures.ordered;
       redo_lsn = c.redo_lsn_of-redo_lsn.ensures;
     }
 
 pub returns-clause-lawful : goal.returns-clause-lawful
 returns-clause-lawful c = λ store lawful own.
     let made : Tables = record { transactions = c.scan.new.transactions; dirty = c.scan.new.dirty; redo_lsn = c.redo_lsn_of-redo_lsn.result } in
-    tables_true c.args.log.now store made c.iter-in_order.ensures.ordered lawful (subst (λ m. AreTablesOf c.args.log.now m made) (sym own) (returns-clause-tables c))
+    tables_true c.args.log.now store made lawful (subst (λ m. AreTablesOf c.args.log.now m made) (sym own) (returns-clause-tables c))
 
 pub returns-clause-numbered : goal.returns-clause-numbered
 returns-clause-numbered c = c.in_ok-scan.ensures.numbered c.in_ok-transactions.ensures.numbered
