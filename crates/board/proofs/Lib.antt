@@ -1,4 +1,6 @@
 pub mod Times
+pub mod Counts
+pub mod Order
 pub mod Ranges
 pub mod Law
 pub mod Claims

@@ -14,13 +14,13 @@ use Rattle.board.proofs.Times.{times-append, total_set, total_snoc, total_at, to
 use Rattle.std.proofs.lemmas.Bool.{or_cases}
 use Rattle.board.proofs.Law.{S, M, if_any_cut, if_any_both, once, Live, Spent, Told, all_set, unchanged, flag-le}
 
--- a load of a claim word changes nothing
-pub looks : (p : Plan) (slots id : ℕ) (me : M) → Allows (IsLawful p) slots id me 0 (λ n. n) (looked (step slots 0 0 0 none) me)
+-- a load of the stop word that notes nothing changes nothing
+pub looks : (p : Plan) (slots id : ℕ) (me : M) → Allows (IsLawful p) slots id me p.ranges (λ n. n) (looked (step slots p.ranges 0 0 none) me)
 looks p slots id me s kept _ at _ = (
   me.0,
   keeps,
   tt,
-  unchanged p s id me.0 0 kept at me.1,
+  unchanged p s id me.0 p.ranges kept at me.1,
   (
     refl,
     (λ x. let a = total_at (draws x) s.views id me.0 at in let b = once p s kept x in omega arith),

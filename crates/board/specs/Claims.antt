@@ -67,11 +67,15 @@ pub record IsLawful (p : Plan) (s : State (Unit {0}) View) : Type 0 where
   pub stop : slice_index s.words p.ranges ≡ min 1 (total stops s.views)
   pub told : (id : ℕ) (v : View) → get_elem? s.views id ≡ some v → v.told ≡ true → 0 < total stops s.views
 
--- The drawn law, which follows from the rule: the numbers that all seats drew are below n and distinct, and where some seat knows all ranges as ended they are all the numbers below n
+-- The numbers that all seats drew are below n and distinct, and where some seat knows all ranges as ended they are all the numbers below n
 pub record IsDrawn (n ranges : ℕ) (views : List View) : Type 0 where
   pub below : (x : ℕ) → 0 < total (draws x) views → x < n
   pub distinct : (x : ℕ) → total (draws x) views ≤ 1
   pub all : (id : ℕ) (v : View) → get_elem? views id ≡ some v → AllEnded ranges v.ended → (x : ℕ) → x < n → total (draws x) views ≡ 1
+
+-- The drawn law: so it is wherever the rule holds
+abbrev pub DrawnLaw : Type 0
+DrawnLaw = (p : Plan) (s : State (Unit {0}) View) → IsLawful p s → IsDrawn p.parts p.ranges s.views
 
 -- the first seat: all places, and nothing drawn, ended or noted
 abbrev pub opened : Plan → View
@@ -127,7 +131,7 @@ claimed st m n m' =
     × (n < size m.0.plan st.word → (m'.0 ≡ with_drawn m.0 (start m.0.plan st.word + n)) × (times (start m.0.plan st.word + n) m.0.drawn ≡ 0))
     × (size m.0.plan st.word ≤ n → m'.0 ≡ with_ended m.0 st.word)
 
--- a look changes nothing, and tells that the seat's numbers are distinct and its places few
+-- a look at the stop word that notes nothing: it changes nothing, and tells that the seat's numbers are distinct and its places few
 abbrev pub looked : Step (Unit {0}) → Own → ℕ → Own → Type 0
 looked st m n m' = (m' ≡ m) × ((x : ℕ) → times x m.0.drawn ≤ 1) × (m.0.places ≤ 64)
 
@@ -135,6 +139,6 @@ looked st m n m' = (m' ≡ m) × ((x : ℕ) → times x m.0.drawn ≤ 1) × (m.0
 abbrev pub stop_set : Step (Unit {0}) → Own → ℕ → Own → Type 0
 stop_set st m n m' = m' ≡ (with_stop m.0, m.1)
 
--- a look at the stop word: where it is 0 nothing changes, and the seat has not stopped and was not told; else it is told
+-- a look at the stop word that notes what it sees: where it is 0 nothing changes, and the seat has not stopped and was not told; else it is told
 abbrev pub stop_seen : Step (Unit {0}) → Own → ℕ → Own → Type 0
 stop_seen st m n m' = (n ≡ 0 → (m' ≡ m) × (m.0.stopped ≡ false) × (m.0.told ≡ false)) × (0 < n → m' ≡ (with_told m.0, m.1))

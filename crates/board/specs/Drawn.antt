@@ -1,5 +1,5 @@
 -- What contracts see of a board, of a seat and of a tally.
-use Rattle.std.specs.Prelude.{◌≡◌, ◌≢◌, ℕ, ◌+◌, ◌-◌, ◌*◌, ◌/◌, ◌<◌, ◌≤◌, Bool, List, [], ◌∷◌, ◌++◌}
+use Rattle.std.specs.Prelude.{◌≡◌, ◌≢◌, ℕ, ◌+◌, ◌-◌, ◌*◌, ◌/◌, ◌<◌, ◌≤◌, ◌↔◌, ◌⊎◌, Bool, List, [], ◌∷◌, ◌++◌, slice_index}
 use Rattle.std.specs.List.{Contains, AllPairs}
 use Rattle.atomic_table.specs.Seated.{TableId}
 
@@ -59,3 +59,32 @@ range_start parts ranges r = r * parts / ranges
 -- how many numbers range r has
 abbrev pub range_size : ℕ → ℕ → ℕ → ℕ
 range_size parts ranges r = range_start parts ranges (r + 1) - range_start parts ranges r
+
+-- x is a number of range r
+abbrev pub IsInRange : BoardId → (r x : ℕ) → Type 0
+IsInRange board r x = (range_start board.parts board.ranges r ≤ x) × (x < range_start board.parts board.ranges (r + 1))
+
+-- x is a number of the first range, from `from` up to, not including, `to`, that is not among the ended ones
+pub record IsOfFirst (board : BoardId) (from to : ℕ) (ended : List ℕ) (x : ℕ) : Type 0 where
+  pub range : ℕ
+  pub low : from ≤ range
+  pub high : range < to
+  pub before : EndedWithin from range ended
+  pub not_ended : ¬ Contains ended range
+  pub number : IsInRange board range x
+
+-- the ranges from `home` up to, not including, r are among the ended ones, where the last range is followed by range 0
+abbrev pub EndedBefore : (ranges home r : ℕ) → List ℕ → Type 0
+EndedBefore ranges home r ended = ((home ≤ r) × EndedWithin home r ended) ⊎ ((r < home) × EndedWithin home ranges ended × EndedWithin 0 r ended)
+
+-- x is a number of the first range that is not among the ended ones, from `home` on, where the last range is followed by range 0
+pub record IsNext (board : BoardId) (home : ℕ) (ended : List ℕ) (x : ℕ) : Type 0 where
+  pub range : ℕ
+  pub within : range < board.ranges
+  pub before : EndedBefore board.ranges home range ended
+  pub not_ended : ¬ Contains ended range
+  pub number : IsInRange board range x
+
+-- of each range its first numbers were drawn and no others: number k of range r just where its word counts more than k steps
+abbrev pub AreFirst : BoardId → (words drawn : List ℕ) → Type 0
+AreFirst board words drawn = (r k : ℕ) → r < board.ranges → k < range_size board.parts board.ranges r → Contains drawn (range_start board.parts board.ranges r + k) ↔ (k < slice_index words r)

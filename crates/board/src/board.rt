@@ -1,7 +1,7 @@
 //! The board, as threads share it.
 
 ghost use Rattle.std.specs.Prelude.{◌≡◌, ℕ, ◌+◌, ◌*◌, ◌<◌, ◌≤◌, [], ◌++◌, All, Contains, length, sum, IfOk, IfErr, true, false, ◌||◌, replicate};
-ghost use Rattle.board.specs.Drawn.{AreDistinct, AllEnded};
+ghost use Rattle.board.specs.Drawn.{AreDistinct, AllEnded, AreFirst};
 ghost use Rattle.page.specs.declared.fault.Fault.TheVariants.{NoResource};
 
 use crate::ended::{either_of, no_ends};
@@ -103,8 +103,8 @@ impl Board {
     /// Makes one seat of two: it has the places, the numbers, the ended ranges and the notes of a stop
     /// of both. Its numbers are distinct.
     ///
-    /// One load of the first word tells what no seat knows alone: that the two have no number in
-    /// common. No word changes.
+    /// One load of the stop word tells what no seat knows alone: that the two have no number in common.
+    /// What the word says is not noted, and no word changes.
     pub fn join(&self, first: Seat, second: Seat) -> Seat
         requires board { (first.board ≡ self.now) × (second.board ≡ self.now) }
         ensures board { result.board ≡ self.now }
@@ -125,7 +125,8 @@ impl Board {
             ended: also,
         } = second;
         self.table.shared.join_seat::<Both>(&mut token, other);
-        self.table.shared.load::<Look>(&mut token, 0);
+        let word = self.plan.ranges as usize;
+        self.table.shared.load::<Look>(&mut token, word);
         Seat {
             token,
             places: places + more,
@@ -134,9 +135,12 @@ impl Board {
     }
 
     /// Ends the board, by a seat that has all its places. The numbers of that seat are below `parts` and
-    /// distinct, and where it knows all ranges as ended they are all the numbers below `parts`. The
-    /// steps on all ranges are at most `parts + seats * ranges`, so that no word ever wraps. Where the
-    /// seat was told of a stop, it has the note of the seat that stopped.
+    /// distinct, and where it knows all ranges as ended they are all the numbers below `parts`.
+    ///
+    /// The tally's words tell which they are: number k of range r was drawn exactly where word r counts
+    /// more than k steps (`claims`). So the steps on all ranges are at least as many as the numbers
+    /// (`drawn`); they are at most `parts + seats * ranges` (`bound`). Where the seat was told of a stop,
+    /// it has the note of the seat that stopped.
     pub fn close(self, seat: Seat) -> Tally
         requires board { seat.board ≡ self }
         requires places { seat.places ≡ self.seats }
@@ -144,6 +148,8 @@ impl Board {
         ensures below { All (λ x. x < self.parts) seat.drawn }
         ensures all { AllEnded self.ranges seat.ended → (x : ℕ) → x < self.parts → Contains seat.drawn x }
         ensures words { length result.words ≡ self.ranges }
+        ensures claims { AreFirst self result.words seat.drawn }
+        ensures drawn { length seat.drawn ≤ sum result.words }
         ensures bound { sum result.words ≤ self.parts + self.seats * self.ranges }
         ensures stopped { result.stopped ≡ seat.stopped }
         ensures told { seat.told ≡ true → seat.stopped ≡ true }

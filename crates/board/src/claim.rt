@@ -1,7 +1,7 @@
 //! Drawing a number.
 
 ghost use Rattle.std.specs.Prelude.{◌≡◌, ◌+◌, ◌<◌, ◌≤◌, [], ◌∷◌, ◌++◌, Contains, length, IfSome, IfNone};
-ghost use Rattle.board.specs.Drawn.{AllEnded, EndedWithin, IsWithin, Gains, KeepsPlaces, KeepsNotes, range_start, range_size};
+ghost use Rattle.board.specs.Drawn.{AllEnded, EndedWithin, IsWithin, IsInRange, IsOfFirst, IsNext, Gains, KeepsPlaces, KeepsNotes, range_start, range_size};
 
 use crate::board::Board;
 use crate::rule::Claim;
@@ -13,6 +13,7 @@ impl Board {
     fn range(&self, range: u32) -> (u32, u32)
         requires { range < self.now.ranges }
         ensures start { result.0 ≡ range_start self.now.parts self.now.ranges range }
+        ensures end { result.0 + result.1 ≡ range_start self.now.parts self.now.ranges (range + 1) }
         ensures size { result.1 ≡ range_size self.now.parts self.now.ranges range }
         ensures below { result.0 + result.1 ≤ self.now.parts }
     {
@@ -32,6 +33,7 @@ impl Board {
         ensures seat { KeepsPlaces seat.old seat.new }
         ensures notes { KeepsNotes seat.old seat.new }
         ensures some { IfSome result (λ x. Gains self.now seat.old seat.new x × (seat.new.ended ≡ seat.old.ended)) }
+        ensures number { IfSome result (λ x. IsInRange self.now range x) }
         ensures room { IfSome result (λ _. length seat.old.drawn < self.now.parts) }
         ensures none { IfNone result ((seat.new.drawn ≡ seat.old.drawn) × (seat.new.ended ≡ seat.old.ended ++ range ∷ [])) }
     {
@@ -55,6 +57,7 @@ impl Board {
         ensures seat { KeepsPlaces seat.old seat.new }
         ensures notes { KeepsNotes seat.old seat.new }
         ensures some { IfSome result (λ x. Gains self.now seat.old seat.new x) }
+        ensures number { IfSome result (λ x. (¬ Contains seat.new.ended range) × IsInRange self.now range x) }
         ensures room { IfSome result (λ _. length seat.old.drawn < self.now.parts) }
         ensures none { IfNone result ((seat.new.drawn ≡ seat.old.drawn) × Contains seat.new.ended range) }
         ensures ended { IsWithin seat.old.ended seat.new.ended }
@@ -75,6 +78,7 @@ impl Board {
         ensures seat { KeepsPlaces seat.old seat.new }
         ensures notes { KeepsNotes seat.old seat.new }
         ensures some { IfSome result (λ x. Gains self.now seat.old seat.new x) }
+        ensures first { IfSome result (λ x. IsOfFirst self.now from to seat.new.ended x) }
         ensures room { IfSome result (λ _. length seat.old.drawn < self.now.parts) }
         ensures none { IfNone result ((seat.new.drawn ≡ seat.old.drawn) × EndedWithin from to seat.new.ended) }
         ensures ended { IsWithin seat.old.ended seat.new.ended }
@@ -90,8 +94,9 @@ impl Board {
     }
 
     /// Draws a number below `parts` that no seat has drawn, from range `home` or else from the next
-    /// one that has any left, the last range being followed by range 0. The number is put at the end of
-    /// the seat's. `home` is below the count of ranges.
+    /// one that has any left, the last range being followed by range 0: it is a number of the first range,
+    /// in this order, that the seat does not know as ended afterwards. The number is put at the end of the
+    /// seat's. `home` is below the count of ranges.
     ///
     /// None where all ranges have ended, which the seat then knows; its numbers stay. A seat steps at
     /// most once on the word of an ended range, so one call makes at most as many steps as there are
@@ -102,6 +107,8 @@ impl Board {
         ensures seat { KeepsPlaces seat.old seat.new }
         ensures notes { KeepsNotes seat.old seat.new }
         ensures some { IfSome result (λ x. Gains self.now seat.old seat.new x) }
+        ensures home { IfSome result (λ x. ¬ Contains seat.new.ended home → IsInRange self.now home x) }
+        ensures order { IfSome result (λ x. IsNext self.now home seat.new.ended x) }
         ensures room { IfSome result (λ _. length seat.old.drawn < self.now.parts) }
         ensures none { IfNone result ((seat.new.drawn ≡ seat.old.drawn) × AllEnded self.now.ranges seat.new.ended) }
         ensures ended { IsWithin seat.old.ended seat.new.ended }

@@ -6,6 +6,7 @@ mod board;
 mod claim;
 mod draw;
 mod ended;
+pub mod laws;
 mod rule;
 mod seat;
 mod stop;

@@ -23,7 +23,7 @@ impl Play<(), View> for Claim {
     ghost then = { claimed };
 }
 
-/// A look at a claim word, which tells that the seat's numbers are distinct.
+/// A look at the stop word that notes nothing, and tells that the seat's numbers are distinct.
 pub(crate) struct Look;
 
 impl Play<(), View> for Look {
@@ -41,7 +41,7 @@ impl Play<(), View> for SetStop {
     ghost then = { stop_set };
 }
 
-/// A look at the stop word.
+/// A look at the stop word, which the seat notes.
 pub(crate) struct SeeStop;
 
 impl Play<(), View> for SeeStop {

@@ -1,7 +1,7 @@
 //! Stopping a board, and drawing as long as no seat has stopped it.
 
-ghost use Rattle.std.specs.Prelude.{◌≡◌, ◌<◌, length, true, false};
-ghost use Rattle.board.specs.Drawn.{AllEnded, IsWithin, Gains, KeepsPlaces};
+ghost use Rattle.std.specs.Prelude.{◌≡◌, ◌<◌, Contains, length, true, false};
+ghost use Rattle.board.specs.Drawn.{AllEnded, IsWithin, IsInRange, IsNext, Gains, KeepsPlaces};
 ghost use Rattle.board.specs.Draws.{IfPart, IfFinished, IfStopped, is_stopped};
 
 use crate::board::Board;
@@ -45,6 +45,8 @@ impl Board {
         requires home { home < self.now.ranges }
         ensures seat { KeepsPlaces seat.old seat.new }
         ensures part { IfPart result (λ x. Gains self.now seat.old seat.new x) }
+        ensures home { IfPart result (λ x. ¬ Contains seat.new.ended home → IsInRange self.now home x) }
+        ensures order { IfPart result (λ x. IsNext self.now home seat.new.ended x) }
         ensures room { IfPart result (λ _. length seat.old.drawn < self.now.parts) }
         ensures finished { IfFinished result ((seat.new.drawn ≡ seat.old.drawn) × AllEnded self.now.ranges seat.new.ended) }
         ensures stopped { IfStopped result ((seat.new.drawn ≡ seat.old.drawn) × (seat.new.ended ≡ seat.old.ended)) }

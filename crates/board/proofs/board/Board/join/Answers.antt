@@ -20,10 +20,11 @@ join_seat-requires c =
 
 pub load-requires : goal.load-requires
 load-requires c =
-    let first = ap (λ h. h.board) c.first.view_is ∙ (c.requires.board.0 ∙ sym c.self.view_is) in (
+    let first = ap (λ h. h.board) c.first.view_is ∙ (c.requires.board.0 ∙ sym c.self.view_is) in
+    let ranges = ap (λ q. q.ranges) c.self.invariant.same_plan in (
       c.join_seat.ensures.0 ∙ ap (λ b. b.table) first,
-      (let b = c.self.invariant.words in let d = c.self.invariant.sized in omega arith),
-      looks c.self.inside.table.shared.key _ _ c.join_seat.new.seat.me,
+      (let b = c.self.invariant.words in omega arith),
+      rw ranges (looks c.self.inside.table.shared.key _ _ c.join_seat.new.seat.me),
     )
 
 pub invariant_of-result : goal.invariant_of-result

@@ -1,4 +1,5 @@
-use Rattle.std.proofs.Common.{◌∙◌, sym}
+use Rattle.std.proofs.Common.{◌∙◌, sym, arith}
+use Rattle.board.proofs.Order.{if_some}
 use Rattle.board.proofs.Seats.{if_none, ended_more}
 use Rattle.board.proofs.board.Board.sweep.Goals as goal
 
@@ -14,3 +15,16 @@ loop-range-preserved c =
       (λ x h. step.ended x (old.4 x h)),
       ended_more c.args.from c.loop-range.range c.loop-range.seat.ended c.claim_if_open-drawn.new.seat.ended step.ended old.5 none.1,
     )
+
+pub returns-then-is_some-clause-first : goal.returns-then-is_some-clause-first
+returns-then-is_some-clause-first c =
+    let old = c.loop-range.invariant in
+    let step = c.claim_if_open-drawn.ensures in
+    if_some c.claim_if_open-drawn.result _ _ (λ x h. record {
+      range = c.loop-range.range;
+      low = omega arith;
+      high = omega arith;
+      before = λ r low high. step.ended r (old.5 r low high);
+      not_ended = h.0;
+      number = h.1;
+    }) step.number
