@@ -13,3 +13,4 @@ pub mod Noting
 pub mod Gathered
 pub mod Totals
 pub mod Causes
+pub mod Missing

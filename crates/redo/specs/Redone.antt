@@ -3,6 +3,7 @@ use Rattle.std.specs.Prelude.{◌≡◌, ◌≢◌, ℕ, ◌<◌, ◌≤◌, Lis
 use Rattle.page.specs.declared.fault.Fault.{Fault}
 use Rattle.page.specs.declared.fault.Fault.TheVariants.{NoResource, BadWorkers, NoSuchPage}
 use Rattle.page.specs.declared.page.Page.{Page}
+use Rattle.page.specs.Causes.{HasOneCause, HasNoCause}
 use Rattle.wal.specs.Records.{LogRecord, history, record_at}
 use Rattle.wal.specs.Redo.{rec_lsn_of, redo_of, applied}
 use Rattle.analysis.specs.declared.tables.Tables.{Tables}
@@ -46,3 +47,11 @@ RedoFault records count redo_lsn workers NoResource = Unit {0}
 RedoFault records count redo_lsn workers BadWorkers = AreWorkers workers → ⊥
 RedoFault records count redo_lsn workers (NoSuchPage lsn) = AreWorkers workers × IsFirstMissing records count redo_lsn lsn
 RedoFault records count redo_lsn workers e = ⊥
+
+-- redo is refused for one cause
+abbrev pub OneRedoFault : Type 0
+OneRedoFault = (records : List LogRecord) (count redo_lsn workers : ℕ) → HasOneCause (RedoFault records count redo_lsn workers)
+
+-- and for none where it may have so many workers and finds all pages
+abbrev pub NoFaultOfRedo : Type 0
+NoFaultOfRedo = (records : List LogRecord) (count redo_lsn workers : ℕ) → AreWorkers workers → AllExist records count redo_lsn → HasNoCause (RedoFault records count redo_lsn workers)

@@ -5,7 +5,7 @@ ghost use Rattle.page.specs.declared.fault.Fault.TheVariants.{NoResource};
 ghost use Rattle.board.specs.Drawn.{AllEnded};
 ghost use Rattle.redo.specs.Rounds.{AreRoutes, IsReady, IsBack, IsDone, HasPart};
 
-use crate::gate::Gate;
+use crate::gate::{Gate, enter};
 use crate::part::redo_part;
 use crate::pass::Pass;
 use crate::progress::Progress;
@@ -70,8 +70,8 @@ fn work<G: Gate>(
     let Job { home, mut seat } = job;
     let mut pages = Vec::new(alloc);
     while let Draw::Part(part) = board.draw_or_stop(&mut seat, home) {
-        gate.enter(home, part);
-        if redo_part(alloc, pass, routes, part, &mut pages).is_err() {
+        let entered = enter(gate, home, part);
+        if redo_part(alloc, pass, routes, entered, &mut pages).is_err() {
             board.stop(&mut seat);
             return Share { seat, pages };
         }

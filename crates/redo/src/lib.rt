@@ -5,6 +5,7 @@
 mod crew;
 mod gate;
 mod gather;
+mod laws;
 mod lists;
 mod note;
 mod part;
@@ -17,6 +18,7 @@ mod route;
 mod tally;
 
 pub use gate::{Gate, OpenGate};
+pub use laws::{no_fault_of_redo, one_redo_fault};
 pub use parting::Parting;
 pub use redone::Redone;
 pub use rounds::{redo, redo_in_place};

@@ -8,6 +8,7 @@ ghost use Rattle.redo.specs.Changes.{counted, step, lsn_in, held_after, slots_af
 ghost use Rattle.redo.specs.Rounds.{AreRoutes, IsUpTo, IsDone, HasPart, Stands, numbers_of, progress_in, image_at, resolved};
 ghost use Rattle.redo.specs.declared.tally.Tally.{Tally};
 
+use crate::gate::Entered;
 use crate::note::{Note, NoteList};
 use crate::pass::Pass;
 use crate::progress::Progress;
@@ -162,24 +163,25 @@ fn finish(pass: &Pass, tallies: &[Tally], pages: &mut Vec<Progress>) -> Result<(
     Ok(())
 }
 
-/// Redoes the pages of a part, by the routes in their order, and puts them behind those that are done.
-/// Of all records in one slot the value of the last alone is fetched. The only error is `NoResource`.
-pub fn redo_part(
+/// Redoes the pages of a part that the gate was told of, by the routes in their order, and puts them
+/// behind those that are done. Of all records in one slot the value of the last alone is fetched. The
+/// only error is `NoResource`.
+pub(crate) fn redo_part(
     alloc: Global,
     pass: &Pass,
     routes: &[Route],
-    part: u32,
+    entered: Entered,
     pages: &mut Vec<Progress>,
 ) -> Result<(), Fault>
-    requires part { part < pass.now.parting.parts }
+    requires part { entered.part < pass.now.parting.parts }
     requires routes { AreRoutes pass.now routes.now }
     requires done { All (IsDone pass.now) pages.old.items }
     ensures done { All (IsDone pass.now) pages.new.items }
     ensures kept { OnOk result ((other : ℕ) → HasPart pass.now other pages.old.items → HasPart pass.now other pages.new.items) }
-    ensures added { OnOk result (HasPart pass.now part pages.new.items) }
+    ensures added { OnOk result (HasPart pass.now entered.part pages.new.items) }
     ensures err { IfErr result (λ e. e ≡ NoResource) }
 {
-    let tallies = count_part(alloc, pass, routes, part)?;
+    let tallies = count_part(alloc, pass, routes, entered.part())?;
     finish(pass, &tallies, pages)?;
     Ok(())
 }

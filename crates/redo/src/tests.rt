@@ -232,29 +232,42 @@ fn any_workers_and_parting_give_the_same(rt: HostRuntime) -> Result<(), Fail> {
     Ok(())
 }
 
-/// Holds whoever enters first until all ten parts were entered, for a while; then it is late.
+/// Holds four workers at ten parts: each at its first part until all four have come, and then all but
+/// worker 1, which so draws the other six. Who is held too long is late.
 #[derive(Drop)]
 struct HeldGate {
     entered: AtomicU64,
     late: AtomicU64,
-    /// A count for each part, eight bits each for the parts 0 to 7 and 8 to 9.
-    low_parts: AtomicU64,
-    high_parts: AtomicU64,
+    /// Of each entry, in the order in which they came, 100 times the worker, and the part.
+    told: Vec<AtomicU64>,
 }
 
-impl Gate for HeldGate {
-    fn enter(&self, _worker: u32, part: u32) {
-        if part < 8 {
-            self.low_parts.fetch_add(1 << (8 * part), Ordering::SeqCst);
-        } else if part < 10 {
-            self.high_parts
-                .fetch_add(1 << (8 * (part - 8)), Ordering::SeqCst);
+impl HeldGate {
+    fn new(alloc: Global) -> Result<HeldGate, Fault> {
+        let mut told = Vec::new(alloc);
+        for _ in 0..10 {
+            told.push(AtomicU64::new(0))?;
         }
-        if self.entered.fetch_add(1, Ordering::SeqCst) > 0 {
-            return;
+        Ok(HeldGate {
+            entered: AtomicU64::new(0),
+            late: AtomicU64::new(0),
+            told,
+        })
+    }
+
+    fn all_told(&self) -> [u64; 10] {
+        let mut all = [0; 10];
+        for (turn, told) in self.told.iter().enumerate() {
+            if turn < 10 {
+                all[turn] = told.load(Ordering::SeqCst);
+            }
         }
+        all
+    }
+
+    fn hold(&self, entries: u64) {
         for _ in 0..100_000_000 {
-            if self.entered.load(Ordering::SeqCst) == 10 {
+            if self.entered.load(Ordering::SeqCst) >= entries {
                 return;
             }
         }
@@ -262,26 +275,32 @@ impl Gate for HeldGate {
     }
 }
 
+impl Gate for HeldGate {
+    fn enter(&self, worker: u32, part: u32) {
+        let turn = self.entered.fetch_add(1, Ordering::SeqCst);
+        if let Some(told) = self.told.get(turn as usize) {
+            told.store(100 * worker as u64 + part as u64, Ordering::SeqCst);
+        }
+        self.hold(if worker == 1 { 4 } else { 10 });
+    }
+}
+
 #[test]
-fn two_workers_share_the_parts(rt: HostRuntime) -> Result<(), Fail> {
+fn the_gate_hears_who_draws_what(rt: HostRuntime) -> Result<(), Fail> {
     let alloc = rt.alloc();
     let log = ten_updates(alloc)?;
     let store = ten_pages(alloc)?;
     let parting = Parting::by_number(alloc, 10, 10)?;
-    let gate = HeldGate {
-        entered: AtomicU64::new(0),
-        late: AtomicU64::new(0),
-        low_parts: AtomicU64::new(0),
-        high_parts: AtomicU64::new(0),
-    };
-    let answer = redone(&rt, alloc, &log, &store, &parting, 2, &gate)?;
+    let gate = HeldGate::new(alloc)?;
+    let answer = redone(&rt, alloc, &log, &store, &parting, 4, &gate)?;
     assert!(rt; are_all_changed(&answer.pages), "pages");
     assert_eq!(rt; gate.late.load(Ordering::SeqCst), 0);
     assert_eq!(rt; gate.entered.load(Ordering::SeqCst), 10);
-    assert_eq!(rt;
-        gate.low_parts.load(Ordering::SeqCst),
-        0x0101_0101_0101_0101
-    );
-    assert_eq!(rt; gate.high_parts.load(Ordering::SeqCst), 0x0101);
+    let told = gate.all_told();
+    for first in [0, 102, 205, 307] {
+        assert!(rt; told[..4].contains(&first), "no first part as {first}");
+    }
+    let others: [u64; 6] = [103, 104, 106, 108, 109, 101];
+    assert_eq!(rt; told[4..], others[..]);
     Ok(())
 }

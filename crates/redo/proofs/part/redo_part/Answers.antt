@@ -1,4 +1,4 @@
-use Rattle.std.proofs.Common.{All, List, map, sym, subst}
+use Rattle.std.proofs.Common.{All, List, Some, map, sym, ap, ◌∙◌, subst}
 use Rattle.redo.specs.declared.progress.Progress.{Progress}
 use Rattle.redo.specs.declared.tally.Tally.{Tally}
 use Rattle.redo.specs.Rounds.{IsDone, HasPage, resolved}
@@ -14,5 +14,5 @@ returns-clause-kept c = λ other has page given.
 
 pub returns-clause-added : goal.returns-clause-added
 returns-clause-added c = λ page given.
-    let all : HasPage (map (resolved c.args.pass.now) c.deref.result.now) page = subst (λ (ts : List Tally). HasPage (map (resolved c.args.pass.now) ts) page) (sym c.deref.ensures.value) (c.in_ok-tallies.ensures.all page given) in
+    let all : HasPage (map (resolved c.args.pass.now) c.deref.result.now) page = subst (λ (ts : List Tally). HasPage (map (resolved c.args.pass.now) ts) page) (sym c.deref.ensures.value) (c.in_ok-tallies.ensures.all page (given ∙ ap Some (sym c.part.ensures))) in
     subst (λ (ps : List Progress). HasPage ps page) (sym c.in_ok-finish.ensures.added) (has_right c.args.pages.now.items _ page all)
