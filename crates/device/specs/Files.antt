@@ -3,10 +3,18 @@ use Rattle.std.specs.Prelude.{ℕ}
 use Rattle.device.specs.declared.file.FileSource.{FileSource}
 use Rattle.device.specs.declared.file.FileSink.{FileSink}
 
--- how often a file failed that was read
+-- the file that is read
+abbrev pub read_file : {F : Type 0} → FileSource F → F
+read_file source = source.file
+
+-- how often it failed
 abbrev pub read_failures : {F : Type 0} → FileSource F → ℕ
 read_failures source = source.failures.count
 
--- how often a file failed that was written
+-- the file that is written
+abbrev pub written_file : {F : Type 0} → FileSink F → F
+written_file sink = sink.file
+
+-- how often it failed
 abbrev pub write_failures : {F : Type 0} → FileSink F → ℕ
 write_failures sink = sink.failures.count

@@ -1,5 +1,6 @@
 pub mod Failures
 pub mod Files
+pub mod Kept
 pub mod Memory
 pub mod Slow
 pub mod Whole

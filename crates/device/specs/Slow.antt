@@ -2,6 +2,7 @@
 use Rattle.std.specs.Prelude.{ℕ, List}
 use Rattle.device.specs.declared.slow.SlowSource.{SlowSource}
 use Rattle.device.specs.declared.slow.SlowSink.{SlowSink}
+use Rattle.device.specs.Kept.{bytes_taken as kept_taken, bytes_flushed as kept_flushed}
 
 -- the bytes that are left to be read
 abbrev pub bytes_left : SlowSource → List ℕ
@@ -9,7 +10,11 @@ bytes_left source = source.rest.now
 
 -- the bytes taken so far
 abbrev pub bytes_taken : SlowSink → List ℕ
-bytes_taken sink = sink.bytes.items
+bytes_taken sink = kept_taken sink.kept
+
+-- those of them that are flushed
+abbrev pub bytes_flushed : SlowSink → List ℕ
+bytes_flushed sink = kept_flushed sink.kept
 
 -- how often it failed, reading
 abbrev pub read_failures : SlowSource → ℕ

@@ -1,5 +1,5 @@
--- What reading or writing all of a device tells (own).
-use Rattle.std.specs.Prelude.{ℕ, List, ◌≤◌, length, take}
+-- What reading, writing or flushing all of a device tells (own).
+use Rattle.std.specs.Prelude.{◌≡◌, ℕ, List, ◌≤◌, length, take, IfSome}
 use Rattle.std.specs.declared.option.Option.{Option}
 use Rattle.std.specs.Io.KnownBytes.{Appends, Consumes}
 use Rattle.device.specs.declared.whole.ReadFault.{ReadFault}
@@ -17,3 +17,7 @@ ReadBeginning old new = (bytes : List ℕ) × Consumes old new bytes
 -- a beginning of these bytes has been taken
 abbrev pub TookBeginning : Option (List ℕ) → Option (List ℕ) → List ℕ → Type 0
 TookBeginning old new bytes = (count : ℕ) × (count ≤ length bytes) × Appends old new (take count bytes)
+
+-- where a device told what it had flushed, that is now all that it has taken
+abbrev pub Flushes : (before after taken : Option (List ℕ)) → Type 0
+Flushes before after taken = IfSome before (λ _. after ≡ taken)

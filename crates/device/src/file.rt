@@ -1,8 +1,11 @@
-//! Devices over files. They count their failures and tell no bytes.
+//! Devices over files. They tell what the file tells: a file of the system tells no bytes; a reader or
+//! a writer that does, as one over memory, shows that none is lost, doubled or made up here. What is
+//! flushed they do not tell, since no file does.
 
 ghost use Rattle.std.specs.Prelude.{◌≡◌, IfOk, ◌<◌, length};
 ghost use Rattle.std.specs.Io.{ReadsAtMost, WritesAtMost};
-ghost use Rattle.device.specs.Files.{read_failures, write_failures};
+ghost use Rattle.std.specs.Io.KnownBytes.{Keeps, ReadConsumes, WriteAppends};
+ghost use Rattle.device.specs.Files.{read_file, read_failures, written_file, write_failures};
 
 use crate::{Failed, Failures, Sink, Source};
 use std::fs::OpenFile;
@@ -18,7 +21,8 @@ pub struct FileSource<F> {
 impl<F> FileSource<F> {
     /// A source that gives what the file gives from where it stands.
     pub fn new(file: F) -> FileSource<F>
-        ensures { read_failures result ≡ 0 }
+        ensures file { read_file result ≡ file }
+        ensures failures { read_failures result ≡ 0 }
     {
         FileSource {
             file,
@@ -29,7 +33,8 @@ impl<F> FileSource<F> {
 
 /// One read, which is tried again where a signal interrupted it.
 fn read_once<F: Read>(file: &mut F, buffer: &mut [u8]) -> Result<usize, Failed>
-    ensures { ReadsAtMost result buffer.new }
+    ensures within { ReadsAtMost result buffer.new }
+    ensures bytes { ReadConsumes (F.remaining file.old) (F.remaining file.new) result buffer.new }
 {
     for _ in 0..u64::MAX {
         match file.read(buffer) {
@@ -46,6 +51,8 @@ fn read_once<F: Read>(file: &mut F, buffer: &mut [u8]) -> Result<usize, Failed>
 
 impl<F: Read> Source for FileSource<F> {
     ghost failures = { read_failures };
+
+    ghost left = { λ source. F.remaining (read_file source) };
 
     fn read(&mut self, buffer: &mut [u8]) -> Result<usize, Failed> {
         let answer = read_once(&mut self.file, buffer);
@@ -66,7 +73,8 @@ pub struct FileSink<F> {
 impl<F> FileSink<F> {
     /// A sink that writes to the file from where it stands.
     pub fn new(file: F) -> FileSink<F>
-        ensures { write_failures result ≡ 0 }
+        ensures file { written_file result ≡ file }
+        ensures failures { write_failures result ≡ 0 }
     {
         FileSink {
             file,
@@ -80,6 +88,7 @@ impl<F> FileSink<F> {
 fn write_once<F: Write>(file: &mut F, bytes: &[u8]) -> Result<usize, Failed>
     ensures within { WritesAtMost result bytes.now }
     ensures progress { IfOk result (λ count. 0 < length bytes.now → 0 < count) }
+    ensures bytes { WriteAppends (F.contents file.old) (F.contents file.new) result bytes.now }
 {
     for _ in 0..u64::MAX {
         match file.write(bytes) {
@@ -97,12 +106,16 @@ fn write_once<F: Write>(file: &mut F, bytes: &[u8]) -> Result<usize, Failed>
 
 /// What is in the file's own buffer is written, and the file then asked to reach its disk. Whether
 /// both were done.
-fn is_synced<F: Write + OpenFile>(file: &mut F) -> bool {
+fn is_synced<F: Write + OpenFile>(file: &mut F) -> bool
+    ensures bytes { Keeps (F.contents file.old) (F.contents file.new) }
+{
     file.flush().is_ok() && file.sync_all().is_ok()
 }
 
 impl<F: Write + OpenFile> Sink for FileSink<F> {
     ghost failures = { write_failures };
+
+    ghost taken = { λ sink. F.contents (written_file sink) };
 
     fn write(&mut self, bytes: &[u8]) -> Result<usize, Failed> {
         let answer = write_once(&mut self.file, bytes);

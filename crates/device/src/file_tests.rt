@@ -17,13 +17,16 @@ enum Turn {
     Interrupted,
     /// It fails.
     Broken,
+    /// It fails, but for a sync.
+    Unflushed,
 }
 
 /// A file that has these turns before it, and then passes no byte. It is not synced where it is about
-/// to fail.
+/// to fail, and not before it was asked to flush what was written.
 #[derive(Drop)]
 struct Fake<'a> {
     turns: &'a [Turn],
+    is_asked_to_flush: bool,
 }
 
 impl<'a> Fake<'a> {
@@ -41,7 +44,7 @@ impl<'a> Fake<'a> {
         match turn {
             Turn::Pass(count) => Ok(count.min(bytes)),
             Turn::Interrupted => Err(Error::from(ErrorKind::Interrupted)),
-            Turn::Broken => Err(Error::from(ErrorKind::Other)),
+            Turn::Broken | Turn::Unflushed => Err(Error::from(ErrorKind::Other)),
         }
     }
 }
@@ -56,11 +59,16 @@ impl<'a> Read for Fake<'a> {
 
 impl<'a> Write for Fake<'a> {
     fn write(&mut self, buf: &[u8]) -> io::Result<usize> {
+        self.is_asked_to_flush = false;
         self.turn(buf.len())
     }
 
     fn flush(&mut self) -> io::Result<()> {
-        Ok(())
+        self.is_asked_to_flush = true;
+        match self.turns.first() {
+            Some(Turn::Unflushed) => Err(Error::from(ErrorKind::Other)),
+            _ => Ok(()),
+        }
     }
 }
 
@@ -76,6 +84,7 @@ impl<'a> OpenFile for Fake<'a> {
     fn sync_all(&self) -> io::Result<()> {
         match self.turns.first() {
             Some(Turn::Broken) => Err(Error::from(ErrorKind::Other)),
+            _ if !self.is_asked_to_flush => Err(Error::from(ErrorKind::Other)),
             _ => Ok(()),
         }
     }
@@ -87,12 +96,18 @@ impl<'a> OpenFile for Fake<'a> {
 
 /// A file with these turns, to be read.
 fn source<'a>(turns: &'a [Turn]) -> FileSource<Fake<'a>> {
-    FileSource::new(Fake { turns })
+    FileSource::new(Fake {
+        turns,
+        is_asked_to_flush: false,
+    })
 }
 
 /// A file with these turns, to be written.
 fn sink<'a>(turns: &'a [Turn]) -> FileSink<Fake<'a>> {
-    FileSink::new(Fake { turns })
+    FileSink::new(Fake {
+        turns,
+        is_asked_to_flush: false,
+    })
 }
 
 #[test]
@@ -137,6 +152,18 @@ fn a_write_that_takes_nothing_fails(rt: HostRuntime) -> Result<(), Fail> {
 fn flush_syncs(rt: HostRuntime) -> Result<(), Fail> {
     assert_eq!(rt; sink(&[]).flush(), Ok(()));
     assert_eq!(rt; sink(&[Turn::Broken]).flush(), Err(Failed));
+    Ok(())
+}
+
+#[test]
+fn a_file_is_flushed_before_it_is_synced(rt: HostRuntime) -> Result<(), Fail> {
+    let turns = [Turn::Pass(3), Turn::Pass(2)];
+    let mut out = sink(&turns);
+    for bytes in [b"abc".as_slice(), b"de".as_slice()] {
+        write_all(&mut out, bytes)?;
+        assert_eq!(rt; out.flush(), Ok(()));
+    }
+    assert_eq!(rt; sink(&[Turn::Unflushed]).flush(), Err(Failed));
     Ok(())
 }
 

@@ -7,6 +7,7 @@ mod failures;
 mod file;
 #[cfg(test)]
 mod file_tests;
+mod kept;
 mod memory;
 mod slow;
 #[cfg(test)]

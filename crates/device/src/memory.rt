@@ -1,8 +1,9 @@
 //! Devices over memory. They tell their bytes.
 
 ghost use Rattle.std.specs.Prelude.{◌≡◌, ℕ, Some, []};
-ghost use Rattle.device.specs.Memory.{bytes_left, bytes_taken, failures_met};
+ghost use Rattle.device.specs.Memory.{bytes_left, bytes_taken, bytes_flushed, failures_met};
 
+use crate::kept::Kept;
 use crate::{Failed, Failures, Sink, Source};
 use std::alloc::Global;
 use std::io::Read;
@@ -39,7 +40,7 @@ impl<'a> Source for MemorySource<'a> {
 /// A sink that keeps what it takes. It fails where it is refused the memory for it.
 #[derive(Drop)]
 pub struct MemorySink {
-    bytes: Vec<u8>,
+    kept: Kept,
     failures: Failures,
 }
 
@@ -47,10 +48,11 @@ impl MemorySink {
     /// A sink that has taken nothing. It takes no memory before its first byte.
     pub fn new(alloc: Global) -> MemorySink
         ensures taken { bytes_taken result ≡ [] }
+        ensures flushed { bytes_flushed result ≡ [] }
         ensures failures { failures_met result ≡ 0 }
     {
         MemorySink {
-            bytes: Vec::new(alloc),
+            kept: Kept::new(Vec::new(alloc)),
             failures: Failures::new(),
         }
     }
@@ -59,7 +61,14 @@ impl MemorySink {
     pub fn bytes(&self) -> &[u8]
         ensures { result.now ≡ bytes_taken self.now }
     {
-        &self.bytes
+        self.kept.bytes()
+    }
+
+    /// Those of them that are flushed: all that had been taken at the last flush.
+    pub fn flushed(&self) -> &[u8]
+        ensures { result.now ≡ bytes_flushed self.now }
+    {
+        self.kept.flushed()
     }
 }
 
@@ -68,8 +77,10 @@ impl Sink for MemorySink {
 
     ghost taken = { λ sink. Some (bytes_taken sink) };
 
+    ghost flushed = { λ sink. Some (bytes_flushed sink) };
+
     fn write(&mut self, bytes: &[u8]) -> Result<usize, Failed> {
-        match self.bytes.extend_from_slice(bytes) {
+        match self.kept.append(bytes) {
             Ok(()) => Ok(bytes.len()),
             Err(_) => {
                 self.failures.rise();
@@ -79,6 +90,7 @@ impl Sink for MemorySink {
     }
 
     fn flush(&mut self) -> Result<(), Failed> {
+        self.kept.flush();
         Ok(())
     }
 }

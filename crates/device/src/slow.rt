@@ -2,8 +2,9 @@
 //! beforehand. They tell their bytes.
 
 ghost use Rattle.std.specs.Prelude.{◌≡◌, Some, None, false, [], IfOk, ◌<◌, ◌≤◌};
-ghost use Rattle.device.specs.Slow.{bytes_left, bytes_taken, read_failures, write_failures};
+ghost use Rattle.device.specs.Slow.{bytes_left, bytes_taken, bytes_flushed, read_failures, write_failures};
 
+use crate::kept::Kept;
 use crate::{Failed, Failures, Sink, Source};
 use std::alloc::{AllocError, Global};
 
@@ -97,7 +98,7 @@ impl<'a> Source for SlowSource<'a> {
 /// A sink that keeps what it takes, in room that it has beforehand. It fails where that is full.
 #[derive(Drop)]
 pub struct SlowSink {
-    bytes: Vec<u8>,
+    kept: Kept,
     pace: Pace,
     failures: Failures,
 }
@@ -106,10 +107,11 @@ impl SlowSink {
     /// A sink that has taken nothing, with room for so many bytes. `AllocError` where that was refused.
     pub fn new(alloc: Global, room: usize, pace: Pace) -> Result<SlowSink, AllocError>
         ensures taken { IfOk result (λ sink. bytes_taken sink ≡ []) }
+        ensures flushed { IfOk result (λ sink. bytes_flushed sink ≡ []) }
         ensures failures { IfOk result (λ sink. write_failures sink ≡ 0) }
     {
         Ok(SlowSink {
-            bytes: Vec::with_capacity(alloc, room)?,
+            kept: Kept::new(Vec::with_capacity(alloc, room)?),
             pace,
             failures: Failures::new(),
         })
@@ -119,7 +121,14 @@ impl SlowSink {
     pub fn bytes(&self) -> &[u8]
         ensures { result.now ≡ bytes_taken self.now }
     {
-        &self.bytes
+        self.kept.bytes()
+    }
+
+    /// Those of them that are flushed: all that had been taken at the last flush that did not fail.
+    pub fn flushed(&self) -> &[u8]
+        ensures { result.now ≡ bytes_flushed self.now }
+    {
+        self.kept.flushed()
     }
 }
 
@@ -128,9 +137,11 @@ impl Sink for SlowSink {
 
     ghost taken = { λ sink. Some (bytes_taken sink) };
 
+    ghost flushed = { λ sink. Some (bytes_flushed sink) };
+
     fn write(&mut self, bytes: &[u8]) -> Result<usize, Failed> {
         let count = self.pace.count_of(bytes.len());
-        if self.pace.is_due() || self.bytes.extend_from_slice(&bytes[..count]).is_err() {
+        if self.pace.is_due() || self.kept.append(&bytes[..count]).is_err() {
             self.failures.rise();
             return Err(Failed);
         }
@@ -142,6 +153,7 @@ impl Sink for SlowSink {
             self.failures.rise();
             return Err(Failed);
         }
+        self.kept.flush();
         Ok(())
     }
 }

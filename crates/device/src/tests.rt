@@ -124,6 +124,25 @@ fn flush_fails(rt: HostRuntime) -> Result<(), Fail> {
 }
 
 #[test]
+fn flush_reaches_all_that_was_taken(rt: HostRuntime) -> Result<(), Fail> {
+    let mut memory = MemorySink::new(rt.alloc());
+    write_all(&mut memory, b"abc")?;
+    assert!(rt; memory.flushed().is_empty());
+    memory.flush()?;
+    write_all(&mut memory, b"de")?;
+    assert!(rt; memory.flushed() == b"abc".as_slice());
+    let mut slow = SlowSink::new(rt.alloc(), 5, unflushed())?;
+    write_all(&mut slow, b"abcde")?;
+    assert_eq!(rt; slow.flush(), Err(Failed));
+    assert!(rt; slow.flushed().is_empty());
+    let mut slow = SlowSink::new(rt.alloc(), 5, Pace::of_step(2))?;
+    write_all(&mut slow, b"abcde")?;
+    slow.flush()?;
+    assert!(rt; slow.flushed() == b"abcde".as_slice());
+    Ok(())
+}
+
+#[test]
 fn store_source_fails(rt: HostRuntime) -> Result<(), Fail> {
     assert_eq!(rt;
         read_in(rt.alloc(), 1048, failing(1000, 2))?,

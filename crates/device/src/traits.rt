@@ -1,10 +1,11 @@
 //! What a device is.
 
-ghost use Rattle.std.specs.Prelude.{ℕ, List, None, IfOk, ◌<◌, length};
+ghost use Rattle.std.specs.Prelude.{ℕ, List, None, IfOk, OnOk, ◌<◌, length};
 ghost use Rattle.std.specs.declared.option.Option.{Option};
 ghost use Rattle.std.specs.Io.{ReadsAtMost, WritesAtMost};
 ghost use Rattle.std.specs.Io.KnownBytes.{Keeps, ReadConsumes, WriteAppends};
 ghost use Rattle.device.specs.Failures.{Counts};
+ghost use Rattle.device.specs.Whole.{Flushes};
 
 /// A device failed. Why, it does not say.
 #[derive(Clone, Copy, Debug, PartialEq, Eq, Drop)]
@@ -31,13 +32,17 @@ pub trait Source {
 }
 
 /// A device that bytes are written to. A contract sees how often it has failed and, where it tells
-/// them, the bytes that it has taken.
+/// them, the bytes that it has taken and those of them that are flushed.
 pub trait Sink {
     /// How often the device has failed so far.
     ghost failures: { Self → ℕ };
 
     /// The bytes taken so far, or `None` where the device does not tell them.
     ghost taken: { Self → Option (List ℕ) } = { λ _. None };
+
+    /// The bytes that had been taken when a flush was last answered, or `None` where the device does
+    /// not tell them.
+    ghost flushed: { Self → Option (List ℕ) } = { λ _. None };
 
     /// Takes a beginning of the bytes behind those taken so far, and gives its length: 0 only where
     /// there are no bytes.
@@ -48,12 +53,16 @@ pub trait Sink {
         ensures bound { WritesAtMost result bytes.now }
         ensures progress { IfOk result (λ count. 0 < length bytes.now → 0 < count) }
         ensures bytes { WriteAppends (taken self.old) (taken self.new) result bytes.now }
+        ensures unflushed { Keeps (flushed self.old) (flushed self.new) }
         ensures cause { Counts (failures self.old) (failures self.new) result };
 
-    /// Asks that the bytes taken so far reach the place where they stay. None is taken by it.
+    /// Asks that the bytes taken so far reach the place where they stay: on an answer all of them are
+    /// flushed. None is taken by it.
     ///
-    /// `Failed` where the device failed. Its count of failures has then risen by one.
+    /// `Failed` where the device failed. Its count of failures has then risen by one, and which of the
+    /// bytes are flushed is not told.
     fn flush(&mut self) -> Result<(), Failed>
         ensures bytes { Keeps (taken self.old) (taken self.new) }
+        ensures all { OnOk result (Flushes (flushed self.old) (flushed self.new) (taken self.new)) }
         ensures cause { Counts (failures self.old) (failures self.new) result };
 }

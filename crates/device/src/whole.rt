@@ -82,6 +82,7 @@ pub fn write_all<S: Sink>(sink: &mut S, bytes: &[u8]) -> Result<(), Failed>
     ensures all { OnOk result (Appends (S.taken sink.old) (S.taken sink.new) bytes.now) }
     ensures cause { Counts (S.failures sink.old) (S.failures sink.new) result }
     ensures beginning { OnErr result (TookBeginning (S.taken sink.old) (S.taken sink.new) bytes.now) }
+    ensures unflushed { Keeps (S.flushed sink.old) (S.flushed sink.new) }
 {
     let mut rest = bytes;
     while !rest.is_empty() {

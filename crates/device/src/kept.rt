@@ -1,0 +1,57 @@
+//! What a sink over memory keeps.
+
+ghost use Rattle.std.specs.Prelude.{◌≡◌, ◌≤◌, ◌++◌, [], vec_len, OnOk, OnErr};
+
+use std::alloc::AllocError;
+
+/// Bytes that were taken, of which a beginning is flushed.
+#[derive(Drop)]
+pub struct Kept {
+    bytes: Vec<u8>,
+    /// How many of them are flushed.
+    flushed: usize,
+    ghost within: { flushed ≤ vec_len bytes },
+}
+
+impl Kept {
+    ghost use Rattle.device.specs.Kept.{bytes_taken, bytes_flushed};
+
+    /// These bytes, of which none is flushed.
+    pub fn new(bytes: Vec<u8>) -> Kept
+        ensures taken { bytes_taken result ≡ bytes.items }
+        ensures flushed { bytes_flushed result ≡ [] }
+    {
+        Kept { bytes, flushed: 0 }
+    }
+
+    /// The bytes taken so far.
+    pub fn bytes(&self) -> &[u8]
+        ensures { result.now ≡ bytes_taken self.now }
+    {
+        &self.bytes
+    }
+
+    /// Those of them that are flushed.
+    pub fn flushed(&self) -> &[u8]
+        ensures { result.now ≡ bytes_flushed self.now }
+    {
+        &self.bytes[..self.flushed]
+    }
+
+    /// Takes more bytes. `AllocError` where memory for them was refused; none is taken then.
+    pub fn append(&mut self, bytes: &[u8]) -> Result<(), AllocError>
+        ensures taken { OnOk result (bytes_taken self.new ≡ bytes_taken self.old ++ bytes.now) }
+        ensures refused { OnErr result (bytes_taken self.new ≡ bytes_taken self.old) }
+        ensures unflushed { bytes_flushed self.new ≡ bytes_flushed self.old }
+    {
+        self.bytes.extend_from_slice(bytes)
+    }
+
+    /// Flushes all.
+    pub fn flush(&mut self)
+        ensures taken { bytes_taken self.new ≡ bytes_taken self.old }
+        ensures all { bytes_flushed self.new ≡ bytes_taken self.new }
+    {
+        self.flushed = self.bytes.len();
+    }
+}
