@@ -1,7 +1,7 @@
 -- A rollback at its start: the losers are resolved one after the other.
 use Rattle.std.specs.Prelude.{All, filter}
-use Rattle.std.proofs.Common.{ℕ, suc, ◌≡◌, ◌≢◌, ◌+◌, ◌⊎◌, Bool, true, false, cond, List, [], ◌∷◌, ◌++◌, append-nil, length, map, Option, Some, None, refl, sym, ap, ap₂, ◌∙◌, subst, inl, inr, arith, eq-eqb, ne_eqb, eqb-true, eqb, zero, ◌<◌}
-use Rattle.std.proofs.lemmas.Bool.{cases_Bool, cases_eq, cond_both, false≢true, or_cases, or_parts, or_left, or_right, both_ways}
+use Rattle.std.proofs.Common.{ℕ, suc, ◌≡◌, ◌≢◌, ◌+◌, ◌⊎◌, Bool, true, false, cond, List, [], ◌∷◌, ◌++◌, append-nil, length, map, Option, Some, None, refl, sym, ap, ap₂, ◌∙◌, subst, inl, inr, arith, eq-eqb, ne_eqb, eqb-true, eqb, ltb, zero, ◌<◌, ◌≤◌}
+use Rattle.std.proofs.lemmas.Bool.{cases_Bool, cases_eq, cond_both, ltb-true, ltb-false, false≢true, or_cases, or_parts, or_left, or_right, both_ways}
 use Rattle.std.proofs.lemmas.List.Elements.{All-nil, All-cons}
 use Rattle.page.specs.declared.fault.Fault.{Fault}
 use Rattle.page.specs.declared.fault.Fault.TheVariants.{NoResource, BrokenChain}
@@ -12,10 +12,13 @@ use Rattle.wal.specs.Store.{NamesPages}
 use Rattle.wal.specs.Undo.{entry_for, walk_of, last_in}
 use Rattle.wal.proofs.Actions.{AllFor}
 use Rattle.aries.specs.declared.losers.Loser.{Loser}
-use Rattle.aries.specs.Undone.{UndoFault}
+use Rattle.aries.specs.Undone.{EndsBadly, last_met, lowest, UndoFault}
 use Rattle.aries.specs.Rollback.{walk_from, WalkFault, Places, Ends, Stays, Resolved, Waits, IsDone, HasPlace, undos, Rolls, met_by, last_by, meets_nothing, end_of, AreEnds, Begun}
+use Rattle.aries.proofs.Lowest.{lowest_most}
+use Rattle.aries.proofs.Rolling.{place_within, last_within}
 use Rattle.aries.proofs.Walks.{first_whole}
-use Rattle.wal.proofs.Entries.{AreDistinct, entry_own}
+use Rattle.wal.proofs.Entries.{AreDistinct, Rise, entry_own, none_for}
+use Rattle.wal.proofs.Histories.{record_within}
 
 -- WHAT IS WRITTEN OF TWO LISTS
 after : (ℕ → ℕ) → ℕ → List Action → ℕ → ℕ
@@ -96,8 +99,9 @@ idle_others p t h (x ∷ ts) =
     (λ _. idle_others p t h ts)
 
 -- ALL LOSERS HAVE BEEN RESOLVED
-pub begun_rolls : (log : History) (losers : List TableEntry) (at : Places) (appended : List LogRecord) → AreDistinct (map tx_in losers) → Begun log losers losers at appended → Rolls log losers at appended
-begun_rolls log losers at appended distinct b = record {
+pub begun_rolls : (log : History) (losers : List TableEntry) (at : Places) (appended : List LogRecord) → AreDistinct (map tx_in losers) → Begun log losers losers at appended
+    → (count : ℕ) → Rolls log losers count at appended
+begun_rolls log losers at appended distinct b count = record {
   left = met_by log losers;
   last = after (last_by losers) n0 idles;
   whole =
@@ -114,6 +118,7 @@ begun_rolls log losers at appended distinct b = record {
         met = w.met;
       });
   each = λ t. by_entry t (entry_for t losers) refl;
+  met = λ t n h. inl h;
 }
   where
     n0 : ℕ
@@ -177,10 +182,43 @@ module _ (log : History) (losers done : List TableEntry) (at new : Places) (appe
   own_walk : (hops e.tx log e.undo_next).met ≡ met_by log losers e.tx
   own_walk = sym (ap (λ o. (walk_of log o).met) own)
 
-  pub broken_start : (count : ℕ) (f : Fault) → WalkFault (walk_from log e.tx end e.undo_next) f → UndoFault log losers count f
-  broken_start count NoResource h = tt
-  broken_start count (BrokenChain n) h = record { loser = e.tx; ends = ap (λ w. w.ends) (sym walk_is) ∙ h.1; bad = h.0 }
-  broken_start count _ h = absurd h
+  -- of the losers resolved before, those that walk badly have met an update
+  module _ (earlier : (t : ℕ) (x : TableEntry) → t < e.tx → entry_for t losers ≡ Some x → is_among t (map tx_in done) ≡ true) where
+    met_before : (t : ℕ) → t < e.tx → EndsBadly log losers t → last_met log losers t ≤ size log
+    met_before t lt bad = by_entry (entry_for t losers) refl
+      where
+        by_entry : (o : Option TableEntry) → entry_for t losers ≡ o → last_met log losers t ≤ size log
+        by_entry None none = absurd (bad (ap (λ x. (walk_of log x).ends) none))
+        by_entry (Some x) some =
+            elim (b.each t (earlier t x lt some)) [
+              | inl d ↦ absurd (bad d.ends)
+              | inr p ↦
+                  (let w = b.waits p.place p.loser p.there in
+                  subst (λ k. last_met log losers k ≤ size log) p.own
+                  (omega (arith, last_within log losers (met_by log losers) (last_by losers) p.place p.loser w, place_within log p.loser.tx p.place w.at_place)))
+            ]
+
+    pub broken_start : (count : ℕ) (f : Fault) → WalkFault (walk_from log e.tx end e.undo_next) f → UndoFault log losers count f
+    broken_start count NoResource h = tt
+    broken_start count (BrokenChain n) h =
+        let walk = sym walk_is ∙ h.1 in
+        let none_met : last_met log losers e.tx ≡ suc (size log) = ap (λ w. lowest (suc (size log)) w.met) walk in
+        record {
+          loser = e.tx;
+          ends = ap (λ w. w.ends) walk;
+          bad = h.0;
+          behind = λ lsn u le m. absurd (omega (arith, record_within log lsn (Update u) m.found, le, none_met));
+          first = λ t bad.
+              elim (cases_Bool (ltb t e.tx)) [
+                | inl i ↦ inl (omega (arith, met_before t (ltb-true t e.tx i) bad, none_met))
+                | inr i ↦
+                    elim (cases_eq (last_met log losers t) (suc (size log))) [
+                      | inl j ↦ inr (j ∙ sym none_met, omega (arith, ltb-false t e.tx i))
+                      | inr j ↦ inl (omega (arith, lowest_most (suc (size log)) (walk_of log (entry_for t losers)).met, j, none_met))
+                    ]
+              ];
+        }
+    broken_start count _ h = absurd h
 
   ended_more : Ends log loser end e.undo_next at new appended after_ → Begun log losers (done ++ e ∷ []) new after_
   ended_more s = record {
@@ -255,6 +293,19 @@ module _ (log : History) (losers done : List TableEntry) (at new : Places) (appe
 
   pub begun_more : Resolved log loser end e.undo_next at new appended after_ → Begun log losers (done ++ e ∷ []) new after_
   begun_more resolved = elim resolved [ inl s ↦ ended_more s | inr s ↦ stayed_more s ]
+
+-- in a table whose numbers rise, a smaller number stands earlier
+pub stands_earlier : (bound : ℕ) (done rest : List TableEntry) (e : TableEntry) → Rise bound (done ++ e ∷ rest)
+    → (t : ℕ) (x : TableEntry) → t < e.tx → entry_for t (done ++ e ∷ rest) ≡ Some x → is_among t (map tx_in done) ≡ true
+stands_earlier bound [] rest e rises t x lt some =
+    absurd (let f : None ≡ Some x = sym (none_for e.tx t (e ∷ rest) (omega arith, rises.1) lt) ∙ some in cc)
+stands_earlier bound (d ∷ done) rest e rises t x lt some =
+    elim (cases_eq d.tx t) [
+      | inl i ↦ or_left (eqb t d.tx) (is_among t (map tx_in done)) (eq-eqb t d.tx (sym i))
+      | inr i ↦
+          or_right (eqb t d.tx) (is_among t (map tx_in done))
+          (stands_earlier (suc d.tx) done rest e rises.1 t x lt (sym (ap (λ c. cond c (Some d) (entry_for t (done ++ e ∷ rest))) (ne_eqb d.tx t i)) ∙ some))
+    ]
 
 -- ENDS ALONE
 pub are_ends : (es : List TableEntry) → AreEnds (map end_of es)

@@ -74,7 +74,7 @@ dealt_by_number pages parts part_of is = ap length is ∙ length-map-range_with_
 pub restart_cause : (log store : List ℕ) (options : Options) (parting : PartingContent) (e : Fault) → AreInRange options → (are : Are log store) → AreSettings (length are.before.pages) parting options.workers
     → RestartFault are.records are.before parting options.workers e → Cause log store options e
 restart_cause log store options parting e range are fit (inl h) = absurd (settings_hold (length are.before.pages) parting options.workers e fit h)
-restart_cause log store options parting e range are fit (inr h) = by_input e h
+restart_cause log store options parting e range are fit (inr h) = by_input e h.1
   where
     by_input : (e : Fault) → InputFault are.records are.before e → Cause log store options e
     by_input NoResource h = tt

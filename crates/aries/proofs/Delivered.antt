@@ -1,7 +1,7 @@
 -- A recovery over devices: what was read, what is out, and why it is refused.
-use Rattle.std.proofs.Common.{ℕ, ◌≡◌, ◌+◌, List, ◌++◌, length, take, Option, Some, None, sym, subst, ap, ◌∙◌, arith, length-append}
+use Rattle.std.proofs.Common.{ℕ, ◌≡◌, ◌+◌, List, ◌++◌, length, take, Option, Some, None, sym, subst, ap, ◌∙◌, arith, inl, inr, length-append}
 use Rattle.std.proofs.Math.Seq.{take-append-add}
-use Rattle.std.proofs.KnownBytes.{Appends-trans}
+use Rattle.std.proofs.KnownBytes.{Appends-trans, Keeps-refl}
 use Rattle.std.specs.Io.KnownBytes.{Appends}
 use Rattle.page.specs.declared.fault.Fault.{Fault}
 use Rattle.page.specs.declared.fault.Fault.TheVariants.{NoResource, ReadLog, ReadStore, WriteLog, WriteStore, BadWorkers, BadParting}
@@ -12,7 +12,7 @@ use Rattle.wal.proofs.CutBytes.{cuts_settle}
 use Rattle.device.specs.Whole.{TookBeginning}
 use Rattle.aries.specs.declared.recovery.Options.{Options}
 use Rattle.aries.specs.declared.report.Report.{Report}
-use Rattle.aries.specs.Recovery.{AreLawful, AreCut, Cause}
+use Rattle.aries.specs.Recovery.{Recovers, AreLawful, AreCut, Cause}
 use Rattle.aries.specs.Devices.{Gave, AreRead, Makes, Leaves, IsOut, DeviceCause, Delivers, Completes, IsResourceOrDevice}
 
 some_same : {X : Type 0} {x y : X} → Some x ≡ Some y → x ≡ y
@@ -26,6 +26,19 @@ told (Some xs) bytes known gave e = gave ∙ some_same e
 -- what was read, the log as it is lent
 pub lent_read : (log_left store_left : Option (List ℕ)) (log lent_log store : List ℕ) → AreRead log_left store_left log store → lent_log ≡ log → AreRead log_left store_left lent_log store
 lent_read log_left store_left log lent_log store read e = record { log_read = subst (Gave log_left) (sym e) read.log_read; store_read = read.store_read }
+
+-- what is made of it, the log as it is lent
+abbrev pub lent_makes : {log_left store_left : Option (List ℕ)} (log lent_log store new_log new_store : List ℕ) (report : Report) → AreRead log_left store_left log store → lent_log ≡ log
+    → Recovers lent_log store new_log new_store report → Makes log_left store_left
+lent_makes {log_left} {store_left} log lent_log store new_log new_store report read e recovers = record {
+  log = lent_log;
+  store = store;
+  new_log = new_log;
+  new_store = new_store;
+  report = report;
+  are_read = lent_read log_left store_left log lent_log store read e;
+  recovers = recovers;
+}
 
 -- and where the sources tell lawful bytes, it is lawful
 abbrev pub lent_lawful : {log_left store_left : Option (List ℕ)} (log lent_log store log_text store_text : List ℕ) → AreRead log_left store_left log store → lent_log ≡ log
@@ -51,6 +64,27 @@ device_cause log_left store_left options log store WriteStore read h = tt
 device_cause log_left store_left options log store BadWorkers read h = h
 device_cause log_left store_left options log store BadParting read h = h
 device_cause log_left store_left options log store e read h = (log, store, read, h)
+
+-- and none of a sink, so nothing is out
+never_sink : (log store : List ℕ) (options : Options) → (Cause log store options WriteLog → ⊥) × (Cause log store options WriteStore → ⊥)
+never_sink log store options = (
+  λ h.
+      elim h.1 [
+        | inl i ↦ i.1.fault
+        | inr i ↦ elim i [ inl j ↦ j.3 | inr j ↦ j.1.1.holds ]
+      ],
+  λ h.
+      elim h.1 [
+        | inl i ↦ i.1.fault
+        | inr i ↦ elim i [ inl j ↦ j.3 | inr j ↦ j.1.1.holds ]
+      ],
+)
+
+pub nothing_out : (log_left store_left log_taken store_taken : Option (List ℕ)) (log store : List ℕ) (options : Options) (e : Fault) → Cause log store options e
+    → IsOut log_left store_left log_taken log_taken store_taken store_taken e
+nothing_out log_left store_left log_taken store_taken log store options WriteLog h = absurd ((never_sink log store options).0 h)
+nothing_out log_left store_left log_taken store_taken log store options WriteStore h = absurd ((never_sink log store options).1 h)
+nothing_out log_left store_left log_taken store_taken log store options e h = (Keeps-refl log_taken, Keeps-refl store_taken)
 
 pub is_resource : (e : Fault) → e ≡ NoResource → IsResourceOrDevice e
 is_resource e alone = subst IsResourceOrDevice (sym alone) tt

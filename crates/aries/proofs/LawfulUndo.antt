@@ -24,7 +24,7 @@ module _ (records : List LogRecord) (store : StoreContent) (tables : Tables) (la
   pub memory_alone : (count : ℕ) (e : Fault) → count ≡ length store.pages → UndoFault (history records) (losers_in tables) count e → e ≡ NoResource
   memory_alone count NoResource len h = refl
   memory_alone count (NoSuchPage n) len h =
-      absurd (let named : h.update.page < length store.pages = each_found (NamesPages (length store.pages)) records lawful.names_pages n (Update h.update) h.found in
+      absurd (let named : h.update.page < length store.pages = each_found (NamesPages (length store.pages)) records lawful.names_pages n (Update h.update) h.is_met.found in
       omega (arith, named, h.missing, len))
   memory_alone count (BrokenChain n) len h =
       absurd (h.bad (sym h.ends ∙ ap (λ losers. (walk_of (history records) (entry_for h.loser losers)).ends) are_true.losers ∙ undoes_all.no_bad_hop h.loser))

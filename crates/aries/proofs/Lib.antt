@@ -3,6 +3,7 @@ pub mod Restored
 pub mod Walks
 pub mod UndonePages
 pub mod Meeting
+pub mod Lowest
 pub mod Rolling
 pub mod Placed
 pub mod Beginning
@@ -10,4 +11,8 @@ pub mod LawfulUndo
 pub mod Causes
 pub mod Bytes
 pub mod Delivered
+pub mod Resuming
 pub mod Lines
+pub mod OneAnswer
+pub mod OneCause
+pub mod OneTextCause

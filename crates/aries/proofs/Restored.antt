@@ -1,6 +1,6 @@
 -- A restart of a lawful log and its store.
 use Rattle.std.proofs.Common.{ℕ, suc, ◌≡◌, ◌<◌, ◌≤◌, true, cond, ◌&&◌, eqb, ltb, List, [], ◌∷◌, ◌++◌, Some, None, Result, Ok, Err, length, get_or, map, refl, sym, ap, ap₂, ◌∙◌, subst, inl, inr, arith}
-use Rattle.std.specs.Prelude.{IfOk, MatchResult}
+use Rattle.std.specs.Prelude.{IfOk, MatchResult, sum}
 use Rattle.std.specs.List.{range_with_len}
 use Rattle.std.proofs.lemmas.Bool.{cases_Bool, cond_both, lt-ltb}
 use Rattle.std.proofs.lemmas.List.{length-map, get_or-map, ext_get_or}
@@ -23,11 +23,12 @@ use Rattle.wal.proofs.Redone.{redo_suffices}
 use Rattle.wal.proofs.Settled.{store_settles}
 use Rattle.wal.proofs.Ends.{losers_end}
 use Rattle.analysis.specs.declared.tables.Tables.{Tables}
+use Rattle.analysis.specs.Tables.{AreTablesOf}
 use Rattle.analysis.specs.Lawful.{AreTrue}
 use Rattle.analysis.specs.Tables.{base_of, is_begin, BaseFault}
 use Rattle.redo.specs.Changes.{NamesBelow}
 use Rattle.redo.specs.declared.redone.Redone.{Redone}
-use Rattle.redo.specs.Redone.{redone_page, IsFirstMissing, AreWorkers, RedoFault}
+use Rattle.redo.specs.Redone.{redone_page, IsFirstMissing, AreWorkers, RedoFault, applied_to}
 use Rattle.aries.specs.declared.outcome.Outcome.{Outcome}
 use Rattle.aries.specs.Undone.{losers_in, undone_page}
 use Rattle.aries.proofs.UndonePages.{no_effects, no_last}
@@ -86,7 +87,7 @@ module _ (records : List LogRecord) (before : StoreContent) (lawful : Lawful rec
       ap (λ log. replayed_page log page) whole_is
       ∙ ap (λ state. record { number = page; lsn = last_on page (history (records ++ tail_of records)); slots = slots_in state page }) (replay_is_winners records lawful.log)
 
-  module _ (numbered : AreNumbered before.pages) (tables : Tables) (truth : AreTrue records before tables) where
+  module _ (numbered : AreNumbered before.pages) (tables : Tables) (are : AreTablesOf records before.master tables) (truth : AreTrue records before tables) where
     -- redo by true tables, and then the tail, make the pages what the winners leave
     pages_out : map (undone_page (history records) (tail_of records)) (map (redone_page records tables) before.pages) ≡ (store_out records before).pages
     pages_out =
@@ -113,10 +114,12 @@ module _ (records : List LogRecord) (before : StoreContent) (lawful : Lawful rec
     settles : IsSettled (records ++ tail_of records) (store_out records before)
     settles =
         let s = store_settles records before numbered lawful in
-        record { lawful = s.lawful; no_tail = (tail_settles records lawful.log).no_tail; same_store = s.same_store }
+        let end = tail_settles records lawful.log in
+        record { lawful = s.lawful; no_loser = end.no_loser; no_tail = end.no_tail; same_store = s.same_store }
 
-    restores : (redone : Redone) (x : Outcome) → redone.pages.items ≡ map (redone_page records tables) before.pages → RollsBack records before.master tables redone x → appended_by x ≡ tail_of records → Restores records before x
-    restores redone x redone_is back tail =
+    restores : (redone : Redone) (x : Outcome) → redone.pages.items ≡ map (redone_page records tables) before.pages → redone.applied ≡ sum (map (applied_to records tables) before.pages) → RollsBack records before.master tables redone x
+        → appended_by x ≡ tail_of records → Restores records before x
+    restores redone x redone_is applied back tail =
         let store : x.store ≡ store_out records before =
         ap₂ (λ m (ps : List Page). record { master = m; pages = ps }) back.master_kept
         (back.pages ∙ ap₂ (λ rs ps. map (undone_page (history records) rs) ps) tail redone_is ∙ pages_out) in
@@ -124,15 +127,16 @@ module _ (records : List LogRecord) (before : StoreContent) (lawful : Lawful rec
           appended = tail;
           store = store;
           settled = subst (λ s. IsSettled (records ++ appended_by x) s) (sym store) (subst (λ rs. IsSettled (records ++ rs) (store_out records before)) (sym tail) settles);
+          redoes = record { tables = tables; are = are; begins = back.redo_from; applies = back.applied ∙ applied };
           losers = back.losers ∙ losers_count;
           ended = back.ended ∙ ap ends_in tail ∙ losers_end records lawful.log;
           compensated = back.compensated ∙ ap clrs_in tail;
         }
 
-    pub outcome_restores : (redone : Redone) (r : Result Outcome Fault) → redone.pages.items ≡ map (redone_page records tables) before.pages → IfOk r (RollsBack records before.master tables redone)
+    pub outcome_restores : (redone : Redone) (r : Result Outcome Fault) → redone.pages.items ≡ map (redone_page records tables) before.pages → redone.applied ≡ sum (map (applied_to records tables) before.pages) → IfOk r (RollsBack records before.master tables redone)
         → MatchResult r (λ x. appended_by x ≡ tail_of records) (λ e. e ≡ NoResource) → MatchResult r (Restores records before) (λ e. e ≡ NoResource)
-    outcome_restores redone (Ok x) redone_is back tail = restores redone x redone_is back tail
-    outcome_restores redone (Err e) redone_is back alone = alone
+    outcome_restores redone (Ok x) redone_is applied back tail = restores redone x redone_is applied back tail
+    outcome_restores redone (Err e) redone_is applied back alone = alone
 
   -- WHAT DOES NOT COME
   none_ahead : (number : ℕ) → IsFirstAhead records before.pages number → ⊥

@@ -1,6 +1,6 @@
 -- A rollback under way, one update on.
 use Rattle.std.specs.Prelude.{flat_map, All, map}
-use Rattle.std.proofs.Common.{append_assoc, append-nil, length-append, ℕ, suc, zero, ◌≡◌, ◌≢◌, ◌+◌, ◌<◌, ◌≤◌, true, false, cond, List, [], ◌∷◌, ◌++◌, length, Some, None, refl, sym, ap, ap₂, ◌∙◌, subst, inl, inr, arith, eq-eqb, ne_eqb, eqb-true, eqb}
+use Rattle.std.proofs.Common.{append_assoc, append-nil, length-append, ℕ, suc, zero, ◌≡◌, ◌≢◌, ◌+◌, ◌⊎◌, ◌<◌, ◌≤◌, true, false, cond, List, [], ◌∷◌, ◌++◌, length, Some, None, refl, sym, ap, ap₂, ◌∙◌, subst, inl, inr, arith, eq-eqb, ne_eqb, eqb-true, eqb}
 use Rattle.std.proofs.lemmas.List.Elements.{All-push}
 use Rattle.std.proofs.lemmas.Bool.{cases_eq, false≢true, or_cases, or_left, or_right, both_ways}
 use Rattle.page.specs.declared.page.Page.{Page}
@@ -15,9 +15,11 @@ use Rattle.wal.proofs.Stacks.{Falls, Falls-more, Falls-among, IsUpdateOf}
 use Rattle.wal.proofs.Filters.{leading, no_update}
 use Rattle.wal.proofs.Rollback.{AreStacks, on_top, taken_off}
 use Rattle.aries.specs.declared.losers.Loser.{Loser}
-use Rattle.aries.specs.Undone.{NoBadHop, undone_page, UndoFault}
-use Rattle.aries.specs.Rollback.{walk_from, WalkFault, IsUpdateAt, Places, Ends, Stays, Resolved, Taken, Waits, IsDone, HasPlace, undos, Rolls, CompensationFault}
+use Rattle.aries.specs.Undone.{NoBadHop, undone_page, MetExist, EndsBadly, last_met, UndoFault}
+use Rattle.aries.specs.Rollback.{walk_from, WalkFault, IsUpdateAt, Places, Ends, Stays, Resolved, Taken, AreBelow, Waits, IsDone, HasPlace, undos, IsPassed, Rolls, CompensationFault}
+use Rattle.aries.proofs.Lowest.{lowest_among, lowest_least}
 use Rattle.aries.proofs.Meeting.{walk_falls, walk_found}
+use Rattle.aries.proofs.Placed.{left_below}
 use Rattle.aries.proofs.UndonePages.{idle_undone, end_idle}
 
 -- A LOSER AT ITS PLACE
@@ -45,8 +47,17 @@ module _ (log : History) (losers : List TableEntry) (left : ℕ → List ℕ) (l
   left_most : (m : ℕ) → is_among m (left l.tx) ≡ true → m ≤ n
   left_most m h = omega (arith, Falls-among (suc n) m (left l.tx) left_falls h)
 
-pub stacks : (log : History) (losers : List TableEntry) (at : Places) (appended : List LogRecord) (r : Rolls log losers at appended) → AreStacks r.left log
-stacks log losers at appended r = record { falls = falls; found = found }
+  -- it has met its place
+  place_met : is_among n (walk_of log (entry_for l.tx losers)).met ≡ true
+  place_met =
+      w.met n
+      (ap (is_among n) w.left_is ∙ or_left (eqb n n) (is_among n (walk_from log l.tx n w.at_place.update.prev).met) (eq-eqb n n refl))
+
+  pub last_within : last_met log losers l.tx ≤ n
+  last_within = lowest_among (suc (size log)) n (walk_of log (entry_for l.tx losers)).met place_met
+
+pub stacks : (log : History) (losers : List TableEntry) (count : ℕ) (at : Places) (appended : List LogRecord) (r : Rolls log losers count at appended) → AreStacks r.left log
+stacks log losers count at appended r = record { falls = falls; found = found }
   where
     falls : (t : ℕ) → Falls (suc (size log)) (r.left t)
     falls t =
@@ -95,8 +106,8 @@ owed_less log last appended a actions =
     ∙ ap (λ m. (appended ++ record_for last a ∷ []) ++ written (λ t. cond (eqb (tx_for a) t) (suc (size log + length appended)) (last t)) m actions) n
 
 -- ONE UPDATE IS UNDONE
-module _ (log : History) (losers : List TableEntry) (at rest : Places) (appended : List LogRecord) (place : ℕ) (l : Loser) (taken : Taken place l at rest)
-    (r : Rolls log losers at appended) (u : UpdateRecord) (there : record_at log place ≡ Some (Update u)) where
+module _ (log : History) (losers : List TableEntry) (count : ℕ) (at rest : Places) (appended : List LogRecord) (place : ℕ) (l : Loser) (taken : Taken place l at rest)
+    (r : Rolls log losers count at appended) (u : UpdateRecord) (there : record_at log place ≡ Some (Update u)) (exists : u.page < count) where
   waited : Waits log losers r.left r.last place l
   waited = r.waits place l taken.there
 
@@ -137,7 +148,7 @@ module _ (log : History) (losers : List TableEntry) (at rest : Places) (appended
   undo_first =
       let stacked : is_stacked r.left place u ≡ true = ap (is_among place) top ∙ or_left (eqb place place) (is_among place below) (eq-eqb place place refl) in
       let (ps, e) = top_first r.left log place u there stacked most in
-      let o = on_top r.left log (stacks log losers at appended r) (place, u) ps e in
+      let o = on_top r.left log (stacks log losers count at appended r) (place, u) ps e in
       let both : place ∷ o.below ≡ place ∷ below = sym o.top ∙ top in
       let b : o.below ≡ below = cc in
       taken_off r.left left' log (place, u) ps e o (own_left ∙ sym b) other_left
@@ -169,6 +180,30 @@ module _ (log : History) (losers : List TableEntry) (at rest : Places) (appended
       let g : p.loser ≡ l = cc in
       d (sym p.own ∙ ap (λ x. x.tx) g ∙ sym own)))
       ∙ p.there
+
+  -- what was met is left, or passed now
+  still_met : (new : Places) → AreBelow place new → (t n : ℕ) → is_among n (walk_of log (entry_for t losers)).met ≡ true → (is_among n (left' t) ≡ true) ⊎ IsPassed log count new n
+  still_met new low t n h =
+      elim (r.met t n h) [
+        | inl i ↦
+            elim (cases_eq t u.tx) [
+              | inl e ↦
+                  elim (or_cases (eqb n place) (is_among n below) (ap (is_among n) (sym top ∙ ap r.left (sym e)) ∙ i)) [
+                    | inl j ↦
+                        (let here : n ≡ place = eqb-true n place j in
+                        inr (record {
+                          above = λ m x waits. omega (arith, low m x waits, here);
+                          exists = λ v found.
+                              (let f : record_at log place ≡ Some (Update v) = ap (record_at log) (sym here) ∙ found in
+                              let k : v ≡ u = cc in
+                              subst (λ (x : UpdateRecord). x.page < count) (sym k) exists);
+                        }))
+                    | inr j ↦ inl (ap (is_among n) (ap left' e ∙ own_left) ∙ j)
+                  ]
+              | inr d ↦ inl (ap (is_among n) (other_left t d) ∙ i)
+            ]
+        | inr p ↦ inr (record { above = λ m x waits. omega (arith, low m x waits, p.above place l taken.there); exists = p.exists })
+      ]
 
   ends_is : (walk_from log l.tx place u.prev).ends ≡ (walk_of log (entry_for l.tx losers)).ends
   ends_is = ap (λ x. (walk_from log l.tx place x.prev).ends) same ∙ waited.ends
@@ -219,7 +254,14 @@ module _ (log : History) (losers : List TableEntry) (at rest : Places) (appended
           (ap (is_among k) (sym (ap r.left own) ∙ top) ∙ or_right (eqb k place) (is_among k below) (ap (is_among k) (sym loser_left) ∙ i));
     }
 
-    pub stays_rolling : Rolls log losers new after
+    stays_below : AreBelow place new
+    stays_below n m e =
+        elim (cases_eq n s.place) [
+          | inl i ↦ omega (arith, s.meets.below, i)
+          | inr d ↦ left_below place l at rest taken n m (sym (elsewhere n d) ∙ e)
+        ]
+
+    pub stays_rolling : Rolls log losers count new after
     stays_rolling = record {
       left = left';
       last = last₁;
@@ -255,6 +297,7 @@ module _ (log : History) (losers : List TableEntry) (at rest : Places) (appended
                       inr (record { place = p.place; loser = p.loser; there = elsewhere p.place apart ∙ e'; own = p.own }))
                 ]
           ];
+      met = still_met new stays_below;
     }
 
   -- where nothing is left
@@ -267,7 +310,7 @@ module _ (log : History) (losers : List TableEntry) (at rest : Places) (appended
         (let e : eqb u.tx u.tx ≡ true = eq-eqb u.tx u.tx refl in
         ap₂ (λ t n. End (record { tx = t; prev = n })) own (ap (λ b. cond b lsn (r.last u.tx)) e))
 
-    pub ends_rolling : Rolls log losers new after
+    pub ends_rolling : Rolls log losers count new after
     ends_rolling = record {
       left = left';
       last = last₂;
@@ -296,10 +339,11 @@ module _ (log : History) (losers : List TableEntry) (at rest : Places) (appended
                   | inr p ↦ inr (record { place = p.place; loser = p.loser; there = s.places p.place ∙ other_place t p d; own = p.own })
                 ]
           ];
+      met = still_met new (λ n m e. left_below place l at rest taken n m (sym (s.places n) ∙ e));
     }
 
   pub undone_rolling : (new : Places) (n prev : ℕ) (middle after : List LogRecord) → n ≡ lsn → prev ≡ u.prev → middle ≡ appended ++ clr ∷ []
-      → Resolved log (record { tx = l.tx; last = n }) place prev rest new middle after → Rolls log losers new after
+      → Resolved log (record { tx = l.tx; last = n }) place prev rest new middle after → Rolls log losers count new after
   undone_rolling new n prev middle after at_lsn goes_on is resolved =
       let to_prev : Resolved log (record { tx = l.tx; last = n }) place u.prev rest new middle after =
       subst (λ k. Resolved log (record { tx = l.tx; last = n }) place k rest new middle after) goes_on resolved in
@@ -311,33 +355,93 @@ module _ (log : History) (losers : List TableEntry) (at rest : Places) (appended
       ]
 
 -- WHY IT BREAKS OFF
-module _ (log : History) (losers : List TableEntry) (at rest : Places) (appended : List LogRecord) (count place : ℕ) (l : Loser) (taken : Taken place l at rest) (r : Rolls log losers at appended) where
+module _ (log : History) (losers : List TableEntry) (count : ℕ) (at rest : Places) (appended : List LogRecord) (place : ℕ) (l : Loser) (taken : Taken place l at rest) (r : Rolls log losers count at appended) where
   at_place : Waits log losers r.left r.last place l
   at_place = r.waits place l taken.there
+
+  -- a walk that ends badly has not ended yet
+  waits_still : (t : ℕ) → EndsBadly log losers t → HasPlace at t
+  waits_still t bad = elim (r.each t) [ inl d ↦ absurd (bad d.ends) | inr p ↦ p ]
+
+  last_low : (t : ℕ) (p : HasPlace at t) → last_met log losers t ≤ p.place
+  last_low t p = subst (λ x. last_met log losers x ≤ p.place) p.own (last_within log losers r.left r.last p.place p.loser (r.waits p.place p.loser p.there))
+
+  -- what is met behind the place was undone
+  behind_place : MetExist log losers count (suc place)
+  behind_place n u le m =
+      elim (r.met m.loser n m.met) [
+        | inl i ↦
+            elim (r.each m.loser) [
+              | inl d ↦ absurd (false≢true (sym (ap (is_among n) d.nothing) ∙ i))
+              | inr p ↦
+                  (let w = r.waits p.place p.loser p.there in
+                  let most : n ≤ p.place = left_most log losers r.left r.last p.place p.loser w n (ap (λ x. is_among n (r.left x)) p.own ∙ i) in
+                  absurd (omega (arith, le, most, taken.newest p.place p.loser p.there)))
+            ]
+        | inr p ↦ p.exists u m.found
+      ]
 
   pub missing_page : (e : Fault) → CompensationFault log place count e → UndoFault log losers count e
   missing_page NoResource h = tt
   missing_page (NoSuchPage n) h = record {
-    loser = l.tx;
     update = at_place.at_place.update;
-    met =
-        ap (λ k. is_among k (walk_of log (entry_for l.tx losers)).met) h.0
-        ∙ at_place.met place
-        (ap (is_among place) at_place.left_is
-        ∙ or_left (eqb place place) (is_among place (walk_from log l.tx place at_place.at_place.update.prev).met) (eq-eqb place place refl));
-    found = ap (record_at log) h.0 ∙ at_place.at_place.found;
+    is_met = record {
+      loser = l.tx;
+      met = ap (λ k. is_among k (walk_of log (entry_for l.tx losers)).met) h.0 ∙ place_met log losers r.left r.last place l at_place;
+      found = ap (record_at log) h.0 ∙ at_place.at_place.found;
+    };
     missing = h.1 at_place.at_place.update at_place.at_place.found;
+    behind = λ m u le. behind_place m u (omega (arith, le, h.0));
+    none_broken = λ t bad. (let p = waits_still t bad in omega (arith, last_low t p, taken.newest p.place p.loser p.there, h.0));
   }
   missing_page _ h = absurd h
 
-  pub broken_walk : (u : UpdateRecord) → record_at log place ≡ Some (Update u) → (prev : ℕ) → prev ≡ u.prev → (e : Fault) → WalkFault (walk_from log l.tx place prev) e → UndoFault log losers count e
-  broken_walk u there prev is NoResource h = tt
-  broken_walk u there prev is (BrokenChain n) h = record {
-    loser = l.tx;
-    ends = sym (ends_is log losers at rest appended place l taken r u there) ∙ ap (λ k. (walk_from log l.tx place k).ends) (sym is) ∙ h.1;
-    bad = h.0;
-  }
-  broken_walk u there prev is _ h = absurd h
+  module _ (u : UpdateRecord) (there : record_at log place ≡ Some (Update u)) (exists : u.page < count) where
+    -- where the walk ends behind this update, it is the last that was met
+    last_here : (walk_from log l.tx place u.prev).met ≡ [] → place ≤ last_met log losers l.tx
+    last_here nothing =
+        lowest_least place (suc (size log)) (walk_of log (entry_for l.tx losers)).met (omega (arith, place_within log l.tx place at_place.at_place))
+        (λ n h. elim (r.met l.tx n h) [
+          | inl i ↦
+              (let only : r.left l.tx ≡ place ∷ [] =
+              sym (ap r.left (own log losers count at rest appended place l taken r u there exists)) ∙ top log losers count at rest appended place l taken r u there exists ∙ ap (λ ns. place ∷ ns) nothing in
+              elim (or_cases (eqb n place) (is_among n []) (ap (is_among n) (sym only) ∙ i)) [
+                | inl j ↦ omega (arith, eqb-true n place j)
+                | inr j ↦ absurd (false≢true j)
+              ])
+          | inr p ↦ omega (arith, p.above place l taken.there)
+        ])
+
+    pub broken_walk : (prev : ℕ) → prev ≡ u.prev → (e : Fault) → WalkFault (walk_from log l.tx place prev) e → UndoFault log losers count e
+    broken_walk prev is NoResource h = tt
+    broken_walk prev is (BrokenChain n) h =
+        let walk = ap (walk_from log l.tx place) (sym is) ∙ h.1 in
+        let last : place ≤ last_met log losers l.tx = last_here (ap (λ w. w.met) walk) in
+        record {
+          loser = l.tx;
+          ends = sym (ends_is log losers count at rest appended place l taken r u there exists) ∙ ap (λ w. w.ends) walk;
+          bad = h.0;
+          behind = λ m v le is_met.
+              elim (cases_eq m place) [
+                | inl i ↦
+                    (let f : record_at log place ≡ Some (Update v) = ap (record_at log) (sym i) ∙ is_met.found in
+                    let k : v ≡ u = cc in
+                    subst (λ (x : UpdateRecord). x.page < count) (sym k) exists)
+                | inr d ↦ behind_place m v (omega (arith, le, last, d)) is_met
+              ];
+          first = λ t bad.
+              elim (cases_eq t l.tx) [
+                | inl i ↦ inr (ap (last_met log losers) i, omega (arith, i))
+                | inr d ↦
+                    (let p = waits_still t bad in
+                    let apart : p.place ≢ place =
+                    λ i. (let f : Some p.loser ≡ Some l = sym p.there ∙ ap at i ∙ taken.there in
+                    let g : p.loser ≡ l = cc in
+                    d (sym p.own ∙ ap (λ x. x.tx) g)) in
+                    inl (omega (arith, last_low t p, taken.newest p.place p.loser p.there, apart, last)))
+              ];
+        }
+    broken_walk prev is _ h = absurd h
 
 -- WHAT IS APPENDED
 -- a CLR on a page below the count, and perhaps an end
@@ -363,7 +467,7 @@ pages_kept log l from to old new before after given pages resolved same =
 
 -- NOTHING IS LEFT
 -- where no loser waits, all have ended
-module _ (log : History) (losers : List TableEntry) (at : Places) (appended : List LogRecord) (r : Rolls log losers at appended) (none : (n : ℕ) → at n ≡ None) where
+module _ (log : History) (losers : List TableEntry) (count : ℕ) (at : Places) (appended : List LogRecord) (r : Rolls log losers count at appended) (none : (n : ℕ) → at n ≡ None) where
   each_done : (t : ℕ) → IsDone log losers r.left t
   each_done t =
       elim (r.each t) [
@@ -386,3 +490,10 @@ module _ (log : History) (losers : List TableEntry) (at : Places) (appended : Li
 
   pub all_end : NoBadHop log losers
   all_end t = (each_done t).ends
+
+  pub all_exist : MetExist log losers count 0
+  all_exist n u le m =
+      elim (r.met m.loser n m.met) [
+        | inl i ↦ absurd (false≢true (sym (ap (is_among n) (each_done m.loser).nothing) ∙ i))
+        | inr p ↦ p.exists u m.found
+      ]

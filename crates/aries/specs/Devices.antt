@@ -9,10 +9,10 @@ use Rattle.wal.specs.Records.{LogRecord}
 use Rattle.wal.specs.Tail.{tail_of}
 use Rattle.wal.specs.Reads.{log_text}
 use Rattle.wal.specs.Store.{store_out}
-use Rattle.device.specs.Whole.{TookBeginning}
+use Rattle.device.specs.Whole.{TookBeginning, Flushes}
 use Rattle.aries.specs.declared.recovery.Options.{Options}
 use Rattle.aries.specs.declared.report.Report.{Report}
-use Rattle.aries.specs.Recovery.{Recovers, Recovered, OptionsFault, Cause}
+use Rattle.aries.specs.Recovery.{Recovers, Recovered, AreCut, OptionsFault, Cause}
 
 -- the device that this fault blames has failed once where it is the answer, else not at all
 pub record Fails {T : Type 0} (own : Fault) (answer : Result T Fault) (before after : ℕ) : Type 0 where
@@ -48,6 +48,11 @@ pub record Writes (log_left store_left log_before log_after store_before store_a
   pub report_is : report ≡ made.report
   pub log_out : Appends log_before log_after made.new_log
   pub store_out : Appends store_before store_after made.new_store
+
+-- these bytes are out, and what the sink has taken is flushed
+pub record AreOut (bytes : List ℕ) (before after flushed_before flushed_after : Option (List ℕ)) : Type 0 where
+  pub out : Appends before after bytes
+  pub flushed : Flushes flushed_before flushed_after after
 
 -- what is out after a fault of a sink: after the log's a beginning of the new log, after the store's the new log and a
 -- beginning of the new store
@@ -99,6 +104,20 @@ pub record Delivers (records : List LogRecord) (before : StoreContent) (log_befo
 pub record Completes (records : List LogRecord) (before : StoreContent) (log_before log_after store_before store_after : Option (List ℕ)) : Type 0 where
   pub log_out : Appends log_before log_after (log_text (records ++ tail_of records))
   pub store_out : Appends store_before store_after (store_text (store_out records before))
+
+-- bytes that a restart of this log and its store may have left, if it was interrupted
+pub record AreCutOf (records : List LogRecord) (before : StoreContent) (log store : List ℕ) : Type 0 where
+  pub cut : AreCut log store
+  pub records_are : cut.first.are.records ≡ records
+  pub store_is : cut.first.are.before ≡ before
+
+-- what a fault of a sink leaves of the new log is such bytes beside the text of the store that was read: after the log's fault
+-- where it begins with all of the log read, after the store's in any case
+abbrev pub LeavesCut : (records : List LogRecord) (before : StoreContent) (store : List ℕ) (log_before log_after : Option (List ℕ)) → Fault → Type 0
+LeavesCut records before store log_before log_after WriteLog =
+    (out : List ℕ) × Appends log_before log_after out × ((written : List ℕ) → out ≡ log_text records ++ written → AreCutOf records before out store)
+LeavesCut records before store log_before log_after WriteStore = (out : List ℕ) × Appends log_before log_after out × AreCutOf records before out store
+LeavesCut records before store log_before log_after e = Unit {0}
 
 -- a refusal that is no fault of the input
 abbrev pub IsResourceOrDevice : Fault → Type 0

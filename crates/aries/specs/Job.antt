@@ -1,6 +1,6 @@
 -- What a command line may ask for.
-use Rattle.std.specs.Prelude.{◌≡◌, ℕ, ◌≤◌, List, Some, IsSomeAnd, codes, decimal, string_bytes}
-use Rattle.clap.specs.Words.{Row, Text, first_of, one_of, subcommand_of}
+use Rattle.std.specs.Prelude.{◌≡◌, ℕ, ◌≤◌, List, [], Some, IsSomeAnd, codes, decimal, string_bytes}
+use Rattle.clap.specs.Words.{Row, Text, fault_of, first_of, one_of, subcommand_of}
 use Rattle.aries.specs.declared.command.Job.{Job}
 use Rattle.aries.specs.declared.command.Job.TheVariants.{Recover, Audit}
 use Rattle.aries.specs.Line.{aries_line}
@@ -27,6 +27,14 @@ NamesFiles command values (Audit log store) =
 -- the job has the command of the words, and the files that they name
 abbrev pub HasFiles : (words : List Text) → Job → Type 0
 HasFiles words job = IsSomeAnd (subcommand_of aries_line words) (λ found. NamesFiles found.0 found.1 job)
+
+-- by `clap`'s definition of a parse no word is wrong or missing, and none asks for help or the version
+abbrev pub IsFaultless : (words : List Text) → Type 0
+IsFaultless words = fault_of aries_line words ≡ []
+
+-- the words are faultless, and the job has their command and files
+abbrev pub AsksFor : (words : List Text) → Job → Type 0
+AsksFor words job = IsFaultless words × HasFiles words job
 
 -- where the option's value is a number of 1 to `most` in decimal digits, n is that number
 abbrev pub IsNumberOf : (values : List Row) → (option : Text) → (most : ℕ) → (n : ℕ) → Type 0

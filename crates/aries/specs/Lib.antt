@@ -6,3 +6,4 @@ pub mod Job
 pub mod Undone
 pub mod Rollback
 pub mod Devices
+pub mod OneAnswer

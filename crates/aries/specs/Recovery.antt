@@ -8,8 +8,9 @@ use Rattle.wal.specs.Records.{LogRecord, history}
 use Rattle.wal.specs.Tail.{losers_of, tail_of}
 use Rattle.wal.specs.Reads.{Reads, log_text, Cause as LogFault}
 use Rattle.wal.specs.Store.{Lawful, Cut, store_out}
+use Rattle.audit.specs.FirstFault.{FirstFault}
 use Rattle.aries.specs.declared.outcome.Outcome.{Outcome}
-use Rattle.aries.specs.Restart.{appended_by, clrs_in, Restarts, IsSettled, InputFault}
+use Rattle.aries.specs.Restart.{appended_by, clrs_in, Restarts, IsSettled, Redoes, InputFault}
 use Rattle.aries.specs.declared.recovery.Options.{Options}
 use Rattle.aries.specs.declared.recovery.Recovery.{Recovery}
 use Rattle.aries.specs.declared.report.Report.{Report}
@@ -40,12 +41,14 @@ report_of records torn x = record {
   pages = length x.store.pages;
 }
 
--- EVERY INPUT. The new log is the log without its torn tail and what a restart appends, the new store is that of the restart.
+-- EVERY INPUT. The new log is the log without its torn tail and what a restart appends, and is read as such; the new store is
+-- that of the restart.
 pub record Recovers (log store new_log new_store : List ℕ) (report : Report) : Type 0 where
   pub are : Are log store
   pub outcome : Outcome
   pub restarts : Restarts are.records are.before outcome
   pub log_is : new_log ≡ log_text (are.records ++ appended_by outcome)
+  pub reads : Reads new_log (are.records ++ appended_by outcome) 0
   pub store_is : new_store ≡ store_text outcome.store
   pub report_is : report ≡ report_of are.records are.torn outcome
 
@@ -59,8 +62,10 @@ pub record AreLawful (log store : List ℕ) : Type 0 where
 -- the store as it is
 pub record Recovered (records : List LogRecord) (before : StoreContent) (new_log new_store : List ℕ) (report : Report) : Type 0 where
   pub log_is : new_log ≡ log_text (records ++ tail_of records)
+  pub reads : Reads new_log (records ++ tail_of records) 0
   pub store_is : new_store ≡ store_text (store_out records before)
   pub settled : IsSettled (records ++ tail_of records) (store_out records before)
+  pub redoes : Redoes records before report.redo_from report.redone
   pub losers_are : report.losers ≡ length (losers_of (history records))
   pub ended_are : report.ended ≡ length (losers_of (history records))
   pub compensated_are : report.compensated ≡ clrs_in (tail_of records)
@@ -99,3 +104,10 @@ Cause log store options e =
     AreInRange options
     × (LogFault log e ⊎ ((records : List LogRecord) × (torn : ℕ) × Reads log records torn × StoreFault store e)
     ⊎ ((are : Are log store) × InputFault are.records are.before e))
+
+-- THE AUDIT
+-- why bytes are not those of a lawful log and its store, in the order in which causes are looked for, memory aside
+abbrev pub AuditFault : List ℕ → List ℕ → Fault → Type 0
+AuditFault log store e =
+    LogFault log e ⊎ ((records : List LogRecord) × (torn : ℕ) × Reads log records torn × StoreFault store e)
+    ⊎ ((are : Are log store) × FirstFault are.records are.before e)

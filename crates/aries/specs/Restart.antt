@@ -1,5 +1,5 @@
 -- What a restart makes of a log and a store, and why it is refused. ARIES, section 6 (restart processing).
-use Rattle.std.specs.Prelude.{◌≡◌, ℕ, ◌<◌, ◌≤◌, ◌⊎◌, List, [], ◌++◌, All, Some, None, length, map, filter, sum, slice_index_or}
+use Rattle.std.specs.Prelude.{◌≡◌, ℕ, ◌<◌, ◌≤◌, ◌⊎◌, List, [], ◌++◌, All, Some, None, false, length, map, filter, sum, slice_index_or}
 use Rattle.std.specs.List.{slice_get}
 use Rattle.page.specs.declared.fault.Fault.{Fault}
 use Rattle.page.specs.declared.fault.Fault.TheVariants.{NoResource, BadMaster, PageAheadOfLog, NoSuchPage, BrokenChain, BadParting, BadWorkers}
@@ -7,6 +7,7 @@ use Rattle.page.specs.declared.page.Page.{Page}
 use Rattle.page.specs.Store.{StoreContent}
 use Rattle.wal.specs.Records.{LogRecord, history}
 use Rattle.wal.specs.Content.{content}
+use Rattle.wal.specs.Meaning.{is_loser}
 use Rattle.wal.specs.Tail.{is_clr, is_end, losers_of, tail_of}
 use Rattle.wal.specs.Undo.{undone_by}
 use Rattle.wal.specs.Store.{NamesPages, Lawful, store_out}
@@ -16,7 +17,7 @@ use Rattle.redo.specs.Parting.{PartingContent}
 use Rattle.redo.specs.declared.redone.Redone.{Redone}
 use Rattle.redo.specs.Redone.{redone_page, applied_to, AreWorkers, AllExist, IsFirstMissing}
 use Rattle.aries.specs.declared.outcome.Outcome.{Outcome}
-use Rattle.aries.specs.Undone.{losers_in, NoBadHop, undone_page, MeetsMissing, Breaks}
+use Rattle.aries.specs.Undone.{losers_in, NoBadHop, undone_page, MetExist, MeetsMissing, Breaks}
 
 -- SETTINGS
 abbrev pub IsPartingOf : ℕ → PartingContent → Type 0
@@ -67,6 +68,7 @@ pub record RollsBack (records : List LogRecord) (master : ℕ) (tables : Tables)
   pub appended : appended_by x ≡ undone_by (history records) (losers_in tables)
   pub pages : x.store.pages ≡ map (undone_page (history records) (appended_by x)) redone.pages.items
   pub no_bad_hop : NoBadHop (history records) (losers_in tables)
+  pub met_exist : MetExist (history records) (losers_in tables) (length redone.pages.items) 0
   pub exist : All (NamesPages (length redone.pages.items)) (appended_by x)
   pub master_kept : x.store.master ≡ master
   pub redo_from : x.redo_from ≡ tables.redo_lsn
@@ -88,17 +90,26 @@ pub record Restarts (records : List LogRecord) (before : StoreContent) (x : Outc
   pub rolls_back : RollsBack records before.master tables redone x
 
 -- LAWFUL INPUT
--- a lawful log and its store, on which a restart appends nothing and leaves the store as it is
+-- a lawful log and its store without a loser, on which a restart appends nothing and leaves the store as it is
 pub record IsSettled (records : List LogRecord) (store : StoreContent) : Type 0 where
   pub lawful : Lawful records store
+  pub no_loser : (t : ℕ) → is_loser t (history records) ≡ false
   pub no_tail : tail_of records ≡ []
   pub same_store : store_out records store ≡ store
+
+-- where redo begins, and how many records it applies, by the tables that analysis finds, of which there are no two
+pub record Redoes (records : List LogRecord) (before : StoreContent) (redo_from redone : ℕ) : Type 0 where
+  pub tables : Tables
+  pub are : AreTablesOf records before.master tables
+  pub begins : redo_from ≡ tables.redo_lsn
+  pub applies : redone ≡ sum (map (applied_to records tables) before.pages)
 
 -- the log's tail is appended, the store is what the winners leave; both together are settled
 pub record Restores (records : List LogRecord) (before : StoreContent) (x : Outcome) : Type 0 where
   pub appended : appended_by x ≡ tail_of records
   pub store : x.store ≡ store_out records before
   pub settled : IsSettled (records ++ appended_by x) x.store
+  pub redoes : Redoes records before x.redo_from x.redone
   pub losers : x.losers ≡ length (losers_of (history records))
   pub ended : x.ended ≡ length (losers_of (history records))
   pub compensated : x.compensated ≡ clrs_in (tail_of records)
@@ -116,7 +127,7 @@ PassFault records count (NoSuchPage lsn) tables =
     IsFirstMissing records count tables.redo_lsn lsn
     ⊎ (AllExist records count tables.redo_lsn × MeetsMissing (history records) (losers_in tables) count lsn)
 PassFault records count (BrokenChain lsn) tables =
-    AllExist records count tables.redo_lsn × Breaks (history records) (losers_in tables) lsn
+    AllExist records count tables.redo_lsn × Breaks (history records) (losers_in tables) count lsn
 PassFault records count e tables = ⊥
 
 -- why a log and a store are not restarted, in the order in which causes are looked for, memory aside
@@ -126,6 +137,7 @@ InputFault records before (PageAheadOfLog number) = IsFirstAhead records before.
 InputFault records before BadMaster = NoneAhead records before × (base_of before.master (history records) ≡ None)
 InputFault records before e = NoneAhead records before × Finds records before (PassFault records (length before.pages) e)
 
--- why a restart is refused: first the settings
+-- why a restart is refused: the settings, or where they hold the input
 abbrev pub RestartFault : List LogRecord → StoreContent → PartingContent → ℕ → Fault → Type 0
-RestartFault records before parting workers e = SettingsFault (length before.pages) parting workers e ⊎ InputFault records before e
+RestartFault records before parting workers e =
+    SettingsFault (length before.pages) parting workers e ⊎ (AreSettings (length before.pages) parting workers × InputFault records before e)

@@ -36,10 +36,10 @@ pub record Meets (log : History) (t from lsn place : ℕ) : Type 0 where
 abbrev pub MeetsNothing : History → ℕ → ℕ → ℕ → Type 0
 MeetsNothing log t from lsn = walk_from log t from lsn ≡ record { met = []; ends = 0 }
 
--- why a walk breaks off, memory aside
+-- why a walk breaks off before it meets an update, memory aside
 abbrev pub WalkFault : Walk → Fault → Type 0
 WalkFault walk NoResource = Unit {0}
-WalkFault walk (BrokenChain lsn) = (lsn ≡ 0 → ⊥) × (walk.ends ≡ lsn)
+WalkFault walk (BrokenChain lsn) = (lsn ≡ 0 → ⊥) × (walk ≡ record { met = []; ends = lsn })
 WalkFault walk e = ⊥
 
 -- LOSERS AT PLACES
@@ -103,13 +103,19 @@ pub record HasPlace (at : Places) (t : ℕ) : Type 0 where
 abbrev pub undos : (ℕ → List ℕ) → History → List Action
 undos left log = flat_map (undo_of left) (updates_where (is_stacked left) log)
 
--- what has been appended and what is left are together what undo appends
-pub record Rolls (log : History) (losers : List TableEntry) (at : Places) (appended : List LogRecord) : Type 0 where
+-- all that wait stand below this LSN, and the update there is on a page below the count
+pub record IsPassed (log : History) (count : ℕ) (at : Places) (lsn : ℕ) : Type 0 where
+  pub above : AreBelow lsn at
+  pub exists : (u : UpdateRecord) → record_at log lsn ≡ Some (Update u) → u.page < count
+
+-- what has been appended and what is left are together what undo appends; what is met is left or passed
+pub record Rolls (log : History) (losers : List TableEntry) (count : ℕ) (at : Places) (appended : List LogRecord) : Type 0 where
   pub left : ℕ → List ℕ
   pub last : ℕ → ℕ
   pub whole : appended ++ written last (suc (size log + length appended)) (undos left log) ≡ undone_by log losers
   pub waits : (n : ℕ) (l : Loser) → at n ≡ Some l → Waits log losers left last n l
   pub each : (t : ℕ) → IsDone log losers left t ⊎ HasPlace at t
+  pub met : (t n : ℕ) → is_among n (walk_of log (entry_for t losers)).met ≡ true → (is_among n (left t) ≡ true) ⊎ IsPassed log count at n
 
 -- AT THE START
 abbrev pub met_by : History → List TableEntry → ℕ → List ℕ

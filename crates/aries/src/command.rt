@@ -1,10 +1,14 @@
 //! The command line.
 
-ghost use Rattle.std.specs.Prelude.{◌≡◌, ◌≤◌, Some, IfOk, codes, false, map, string_bytes};
-ghost use Rattle.clap.specs.Words.{app_of, first_of, found_of, rows_of, rule_of, shape_of};
-ghost use Rattle.aries.specs.Job.{GivesNumbers, HasFiles, HasNumbers, HasRanges};
-ghost use Rattle.aries.specs.Job.{IsNumberOf, NamesFiles};
+ghost use Rattle.std.specs.Prelude.{◌≡◌, ◌≤◌, Some, IfErr, IfOk, codes, false, is_some, map};
+ghost use Rattle.std.specs.Prelude.{OnOk, string_bytes, true};
+ghost use Rattle.clap.specs.Words.{app_of, first_of, found_of, kind_of, rows_of, rule_of, shape_of};
+ghost use Rattle.clap.specs.declared.error.kind.ErrorKind.TheVariants.{OutOfMemory};
+ghost use Rattle.aries.specs.Job.{AsksFor, GivesNumbers, HasFiles, HasNumbers, HasRanges};
+ghost use Rattle.aries.specs.Job.{IsFaultless, IsNumberOf, NamesFiles};
 ghost use Rattle.aries.specs.Line.{aries_line, audit_line, file_rule, number_rule, recover_line};
+ghost use Rattle.aries.specs.declared.command.Job.{Job};
+ghost use Rattle.aries.specs.declared.command.Refusal.TheVariants.{Memory};
 
 use crate::Options;
 use clap::error::ErrorKind;
@@ -39,12 +43,16 @@ pub enum Refusal {
 }
 
 impl From<AllocError> for Refusal {
+    ghost from_gives = { λ _ refusal. refusal ≡ Memory };
+
     fn from(_e: AllocError) -> Refusal {
         Refusal::Memory
     }
 }
 
 impl From<clap::Error> for Refusal {
+    ghost from_gives = { λ error refusal. kind_of error ≡ OutOfMemory → refusal ≡ Memory };
+
     fn from(error: clap::Error) -> Refusal {
         match error.kind() {
             ErrorKind::OutOfMemory => Refusal::Memory,
@@ -147,8 +155,10 @@ fn file_of(
     matches: &ArgMatches,
     name: &str,
 ) -> Result<String, Refusal>
-    ensures { IfOk result (λ file.
+    ensures given { IfOk result (λ file.
         first_of name.now (rows_of (found_of matches.now)) ≡ Some (string_bytes file)) }
+    ensures refused { IfErr result (λ refusal.
+        is_some (first_of name.now (rows_of (found_of matches.now))) ≡ true → refusal ≡ Memory) }
 {
     match matches.get_str(name) {
         Some(file) => Ok(String::from_str(alloc, file)?),
@@ -178,6 +188,8 @@ fn recover_job(alloc: Global, command: &mut Command, matches: &ArgMatches) -> Re
     ensures files { IfOk result (NamesFiles (codes "recover") (rows_of (found_of matches.now))) }
     ensures numbers { IfOk result (GivesNumbers (rows_of (found_of matches.now))) }
     ensures ranges { IfOk result HasRanges }
+    ensures refused { IfErr result (λ refusal. (job : Job)
+        → NamesFiles (codes "recover") (rows_of (found_of matches.now)) job → refusal ≡ Memory) }
 {
     Ok(Job::Recover {
         log: file_of(alloc, command, matches, "log")?,
@@ -196,6 +208,8 @@ fn audit_job(alloc: Global, command: &mut Command, matches: &ArgMatches) -> Resu
     ensures files { IfOk result (NamesFiles (codes "audit") (rows_of (found_of matches.now))) }
     ensures numbers { IfOk result (GivesNumbers (rows_of (found_of matches.now))) }
     ensures ranges { IfOk result HasRanges }
+    ensures refused { IfErr result (λ refusal. (job : Job)
+        → NamesFiles (codes "audit") (rows_of (found_of matches.now)) job → refusal ≡ Memory) }
 {
     Ok(Job::Audit {
         log: file_of(alloc, command, matches, "log")?,
@@ -203,22 +217,34 @@ fn audit_job(alloc: Global, command: &mut Command, matches: &ArgMatches) -> Resu
     })
 }
 
+/// Why a line with neither command is refused. `clap` refuses such a line before this is asked.
+fn no_command(command: &mut Command) -> Refusal {
+    match command.error(ErrorKind::MissingSubcommand, "a command is needed") {
+        Ok(error) => Refusal::Line(error),
+        Err(error) => Refusal::from(error),
+    }
+}
+
 /// What a command line asks for; the first word is the program's name. Refuses a line that is wrong or
 /// asks for help or the version by [`Refusal::Line`], and by [`Refusal::Memory`] where memory was
-/// refused.
+/// refused. A line that asks for a job, since `clap` finds no fault in it and its words give the job's
+/// command and files, is refused by [`Refusal::Memory`] alone.
 pub fn command_of<'a>(alloc: Global, words: &'a [&'a str]) -> Result<Job, Refusal>
+    ensures faultless { OnOk result (IsFaultless (map (λ w. w.now) words.now)) }
     ensures files { IfOk result (HasFiles (map (λ w. w.now) words.now)) }
     ensures numbers { IfOk result (HasNumbers (map (λ w. w.now) words.now)) }
     ensures ranges { IfOk result HasRanges }
+    ensures refused { IfErr result (λ refusal. (job : Job)
+        → AsksFor (map (λ w. w.now) words.now) job → refusal ≡ Memory) }
 {
     let mut command = aries_command(alloc)?;
     let matches = command.try_get_matches_from_mut(words)?;
-    match matches.subcommand() {
-        Some(("recover", options)) => recover_job(alloc, &mut command, options),
-        Some(("audit", options)) => audit_job(alloc, &mut command, options),
-        _ => {
-            let error = command.error(ErrorKind::MissingSubcommand, "a command is needed")?;
-            Err(Refusal::Line(error))
-        }
+    let Some((name, options)) = matches.subcommand() else {
+        return Err(no_command(&mut command));
+    };
+    match name {
+        "recover" => recover_job(alloc, &mut command, options),
+        "audit" => audit_job(alloc, &mut command, options),
+        _ => Err(no_command(&mut command)),
     }
 }

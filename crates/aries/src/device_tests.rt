@@ -1,7 +1,8 @@
 //! Recovery over devices that pass a few bytes a call, and fail.
 
 use crate::rows::{
-    Row, clr_points_past_zero, one_commit, one_loser, page_with, store_of, two_losers,
+    Row, clr_points_past_zero, one_commit, one_loser, page_with, recover_in_memory, store_of,
+    two_losers,
 };
 use crate::{Options, recover};
 use device::{MemorySink, MemorySource, Pace, SlowSink, SlowSource};
@@ -63,7 +64,8 @@ fn unflushed() -> Pace {
 type Seen = (Result<(), Fault>, usize, usize);
 
 /// Recovers a row and an empty page over devices of these paces. The sinks must have taken beginnings of
-/// the row's new log and of the store with this page.
+/// the row's new log and of the store with this page; the log must be flushed before any of the store is
+/// taken, and both where it answers.
 fn seen<R: Threads + Sync>(
     rt: &R,
     alloc: Global,
@@ -88,6 +90,12 @@ fn seen<R: Threads + Sync>(
     );
     if !new_log.starts_with(out_log.bytes()) || !new_store.starts_with(out_store.bytes()) {
         return Err(Fail::new("not a beginning"));
+    }
+    if !out_store.bytes().is_empty() && out_log.flushed() != new_log.as_slice() {
+        return Err(Fail::new("the store before the log"));
+    }
+    if answer.is_ok() && out_store.flushed() != new_store.as_slice() {
+        return Err(Fail::new("not flushed"));
     }
     Ok((
         answer.map(|_| ()),
@@ -144,6 +152,15 @@ fn one_loser_over_devices(rt: HostRuntime) -> Result<(), Fail> {
             },
             (Err(Fault::ReadStore), 0, 0),
         ),
+        (
+            "both-sources-fail",
+            Paces {
+                log_source: failing(usize::MAX, 1),
+                store_source: failing(usize::MAX, 1),
+                ..fast
+            },
+            (Err(Fault::ReadLog), 0, 0),
+        ),
     ] {
         assert_eq!(rt; seen(&rt, alloc, &row, &after, &paces)?, expected, "{name}");
     }
@@ -166,6 +183,14 @@ fn one_commit_over_devices(rt: HostRuntime) -> Result<(), Fail> {
     assert_eq!(rt;
         seen(&rt, alloc, &row, &after, &log_writer_fails)?,
         (Err(Fault::WriteLog), 0, 0)
+    );
+    let log_flush_fails = Paces {
+        log_sink: unflushed(),
+        ..fast
+    };
+    assert_eq!(rt;
+        seen(&rt, alloc, &row, &after, &log_flush_fails)?,
+        (Err(Fault::WriteLog), 66, 0)
     );
     let store_writer_fails = Paces {
         store_sink: failing(usize::MAX, 1),
@@ -269,6 +294,50 @@ fn each_device_fails_at_each_call(rt: HostRuntime) -> Result<(), Fail> {
                 "{device:?}"
             );
         }
+    }
+    Ok(())
+}
+
+/// What a recovery of a row and an empty page leaves of the new log where its sink fails at this call,
+/// of seven bytes each.
+fn log_left_at<R: Threads + Sync>(
+    rt: &R,
+    alloc: Global,
+    row: &Row,
+    store: &[u8],
+    call: u32,
+) -> Result<Vec<u8>, Fail> {
+    let mut out_log = SlowSink::new(alloc, row.made.bytes.len(), failing(7, call))?;
+    let answer = recover(
+        rt,
+        alloc,
+        &mut MemorySource::new(&row.given.bytes),
+        &mut MemorySource::new(store),
+        &mut out_log,
+        &mut MemorySink::new(alloc),
+        &OPTIONS,
+        &OpenGate,
+    );
+    if answer.err() != Some(Fault::WriteLog) {
+        return Err(Fail::new("another answer"));
+    }
+    Ok(Vec::from_slice(alloc, out_log.bytes())?)
+}
+
+/// The log of two losers is taken by 16 calls; the records appended by 24, and then comes the flush.
+#[test]
+fn a_failed_recovery_is_gone_on_from(rt: HostRuntime) -> Result<(), Fail> {
+    let alloc = rt.alloc();
+    let row = two_losers(alloc)?;
+    let before = store_of(alloc, 0, &Page::empty(0))?;
+    let after = store_of(alloc, 0, &page_with(7, None, None))?;
+    for call in 17..42u32 {
+        let log = log_left_at(&rt, alloc, &row, &before, call)?;
+        assert!(rt; log.len() >= row.given.bytes.len());
+        let (new_log, new_store, _) = recover_in_memory(
+            &rt, alloc, &log, &before, &OPTIONS, &OpenGate,
+        )?;
+        assert!(rt; new_log == row.made.bytes && new_store == after, "{call}");
     }
     Ok(())
 }

@@ -1,14 +1,14 @@
 //! Recovery over devices: the log and the store are read to their ends, the new ones made in memory,
 //! and then written, the log first.
 
-ghost use Rattle.std.specs.Prelude.{◌≡◌, ◌≢◌, ℕ, List, ◌++◌, Some, IfOk, IfErr, IfSome, OnOk, OnErr, Err, MatchResult};
-ghost use Rattle.std.specs.Io.KnownBytes.{Appends};
+ghost use Rattle.std.specs.Prelude.{◌≡◌, ◌≢◌, ◌⊎◌, ℕ, List, ◌++◌, Some, IfOk, IfErr, IfSome, OnOk, OnErr, Err, MatchResult};
+ghost use Rattle.std.specs.Io.KnownBytes.{IsAtEnd};
 ghost use Rattle.page.specs.declared.fault.Fault.{Fault};
 ghost use Rattle.page.specs.declared.fault.Fault.TheVariants.{NoResource, ReadLog, ReadStore, WriteLog, WriteStore};
 ghost use Rattle.device.specs.Failures.{Counts};
-ghost use Rattle.device.specs.Whole.{TookBeginning};
+ghost use Rattle.device.specs.Whole.{TookBeginning, Flushes};
 ghost use Rattle.aries.specs.Recovery.{new_log, AreLawful, AreCut, AreInRange, OptionsFault};
-ghost use Rattle.aries.specs.Devices.{Fails, Gave, IsFaultOf, AreRead, Writes, Leaves, IsOut, IsReadFault, DeviceCause, Delivers, Completes, IsResourceOrDevice};
+ghost use Rattle.aries.specs.Devices.{Fails, Gave, IsFaultOf, AreRead, Makes, Writes, AreOut, Leaves, IsOut, IsReadFault, DeviceCause, Delivers, Completes, LeavesCut, IsResourceOrDevice};
 
 use crate::recovery::{Recovery, check_options, recovery_of};
 use crate::{Options, Report};
@@ -26,6 +26,7 @@ pub fn read_source<S: Source>(
 ) -> Result<Vec<u8>, Fault>
     requires { failed ≢ NoResource }
     ensures gave { IfOk result (λ bytes. Gave (S.left source.old) bytes.items) }
+    ensures end { OnOk result (IsAtEnd (S.left source.new)) }
     ensures fault { IfErr result (IsFaultOf failed) }
     ensures cause { Fails failed result (S.failures source.old) (S.failures source.new) }
 {
@@ -43,6 +44,9 @@ fn read_both<L: Source, S: Source>(
     store: &mut S,
 ) -> Result<(Vec<u8>, Vec<u8>), Fault>
     ensures read { IfOk result (λ x. AreRead (L.left log.old) (S.left store.old) x.0.items x.1.items) }
+    ensures ends { OnOk result (IsAtEnd (L.left log.new) × IsAtEnd (S.left store.new)) }
+    ensures log_first { (store.new ≡ store.old) ⊎ IsAtEnd (L.left log.new) }
+    ensures log_failed { result ≡ Err ReadLog → store.new ≡ store.old }
     ensures fault { IfErr result IsReadFault }
     ensures log_source { Fails ReadLog result (L.failures log.old) (L.failures log.new) }
     ensures store_source { Fails ReadStore result (S.failures store.old) (S.failures store.new) }
@@ -52,9 +56,9 @@ fn read_both<L: Source, S: Source>(
     Ok((log_text, store_text))
 }
 
-/// Writes bytes to a sink and asks that they stay.
+/// Writes bytes to a sink and flushes it.
 fn write_whole<S: Sink>(sink: &mut S, bytes: &[u8]) -> Result<(), Failed>
-    ensures all { OnOk result (Appends (S.taken sink.old) (S.taken sink.new) bytes.now) }
+    ensures all { OnOk result (AreOut bytes.now (S.taken sink.old) (S.taken sink.new) (S.flushed sink.old) (S.flushed sink.new)) }
     ensures beginning { OnErr result (TookBeginning (S.taken sink.old) (S.taken sink.new) bytes.now) }
     ensures cause { Counts (S.failures sink.old) (S.failures sink.new) result }
 {
@@ -62,10 +66,10 @@ fn write_whole<S: Sink>(sink: &mut S, bytes: &[u8]) -> Result<(), Failed>
     sink.flush()
 }
 
-/// Writes a log in two pieces, and asks that it stays: what is kept of the log read, and behind it the
-/// frames appended.
+/// Writes a log in two pieces and flushes it: what is kept of the log read, and behind it the frames
+/// appended.
 fn write_log<S: Sink>(sink: &mut S, kept: &[u8], frames: &[u8]) -> Result<(), Failed>
-    ensures all { OnOk result (Appends (S.taken sink.old) (S.taken sink.new) (kept.now ++ frames.now)) }
+    ensures all { OnOk result (AreOut (kept.now ++ frames.now) (S.taken sink.old) (S.taken sink.new) (S.flushed sink.old) (S.flushed sink.new)) }
     ensures beginning { OnErr result (TookBeginning (S.taken sink.old) (S.taken sink.new) (kept.now ++ frames.now)) }
     ensures cause { Counts (S.failures sink.old) (S.failures sink.new) result }
 {
@@ -73,14 +77,15 @@ fn write_log<S: Sink>(sink: &mut S, kept: &[u8], frames: &[u8]) -> Result<(), Fa
     write_whole(sink, frames)
 }
 
-/// Writes the new log, and then the new store, each whole before the next thing is done.
+/// Writes the new log, and then the new store, each whole and flushed before the next thing is done.
 fn write_both<L: Sink, S: Sink>(
     log: &mut L,
     store: &mut S,
     recovery: &Recovery,
 ) -> Result<(), Fault>
-    ensures log_out { OnOk result (Appends (L.taken log.old) (L.taken log.new) (new_log recovery.now)) }
-    ensures store_out { OnOk result (Appends (S.taken store.old) (S.taken store.new) recovery.now.store.items) }
+    ensures log_out { OnOk result (AreOut (new_log recovery.now) (L.taken log.old) (L.taken log.new) (L.flushed log.old) (L.flushed log.new)) }
+    ensures store_out { OnOk result (AreOut recovery.now.store.items (S.taken store.old) (S.taken store.new) (S.flushed store.old) (S.flushed store.new)) }
+    ensures log_first { (store.new ≡ store.old) ⊎ AreOut (new_log recovery.now) (L.taken log.old) (L.taken log.new) (L.flushed log.old) (L.flushed log.new) }
     ensures fault { IfErr result (Leaves (new_log recovery.now) recovery.now.store.items (L.taken log.old) (L.taken log.new) (S.taken store.old) (S.taken store.new)) }
     ensures log_sink { Fails WriteLog result (L.failures log.old) (L.failures log.new) }
     ensures store_sink { Fails WriteStore result (S.failures store.old) (S.failures store.new) }
@@ -110,9 +115,12 @@ fn write_both<L: Sink, S: Sink>(
 /// [`wal::read_log`] for the log, of [`page::decode_store`] for the store, and of
 /// [`restart`](crate::restart); [`Fault::WriteLog`] and [`Fault::WriteStore`] where a sink failed, at a
 /// write or its flush. [`Fault::NoResource`], where memory or a thread was refused, may come in place of
-/// any of these up to the first write. After `WriteLog` a beginning of the new log is out and nothing of
-/// the store; after `WriteStore` the new log and a beginning of the new store; after any other fault
-/// nothing.
+/// any of these up to the first write.
+///
+/// After `WriteLog` a beginning of the new log is out and nothing of the store; after `WriteStore` the
+/// new log, flushed, and a beginning of the new store; after any other fault nothing. Of a lawful log
+/// and its store the log that is out can be recovered with the old store, to the same end, where it
+/// begins with all that was read but the torn tail.
 pub fn recover<LR: Source, SR: Source, LW: Sink, SW: Sink, G: Gate, R: Threads + Sync>(
     rt: &R,
     alloc: Global,
@@ -133,6 +141,11 @@ pub fn recover<LR: Source, SR: Source, LW: Sink, SW: Sink, G: Gate, R: Threads +
         → (bytes : AreCut log_text store_text)
         → MatchResult result (λ _. Completes bytes.first.are.records bytes.first.are.before (LW.taken out_log.old) (LW.taken out_log.new) (SW.taken out_store.old) (SW.taken out_store.new)) IsResourceOrDevice }
 
+    // After a fault of a sink what is out of the new log, beside the store that was read, is such bytes.
+    ensures resumable { (log_text store_text : List ℕ) → LR.left log.old ≡ Some log_text → SR.left store.old ≡ Some store_text → AreInRange options.now
+        → (bytes : AreLawful log_text store_text)
+        → IfErr result (LeavesCut bytes.are.records bytes.are.before store_text (LW.taken out_log.old) (LW.taken out_log.new)) }
+
     // Wherever it answers.
     ensures answer { IfOk result (Writes (LR.left log.old) (SR.left store.old) (LW.taken out_log.old) (LW.taken out_log.new) (SW.taken out_store.old) (SW.taken out_store.new)) }
     ensures options { (e : Fault) → OptionsFault options.now e → result ≡ Err e }
@@ -140,6 +153,19 @@ pub fn recover<LR: Source, SR: Source, LW: Sink, SW: Sink, G: Gate, R: Threads +
     // A refusal has its cause, and what is out after it.
     ensures cause { IfErr result (DeviceCause (LR.left log.old) (SR.left store.old) options.now) }
     ensures out { IfErr result (IsOut (LR.left log.old) (SR.left store.old) (LW.taken out_log.old) (LW.taken out_log.new) (SW.taken out_store.old) (SW.taken out_store.new)) }
+
+    // An answer means that both are flushed.
+    ensures log_flushed { OnOk result (Flushes (LW.flushed out_log.old) (LW.flushed out_log.new) (LW.taken out_log.new)) }
+    ensures store_flushed { OnOk result (Flushes (SW.flushed out_store.old) (SW.flushed out_store.new) (SW.taken out_store.new)) }
+
+    // The log is at its end before the store's source is touched, both are before a sink is, and the new
+    // log is out and flushed before the store's sink is.
+    ensures log_read_first { (store.new ≡ store.old) ⊎ IsAtEnd (LR.left log.new) }
+    ensures log_unread { result ≡ Err ReadLog → store.new ≡ store.old }
+    ensures read_first { ((out_log.new ≡ out_log.old) × (out_store.new ≡ out_store.old)) ⊎ (IsAtEnd (LR.left log.new) × IsAtEnd (SR.left store.new)) }
+    ensures log_out_first { (out_store.new ≡ out_store.old)
+        ⊎ ((made : Makes (LR.left log.old) (SR.left store.old))
+        × AreOut made.new_log (LW.taken out_log.old) (LW.taken out_log.new) (LW.flushed out_log.old) (LW.flushed out_log.new)) }
 
     // A device is blamed where it failed, and nowhere else.
     ensures log_source { Fails ReadLog result (LR.failures log.old) (LR.failures log.new) }

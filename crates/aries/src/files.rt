@@ -1,16 +1,15 @@
 //! Recovery from two files to two files, and the audit of two.
 
 use crate::devices::read_source;
-use crate::{Options, Report, recover};
-use audit::audit;
+use crate::{Options, Report, audit_texts, recover};
 use device::{FileSink, FileSource};
-use page::{Fault, decode_store};
+use page::Fault;
 use redo::OpenGate;
+use std::alloc::Global;
 use std::fs::File;
 use std::io::{self, ErrorKind};
 use std::rt::Files;
 use std::thread::Threads;
-use wal::read_log;
 
 /// Where a recovery reads and writes.
 #[derive(Clone, Copy)]
@@ -32,8 +31,9 @@ fn fault_of(error: io::Error, fault: Fault) -> Fault {
 /// Recovers the store in a file by the log in another, into two files that are made anew. All four are
 /// opened, in the order of the paths, before the first is read; the new store is written when the new
 /// log is whole and synced. After a fault, new files made so far stay: empty, or a beginning.
-pub fn recover_files<R: Files + AllocGlobal + Threads + Sync>(
+pub fn recover_files<R: Files + Threads + Sync>(
     rt: &R,
+    alloc: Global,
     paths: &Paths,
     options: &Options,
 ) -> Result<Report, Fault> {
@@ -46,7 +46,7 @@ pub fn recover_files<R: Files + AllocGlobal + Threads + Sync>(
     ))?;
     recover(
         rt,
-        rt.alloc(),
+        alloc,
         &mut FileSource::new(log),
         &mut FileSource::new(store),
         &mut FileSink::new(out_log),
@@ -58,13 +58,10 @@ pub fn recover_files<R: Files + AllocGlobal + Threads + Sync>(
 
 /// Whether the log and the store in two files are lawful. Both are read to their ends, the log first,
 /// before either is decoded.
-pub fn audit_files<R: Files + AllocGlobal>(rt: &R, log: &str, store: &str) -> Result<(), Fault> {
-    let alloc = rt.alloc();
+pub fn audit_files<R: Files>(rt: &R, alloc: Global, log: &str, store: &str) -> Result<(), Fault> {
     let log = File::open(rt, log).map_err(|e| fault_of(e, Fault::ReadLog))?;
     let log = read_source(alloc, &mut FileSource::new(log), Fault::ReadLog)?;
     let store = File::open(rt, store).map_err(|e| fault_of(e, Fault::ReadStore))?;
     let store = read_source(alloc, &mut FileSource::new(store), Fault::ReadStore)?;
-    let (log, _) = read_log(alloc, &log)?;
-    let store = decode_store(alloc, &store)?;
-    audit(alloc, &log, &store)
+    audit_texts(alloc, &log, &store)
 }

@@ -1,4 +1,4 @@
-//! The gate, seen through a whole recovery: two workers share the parts.
+//! The gate, seen through a whole recovery: it hears which of two workers draws which part.
 
 use crate::Options;
 use crate::rows::recover_in_memory;
@@ -53,20 +53,42 @@ fn are_all_changed(pages: &[Page]) -> bool {
     pages.len() == 10
 }
 
-/// Holds whoever enters first until all ten parts were entered, for a while; then it is late.
+/// Holds two workers at ten parts: each at its first part until both have come, and then worker 0, so that
+/// worker 1 draws the other eight. Who is held too long is late.
 #[derive(Drop)]
 struct HeldGate {
     entered: AtomicU64,
     late: AtomicU64,
+    /// Of each entry, in the order in which they came, 100 times the worker, and the part.
+    told: Vec<AtomicU64>,
 }
 
-impl Gate for HeldGate {
-    fn enter(&self, _worker: u32, _part: u32) {
-        if self.entered.fetch_add(1, Ordering::SeqCst) > 0 {
-            return;
+impl HeldGate {
+    fn new(alloc: Global) -> Result<HeldGate, Fault> {
+        let mut told = Vec::new(alloc);
+        for _ in 0..10 {
+            told.push(AtomicU64::new(0))?;
         }
+        Ok(HeldGate {
+            entered: AtomicU64::new(0),
+            late: AtomicU64::new(0),
+            told,
+        })
+    }
+
+    fn all_told(&self) -> [u64; 10] {
+        let mut all = [0; 10];
+        for (turn, told) in self.told.iter().enumerate() {
+            if turn < 10 {
+                all[turn] = told.load(Ordering::SeqCst);
+            }
+        }
+        all
+    }
+
+    fn hold(&self, entries: u64) {
         for _ in 0..100_000_000 {
-            if self.entered.load(Ordering::SeqCst) == 10 {
+            if self.entered.load(Ordering::SeqCst) >= entries {
                 return;
             }
         }
@@ -74,13 +96,20 @@ impl Gate for HeldGate {
     }
 }
 
+impl Gate for HeldGate {
+    fn enter(&self, worker: u32, part: u32) {
+        let turn = self.entered.fetch_add(1, Ordering::SeqCst);
+        if let Some(told) = self.told.get(turn as usize) {
+            told.store(100 * worker as u64 + part as u64, Ordering::SeqCst);
+        }
+        self.hold(if worker == 1 { 2 } else { 10 });
+    }
+}
+
 #[test]
-fn two_workers_share_the_parts(rt: HostRuntime) -> Result<(), Fail> {
+fn the_gate_hears_who_draws_what(rt: HostRuntime) -> Result<(), Fail> {
     let alloc = rt.alloc();
-    let gate = HeldGate {
-        entered: AtomicU64::new(0),
-        late: AtomicU64::new(0),
-    };
+    let gate = HeldGate::new(alloc)?;
     let options = Options {
         workers: 2,
         parts: 10,
@@ -93,6 +122,40 @@ fn two_workers_share_the_parts(rt: HostRuntime) -> Result<(), Fail> {
     assert_eq!(rt; (report.redo_from, report.redone), (1, 10));
     assert_eq!(rt; gate.late.load(Ordering::SeqCst), 0);
     assert_eq!(rt; gate.entered.load(Ordering::SeqCst), 10);
+    let told = gate.all_told();
+    for first in [0, 105] {
+        assert!(rt; told[..2].contains(&first), "no first part as {first}");
+    }
+    let others: [u64; 8] = [106, 107, 108, 109, 101, 102, 103, 104];
+    assert_eq!(rt; told[2..], others[..]);
+    Ok(())
+}
+
+/// Counts who enters.
+#[derive(Drop)]
+struct CountingGate {
+    entered: AtomicU64,
+}
+
+impl Gate for CountingGate {
+    fn enter(&self, _worker: u32, _part: u32) {
+        self.entered.fetch_add(1, Ordering::SeqCst);
+    }
+}
+
+#[test]
+fn the_gate_hears_of_each_part(rt: HostRuntime) -> Result<(), Fail> {
+    let alloc = rt.alloc();
+    let log = ten_updates(alloc)?;
+    let store = ten_pages(alloc)?;
+    for parts in [1, 12, 4096] {
+        let gate = CountingGate {
+            entered: AtomicU64::new(0),
+        };
+        let options = Options { workers: 3, parts };
+        recover_in_memory(&rt, alloc, &log, &store, &options, &gate)?;
+        assert_eq!(rt; gate.entered.load(Ordering::SeqCst), parts as u64);
+    }
     Ok(())
 }
 

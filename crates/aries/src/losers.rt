@@ -69,7 +69,7 @@ pub fn begin(
     log: &Log,
     tables: &Tables,
 ) -> Result<(BTreeMap<u64, Loser>, Vec<Record>), Fault>
-    ensures ok { IfOk result (λ x. Rolls (history log.now) (losers_in tables.now) (get nat_cmp x.0) (map content x.1.items)) }
+    ensures ok { IfOk result (λ x. (count : ℕ) → Rolls (history log.now) (losers_in tables.now) count (get nat_cmp x.0) (map content x.1.items)) }
     ensures ends { IfOk result (λ x. AreEnds (map content x.1.items)) }
     ensures spelled { IfOk result (λ x. AreCounted tables.now → AreSpelled x.1.items) }
     ensures fault { IfErr result (λ e. (count : ℕ) → UndoFault (history log.now) (losers_in tables.now) count e) }

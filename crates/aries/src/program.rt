@@ -42,8 +42,9 @@ fn status_of(printed: io::Result<()>) -> u8 {
 }
 
 /// Does the job.
-fn run_job<R: Files + AllocGlobal + Threads + Sync, O: Write, E: Write>(
+fn run_job<R: Files + Threads + Sync, O: Write, E: Write>(
     rt: &R,
+    alloc: Global,
     job: &Job,
     out: &mut O,
     err: &mut E,
@@ -62,12 +63,12 @@ fn run_job<R: Files + AllocGlobal + Threads + Sync, O: Write, E: Write>(
                 out_log: out_log.as_str(),
                 out_store: out_store.as_str(),
             };
-            match recover_files(rt, &paths, options) {
-                Ok(report) => status_of(print_report(rt.alloc(), &report, out)),
+            match recover_files(rt, alloc, &paths, options) {
+                Ok(report) => status_of(print_report(alloc, &report, out)),
                 Err(fault) => refuse(fault, err),
             }
         }
-        Job::Audit { log, store } => match audit_files(rt, log.as_str(), store.as_str()) {
+        Job::Audit { log, store } => match audit_files(rt, alloc, log.as_str(), store.as_str()) {
             Ok(()) => status_of(writeln!(out, "lawful")),
             Err(fault) => refuse(fault, err),
         },
@@ -78,14 +79,15 @@ fn run_job<R: Files + AllocGlobal + Threads + Sync, O: Write, E: Write>(
 /// standard output and `err` for standard error. Answers the exit status: 0 where the job was done or
 /// help was asked for, 1 for a fault, printed to `err` as `fault N: text`, or a failed print, 2 for a
 /// line that is wrong.
-pub fn run<R: Files + AllocGlobal + Threads + Sync, O: Write, E: Write>(
+pub fn run<R: Files + Threads + Sync, O: Write, E: Write>(
     rt: &R,
+    alloc: Global,
     words: &[&str],
     out: &mut O,
     err: &mut E,
 ) -> u8 {
-    match command_of(rt.alloc(), words) {
-        Ok(job) => run_job(rt, &job, out, err),
+    match command_of(alloc, words) {
+        Ok(job) => run_job(rt, alloc, &job, out, err),
         Err(Refusal::Line(error)) => explain(error, out, err),
         Err(Refusal::Memory) => refuse(Fault::NoResource, err),
     }

@@ -1,6 +1,6 @@
 //! Recovery in memory: from the bytes of a log and a store to the bytes of both after it.
 
-ghost use Rattle.std.specs.Prelude.{◌≡◌, ◌≤◌, ◌<◌, ◌^◌, Err, map, IfOk, OnOk, IfErr, MatchResult};
+ghost use Rattle.std.specs.Prelude.{◌≡◌, ◌≤◌, ◌<◌, ◌^◌, Err, length, map, IfOk, OnOk, IfErr, MatchResult};
 ghost use Rattle.page.specs.declared.fault.Fault.{Fault};
 ghost use Rattle.page.specs.declared.fault.Fault.TheVariants.{NoResource};
 ghost use Rattle.wal.specs.Content.{content};
@@ -46,6 +46,7 @@ fn frames_of(alloc: Global, records: &[Record], first: u64) -> Result<Vec<u8>, F
     requires some { 0 < first }
     requires room { first ≤ 2 ^ 63 }
     ensures frames { IfOk result (λ x. x.items ≡ spellings first (map content records.now)) }
+    ensures few { OnOk result (length records.now < 2 ^ 63) }
     ensures err { IfErr result (λ e. e ≡ NoResource) }
 {
     let mut frames = Vec::new(alloc);

@@ -12,7 +12,7 @@ ghost use Rattle.wal.specs.Tail.{tail_of};
 ghost use Rattle.wal.specs.Undo.{undone_by};
 ghost use Rattle.wal.specs.Store.{NamesPages, Lawful};
 ghost use Rattle.analysis.specs.Lawful.{AreTrue};
-ghost use Rattle.aries.specs.Undone.{losers_in, NoBadHop, undone_page, UndoFault, AreCounted, AreSpelled};
+ghost use Rattle.aries.specs.Undone.{losers_in, NoBadHop, undone_page, MetExist, UndoFault, AreCounted, AreSpelled};
 ghost use Rattle.aries.specs.Rollback.{Places, IsUpdate, IsUpdateAt, Compensated, CompensationFault, Taken, AreBelow, AreUpdates, Rolls};
 
 use crate::losers::{Loser, begin, resolve, take_newest};
@@ -82,8 +82,8 @@ fn undo_at(
 ) -> Result<(), Fault>
     requires { IsUpdateAt (history log.now) loser.tx place }
     ensures rolls { OnOk result ((losers : List TableEntry) (at : Places) → Taken place loser at (get nat_cmp places.old)
-        → Rolls (history log.now) losers at (map content appended.old.items)
-        → Rolls (history log.now) losers (get nat_cmp places.new) (map content appended.new.items)) }
+        → Rolls (history log.now) losers (length pages.old) at (map content appended.old.items)
+        → Rolls (history log.now) losers (length pages.old) (get nat_cmp places.new) (map content appended.new.items)) }
     ensures updates { OnOk result (AreUpdates (history log.now) (get nat_cmp places.old) → AreUpdates (history log.now) (get nat_cmp places.new)) }
     ensures falls { OnOk result (AreBelow place (get nat_cmp places.old) → AreBelow place (get nat_cmp places.new)) }
     ensures exist { OnOk result (All (NamesPages (length pages.old)) (map content appended.old.items) → All (NamesPages (length pages.old)) (map content appended.new.items)) }
@@ -92,7 +92,7 @@ fn undo_at(
         → pages.new ≡ map (undone_page (history log.now) (map content appended.new.items)) given) }
     ensures spelled { OnOk result (AreSpelled appended.old.items → AreSpelled appended.new.items) }
     ensures fault { IfErr result (λ e. (losers : List TableEntry) (at : Places) → Taken place loser at (get nat_cmp places.old)
-        → Rolls (history log.now) losers at (map content appended.old.items) → UndoFault (history log.now) losers (length pages.old) e) }
+        → Rolls (history log.now) losers (length pages.old) at (map content appended.old.items) → UndoFault (history log.now) losers (length pages.old) e) }
 {
     let lsn = log.next_lsn() + appended.len() as u64;
     let prev = compensate(log, place, loser.last, lsn, appended, pages)?;
@@ -111,16 +111,18 @@ fn undo_all(
     pages: &mut [Page],
 ) -> Result<(), Fault>
     requires { AreUpdates (history log.now) (get nat_cmp places.old) }
-    ensures appended { OnOk result ((losers : List TableEntry) → Rolls (history log.now) losers (get nat_cmp places.old) (map content appended.old.items)
+    ensures appended { OnOk result ((losers : List TableEntry) → Rolls (history log.now) losers (length pages.old) (get nat_cmp places.old) (map content appended.old.items)
         → map content appended.new.items ≡ undone_by (history log.now) losers) }
-    ensures ends { OnOk result ((losers : List TableEntry) → Rolls (history log.now) losers (get nat_cmp places.old) (map content appended.old.items)
+    ensures ends { OnOk result ((losers : List TableEntry) → Rolls (history log.now) losers (length pages.old) (get nat_cmp places.old) (map content appended.old.items)
         → NoBadHop (history log.now) losers) }
+    ensures met { OnOk result ((losers : List TableEntry) → Rolls (history log.now) losers (length pages.old) (get nat_cmp places.old) (map content appended.old.items)
+        → MetExist (history log.now) losers (length pages.old) 0) }
     ensures exist { OnOk result (All (NamesPages (length pages.old)) (map content appended.old.items) → All (NamesPages (length pages.old)) (map content appended.new.items)) }
     ensures pages { OnOk result ((given : List Page) → AreNumbered given
         → pages.old ≡ map (undone_page (history log.now) (map content appended.old.items)) given
         → pages.new ≡ map (undone_page (history log.now) (map content appended.new.items)) given) }
     ensures spelled { OnOk result (AreSpelled appended.old.items → AreSpelled appended.new.items) }
-    ensures fault { IfErr result (λ e. (losers : List TableEntry) → Rolls (history log.now) losers (get nat_cmp places.old) (map content appended.old.items)
+    ensures fault { IfErr result (λ e. (losers : List TableEntry) → Rolls (history log.now) losers (length pages.old) (get nat_cmp places.old) (map content appended.old.items)
         → UndoFault (history log.now) losers (length pages.old) e) }
 {
     while let Some((place, loser)) = take_newest(places) {
@@ -139,7 +141,8 @@ fn undo_all(
 /// PageLSN of its page are set, and the loser is resolved again from the update's PrevLSN. Time is near
 /// linear in the records met; beside the records it takes one map entry for each loser.
 ///
-/// Errors, of which the first met is given:
+/// Errors, of which the first met in this order is given, the page of an update before the walk goes on
+/// from it:
 /// - BrokenChain(n): a loser is sent to an LSN n, not 0, at which no update or CLR of it stands below
 ///   the record that sends it.
 /// - NoSuchPage(n): the update at the LSN n, which is to be undone, is on a page that is not given.
@@ -160,8 +163,9 @@ pub fn undo(
     // Each appended record has a spelling, where no loser has the number 0.
     ensures spelled { IfOk result (λ x. AreCounted tables.now → AreSpelled x.1.items) }
 
-    // An answer means that no hop is bad and no page is missing, a refusal the contrary, memory aside.
+    // An answer means that no hop is bad and no page is missing, a refusal the contrary, and which comes first, memory aside.
     ensures ends { OnOk result (NoBadHop (history log.now) (losers_in tables.now)) }
+    ensures met { OnOk result (MetExist (history log.now) (losers_in tables.now) (length pages.items) 0) }
     ensures exist { IfOk result (λ x. All (NamesPages (length pages.items)) (map content x.1.items)) }
     ensures fault { IfErr result (UndoFault (history log.now) (losers_in tables.now) (length pages.items)) }
 

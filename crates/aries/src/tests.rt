@@ -1,9 +1,10 @@
 //! What no clause says: that calls succeed, what the program prints, its statuses and its files.
 
 use crate::rows::{
-    Row, checkpoint_loser, one_loser, page_with, recover_in_memory, store_of, two_losers,
+    Row, checkpoint_loser, clr_points_past_zero, one_loser, page_with, recover_in_memory, store_of,
+    two_losers,
 };
-use crate::{Options, run};
+use crate::{Options, audit_texts, run};
 use page::{Fault, Page};
 use redo::OpenGate;
 use std::alloc::Global;
@@ -210,7 +211,7 @@ fn printed<R: Files + AllocGlobal + Threads + Sync>(
     let words: Vec<&str> = line.split_whitespace().collect(rt.alloc())?;
     let mut out = Vec::new(rt.alloc());
     let mut err = Vec::new(rt.alloc());
-    let status = run(rt, &words, &mut out, &mut err);
+    let status = run(rt, rt.alloc(), &words, &mut out, &mut err);
     let out = String::from_utf8(out).map_err(|_| io::Error::from(io::ErrorKind::InvalidData))?;
     let err = String::from_utf8(err).map_err(|_| io::Error::from(io::ErrorKind::InvalidData))?;
     Ok((status, out, err))
@@ -298,6 +299,31 @@ fn program_explains_wrong_lines(rt: HostRuntime) -> Result<(), Fail> {
         "no file was made"
     );
     remove(&rt, &["d-log", "d-store"])?;
+    Ok(())
+}
+
+#[test]
+fn texts_are_audited(rt: HostRuntime) -> Result<(), Fail> {
+    let alloc = rt.alloc();
+    let store = empty_store(alloc)?;
+    assert_eq!(rt; audit_texts(alloc, ONE_COMMIT, &store), Ok(()));
+    assert_eq!(rt;
+        audit_texts(alloc, ONE_COMMIT, &store_with_a(alloc)?),
+        Ok(())
+    );
+    let log = clr_points_past_zero(alloc)?;
+    assert_eq!(rt;
+        audit_texts(alloc, &log.bytes, &store),
+        Err(Fault::WrongCompensation(2))
+    );
+    assert_eq!(rt;
+        audit_texts(alloc, &store, ONE_COMMIT),
+        Err(Fault::BadLogHeader)
+    );
+    assert_eq!(rt;
+        audit_texts(alloc, ONE_COMMIT, ONE_COMMIT),
+        Err(Fault::BadStoreHeader)
+    );
     Ok(())
 }
 

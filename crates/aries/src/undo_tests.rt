@@ -143,6 +143,49 @@ fn bad_tables(rt: HostRuntime) -> Result<(), Fail> {
     Ok(())
 }
 
+/// Appends an update of transaction `tx` on a page that the tests do not give.
+fn missing(text: &mut Text, tx: u32, prev: u64) -> Result<(), Fault> {
+    text.put(&Record::Update {
+        tx,
+        prev,
+        page: 7,
+        slot: 0,
+        before: None,
+        after: None,
+    })
+}
+
+/// Bad hops and missing pages in one log: the first that is met is told.
+#[test]
+fn first_fault_met(rt: HostRuntime) -> Result<(), Fail> {
+    // An update's page comes before the walk goes on from it.
+    let mut text = Text::new(rt.alloc())?;
+    missing(&mut text, 1, 9)?;
+    assert_eq!(rt; refused(rt.alloc(), &text, 0), Some(Fault::NoSuchPage(1)));
+    // The walk goes on from the newest update before the older one is looked at.
+    let mut text = Text::new(rt.alloc())?;
+    missing(&mut text, 1, 0)?;
+    text.update(2, 9, 0, None, None)?;
+    assert_eq!(rt; refused(rt.alloc(), &text, 0), Some(Fault::BrokenChain(9)));
+    // The newest update comes first, its page too.
+    let mut text = Text::new(rt.alloc())?;
+    text.update(1, 9, 0, None, None)?;
+    missing(&mut text, 2, 0)?;
+    assert_eq!(rt; refused(rt.alloc(), &text, 0), Some(Fault::NoSuchPage(2)));
+    // All losers are sent on their way before an update is looked at: a CLR sends transaction 3 to nowhere.
+    let mut text = Text::new(rt.alloc())?;
+    text.clr(3, 0, 9, 0, None)?;
+    missing(&mut text, 1, 0)?;
+    assert_eq!(rt; refused(rt.alloc(), &text, 0), Some(Fault::BrokenChain(9)));
+    // Of two that are sent to nowhere the smaller number comes first, wherever its records stand.
+    let mut text = Text::new(rt.alloc())?;
+    text.clr(3, 0, 9, 0, None)?;
+    text.clr(2, 0, 8, 0, None)?;
+    text.clr(4, 0, 7, 0, None)?;
+    assert_eq!(rt; refused(rt.alloc(), &text, 0), Some(Fault::BrokenChain(8)));
+    Ok(())
+}
+
 /// A million records, among them 10,000 losers with 10 pending updates each, in turn.
 #[test]
 fn undoes_many_losers(rt: HostRuntime) -> Result<(), Fail> {

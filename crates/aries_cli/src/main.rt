@@ -31,7 +31,7 @@ fn status_of<R: Env + Files + AllocGlobal + Threads + Sync, O: Write, E: Write>(
         }
     };
     let slices: Vec<&str> = words.iter().map(|word| word.as_str()).collect(rt.alloc())?;
-    Ok(aries::run(rt, &slices, out, err))
+    Ok(aries::run(rt, rt.alloc(), &slices, out, err))
 }
 
 fn main(rt: HostRuntime) -> ExitCode {

@@ -2,10 +2,8 @@
 
 use crate::verdict::Verdict;
 use anyhow::{Context, Result};
-use aries::{Options, Report, recover, report_text};
-use device::{MemorySink, MemorySource, Pace, SlowSink, SlowSource};
-use page::Fault;
-use redo::OpenGate;
+use aries::{Fault, MemorySink, MemorySource, OpenGate, Options, Report, recover, report_text};
+use device::{Pace, SlowSink, SlowSource};
 use std::fs;
 use std::io::Write;
 use std::rt::Files;

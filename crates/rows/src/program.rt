@@ -23,7 +23,7 @@ pub struct Printed {
 fn run<R: Files + AllocGlobal + Threads + Sync>(rt: &R, words: &[&str]) -> Printed {
     let mut out = Vec::new(rt.alloc());
     let mut err = Vec::new(rt.alloc());
-    let status = aries::run(rt, words, &mut out, &mut err);
+    let status = aries::run(rt, rt.alloc(), words, &mut out, &mut err);
     Printed { status, out, err }
 }
 

@@ -1,8 +1,9 @@
-use Rattle.std.proofs.Common.{refl}
+use Rattle.std.proofs.Common.{refl, inl, inr}
 use Rattle.std.proofs.lemmas.Result.{err_from_is_err_and}
 use Rattle.aries.specs.Recovery.{new_log}
 use Rattle.aries.specs.Devices.{Makes}
-use Rattle.aries.proofs.Delivered.{lent_read, lent_lawful, device_cause, is_resource, left_out, cut_lawful, completed}
+use Rattle.aries.proofs.Delivered.{lent_read, lent_makes, lent_lawful, device_cause, nothing_out, is_resource, left_out, cut_lawful, completed}
+use Rattle.aries.proofs.Resuming.{leaves_cut}
 use Rattle.aries.proofs.devices.recover.Goals as goal
 
 pub returns-in_err-recovery-clause-lawful : goal.returns-in_err-recovery-clause-lawful
@@ -29,21 +30,41 @@ returns-in_err-recovery-clause-cause g c =
     (lent_read _ _ c.in_ok-log_text.log_text.items c.deref.result.now c.in_ok-log_text.store_text.items c.in_ok-log_text.ensures.read c.deref.ensures.value)
     c.in_err-recovery.ensures.cause)
 
+pub returns-in_err-recovery-clause-out : goal.returns-in_err-recovery-clause-out
+returns-in_err-recovery-clause-out g c =
+    let exit = err_from_is_err_and c.from_residual-in_err-recovery.result c.from_residual-in_err-recovery.ensures.1 in
+    rw (exit.1, exit.2)
+    (nothing_out _ _ _ _ c.deref.result.now c.in_ok-log_text.store_text.items c.args.options.now c.in_err-recovery.field-0.0 c.in_err-recovery.ensures.cause)
+
 pub returns-in_err-write_both-clause-out : goal.returns-in_err-write_both-clause-out
 returns-in_err-write_both-clause-out g c =
     let exit = err_from_is_err_and c.from_residual-in_err-write_both.result c.from_residual-in_err-write_both.ensures.1 in
+    let read = c.in_ok-log_text in
     let recovery = c.in_ok-recovery.recovery in
     let made : Makes (g.LR.Source.left c.args.log.now) (g.SR.Source.left c.args.store.now) =
-    record {
-      log = c.deref.result.now;
-      store = c.in_ok-log_text.store_text.items;
-      new_log = new_log recovery;
-      new_store = recovery.store.items;
-      report = recovery.report;
-      are_read = lent_read _ _ c.in_ok-log_text.log_text.items c.deref.result.now c.in_ok-log_text.store_text.items c.in_ok-log_text.ensures.read c.deref.ensures.value;
-      recovers = c.in_ok-recovery.ensures.answer;
-    } in
+    lent_makes read.log_text.items c.deref.result.now read.store_text.items (new_log recovery) recovery.store.items recovery.report read.ensures.read c.deref.ensures.value c.in_ok-recovery.ensures.answer in
     rw (exit.1, exit.2) (left_out _ _ _ _ _ _ made c.in_err-write_both.field-0.0 c.in_err-write_both.ensures.fault)
+
+pub returns-in_err-write_both-clause-log_out_first : goal.returns-in_err-write_both-clause-log_out_first
+returns-in_err-write_both-clause-log_out_first g c =
+    let read = c.in_ok-log_text in
+    let recovery = c.in_ok-recovery.recovery in
+    let made : Makes (g.LR.Source.left c.args.log.now) (g.SR.Source.left c.args.store.now) =
+    lent_makes read.log_text.items c.deref.result.now read.store_text.items (new_log recovery) recovery.store.items recovery.report read.ensures.read c.deref.ensures.value c.in_ok-recovery.ensures.answer in
+    elim c.write_both.ensures.log_first [
+      | inl same ↦ inl same
+      | inr out ↦ inr (made, out)
+    ]
+
+pub returns-in_err-write_both-clause-resumable : goal.returns-in_err-write_both-clause-resumable
+returns-in_err-write_both-clause-resumable g c = λ log_text store_text tells_log tells_store range bytes.
+    let exit = err_from_is_err_and c.from_residual-in_err-write_both.result c.from_residual-in_err-write_both.ensures.1 in
+    let read = c.in_ok-log_text in
+    let recovery = c.in_ok-recovery.recovery in
+    let recovered =
+    c.in_ok-recovery.ensures.lawful (lent_lawful read.log_text.items c.deref.result.now read.store_text.items log_text store_text read.ensures.read c.deref.ensures.value tells_log tells_store bytes) in
+    rw (exit.1, exit.2)
+    (leaves_cut bytes (new_log recovery) recovered.reads recovery.store.items _ _ _ _ c.in_err-write_both.field-0.0 c.in_err-write_both.ensures.fault)
 
 pub returns-clause-lawful : goal.returns-clause-lawful
 returns-clause-lawful g c = λ log_text store_text tells_log tells_store range bytes.
@@ -54,8 +75,8 @@ returns-clause-lawful g c = λ log_text store_text tells_log tells_store range b
       new_store = recovery.store.items;
       recovered =
           c.in_ok-recovery.ensures.lawful (lent_lawful read.log_text.items c.deref.result.now read.store_text.items log_text store_text read.ensures.read c.deref.ensures.value tells_log tells_store bytes);
-      log_out = c.in_ok-write_both.ensures.log_out;
-      store_out = c.in_ok-write_both.ensures.store_out;
+      log_out = c.in_ok-write_both.ensures.log_out.out;
+      store_out = c.in_ok-write_both.ensures.store_out.out;
     }
 
 pub returns-clause-interrupted : goal.returns-clause-interrupted
@@ -64,18 +85,23 @@ returns-clause-interrupted g c = λ log_text store_text tells_log tells_store ra
 
 pub returns-clause-answer : goal.returns-clause-answer
 returns-clause-answer g c =
+    let read = c.in_ok-log_text in
     let recovery = c.in_ok-recovery.recovery in
     record {
-      made = record {
-        log = c.deref.result.now;
-        store = c.in_ok-log_text.store_text.items;
-        new_log = new_log recovery;
-        new_store = recovery.store.items;
-        report = recovery.report;
-        are_read = lent_read _ _ c.in_ok-log_text.log_text.items c.deref.result.now c.in_ok-log_text.store_text.items c.in_ok-log_text.ensures.read c.deref.ensures.value;
-        recovers = c.in_ok-recovery.ensures.answer;
-      };
+      made =
+          lent_makes read.log_text.items c.deref.result.now read.store_text.items (new_log recovery) recovery.store.items recovery.report read.ensures.read c.deref.ensures.value
+          c.in_ok-recovery.ensures.answer;
       report_is = refl;
-      log_out = c.in_ok-write_both.ensures.log_out;
-      store_out = c.in_ok-write_both.ensures.store_out;
+      log_out = c.in_ok-write_both.ensures.log_out.out;
+      store_out = c.in_ok-write_both.ensures.store_out.out;
     }
+
+pub returns-clause-log_out_first : goal.returns-clause-log_out_first
+returns-clause-log_out_first g c =
+    let read = c.in_ok-log_text in
+    let recovery = c.in_ok-recovery.recovery in
+    inr (
+      lent_makes read.log_text.items c.deref.result.now read.store_text.items (new_log recovery) recovery.store.items recovery.report read.ensures.read c.deref.ensures.value
+          c.in_ok-recovery.ensures.answer,
+      c.in_ok-write_both.ensures.log_out,
+    )

@@ -1,7 +1,7 @@
 use Rattle.std.proofs.Common.{◌≡◌, ◌++◌, ◌∷◌, [], Some, map, sym, ap, ◌∙◌, subst, arith}
 use Rattle.std.specs.Prelude.{filter}
-use Rattle.std.proofs.lemmas.List.{map_push}
-use Rattle.std.proofs.lemmas.Map.Iter.{btree_map_turn, iter_end}
+use Rattle.std.proofs.lemmas.List.{map_push, map-append}
+use Rattle.std.proofs.lemmas.Map.Iter.{rest_more, rest_so_far, btree_map_turn, iter_end}
 use Rattle.std.proofs.lemmas.Result.{err_from_is_err_and}
 use Rattle.std.proofs.lemmas.Cmp.{nat_cmp_total}
 use Rattle.std.specs.Ordering.{nat_cmp}
@@ -13,8 +13,8 @@ use Rattle.wal.specs.Undo.{entry_for}
 use Rattle.wal.proofs.Histories.{size_of_list}
 use Rattle.aries.specs.Undone.{losers_in}
 use Rattle.aries.specs.Rollback.{AreEnds, Begun, meets_nothing}
-use Rattle.wal.proofs.Entries.{entry_found, rise, distinct}
-use Rattle.aries.proofs.Beginning.{broken_start, begun_more, begun_rolls, are_ends, some_tx}
+use Rattle.wal.proofs.Entries.{Rise, entry_found, rise, distinct}
+use Rattle.aries.proofs.Beginning.{broken_start, begun_more, begun_rolls, stands_earlier, are_ends, some_tx}
 use Rattle.aries.proofs.losers.begin.Goals as goal
 
 pub returns-in_err-resolve-clause-fault : goal.returns-in_err-resolve-clause-fault
@@ -26,10 +26,18 @@ returns-in_err-resolve-clause-fault c =
     let own : entry_for c.in-Some.tx.now (losers_in c.args.tables.now) ≡ Some (entry_of (c.in-Some.tx.now, c.in-Some.entry.now)) =
     entry_found c.in-Some.tx.now c.in-Some.entry.now c.args.tables.now.transactions.entries turn.1 in
     let exit = err_from_is_err_and c.from_residual.result c.from_residual.ensures.1 in
+    let taken = rest_more deref_pair c.loop-tx.tx-iterator c.next.new.self c.next.result (c.in-Some.tx, c.in-Some.entry) c.in-Some.is c.next.ensures.steps in
+    let split : c.args.tables.now.transactions.entries ≡ map deref_pair c.loop-tx.yielded ++ (c.in-Some.tx.now, c.in-Some.entry.now) ∷ c.next.new.self =
+    sym gives.0 ∙ rest_so_far deref_pair c.loop-tx.yielded c.into_iter-tx-iterator.result c.loop-tx.tx-iterator c.loop-tx.yielded_by ∙ ap (λ es. map deref_pair c.loop-tx.yielded ++ es) taken in
+    let losers : losers_in c.args.tables.now ≡ map entry_of (map deref_pair c.loop-tx.yielded) ++ entry_of (c.in-Some.tx.now, c.in-Some.entry.now) ∷ map entry_of c.next.new.self =
+    ap (map entry_of) split ∙ map-append entry_of (map deref_pair c.loop-tx.yielded) ((c.in-Some.tx.now, c.in-Some.entry.now) ∷ c.next.new.self) in
+    let earlier = stands_earlier 0 (map entry_of (map deref_pair c.loop-tx.yielded)) (map entry_of c.next.new.self) (entry_of (c.in-Some.tx.now, c.in-Some.entry.now))
+    (subst (Rise 0) losers (rise c.args.tables.now.transactions.entries gives.5)) in
     rw (exit.1, exit.2)
     (λ count. broken_start (history c.args.log.now) (losers_in c.args.tables.now) (map entry_of (map deref_pair c.loop-tx.yielded)) (get nat_cmp c.loop-tx.places) (get nat_cmp c.resolve.new.places)
     (map content c.loop-tx.appended.items) (map content c.resolve.new.appended.items) c.next_lsn-end.result (omega (arith, c.next_lsn-end.ensures.next, size_of_list c.args.log.now))
-    (entry_of (c.in-Some.tx.now, c.in-Some.entry.now)) own c.loop-tx.invariant.begun count c.in_err-resolve.field-0.0 c.in_err-resolve.ensures.fault)
+    (entry_of (c.in-Some.tx.now, c.in-Some.entry.now)) own c.loop-tx.invariant.begun
+    (λ t x lt some. earlier t x lt (sym (ap (entry_for t) losers) ∙ some)) count c.in_err-resolve.field-0.0 c.in_err-resolve.ensures.fault)
 
 pub loop-tx-preserved : goal.loop-tx-preserved
 loop-tx-preserved c =

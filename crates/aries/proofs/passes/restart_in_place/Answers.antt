@@ -35,7 +35,7 @@ returns-in_err-redone-clause-fault g c =
     let are : AreTablesOf c.args.log.now c.args.store.master c.in_ok-tables.tables =
     subst (λ m. AreTablesOf c.args.log.now m c.in_ok-tables.tables) (ap (λ (s : StoreContent). s.master) c.store.view_is) c.in_ok-tables.ensures.tables in
     rw (exit.1, exit.2)
-    (inr (redo_fault c.args.log.now c.args.store none_ahead c.in_ok-tables.tables are c.args.workers c.in_err-redone.field-0.0 c.in_ok-check_settings.ensures.ok.fit c.in_err-redone.ensures.fault))
+    (inr (c.in_ok-check_settings.ensures.ok, redo_fault c.args.log.now c.args.store none_ahead c.in_ok-tables.tables are c.args.workers c.in_err-redone.field-0.0 c.in_ok-check_settings.ensures.ok.fit c.in_err-redone.ensures.fault))
 
 pub roll_back-requires : goal.roll_back-requires
 roll_back-requires g c =
@@ -50,7 +50,8 @@ returns-clause-lawful g c = λ lawful fit.
     let numbered : AreNumbered c.args.store.pages = subst AreNumbered (ap (λ (s : StoreContent). s.pages) c.store.view_is) c.store.invariant in
     let truth = c.in_ok-tables.ensures.lawful c.args.store lawful (sym kept) in
     let count : length redone.pages.items ≡ length c.args.store.pages = ap length c.in_ok-redone.ensures.pages ∙ length-map c.args.store.pages (redone_page c.args.log.now tables) in
-    outcome_restores c.args.log.now c.args.store lawful numbered tables truth redone c.roll_back.result c.in_ok-redone.ensures.pages
+    let are : AreTablesOf c.args.log.now c.args.store.master tables = subst (λ m. AreTablesOf c.args.log.now m tables) kept c.in_ok-tables.ensures.tables in
+    outcome_restores c.args.log.now c.args.store lawful numbered tables are truth redone c.roll_back.result c.in_ok-redone.ensures.pages c.in_ok-redone.ensures.applied
     (subst (λ m. IfOk c.roll_back.result (RollsBack c.args.log.now m tables redone)) kept c.roll_back.ensures.rolls_back)
     (c.roll_back.ensures.lawful c.args.store lawful truth count)
 
@@ -81,6 +82,9 @@ returns-clause-fault g c =
     subst (λ m. AreTablesOf c.args.log.now m tables) (ap (λ (s : StoreContent). s.master) c.store.view_is) c.in_ok-tables.ensures.tables in
     let count : length c.in_ok-redone.redone.pages.items ≡ length c.args.store.pages = ap length c.in_ok-redone.ensures.pages ∙ length-map c.args.store.pages (redone_page c.args.log.now tables) in
     IfErr-weaker c.roll_back.result _ _
-    (λ e h. inr (undo_fault c.args.log.now c.args.store none_ahead tables are e c.in_ok-redone.ensures.exist
-    (subst (λ n. UndoFault (history c.args.log.now) (losers_in tables) n e) count h)))
+    (λ e h. inr (
+      c.in_ok-check_settings.ensures.ok,
+      undo_fault c.args.log.now c.args.store none_ahead tables are e c.in_ok-redone.ensures.exist
+          (subst (λ n. UndoFault (history c.args.log.now) (losers_in tables) n e) count h),
+    ))
     c.roll_back.ensures.fault

@@ -1,15 +1,16 @@
-use Rattle.std.proofs.Common.{◌≡◌, ℕ, ◌-◌, ◌++◌, List, length, take, map, sym, ap, ◌∙◌, subst}
+use Rattle.std.proofs.Common.{◌≡◌, ℕ, ◌-◌, ◌^◌, ◌<◌, ◌++◌, List, arith, length, take, map, sym, ap, ◌∙◌, subst}
 use Rattle.std.proofs.lemmas.Result.{err_from_is_err_and}
 use Rattle.page.specs.Store.{StoreContent}
 use Rattle.page.specs.File.{store_text, SpellsStore}
 use Rattle.wal.specs.Records.{LogRecord}
 use Rattle.wal.specs.Content.{content}
 use Rattle.wal.specs.Tail.{tail_of}
-use Rattle.wal.specs.Reads.{spellings, log_text}
+use Rattle.wal.specs.Reads.{Reads, spellings, log_text}
 use Rattle.aries.specs.declared.report.Report.{Report}
 use Rattle.aries.specs.Restart.{IsPartingOf, IsSettled}
 use Rattle.aries.specs.Recovery.{Are, Recovered}
 use Rattle.aries.proofs.Bytes.{kept_text, text_extended, restart_cause, is_lawful, read_alone, read_same, dealt_by_number}
+use Rattle.aries.proofs.Resuming.{reads_extended}
 use Rattle.aries.proofs.recovery.recovery_of.Goals as goal
 
 pub returns-in_err-records-clause-lawful : goal.returns-in_err-records-clause-lawful
@@ -47,14 +48,19 @@ returns-clause-answer g c =
     let records = c.in_ok-records.records in
     let torn = c.in_ok-records.torn in
     let appended = map content c.in_ok-outcome.outcome.appended.items in
+    let bytes = take (length c.args.log.now - torn) c.args.log.now ++ c.in_ok-frames_of.field-0.items in
+    let log_is : bytes ≡ log_text (records ++ appended) =
+    text_extended records appended (take (length c.args.log.now - torn) c.args.log.now) c.in_ok-frames_of.field-0.items c.next_lsn.result
+    (kept_text c.args.log.now records torn c.in_ok-records.ensures.found) c.next_lsn.ensures.next
+    (c.in_ok-frames_of.ensures.frames ∙ ap (λ rs. spellings c.next_lsn.result (map content rs)) c.deref-2.ensures.value) in
+    let few : length records < 2 ^ 63 = omega (arith, c.next_lsn.ensures.next, c.next_lsn.ensures.room) in
+    let more : length c.in_ok-outcome.outcome.appended.items < 2 ^ 63 = omega (arith, c.in_ok-frames_of.ensures.few, ap length c.deref-2.ensures.value) in
     record {
       are = record { records = records; torn = torn; before = c.in_ok-before.before; reads = c.in_ok-records.ensures.found; spells = subst (λ (text : List ℕ). SpellsStore text c.in_ok-before.before) c.deref.ensures.value c.in_ok-before.ensures.found };
       outcome = c.in_ok-outcome.outcome;
       restarts = c.in_ok-outcome.ensures.restarts;
-      log_is =
-          text_extended records appended (take (length c.args.log.now - torn) c.args.log.now) c.in_ok-frames_of.field-0.items c.next_lsn.result
-          (kept_text c.args.log.now records torn c.in_ok-records.ensures.found) c.next_lsn.ensures.next
-          (c.in_ok-frames_of.ensures.frames ∙ ap (λ rs. spellings c.next_lsn.result (map content rs)) c.deref-2.ensures.value);
+      log_is = log_is;
+      reads = reads_extended bytes records c.in_ok-outcome.outcome.appended.items log_is c.in_ok-records.ensures.found.each c.in_ok-outcome.ensures.spelled few more;
       store_is = c.in_ok-encode_store_into.ensures.ok;
       report_is = c.report_of.ensures;
     }
@@ -77,10 +83,17 @@ returns-clause-lawful g c = λ bytes.
     let here : Recovered records before log store c.report_of.result =
     record {
       log_is = answer.log_is ∙ ap (λ (rs : List LogRecord). log_text (records ++ rs)) restored.appended;
+      reads = subst (λ (rs : List LogRecord). Reads log (records ++ rs) 0) restored.appended answer.reads;
       store_is = answer.store_is ∙ ap store_text restored.store;
       settled = subst (λ s. IsSettled (records ++ tail_of records) s) restored.store (subst (λ (rs : List LogRecord). IsSettled (records ++ rs) outcome.store) restored.appended restored.settled);
       losers_are = ap (λ (r : Report). r.losers) c.report_of.ensures ∙ restored.losers;
       ended_are = ap (λ (r : Report). r.ended) c.report_of.ensures ∙ restored.ended;
+      redoes = record {
+        tables = restored.redoes.tables;
+        are = restored.redoes.are;
+        begins = ap (λ (r : Report). r.redo_from) c.report_of.ensures ∙ restored.redoes.begins;
+        applies = ap (λ (r : Report). r.redone) c.report_of.ensures ∙ restored.redoes.applies;
+      };
       compensated_are = ap (λ (r : Report). r.compensated) c.report_of.ensures ∙ restored.compensated;
     } in
     subst (λ rs. Recovered rs bytes.are.before log store c.report_of.result) (ap (λ x. x.0) read)

@@ -6,7 +6,7 @@ use Rattle.page.specs.declared.page.Page.{Page}
 use Rattle.wal.specs.Records.{history}
 use Rattle.wal.specs.Content.{content}
 use Rattle.wal.specs.Store.{NamesPages}
-use Rattle.aries.specs.Undone.{losers_in, undone_page}
+use Rattle.aries.specs.Undone.{losers_in, undone_page, MetExist, UndoFault}
 use Rattle.aries.proofs.Beginning.{ends_name_no_page}
 use Rattle.aries.proofs.UndonePages.{ends_undo_nothing}
 use Rattle.aries.proofs.LawfulUndo.{tail_is, memory_alone}
@@ -25,14 +25,26 @@ returns-in_err-places-clause-lawful c = λ store lawful are_true len.
     (c.in_err-places.ensures.fault (length c.args.pages.items)))
 
 pub undo_all-requires : goal.undo_all-requires
-undo_all-requires c = λ n l e. (c.in_ok-places.ensures.ok.waits n l e).at_place
+undo_all-requires c = λ n l e. ((c.in_ok-places.ensures.ok 0).waits n l e).at_place
 
 pub returns-in_err-undo_all-clause-lawful : goal.returns-in_err-undo_all-clause-lawful
 returns-in_err-undo_all-clause-lawful c = λ store lawful are_true len.
     let p = err_from_is_err_and c.from_residual-in_err-undo_all.result c.from_residual-in_err-undo_all.ensures.1 in
     rw (p.1, p.2)
     (memory_alone c.args.log.now store c.args.tables.now lawful are_true (length c.deref_mut.result.now) c.in_err-undo_all.field-0.0 (ap length c.deref_mut.ensures.value ∙ len)
-    (c.in_err-undo_all.ensures.fault (losers_in c.args.tables.now) c.in_ok-places.ensures.ok))
+    (c.in_err-undo_all.ensures.fault (losers_in c.args.tables.now) (c.in_ok-places.ensures.ok (length c.deref_mut.result.now))))
+
+pub returns-in_err-undo_all-clause-fault : goal.returns-in_err-undo_all-clause-fault
+returns-in_err-undo_all-clause-fault c =
+    let p = err_from_is_err_and c.from_residual-in_err-undo_all.result c.from_residual-in_err-undo_all.ensures.1 in
+    rw (p.1, p.2)
+    (subst (λ (pages : List Page). UndoFault (history c.args.log.now) (losers_in c.args.tables.now) (length pages) c.in_err-undo_all.field-0.0) c.deref_mut.ensures.value
+    (c.in_err-undo_all.ensures.fault (losers_in c.args.tables.now) (c.in_ok-places.ensures.ok (length c.deref_mut.result.now))))
+
+pub returns-clause-met : goal.returns-clause-met
+returns-clause-met c =
+    subst (λ (pages : List Page). MetExist (history c.args.log.now) (losers_in c.args.tables.now) (length pages) 0) c.deref_mut.ensures.value
+    (c.in_ok-undo_all.ensures.met (losers_in c.args.tables.now) (c.in_ok-places.ensures.ok (length c.deref_mut.result.now)))
 
 pub returns-clause-pages : goal.returns-clause-pages
 returns-clause-pages c =
@@ -52,5 +64,5 @@ returns-clause-exist c =
 
 pub returns-clause-lawful : goal.returns-clause-lawful
 returns-clause-lawful c = λ store lawful are_true len.
-    c.in_ok-undo_all.ensures.appended (losers_in c.args.tables.now) c.in_ok-places.ensures.ok
+    c.in_ok-undo_all.ensures.appended (losers_in c.args.tables.now) (c.in_ok-places.ensures.ok (length c.deref_mut.result.now))
     ∙ tail_is c.args.log.now store c.args.tables.now lawful are_true

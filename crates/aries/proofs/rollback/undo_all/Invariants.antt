@@ -15,7 +15,8 @@ abbrev pub invariant-loop-place : goal.invariant-loop-place
 invariant-loop-place l =
     record {
       updates : AreUpdates (history l.log) (get nat_cmp l.places);
-      rolls : (losers : List TableEntry) → Rolls (history l.log) losers (get nat_cmp l.fn.places) (map content l.fn.appended.items) → Rolls (history l.log) losers (get nat_cmp l.places) (map content l.appended.items);
+      rolls : (losers : List TableEntry) → Rolls (history l.log) losers (length l.fn.pages) (get nat_cmp l.fn.places) (map content l.fn.appended.items)
+          → Rolls (history l.log) losers (length l.fn.pages) (get nat_cmp l.places) (map content l.appended.items);
       exist : All (NamesPages (length l.fn.pages)) (map content l.fn.appended.items) → All (NamesPages (length l.fn.pages)) (map content l.appended.items);
       spelled : AreSpelled l.fn.appended.items → AreSpelled l.appended.items;
       pages_are : (given : List Page) → AreNumbered given → l.fn.pages ≡ map (undone_page (history l.log) (map content l.fn.appended.items)) given

@@ -18,7 +18,7 @@ returns-in_err-prev-clause-fault c =
     let exit = err_from_is_err_and c.from_residual.result c.from_residual.ensures.1 in
     rw (exit.1, exit.2)
     (λ losers at taken rolls.
-    missing_page (history c.args.log.now) losers at _ (map content c.args.appended.now.items) (length c.args.pages.now) c.args.place c.args.loser taken rolls c.in_err-prev.field-0.0 c.in_err-prev.ensures.fault)
+    missing_page (history c.args.log.now) losers (length c.args.pages.now) at _ (map content c.args.appended.now.items) c.args.place c.args.loser taken rolls c.in_err-prev.field-0.0 c.in_err-prev.ensures.fault)
 
 pub returns-clause-rolls : goal.returns-clause-rolls
 returns-clause-rolls c =
@@ -26,7 +26,7 @@ returns-clause-rolls c =
     let done = c.in_ok-prev.ensures.ok u c.requires.found in
     on_ok_weaker c.resolve.result
     (λ resolved losers at taken rolls.
-    undone_rolling (history c.args.log.now) losers at _ (map content c.args.appended.now.items) c.args.place c.args.loser taken rolls u c.requires.found
+    undone_rolling (history c.args.log.now) losers (length c.args.pages.now) at _ (map content c.args.appended.now.items) c.args.place c.args.loser taken rolls u c.requires.found done.exists
     _ (c.next_lsn.result + c.len.result) c.in_ok-prev.prev (map content c.compensate.new.appended.items) (map content c.resolve.new.appended.items)
     (omega (arith, c.next_lsn.ensures.next, c.len.ensures, size_of_list c.args.log.now, length-map c.args.appended.now.items content, c.args.appended.now.ok.0))
     done.goes_on done.appended resolved)
@@ -56,7 +56,7 @@ returns-clause-fault c =
     let done = c.in_ok-prev.ensures.ok u c.requires.found in
     IfErr-weaker c.resolve.result _ _
     (λ e h losers at taken rolls.
-    broken_walk (history c.args.log.now) losers at _ (map content c.args.appended.now.items) (length c.args.pages.now) c.args.place c.args.loser taken rolls u c.requires.found c.in_ok-prev.prev done.goes_on e h)
+    broken_walk (history c.args.log.now) losers (length c.args.pages.now) at _ (map content c.args.appended.now.items) c.args.place c.args.loser taken rolls u c.requires.found done.exists c.in_ok-prev.prev done.goes_on e h)
     c.resolve.ensures.fault
 
 pub returns-clause-spelled : goal.returns-clause-spelled

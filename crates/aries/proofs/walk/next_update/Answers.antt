@@ -9,7 +9,7 @@ pub returns-then-next-above-clause-fault : goal.returns-then-next-above-clause-f
 returns-then-next-above-clause-fault c =
     let log = history c.args.log.now in (
       c.loop-next-test.true,
-      ap (λ w. w.ends) (sym c.loop-next.invariant.same ∙ walk_past log c.args.tx c.loop-next.above c.loop-next.next c.loop-next.invariant.positive c.if-next-above.true),
+      (sym c.loop-next.invariant.same ∙ walk_past log c.args.tx c.loop-next.above c.loop-next.next c.loop-next.invariant.positive c.if-next-above.true),
     )
 
 pub returns-in-Some-Update-clause-found : goal.returns-in-Some-Update-clause-found
@@ -36,7 +36,7 @@ returns-in-None-clause-fault c =
     let log = history c.args.log.now in
     let within : c.loop-next.above ≤ size log + 1 = omega (arith, size_of_list c.args.log.now) in (
       c.loop-next-test.true,
-      ap (λ w. w.ends) (sym c.loop-next.invariant.same ∙ walk_stops log c.args.tx c.loop-next.above c.loop-next.next c.loop-next-test.true c.if-next-above.false within (sym c.hop_at.ensures ∙ c.in-None.is)),
+      (sym c.loop-next.invariant.same ∙ walk_stops log c.args.tx c.loop-next.above c.loop-next.next c.loop-next-test.true c.if-next-above.false within (sym c.hop_at.ensures ∙ c.in-None.is)),
     )
 
 pub returns-clause-found : goal.returns-clause-found
