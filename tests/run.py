@@ -1,0 +1,234 @@
+#!/usr/bin/env python3
+"""Runs the proved programs as they are: on rows of real size, with threads counted, with prints that fail, and with each
+growth of memory refused in turn.
+
+usage: tests/run.py        at the top of the repository, behind `rt ci`, which builds the programs
+
+Prints a line for each check, and at last `N passed, N failed`; the status is 1 where one failed. Takes python3 and cc.
+"""
+import os
+import shutil
+import subprocess
+import sys
+import tarfile
+import tempfile
+
+TOP = os.path.dirname(os.path.dirname(os.path.abspath(__file__)))
+ARIES = os.path.join(TOP, "crates/aries_cli/out/aries_cli")
+ROW_RUNNER = os.path.join(TOP, "crates/rows/out/rows")
+LARGE_ROWS = os.path.join(TOP, "tests/rows")
+SMALL_ROWS = os.path.join(TOP, "crates/rows/data")
+REFUSED_ROWS = ["one-commit", "two-losers", "checkpoint-loser", "empty-and-full-values", "ten-pages"]
+NO_RESOURCE = b"fault 1: no resource\n"
+
+
+def bytes_of(path):
+    """What a file holds; nothing where there is none."""
+    if not os.path.exists(path):
+        return b""
+    with open(path, "rb") as file:
+        return file.read()
+
+
+class Row:
+    """The files of a row, and a folder in which the program makes new ones."""
+
+    def __init__(self, folder, new):
+        self.folder, self.new = folder, new
+
+    def at(self, name):
+        return os.path.join(self.folder, name)
+
+    def new_at(self, name):
+        return os.path.join(self.new, name)
+
+    def recover(self, log="log", store="store", workers=2, parts=3, **how):
+        """A recovery of these two files of the row, into new files."""
+        for name in ("log", "store"):
+            if os.path.exists(self.new_at(name)):
+                os.remove(self.new_at(name))
+        words = ["recover", "--log", self.at(log), "--store", self.at(store)]
+        words += ["--out-log", self.new_at("log"), "--out-store", self.new_at("store")]
+        return run([ARIES, *words, "--workers", str(workers), "--parts", str(parts)], **how)
+
+    def audit(self, log="log", store="store", **how):
+        return run([ARIES, "audit", "--log", self.at(log), "--store", self.at(store)], **how)
+
+    def is_recovered(self):
+        """Whether the new files are those of the row."""
+        return all(bytes_of(self.new_at(name)) == bytes_of(self.at(f"out-{name}")) for name in ("log", "store"))
+
+    def is_nothing_out(self):
+        return not bytes_of(self.new_at("log")) and not bytes_of(self.new_at("store"))
+
+
+def run(words, **how):
+    return subprocess.run(words, **{"capture_output": True, **how})
+
+
+def has_printed(ran, text):
+    """Whether a run did its job and printed this text alone."""
+    return ran.returncode == 0 and ran.stdout == text and not ran.stderr
+
+
+class Tally:
+    """Which checks passed."""
+
+    def __init__(self):
+        self.passed = self.failed = 0
+
+    def say(self, what, is_well, seen=""):
+        self.passed, self.failed = self.passed + is_well, self.failed + (not is_well)
+        print(f"{what}: {'ok' if is_well else 'FAILED'}{f' ({seen})' if seen and not is_well else ''}", flush=True)
+
+
+# Rows of real size: what is expected was worked by a model that shares no code with the program.
+
+def check_large_row(tally, name, row):
+    for workers, parts in ((1, 1), (4, 16), (64, 4096)):
+        ran = row.recover(workers=workers, parts=parts)
+        is_well = has_printed(ran, bytes_of(row.at("printed"))) and row.is_recovered()
+        tally.say(f"{name}, {workers} workers, {parts} parts", is_well, ran.stderr)
+    tally.say(f"{name}, audit", has_printed(row.audit(), bytes_of(row.at("audited"))))
+    tally.say(f"{name}, audit of its outcome", has_printed(row.audit("out-log", "out-store"), b"lawful\n"))
+    again = row.recover("out-log", "out-store")
+    tally.say(f"{name}, its outcome again", again.returncode == 0 and row.is_recovered(), again.stderr)
+
+
+def check_large_rows(tally, room):
+    for archive in sorted(os.listdir(LARGE_ROWS)):
+        name = archive.partition(".")[0]
+        with tarfile.open(os.path.join(LARGE_ROWS, archive)) as files:
+            files.extractall(room)
+        check_large_row(tally, name, Row(os.path.join(room, name), room))
+
+
+# Prints that fail: nobody can write to /dev/full.
+
+def check_prints(tally, room):
+    row = Row(os.path.join(SMALL_ROWS, "one-commit"), room)
+    with open("/dev/full", "wb") as full:
+        ran = row.recover(stdout=full, stderr=subprocess.PIPE, capture_output=False)
+        is_well = ran.returncode == 1 and not ran.stderr and row.is_recovered()
+        tally.say("a report that cannot be printed", is_well, ran.stderr)
+        ran = row.audit(stdout=full, stderr=subprocess.PIPE, capture_output=False)
+        tally.say("`lawful` that cannot be printed", ran.returncode == 1 and not ran.stderr, ran.stderr)
+        ran = run([ARIES, "--help"], stdout=full, stderr=subprocess.PIPE, capture_output=False)
+        tally.say("help that cannot be printed", ran.returncode == 1, ran.stderr)
+        ran = run([ARIES, "recover"], stdout=subprocess.PIPE, stderr=full, capture_output=False)
+        tally.say("a wrong line that cannot be explained", ran.returncode == 1 and not ran.stdout)
+        ran = row.audit(log="no-such-file", stdout=subprocess.PIPE, stderr=full, capture_output=False)
+        tally.say("a fault that cannot be printed", ran.returncode == 1 and not ran.stdout)
+
+
+# Libraries that are loaded before a program.
+
+def library_of(room, name):
+    library = os.path.join(room, f"{name}.so")
+    source = os.path.join(TOP, f"tests/{name}.c")
+    subprocess.run(["cc", "-O1", "-shared", "-fPIC", "-o", library, source, "-ldl"], check=True)
+    return library
+
+
+# Threads: more of them where more workers are asked for. What is written does not tell.
+
+def check_threads(tally, room):
+    row = Row(os.path.join(SMALL_ROWS, "ten-pages"), room)
+    library, counts = library_of(room, "count_threads"), []
+    for workers in (1, 4, 64):
+        started = os.path.join(room, f"started-{workers}")
+        row.recover(workers=workers, parts=64, env=dict(os.environ, LD_PRELOAD=library, THREADS_STARTED=started))
+        counts.append(len(bytes_of(started)) if row.is_recovered() else None)
+    is_well = None not in counts and counts[0] < counts[1] < counts[2]
+    tally.say("threads of 1, 4 and 64 workers", is_well, counts)
+
+
+# Each growth of memory refused in turn.
+
+class Refuser:
+    """Runs programs in which one growth of memory is refused."""
+
+    def __init__(self, room):
+        self.library, self.mark = library_of(room, "refuse_growth"), os.path.join(room, "mark")
+
+    def in_turn(self, job):
+        """What each run of the job gives, the first growth refused, then the second, until none is."""
+        growth, is_refused = 0, True
+        while is_refused:
+            growth += 1
+            if os.path.exists(self.mark):
+                os.remove(self.mark)
+            more = {"LD_PRELOAD": self.library, "REFUSE_MARK": self.mark, "REFUSE_GROWTH": str(growth)}
+            ran = job(env=dict(os.environ, **more))
+            is_refused = os.path.exists(self.mark)
+            yield ran, is_refused
+
+
+def is_no_resource(ran):
+    return ran.returncode == 1 and ran.stderr == NO_RESOURCE and not ran.stdout
+
+
+def is_right_recovery(row, ran, is_refused):
+    """Fault 1 and nothing out; or the row's files, and its report, which alone may be refused."""
+    if is_no_resource(ran) and is_refused:
+        return row.is_nothing_out()
+    is_reported = has_printed(ran, bytes_of(row.at("printed")))
+    is_unreported = ran.returncode == 1 and not ran.stderr and not ran.stdout and is_refused
+    return (is_reported or is_unreported) and row.is_recovered()
+
+
+def is_right_audit(row, ran, is_refused):
+    """Fault 1; or the row's verdict, which alone may be refused."""
+    if is_no_resource(ran) and is_refused:
+        return True
+    expected = bytes_of(row.at("audited"))
+    return has_printed(ran, expected) or (ran.returncode == 1 and not ran.stderr and not ran.stdout and is_refused)
+
+
+def is_right_slow(name, ran, is_refused):
+    """Fault 1 and nothing out; or what the row says; or an error of the runner itself, before or behind the recovery."""
+    line = ran.stdout.decode().rstrip("\n")
+    if ran.returncode == 0:
+        return line == f"{name}, slow devices: ok" or (is_refused and line == f"{name}, slow devices: no resource, and nothing out")
+    return is_refused and ran.returncode == 1 and not line
+
+
+def check_refused_growth(tally, what, refuser, job, is_right):
+    """One check: no run of the job may give another answer."""
+    wrong, count = [], 0
+    for ran, is_refused in refuser.in_turn(job):
+        count += is_refused
+        if not is_right(ran, is_refused):
+            wrong.append(f"growth {count}: status {ran.returncode}, {ran.stdout!r}, {ran.stderr!r}")
+    tally.say(f"{what}, {count} growths refused in turn", not wrong and count > 0, "; ".join(wrong[:3]))
+
+
+def check_refusals(tally, room):
+    refuser = Refuser(room)
+    for name in REFUSED_ROWS:
+        row = Row(os.path.join(SMALL_ROWS, name), room)
+        check_refused_growth(tally, f"{name}, recovery", refuser, row.recover, lambda *ran: is_right_recovery(row, *ran))
+        check_refused_growth(tally, f"{name}, audit", refuser, row.audit, lambda *ran: is_right_audit(row, *ran))
+        folder = os.path.join(room, f"slow-{name}")
+        shutil.copytree(row.folder, os.path.join(folder, name))
+        with open(os.path.join(folder, "index"), "w") as index:
+            index.write(f"{name} slow\n")
+        job = lambda **how: run([ROW_RUNNER], cwd=folder, **how)
+        check_refused_growth(tally, f"{name}, slow devices", refuser, job, lambda *ran: is_right_slow(name, *ran))
+
+
+def main():
+    for program in (ARIES, ROW_RUNNER):
+        if not os.path.exists(program):
+            sys.exit(f"{program} is missing: `rt ci` builds it")
+    tally = Tally()
+    with tempfile.TemporaryDirectory(prefix="aries-tests-") as room:
+        check_large_rows(tally, room)
+        check_threads(tally, room)
+        check_prints(tally, room)
+        check_refusals(tally, room)
+    print(f"{tally.passed} passed, {tally.failed} failed")
+    sys.exit(1 if tally.failed else 0)
+
+
+main()
