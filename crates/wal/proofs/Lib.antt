@@ -27,6 +27,7 @@ pub mod Ends
 pub mod Undone
 pub mod Entries
 pub mod Appended
+pub mod Checkpoints
 pub mod Settled
 pub mod CutBytes
 pub mod Rows

@@ -204,7 +204,6 @@ checkpoint_loser_lawful = record {
   checkpoint = inr (record {
     transactions = active 1 1 1 ∷ [];
     dirty = (0, 1) ∷ [];
-    begins = refl;
     named = refl;
     transactions_are = refl;
     dirty_are = All-from_recursion (λ (page : Page). DirtyLaw (history checkpoint_loser) 2 page.number page.lsn (rec_lsn_of page.number ((0, 1) ∷ []))) (holding 0 None ∷ [])

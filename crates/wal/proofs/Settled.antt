@@ -1,37 +1,24 @@
 -- The store of a restart, interrupted or done.
-use Rattle.std.proofs.Common.{ℕ, ◌≡◌, ◌<◌, ◌≤◌, ◌-◌, length-append, List, [], ◌∷◌, ◌++◌, length, take, map, get_or, Option, Some, refl, sym, ap, ap₂, ◌∙◌, subst, inl, inr, arith}
+use Rattle.std.proofs.Common.{ℕ, ◌≡◌, ◌<◌, ◌≤◌, ◌-◌, length-append, List, ◌++◌, length, take, map, get_or, Option, Some, refl, sym, ap, ap₂, ◌∙◌, subst, inl, inr, arith}
 use Rattle.std.specs.Prelude.{All, slice_index_or}
 use Rattle.std.specs.List.{range_with_len}
 use Rattle.std.proofs.lemmas.List.{take_all}
 use Rattle.std.proofs.lemmas.List.FromFn.{length-map-range_with_len, get_or-map-range_with_len}
 use Rattle.page.specs.declared.page.Page.{Page}
 use Rattle.page.specs.Store.{StoreContent, AreNumbered}
-use Rattle.wal.specs.Records.{TableEntry, LogRecord, Update, Compensation, Commit, Abort, End, CheckpointBegin, CheckpointEnd, History, ◌▸◌, ◌▸▸◌, start, history, size, record_at}
+use Rattle.wal.specs.Records.{LogRecord, CheckpointBegin, History, ◌▸▸◌, start, history, size, record_at}
 use Rattle.wal.specs.Meaning.{State, replay, winners, last_on}
 use Rattle.wal.specs.Tail.{tail_of}
 use Rattle.wal.specs.Redo.{slots_in, rec_lsn_of}
-use Rattle.wal.specs.Store.{PageLaw, DirtyLaw, CheckpointLaw, NamesPages, Lawful, first_end, true_table, page_out, store_out}
+use Rattle.wal.specs.Store.{PageLaw, DirtyLaw, CheckpointLaw, NamesPages, Lawful, true_table, page_out, store_out}
 use Rattle.wal.specs.Theorems.{replayed_page, Interrupted, GoesOn, RestartGoesOn, Settled, StoreSettles}
 use Rattle.wal.proofs.Histories.{record_in_front, record_within, first_in_front, after-append}
+use Rattle.wal.proofs.Checkpoints.{checkpoint_begins, checkpoint_ends, checkpoint_there, first_end_after}
 use Rattle.wal.proofs.Lists.{replay_is_winners, cuts_resume, take-append-ge}
 use Rattle.wal.proofs.Pages.{last_on_highest, replayed_page_law}
 use Rattle.wal.proofs.Appended.{tail_names}
 
 -- THE CHECKPOINT
-first_end_next : (m : ℕ) (log : History) (r : LogRecord) (tables : List TableEntry × List (ℕ × ℕ)) → first_end m log ≡ Some tables → first_end m (log ▸ r) ≡ Some tables
-first_end_next m log (CheckpointEnd begin transactions dirty) tables e = rw e
-first_end_next m log (Update u) tables e = e
-first_end_next m log (Compensation c) tables e = e
-first_end_next m log (Commit s) tables e = e
-first_end_next m log (Abort s) tables e = e
-first_end_next m log (End s) tables e = e
-first_end_next m log CheckpointBegin tables e = e
-
--- the first end stays the first
-first_end_in_front : (m : ℕ) (log : History) (xs : List LogRecord) (tables : List TableEntry × List (ℕ × ℕ)) → first_end m log ≡ Some tables → first_end m (log ▸▸ xs) ≡ Some tables
-first_end_in_front m log [] tables e = e
-first_end_in_front m log (x ∷ xs) tables e = first_end_in_front m (log ▸ x) xs tables (first_end_next m log x tables e)
-
 -- a longer log and a newer page keep what the dirty page table says up to m
 dirty_stays : (log : History) (xs : List LogRecord) (m page lsn newer : ℕ) (listed : Option ℕ) → m ≤ size log → lsn ≤ newer → DirtyLaw log m page lsn listed → DirtyLaw (log ▸▸ xs) m page newer listed
 dirty_stays log xs m page lsn newer listed le older d =
@@ -45,13 +32,15 @@ checkpoint_stays : (log : History) (xs : List LogRecord) (old new : List Page) (
     → ((i : ℕ) (d : Page) → i < length old → (slice_index_or old i d).lsn ≤ (slice_index_or new i d).lsn) → CheckpointLaw log old m → CheckpointLaw (log ▸▸ xs) new m
 checkpoint_stays log xs old new m old_numbered new_numbered count not_older (inl none) = inl none
 checkpoint_stays log xs old new m old_numbered new_numbered count not_older (inr t) =
-    let le : m ≤ size log = record_within log m CheckpointBegin t.begins in
+    let begins : record_at log m ≡ Some CheckpointBegin = checkpoint_begins m log (t.transactions, t.dirty) t.named in
+    let le : m ≤ size log = record_within log m CheckpointBegin begins in
     inr
     (record {
       transactions = t.transactions;
       dirty = t.dirty;
-      begins = record_in_front log xs m le ∙ t.begins;
-      named = first_end_in_front m log xs (t.transactions, t.dirty) t.named;
+      named =
+          checkpoint_there m (log ▸▸ xs) (record_in_front log xs m le ∙ begins)
+          ∙ first_end_after m log xs (t.transactions, t.dirty) (checkpoint_ends m log (t.transactions, t.dirty) t.named);
       transactions_are = t.transactions_are ∙ sym (ap true_table (first_in_front log xs m le));
       dirty_are = λ i d lt.
           (let within : i < length old = omega (arith, count, lt) in

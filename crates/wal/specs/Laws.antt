@@ -1,17 +1,11 @@
 -- The laws that each record keeps after the log before it. They are those of ARIES in normal running.
-use Rattle.std.specs.Prelude.{◌≡◌, ◌≢◌, ℕ, List, [], ◌∷◌, Some, true, false}
+use Rattle.std.specs.Prelude.{◌≡◌, ◌≢◌, ℕ, List, [], ◌∷◌, Some, IfSome, true, false}
 use Rattle.wal.specs.Records.{UpdateRecord, CompensationRecord, LogRecord, Update, Compensation, Commit, Abort, End, CheckpointBegin, CheckpointEnd, History, start, ◌▸◌, record_at}
-use Rattle.wal.specs.Meaning.{committed, aborted, ended, finished, replay, touches, pending, last_of}
+use Rattle.wal.specs.Meaning.{owner, prev_of, committed, aborted, ended, finished, replay, touches, pending, last_of}
 
 -- CHAIN. PrevLSN is the LSN of the transaction's last record before it, or 0. ARIES, section 4.1.
 abbrev pub ChainLaw : History → LogRecord → Type 0
-ChainLaw log (Update u) = u.prev ≡ last_of u.tx log
-ChainLaw log (Compensation c) = c.prev ≡ last_of c.tx log
-ChainLaw log (Commit s) = s.prev ≡ last_of s.tx log
-ChainLaw log (Abort s) = s.prev ≡ last_of s.tx log
-ChainLaw log (End s) = s.prev ≡ last_of s.tx log
-ChainLaw log CheckpointBegin = Unit {0}
-ChainLaw log (CheckpointEnd begin transactions dirty) = Unit {0}
+ChainLaw log r = IfSome (owner r) (λ t. prev_of r ≡ last_of t log)
 
 -- FINISH. Nothing follows an end, only an end follows a commit, only CLRs and an end follow an abort. ARIES, sections 5.2 and
 -- 5.3; the end behind a commit as optional is own.

@@ -3,15 +3,33 @@ use Rattle.std.specs.Prelude.{ℕ, suc, List, [], ◌∷◌, Option, Some, None,
 use Rattle.page.specs.Image.{Image}
 use Rattle.wal.specs.Records.{LogRecord, Update, Compensation, Commit, Abort, End, CheckpointBegin, CheckpointEnd, History, start, ◌▸◌, size}
 
+-- OWNER. The transaction whose record it is; a checkpoint's has none. ARIES, section 4.1 (TransID).
+abbrev pub owner : LogRecord → Option ℕ
+owner (Update u) = Some u.tx
+owner (Compensation c) = Some c.tx
+owner (Commit s) = Some s.tx
+owner (Abort s) = Some s.tx
+owner (End s) = Some s.tx
+owner CheckpointBegin = None
+owner (CheckpointEnd begin transactions dirty) = None
+
+-- its PrevLSN; a checkpoint's has none
+abbrev pub prev_of : LogRecord → ℕ
+prev_of (Update u) = u.prev
+prev_of (Compensation c) = c.prev
+prev_of (Commit s) = s.prev
+prev_of (Abort s) = s.prev
+prev_of (End s) = s.prev
+prev_of CheckpointBegin = 0
+prev_of (CheckpointEnd begin transactions dirty) = 0
+
+abbrev pub is_owned_by : ℕ → Option ℕ → Bool
+is_owned_by t None = false
+is_owned_by t (Some x) = x == t
+
 -- whether it is a record of the transaction t
 abbrev pub is_of : ℕ → LogRecord → Bool
-is_of t (Update u) = u.tx == t
-is_of t (Compensation c) = c.tx == t
-is_of t (Commit s) = s.tx == t
-is_of t (Abort s) = s.tx == t
-is_of t (End s) = s.tx == t
-is_of t CheckpointBegin = false
-is_of t (CheckpointEnd begin transactions dirty) = false
+is_of t r = is_owned_by t (owner r)
 
 -- whether it is the commit, the abort or the end of t
 abbrev pub is_commit_of : ℕ → LogRecord → Bool
@@ -48,18 +66,40 @@ finished t log = committed t log || ended t log
 abbrev pub is_loser : ℕ → History → Bool
 is_loser t log = has (is_of t) log && not (finished t log)
 
--- EFFECT. ARIES, section 4.1; a cell as a page and a slot is own.
--- whether it is an update or a CLR in this cell
-abbrev pub writes : ℕ → ℕ → LogRecord → Bool
-writes page slot (Update u) = u.page == page && u.slot == slot
-writes page slot (Compensation c) = c.page == page && c.slot == slot
-writes page slot _ = false
+-- EFFECT. An update and a CLR put an image into a cell; other records change nothing. ARIES, section 4.1; a cell as a page and a
+-- slot is own.
+pub record Change : Type 0 where
+  pub page : ℕ
+  pub slot : ℕ
+  pub image : Image
 
--- what it puts there
+abbrev pub change_of : LogRecord → Option Change
+change_of (Update u) = Some (record { page = u.page; slot = u.slot; image = u.after })
+change_of (Compensation c) = Some (record { page = c.page; slot = c.slot; image = c.image })
+change_of (Commit s) = None
+change_of (Abort s) = None
+change_of (End s) = None
+change_of CheckpointBegin = None
+change_of (CheckpointEnd begin transactions dirty) = None
+
+abbrev pub is_in_cell : ℕ → ℕ → Option Change → Bool
+is_in_cell page slot None = false
+is_in_cell page slot (Some c) = c.page == page && c.slot == slot
+
+abbrev pub image_put : Option Change → Image
+image_put None = None
+image_put (Some c) = c.image
+
+abbrev pub is_on_page : ℕ → Option Change → Bool
+is_on_page page None = false
+is_on_page page (Some c) = c.page == page
+
+-- whether it changes this cell, and what it puts there
+abbrev pub writes : ℕ → ℕ → LogRecord → Bool
+writes page slot r = is_in_cell page slot (change_of r)
+
 abbrev pub image_of : LogRecord → Image
-image_of (Update u) = u.after
-image_of (Compensation c) = c.image
-image_of _ = None
+image_of r = image_put (change_of r)
 
 -- what the record at an LSN did, where there is one
 abbrev pub image_in : Option LogRecord → Image
@@ -117,11 +157,9 @@ undo_next_of t (log ▸ Update u) = if u.tx == t then suc (size log) else undo_n
 undo_next_of t (log ▸ Compensation c) = if c.tx == t then c.undo_next else undo_next_of t log
 undo_next_of t (log ▸ _) = undo_next_of t log
 
--- whether it is an update or a CLR on this page
+-- whether it changes this page
 abbrev pub is_on : ℕ → LogRecord → Bool
-is_on page (Update u) = u.page == page
-is_on page (Compensation c) = c.page == page
-is_on page _ = false
+is_on page r = is_on_page page (change_of r)
 
 -- LAST-ON. The LSN of the last update or CLR on the page, or 0. ARIES, section 4.2 (PageLSN).
 abbrev pub last_on : ℕ → History → ℕ

@@ -1,5 +1,5 @@
 -- What a store has to do with a log: the laws of pages and of the checkpoint, and the store after a restart.
-use Rattle.std.specs.Prelude.{◌≡◌, ◌≤◌, ◌<◌, ◌⊎◌, ℕ, List, ◌++◌, length, map, Option, Some, None, Bool, true, ◌&&◌, ◌==◌, nat_le, if◌then◌else◌, All, slice_index_or}
+use Rattle.std.specs.Prelude.{◌≡◌, ◌≤◌, ◌<◌, ◌⊎◌, ℕ, List, ◌++◌, length, map, Option, Some, None, Bool, true, ◌&&◌, ◌==◌, nat_le, if◌then◌else◌, All, slice_index_or, false}
 use Rattle.std.specs.List.{range_with_len}
 use Rattle.page.specs.declared.page.Page.{Page}
 use Rattle.page.specs.Store.{StoreContent}
@@ -32,6 +32,15 @@ first_end m (log ▸ CheckpointEnd begin transactions dirty) =
     or_else (first_end m log) (if begin == m && nat_le m (size log) then Some (transactions, dirty) else None)
 first_end m (log ▸ _) = first_end m log
 
+-- CHECKPOINT of the master m: a begin stands there, and a later end names it. Its tables are those of the first such end. ARIES,
+-- section 5.4 (fuzzy checkpoints); that the first end counts is own.
+abbrev pub is_begin : Option LogRecord → Bool
+is_begin (Some CheckpointBegin) = true
+is_begin _ = false
+
+abbrev pub checkpoint_at : ℕ → History → Option (List TableEntry × List (ℕ × ℕ))
+checkpoint_at m log = if is_begin (record_at log m) then first_end m log else None
+
 abbrev pub state_of : Bool → State
 state_of is_aborting = if is_aborting then Aborting else Active
 
@@ -53,8 +62,7 @@ pub record DirtyLaw (log : History) (m page page_lsn : ℕ) (listed : Option ℕ
 pub record TablesLaw (log : History) (pages : List Page) (m : ℕ) : Type 0 where
   pub transactions : List TableEntry
   pub dirty : List (ℕ × ℕ)
-  pub begins : record_at log m ≡ Some CheckpointBegin
-  pub named : first_end m log ≡ Some (transactions, dirty)
+  pub named : checkpoint_at m log ≡ Some (transactions, dirty)
   pub transactions_are : transactions ≡ true_table (first m log)
   pub dirty_are : All (λ page. DirtyLaw log m page.number page.lsn (rec_lsn_of page.number dirty)) pages
 

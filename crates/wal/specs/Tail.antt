@@ -1,8 +1,8 @@
 -- What a restart adds to a log. ARIES, section 6.3 (undo pass); that the ends of losers with nothing pending come first, in
 -- rising number, and the LSNs by counting, are own.
-use Rattle.std.specs.Prelude.{ℕ, suc, zero, List, [], ◌∷◌, ◌++◌, Bool, true, false, ◌||◌, ◌==◌, if◌then◌else◌, map, filter, flat_map, max}
-use Rattle.wal.specs.Records.{UpdateRecord, LogRecord, Update, Compensation, Commit, Abort, End, History, start, ◌▸◌, history, size}
-use Rattle.wal.specs.Meaning.{is_loser, pending, last_of}
+use Rattle.std.specs.Prelude.{ℕ, suc, zero, List, [], ◌∷◌, ◌++◌, Bool, true, false, ◌||◌, ◌==◌, if◌then◌else◌, map, filter, flat_map, max, Option, Some, None}
+use Rattle.wal.specs.Records.{UpdateRecord, LogRecord, Update, Compensation, End, History, start, ◌▸◌, history, size}
+use Rattle.wal.specs.Meaning.{owner, is_loser, pending, last_of}
 
 -- WHAT IS WRITTEN
 -- the end of a transaction, or the CLR of an update
@@ -84,13 +84,13 @@ abbrev pub numbers_from : ℕ → ℕ → List ℕ
 numbers_from n zero = []
 numbers_from n (suc k) = n ∷ numbers_from (suc n) k
 
+abbrev pub number_or_0 : Option ℕ → ℕ
+number_or_0 None = 0
+number_or_0 (Some t) = t
+
+-- its transaction's number, 0 for none
 abbrev pub tx_of : LogRecord → ℕ
-tx_of (Update u) = u.tx
-tx_of (Compensation c) = c.tx
-tx_of (Commit s) = s.tx
-tx_of (Abort s) = s.tx
-tx_of (End s) = s.tx
-tx_of _ = 0
+tx_of r = number_or_0 (owner r)
 
 -- a number above those of all transactions of the log
 abbrev pub above_all : History → ℕ

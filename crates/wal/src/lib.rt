@@ -5,6 +5,7 @@
 //! laws are the functions of `laws`.
 #![tactic(auto)]
 
+mod checkpoint;
 mod field;
 mod frame;
 mod glance;

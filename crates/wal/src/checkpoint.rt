@@ -1,0 +1,55 @@
+//! The checkpoint that a master names.
+
+ghost use Rattle.std.specs.Prelude.{◌≡◌, option_map, IfSome};
+ghost use Rattle.wal.specs.Records.{CheckpointEnd, history, record_at};
+ghost use Rattle.wal.specs.Spelling.{Fits};
+ghost use Rattle.wal.specs.Store.{is_begin, first_end, checkpoint_at};
+
+use crate::log::Log;
+use crate::view::{DirtyTable, RecordView, TransactionTable};
+
+impl<'a> Log<'a> {
+    /// Whether a checkpoint begin stands at an LSN.
+    fn begins(&self, lsn: u64) -> bool
+        ensures { result ≡ is_begin (record_at (history self.now) lsn) }
+    {
+        match self.get(lsn) {
+            Some(RecordView::CheckpointBegin) => true,
+            _ => false,
+        }
+    }
+
+    /// The tables of the first checkpoint end behind the LSN `master` that names it.
+    fn end_naming(&self, master: u64) -> Option<(TransactionTable<'a>, DirtyTable<'a>)>
+        ensures found { option_map (λ x. (x.0, x.1)) result ≡ first_end master (history self.now) }
+        ensures fits { IfSome result (λ x. Fits (CheckpointEnd master x.0 x.1)) }
+    {
+        for index in master..self.len() {
+            if let RecordView::CheckpointEnd {
+                begin,
+                transactions,
+                dirty,
+            } = self.nth(index)
+            {
+                if begin == master {
+                    return Some((transactions, dirty));
+                }
+            }
+        }
+        None
+    }
+
+    /// The tables of the checkpoint whose begin record has the LSN `master`: those of the first later
+    /// checkpoint end that names it. None where no checkpoint begin stands there, or no later end names it.
+    /// The entries stay in the log's bytes, and no memory is taken.
+    pub fn checkpoint(&self, master: u64) -> Option<(TransactionTable<'a>, DirtyTable<'a>)>
+        ensures tables { option_map (λ x. (x.0, x.1)) result ≡ checkpoint_at master (history self.now) }
+        ensures fits { IfSome result (λ x. Fits (CheckpointEnd master x.0 x.1)) }
+    {
+        if self.begins(master) {
+            self.end_naming(master)
+        } else {
+            None
+        }
+    }
+}
