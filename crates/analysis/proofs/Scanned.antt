@@ -1,13 +1,11 @@
 -- One record more, looked at.
-use Rattle.std.proofs.Common.{ℕ, suc, ◌≡◌, ◌+◌, ◌<◌, ◌≤◌, true, false, cond, eqb, eq-eqb, ltb, leb, List, [], ◌∷◌, length, take, drop, take-append-drop, Option, Some, None, refl, sym, ap, ap₂, ◌∙◌, arith, inl, inr}
-use Rattle.std.proofs.Math.Bool.{and-false}
+use Rattle.std.proofs.Common.{ℕ, suc, ◌≡◌, ◌+◌, ◌≤◌, true, false, cond, eqb, ltb, leb, List, [], ◌∷◌, Option, Some, None, refl, sym, ap, ap₂, ◌∙◌, arith, inl, inr}
 use Rattle.std.proofs.lemmas.Bool.{cases_Bool, le-ltb, lt-ltb, le-leb, lt-leb}
 use Rattle.wal.specs.declared.record.State.{State}
 use Rattle.wal.specs.declared.record.State.TheVariants.{Active, Aborting}
-use Rattle.wal.specs.Records.{TableEntry, LogRecord, Update, Compensation, Commit, Abort, End, CheckpointBegin, CheckpointEnd, History, start, ◌▸◌, ◌▸▸◌, history, size}
+use Rattle.wal.specs.Records.{TableEntry, LogRecord, Update, Compensation, Commit, Abort, End, CheckpointBegin, CheckpointEnd, History, start, ◌▸◌, size}
 use Rattle.wal.specs.Meaning.{is_on}
-use Rattle.wal.specs.Store.{or_else, first_end, state_of}
-use Rattle.wal.proofs.Histories.{after-append, size_of_beginning}
+use Rattle.wal.specs.Store.{or_else, state_of}
 use Rattle.analysis.specs.Tables.{work_since, finished_since, base_since, undo_next_in, aborts_in, is_aborting, entry_by, analysed_entry, first_behind, analysed_rec_lsn}
 use Rattle.analysis.specs.Steps.{state_in, undo_next_of_entry, entry_after, rec_lsn_after, entry_seen, rec_lsn_seen}
 use Rattle.wal.specs.declared.glance.Glance.{Glance}
@@ -113,32 +111,6 @@ pub rec_lsn_next : (page m : ℕ) (base old new : Option ℕ) (log : History) (r
     → old ≡ analysed_rec_lsn page m base log → new ≡ rec_lsn_after lsn r page old → new ≡ analysed_rec_lsn page m base (log ▸ r)
 rec_lsn_next page m base old new log r lsn le at before after =
     after ∙ ap₂ (λ n o. rec_lsn_after n r page o) (sym at ∙ omega arith) before ∙ sym (rec_lsn_more page m base log r le)
-
--- THE FIRST END
-pub first_end_none : (m : ℕ) (log : History) → size log ≤ m → first_end m log ≡ None
-first_end_none m start le = refl
-first_end_none m (log ▸ CheckpointEnd begin ts d) le =
-    let older = first_end_none m log (omega arith) in
-    let e : leb m (size log) ≡ false = lt-leb m (size log) (omega arith) in
-    rw (older, e, and-false (eqb begin m)) refl
-first_end_none m (log ▸ r) le = first_end_none m log (omega arith)
-
-pub first_end_after : (m : ℕ) (log : History) (rs : List LogRecord) (x : List TableEntry × List (ℕ × ℕ)) → first_end m log ≡ Some x → first_end m (log ▸▸ rs) ≡ Some x
-first_end_after m log [] x e = e
-first_end_after m log (CheckpointEnd begin ts d ∷ rs) x e = first_end_after m (log ▸ CheckpointEnd begin ts d) rs x (rw e refl)
-first_end_after m log (r ∷ rs) x e = first_end_after m (log ▸ r) rs x e
-
--- the end that is met names m, and none before it does
-pub first_end_met : (records : List LogRecord) (m i : ℕ) (begin : ℕ) (ts : List TableEntry) (d : List (ℕ × ℕ)) → i < length records → m ≤ i → begin ≡ m → first_end m (history (take i records)) ≡ None
-    → history (take (i + 1) records) ≡ history (take i records) ▸ CheckpointEnd begin ts d → Some (ts, d) ≡ first_end m (history records)
-first_end_met records m i begin ts d lt le own none next =
-    let log = history (take i records) in
-    let n : size log ≡ i = size_of_beginning records i (omega arith) in
-    let named : eqb begin m ≡ true = eq-eqb begin m own in
-    let behind : leb m (size log) ≡ true = le-leb _ _ (omega (arith, n)) in
-    let here : first_end m (history (take (i + 1) records)) ≡ Some (ts, d) = ap (first_end m) next ∙ (rw (none, named, behind) refl) in
-    let whole : history records ≡ history (take (i + 1) records) ▸▸ drop (i + 1) records = ap history (sym (take-append-drop (i + 1) records)) ∙ after-append start (take (i + 1) records) (drop (i + 1) records) in
-    sym (ap (first_end m) whole ∙ first_end_after m (history (take (i + 1) records)) (drop (i + 1) records) (ts, d) here)
 
 -- AT A GLANCE
 pub entry_glanced : (lsn t : ℕ) (r : LogRecord) (g : Glance) (old new : Option TableEntry) → g ≡ glance_of r → new ≡ entry_seen lsn g t old → new ≡ entry_after lsn r t old

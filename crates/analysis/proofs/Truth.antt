@@ -1,20 +1,21 @@
 -- The tables of a lawful log and its store are true.
-use Rattle.std.proofs.Common.{ℕ, ◌≡◌, ◌≤◌, true, false, eqb, ne_eqb, List, [], get_or, Option, Some, None, refl, sym, ap, ◌∙◌, subst, arith, inl, inr}
+use Rattle.std.proofs.Common.{ℕ, ◌≡◌, ◌≤◌, ne_eqb, List, [], get_or, Option, Some, None, refl, sym, ap, ◌∙◌, subst, arith, inl, inr}
 use Rattle.std.specs.Prelude.{All, map}
 use Rattle.std.proofs.lemmas.Bool.{cases_eq}
 use Rattle.page.specs.declared.page.Page.{Page}
 use Rattle.page.specs.Store.{StoreContent}
-use Rattle.wal.specs.Records.{TableEntry, LogRecord, CheckpointBegin, History, history, size, record_at, first}
+use Rattle.wal.specs.Records.{TableEntry, LogRecord, History, history, size, record_at, first}
 use Rattle.wal.specs.Redo.{rec_lsn_of}
 use Rattle.wal.specs.Content.{entry_of}
-use Rattle.wal.specs.Store.{first_end, true_table, DirtyLaw, CheckpointLaw, Lawful}
-use Rattle.wal.proofs.Histories.{record_none, record_within, first_none}
+use Rattle.wal.specs.Store.{checkpoint_at, true_table, DirtyLaw, CheckpointLaw, Lawful}
+use Rattle.wal.proofs.Histories.{record_none, first_none}
+use Rattle.wal.proofs.Checkpoints.{checkpoint_within}
 use Rattle.wal.proofs.Undone.{true_entry_for}
 use Rattle.wal.proofs.Entries.{same_table, rise, true_table_rises}
 use Rattle.wal.specs.Undo.{entry_for}
 use Rattle.wal.specs.Theorems.{IsReached}
 use Rattle.analysis.specs.declared.tables.Tables.{Tables}
-use Rattle.analysis.specs.Tables.{base_of, is_begin, analysed_entry, AreTablesOf}
+use Rattle.analysis.specs.Tables.{base_of, analysed_entry, AreTablesOf}
 use Rattle.analysis.specs.Lawful.{loser_entry, AreTrue}
 use Rattle.analysis.proofs.Analysed.{analysis_is_true}
 use Rattle.analysis.proofs.Covered.{covered}
@@ -43,8 +44,8 @@ pair_is a b c d e =
     let p : ◌≡◌ {A = List TableEntry × List (ℕ × ℕ)} (a, c) (b, d) = cc in
     (ap (λ x. x.0) p, ap (λ x. x.1) p)
 
-base_is : (log : History) (m : ℕ) → (m ≡ 0 → ⊥) → record_at log m ≡ Some CheckpointBegin → base_of m log ≡ first_end m log
-base_is log m some begins = (let e : eqb m 0 ≡ false = ne_eqb m 0 some in let b : is_begin (record_at log m) ≡ true = ap is_begin begins in rw (e, b) refl)
+base_is : (log : History) (m : ℕ) → (m ≡ 0 → ⊥) → base_of m log ≡ checkpoint_at m log
+base_is log m some = rw (ne_eqb m 0 some) refl
 
 pub true_base : (log : History) (pages : List Page) (m : ℕ) (transactions : List TableEntry) (dirty : List (ℕ × ℕ)) → CheckpointLaw log pages m → base_of m log ≡ Some (transactions, dirty) → IsTrueBase log pages m transactions dirty
 true_base log pages m transactions dirty law e =
@@ -57,10 +58,10 @@ true_base log pages m transactions dirty law e =
           elim law [
             | inl z ↦ absurd (some z)
             | inr tables ↦
-                (let there : both tables.transactions tables.dirty ≡ both transactions dirty = sym (base_is log m some tables.begins ∙ tables.named) ∙ e in
+                (let there : both tables.transactions tables.dirty ≡ both transactions dirty = sym (base_is log m some ∙ tables.named) ∙ e in
                 let p = pair_is tables.transactions transactions tables.dirty dirty there in
                 record {
-                  within = record_within log m CheckpointBegin tables.begins;
+                  within = checkpoint_within m log (tables.transactions, tables.dirty) tables.named;
                   entries = λ t. ap (entry_for t) (sym p.0 ∙ tables.transactions_are) ∙ true_entry_for (first m log) t;
                   pages_are = subst (λ d. All (λ page. DirtyLaw log m page.number page.lsn (rec_lsn_of page.number d)) pages) p.1 tables.dirty_are;
                 })

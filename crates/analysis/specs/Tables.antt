@@ -8,21 +8,17 @@ use Rattle.page.specs.Causes.{HasOneCause, HasNoCause}
 use Rattle.wal.specs.declared.record.State.{State}
 use Rattle.wal.specs.declared.record.State.TheVariants.{Active, Aborting}
 use Rattle.wal.specs.declared.record.Entry.{Entry}
-use Rattle.wal.specs.Records.{TableEntry, LogRecord, Update, Compensation, Abort, CheckpointBegin, History, start, ◌▸◌, history, size, record_at}
+use Rattle.wal.specs.Records.{TableEntry, LogRecord, Update, Compensation, Abort, History, start, ◌▸◌, history, size}
 use Rattle.wal.specs.Meaning.{is_commit_of, is_end_of, is_on}
 use Rattle.wal.specs.Redo.{rec_lsn_of}
 use Rattle.wal.specs.Undo.{entry_for}
-use Rattle.wal.specs.Store.{or_else, first_end, state_of}
+use Rattle.wal.specs.Store.{or_else, checkpoint_at, state_of}
 use Rattle.wal.specs.Content.{entry_of}
 use Rattle.analysis.specs.declared.tables.Tables.{Tables}
 
--- THE BASE. Empty where there is no checkpoint, else the tables of the first end behind the begin that names it.
-abbrev pub is_begin : Option LogRecord → Bool
-is_begin (Some CheckpointBegin) = true
-is_begin _ = false
-
+-- THE BASE. Empty where the master is 0, else the tables of its checkpoint.
 abbrev pub base_of : ℕ → History → Option (List TableEntry × List (ℕ × ℕ))
-base_of m log = if m == 0 then Some ([], []) else if is_begin (record_at log m) then first_end m log else None
+base_of m log = if m == 0 then Some ([], []) else checkpoint_at m log
 
 -- A TRANSACTION. Its work: the updates, CLRs and aborts of it behind the LSN m and behind its last commit or end there,
 -- the newest first

@@ -4,45 +4,13 @@ ghost use Rattle.std.specs.Prelude.{◌≡◌, ℕ, Option, Some, None, option_m
 ghost use Rattle.page.specs.declared.fault.Fault.TheVariants.{NoResource};
 ghost use Rattle.wal.specs.Records.{history, record_at};
 ghost use Rattle.wal.specs.Redo.{rec_lsn_of};
-ghost use Rattle.wal.specs.Store.{first_end};
-ghost use Rattle.analysis.specs.Tables.{is_begin, entry_at, IsBase, BaseFault};
-ghost use Rattle.wal.specs.Shown.{shown};
+ghost use Rattle.analysis.specs.Tables.{entry_at, IsBase, BaseFault};
 ghost use Rattle.wal.specs.Undo.{entry_for};
 
 use page::Fault;
 use std::alloc::Global;
 use std::collections::BTreeMap;
-use wal::{DirtyTable, Entry, Log, RecordView, TransactionTable};
-
-/// The tables of the first checkpoint end behind the LSN `master` that names it.
-fn end_naming<'a>(log: &Log<'a>, master: u64) -> Option<(TransactionTable<'a>, DirtyTable<'a>)>
-    ensures found { option_map (λ x. (x.0, x.1)) result ≡ first_end master (history log.now) }
-    ensures numbered { IfSome result (λ x. entry_for 0 x.0 ≡ None) }
-{
-    for index in master..log.len() {
-        if let RecordView::CheckpointEnd {
-            begin,
-            transactions,
-            dirty,
-        } = log.nth(index)
-        {
-            if begin == master {
-                return Some((transactions, dirty));
-            }
-        }
-    }
-    None
-}
-
-/// Whether a checkpoint begin stands at an LSN.
-fn begins(log: &Log, lsn: u64) -> bool
-    ensures { result ≡ is_begin (record_at (history log.now) lsn) }
-{
-    match log.get(lsn) {
-        Some(RecordView::CheckpointBegin) => true,
-        _ => false,
-    }
-}
+use wal::{DirtyTable, Entry, Log, TransactionTable};
 
 /// Puts the entry at a place of a lent table over those behind it.
 fn put_transaction(
@@ -112,10 +80,7 @@ pub fn base(
     if master == 0 {
         return Ok((BTreeMap::new(alloc), BTreeMap::new(alloc)));
     }
-    if !begins(log, master) {
-        return Err(Fault::BadMaster);
-    }
-    let Some((transactions, dirty)) = end_naming(log, master) else {
+    let Some((transactions, dirty)) = log.checkpoint(master) else {
         return Err(Fault::BadMaster);
     };
     let transactions = transactions_of(alloc, &transactions)?;

@@ -3,6 +3,7 @@ use Rattle.wal.specs.declared.record.Entry.{Entry}
 use Rattle.wal.specs.Redo.{rec_lsn_of}
 use Rattle.wal.specs.Records.{history}
 use Rattle.analysis.specs.Tables.{entry_at, base_of}
+use Rattle.analysis.proofs.Numbers.{none_listed}
 use Rattle.analysis.proofs.base.base.Goals as goal
 
 pub returns-then-master-eq0-clause-found : goal.returns-then-master-eq0-clause-found
@@ -18,4 +19,4 @@ pub returns-then-master-eq0-clause-numbered : goal.returns-then-master-eq0-claus
 returns-then-master-eq0-clause-numbered c = ap (λ (es : List (ℕ × Entry)). entry_at 0 es) c.new.ensures.empty
 
 pub returns-clause-numbered : goal.returns-clause-numbered
-returns-clause-numbered c = c.in_ok-transactions.ensures.ok 0 ∙ c.in-Some.ensures.numbered
+returns-clause-numbered c = c.in_ok-transactions.ensures.ok 0 ∙ none_listed _ c.in-Some.ensures.fits.transactions_fit.each
