@@ -2,23 +2,23 @@
 use Rattle.std.proofs.Common.{◌≡◌, ◌<◌, ◌≤◌, ◌||◌, not, ℕ, Bool, true, false, List, [], ◌∷◌, length, Option, Some, None, refl, sym, ap, ap₂, subst, ◌∙◌, inl, inr, arith}
 use Rattle.std.proofs.lemmas.Bool.{cases_eq, both_ways}
 use Rattle.wal.specs.Records.{UpdateRecord, CompensationRecord, LogRecord, Update, Compensation, Commit, Abort, End, CheckpointBegin, CheckpointEnd, History, history, size, record_at}
-use Rattle.wal.specs.Meaning.{replay, pending, finished, aborted, ended}
+use Rattle.wal.specs.Meaning.{replay, pending, finished, aborted, ended, image_in}
 use Rattle.wal.specs.Laws.{IsLawful, Compensates, Strictness}
 use Rattle.wal.specs.Tail.{tx_of}
 use Rattle.wal.proofs.Histories.{record_none}
 use Rattle.wal.proofs.Holders.{held, strict_from_holder}
 use Rattle.audit.specs.declared.standing.Standing.{Standing}
 use Rattle.audit.specs.Standings.{Linked, Stands}
-use Rattle.audit.specs.Cells.{last_write, image_by}
+use Rattle.audit.specs.Cells.{last_write}
 use Rattle.audit.specs.Passing.{Begins, Undoes, IsFreeFor}
-use Rattle.audit.proofs.Cells.{last_write_within, image_by_last, last_touches, holder_wrote}
+use Rattle.audit.proofs.Cells.{last_write_within, image_in_last, last_touches, holder_wrote}
 
 -- BEFORE IMAGES
-pub cell_value : (records : List LogRecord) (log : History) (page slot w : ℕ) → Begins log records → w ≡ last_write page slot log → image_by (record_at (history records) w) ≡ replay log page slot
+pub cell_value : (records : List LogRecord) (log : History) (page slot w : ℕ) → Begins log records → w ≡ last_write page slot log → image_in (record_at (history records) w) ≡ replay log page slot
 cell_value records log page slot w begins e =
-    ap (λ n. image_by (record_at (history records) n)) e
-    ∙ ap image_by (begins (last_write page slot log) (last_write_within page slot log))
-    ∙ image_by_last page slot log
+    ap (λ n. image_in (record_at (history records) n)) e
+    ∙ ap image_in (begins (last_write page slot log) (last_write_within page slot log))
+    ∙ image_in_last page slot log
 
 -- COMPENSATION
 module _ (records : List LogRecord) (log : History) (links : List ℕ) (c : CompensationRecord) (s : Standing) (begins : Begins log records) (len : length links ≡ size log) (h : Stands links c.tx log s) where

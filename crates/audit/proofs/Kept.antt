@@ -8,9 +8,9 @@ use Rattle.page.specs.declared.page.Page.{Page}
 use Rattle.page.specs.Store.{StoreContent}
 use Rattle.wal.specs.Records.{TableEntry, LogRecord, History, history}
 use Rattle.wal.specs.Laws.{Obeys, IsLawful}
-use Rattle.wal.specs.Store.{NamesPages, PageLaw, CheckpointLaw, Lawful}
+use Rattle.wal.specs.Store.{NamesPages, PageLaw, CheckpointLaw, Lawful, checkpoint_at}
 use Rattle.wal.proofs.Lists.{lawful_by_record}
-use Rattle.audit.specs.FirstFault.{BrokenAt, RecordFault, FirstBroken, BrokenPage, PagesFault, FirstBrokenPage, KeepsDirty, Names, MasterFault, FirstFault, NoFaultOfTheLawful}
+use Rattle.audit.specs.FirstFault.{BrokenAt, RecordFault, FirstBroken, BrokenPage, PagesFault, FirstBrokenPage, KeepsDirty, MasterFault, FirstFault, NoFaultOfTheLawful}
 
 pub not_broken : (count : ℕ) (log : History) (r : LogRecord) (e : Fault) → NamesPages count r → Obeys log r → BrokenAt count log r e → ⊥
 not_broken count log r (NoSuchPage n) named o b = b.1 named
@@ -58,9 +58,9 @@ abbrev dirty_or : List (ℕ × ℕ) → Option (List TableEntry × List (ℕ × 
 dirty_or d None = d
 dirty_or d (Some x) = x.1
 
-module _ (log : History) (m : ℕ) (ts ts' : List TableEntry) (d d' : List (ℕ × ℕ)) (x : Names log m ts d) (y : Names log m ts' d') where
+module _ (log : History) (m : ℕ) (ts ts' : List TableEntry) (d d' : List (ℕ × ℕ)) (x : checkpoint_at m log ≡ Some (ts, d)) (y : checkpoint_at m log ≡ Some (ts', d')) where
   same_tables : ◌≡◌ {A = Option (List TableEntry × List (ℕ × ℕ))} (Some (ts, d)) (Some (ts', d'))
-  same_tables = sym x.named ∙ y.named
+  same_tables = sym x ∙ y
 
   pub same_transactions : ts ≡ ts'
   same_transactions = ap (transactions_or ts) same_tables
@@ -73,19 +73,19 @@ master_kept log pages m NoResource law f = refl
 master_kept log pages m BadMaster law f =
     elim law [
       | inl z ↦ absurd (f.0 z)
-      | inr t ↦ absurd (f.1 t.transactions t.dirty (record { begins = t.begins; named = t.named }))
+      | inr t ↦ absurd (let e : ◌≡◌ {A = Option (List TableEntry × List (ℕ × ℕ))} None (Some (t.transactions, t.dirty)) = sym f.1 ∙ t.named in cc)
     ]
 master_kept log pages m TransactionTable law f =
     elim law [
       | inl z ↦ absurd (f.0 z)
-      | inr t ↦ absurd (f.1.3 (same_transactions log m f.1.0 t.transactions f.1.1 t.dirty f.1.2 (record { begins = t.begins; named = t.named }) ∙ t.transactions_are))
+      | inr t ↦ absurd (f.1.3 (same_transactions log m f.1.0 t.transactions f.1.1 t.dirty f.1.2 t.named ∙ t.transactions_are))
     ]
 master_kept log pages m (DirtyTable n) law f =
     elim law [
       | inl z ↦ absurd (f.0 z)
       | inr t ↦
           (let u = f.1.4 in
-          let same : f.1.1 ≡ t.dirty = same_dirty log m f.1.0 t.transactions f.1.1 t.dirty f.1.2 (record { begins = t.begins; named = t.named }) in
+          let same : f.1.1 ≡ t.dirty = same_dirty log m f.1.0 t.transactions f.1.1 t.dirty f.1.2 t.named in
           absurd (u.broken (subst (λ d. KeepsDirty log m d u.page) (sym same) (at_place (KeepsDirty log m t.dirty) pages u.place u.page u.there t.dirty_are))))
     ]
 master_kept log pages m _ law f = absurd f

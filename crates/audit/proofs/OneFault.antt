@@ -1,5 +1,5 @@
 -- An input that is not lawful has one first fault.
-use Rattle.std.proofs.Common.{◌≡◌, ◌⊎◌, ◌<◌, ℕ, suc, List, length, take, get_or, Some, cond, refl, sym, ap, subst, ◌∙◌, inl, inr, arith}
+use Rattle.std.proofs.Common.{◌≡◌, ◌⊎◌, ◌<◌, ℕ, suc, List, length, take, get_or, Some, cond, refl, sym, ap, subst, ◌∙◌, inl, inr, arith, None, Option}
 use Rattle.std.specs.Prelude.{All, slice_get}
 use Rattle.std.proofs.lemmas.List.{get_or-take, length-take, take-take}
 use Rattle.std.proofs.lemmas.Option.{slice_get_within, get_or_from_slice_get}
@@ -8,10 +8,10 @@ use Rattle.page.specs.declared.fault.Fault.TheVariants.{NoResource, NoSuchPage, 
 use Rattle.page.specs.declared.page.Page.{Page}
 use Rattle.page.specs.Causes.{HasOneCause}
 use Rattle.page.specs.Store.{StoreContent}
-use Rattle.wal.specs.Records.{LogRecord, History, history, size}
+use Rattle.wal.specs.Records.{LogRecord, History, history, size, TableEntry}
 use Rattle.wal.specs.Laws.{ChainLaw, FinishLaw, CompensationLaw, BeforeLaw, Strictness, Obeys}
 use Rattle.wal.specs.Tail.{is_end}
-use Rattle.wal.specs.Store.{NamesPages, PageLaw}
+use Rattle.wal.specs.Store.{NamesPages, PageLaw, checkpoint_at}
 use Rattle.wal.proofs.Lists.{lawful_by_record}
 use Rattle.audit.specs.FirstFault.{BrokenAt, AreSound, RecordFault, FirstBroken, BrokenPage, PagesFault, FirstBrokenPage, KeepsDirty, FirstUncovered, MasterFault, FirstFault, OneFirstFault}
 use Rattle.audit.proofs.Kept.{not_broken, none_broken, page_not_broken, none_broken_page, same_transactions, same_dirty}
@@ -137,21 +137,24 @@ one_uncovered log m dirty pages d e x y =
     let page : x.page ≡ y.page = same_at pages x.place y.place x.page y.page x.there y.there place in
     x.fault ∙ ap (λ (p : Page). DirtyTable p.number) page ∙ sym y.fault
 
+no_checkpoint : (log : History) (m : ℕ) (ts : List TableEntry) (d : List (ℕ × ℕ)) → checkpoint_at m log ≡ None → checkpoint_at m log ≡ Some (ts, d) → ⊥
+no_checkpoint log m ts d none some = (let e : ◌≡◌ {A = Option (List TableEntry × List (ℕ × ℕ))} None (Some (ts, d)) = sym none ∙ some in cc)
+
 one_master_fault : (log : History) (pages : List Page) (m : ℕ) → HasOneCause (MasterFault log pages m)
 one_master_fault log pages m NoResource e some other x y = absurd (some refl)
 one_master_fault log pages m BadMaster NoResource some other x y = absurd (other refl)
 one_master_fault log pages m BadMaster BadMaster some other x y = refl
-one_master_fault log pages m BadMaster TransactionTable some other x y = absurd (x.1 y.1.0 y.1.1 y.1.2)
-one_master_fault log pages m BadMaster (DirtyTable b) some other x y = absurd (x.1 y.1.0 y.1.1 y.1.2)
+one_master_fault log pages m BadMaster TransactionTable some other x y = absurd (no_checkpoint log m y.1.0 y.1.1 x.1 y.1.2)
+one_master_fault log pages m BadMaster (DirtyTable b) some other x y = absurd (no_checkpoint log m y.1.0 y.1.1 x.1 y.1.2)
 one_master_fault log pages m BadMaster _ some other x y = absurd y
 one_master_fault log pages m TransactionTable NoResource some other x y = absurd (other refl)
-one_master_fault log pages m TransactionTable BadMaster some other x y = absurd (y.1 x.1.0 x.1.1 x.1.2)
+one_master_fault log pages m TransactionTable BadMaster some other x y = absurd (no_checkpoint log m x.1.0 x.1.1 y.1 x.1.2)
 one_master_fault log pages m TransactionTable TransactionTable some other x y = refl
 one_master_fault log pages m TransactionTable (DirtyTable b) some other x y =
     absurd (x.1.3 (same_transactions log m x.1.0 y.1.0 x.1.1 y.1.1 x.1.2 y.1.2 ∙ y.1.3))
 one_master_fault log pages m TransactionTable _ some other x y = absurd y
 one_master_fault log pages m (DirtyTable a) NoResource some other x y = absurd (other refl)
-one_master_fault log pages m (DirtyTable a) BadMaster some other x y = absurd (y.1 x.1.0 x.1.1 x.1.2)
+one_master_fault log pages m (DirtyTable a) BadMaster some other x y = absurd (no_checkpoint log m x.1.0 x.1.1 y.1 x.1.2)
 one_master_fault log pages m (DirtyTable a) TransactionTable some other x y =
     absurd (y.1.3 (same_transactions log m y.1.0 x.1.0 y.1.1 x.1.1 y.1.2 x.1.2 ∙ x.1.3))
 one_master_fault log pages m (DirtyTable a) (DirtyTable b) some other x y =

@@ -6,14 +6,14 @@ use Rattle.std.proofs.lemmas.List.{ext_get_or, get_or_default}
 use Rattle.page.specs.Image.{Image}
 use Rattle.page.specs.declared.page.Page.{Page}
 use Rattle.wal.specs.Records.{LogRecord, Update, Compensation, History, start, ◌▸◌, first, size, record_at}
-use Rattle.wal.specs.Meaning.{replay, writes}
+use Rattle.wal.specs.Meaning.{replay, writes, image_in}
 use Rattle.wal.specs.Redo.{slots_in}
 use Rattle.wal.specs.Store.{NamesPages}
 use Rattle.wal.specs.Spelling.{Fits}
 use Rattle.wal.proofs.Histories.{record_older}
-use Rattle.audit.specs.Cells.{last_write, image_by, KeepsCells, written}
+use Rattle.audit.specs.Cells.{last_write, KeepsCells, written}
 use Rattle.audit.specs.Pages.{page_lsn, log_at, counts_for, KeepsPage}
-use Rattle.audit.proofs.Cells.{last_write_within, image_by_last}
+use Rattle.audit.proofs.Cells.{last_write_within, image_in_last}
 use Rattle.audit.proofs.Noting.{Follows, keeps_written}
 
 -- BEGINNINGS
@@ -98,16 +98,16 @@ module _ (pages : List Page) (log : History) (r : LogRecord) (lsn : ℕ) (at : s
 
 -- SLOTS
 module _ (log : History) (ws : List ℕ) (page : Page) (keeps : KeepsPage log ws page) where
-  value_left : (k : ℕ) → k < 16 → image_by (record_at log (get_or ws (16 * page.number + k) 0)) ≡ replay (first page.lsn log) page.number k
+  value_left : (k : ℕ) → k < 16 → image_in (record_at log (get_or ws (16 * page.number + k) 0)) ≡ replay (first page.lsn log) page.number k
   value_left k lt =
       let w : ℕ = last_write page.number k (first page.lsn log) in
       let low : w ≤ page.lsn = (let a = last_write_within page.number k (first page.lsn log) in let b = first_within page.lsn log in omega (arith, a, b)) in
-      ap (λ n. image_by (record_at log n)) (keeps k lt)
-      ∙ ap image_by (sym (first_record page.lsn w log low))
-      ∙ image_by_last page.number k (first page.lsn log)
+      ap (λ n. image_in (record_at log n)) (keeps k lt)
+      ∙ ap image_in (sym (first_record page.lsn w log low))
+      ∙ image_in_last page.number k (first page.lsn log)
 
   abbrev pub AreLeft : Type 0
-  AreLeft = (k : ℕ) → k < 16 → get_or page.slots k None ≡ image_by (record_at log (get_or ws (16 * page.number + k) 0))
+  AreLeft = (k : ℕ) → k < 16 → get_or page.slots k None ≡ image_in (record_at log (get_or ws (16 * page.number + k) 0))
 
   slot_is : (k : ℕ) → k < 16 → get_or (slots_in (replay (first page.lsn log)) page.number) k None ≡ replay (first page.lsn log) page.number k
   slot_is k lt = get_or-map-range_with_len (replay (first page.lsn log) page.number) 0 16 k k None lt (omega arith)

@@ -1,18 +1,12 @@
 -- Which record wrote a cell last.
-use Rattle.std.specs.Prelude.{◌≡◌, ◌<◌, ◌+◌, ◌*◌, ℕ, suc, List, length, Option, Some, None, if◌then◌else◌, slice_index, slice_set}
-use Rattle.page.specs.Image.{Image}
+use Rattle.std.specs.Prelude.{◌≡◌, ◌<◌, ◌+◌, ◌*◌, ℕ, suc, List, length, IfSome, if◌then◌else◌, slice_index, slice_set}
 use Rattle.wal.specs.Records.{LogRecord, Update, Compensation, History, start, ◌▸◌, size}
-use Rattle.wal.specs.Meaning.{writes, image_of}
+use Rattle.wal.specs.Meaning.{change_of, writes}
 
 -- the LSN of the last update or CLR in the cell, or 0
 abbrev pub last_write : ℕ → ℕ → History → ℕ
 last_write page slot start = 0
 last_write page slot (log ▸ r) = if writes page slot r then suc (size log) else last_write page slot log
-
--- what a record, if there is one, puts into its cell
-abbrev pub image_by : Option LogRecord → Image
-image_by None = None
-image_by (Some r) = image_of r
 
 -- 16 numbers a page: for each cell its last writer, in the log that counts for the page
 pub record KeepsCells (count : ℕ) (counts : ℕ → History) (writers : List ℕ) : Type 0 where
@@ -21,9 +15,7 @@ pub record KeepsCells (count : ℕ) (counts : ℕ → History) (writers : List �
 
 -- the cell of a record, if it has one, is among so many
 abbrev pub HasCell : ℕ → LogRecord → Type 0
-HasCell cells (Update u) = 16 * u.page + u.slot < cells
-HasCell cells (Compensation c) = 16 * c.page + c.slot < cells
-HasCell cells _ = Unit {0}
+HasCell cells r = IfSome (change_of r) (λ c. 16 * c.page + c.slot < cells)
 
 -- the writers after the record at an LSN
 abbrev pub written : List ℕ → LogRecord → ℕ → List ℕ

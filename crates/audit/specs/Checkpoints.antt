@@ -1,13 +1,8 @@
 -- What the checkpoint of a master says.
-use Rattle.std.specs.Prelude.{◌≡◌, ℕ, List, Option, Some, None, ◌==◌, true, if◌then◌else◌, slice_get}
-use Rattle.wal.specs.Records.{TableEntry, LogRecord, CheckpointEnd, History}
+use Rattle.std.specs.Prelude.{◌≡◌, ℕ, List, Some, true, slice_get}
+use Rattle.wal.specs.Records.{TableEntry, History}
 use Rattle.wal.specs.Meaning.{is_loser}
 use Rattle.wal.specs.Store.{true_entry}
-
--- the tables of a checkpoint end that names the begin m
-abbrev pub named_in : ℕ → LogRecord → Option (List TableEntry × List (ℕ × ℕ))
-named_in m (CheckpointEnd begin transactions dirty) = if begin == m then Some (transactions, dirty) else None
-named_in m _ = None
 
 -- the entry is of a loser, and what is true of it
 abbrev pub IsTrueEntry : History → TableEntry → Type 0

@@ -1,12 +1,12 @@
 -- The first broken law, in the order: the records by LSN, the pages by number, the checkpoint.
-use Rattle.std.specs.Prelude.{◌≡◌, ◌<◌, ◌≤◌, ◌⊎◌, ℕ, suc, List, All, length, take, slice_get, Some, true, false}
+use Rattle.std.specs.Prelude.{◌≡◌, ◌<◌, ◌≤◌, ◌⊎◌, ℕ, suc, List, All, length, take, slice_get, Some, true, false, None}
 use Rattle.page.specs.declared.fault.Fault.{Fault}
 use Rattle.page.specs.declared.fault.Fault.TheVariants.{NoResource, NoSuchPage, Chain, AfterFinish, WrongCompensation, BeforeImage, DirtyWrite, EndTooEarly, PageAheadOfLog, PageImage, BadMaster, TransactionTable, DirtyTable}
 use Rattle.page.specs.declared.page.Page.{Page}
-use Rattle.wal.specs.Records.{LogRecord, TableEntry, CheckpointBegin, History, history, size, record_at, first}
+use Rattle.wal.specs.Records.{LogRecord, TableEntry, History, history, size, first}
 use Rattle.wal.specs.Laws.{ChainLaw, FinishLaw, CompensationLaw, BeforeLaw, Strictness, IsLawful}
 use Rattle.wal.specs.Tail.{is_end}
-use Rattle.wal.specs.Store.{NamesPages, PageLaw, DirtyLaw, Lawful, first_end, true_table}
+use Rattle.wal.specs.Store.{NamesPages, PageLaw, DirtyLaw, Lawful, checkpoint_at, true_table}
 use Rattle.wal.specs.Redo.{rec_lsn_of}
 use Rattle.page.specs.Causes.{HasOneCause, HasNoCause}
 use Rattle.page.specs.Store.{StoreContent}
@@ -81,20 +81,15 @@ abbrev pub DirtyFault : History → ℕ → List (ℕ × ℕ) → List Page → 
 DirtyFault log m dirty pages NoResource = Unit {0}
 DirtyFault log m dirty pages e = FirstUncovered log m dirty pages e
 
--- m is a checkpoint begin, and these are the tables of the first end that names it
-pub record Names (log : History) (m : ℕ) (transactions : List TableEntry) (dirty : List (ℕ × ℕ)) : Type 0 where
-  pub begins : record_at log m ≡ Some CheckpointBegin
-  pub named : first_end m log ≡ Some (transactions, dirty)
-
 -- why the master m is refused, want of memory aside
 abbrev pub MasterFault : History → List Page → ℕ → Fault → Type 0
 MasterFault log pages m NoResource = Unit {0}
-MasterFault log pages m BadMaster = (m ≡ 0 → ⊥) × ((transactions : List TableEntry) (dirty : List (ℕ × ℕ)) → Names log m transactions dirty → ⊥)
+MasterFault log pages m BadMaster = (m ≡ 0 → ⊥) × (checkpoint_at m log ≡ None)
 MasterFault log pages m TransactionTable =
-    (m ≡ 0 → ⊥) × ((transactions : List TableEntry) × (dirty : List (ℕ × ℕ)) × Names log m transactions dirty × (transactions ≡ true_table (first m log) → ⊥))
+    (m ≡ 0 → ⊥) × ((transactions : List TableEntry) × (dirty : List (ℕ × ℕ)) × (checkpoint_at m log ≡ Some (transactions, dirty)) × (transactions ≡ true_table (first m log) → ⊥))
 MasterFault log pages m (DirtyTable number) =
     (m ≡ 0 → ⊥)
-    × ((transactions : List TableEntry) × (dirty : List (ℕ × ℕ)) × Names log m transactions dirty × (transactions ≡ true_table (first m log))
+    × ((transactions : List TableEntry) × (dirty : List (ℕ × ℕ)) × (checkpoint_at m log ≡ Some (transactions, dirty)) × (transactions ≡ true_table (first m log))
     × FirstUncovered log m dirty pages (DirtyTable number))
 MasterFault log pages m _ = ⊥
 

@@ -3,14 +3,14 @@
 ghost use Rattle.std.specs.Prelude.{◌≡◌, ◌+◌, ◌*◌, ◌≤◌, ◌<◌, ◌⊎◌, ◌||◌, ◌↔◌, ℕ, List, All, IsTrue, Some, true, length, option_map, slice_index, slice_index_or};
 ghost use Rattle.page.specs.Image.{Image};
 ghost use Rattle.wal.specs.Records.{LogRecord, History, history, size, record_at};
-ghost use Rattle.wal.specs.Meaning.{image_of};
+ghost use Rattle.wal.specs.Meaning.{image_of, image_in};
 ghost use Rattle.wal.specs.Laws.{IsLawful, ChainLaw, FinishLaw, CompensationLaw, BeforeLaw, Strictness};
 ghost use Rattle.wal.specs.Store.{NamesPages};
 ghost use Rattle.wal.specs.Spelling.{Fits};
 ghost use Rattle.wal.specs.Tail.{tx_of};
 ghost use Rattle.wal.specs.Shown.{shown};
 ghost use Rattle.audit.specs.Standings.{Stands, standing_in};
-ghost use Rattle.audit.specs.Cells.{HasCell, KeepsCells, image_by};
+ghost use Rattle.audit.specs.Cells.{HasCell, KeepsCells};
 ghost use Rattle.audit.specs.Passing.{Begins, Undoes, IsFreeFor};
 
 use crate::standing::{Standing, standing_of, transaction_of};
@@ -206,7 +206,7 @@ fn puts(view: &RecordView, image: Option<&[u8]>) -> bool
 
 /// Whether the record at an LSN leaves this image, which is None where no record is.
 pub fn leaves(log: &Log, writer: u64, image: Option<&[u8]>) -> bool
-    ensures { IsTrue result ↔ option_map (λ s. s.now) image.entry ≡ image_by (record_at (history log.now) writer) }
+    ensures { IsTrue result ↔ option_map (λ s. s.now) image.entry ≡ image_in (record_at (history log.now) writer) }
 {
     match log.get(writer) {
         None => image.is_none(),

@@ -6,7 +6,7 @@ ghost use Rattle.page.specs.declared.fault.Fault.TheVariants.{NoResource};
 ghost use Rattle.wal.specs.Records.{LogRecord, TableEntry, CheckpointBegin, tx_in, History, history, first, record_at, size};
 ghost use Rattle.wal.specs.Meaning.{is_loser, last_of};
 ghost use Rattle.wal.specs.Tail.{is_among};
-ghost use Rattle.wal.specs.Store.{first_end, true_entry, true_table, state_of, NamesPages, CheckpointLaw};
+ghost use Rattle.wal.specs.Store.{true_entry, true_table, state_of, NamesPages, CheckpointLaw};
 ghost use Rattle.wal.specs.Spelling.{IsRising, Fits};
 ghost use Rattle.wal.specs.Content.{entry_of};
 ghost use Rattle.wal.specs.Shown.{shown};
@@ -14,7 +14,7 @@ ghost use Rattle.audit.specs.Standings.{Stands, standing_in};
 ghost use Rattle.page.specs.Store.{AreNumbered};
 ghost use Rattle.audit.specs.Passing.{Tells};
 ghost use Rattle.audit.specs.FirstFault.{MasterFault};
-ghost use Rattle.audit.specs.Checkpoints.{named_in, IsTrueEntry, Lists};
+ghost use Rattle.audit.specs.Checkpoints.{IsTrueEntry, Lists};
 
 use crate::dirty::check_dirty;
 use crate::running::Running;
@@ -22,55 +22,7 @@ use crate::standing::{Standing, standing_of, transaction_of};
 use page::{Fault, Page};
 use std::alloc::Global;
 use std::collections::{HashMap, HashSet};
-use wal::{DirtyTable, Entry, Log, RecordView, State, TransactionTable};
-
-/// Whether the record at an LSN is a checkpoint begin.
-fn is_begin(log: &Log, lsn: u64) -> bool
-    ensures { IsTrue result ↔ record_at (history log.now) lsn ≡ Some CheckpointBegin }
-{
-    match log.get(lsn) {
-        Some(RecordView::CheckpointBegin) => true,
-        _ => false,
-    }
-}
-
-/// The tables of a record, if it is a checkpoint end that names this begin.
-fn tables_in<'a>(
-    view: RecordView<'a>,
-    master: u64,
-) -> Option<(TransactionTable<'a>, DirtyTable<'a>)>
-    requires { Fits (shown view) }
-    ensures tables { result ≡ named_in master (shown view.entry) }
-    ensures rising { IfSome result (λ x. IsRising (map tx_in x.0)) }
-{
-    match view {
-        RecordView::CheckpointEnd {
-            begin,
-            transactions,
-            dirty,
-        } => {
-            if begin != master {
-                return None;
-            }
-            Some((transactions, dirty))
-        }
-        _ => None,
-    }
-}
-
-/// The tables of the first checkpoint end behind the master that names it.
-fn tables_of<'a>(log: &Log<'a>, master: u64) -> Option<(TransactionTable<'a>, DirtyTable<'a>)>
-    requires { master ≤ length log.now }
-    ensures first { result ≡ first_end master (history log.now) }
-    ensures rising { IfSome result (λ x. IsRising (map tx_in x.0)) }
-{
-    for index in master..log.len() {
-        if let Some(tables) = tables_in(log.nth(index), master) {
-            return Some(tables);
-        }
-    }
-    None
-}
+use wal::{Entry, Log, State, TransactionTable};
 
 /// Whether a transaction that stands so is a loser.
 fn is_lost(standing: Standing) -> bool
@@ -232,10 +184,7 @@ pub fn check_master(alloc: Global, log: &Log, master: u64, pages: &[Page]) -> Re
     if master == 0 {
         return Ok(());
     }
-    if !is_begin(log, master) {
-        return Err(Fault::BadMaster);
-    }
-    let Some((transactions, dirty)) = tables_of(log, master) else {
+    let Some((transactions, dirty)) = log.checkpoint(master) else {
         return Err(Fault::BadMaster);
     };
     match is_true_table(alloc, log, master, pages.len(), &transactions) {

@@ -4,10 +4,10 @@ ghost use Rattle.std.specs.Prelude.{◌≡◌, ◌+◌, ◌*◌, ◌≤◌, ◌<
 ghost use Rattle.page.specs.Store.{AreNumbered};
 ghost use Rattle.page.specs.declared.fault.Fault.TheVariants.{NoResource};
 ghost use Rattle.wal.specs.Records.{LogRecord, history, first, record_at};
-ghost use Rattle.wal.specs.Meaning.{is_on};
+ghost use Rattle.wal.specs.Meaning.{is_on, image_in};
 ghost use Rattle.wal.specs.Store.{NamesPages, PageLaw};
 ghost use Rattle.wal.specs.Shown.{shown};
-ghost use Rattle.audit.specs.Cells.{KeepsCells, image_by};
+ghost use Rattle.audit.specs.Cells.{KeepsCells};
 ghost use Rattle.audit.specs.Pages.{page_lsn, counts_for, log_at, KeepsPage};
 ghost use Rattle.audit.specs.FirstFault.{BrokenPage, PagesFault};
 
@@ -73,7 +73,7 @@ fn lsn_is_on(log: &Log, page: &Page) -> bool
 
 /// Whether the record at an LSN leaves this value.
 fn leaves_value(log: &Log, writer: u64, value: Option<Value>) -> bool
-    ensures { IsTrue result ↔ value ≡ image_by (record_at (history log.now) writer) }
+    ensures { IsTrue result ↔ value ≡ image_in (record_at (history log.now) writer) }
 {
     match value {
         None => leaves(log, writer, None),
@@ -84,7 +84,7 @@ fn leaves_value(log: &Log, writer: u64, value: Option<Value>) -> bool
 /// Whether each slot of the page of this number holds what its last writer left.
 fn slots_are_left(log: &Log, writers: &[u64], number: u32, slots: &[Option<Value>; 16]) -> bool
     requires { 16 * number + 16 ≤ length writers.now }
-    ensures all { IsTrue result ↔ ((k : ℕ) → k < 16 → slice_index_or slots.now k None ≡ image_by (record_at (history log.now) (slice_index writers.now (16 * number + k)))) }
+    ensures all { IsTrue result ↔ ((k : ℕ) → k < 16 → slice_index_or slots.now k None ≡ image_in (record_at (history log.now) (slice_index writers.now (16 * number + k)))) }
     ensures count { length slots.now ≡ 16 }
 {
     for (slot, value) in slots.iter().enumerate() {

@@ -1,13 +1,14 @@
-use Rattle.std.proofs.Common.{arith}
-use Rattle.wal.specs.Records.{CheckpointBegin, history}
-use Rattle.wal.proofs.Histories.{record_within, size_of_list}
+use Rattle.std.proofs.Common.{arith, sym}
+use Rattle.wal.specs.Records.{history}
+use Rattle.wal.proofs.Checkpoints.{checkpoint_within}
+use Rattle.wal.proofs.Histories.{size_of_list}
 use Rattle.audit.proofs.master.check_master.Goals as goal
 
-pub tables_of-requires : goal.tables_of-requires
-tables_of-requires c = omega (arith, record_within (history c.args.log.now) c.args.master CheckpointBegin (c.is_begin.ensures.0 c.if-not-is_begin.false), size_of_list c.args.log.now)
-
 pub is_true_table-requires-clause-count : goal.is_true_table-requires-clause-count
-is_true_table-requires-clause-count c = omega (arith, record_within (history c.args.log.now) c.args.master CheckpointBegin (c.is_begin.ensures.0 c.if-not-is_begin.false), size_of_list c.args.log.now)
+is_true_table-requires-clause-count c = omega (arith, checkpoint_within c.args.master (history c.args.log.now) _ (sym c.in-Some.ensures.tables), size_of_list c.args.log.now)
+
+pub is_true_table-requires-clause-rising : goal.is_true_table-requires-clause-rising
+is_true_table-requires-clause-rising c = c.in-Some.ensures.fits.transactions_fit.rising
 
 pub check_dirty-requires-clause-master : goal.check_dirty-requires-clause-master
-check_dirty-requires-clause-master c = omega (arith, record_within (history c.args.log.now) c.args.master CheckpointBegin (c.is_begin.ensures.0 c.if-not-is_begin.false), size_of_list c.args.log.now)
+check_dirty-requires-clause-master c = omega (arith, checkpoint_within c.args.master (history c.args.log.now) _ (sym c.in-Some.ensures.tables), size_of_list c.args.log.now)

@@ -1,7 +1,7 @@
+use Rattle.wal.specs.Meaning.{image_in}
 use Rattle.std.proofs.Common.{◌≡◌, ◌<◌, ◌+◌, ◌*◌, ℕ, None, get_or}
 use Rattle.wal.specs.Records.{history, record_at}
-use Rattle.audit.specs.Cells.{image_by}
 use Rattle.audit.proofs.pages.slots_are_left.Given as goal
 
 abbrev pub invariant-loop-slot : goal.invariant-loop-slot
-invariant-loop-slot l = (k : ℕ) → k < l.slot → get_or l.slots k None ≡ image_by (record_at (history l.log) (get_or l.writers (16 * l.number + k) 0))
+invariant-loop-slot l = (k : ℕ) → k < l.slot → get_or l.slots k None ≡ image_in (record_at (history l.log) (get_or l.writers (16 * l.number + k) 0))
