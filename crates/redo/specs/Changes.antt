@@ -1,10 +1,10 @@
 -- What one record does to a page that is being redone. ARIES, section 6.2 (redo pass); pages in parts are own.
-use Rattle.std.specs.Prelude.{◌≡◌, ℕ, suc, ◌<◌, List, [], ◌∷◌, ◌++◌, Option, Some, None, Bool, false, ◌&&◌, ◌==◌, nat_le, if◌then◌else◌, slice_set}
+use Rattle.std.specs.Prelude.{◌≡◌, ℕ, suc, ◌<◌, List, [], ◌∷◌, ◌++◌, Option, Some, None, Bool, false, ◌&&◌, ◌==◌, nat_le, if◌then◌else◌, option_map, slice_set}
 use Rattle.std.specs.List.{slice_get}
 use Rattle.page.specs.Image.{Image}
 use Rattle.page.specs.declared.page.Page.{Page}
 use Rattle.wal.specs.Records.{LogRecord, Update, Compensation, History, start, ◌▸◌, size, record_at}
-use Rattle.wal.specs.Meaning.{image_in}
+use Rattle.wal.specs.Meaning.{change_of, image_in}
 use Rattle.wal.specs.Redo.{is_redone, redo_of, applied}
 use Rattle.redo.specs.declared.progress.Progress.{Progress}
 use Rattle.redo.specs.declared.tally.Tally.{Tally}
@@ -12,15 +12,11 @@ use Rattle.redo.specs.declared.note.Note.{Note}
 
 -- the page that an update or a CLR is on
 abbrev pub page_named : LogRecord → Option ℕ
-page_named (Update u) = Some u.page
-page_named (Compensation c) = Some c.page
-page_named _ = None
+page_named r = option_map (λ c. c.page) (change_of r)
 
 -- the page and the slot that an update or a CLR is in
 abbrev pub cell_named : LogRecord → Option (ℕ × ℕ)
-cell_named (Update u) = Some (u.page, u.slot)
-cell_named (Compensation c) = Some (c.page, c.slot)
-cell_named _ = None
+cell_named r = option_map (λ c. (c.page, c.slot)) (change_of r)
 
 -- a record is on no page past the count
 abbrev pub NamesBelow : ℕ → LogRecord → Type 0
