@@ -10,10 +10,10 @@ use Rattle.page.specs.declared.page.Page.{Page}
 use Rattle.page.specs.declared.fault.Fault.{Fault}
 use Rattle.page.specs.declared.fault.Fault.TheVariants.{NoResource, BadWorkers, BadMaster, PageAheadOfLog, NoSuchPage}
 use Rattle.page.specs.Store.{StoreContent, AreNumbered}
-use Rattle.wal.specs.Records.{LogRecord, Update, Compensation, Commit, Abort, End, CheckpointBegin, CheckpointEnd, History, start, ◌▸◌, ◌▸▸◌, history, size, record_at}
+use Rattle.wal.specs.Records.{LogRecord, Update, Compensation, Commit, Abort, End, CheckpointBegin, CheckpointEnd, History, start, ◌▸◌, ◌▸▸◌, history, size}
 use Rattle.wal.specs.Meaning.{State, effects, replay, writes, image_of, is_on, last_on}
 use Rattle.wal.specs.Redo.{held_by, last_where, slots_in}
-use Rattle.wal.specs.Store.{Lawful, NamesPages, true_entry, store_out, page_out, first_end}
+use Rattle.wal.specs.Store.{Lawful, NamesPages, true_entry, store_out, page_out, checkpoint_at}
 use Rattle.wal.specs.Tail.{losers_of, tail_of}
 use Rattle.wal.specs.Theorems.{replayed_page}
 use Rattle.wal.proofs.Histories.{size_of_list, each_found, after-append}
@@ -25,7 +25,7 @@ use Rattle.wal.proofs.Ends.{losers_end}
 use Rattle.analysis.specs.declared.tables.Tables.{Tables}
 use Rattle.analysis.specs.Tables.{AreTablesOf}
 use Rattle.analysis.specs.Lawful.{AreTrue}
-use Rattle.analysis.specs.Tables.{base_of, is_begin, BaseFault}
+use Rattle.analysis.specs.Tables.{base_of, BaseFault}
 use Rattle.redo.specs.Changes.{NamesBelow}
 use Rattle.redo.specs.declared.redone.Redone.{Redone}
 use Rattle.redo.specs.Redone.{redone_page, IsFirstMissing, AreWorkers, RedoFault, applied_to}
@@ -150,8 +150,8 @@ module _ (records : List LogRecord) (before : StoreContent) (lawful : Lawful rec
       elim lawful.checkpoint [
         | inl z ↦ absurd (some_none (sym (ap (λ m. base_of m (history records)) z) ∙ none))
         | inr t ↦
-            cond_both (eqb before.master 0) (Some ([], [])) (cond (is_begin (record_at (history records) before.master)) (first_end before.master (history records)) None) (λ o. o ≡ None → ⊥) (λ _ e. some_none e)
-            (λ _ e. some_none (sym (ap (λ r. cond (is_begin r) (first_end before.master (history records)) None) t.begins ∙ t.named) ∙ e)) none
+            cond_both (eqb before.master 0) (Some ([], [])) (checkpoint_at before.master (history records)) (λ o. o ≡ None → ⊥) (λ _ e. some_none e)
+            (λ _ e. some_none (sym t.named ∙ e)) none
       ]
 
   none_missing : (redo_lsn lsn : ℕ) → IsFirstMissing records (length before.pages) redo_lsn lsn → ⊥

@@ -11,7 +11,7 @@ use std::alloc::Global;
 use std::rt::Files;
 use std::test::Fail;
 use std::thread::Threads;
-use std::{fs, io, mem};
+use std::{fs, io};
 
 /// One update of slot 0 of page 0 to "a", and its commit.
 const ONE_COMMIT: &[u8] =
@@ -97,75 +97,6 @@ fn restarts_what_a_restart_wrote(rt: HostRuntime) -> Result<(), Fail> {
             (report.records, report.redone, report.losers, report.ended),
             (records, 0, 0, 0)
         );
-    }
-    Ok(())
-}
-
-/// Whether a restart on these bytes ends as the rules have it: by an answer, or by a fault of theirs,
-/// among which 19 has no place.
-fn ends<R: Threads + Sync>(rt: &R, alloc: Global, log: &[u8], store: &[u8]) -> bool {
-    match recover_in_memory(rt, alloc, log, store, &TWO, &OpenGate) {
-        Ok(_) => true,
-        Err(fault) => (6..=18).contains(&fault.number()) && fault.number() != 17,
-    }
-}
-
-/// Changes the bits of a byte that are set in the mask.
-fn flip(bytes: &mut [u8], place: usize, mask: u8) {
-    if let Some(byte) = bytes.get_mut(place) {
-        *byte ^= mask;
-    }
-}
-
-#[test]
-fn ends_on_a_log_with_a_flipped_byte(rt: HostRuntime) -> Result<(), Fail> {
-    let alloc = rt.alloc();
-    let mut log = checkpoint_loser(alloc)?.given.bytes;
-    let store = store_of(alloc, 2, &Page::empty(0))?;
-    for place in 0..log.len() {
-        for mask in [1, 0xff] {
-            flip(&mut log, place, mask);
-            assert!(rt; ends(&rt, alloc, &log, &store), "byte {place} by {mask}");
-            flip(&mut log, place, mask);
-        }
-    }
-    Ok(())
-}
-
-/// Sets a byte, and gives what stood there.
-fn replace(bytes: &mut [u8], place: usize, byte: u8) -> u8 {
-    match bytes.get_mut(place) {
-        Some(old) => mem::replace(old, byte),
-        None => byte,
-    }
-}
-
-#[test]
-fn ends_on_a_log_with_a_byte_set(rt: HostRuntime) -> Result<(), Fail> {
-    let alloc = rt.alloc();
-    let mut log = checkpoint_loser(alloc)?.given.bytes;
-    let store = store_of(alloc, 2, &Page::empty(0))?;
-    for place in 0..log.len() {
-        for byte in [0, 0xff] {
-            let old = replace(&mut log, place, byte);
-            assert!(rt; ends(&rt, alloc, &log, &store), "byte {place} is {byte}");
-            replace(&mut log, place, old);
-        }
-    }
-    Ok(())
-}
-
-#[test]
-fn ends_on_a_store_with_a_byte_set(rt: HostRuntime) -> Result<(), Fail> {
-    let alloc = rt.alloc();
-    let log = checkpoint_loser(alloc)?.given.bytes;
-    let mut store = store_of(alloc, 2, &Page::empty(0))?;
-    for place in 0..store.len() {
-        for byte in [0, 0xff] {
-            let old = replace(&mut store, place, byte);
-            assert!(rt; ends(&rt, alloc, &log, &store), "byte {place} is {byte}");
-            replace(&mut store, place, old);
-        }
     }
     Ok(())
 }
