@@ -1,14 +1,10 @@
 -- Bytes that are no store are refused for one cause, and those of a store for none.
-use Rattle.std.proofs.Common.{◌≡◌, ℕ, ◌+◌, ◌*◌, ◌<◌, List, length, drop, sym, ap, subst, ◌∙◌, arith, refl}
-use Rattle.std.proofs.lemmas.Bool.{cases_lt}
+use Rattle.std.proofs.Common.{◌≡◌, ℕ, ◌+◌, ◌*◌, ◌<◌, List, length, sym, ap, subst, ◌∙◌, arith, refl}
 use Rattle.std.proofs.lemmas.List.{length-drop}
-use Rattle.page.specs.declared.fault.Fault.{Fault}
 use Rattle.page.specs.declared.fault.Fault.TheVariants.{NoResource, BadStoreHeader, StoreSize, BadPage}
-use Rattle.page.specs.Causes.{HasOneCause}
-use Rattle.page.specs.Images.{FirstBadPage, SpellPages}
-use Rattle.page.specs.File.{images_of, SpellsStore, BeginsWithHeader, HasBadPage, StoreFault}
+use Rattle.page.specs.Images.{FirstBadPage}
+use Rattle.page.specs.File.{images_of, HasBadPage}
 use Rattle.page.specs.Laws.{OneStoreFault, NoFaultOfAStore}
-use Rattle.page.specs.Store.{StoreContent}
 use Rattle.page.proofs.Files.{store_header_of, store_pages_of, length-images, spelled_no_fault}
 use Rattle.page.proofs.Once.{same_numbers}
 

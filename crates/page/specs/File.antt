@@ -7,6 +7,7 @@ use Rattle.page.specs.declared.fault.Fault.TheVariants.{NoResource, BadStoreHead
 use Rattle.page.specs.Image.{page_text, FitsPage}
 use Rattle.page.specs.Images.{FirstBadPage}
 use Rattle.page.specs.Store.{StoreContent, AreNumbered}
+use Rattle.page.specs.declared.sizes.TheConstants.{PAGES, PAGE_BYTES, STORE_HEADER_BYTES}
 
 -- "ARIESPG1"
 abbrev pub magic : List ℕ
@@ -33,9 +34,9 @@ pub record SpellsStore (bytes : List ℕ) (store : StoreContent) : Type 0 where
 
 -- these bytes begin with the header of so many pages, 1 to 4,096, and this master
 pub record BeginsWithHeader (bytes : List ℕ) (count master : ℕ) : Type 0 where
-  pub text : take 24 bytes ≡ store_header count master
+  pub text : take STORE_HEADER_BYTES bytes ≡ store_header count master
   pub some : 0 < count
-  pub few : count ≤ 4096
+  pub few : count ≤ PAGES
   pub small : master < 2 ^ 64
 
 -- these bytes begin with the header of some store
@@ -44,21 +45,21 @@ HasStoreHeader bytes = (count : ℕ) × (master : ℕ) × BeginsWithHeader bytes
 
 -- the images behind the header
 abbrev pub images_of : List ℕ → List ℕ
-images_of bytes = drop 24 bytes
+images_of bytes = drop STORE_HEADER_BYTES bytes
 
 -- the header is right, and the length is not what it says
 pub record HasWrongSize (bytes : List ℕ) : Type 0 where
   pub count : ℕ
   pub master : ℕ
   pub header : BeginsWithHeader bytes count master
-  pub size : length bytes ≢ 24 + 1024 * count
+  pub size : length bytes ≢ STORE_HEADER_BYTES + PAGE_BYTES * count
 
 -- header and length are right, and page n is the smallest whose image spells no page of its number
 pub record HasBadPage (bytes : List ℕ) (n : ℕ) : Type 0 where
   pub count : ℕ
   pub master : ℕ
   pub header : BeginsWithHeader bytes count master
-  pub size : length bytes ≡ 24 + 1024 * count
+  pub size : length bytes ≡ STORE_HEADER_BYTES + PAGE_BYTES * count
   pub page : FirstBadPage (images_of bytes) count n
 
 -- why bytes are refused: what is wrong, and nothing that is looked at before it

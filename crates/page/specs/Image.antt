@@ -2,6 +2,7 @@
 use Rattle.std.specs.Prelude.{◌≡◌, ℕ, ◌+◌, ◌-◌, ◌<◌, ◌≤◌, ◌^◌, List, [], ◌∷◌, ◌++◌, All, length, replicate, Option, Some, None, IfSome}
 use Rattle.std.specs.Int.{w16, w32, w64, to_be_bytes}
 use Rattle.page.specs.declared.page.Page.{Page}
+use Rattle.page.specs.declared.sizes.TheConstants.{SLOTS, VALUE_BYTES, CELLS_AT, ROOM_BYTES}
 
 -- what a slot holds: nothing, or the bytes of a value
 abbrev pub Image : Type 0
@@ -31,23 +32,23 @@ directory place (slot ∷ slots) = entry place slot ++ directory (place + length
 abbrev pub header : ℕ → ℕ → List ℕ
 header number lsn = to_be_bytes w32 number ++ to_be_bytes w32 0 ++ to_be_bytes w64 lsn
 
--- the cells from byte 80 on, and zeros to the end
+-- the cells, and zeros to the end
 abbrev pub body : List Image → List ℕ
-body slots = cells slots ++ replicate (944 - length (cells slots)) 0
+body slots = cells slots ++ replicate (ROOM_BYTES - length (cells slots)) 0
 
--- header, 16 directory entries, body
+-- header, a directory entry for each slot, body
 abbrev pub page_text : Page → List ℕ
-page_text page = header page.number page.lsn ++ directory 80 page.slots ++ body page.slots
+page_text page = header page.number page.lsn ++ directory CELLS_AT page.slots ++ body page.slots
 
--- what a slot may hold: at most 48 bytes
+-- what a slot may hold: a value that is not too long
 abbrev pub FitsSlot : Image → Type 0
-FitsSlot slot = IfSome slot (λ value. length value ≤ 48)
+FitsSlot slot = IfSome slot (λ value. length value ≤ VALUE_BYTES)
 
 -- a page that has a spelling, as each page of the program has
 pub record FitsPage (page : Page) : Type 0 where
   pub number : page.number < 2 ^ 32
   pub lsn : page.lsn < 2 ^ 64
-  pub slots : length page.slots ≡ 16
+  pub slots : length page.slots ≡ SLOTS
   pub values : All FitsSlot page.slots
 
 -- these bytes spell this page

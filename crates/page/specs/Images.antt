@@ -5,10 +5,11 @@ use Rattle.page.specs.declared.fault.Fault.{Fault}
 use Rattle.page.specs.declared.fault.Fault.TheVariants.{NoResource, BadPage}
 use Rattle.page.specs.declared.page.Page.{Page}
 use Rattle.page.specs.Image.{page_text, FitsPage, SpellsPage}
+use Rattle.page.specs.declared.sizes.TheConstants.{PAGE_BYTES}
 
 -- the bytes at a page's place
 abbrev pub image_of : List ℕ → ℕ → List ℕ
-image_of images number = take 1024 (drop (1024 * number) images)
+image_of images number = take PAGE_BYTES (drop (PAGE_BYTES * number) images)
 
 -- the image at its place spells a page of this number
 abbrev pub HasPage : List ℕ → ℕ → Type 0

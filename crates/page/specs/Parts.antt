@@ -1,6 +1,7 @@
 -- The parts of a page's image that the decoder reads one after the other (own).
 use Rattle.std.specs.Prelude.{◌≡◌, ℕ, List, All, length, take}
 use Rattle.page.specs.Image.{Image, cell, entry, directory, body, FitsSlot}
+use Rattle.page.specs.declared.sizes.TheConstants.{SLOTS, CELLS_AT}
 
 -- these entries and bytes, from a slot's entry and place on, begin with the entry and the cell of this slot
 pub record BeginsWithSlot (entries bytes : List ℕ) (place : ℕ) (slot : Image) : Type 0 where
@@ -8,9 +9,9 @@ pub record BeginsWithSlot (entries bytes : List ℕ) (place : ℕ) (slot : Image
   pub entry : take 4 entries ≡ entry place slot
   pub cell : take (length (cell slot)) bytes ≡ cell slot
 
--- this directory and these bytes from byte 80 on spell these slots
+-- this directory and the bytes behind it spell these slots
 pub record SpellsSlots (entries bytes : List ℕ) (slots : List Image) : Type 0 where
-  pub count : length slots ≡ 16
+  pub count : length slots ≡ SLOTS
   pub values : All FitsSlot slots
-  pub directory : entries ≡ directory 80 slots
+  pub directory : entries ≡ directory CELLS_AT slots
   pub body : bytes ≡ body slots

@@ -1,6 +1,7 @@
 -- A store as contracts see it.
 use Rattle.std.specs.Prelude.{◌≡◌, ℕ, ◌<◌, ◌≤◌, List, length, slice_index_or}
 use Rattle.page.specs.declared.page.Page.{Page}
+use Rattle.page.specs.declared.sizes.TheConstants.{PAGES}
 
 -- the master and the pages 0, 1, ..
 pub record StoreContent : Type 0 where
@@ -10,5 +11,5 @@ pub record StoreContent : Type 0 where
 -- 1 to 4,096 pages, each standing at its number
 pub record AreNumbered (pages : List Page) : Type 0 where
   pub some : 0 < length pages
-  pub few : length pages ≤ 4096
+  pub few : length pages ≤ PAGES
   pub at_place : (i : ℕ) (d : Page) → i < length pages → (slice_index_or pages i d).number ≡ i

@@ -3,20 +3,22 @@
 ghost use Rattle.std.specs.Prelude.{◌≡◌, ◌<◌, ◌≤◌, ◌*◌, ◌^◌, ℕ, IfSome, IfOk, IfErr, OnOk, MatchResult, length};
 ghost use Rattle.page.specs.Store.{StoreContent};
 ghost use Rattle.page.specs.File.{store_header, store_text, FitsStore, SpellsStore, BeginsWithHeader, StoreFault};
+ghost use Rattle.page.specs.declared.sizes.TheConstants.{PAGES, PAGE_BYTES};
 ghost use Rattle.page.specs.Images.{SpellPages, PagesFault};
 
 use crate::image::{encode_page, page_at};
 use crate::numbers::numbers_at;
+use crate::sizes::{PAGE_BYTES, PAGES, STORE_HEADER_BYTES};
 use crate::{Fault, Page, Store};
 use byteorder::{BigEndian, ByteOrder};
 use std::alloc::Global;
 
 /// The first 24 bytes of a store file.
-fn header(count: u32, master: u64) -> [u8; 24]
+fn header(count: u32, master: u64) -> [u8; STORE_HEADER_BYTES]
     ensures text { result ≡ store_header count master }
     ensures fits { master < 2 ^ 64 }
 {
-    let mut header = [0; 24];
+    let mut header = [0; STORE_HEADER_BYTES];
     header[..8].copy_from_slice(b"ARIESPG1");
     BigEndian::write_u32(&mut header[8..], count);
     BigEndian::write_u64(&mut header[16..], master);
@@ -48,7 +50,7 @@ pub fn encode_store(alloc: Global, store: &Store) -> Result<Vec<u8>, Fault>
     ensures fits { OnOk result (FitsStore store.now) }
     ensures err { IfErr result (λ e. e ≡ Fault.NoResource) }
 {
-    let mut bytes = Vec::with_capacity(alloc, 24 + 1024 * store.pages.len())?;
+    let mut bytes = Vec::with_capacity(alloc, STORE_HEADER_BYTES + PAGE_BYTES * store.pages.len())?;
     encode_store_into(store, &mut bytes)?;
     Ok(bytes)
 }
@@ -59,16 +61,16 @@ fn header_at(bytes: &[u8]) -> Option<(u32, u64)>
     ensures only { (count master : ℕ) → BeginsWithHeader bytes.now count master
         → result ≡ Some (count, master) }
 {
-    if bytes.len() < 24 {
+    if bytes.len() < STORE_HEADER_BYTES {
         return None;
     }
-    let (front, _) = bytes.split_at(24);
+    let (front, _) = bytes.split_at(STORE_HEADER_BYTES);
     let (magic, numbers) = front.split_at(8);
     if magic != b"ARIESPG1".as_slice() {
         return None;
     }
     let (count, zero, master) = numbers_at(numbers);
-    if zero != 0 || count == 0 || count > 4096 {
+    if zero != 0 || count == 0 || count as usize > PAGES {
         return None;
     }
     Some((count, master))
@@ -76,15 +78,15 @@ fn header_at(bytes: &[u8]) -> Option<(u32, u64)>
 
 /// The pages 0, 1, .. whose images stand one after the other.
 fn pages_at(alloc: Global, images: &[u8], count: u32) -> Result<Vec<Page>, Fault>
-    requires size { length images.now ≡ 1024 * count }
-    requires few { count ≤ 4096 }
+    requires size { length images.now ≡ PAGE_BYTES * count }
+    requires few { count ≤ PAGES }
     ensures found { IfOk result (λ pages. SpellPages images.now count pages.items) }
     ensures fault { IfErr result (PagesFault images.now count) }
 {
     let mut pages = Vec::with_capacity(alloc, count as usize)?;
     for number in 0..count {
-        let (_, rest) = images.split_at(1024 * number as usize);
-        let (image, _) = rest.split_at(1024);
+        let (_, rest) = images.split_at(PAGE_BYTES * number as usize);
+        let (image, _) = rest.split_at(PAGE_BYTES);
         let Some(page) = page_at(image, number) else {
             return Err(Fault::BadPage(number));
         };
@@ -107,8 +109,8 @@ pub fn decode_store(alloc: Global, bytes: &[u8]) -> Result<Store, Fault>
     let Some((count, master)) = header_at(bytes) else {
         return Err(Fault::BadStoreHeader);
     };
-    let (_, images) = bytes.split_at(24);
-    if images.len() != 1024 * count as usize {
+    let (_, images) = bytes.split_at(STORE_HEADER_BYTES);
+    if images.len() != PAGE_BYTES * count as usize {
         return Err(Fault::StoreSize);
     }
     let pages = pages_at(alloc, images, count)?;

@@ -4,16 +4,18 @@ ghost use Rattle.std.specs.Prelude.{◌≡◌, ◌≢◌, ◌<◌, ◌≤◌, �
 ghost use Rattle.std.specs.Int.{w16, w32, w64, to_be_bytes};
 ghost use Rattle.page.specs.declared.page.Page.{Page};
 ghost use Rattle.page.specs.Image.{Image, cell, entry, directory, header, body, page_text, FitsSlot, FitsPage, SpellsPage};
+ghost use Rattle.page.specs.declared.sizes.TheConstants.{SLOTS, VALUE_BYTES, PAGE_BYTES, DIRECTORY_BYTES, CELLS_AT, ROOM_BYTES};
 ghost use Rattle.page.specs.Parts.{BeginsWithSlot, SpellsSlots};
 
 use crate::numbers::numbers_at;
+use crate::sizes::{CELLS_AT, DIRECTORY_BYTES, PAGE_BYTES, PAGE_HEADER_BYTES, SLOTS};
 use crate::{Fault, Page, Value};
 use byteorder::{BigEndian, ByteOrder};
 
 /// The bytes that a slot takes among the cells.
 fn cell(slot: &Option<Value>) -> &[u8]
     ensures bytes { result.now ≡ cell slot.now }
-    ensures short { length result.now ≤ 48 }
+    ensures short { length result.now ≤ VALUE_BYTES }
 {
     match slot {
         None => &[],
@@ -34,13 +36,13 @@ fn entry(place: u16, slot: &Option<Value>) -> [u8; 4]
 }
 
 /// Writes the directory of these slots.
-fn put_directory(slots: &[Option<Value>; 16], entries: &mut [u8])
-    requires { length entries.old ≡ 64 }
-    ensures text { entries.new ≡ directory 80 slots.now }
-    ensures count { length slots.now ≡ 16 }
+fn put_directory(slots: &[Option<Value>; SLOTS], entries: &mut [u8])
+    requires { length entries.old ≡ DIRECTORY_BYTES }
+    ensures text { entries.new ≡ directory CELLS_AT slots.now }
+    ensures count { length slots.now ≡ SLOTS }
     ensures fits { All FitsSlot slots.now }
 {
-    let mut place = 80;
+    let mut place = CELLS_AT as u16;
     for (i, slot) in slots.iter().enumerate() {
         entries[4 * i..4 * i + 4].copy_from_slice(&entry(place, slot));
         place += cell(slot).len() as u16;
@@ -48,8 +50,8 @@ fn put_directory(slots: &[Option<Value>; 16], entries: &mut [u8])
 }
 
 /// Writes the present cells of these slots, and zeros behind them.
-fn put_cells(slots: &[Option<Value>; 16], room: &mut [u8])
-    requires { length room.old ≡ 944 }
+fn put_cells(slots: &[Option<Value>; SLOTS], room: &mut [u8])
+    requires { length room.old ≡ ROOM_BYTES }
     ensures { room.new ≡ body slots.now }
 {
     let mut end = 0;
@@ -62,11 +64,11 @@ fn put_cells(slots: &[Option<Value>; 16], room: &mut [u8])
 }
 
 /// The first 16 bytes of a page's image.
-fn header(number: u32, lsn: u64) -> [u8; 16]
+fn header(number: u32, lsn: u64) -> [u8; PAGE_HEADER_BYTES]
     ensures text { result ≡ header number lsn }
     ensures fits { (number < 2 ^ 32) × (lsn < 2 ^ 64) }
 {
-    let mut header = [0; 16];
+    let mut header = [0; PAGE_HEADER_BYTES];
     BigEndian::write_u32(&mut header, number);
     BigEndian::write_u64(&mut header[8..], lsn);
     header
@@ -74,22 +76,22 @@ fn header(number: u32, lsn: u64) -> [u8; 16]
 
 /// Writes the image of a page.
 fn put_page(page: &Page, image: &mut [u8])
-    requires { length image.old ≡ 1024 }
+    requires { length image.old ≡ PAGE_BYTES }
     ensures text { image.new ≡ page_text page.now }
     ensures fits { FitsPage page.now }
 {
-    image[..16].copy_from_slice(&header(page.number, page.lsn));
-    put_directory(&page.slots, &mut image[16..80]);
-    put_cells(&page.slots, &mut image[80..]);
+    image[..PAGE_HEADER_BYTES].copy_from_slice(&header(page.number, page.lsn));
+    put_directory(&page.slots, &mut image[PAGE_HEADER_BYTES..CELLS_AT]);
+    put_cells(&page.slots, &mut image[CELLS_AT..]);
 }
 
 /// The one spelling of a page: page number, four zeros, PageLSN; 16 directory entries of offset and
 /// length; the present cells in slot order from byte 80 on; zeros. All numbers are big endian.
-pub fn encode_page(page: &Page) -> [u8; 1024]
+pub fn encode_page(page: &Page) -> [u8; PAGE_BYTES]
     ensures text { result ≡ page_text page.now }
     ensures fits { FitsPage page.now }
 {
-    let mut image = [0; 1024];
+    let mut image = [0; PAGE_BYTES];
     put_page(page, &mut image);
     image
 }
@@ -136,19 +138,19 @@ fn is_zero(bytes: &[u8]) -> bool
 }
 
 /// The slots that this directory and the bytes behind it spell.
-fn slots_at(entries: &[u8], bytes: &[u8]) -> Option<[Option<Value>; 16]>
-    requires entries { length entries.now ≡ 64 }
-    requires bytes { length bytes.now ≡ 944 }
+fn slots_at(entries: &[u8], bytes: &[u8]) -> Option<[Option<Value>; SLOTS]>
+    requires entries { length entries.now ≡ DIRECTORY_BYTES }
+    requires bytes { length bytes.now ≡ ROOM_BYTES }
     ensures found { IfSome result (SpellsSlots entries.now bytes.now) }
     ensures only { (slots : List Image) → SpellsSlots entries.now bytes.now slots
         → result ≡ Some slots }
 {
-    let mut slots = [None; 16];
+    let mut slots = [None; SLOTS];
     let mut end = 0;
-    for i in 0..16 {
+    for i in 0..SLOTS {
         let (_, entry) = entries.split_at(4 * i);
         let (_, rest) = bytes.split_at(end);
-        let slot = slot_at(entry, rest, 80 + end as u16)?;
+        let slot = slot_at(entry, rest, (CELLS_AT + end) as u16)?;
         end += cell(&slot).len();
         slots[i] = slot;
     }
@@ -161,13 +163,13 @@ fn slots_at(entries: &[u8], bytes: &[u8]) -> Option<[Option<Value>; 16]>
 
 /// The page of this number that these 1,024 bytes spell.
 pub fn page_at(bytes: &[u8], number: u32) -> Option<Page>
-    requires { length bytes.now ≡ 1024 }
+    requires { length bytes.now ≡ PAGE_BYTES }
     ensures found { IfSome result (λ page. SpellsPage bytes.now page × (page.number ≡ number)) }
     ensures only { (page : Page) → SpellsPage bytes.now page → page.number ≡ number
         → result ≡ Some page }
 {
-    let (header, rest) = bytes.split_at(16);
-    let (entries, body) = rest.split_at(64);
+    let (header, rest) = bytes.split_at(PAGE_HEADER_BYTES);
+    let (entries, body) = rest.split_at(DIRECTORY_BYTES);
     let (own, zero, lsn) = numbers_at(header);
     if own != number || zero != 0 {
         return None;
@@ -177,7 +179,7 @@ pub fn page_at(bytes: &[u8], number: u32) -> Option<Page>
 }
 
 /// The page of this number that the bytes spell. Any other image is `BadPage(number)`.
-pub fn decode_page(bytes: &[u8; 1024], number: u32) -> Result<Page, Fault>
+pub fn decode_page(bytes: &[u8; PAGE_BYTES], number: u32) -> Result<Page, Fault>
     ensures found { IfOk result (λ page. SpellsPage bytes.now page × (page.number ≡ number)) }
     ensures only { (page : Page) → SpellsPage bytes.now page → page.number ≡ number
         → result ≡ Ok page }

@@ -8,6 +8,7 @@ mod image;
 mod laws;
 mod numbers;
 mod page;
+mod sizes;
 mod store;
 #[cfg(test)]
 mod tests;
@@ -18,5 +19,6 @@ pub use file::{decode_store, encode_store, encode_store_into};
 pub use image::{decode_page, encode_page};
 pub use laws::{no_fault_of_a_store, one_page_spelling, one_store_fault, one_store_spelling};
 pub use page::Page;
+pub use sizes::{PAGE_BYTES, PAGES, SLOTS, VALUE_BYTES};
 pub use store::Store;
 pub use value::Value;

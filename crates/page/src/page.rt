@@ -1,8 +1,10 @@
 //! A page.
 
 ghost use Rattle.std.specs.Prelude.{◌≡◌, ◌<◌, None, slice_get, slice_set, replicate, Some};
+ghost use Rattle.page.specs.declared.sizes.TheConstants.{SLOTS};
 
 use crate::Value;
+use crate::sizes::SLOTS;
 
 /// A page: 16 slots, each absent or a value.
 #[derive(Clone, Copy)]
@@ -12,24 +14,24 @@ pub struct Page {
     /// PageLSN: the LSN of the record of the latest update in it, 0 for none.
     pub lsn: u64,
     /// What the slots hold, None for absent.
-    pub slots: [Option<Value>; 16],
+    pub slots: [Option<Value>; SLOTS],
 }
 
 impl Page {
     /// The empty page of this number: PageLSN 0 and all slots absent.
     pub fn empty(number: u32) -> Page
-        ensures { result ≡ record { number = number; lsn = 0; slots = replicate 16 None } }
+        ensures { result ≡ record { number = number; lsn = 0; slots = replicate SLOTS None } }
     {
         Page {
             number,
             lsn: 0,
-            slots: [None; 16],
+            slots: [None; SLOTS],
         }
     }
 
     /// What slot `i` holds.
     pub fn slot(&self, i: usize) -> Option<Value>
-        requires { i < 16 }
+        requires { i < SLOTS }
         ensures { slice_get self.now.slots i ≡ Some result }
     {
         self.slots[i]
@@ -37,7 +39,7 @@ impl Page {
 
     /// Puts a value, or none, into slot `i` as the record at this LSN did.
     pub fn set(&mut self, i: usize, value: Option<Value>, lsn: u64)
-        requires { i < 16 }
+        requires { i < SLOTS }
         ensures { self.new ≡ record self.old { lsn = lsn; slots = slice_set self.old.slots i value } }
     {
         self.slots[i] = value;

@@ -1,15 +1,17 @@
 //! What a slot holds.
 
 ghost use Rattle.std.specs.Prelude.{◌≡◌, ◌≤◌, ◌-◌, ◌++◌, ℕ, List, length, take, replicate, IfSome, IsSome, ◌↔◌};
+ghost use Rattle.page.specs.declared.sizes.TheConstants.{VALUE_BYTES};
 ghost use mathlib.Core.Path.{sym, ap, ap₂, ◌∙◌};
 
+use crate::sizes::VALUE_BYTES;
 use std::marker::Model;
 
 /// A value of 0 to 48 bytes, held in place: it is copied and takes no memory. Contracts see it as
 /// the list of its bytes.
 #[derive(Clone, Copy)]
 pub struct Value {
-    bytes: [u8; 48],
+    bytes: [u8; VALUE_BYTES],
     len: u8,
 }
 
@@ -29,13 +31,13 @@ impl Value {
     /// The value of these bytes, or None where there are more than 48.
     pub fn new(bytes: &[u8]) -> Option<Value>
         ensures found { IfSome result (λ v. v ≡ bytes.now) }
-        ensures fits { IsSome result ↔ (length bytes.now ≤ 48) }
+        ensures fits { IsSome result ↔ (length bytes.now ≤ VALUE_BYTES) }
     {
         let len = bytes.len();
-        if len > 48 {
+        if len > VALUE_BYTES {
             return None;
         }
-        let mut all = [0; 48];
+        let mut all = [0; VALUE_BYTES];
         all[..len].copy_from_slice(bytes);
         Some(Value {
             bytes: all,
@@ -46,7 +48,7 @@ impl Value {
     /// Its bytes.
     pub fn as_slice(&self) -> &[u8]
         ensures value { result.now ≡ self.now }
-        ensures short { length result.now ≤ 48 }
+        ensures short { length result.now ≤ VALUE_BYTES }
     {
         &self.bytes[..self.len as usize]
     }
