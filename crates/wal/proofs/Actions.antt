@@ -2,7 +2,7 @@
 use Rattle.std.proofs.Common.{ℕ, suc, zero, ◌≡◌, ◌+◌, ◌<◌, ◌≤◌, Bool, true, cond, ◌||◌, List, [], ◌∷◌, ◌++◌, map, refl, sym, ap, ap₂, ◌∙◌, inl, inr, arith, eq-eqb, eqb-true, eqb}
 use Rattle.std.specs.Prelude.{filter, flat_map}
 use Rattle.std.proofs.lemmas.Bool.{cases_Bool, cases_eq, false≢true, or_cases, or_left, or_right, cond_both}
-use Rattle.wal.specs.Records.{UpdateRecord, Update, History, start, ◌▸◌, size}
+use Rattle.wal.specs.Records.{UpdateRecord, Update, History, start, ◌▸◌, last_lsn}
 use Rattle.wal.specs.Meaning.{is_loser}
 use Rattle.wal.specs.Tail.{Action, Finish, Undo, tx_for, record_for, written, numbers_from, above_all, losers_of, left_of, updates_where, is_stacked, is_lowest, is_among, is_empty, undo_of, rollback, left_to_do}
 use Rattle.wal.proofs.Filters.{Each, tx_below}
@@ -76,7 +76,7 @@ written_same f g lsn (a ∷ actions) h =
 pub updates_pass : (p : ℕ → UpdateRecord → Bool) (log : History) → Each (λ n u. p n u ≡ true) (updates_where p log)
 updates_pass p start = tt
 updates_pass p (log ▸ Update u) =
-    cond_both (p (suc (size log)) u) ((suc (size log), u) ∷ updates_where p log) (updates_where p log) (λ xs. Each (λ n w. p n w ≡ true) xs) (λ e. (e, updates_pass p log)) (λ _. updates_pass p log)
+    cond_both (p (suc (last_lsn log)) u) ((suc (last_lsn log), u) ∷ updates_where p log) (updates_where p log) (λ xs. Each (λ n w. p n w ≡ true) xs) (λ e. (e, updates_pass p log)) (λ _. updates_pass p log)
 updates_pass p (log ▸ _) = updates_pass p log
 
 AllFor-append : (P : ℕ → Type 0) (acts bs : List Action) → AllFor P acts → AllFor P bs → AllFor P (acts ++ bs)

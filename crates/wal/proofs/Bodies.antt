@@ -2,68 +2,71 @@
 use Rattle.std.proofs.Common.{◌≡◌, ℕ, ◌^◌, ◌<◌, ◌≤◌, eqb, eqb-true, List, [], ◌∷◌, ◌++◌, length, Some, refl, sym, ap, ap₂, subst, ◌∙◌, append_assoc, inl, inr}
 use Rattle.std.specs.Int.{w32, w64, to_be_bytes}
 use Rattle.std.proofs.lemmas.List.{append-nil, nil_from_length}
+use Rattle.std.proofs.lemmas.Option.{same_Some}
 use Rattle.wal.specs.Records.{tx_in, page_in, UpdateRecord, CompensationRecord, LogRecord, Update, Compensation, Commit, Abort, End, CheckpointBegin, CheckpointEnd}
-use Rattle.wal.specs.Spelling.{image, plain, update, compensation, checkpoint, table, entry, dirty_page, kind_of, fields, body, FitsImage, FitsPlain, FitsTable, FitsEntry, FitsDirty, Fits}
+use Rattle.wal.specs.Spelling.{image, plain, update, compensation, checkpoint, table, entry, dirty_page, kind_of, fields, body, FitsPlain, FitsTable, FitsEntry, FitsDirty, Fits}
 use Rattle.wal.specs.Reading.{number_at, slot_at, image_at, plain_at, update_at, compensation_at, commit_at, abort_at, end_at, transactions_at, dirties_at, checkpoint_at, fields_at, body_at}
 use Rattle.wal.proofs.Loop.{chosen}
-use Rattle.wal.proofs.Fields.{IsBytes, IsBytes-rest, some_is, bind_some, guard_ended, Takes, Takes-then, first_of_all, field32, field64, slot_field, image_field, plain_field}
+use Rattle.page.proofs.BigEndian.{AreBytes}
+use Rattle.wal.proofs.Fields.{AreBytes-rest, bind_some, guard_ended, Takes, Takes-then, first_of_all, field32, field64, slot_field, image_field, plain_field}
 use Rattle.wal.proofs.TableFields.{transactions_field, dirties_field}
+use Rattle.page.specs.Image.{FitsSlot}
 
 -- a record of this kind was read
 abbrev pub Read : ℕ → List ℕ → LogRecord × List ℕ → Type 0
 Read kind bytes x = Takes bytes (fields x.0) x.1 × Fits x.0 × (kind ≡ kind_of x.0)
 
-commit_takes : (bytes : List ℕ) (x : LogRecord × List ℕ) → IsBytes bytes → commit_at bytes ≡ Some x → Read 3 bytes x
+commit_takes : (bytes : List ℕ) (x : LogRecord × List ℕ) → AreBytes bytes → commit_at bytes ≡ Some x → Read 3 bytes x
 unfolding commit_at
 commit_takes bytes x fits e =
     let a = first_of_all plain_at plain FitsPlain plain_field bytes (λ own. Some (Commit own.0, own.1)) x fits e in
-    subst (Read 3 bytes) (some_is (Commit a.value, a.rest) x a.after) (a.takes, a.fits, refl)
+    subst (Read 3 bytes) (same_Some (Commit a.value, a.rest) x a.after) (a.takes, a.fits, refl)
 
-abort_takes : (bytes : List ℕ) (x : LogRecord × List ℕ) → IsBytes bytes → abort_at bytes ≡ Some x → Read 4 bytes x
+abort_takes : (bytes : List ℕ) (x : LogRecord × List ℕ) → AreBytes bytes → abort_at bytes ≡ Some x → Read 4 bytes x
 unfolding abort_at
 abort_takes bytes x fits e =
     let a = first_of_all plain_at plain FitsPlain plain_field bytes (λ own. Some (Abort own.0, own.1)) x fits e in
-    subst (Read 4 bytes) (some_is (Abort a.value, a.rest) x a.after) (a.takes, a.fits, refl)
+    subst (Read 4 bytes) (same_Some (Abort a.value, a.rest) x a.after) (a.takes, a.fits, refl)
 
-end_takes : (bytes : List ℕ) (x : LogRecord × List ℕ) → IsBytes bytes → end_at bytes ≡ Some x → Read 5 bytes x
+end_takes : (bytes : List ℕ) (x : LogRecord × List ℕ) → AreBytes bytes → end_at bytes ≡ Some x → Read 5 bytes x
 unfolding end_at
 end_takes bytes x fits e =
     let a = first_of_all plain_at plain FitsPlain plain_field bytes (λ own. Some (End own.0, own.1)) x fits e in
-    subst (Read 5 bytes) (some_is (End a.value, a.rest) x a.after) (a.takes, a.fits, refl)
+    subst (Read 5 bytes) (same_Some (End a.value, a.rest) x a.after) (a.takes, a.fits, refl)
 
-update_takes : (bytes : List ℕ) (x : LogRecord × List ℕ) → IsBytes bytes → update_at bytes ≡ Some x → Read 1 bytes x
+update_takes : (bytes : List ℕ) (x : LogRecord × List ℕ) → AreBytes bytes → update_at bytes ≡ Some x → Read 1 bytes x
 unfolding update_at
 update_takes bytes x fits e =
     let a = first_of_all plain_at plain FitsPlain plain_field bytes _ x fits e in
     let b = first_of_all (number_at w32) (to_be_bytes w32) (λ n. n < 2 ^ 32) field32 a.rest _ x a.takes.rest_fits a.after in
     let c = first_of_all slot_at (λ slot. slot ∷ []) (λ slot. slot ≤ 15) slot_field b.rest _ x b.takes.rest_fits b.after in
-    let d = first_of_all image_at image FitsImage image_field c.rest _ x c.takes.rest_fits c.after in
-    let f = first_of_all image_at image FitsImage image_field d.rest _ x d.takes.rest_fits d.after in
+    let d = first_of_all image_at image FitsSlot image_field c.rest _ x c.takes.rest_fits c.after in
+    let f = first_of_all image_at image FitsSlot image_field d.rest _ x d.takes.rest_fits d.after in
     let u : UpdateRecord = record { tx = a.value.tx; prev = a.value.prev; page = b.value; slot = c.value; before = d.value; after = f.value } in
     let df = Takes-then c.rest (image d.value) d.rest (image f.value) f.rest d.takes f.takes in
     let cf = Takes-then b.rest (c.value ∷ []) c.rest (image d.value ++ image f.value) f.rest c.takes df in
     let bf = Takes-then a.rest (to_be_bytes w32 b.value) b.rest ((c.value ∷ []) ++ image d.value ++ image f.value) f.rest b.takes cf in
     let af = Takes-then bytes (plain a.value) a.rest (to_be_bytes w32 b.value ++ (c.value ∷ []) ++ image d.value ++ image f.value) f.rest a.takes bf in
-    subst (Read 1 bytes) (some_is (Update u, f.rest) x f.after)
+    subst (Read 1 bytes) (same_Some (Update u, f.rest) x f.after)
     (af, record { some_tx = a.fits.some_tx; tx = a.fits.tx; prev = a.fits.prev; page = b.fits; slot = c.fits; before = d.fits; after = f.fits }, refl)
 
-compensation_takes : (bytes : List ℕ) (x : LogRecord × List ℕ) → IsBytes bytes → compensation_at bytes ≡ Some x → Read 2 bytes x
+compensation_takes : (bytes : List ℕ) (x : LogRecord × List ℕ) → AreBytes bytes → compensation_at bytes ≡ Some x → Read 2 bytes x
 unfolding compensation_at
 compensation_takes bytes x fits e =
     let a = first_of_all plain_at plain FitsPlain plain_field bytes _ x fits e in
     let b = first_of_all (number_at w32) (to_be_bytes w32) (λ n. n < 2 ^ 32) field32 a.rest _ x a.takes.rest_fits a.after in
     let c = first_of_all slot_at (λ slot. slot ∷ []) (λ slot. slot ≤ 15) slot_field b.rest _ x b.takes.rest_fits b.after in
     let d = first_of_all (number_at w64) (to_be_bytes w64) (λ n. n < 2 ^ 64) field64 c.rest _ x c.takes.rest_fits c.after in
-    let f = first_of_all image_at image FitsImage image_field d.rest _ x d.takes.rest_fits d.after in
+    let f = first_of_all image_at image FitsSlot image_field d.rest _ x d.takes.rest_fits d.after in
     let u : CompensationRecord = record { tx = a.value.tx; prev = a.value.prev; page = b.value; slot = c.value; undo_next = d.value; image = f.value } in
     let df = Takes-then c.rest (to_be_bytes w64 d.value) d.rest (image f.value) f.rest d.takes f.takes in
     let cf = Takes-then b.rest (c.value ∷ []) c.rest (to_be_bytes w64 d.value ++ image f.value) f.rest c.takes df in
     let bf = Takes-then a.rest (to_be_bytes w32 b.value) b.rest ((c.value ∷ []) ++ to_be_bytes w64 d.value ++ image f.value) f.rest b.takes cf in
     let af = Takes-then bytes (plain a.value) a.rest (to_be_bytes w32 b.value ++ (c.value ∷ []) ++ to_be_bytes w64 d.value ++ image f.value) f.rest a.takes bf in
-    subst (Read 2 bytes) (some_is (Compensation u, f.rest) x f.after)
+    subst (Read 2 bytes) (same_Some (Compensation u, f.rest) x f.after)
     (af, record { some_tx = a.fits.some_tx; tx = a.fits.tx; prev = a.fits.prev; page = b.fits; slot = c.fits; undo_next = d.fits; image = f.fits }, refl)
 
-checkpoint_takes : (bytes : List ℕ) (x : LogRecord × List ℕ) → IsBytes bytes → checkpoint_at bytes ≡ Some x → Read 7 bytes x
+checkpoint_takes : (bytes : List ℕ) (x : LogRecord × List ℕ) → AreBytes bytes → checkpoint_at bytes ≡ Some x → Read 7 bytes x
 unfolding checkpoint_at
 checkpoint_takes bytes x fits e =
     let a = first_of_all (number_at w64) (to_be_bytes w64) (λ n. n < 2 ^ 64) field64 bytes _ x fits e in
@@ -71,11 +74,11 @@ checkpoint_takes bytes x fits e =
     let c = first_of_all dirties_at (table dirty_page) (FitsTable 4096 page_in FitsDirty) dirties_field b.rest _ x b.takes.rest_fits b.after in
     let bc = Takes-then a.rest (table entry b.value) b.rest (table dirty_page c.value) c.rest b.takes c.takes in
     let ac = Takes-then bytes (to_be_bytes w64 a.value) a.rest (table entry b.value ++ table dirty_page c.value) c.rest a.takes bc in
-    subst (Read 7 bytes) (some_is (CheckpointEnd a.value b.value c.value, c.rest) x c.after)
+    subst (Read 7 bytes) (same_Some (CheckpointEnd a.value b.value c.value, c.rest) x c.after)
     (ac, record { begin_fits = a.fits; transactions_fit = b.fits; dirty_fit = c.fits }, refl)
 
 -- what is read by a kind has this kind
-pub fields_take : (kind : ℕ) (bytes : List ℕ) (x : LogRecord × List ℕ) → IsBytes bytes → fields_at kind bytes ≡ Some x → Read kind bytes x
+pub fields_take : (kind : ℕ) (bytes : List ℕ) (x : LogRecord × List ℕ) → AreBytes bytes → fields_at kind bytes ≡ Some x → Read kind bytes x
 unfolding fields_at
 fields_take kind bytes x fits e =
     elim (chosen (eqb kind 1) _ _ _ e) [
@@ -94,7 +97,7 @@ fields_take kind bytes x fits e =
                               | inl t ↦ subst (λ k. Read k bytes x) (sym (eqb-true kind 5 t.0)) (end_takes bytes x fits t.1)
                               | inr t ↦
                                   elim (chosen (eqb kind 6) _ _ _ t.1) [
-                                    | inl u ↦ subst (λ k. Read k bytes x) (sym (eqb-true kind 6 u.0)) (subst (Read 6 bytes) (some_is (CheckpointBegin, bytes) x u.1) (record { parts = refl; rest_fits = fits }, tt, refl))
+                                    | inl u ↦ subst (λ k. Read k bytes x) (sym (eqb-true kind 6 u.0)) (subst (Read 6 bytes) (same_Some (CheckpointBegin, bytes) x u.1) (record { parts = refl; rest_fits = fits }, tt, refl))
                                     | inr u ↦
                                         elim (chosen (eqb kind 7) _ _ _ u.1) [
                                           | inl v ↦ subst (λ k. Read k bytes x) (sym (eqb-true kind 7 v.0)) (checkpoint_takes bytes x fits v.1)
@@ -136,11 +139,11 @@ fields_again (CheckpointEnd begin transactions dirty) rest fits =
 -- ---- bodies
 
 -- THE DECODER IS EXACT, in one direction and the other
-pub body_takes : (bytes : List ℕ) (r : LogRecord) (lsn : ℕ) → IsBytes bytes → body_at bytes ≡ Some (r, lsn) → (bytes ≡ body r lsn) × Fits r × (lsn < 2 ^ 64)
+pub body_takes : (bytes : List ℕ) (r : LogRecord) (lsn : ℕ) → AreBytes bytes → body_at bytes ≡ Some (r, lsn) → (bytes ≡ body r lsn) × Fits r × (lsn < 2 ^ 64)
 unfolding body_at
 body_takes [] r lsn fits e = absurd cc
 body_takes (kind ∷ bytes) r lsn fits e =
-    let a = first_of_all (number_at w64) (to_be_bytes w64) (λ n. n < 2 ^ 64) field64 bytes _ (r, lsn) (IsBytes-rest kind bytes fits) e in
+    let a = first_of_all (number_at w64) (to_be_bytes w64) (λ n. n < 2 ^ 64) field64 bytes _ (r, lsn) (AreBytes-rest kind bytes fits) e in
     let b = bind_some (fields_at kind a.rest) _ (r, lsn) a.after in
     let t = fields_take kind a.rest b.0 a.takes.rest_fits b.1 in
     let g = guard_ended (eqb (length b.0.1) 0) (b.0.0, a.value) (r, lsn) b.2 in

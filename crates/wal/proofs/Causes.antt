@@ -2,18 +2,16 @@
 use Rattle.std.proofs.Common.{◌≡◌, ◌≢◌, ◌⊎◌, ℕ, ◌+◌, ◌^◌, ◌<◌, List, [], ◌∷◌, ◌++◌, length, drop, Some, None, Option, refl, sym, ap, subst, ◌∙◌, append_assoc, arith, inl, inr}
 use Rattle.std.specs.List.{AllByRecursion}
 use Rattle.std.proofs.lemmas.List.{length-append, drop_at}
+use Rattle.std.proofs.lemmas.Option.{same_Some}
 use Rattle.page.specs.declared.fault.Fault.{Fault}
 use Rattle.page.specs.declared.fault.Fault.TheVariants.{NoResource, BadLogHeader, BadLength, BadRecord, BadLsn}
-use Rattle.wal.specs.Records.{LogRecord}
+use Rattle.wal.specs.Records.{LogRecord, LogContent}
 use Rattle.wal.specs.Spelling.{body, frame, Fits}
 use Rattle.wal.specs.Frames.{next_at, header}
 use Rattle.wal.specs.Reading.{body_at}
 use Rattle.wal.specs.Reads.{spellings, IsTorn, Reads, HasFault, FaultBehind, Cause, OneLogFault, NoFaultOfALog}
 use Rattle.wal.proofs.Bodies.{body_again}
 use Rattle.wal.proofs.Whole.{ok_is, body_size, right_body, frame_length, frame_rest, frame_next, torn_none}
-
-some_is : {X : Type 0} (x y : X) → ◌≡◌ {A = Option X} (Some x) (Some y) → x ≡ y
-some_is x y e = cc
 
 -- IN FRONT
 -- no fault where a right frame stands
@@ -25,7 +23,7 @@ right_frame r lsn offset rest (BadLength place) fits lt h =
 right_frame r lsn offset rest (BadRecord place) fits lt h = h.2 r lsn fits lt (right_body r lsn rest fits)
 right_frame r lsn offset rest (BadLsn place) fits lt (at, whole, other, n, other_fits, small, same, wrong) =
     let read : ◌≡◌ {A = LogRecord × ℕ} (other, n) (r, lsn) =
-    some_is (other, n) (r, lsn) (sym (body_again other n other_fits small) ∙ ap body_at (sym same ∙ right_body r lsn rest fits) ∙ body_again r lsn fits lt) in
+    same_Some (other, n) (r, lsn) (sym (body_again other n other_fits small) ∙ ap body_at (sym same ∙ right_body r lsn rest fits) ∙ body_again r lsn fits lt) in
     wrong (ap (λ x. x.1) read)
 right_frame r lsn offset rest _ fits lt h = absurd h
 
@@ -65,7 +63,7 @@ record AreSameFrames (r s : LogRecord) (rest other : List ℕ) : Type 0 where
 same_frames : (r s : LogRecord) (lsn : ℕ) (rest other : List ℕ) → Fits r → Fits s → lsn < 2 ^ 64 → frame r lsn ++ rest ≡ frame s lsn ++ other → AreSameFrames r s rest other
 same_frames r s lsn rest other fits other_fits lt e =
     let read : ◌≡◌ {A = LogRecord × ℕ} (r, 4 + length (body r lsn)) (s, 4 + length (body s lsn)) =
-    some_is _ _ (ok_is (Some (r, 4 + length (body r lsn))) (Some (s, 4 + length (body s lsn)))
+    same_Some _ _ (ok_is (Some (r, 4 + length (body r lsn))) (Some (s, 4 + length (body s lsn)))
     (sym (frame_next r lsn 0 rest fits lt) ∙ ap (next_at lsn 0) e ∙ frame_next s lsn 0 other other_fits lt)) in
     let records : r ≡ s = ap (λ x. x.0) read in
     record {
@@ -160,8 +158,9 @@ one_log_fault bytes d e some other x y =
           ]
     ]
 
-none_stands : (bytes : List ℕ) (records : List LogRecord) (torn : ℕ) → Reads bytes records torn → (e : Fault) → (e ≡ NoResource → ⊥) → Cause bytes e → ⊥
-none_stands bytes records torn reads e some h =
+none_stands : (bytes : List ℕ) (log : LogContent) (torn : ℕ) → Reads bytes log torn → (e : Fault) → (e ≡ NoResource → ⊥) → Cause bytes e → ⊥
+none_stands bytes log torn reads e some h =
+    let records = log.records in
     let text : bytes ≡ header ++ (spellings 1 records ++ reads.tail) = reads.text ∙ append_assoc header (spellings 1 records) reads.tail in
     let behind : drop 8 bytes ≡ spellings 1 records ++ reads.tail = ap (drop 8) text ∙ drop_at header (spellings 1 records ++ reads.tail) 8 refl in
     elim (either bytes e some h) [
@@ -170,5 +169,5 @@ none_stands bytes records torn reads e some h =
     ]
 
 pub no_fault_of_a_log : NoFaultOfALog
-no_fault_of_a_log bytes records torn reads NoResource h = refl
-no_fault_of_a_log bytes records torn reads e h = absurd (none_stands bytes records torn reads e (λ i. absurd cc) h)
+no_fault_of_a_log bytes log torn reads NoResource h = refl
+no_fault_of_a_log bytes log torn reads e h = absurd (none_stands bytes log torn reads e (λ i. absurd cc) h)

@@ -1,17 +1,17 @@
 -- The checkpoint that a master names.
-use Rattle.std.proofs.Common.{ℕ, ◌≡◌, ◌+◌, ◌<◌, ◌≤◌, Bool, true, false, cond, eqb, eq-eqb, leb, List, [], ◌∷◌, length, take, drop, take-append-drop, Option, Some, None, refl, sym, ap, ◌∙◌, arith}
+use Rattle.std.proofs.Common.{ℕ, ◌≡◌, ◌+◌, ◌<◌, ◌≤◌, Bool, true, false, cond, eqb, eq-eqb, leb, ltb, inl, inr, List, [], ◌∷◌, Option, Some, None, refl, sym, ap, ◌∙◌, arith}
 use Rattle.std.proofs.Math.Bool.{and-false}
-use Rattle.std.proofs.lemmas.Bool.{false≢true, le-leb, lt-leb}
-use Rattle.wal.specs.Records.{TableEntry, LogRecord, Update, Compensation, Commit, Abort, End, CheckpointBegin, CheckpointEnd, History, start, ◌▸◌, ◌▸▸◌, history, size, record_at}
+use Rattle.std.proofs.lemmas.Bool.{cases_Bool, false≢true, le-leb, lt-leb}
+use Rattle.wal.specs.Records.{TableEntry, LogRecord, CheckpointBegin, CheckpointEnd, History, start, ◌▸◌, ◌▸▸◌, last_lsn, record_at, first}
 use Rattle.wal.specs.Store.{first_end, is_begin, checkpoint_at}
-use Rattle.wal.proofs.Histories.{after-append, record_within, size_of_beginning}
+use Rattle.wal.proofs.Histories.{record_within, size_of_first}
 
 -- THE FIRST END that names a begin
-pub first_end_none : (m : ℕ) (log : History) → size log ≤ m → first_end m log ≡ None
+pub first_end_none : (m : ℕ) (log : History) → last_lsn log ≤ m → first_end m log ≡ None
 first_end_none m start le = refl
 first_end_none m (log ▸ CheckpointEnd begin ts d) le =
     let older = first_end_none m log (omega arith) in
-    let e : leb m (size log) ≡ false = lt-leb m (size log) (omega arith) in
+    let e : leb m (last_lsn log) ≡ false = lt-leb m (last_lsn log) (omega arith) in
     rw (older, e, and-false (eqb begin m)) refl
 first_end_none m (log ▸ r) le = first_end_none m log (omega arith)
 
@@ -21,16 +21,23 @@ first_end_after m log (CheckpointEnd begin ts d ∷ rs) x e = first_end_after m 
 first_end_after m log (r ∷ rs) x e = first_end_after m (log ▸ r) rs x e
 
 -- the end that is met names m, and none before it does
-pub first_end_met : (records : List LogRecord) (m i : ℕ) (begin : ℕ) (ts : List TableEntry) (d : List (ℕ × ℕ)) → i < length records → m ≤ i → begin ≡ m → first_end m (history (take i records)) ≡ None
-    → history (take (i + 1) records) ≡ history (take i records) ▸ CheckpointEnd begin ts d → Some (ts, d) ≡ first_end m (history records)
-first_end_met records m i begin ts d lt le own none next =
-    let log = history (take i records) in
-    let n : size log ≡ i = size_of_beginning records i (omega arith) in
+-- and one that is found up to an LSN is the first of the log
+first_end_before : (m lsn : ℕ) (log : History) (x : List TableEntry × List (ℕ × ℕ)) → first_end m (first lsn log) ≡ Some x → first_end m log ≡ Some x
+first_end_before m lsn start x e = e
+first_end_before m lsn (log ▸ r) x e =
+    elim (cases_Bool (ltb (last_lsn log) lsn)) [
+      | inl i ↦ sym (ap (λ b. first_end m (cond b (log ▸ r) (first lsn log))) i) ∙ e
+      | inr i ↦ first_end_after m log (r ∷ []) x (first_end_before m lsn log x (sym (ap (λ b. first_end m (cond b (log ▸ r) (first lsn log))) i) ∙ e))
+    ]
+
+pub first_end_met : (log : History) (m lsn : ℕ) (begin : ℕ) (ts : List TableEntry) (d : List (ℕ × ℕ)) → lsn < last_lsn log → m ≤ lsn → begin ≡ m → first_end m (first lsn log) ≡ None
+    → first (lsn + 1) log ≡ first lsn log ▸ CheckpointEnd begin ts d → Some (ts, d) ≡ first_end m log
+first_end_met log m lsn begin ts d lt le own none next =
+    let n : last_lsn (first lsn log) ≡ lsn = size_of_first lsn log (omega arith) in
     let named : eqb begin m ≡ true = eq-eqb begin m own in
-    let behind : leb m (size log) ≡ true = le-leb _ _ (omega (arith, n)) in
-    let here : first_end m (history (take (i + 1) records)) ≡ Some (ts, d) = ap (first_end m) next ∙ (rw (none, named, behind) refl) in
-    let whole : history records ≡ history (take (i + 1) records) ▸▸ drop (i + 1) records = ap history (sym (take-append-drop (i + 1) records)) ∙ after-append start (take (i + 1) records) (drop (i + 1) records) in
-    sym (ap (first_end m) whole ∙ first_end_after m (history (take (i + 1) records)) (drop (i + 1) records) (ts, d) here)
+    let behind : leb m (last_lsn (first lsn log)) ≡ true = le-leb _ _ (omega (arith, n)) in
+    let here : first_end m (first (lsn + 1) log) ≡ Some (ts, d) = ap (first_end m) next ∙ (rw (none, named, behind) refl) in
+    sym (first_end_before m (lsn + 1) log (ts, d) here)
 
 -- THE CHECKPOINT: a begin, and the first end that names it
 abbrev Both : Type 0
@@ -39,12 +46,7 @@ Both = List TableEntry × List (ℕ × ℕ)
 begin_is : (o : Option LogRecord) → is_begin o ≡ true → o ≡ Some CheckpointBegin
 begin_is None h = absurd (false≢true h)
 begin_is (Some CheckpointBegin) h = refl
-begin_is (Some (Update u)) h = absurd (false≢true h)
-begin_is (Some (Compensation c)) h = absurd (false≢true h)
-begin_is (Some (Commit s)) h = absurd (false≢true h)
-begin_is (Some (Abort s)) h = absurd (false≢true h)
-begin_is (Some (End s)) h = absurd (false≢true h)
-begin_is (Some (CheckpointEnd begin ts d)) h = absurd (false≢true h)
+begin_is (Some r) h = absurd (false≢true h)
 
 chosen : (b : Bool) (o : Option Both) (x : Both) → cond b o None ≡ Some x → (b ≡ true) × (o ≡ Some x)
 chosen true o x e = (refl, e)
@@ -59,5 +61,5 @@ checkpoint_ends m log x e = (chosen (is_begin (record_at log m)) (first_end m lo
 pub checkpoint_there : (m : ℕ) (log : History) → record_at log m ≡ Some CheckpointBegin → checkpoint_at m log ≡ first_end m log
 checkpoint_there m log begins = ap (λ o. cond (is_begin o) (first_end m log) None) begins
 
-pub checkpoint_within : (m : ℕ) (log : History) (x : Both) → checkpoint_at m log ≡ Some x → m ≤ size log
+pub checkpoint_within : (m : ℕ) (log : History) (x : Both) → checkpoint_at m log ≡ Some x → m ≤ last_lsn log
 checkpoint_within m log x e = record_within log m CheckpointBegin (checkpoint_begins m log x e)

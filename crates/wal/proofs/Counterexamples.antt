@@ -1,15 +1,15 @@
 -- What each law of records is for: a log that keeps the others alone, and fails.
-use Rattle.std.proofs.Common.{ℕ, ◌≡◌, ◌≢◌, ◌&&◌, ◌||◌, true, false, List, [], ◌∷◌, ◌++◌, Option, Some, None, inl, inr, refl, sym, ◌∙◌, ap, eqb, length, arith, get_or}
+use Rattle.std.proofs.Common.{ℕ, ◌≡◌, ◌≢◌, ◌&&◌, ◌||◌, true, false, [], ◌∷◌, Option, Some, None, inl, inr, refl, sym, ◌∙◌, ap, eqb, length, arith, get_or}
 use Rattle.std.proofs.lemmas.Bool.{false≢true, or_from, and_right}
-use Rattle.wal.specs.Records.{LogRecord, CheckpointBegin, CheckpointEnd, History, start, ◌▸◌, history}
+use Rattle.wal.specs.Records.{LogRecord, CheckpointBegin, CheckpointEnd, History, start, ◌▸◌, LogContent, history}
 use Rattle.wal.specs.Meaning.{replay, winners, pending, undo_next_of}
 use Rattle.wal.specs.Laws.{ChainLaw, FinishLaw, CompensationLaw, BeforeLaw, Strictness, Obeys}
-use Rattle.wal.specs.Tail.{tail_of}
+use Rattle.wal.specs.Tail.{with_tail}
 use Rattle.wal.specs.Hops.{hops}
 use Rattle.wal.specs.Redo.{redo_of}
 use Rattle.wal.specs.Store.{DirtyLaw, PageLaw, store_out}
 use Rattle.wal.specs.Theorems.{replayed_page}
-use Rattle.wal.proofs.Rows.{a, b, U, C, K, E, holding, store_of, active}
+use Rattle.wal.proofs.Rows.{L, a, b, U, C, K, E, holding, store_of, active}
 
 -- the laws of records
 data Law : Type 0 where
@@ -32,9 +32,9 @@ KeepsBut law start = Unit {0}
 KeepsBut law (log ▸ r) = KeepsBut law log × ((other : Law) → other ≢ law → says other log r)
 
 -- without this law, the log and its tail leave in the first cell something else than the winners do
-record Fails (law : Law) (records : List LogRecord) : Type 0 where
-  others : KeepsBut law (history records)
-  differs : replay (history (records ++ tail_of records)) 0 0 ≢ winners (history records) 0 0
+record Fails (law : Law) (log : LogContent) : Type 0 where
+  others : KeepsBut law (history log)
+  differs : replay (history (with_tail log)) 0 0 ≢ winners (history log) 0 0
 
 -- a record that obeys them all
 keeps : (law : Law) (log : History) (r : LogRecord) → Obeys log r → (other : Law) → other ≢ law → says other log r
@@ -53,7 +53,7 @@ nobody : (other : ℕ) → ((eqb 1 other && false) || false) ≡ true → ⊥
 nobody other w = false≢true (sym (or_from (eqb 1 other && false) false (and_right (eqb 1 other) false refl) refl) ∙ w)
 
 -- STRICTNESS. An update over one that is still open: undoing the first takes the second one's value away.
-without_strictness : Fails TheStrictness (U 1 0 0 None a ∷ U 2 0 0 a b ∷ K 2 2 ∷ [])
+without_strictness : Fails TheStrictness (L (U 1 0 0 None a ∷ U 2 0 0 a b ∷ K 2 2 ∷ []))
 without_strictness = record { others = (((tt, keeps TheStrictness start (U 1 0 0 None a) first_update), second), third); differs = λ e. (let f : None ≡ b = e in cc) }
   where
     second : (other : Law) → other ≢ TheStrictness → says other (start ▸ U 1 0 0 None a) (U 2 0 0 a b)
@@ -70,18 +70,18 @@ without_strictness = record { others = (((tt, keeps TheStrictness start (U 1 0 0
     third TheBefore n = tt
     third TheStrictness n = tt
 
-abbrev unstrict : List LogRecord
-unstrict = U 1 0 0 None a ∷ U 2 0 0 a b ∷ K 2 2 ∷ []
+abbrev unstrict : LogContent
+unstrict = L (U 1 0 0 None a ∷ U 2 0 0 a b ∷ K 2 2 ∷ [])
 
 -- so the page after a restart would not keep the page law
 unstrict_out : store_out unstrict (store_of 0 (holding 0 None)) ≡ store_of 0 (holding 4 b)
 unstrict_out = refl
 
-unstrict_page : PageLaw (history (unstrict ++ tail_of unstrict)) (holding 4 b) → ⊥
+unstrict_page : PageLaw (history (with_tail unstrict)) (holding 4 b) → ⊥
 unstrict_page law = (let f : b ≡ None = ap (λ slots. get_or slots 0 None) law.slots_are in cc)
 
 -- COMPENSATION. An end with an update left: nothing undoes it any more.
-without_compensation_of_ends : Fails TheCompensation (U 1 0 0 None a ∷ E 1 1 ∷ [])
+without_compensation_of_ends : Fails TheCompensation (L (U 1 0 0 None a ∷ E 1 1 ∷ []))
 without_compensation_of_ends = record { others = ((tt, keeps TheCompensation start (U 1 0 0 None a) first_update), second); differs = λ e. (let f : a ≡ None = e in cc) }
   where
     second : (other : Law) → other ≢ TheCompensation → says other (start ▸ U 1 0 0 None a) (E 1 1)
@@ -92,7 +92,7 @@ without_compensation_of_ends = record { others = ((tt, keeps TheCompensation sta
     second TheStrictness n = tt
 
 -- A CLR that puts another value there than was before.
-without_compensation : Fails TheCompensation (U 1 0 0 None a ∷ C 1 1 0 0 b ∷ [])
+without_compensation : Fails TheCompensation (L (U 1 0 0 None a ∷ C 1 1 0 0 b ∷ []))
 without_compensation = record { others = ((tt, keeps TheCompensation start (U 1 0 0 None a) first_update), second); differs = λ e. (let f : b ≡ None = e in cc) }
   where
     second : (other : Law) → other ≢ TheCompensation → says other (start ▸ U 1 0 0 None a) (C 1 1 0 0 b)
@@ -103,7 +103,7 @@ without_compensation = record { others = ((tt, keeps TheCompensation start (U 1 
     second TheStrictness n = tt
 
 -- BEFORE. A before image that was never there is what undoing leaves.
-without_before : Fails TheBefore (U 1 0 0 b a ∷ [])
+without_before : Fails TheBefore (L (U 1 0 0 b a ∷ []))
 without_before = record { others = (tt, only); differs = λ e. (let f : b ≡ None = e in cc) }
   where
     only : (other : Law) → other ≢ TheBefore → says other start (U 1 0 0 b a)
@@ -114,7 +114,7 @@ without_before = record { others = (tt, only); differs = λ e. (let f : b ≡ No
     only TheStrictness n = λ other d w. absurd (false≢true w)
 
 -- FINISH. An update behind its transaction's end is no loser's, and no winner's.
-without_finish : Fails TheFinish (E 1 0 ∷ U 1 1 0 None a ∷ [])
+without_finish : Fails TheFinish (L (E 1 0 ∷ U 1 1 0 None a ∷ []))
 without_finish = record { others = ((tt, first), second); differs = λ e. (let f : a ≡ None = e in cc) }
   where
     first : (other : Law) → other ≢ TheFinish → says other start (E 1 0)
@@ -132,8 +132,8 @@ without_finish = record { others = ((tt, first), second); differs = λ e. (let f
     second TheStrictness n = λ other d w. absurd (nobody other w)
 
 -- CHAIN. What the winners leave does not hang on it, but the hops do: one that passes over an update.
-abbrev unchained : List LogRecord
-unchained = U 1 0 0 None a ∷ U 1 0 1 None b ∷ []
+abbrev unchained : LogContent
+unchained = L (U 1 0 0 None a ∷ U 1 0 1 None b ∷ [])
 
 unchained_others : KeepsBut TheChain (history unchained)
 unchained_others = ((tt, keeps TheChain start (U 1 0 0 None a) first_update), second)
@@ -149,11 +149,11 @@ without_chain : hops 1 (history unchained) (undo_next_of 1 (history unchained)) 
 without_chain e = (let f : ◌≡◌ {A = ℕ} 1 2 = ap (λ w. length w.met) e in omega (arith, f))
 
 -- REDO. A page that the dirty page table leaves out, though its image lacks a record, stays as it was.
-redo_left_out : redo_of None 1 (history (U 1 0 0 None a ∷ [])) (holding 0 None) ≢ replayed_page (history (U 1 0 0 None a ∷ [])) 0
+redo_left_out : redo_of None 1 (history (L (U 1 0 0 None a ∷ []))) (holding 0 None) ≢ replayed_page (history (L (U 1 0 0 None a ∷ []))) 0
 redo_left_out e = (let f : ◌≡◌ {A = ℕ} 0 1 = ap (λ page. page.lsn) e in omega (arith, f))
 
 -- INTERRUPTED. A page that is set back behind a checkpoint, whose dirty page table left it out, lacks a record that nobody names.
-set_back : DirtyLaw (history (U 1 0 0 None a ∷ CheckpointBegin ∷ CheckpointEnd 2 (active 1 1 1 ∷ []) [] ∷ [])) 2 0 0 None → ⊥
+set_back : DirtyLaw (history (L (U 1 0 0 None a ∷ CheckpointBegin ∷ CheckpointEnd 2 (active 1 1 1 ∷ []) [] ∷ []))) 2 0 0 None → ⊥
 set_back law =
     elim (law.covers 1 (U 1 0 0 None a) (omega arith) refl refl) [
       | inl older ↦ omega (arith, older)

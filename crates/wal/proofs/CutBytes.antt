@@ -5,14 +5,15 @@ use Rattle.std.specs.List.{AllByRecursion}
 use Rattle.std.proofs.lemmas.List.{append_cancel_left, length-take}
 use Rattle.page.specs.declared.fault.Fault.{Fault}
 use Rattle.page.specs.Store.{StoreContent, AreNumbered}
-use Rattle.wal.specs.Records.{LogRecord, history}
-use Rattle.wal.specs.Tail.{tail_of}
+use Rattle.wal.specs.Records.{LogRecord, LogContent, history, ◌⧺◌, up_to, last_lsn}
+use Rattle.wal.specs.Tail.{tail_of, with_tail}
 use Rattle.wal.specs.Spelling.{body, frame, Fits}
 use Rattle.wal.specs.Frames.{header, next_at}
 use Rattle.wal.specs.Reads.{spellings, log_text, IsTorn}
 use Rattle.wal.specs.Store.{PageLaw, Lawful, Cut}
 use Rattle.wal.specs.Theorems.{Interrupted, GoesOn, CutsSettle, CutsCompose}
-use Rattle.wal.proofs.Lists.{take-append-ge}
+use Rattle.wal.proofs.Histories.{size_of_log}
+use Rattle.wal.proofs.Lists.{take-append-ge, up_to_in_tail}
 use Rattle.wal.proofs.Whole.{frame_next, torn_none}
 use Rattle.wal.proofs.Appended.{tail_fits}
 use Rattle.wal.proofs.Settled.{restart_goes_on}
@@ -66,62 +67,70 @@ spellings-append lsn (x ∷ xs) ys =
     ∙ sym (append_assoc (frame x lsn) (spellings (lsn + 1) xs) (spellings (lsn + length (x ∷ xs)) ys))
 
 -- THE CUT
-module _ (records : List LogRecord) (store : StoreContent) (bytes : List ℕ) (left : StoreContent) (h : Lawful records store) (fits : AllByRecursion Fits records) (few : length records < 2 ^ 64)
-    (c : Cut records store bytes left) where
+module _ (log : LogContent) (store : StoreContent) (bytes : List ℕ) (left : StoreContent) (h : Lawful log store) (fits : AllByRecursion Fits log.records) (few : last_lsn (history log) < 2 ^ 64)
+    (c : Cut log store bytes left) where
   -- the cut's bytes, and then what is missing, spell the log and its tail
-  whole_first : spellings 1 (records ++ tail_of records) ≡ spellings 1 c.whole ++ (c.reads.tail ++ c.missing)
+  whole_first : spellings 1 (with_tail log).records ≡ spellings 1 c.whole.records ++ (c.reads.tail ++ c.missing)
   whole_first =
-      append_cancel_left header (spellings 1 (records ++ tail_of records)) (spellings 1 c.whole ++ (c.reads.tail ++ c.missing))
-      (c.ends ∙ ap (λ (text : List ℕ). text ++ c.missing) c.reads.text ∙ append_assoc (log_text c.whole) c.reads.tail c.missing ∙ append_assoc header (spellings 1 c.whole) (c.reads.tail ++ c.missing))
+      append_cancel_left header (spellings 1 (with_tail log).records) (spellings 1 c.whole.records ++ (c.reads.tail ++ c.missing))
+      (c.ends ∙ ap (λ (text : List ℕ). text ++ c.missing) c.reads.text ∙ append_assoc (log_text c.whole) c.reads.tail c.missing ∙ append_assoc header (spellings 1 c.whole.records) (c.reads.tail ++ c.missing))
 
-  log_first : spellings 1 c.whole ++ c.reads.tail ≡ spellings 1 records ++ c.written
+  log_first : spellings 1 c.whole.records ++ c.reads.tail ≡ spellings 1 log.records ++ c.written
   log_first =
-      append_cancel_left header (spellings 1 c.whole ++ c.reads.tail) (spellings 1 records ++ c.written)
-      (sym (append_assoc header (spellings 1 c.whole) c.reads.tail) ∙ sym c.reads.text ∙ c.begins ∙ append_assoc header (spellings 1 records) c.written)
+      append_cancel_left header (spellings 1 c.whole.records ++ c.reads.tail) (spellings 1 log.records ++ c.written)
+      (sym (append_assoc header (spellings 1 c.whole.records) c.reads.tail) ∙ sym c.reads.text ∙ c.begins ∙ append_assoc header (spellings 1 log.records) c.written)
 
-  past : length records ≤ length c.whole
-  past = as_many 1 records c.whole c.written c.reads.tail fits c.reads.each (omega (arith, few)) c.reads.torn_tail log_first
+  past : length log.records ≤ length c.whole.records
+  past = as_many 1 log.records c.whole.records c.written c.reads.tail fits c.reads.each (omega (arith, few, size_of_log log)) c.reads.torn_tail log_first
 
   -- the records up to the cut have spellings
-  all_fit : AllByRecursion Fits (take (length c.whole) (records ++ tail_of records))
+  all_fit : AllByRecursion Fits (take (length c.whole.records) (with_tail log).records)
   all_fit =
-      let k : ℕ = length c.whole - length records in
-      let e : take (length c.whole) (records ++ tail_of records) ≡ records ++ take k (tail_of records) = take-append-ge (length c.whole) records (tail_of records) past in
+      let k : ℕ = length c.whole.records - length log.records in
+      let e : take (length c.whole.records) (with_tail log).records ≡ log.records ++ take k (tail_of log) = take-append-ge (length c.whole.records) log.records (tail_of log) past in
       subst (λ xs. AllByRecursion Fits xs) (sym e)
-      (tail_fits records k (omega (arith, ap length e, length-take (length c.whole) (records ++ tail_of records), c.reads.few)) h.log fits)
+      (tail_fits log k (omega (arith, ap length e, length-take (length c.whole.records) (with_tail log).records, c.reads.few, size_of_log c.whole)) h.log fits)
 
-  whole_is : c.whole ≡ take (length c.whole) (records ++ tail_of records)
-  whole_is = beginning 1 (records ++ tail_of records) c.whole (c.reads.tail ++ c.missing) all_fit c.reads.each (omega (arith, c.reads.few)) whole_first
+  whole_is : c.whole ≡ up_to (last_lsn (history c.whole)) (with_tail log)
+  whole_is =
+      ap (λ xs. record { records = xs })
+      (beginning 1 (with_tail log).records c.whole.records (c.reads.tail ++ c.missing) all_fit c.reads.each (omega (arith, c.reads.few, size_of_log c.whole)) whole_first
+      ∙ ap (λ n. take n (with_tail log).records) (sym (size_of_log c.whole)))
 
-  pub cut_interrupted : AreNumbered left.pages → Interrupted records store (length c.whole) left
+  -- the cut is not below the log's end
+  past_log : last_lsn (history log) ≤ last_lsn (history c.whole)
+  past_log = omega (arith, past, size_of_log log, size_of_log c.whole)
+
+  pub cut_interrupted : AreNumbered left.pages → Interrupted log store (last_lsn (history c.whole)) left
   cut_interrupted numbered =
       record {
-        past = past;
+        past = past_log;
         numbered = numbered;
         master = c.master;
         count = c.count;
-        pages = subst (λ xs. All (PageLaw (history xs)) left.pages) whole_is c.pages;
+        pages = subst (λ l. All (PageLaw (history l)) left.pages) whole_is c.pages;
         not_older = c.not_older;
       }
 
-  pub cut_goes_on : AreNumbered store.pages → AreNumbered left.pages → GoesOn records store c.whole left
+  pub cut_goes_on : AreNumbered store.pages → AreNumbered left.pages → GoesOn log store c.whole left
   cut_goes_on numbered left_numbered =
-      subst (λ xs. GoesOn records store xs left) (sym whole_is) (restart_goes_on records store (length c.whole) left numbered h (cut_interrupted left_numbered))
+      subst (λ l. GoesOn log store l left) (sym whole_is) (restart_goes_on log store (last_lsn (history c.whole)) left numbered h (cut_interrupted left_numbered))
 
   -- the text of the cut's records goes on from that of the log's
-  text_goes_on : (rest : List ℕ) → log_text c.whole ++ rest ≡ log_text records ++ (spellings (1 + length records) (take (length c.whole - length records) (tail_of records)) ++ rest)
+  text_goes_on : (rest : List ℕ) → log_text c.whole ++ rest ≡ log_text log ++ (spellings (1 + length log.records) (take (length c.whole.records - length log.records) (tail_of log)) ++ rest)
   text_goes_on rest =
-      let k : ℕ = length c.whole - length records in
-      let e : c.whole ≡ records ++ take k (tail_of records) = whole_is ∙ take-append-ge (length c.whole) records (tail_of records) past in
-      let f : log_text c.whole ≡ header ++ (spellings 1 records ++ spellings (1 + length records) (take k (tail_of records))) =
-      ap log_text e ∙ ap (λ (x : List ℕ). header ++ x) (spellings-append 1 records (take k (tail_of records))) in
+      let k : ℕ = length c.whole.records - length log.records in
+      let e : c.whole ≡ log ⧺ take k (tail_of log) =
+      whole_is ∙ up_to_in_tail (last_lsn (history c.whole)) log past_log ∙ ap (λ n. log ⧺ take (n - length log.records) (tail_of log)) (size_of_log c.whole) in
+      let f : log_text c.whole ≡ header ++ (spellings 1 log.records ++ spellings (1 + length log.records) (take k (tail_of log))) =
+      ap log_text e ∙ ap (λ (x : List ℕ). header ++ x) (spellings-append 1 log.records (take k (tail_of log))) in
       ap (λ (x : List ℕ). x ++ rest) f ∙ simp append_assoc
 
-  pub cut_again : AreNumbered store.pages → AreNumbered left.pages → (later : List ℕ) (later_left : StoreContent) → Cut c.whole left later later_left → Cut records store later later_left
+  pub cut_again : AreNumbered store.pages → AreNumbered left.pages → (later : List ℕ) (later_left : StoreContent) → Cut c.whole left later later_left → Cut log store later later_left
   cut_again numbered left_numbered later later_left d =
       let g = cut_goes_on numbered left_numbered in
       record {
-        written = spellings (1 + length records) (take (length c.whole - length records) (tail_of records)) ++ d.written;
+        written = spellings (1 + length log.records) (take (length c.whole.records - length log.records) (tail_of log)) ++ d.written;
         missing = d.missing;
         begins = d.begins ∙ text_goes_on d.written;
         ends = sym (ap log_text g.same_log) ∙ d.ends;
@@ -136,8 +145,8 @@ module _ (records : List LogRecord) (store : StoreContent) (bytes : List ℕ) (l
 
 -- what the cut leaves goes on, its records being a beginning
 pub cuts_settle : CutsSettle
-cuts_settle records store text torn bytes left read numbered left_numbered h c = cut_goes_on records store bytes left h read.each read.few c numbered left_numbered
+cuts_settle log store text torn bytes left read numbered left_numbered h c = cut_goes_on log store bytes left h read.each read.few c numbered left_numbered
 
 pub cuts_compose : CutsCompose
-cuts_compose records store text torn bytes left read numbered left_numbered h c later later_left d =
-    cut_again records store bytes left h read.each read.few c numbered left_numbered later later_left d
+cuts_compose log store text torn bytes left read numbered left_numbered h c later later_left d =
+    cut_again log store bytes left h read.each read.few c numbered left_numbered later later_left d

@@ -1,48 +1,31 @@
 -- A field that is read is the field that was written, and what was written is read again.
-use Rattle.std.proofs.Common.{◌≡◌, ℕ, zero, suc, ◌+◌, ◌^◌, ◌<◌, ◌≤◌, Bool, true, false, cond, ltb, eqb, eqb-true, ne_eqb, List, [], ◌∷◌, ◌++◌, length, get_or, take, drop, Option, Some, None, refl, sym, ap, subst, ◌∙◌, append_assoc, arith, inl, inr}
+use Rattle.std.proofs.Common.{◌≡◌, ℕ, zero, suc, ◌^◌, ◌<◌, ◌≤◌, Bool, true, false, cond, ltb, eqb, eqb-true, ne_eqb, List, [], ◌∷◌, ◌++◌, length, take, drop, Option, Some, None, refl, sym, ap, subst, ◌∙◌, append_assoc, arith, inl, inr}
 use Rattle.std.specs.Int.{Width, w32, w64, byte_len, from_be_bytes, to_be_bytes}
-use Rattle.std.proofs.lemmas.Bool.{cases_lt, ltb-false, le-ltb}
-use Rattle.std.proofs.lemmas.List.{take_at, drop_at, take-append-drop, length-append, length-take, get_or-drop, get_or-take, get_or_past}
+use Rattle.std.proofs.lemmas.Bool.{ltb-false, le-ltb}
+use Rattle.std.proofs.lemmas.List.{take_at, drop_at, take-append-drop, length-append, length-take}
 use Rattle.std.proofs.lemmas.Nat.{be_bytes_4, be_bytes_8, from_be_bytes-to_be_bytes_4, from_be_bytes-to_be_bytes_8}
-use Rattle.page.specs.Image.{Image}
+use Rattle.std.proofs.lemmas.Option.{same_Some}
+use Rattle.page.specs.Image.{Image, FitsSlot}
+use Rattle.page.proofs.BigEndian.{AreBytes, AreBytes-take, AreBytes-drop}
 use Rattle.wal.specs.Records.{PlainRecord}
-use Rattle.wal.specs.Spelling.{image, plain, FitsImage, FitsPlain}
+use Rattle.wal.specs.Spelling.{image, plain, FitsPlain}
 use Rattle.wal.specs.Reading.{◌>>=◌, number_at, tx_at, slot_at, image_at, plain_at}
 use Rattle.wal.proofs.Loop.{chosen}
 
-abbrev pub IsBytes : List ℕ → Type 0
-IsBytes bytes = (i : ℕ) → get_or bytes i 0 < 256
-
-pub IsBytes-drop : (n : ℕ) (bytes : List ℕ) → IsBytes bytes → IsBytes (drop n bytes)
-IsBytes-drop n bytes h i = rw get_or-drop (h (n + i))
-
-pub IsBytes-take : (n : ℕ) (bytes : List ℕ) → IsBytes bytes → IsBytes (take n bytes)
-IsBytes-take n bytes h i =
-    elim (cases_lt i n) [
-      | inl lt ↦ rw (get_or-take n bytes i 0 lt) (h i)
-      | inr le ↦ rw (get_or_past (take n bytes) i 0 (omega (arith, length-take n bytes))) (omega arith)
-    ]
-
-pub IsBytes-rest : (b : ℕ) (bytes : List ℕ) → IsBytes (b ∷ bytes) → IsBytes bytes
-IsBytes-rest b bytes h i = h (suc i)
-
-abbrev some_of : {A : Type 0} → A → Option A
-some_of x = Some x
-
-pub some_is : {A : Type 0} (x y : A) → some_of x ≡ some_of y → x ≡ y
-some_is x y e = cc
+pub AreBytes-rest : (b : ℕ) (bytes : List ℕ) → AreBytes (b ∷ bytes) → AreBytes bytes
+AreBytes-rest b bytes h i = h (suc i)
 
 -- what a reader took from the front
 pub record Takes (bytes text rest : List ℕ) : Type 0 where
   pub parts : bytes ≡ text ++ rest
-  pub rest_fits : IsBytes rest
+  pub rest_fits : AreBytes rest
 
 pub Takes-then : (a x b y c : List ℕ) → Takes a x b → Takes b y c → Takes a (x ++ y) c
 Takes-then a x b y c p q = record { parts = p.parts ∙ ap (λ (t : List ℕ). x ++ t) q.parts ∙ sym (append_assoc x y c); rest_fits = q.rest_fits }
 
 -- a reader and a spelling belong together
 pub record IsField {X : Type 0} (at : List ℕ → Option (X × List ℕ)) (spell : X → List ℕ) (Fit : X → Type 0) : Type 0 where
-  pub takes : (bytes : List ℕ) (x : X × List ℕ) → IsBytes bytes → at bytes ≡ Some x → Takes bytes (spell x.0) x.1 × Fit x.0
+  pub takes : (bytes : List ℕ) (x : X × List ℕ) → AreBytes bytes → at bytes ≡ Some x → Takes bytes (spell x.0) x.1 × Fit x.0
   pub again : (x : X) (rest : List ℕ) → Fit x → at (spell x ++ rest) ≡ Some (x, rest)
 
 -- the first of several fields that were read
@@ -58,7 +41,7 @@ bind_some (Some x) f y e = (x, refl, e)
 bind_some None f y e = absurd cc
 
 pub first_of_all : {X Y : Type 0} (at : List ℕ → Option (X × List ℕ)) (spell : X → List ℕ) (Fit : X → Type 0) (field : IsField at spell Fit) (bytes : List ℕ) (f : X × List ℕ → Option Y) (y : Y)
-    → IsBytes bytes → (at bytes >>= f) ≡ Some y → First bytes spell Fit f y
+    → AreBytes bytes → (at bytes >>= f) ≡ Some y → First bytes spell Fit f y
 first_of_all at spell Fit field bytes f y fits e =
     let b = bind_some (at bytes) f y e in
     let t = field.takes bytes b.0 fits b.1 in
@@ -68,9 +51,9 @@ first_of_all at spell Fit field bytes f y fits e =
 
 pub record IsWide (w : Width) (limit : ℕ) : Type 0 where
   pub len : (n : ℕ) → length (to_be_bytes w n) ≡ byte_len w
-  pub back : (bytes : List ℕ) → length bytes ≡ byte_len w → IsBytes bytes → to_be_bytes w (from_be_bytes w bytes) ≡ bytes
+  pub back : (bytes : List ℕ) → length bytes ≡ byte_len w → AreBytes bytes → to_be_bytes w (from_be_bytes w bytes) ≡ bytes
   pub again : (n : ℕ) → n < limit → from_be_bytes w (to_be_bytes w n) ≡ n
-  pub below : (bytes : List ℕ) → IsBytes bytes → from_be_bytes w bytes < limit
+  pub below : (bytes : List ℕ) → AreBytes bytes → from_be_bytes w bytes < limit
 
 pub wide32 : IsWide w32 (2 ^ 32)
 wide32 = record {
@@ -97,13 +80,13 @@ pub guard_some : {A : Type 0} (b : Bool) (x y : A) → cond b None (Some x) ≡ 
 guard_some true x y e = absurd cc
 guard_some false x y e = (refl, cc)
 
-number_takes : (w : Width) (limit : ℕ) (wide : IsWide w limit) (bytes : List ℕ) (x : ℕ × List ℕ) → IsBytes bytes → number_at w bytes ≡ Some x → Takes bytes (to_be_bytes w x.0) x.1 × (x.0 < limit)
+number_takes : (w : Width) (limit : ℕ) (wide : IsWide w limit) (bytes : List ℕ) (x : ℕ × List ℕ) → AreBytes bytes → number_at w bytes ≡ Some x → Takes bytes (to_be_bytes w x.0) x.1 × (x.0 < limit)
 number_takes w limit wide bytes x fits e =
     let g = guard_some (ltb (length bytes) (byte_len w)) (from_be_bytes w (take (byte_len w) bytes), drop (byte_len w) bytes) x e in
     let long : byte_len w ≤ length bytes = ltb-false _ _ g.0 in
-    let front : to_be_bytes w (from_be_bytes w (take (byte_len w) bytes)) ≡ take (byte_len w) bytes = wide.back (take (byte_len w) bytes) (omega (arith, length-take (byte_len w) bytes)) (IsBytes-take (byte_len w) bytes fits) in
+    let front : to_be_bytes w (from_be_bytes w (take (byte_len w) bytes)) ≡ take (byte_len w) bytes = wide.back (take (byte_len w) bytes) (omega (arith, length-take (byte_len w) bytes)) (AreBytes-take (byte_len w) bytes fits) in
     subst (λ (y : ℕ × List ℕ). Takes bytes (to_be_bytes w y.0) y.1 × (y.0 < limit)) g.1
-    (record { parts = rw front (sym (take-append-drop (byte_len w) bytes)); rest_fits = IsBytes-drop (byte_len w) bytes fits }, wide.below (take (byte_len w) bytes) (IsBytes-take (byte_len w) bytes fits))
+    (record { parts = rw front (sym (take-append-drop (byte_len w) bytes)); rest_fits = AreBytes-drop (byte_len w) bytes fits }, wide.below (take (byte_len w) bytes) (AreBytes-take (byte_len w) bytes fits))
 
 number_again : (w : Width) (limit : ℕ) (wide : IsWide w limit) (n : ℕ) (rest : List ℕ) → n < limit → number_at w (to_be_bytes w n ++ rest) ≡ Some (n, rest)
 number_again w limit wide n rest lt =
@@ -142,12 +125,12 @@ tx_field = record {
       rw (field32.again n rest fits.1, e) refl;
 }
 
-slot_takes : (bytes : List ℕ) (x : ℕ × List ℕ) → IsBytes bytes → slot_at bytes ≡ Some x → Takes bytes (x.0 ∷ []) x.1 × (x.0 ≤ 15)
+slot_takes : (bytes : List ℕ) (x : ℕ × List ℕ) → AreBytes bytes → slot_at bytes ≡ Some x → Takes bytes (x.0 ∷ []) x.1 × (x.0 ≤ 15)
 unfolding slot_at
 slot_takes [] x fits e = absurd cc
 slot_takes (slot ∷ rest) x fits e =
     let g = guard_some (ltb 15 slot) (slot, rest) x e in
-    subst (λ (y : ℕ × List ℕ). Takes (slot ∷ rest) (y.0 ∷ []) y.1 × (y.0 ≤ 15)) g.1 (record { parts = refl; rest_fits = IsBytes-rest slot rest fits }, ltb-false _ _ g.0)
+    subst (λ (y : ℕ × List ℕ). Takes (slot ∷ rest) (y.0 ∷ []) y.1 × (y.0 ≤ 15)) g.1 (record { parts = refl; rest_fits = AreBytes-rest slot rest fits }, ltb-false _ _ g.0)
 
 pub slot_field : IsField slot_at (λ slot. slot ∷ []) (λ slot. slot ≤ 15)
 unfolding slot_at
@@ -156,15 +139,15 @@ slot_field = record {
   again = λ n rest le. rw (le-ltb _ _ le) refl;
 }
 
-image_takes : (bytes : List ℕ) (x : Image × List ℕ) → IsBytes bytes → image_at bytes ≡ Some x → Takes bytes (image x.0) x.1 × FitsImage x.0
+image_takes : (bytes : List ℕ) (x : Image × List ℕ) → AreBytes bytes → image_at bytes ≡ Some x → Takes bytes (image x.0) x.1 × FitsSlot x.0
 unfolding image_at
 image_takes [] x fits e = absurd cc
 image_takes (size ∷ rest) x fits e =
-    let there = IsBytes-rest size rest fits in
+    let there = AreBytes-rest size rest fits in
     elim (chosen (eqb size 255) _ _ _ e) [
       | inl p ↦
-          (let none : Takes (size ∷ rest) (image None) rest × FitsImage None = (record { parts = ap (λ s. s ∷ rest) (eqb-true size 255 p.0); rest_fits = there }, tt) in
-          subst (λ (y : Image × List ℕ). Takes (size ∷ rest) (image y.0) y.1 × FitsImage y.0) (some_is (None, rest) x p.1) none)
+          (let none : Takes (size ∷ rest) (image None) rest × FitsSlot None = (record { parts = ap (λ s. s ∷ rest) (eqb-true size 255 p.0); rest_fits = there }, tt) in
+          subst (λ (y : Image × List ℕ). Takes (size ∷ rest) (image y.0) y.1 × FitsSlot y.0) (same_Some (None, rest) x p.1) none)
       | inr p ↦
           elim (chosen (ltb 48 size) _ _ _ p.1) [
             | inl q ↦ absurd cc
@@ -174,11 +157,11 @@ image_takes (size ∷ rest) x fits e =
                 let low : size ≤ 48 = ltb-false _ _ q.0 in
                 let len : length (take size rest) ≡ size = omega (arith, length-take size rest) in
                 let parts : ◌≡◌ {A = List ℕ} (size ∷ rest) (length (take size rest) ∷ (take size rest ++ drop size rest)) = rw (len, take-append-drop size rest) refl in
-                subst (λ (y : Image × List ℕ). Takes (size ∷ rest) (image y.0) y.1 × FitsImage y.0) g.1 (record { parts = parts; rest_fits = IsBytes-drop size rest there }, omega (arith, len)))
+                subst (λ (y : Image × List ℕ). Takes (size ∷ rest) (image y.0) y.1 × FitsSlot y.0) g.1 (record { parts = parts; rest_fits = AreBytes-drop size rest there }, omega (arith, len)))
           ]
     ]
 
-image_again : (o : Image) (rest : List ℕ) → FitsImage o → image_at (image o ++ rest) ≡ Some (o, rest)
+image_again : (o : Image) (rest : List ℕ) → FitsSlot o → image_at (image o ++ rest) ≡ Some (o, rest)
 unfolding image_at
 image_again None rest h = refl
 image_again (Some value) rest h =
@@ -187,19 +170,19 @@ image_again (Some value) rest h =
     let long : ltb (length (value ++ rest)) (length value) ≡ false = le-ltb _ _ (omega (arith, length-append value rest)) in
     rw (not_absent, low, long, take_at value rest (length value) refl, drop_at value rest (length value) refl) refl
 
-pub image_field : IsField image_at image FitsImage
+pub image_field : IsField image_at image FitsSlot
 image_field = record { takes = image_takes; again = image_again }
 
 -- ---- whole records
 
-plain_takes : (bytes : List ℕ) (x : PlainRecord × List ℕ) → IsBytes bytes → plain_at bytes ≡ Some x → Takes bytes (plain x.0) x.1 × FitsPlain x.0
+plain_takes : (bytes : List ℕ) (x : PlainRecord × List ℕ) → AreBytes bytes → plain_at bytes ≡ Some x → Takes bytes (plain x.0) x.1 × FitsPlain x.0
 unfolding plain_at
 plain_takes bytes x fits e =
     let a = first_of_all tx_at (to_be_bytes w32) FitsTx tx_field bytes (λ tx. number_at w64 tx.1 >>= λ prev. Some (record { tx = tx.0; prev = prev.0 }, prev.1)) x fits e in
     let b = first_of_all (number_at w64) (to_be_bytes w64) (λ n. n < 2 ^ 64) field64 a.rest (λ prev. Some (record { tx = a.value; prev = prev.0 }, prev.1)) x a.takes.rest_fits a.after in
     let both = Takes-then bytes (to_be_bytes w32 a.value) a.rest (to_be_bytes w64 b.value) b.rest a.takes b.takes in
     let made : PlainRecord × List ℕ = (record { tx = a.value; prev = b.value }, b.rest) in
-    subst (λ (y : PlainRecord × List ℕ). Takes bytes (plain y.0) y.1 × FitsPlain y.0) (some_is made x b.after) (both, record { some_tx = a.fits.0; tx = a.fits.1; prev = b.fits })
+    subst (λ (y : PlainRecord × List ℕ). Takes bytes (plain y.0) y.1 × FitsPlain y.0) (same_Some made x b.after) (both, record { some_tx = a.fits.0; tx = a.fits.1; prev = b.fits })
 
 plain_again : (r : PlainRecord) (rest : List ℕ) → FitsPlain r → plain_at (plain r ++ rest) ≡ Some (r, rest)
 unfolding plain_at

@@ -1,10 +1,10 @@
 -- The lists that a restart goes by: the losers with nothing pending, and the pending updates.
-use Rattle.std.proofs.Common.{ℕ, suc, zero, ◌≡◌, ◌≢◌, ◌+◌, ◌<◌, ◌≤◌, Bool, true, false, cond, List, [], ◌∷◌, Some, refl, sym, ap, ap₂, ◌∙◌, subst, inl, inr, arith, eq-eqb, ne_eqb, eqb-true, eqb}
+use Rattle.std.proofs.Common.{ℕ, suc, zero, ◌≡◌, ◌≢◌, ◌+◌, ◌<◌, ◌≤◌, Bool, true, false, cond, List, [], ◌∷◌, Option, Some, None, refl, sym, ap, ap₂, ◌∙◌, subst, inl, inr, arith, eq-eqb, ne_eqb, eqb-true, eqb}
 use Rattle.std.specs.Prelude.{filter}
 use Rattle.std.proofs.lemmas.Bool.{cond_both, cases_Bool, cases_eq, false≢true, or_cases, or_from, both_ways, false_from_ne_true}
-use Rattle.wal.specs.Records.{UpdateRecord, LogRecord, Update, Compensation, Commit, Abort, End, CheckpointBegin, CheckpointEnd, History, start, ◌▸◌, size, record_at}
-use Rattle.wal.specs.Meaning.{is_of, has}
-use Rattle.wal.specs.Tail.{numbers_from, tx_of, above_all, updates_where, is_lowest, is_among, is_empty}
+use Rattle.wal.specs.Records.{UpdateRecord, LogRecord, Update, Compensation, History, start, ◌▸◌, last_lsn, record_at}
+use Rattle.wal.specs.Meaning.{owner, is_owned_by, is_of, has}
+use Rattle.wal.specs.Tail.{numbers_from, number_or_0, tx_of, above_all, updates_where, is_lowest, is_among, is_empty}
 use Rattle.wal.proofs.Histories.{record_last, record_more, record_within}
 use Rattle.wal.proofs.Stacks.{Falls}
 
@@ -77,14 +77,12 @@ one_number p q n (suc k) t e h a b =
     ]
 
 -- TRANSACTION NUMBERS
-is_of_tx : (t : ℕ) (r : LogRecord) → is_of t r ≡ true → tx_of r ≡ t
-is_of_tx t (Update u) e = eqb-true u.tx t e
-is_of_tx t (Compensation c) e = eqb-true c.tx t e
-is_of_tx t (Commit s) e = eqb-true s.tx t e
-is_of_tx t (Abort s) e = eqb-true s.tx t e
-is_of_tx t (End s) e = eqb-true s.tx t e
-is_of_tx t CheckpointBegin e = absurd (false≢true e)
-is_of_tx t (CheckpointEnd n ts d) e = absurd (false≢true e)
+pub is_of_tx : (t : ℕ) (r : LogRecord) → is_of t r ≡ true → tx_of r ≡ t
+is_of_tx t r = owned (owner r)
+  where
+    owned : (o : Option ℕ) → is_owned_by t o ≡ true → number_or_0 o ≡ t
+    owned None e = absurd (false≢true e)
+    owned (Some x) e = eqb-true x t e
 
 -- a transaction of the log is below the bound
 pub tx_below : (t : ℕ) (log : History) → has (is_of t) log ≡ true → t < above_all log
@@ -134,12 +132,12 @@ Each-more P Q [] h e = tt
 Each-more P Q (x ∷ xs) h e = (h x.0 x.1 e.0, Each-more P Q xs h e.1)
 
 -- their LSNs are of the log
-pub updates_within : (p : ℕ → UpdateRecord → Bool) (log : History) → Each (λ n u. n ≤ size log) (updates_where p log)
+pub updates_within : (p : ℕ → UpdateRecord → Bool) (log : History) → Each (λ n u. n ≤ last_lsn log) (updates_where p log)
 updates_within p start = tt
 updates_within p (log ▸ Update u) =
-    let older : Each (λ n u. n ≤ suc (size log)) (updates_where p log) = Each-more (λ n u. n ≤ size log) (λ n u. n ≤ suc (size log)) (updates_where p log) (λ n u h. omega arith) (updates_within p log) in
-    cond_both (p (suc (size log)) u) ((suc (size log), u) ∷ updates_where p log) (updates_where p log) (λ xs. Each (λ n u. n ≤ suc (size log)) xs) (λ _. (omega arith, older)) (λ _. older)
-updates_within p (log ▸ _) = Each-more (λ n u. n ≤ size log) (λ n u. n ≤ suc (size log)) (updates_where p log) (λ n u h. omega arith) (updates_within p log)
+    let older : Each (λ n u. n ≤ suc (last_lsn log)) (updates_where p log) = Each-more (λ n u. n ≤ last_lsn log) (λ n u. n ≤ suc (last_lsn log)) (updates_where p log) (λ n u h. omega arith) (updates_within p log) in
+    cond_both (p (suc (last_lsn log)) u) ((suc (last_lsn log), u) ∷ updates_where p log) (updates_where p log) (λ xs. Each (λ n u. n ≤ suc (last_lsn log)) xs) (λ _. (omega arith, older)) (λ _. older)
+updates_within p (log ▸ _) = Each-more (λ n u. n ≤ last_lsn log) (λ n u. n ≤ suc (last_lsn log)) (updates_where p log) (λ n u h. omega arith) (updates_within p log)
 
 -- what is known where one of them is the first
 pub record Leading (p : ℕ → UpdateRecord → Bool) (log : History) (x : ℕ × UpdateRecord) (xs : List (ℕ × UpdateRecord)) : Type 0 where
@@ -149,18 +147,18 @@ pub record Leading (p : ℕ → UpdateRecord → Bool) (log : History) (x : ℕ 
   pub highest : (m : ℕ) (w : UpdateRecord) → record_at log m ≡ Some (Update w) → p m w ≡ true → m ≤ x.0
 
 Leading-more : (p : ℕ → UpdateRecord → Bool) (log : History) (r : LogRecord) (x : ℕ × UpdateRecord) (xs : List (ℕ × UpdateRecord))
-    → ((w : UpdateRecord) → r ≡ Update w → p (suc (size log)) w ≡ false) → Leading p log x xs → Leading p (log ▸ r) x xs
+    → ((w : UpdateRecord) → r ≡ Update w → p (suc (last_lsn log)) w ≡ false) → Leading p log x xs → Leading p (log ▸ r) x xs
 Leading-more p log r x xs off l =
     record {
       found = record_more log r x.0 (Update x.1) l.found;
       passes = l.passes;
       above = l.above;
       highest = λ m w f g.
-          elim (cases_Bool (eqb m (suc (size log)))) [
+          elim (cases_Bool (eqb m (suc (last_lsn log)))) [
             | inl e ↦
                 (let f' : Some r ≡ Some (Update w) = rw e at f in
                 let i : r ≡ Update w = cc in
-                absurd (both_ways (p (suc (size log)) w) (off w i) (ap (λ n. p n w) (sym (eqb-true m (suc (size log)) e)) ∙ g)))
+                absurd (both_ways (p (suc (last_lsn log)) w) (off w i) (ap (λ n. p n w) (sym (eqb-true m (suc (last_lsn log)) e)) ∙ g)))
             | inr e ↦ l.highest m w (rw e at f) g
           ];
     }
@@ -169,34 +167,29 @@ Leading-more p log r x xs off l =
 pub leading : (p : ℕ → UpdateRecord → Bool) (log : History) (x : ℕ × UpdateRecord) (xs : List (ℕ × UpdateRecord)) → updates_where p log ≡ x ∷ xs → Leading p log x xs
 leading p start x xs e = absurd (cc)
 leading p (log ▸ Update u) x xs e =
-    elim (cases_Bool (p (suc (size log)) u)) [
+    elim (cases_Bool (p (suc (last_lsn log)) u)) [
       | inl i ↦
-          (let e' : (suc (size log), u) ∷ updates_where p log ≡ x ∷ xs = rw i at e in
-          let j : ◌≡◌ {A = ℕ × UpdateRecord} (suc (size log), u) x = cc in
+          (let e' : (suc (last_lsn log), u) ∷ updates_where p log ≡ x ∷ xs = rw i at e in
+          let j : ◌≡◌ {A = ℕ × UpdateRecord} (suc (last_lsn log), u) x = cc in
           let k : updates_where p log ≡ xs = cc in
-          let n : suc (size log) ≡ x.0 = ap (λ y. y.0) j in
+          let n : suc (last_lsn log) ≡ x.0 = ap (λ y. y.0) j in
           let v : u ≡ x.1 = ap (λ y. y.1) j in
           record {
             found = ap (record_at (log ▸ Update u)) (sym n) ∙ record_last log (Update u) ∙ ap (λ y. Some (Update y)) v;
             passes = sym (ap₂ p n v) ∙ i;
-            above = subst (λ ys. Each (λ m w. m < x.0) ys) k (Each-more (λ m w. m ≤ size log) (λ m w. m < x.0) (updates_where p log) (λ m w h. omega (arith, n)) (updates_within p log));
+            above = subst (λ ys. Each (λ m w. m < x.0) ys) k (Each-more (λ m w. m ≤ last_lsn log) (λ m w. m < x.0) (updates_where p log) (λ m w h. omega (arith, n)) (updates_within p log));
             highest = λ m w f g. omega (arith, n, record_within (log ▸ Update u) m (Update w) f);
           })
       | inr i ↦
-          Leading-more p log (Update u) x xs (λ w f. (let j : u ≡ w = cc in ap (p (suc (size log))) (sym j) ∙ i)) (leading p log x xs (rw i at e))
+          Leading-more p log (Update u) x xs (λ w f. (let j : u ≡ w = cc in ap (p (suc (last_lsn log))) (sym j) ∙ i)) (leading p log x xs (rw i at e))
     ]
-leading p (log ▸ Compensation c) x xs e = Leading-more p log (Compensation c) x xs (λ w f. absurd (cc)) (leading p log x xs e)
-leading p (log ▸ Commit s) x xs e = Leading-more p log (Commit s) x xs (λ w f. absurd (cc)) (leading p log x xs e)
-leading p (log ▸ Abort s) x xs e = Leading-more p log (Abort s) x xs (λ w f. absurd (cc)) (leading p log x xs e)
-leading p (log ▸ End s) x xs e = Leading-more p log (End s) x xs (λ w f. absurd (cc)) (leading p log x xs e)
-leading p (log ▸ CheckpointBegin) x xs e = Leading-more p log CheckpointBegin x xs (λ w f. absurd (cc)) (leading p log x xs e)
-leading p (log ▸ CheckpointEnd n ts d) x xs e = Leading-more p log (CheckpointEnd n ts d) x xs (λ w f. absurd (cc)) (leading p log x xs e)
+leading p (log ▸ r) x xs e = Leading-more p log r x xs (λ w f. absurd (cc)) (leading p log x xs e)
 
 -- where two tests agree they choose the same
-pub updates_same : (p q : ℕ → UpdateRecord → Bool) (log : History) → ((m : ℕ) (w : UpdateRecord) → m ≤ size log → q m w ≡ p m w) → updates_where q log ≡ updates_where p log
+pub updates_same : (p q : ℕ → UpdateRecord → Bool) (log : History) → ((m : ℕ) (w : UpdateRecord) → m ≤ last_lsn log → q m w ≡ p m w) → updates_where q log ≡ updates_where p log
 updates_same p q start h = refl
 updates_same p q (log ▸ Update u) h =
-    ap₂ (λ b xs. cond b ((suc (size log), u) ∷ xs) xs) (h (suc (size log)) u (omega arith)) (updates_same p q log (λ m w o. h m w (omega arith)))
+    ap₂ (λ b xs. cond b ((suc (last_lsn log), u) ∷ xs) xs) (h (suc (last_lsn log)) u (omega arith)) (updates_same p q log (λ m w o. h m w (omega arith)))
 updates_same p q (log ▸ _) h = updates_same p q log (λ m w o. h m w (omega arith))
 
 -- where the first no longer passes, the others are left
@@ -204,18 +197,18 @@ pub first_update_gone : (p q : ℕ → UpdateRecord → Bool) (log : History) (x
     → ((m : ℕ) (w : UpdateRecord) → m ≢ x.0 → q m w ≡ p m w) → q x.0 x.1 ≡ false → updates_where q log ≡ xs
 first_update_gone p q start x xs e h g = absurd (cc)
 first_update_gone p q (log ▸ Update u) x xs e h g =
-    elim (cases_Bool (p (suc (size log)) u)) [
+    elim (cases_Bool (p (suc (last_lsn log)) u)) [
       | inl i ↦
-          (let e' : (suc (size log), u) ∷ updates_where p log ≡ x ∷ xs = rw i at e in
-          let j : ◌≡◌ {A = ℕ × UpdateRecord} (suc (size log), u) x = cc in
+          (let e' : (suc (last_lsn log), u) ∷ updates_where p log ≡ x ∷ xs = rw i at e in
+          let j : ◌≡◌ {A = ℕ × UpdateRecord} (suc (last_lsn log), u) x = cc in
           let k : updates_where p log ≡ xs = cc in
-          let n : suc (size log) ≡ x.0 = ap (λ y. y.0) j in
-          let o : q (suc (size log)) u ≡ false = ap (λ y. q y.0 y.1) j ∙ g in
+          let n : suc (last_lsn log) ≡ x.0 = ap (λ y. y.0) j in
+          let o : q (suc (last_lsn log)) u ≡ false = ap (λ y. q y.0 y.1) j ∙ g in
           rw o (updates_same p q log (λ m w l. h m w (λ z. omega (arith, n))) ∙ k))
       | inr i ↦
           (let e' : updates_where p log ≡ x ∷ xs = rw i at e in
           let l = leading p log x xs e' in
-          let o : q (suc (size log)) u ≡ false = h (suc (size log)) u (λ z. omega (arith, record_within log x.0 (Update x.1) l.found)) ∙ i in
+          let o : q (suc (last_lsn log)) u ≡ false = h (suc (last_lsn log)) u (λ z. omega (arith, record_within log x.0 (Update x.1) l.found)) ∙ i in
           rw o (first_update_gone p q log x xs e' h g))
     ]
 first_update_gone p q (log ▸ Compensation _) x xs e h g = first_update_gone p q log x xs e h g
@@ -225,25 +218,20 @@ first_update_gone p q (log ▸ _) x xs e h g = first_update_gone p q log x xs e 
 pub no_update : (p : ℕ → UpdateRecord → Bool) (log : History) (m : ℕ) (w : UpdateRecord) → updates_where p log ≡ [] → record_at log m ≡ Some (Update w) → p m w ≡ false
 no_update p start m w e f = absurd (cc)
 no_update p (log ▸ r) m w e f =
-    elim (cases_Bool (eqb m (suc (size log)))) [
+    elim (cases_Bool (eqb m (suc (last_lsn log)))) [
       | inl i ↦
           (let f' : Some r ≡ Some (Update w) = rw i at f in
           let j : r ≡ Update w = cc in
-          let e' : cond (p (suc (size log)) w) ((suc (size log), w) ∷ updates_where p log) (updates_where p log) ≡ [] = ap (λ y. updates_where p (log ▸ y)) (sym j) ∙ e in
-          ap (λ n. p n w) (eqb-true m (suc (size log)) i)
-          ∙ false_from_ne_true (p (suc (size log)) w) (λ t. (let e'' : (suc (size log), w) ∷ updates_where p log ≡ [] = rw t at e' in cc)))
+          let e' : cond (p (suc (last_lsn log)) w) ((suc (last_lsn log), w) ∷ updates_where p log) (updates_where p log) ≡ [] = ap (λ y. updates_where p (log ▸ y)) (sym j) ∙ e in
+          ap (λ n. p n w) (eqb-true m (suc (last_lsn log)) i)
+          ∙ false_from_ne_true (p (suc (last_lsn log)) w) (λ t. (let e'' : (suc (last_lsn log), w) ∷ updates_where p log ≡ [] = rw t at e' in cc)))
       | inr i ↦ no_update p log m w (older r e) (rw i at f)
     ]
   where
     older : (r : LogRecord) → updates_where p (log ▸ r) ≡ [] → updates_where p log ≡ []
     older (Update u) e =
-        elim (cases_Bool (p (suc (size log)) u)) [
-          | inl t ↦ absurd (let e'' : (suc (size log), u) ∷ updates_where p log ≡ [] = rw t at e in cc)
+        elim (cases_Bool (p (suc (last_lsn log)) u)) [
+          | inl t ↦ absurd (let e'' : (suc (last_lsn log), u) ∷ updates_where p log ≡ [] = rw t at e in cc)
           | inr t ↦ rw t at e
         ]
-    older (Compensation _) e = e
-    older (Commit _) e = e
-    older (Abort _) e = e
-    older (End _) e = e
-    older CheckpointBegin e = e
-    older (CheckpointEnd _ _ _) e = e
+    older r e = e

@@ -2,11 +2,12 @@
 use Rattle.std.proofs.Common.{◌≡◌, ℕ, Bool, true, false, cond, eqb, List, [], ◌∷◌, length, Option, Some, None, refl, sym, ap, ◌∙◌}
 use Rattle.std.specs.Prelude.{option_map, is_some}
 use Rattle.std.specs.Int.{w32, w64}
+use Rattle.std.proofs.lemmas.Option.{same_Some}
 use Rattle.wal.specs.declared.glance.Glance.TheVariants as seen
 use Rattle.wal.specs.Records.{LogRecord, CheckpointBegin}
 use Rattle.wal.specs.Reading.{◌>>=◌, number_at, slot_at, image_at, plain_at, transactions_at, dirties_at, update_at, compensation_at, commit_at, abort_at, end_at, checkpoint_at, fields_at, body_at}
 use Rattle.wal.specs.Glances.{glance_of, update_glance, compensation_glance, commit_glance, abort_glance, end_glance, fields_glance, body_glance}
-use Rattle.wal.proofs.Fields.{some_is, bind_some, guard_ended}
+use Rattle.wal.proofs.Fields.{bind_some, guard_ended}
 
 -- what comes after a step that gave something
 then_some : {A B : Type 0} (r : Option A) (x : A) (g : A → Option B) → r ≡ Some x → (r >>= g) ≡ g x
@@ -20,7 +21,7 @@ update_seen bytes x e =
     let c = bind_some (slot_at b.0.1) _ x b.2 in
     let d = bind_some (image_at c.0.1) _ x c.2 in
     let f = bind_some (image_at d.0.1) _ x d.2 in
-    let is = some_is _ x f.2 in
+    let is = same_Some _ x f.2 in
     rw (a.1, b.1, c.1) (ap (λ (y : LogRecord × List ℕ). Some (glance_of y.0)) is)
 
 compensation_seen : (bytes : List ℕ) (x : LogRecord × List ℕ) → compensation_at bytes ≡ Some x → compensation_glance bytes ≡ Some (glance_of x.0)
@@ -31,28 +32,28 @@ compensation_seen bytes x e =
     let c = bind_some (slot_at b.0.1) _ x b.2 in
     let d = bind_some (number_at w64 c.0.1) _ x c.2 in
     let f = bind_some (image_at d.0.1) _ x d.2 in
-    let is = some_is _ x f.2 in
+    let is = same_Some _ x f.2 in
     rw (a.1, b.1, c.1, d.1) (ap (λ (y : LogRecord × List ℕ). Some (glance_of y.0)) is)
 
 commit_seen : (bytes : List ℕ) (x : LogRecord × List ℕ) → commit_at bytes ≡ Some x → commit_glance bytes ≡ Some (glance_of x.0)
 unfolding commit_at commit_glance
 commit_seen bytes x e =
     let a = bind_some (plain_at bytes) _ x e in
-    let is = some_is _ x a.2 in
+    let is = same_Some _ x a.2 in
     rw a.1 (ap (λ (y : LogRecord × List ℕ). Some (glance_of y.0)) is)
 
 abort_seen : (bytes : List ℕ) (x : LogRecord × List ℕ) → abort_at bytes ≡ Some x → abort_glance bytes ≡ Some (glance_of x.0)
 unfolding abort_at abort_glance
 abort_seen bytes x e =
     let a = bind_some (plain_at bytes) _ x e in
-    let is = some_is _ x a.2 in
+    let is = same_Some _ x a.2 in
     rw a.1 (ap (λ (y : LogRecord × List ℕ). Some (glance_of y.0)) is)
 
 end_seen : (bytes : List ℕ) (x : LogRecord × List ℕ) → end_at bytes ≡ Some x → end_glance bytes ≡ Some (glance_of x.0)
 unfolding end_at end_glance
 end_seen bytes x e =
     let a = bind_some (plain_at bytes) _ x e in
-    let is = some_is _ x a.2 in
+    let is = same_Some _ x a.2 in
     rw a.1 (ap (λ (y : LogRecord × List ℕ). Some (glance_of y.0)) is)
 
 checkpoint_seen : (bytes : List ℕ) (x : LogRecord × List ℕ) → checkpoint_at bytes ≡ Some x → Some seen.Checkpoint ≡ Some (glance_of x.0)
@@ -61,11 +62,11 @@ checkpoint_seen bytes x e =
     let a = bind_some (number_at w64 bytes) _ x e in
     let b = bind_some (transactions_at a.0.1) _ x a.2 in
     let c = bind_some (dirties_at b.0.1) _ x b.2 in
-    let is = some_is _ x c.2 in
+    let is = same_Some _ x c.2 in
     ap (λ (y : LogRecord × List ℕ). Some (glance_of y.0)) is
 
 -- by the kind
-pub either : {A B : Type 0} (b : Bool) (p q : Option A) (s t : Option B) (x : A) (y : B) → (p ≡ Some x → s ≡ Some y) → (q ≡ Some x → t ≡ Some y) → cond b p q ≡ Some x → cond b s t ≡ Some y
+either : {A B : Type 0} (b : Bool) (p q : Option A) (s t : Option B) (x : A) (y : B) → (p ≡ Some x → s ≡ Some y) → (q ≡ Some x → t ≡ Some y) → cond b p q ≡ Some x → cond b s t ≡ Some y
 either true p q s t x y f g e = f e
 either false p q s t x y f g e = g e
 
@@ -81,7 +82,7 @@ fields_seen kind bytes x e =
     e
   where
     others : (b c : Bool) → cond b (Some (CheckpointBegin, bytes)) (cond c (checkpoint_at bytes) None) ≡ Some x → Some seen.Checkpoint ≡ Some (glance_of x.0)
-    others true c e = ap (λ (y : LogRecord × List ℕ). Some (glance_of y.0)) (some_is _ x e)
+    others true c e = ap (λ (y : LogRecord × List ℕ). Some (glance_of y.0)) (same_Some _ x e)
     others false true e = checkpoint_seen bytes x e
     others false false e = absurd cc
 

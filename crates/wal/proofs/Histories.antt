@@ -1,24 +1,25 @@
--- Logs as lists of records: the record at an LSN by its place, and the beginning of a log that a loop has read.
-use Rattle.std.proofs.lemmas.Bool.{cases_eq, cases_Bool, le-ltb}
-use Rattle.std.proofs.Common.{ne_eqb, eq-eqb, eqb, ltb, eqb-true, false, inl, inr, ◌⊎◌, ℕ, suc, zero, ◌≡◌, ◌+◌, ◌-◌, ◌<◌, ◌≤◌, List, [], ◌∷◌, ◌++◌, Some, None, refl, subst, length, take, get_or, map, ap, ◌∙◌, arith}
-use Rattle.std.proofs.lemmas.List.{length-map, length-take-le, take_more, take_all, get_or-map}
+-- The record at an LSN, and the log up to an LSN.
+use Rattle.std.proofs.lemmas.Bool.{cases_eq, cases_Bool, le-ltb, lt-ltb, ltb-true, ltb-false}
+use Rattle.std.proofs.lemmas.Option.{same_Some}
+use Rattle.std.proofs.Common.{ne_eqb, eq-eqb, eqb, ltb, eqb-true, false, inl, inr, ◌⊎◌, ℕ, suc, zero, ◌≡◌, ◌+◌, ◌-◌, ◌<◌, ◌≤◌, List, [], ◌∷◌, ◌++◌, Some, None, refl, subst, sym, ap₂, length, take, get_or, map, ap, ◌∙◌, arith}
+use Rattle.std.proofs.lemmas.List.{length-map, get_or-map}
 use Rattle.std.specs.Prelude.{All}
-use Rattle.wal.specs.Records.{LogRecord, History, start, ◌▸◌, ◌▸▸◌, history, size, record_at, first}
+use Rattle.wal.specs.Records.{LogRecord, History, start, ◌▸◌, ◌▸▸◌, LogContent, history, ◌⧺◌, up_to, last_lsn, record_at, first}
 
 -- ---- one record more
 
-pub record_last : (log : History) (r : LogRecord) → record_at (log ▸ r) (suc (size log)) ≡ Some r
-record_last log r = rw (eq-eqb (suc (size log)) (suc (size log)) refl)
+pub record_last : (log : History) (r : LogRecord) → record_at (log ▸ r) (suc (last_lsn log)) ≡ Some r
+record_last log r = rw (eq-eqb (suc (last_lsn log)) (suc (last_lsn log)) refl)
 
-pub record_older : (log : History) (r : LogRecord) (n : ℕ) → n ≤ size log → record_at (log ▸ r) n ≡ record_at log n
-record_older log r n h = rw (ne_eqb n (suc (size log)) (λ e. omega arith))
+pub record_older : (log : History) (r : LogRecord) (n : ℕ) → n ≤ last_lsn log → record_at (log ▸ r) n ≡ record_at log n
+record_older log r n h = rw (ne_eqb n (suc (last_lsn log)) (λ e. omega arith))
 
 -- what is found has an LSN of the log
-pub record_within : (log : History) (n : ℕ) (x : LogRecord) → record_at log n ≡ Some x → n ≤ size log
+pub record_within : (log : History) (n : ℕ) (x : LogRecord) → record_at log n ≡ Some x → n ≤ last_lsn log
 record_within start n x h = absurd (cc)
 record_within (log ▸ r) n x h =
-    elim (cases_Bool (eqb n (suc (size log)))) [
-      | inl e ↦ omega (arith, eqb-true n (suc (size log)) e)
+    elim (cases_Bool (eqb n (suc (last_lsn log)))) [
+      | inl e ↦ omega (arith, eqb-true n (suc (last_lsn log)) e)
       | inr e ↦ omega (arith, record_within log n x (rw e at h))
     ]
 
@@ -27,18 +28,18 @@ pub record_more : (log : History) (r : LogRecord) (n : ℕ) (x : LogRecord) → 
 record_more log r n x h = record_older log r n (record_within log n x h) ∙ h
 
 -- nothing is found at 0 and behind the end
-pub record_none : (log : History) (n : ℕ) → (n ≡ 0) ⊎ (size log < n) → record_at log n ≡ None
+pub record_none : (log : History) (n : ℕ) → (n ≡ 0) ⊎ (last_lsn log < n) → record_at log n ≡ None
 record_none start n h = refl
 record_none (log ▸ r) n h =
-    elim (cases_eq n (suc (size log))) [
+    elim (cases_eq n (suc (last_lsn log))) [
       | inl e ↦
           elim h [
             | inl z ↦ absurd (omega (arith, e, z))
             | inr l ↦ absurd (omega (arith, e, l))
           ]
       | inr d ↦
-          (let i : eqb n (suc (size log)) ≡ false = ne_eqb n (suc (size log)) d in
-          let h' : (n ≡ 0) ⊎ (size log < n) = elim h [ inl z ↦ inl z | inr l ↦ inr (omega (arith, l)) ] in
+          (let i : eqb n (suc (last_lsn log)) ≡ false = ne_eqb n (suc (last_lsn log)) d in
+          let h' : (n ≡ 0) ⊎ (last_lsn log < n) = elim h [ inl z ↦ inl z | inr l ↦ inr (omega (arith, l)) ] in
           rw i (record_none log n h'))
     ]
 
@@ -49,70 +50,139 @@ pub after-append : (log : History) (xs ys : List LogRecord) → log ▸▸ (xs +
 after-append log [] ys = refl
 after-append log (x ∷ xs) ys = after-append (log ▸ x) xs ys
 
--- a list with one record more
-pub history_push : (xs : List LogRecord) (x : LogRecord) → history (xs ++ x ∷ []) ≡ history xs ▸ x
-history_push xs x = after-append start xs (x ∷ [])
+-- a log with one record more
+pub history_push : (log : LogContent) (r : LogRecord) → history (log ⧺ r ∷ []) ≡ history log ▸ r
+history_push log r = after-append start log.records (r ∷ [])
 
-pub size-after : (log : History) (xs : List LogRecord) → size (log ▸▸ xs) ≡ size log + length xs
+pub size-after : (log : History) (xs : List LogRecord) → last_lsn (log ▸▸ xs) ≡ last_lsn log + length xs
 size-after log [] = omega arith
 size-after log (x ∷ xs) = size-after (log ▸ x) xs ∙ omega arith
 
-pub size_of_list : (xs : List LogRecord) → size (history xs) ≡ length xs
-size_of_list xs = size-after start xs ∙ omega arith
-
--- the first i + 1 records are the first i and one record more
-pub history_more : (xs : List LogRecord) (i : ℕ) (d : LogRecord) → i < length xs → history (take (i + 1) xs) ≡ history (take i xs) ▸ get_or xs i d
-history_more xs i d lt = ap history (take_more xs i d lt) ∙ history_push (take i xs) (get_or xs i d)
-
-pub history_all : (xs : List LogRecord) (i : ℕ) → length xs ≤ i → history (take i xs) ≡ history xs
-history_all xs i le = ap history (take_all i xs le)
+pub size_of_log : (log : LogContent) → last_lsn (history log) ≡ length log.records
+size_of_log log = size-after start log.records ∙ omega arith
 
 -- what follows changes nothing in front
-pub record_in_front : (log : History) (xs : List LogRecord) (n : ℕ) → n ≤ size log → record_at (log ▸▸ xs) n ≡ record_at log n
+pub record_in_front : (log : History) (xs : List LogRecord) (n : ℕ) → n ≤ last_lsn log → record_at (log ▸▸ xs) n ≡ record_at log n
 record_in_front log [] n h = refl
 record_in_front log (x ∷ xs) n h = record_in_front (log ▸ x) xs n (omega arith) ∙ record_older log x n h
 
 -- the first n of a longer log
-pub first_older : (log : History) (r : LogRecord) (n : ℕ) → n ≤ size log → first n (log ▸ r) ≡ first n log
-first_older log r n h = (let e : ltb (size log) n ≡ false = le-ltb (size log) n h in rw e)
+pub first_older : (log : History) (r : LogRecord) (n : ℕ) → n ≤ last_lsn log → first n (log ▸ r) ≡ first n log
+first_older log r n h = (let e : ltb (last_lsn log) n ≡ false = le-ltb (last_lsn log) n h in rw e)
 
 pub first_none : (log : History) → first 0 log ≡ start
 first_none start = refl
-first_none (log ▸ r) = (let l : ltb (size log) 0 ≡ false = le-ltb (size log) 0 (omega arith) in rw l (first_none log))
+first_none (log ▸ r) = (let l : ltb (last_lsn log) 0 ≡ false = le-ltb (last_lsn log) 0 (omega arith) in rw l (first_none log))
 
-pub first_in_front : (log : History) (xs : List LogRecord) (n : ℕ) → n ≤ size log → first n (log ▸▸ xs) ≡ first n log
+pub first_in_front : (log : History) (xs : List LogRecord) (n : ℕ) → n ≤ last_lsn log → first n (log ▸▸ xs) ≡ first n log
 first_in_front log [] n h = refl
 first_in_front log (x ∷ xs) n h = first_in_front (log ▸ x) xs n (omega arith) ∙ first_older log x n h
 
 -- the records of the list stand behind the log
-record_behind : (log : History) (xs : List LogRecord) (i : ℕ) (d : LogRecord) → i < length xs → record_at (log ▸▸ xs) (suc (size log + i)) ≡ Some (get_or xs i d)
+record_behind : (log : History) (xs : List LogRecord) (i : ℕ) (d : LogRecord) → i < length xs → record_at (log ▸▸ xs) (suc (last_lsn log + i)) ≡ Some (get_or xs i d)
 record_behind log [] i d h = absurd (omega arith)
 record_behind log (x ∷ xs) zero d h =
-    ap (record_at ((log ▸ x) ▸▸ xs)) (omega arith) ∙ record_in_front (log ▸ x) xs (suc (size log)) (omega arith) ∙ record_last log x
+    ap (record_at ((log ▸ x) ▸▸ xs)) (omega arith) ∙ record_in_front (log ▸ x) xs (suc (last_lsn log)) (omega arith) ∙ record_last log x
 record_behind log (x ∷ xs) (suc i) d h = ap (record_at ((log ▸ x) ▸▸ xs)) (omega arith) ∙ record_behind (log ▸ x) xs i d (omega arith)
 
--- the n-th record of a list
-pub record_of_list : (xs : List LogRecord) (n : ℕ) (d : LogRecord) → 0 < n → n ≤ length xs → record_at (history xs) n ≡ Some (get_or xs (n - 1) d)
-record_of_list xs n d p h = ap (record_at (history xs)) (omega arith) ∙ record_behind start xs (n - 1) d (omega arith)
+-- the record at an LSN is the item at the place below
+pub record_item : (log : LogContent) (i : ℕ) (d : LogRecord) → i < length log.records → record_at (history log) (i + 1) ≡ Some (get_or log.records i d)
+record_item log i d lt = ap (record_at (history log)) (omega arith) ∙ record_behind start log.records i d lt
 
--- the n-th record of a list that is made item by item
-pub record_of_item : {A : Type 0} (f : A → LogRecord) (xs : List A) (n : ℕ) (d : A) → 0 < n → n ≤ length xs → record_at (history (map f xs)) n ≡ Some (f (get_or xs (n - 1) d))
+-- so it is in a log that is made item by item
+pub record_of_item : {A : Type 0} (f : A → LogRecord) (xs : List A) (n : ℕ) (d : A) → 0 < n → n ≤ length xs → record_at (start ▸▸ map f xs) n ≡ Some (f (get_or xs (n - 1) d))
 record_of_item f xs n d p h =
-    record_of_list (map f xs) n (f d) p (omega (arith, length-map xs f))
+    ap (record_at (start ▸▸ map f xs)) (omega arith)
+    ∙ record_behind start (map f xs) (n - 1) (f d) (omega (arith, length-map xs f))
     ∙ ap (λ y. Some y) (get_or-map f xs (n - 1) d (f d) (omega arith))
 
--- the record at an LSN is the item at the place below
-pub record_item : (xs : List LogRecord) (i : ℕ) (d : LogRecord) → i < length xs → record_at (history xs) (i + 1) ≡ Some (get_or xs i d)
-record_item xs i d lt = record_of_list xs (i + 1) d (omega arith) (omega arith) ∙ ap (λ k. Some (get_or xs k d)) (omega arith)
+-- ---- the log up to an LSN
 
-pub size_of_beginning : (xs : List LogRecord) (i : ℕ) → i ≤ length xs → size (history (take i xs)) ≡ i
-size_of_beginning xs i le = size_of_list (take i xs) ∙ length-take-le i xs le
+pub first_all : (lsn : ℕ) (log : History) → last_lsn log ≤ lsn → first lsn log ≡ log
+first_all lsn start h = refl
+first_all lsn (log ▸ r) h = rw (lt-ltb (last_lsn log) lsn h)
 
--- what is so of each record of a list is so of the record at each LSN
-pub each_found : (P : LogRecord → Type 0) (xs : List LogRecord) → All P xs → (n : ℕ) (r : LogRecord) → record_at (history xs) n ≡ Some r → P r
-each_found P xs h zero r f = absurd (let e : record_at (history xs) 0 ≡ None = record_none (history xs) 0 (inl refl) in cc)
-each_found P xs h (suc n) r f =
-    let le : n < length xs = omega (arith, record_within (history xs) (suc n) r f, size_of_list xs) in
-    let e : record_at (history xs) (suc n) ≡ Some (get_or xs n r) = ap (record_at (history xs)) (omega arith) ∙ record_item xs n r le in
-    let i : get_or xs n r ≡ r = cc in
+-- up to an LSN and one further it is one record longer
+pub first_more : (log : History) (lsn : ℕ) (r : LogRecord) → record_at log (lsn + 1) ≡ Some r → first (lsn + 1) log ≡ first lsn log ▸ r
+first_more start lsn r f = absurd cc
+first_more (log ▸ x) lsn r f =
+    elim (cases_eq (lsn + 1) (suc (last_lsn log))) [
+      | inl e ↦
+          (let same : x ≡ r = same_Some x r (sym (ap (record_at (log ▸ x)) e ∙ record_last log x) ∙ f) in
+          first_all (lsn + 1) (log ▸ x) (omega (arith, e)) ∙ ap₂ (λ a b. a ▸ b) (sym (first_older log x lsn (omega (arith, e)) ∙ first_all lsn log (omega (arith, e)))) same)
+      | inr d ↦
+          (let le : lsn + 1 ≤ last_lsn log = omega (arith, d, record_within (log ▸ x) (lsn + 1) r f) in
+          first_older log x (lsn + 1) le ∙ first_more log lsn r (sym (record_older log x (lsn + 1) le) ∙ f) ∙ ap (λ l. l ▸ r) (sym (first_older log x lsn (omega (arith, le)))))
+    ]
+
+-- up to one LSN and then to one that is not above it
+pub first_first : (m n : ℕ) (log : History) → m ≤ n → first m (first n log) ≡ first m log
+first_first m n start le = refl
+first_first m n (log ▸ r) le =
+    elim (cases_Bool (ltb (last_lsn log) n)) [
+      | inl e ↦ rw e refl
+      | inr e ↦ rw e (first_first m n log le ∙ sym (first_older log r m (omega (arith, le, ltb-false (last_lsn log) n e))))
+    ]
+
+-- the record behind an LSN that is not the last
+pub record Behind (log : History) (lsn : ℕ) : Type 0 where
+  pub entry : LogRecord
+  pub there : record_at log (lsn + 1) ≡ Some entry
+  pub next : first (lsn + 1) log ≡ first lsn log ▸ entry
+
+pub behind : (log : History) (lsn : ℕ) → lsn < last_lsn log → Behind log lsn
+behind log lsn lt = (let found = at log lsn lt in record { entry = found.0; there = found.1; next = first_more log lsn found.0 found.1 })
+  where
+    at : (log : History) (lsn : ℕ) → lsn < last_lsn log → (r : LogRecord) × (record_at log (lsn + 1) ≡ Some r)
+    at start lsn lt = absurd (omega (arith, lt))
+    at (log ▸ r) lsn lt =
+        elim (cases_eq (lsn + 1) (suc (last_lsn log))) [
+          | inl e ↦ (r, ap (record_at (log ▸ r)) e ∙ record_last log r)
+          | inr d ↦ (let older = at log lsn (omega (arith, d, lt)) in (older.0, record_more log r (lsn + 1) older.0 older.1))
+        ]
+
+-- its last record has this LSN
+pub size_of_first : (lsn : ℕ) (log : History) → lsn ≤ last_lsn log → last_lsn (first lsn log) ≡ lsn
+size_of_first lsn start h = omega (arith, h)
+size_of_first lsn (log ▸ r) h =
+    elim (cases_Bool (ltb (last_lsn log) lsn)) [
+      | inl e ↦ rw e (omega (arith, h, ltb-true (last_lsn log) lsn e))
+      | inr e ↦ rw e (size_of_first lsn log (ltb-false (last_lsn log) lsn e))
+    ]
+
+-- below it the records stay
+pub record_in_first : (lsn : ℕ) (log : History) (n : ℕ) → n ≤ lsn → record_at (first lsn log) n ≡ record_at log n
+record_in_first lsn start n h = refl
+record_in_first lsn (log ▸ r) n h =
+    elim (cases_Bool (ltb (last_lsn log) lsn)) [
+      | inl e ↦ rw e refl
+      | inr e ↦ rw e (record_in_first lsn log n h ∙ sym (record_older log r n (omega (arith, h, ltb-false (last_lsn log) lsn e))))
+    ]
+
+-- the records up to an LSN, as a list and in the order of time
+first_of_list : (log : History) (xs : List LogRecord) (k : ℕ) → log ▸▸ take k xs ≡ first (last_lsn log + k) (log ▸▸ xs)
+first_of_list log [] zero = sym (first_all (last_lsn log + 0) log (omega arith))
+first_of_list log [] (suc k) = sym (first_all (last_lsn log + suc k) log (omega arith))
+first_of_list log (x ∷ xs) zero = sym (first_in_front log (x ∷ xs) (last_lsn log + 0) (omega arith) ∙ first_all (last_lsn log + 0) log (omega arith))
+first_of_list log (x ∷ xs) (suc k) = first_of_list (log ▸ x) xs k ∙ ap (λ n. first n ((log ▸ x) ▸▸ xs)) (omega arith)
+
+-- it ends there or before
+pub size_of_first_le : (lsn : ℕ) (log : History) → last_lsn (first lsn log) ≤ lsn
+size_of_first_le lsn start = omega arith
+size_of_first_le lsn (log ▸ r) =
+    elim (cases_Bool (ltb (last_lsn log) lsn)) [
+      | inl e ↦ rw e (omega (arith, ltb-true (last_lsn log) lsn e))
+      | inr e ↦ rw e (size_of_first_le lsn log)
+    ]
+
+pub up_to_is : (lsn : ℕ) (log : LogContent) → history (up_to lsn log) ≡ first lsn (history log)
+up_to_is lsn log = first_of_list start log.records lsn ∙ ap (λ n. first n (history log)) (omega arith)
+
+-- what is so of each record is so of the record at each LSN
+pub each_found : (P : LogRecord → Type 0) (log : LogContent) → All P log.records → (n : ℕ) (r : LogRecord) → record_at (history log) n ≡ Some r → P r
+each_found P log h zero r f = absurd (let e : record_at (history log) 0 ≡ None = record_none (history log) 0 (inl refl) in cc)
+each_found P log h (suc n) r f =
+    let le : n < length log.records = omega (arith, record_within (history log) (suc n) r f, size_of_log log) in
+    let e : record_at (history log) (suc n) ≡ Some (get_or log.records n r) = ap (record_at (history log)) (omega arith) ∙ record_item log n r le in
+    let i : get_or log.records n r ≡ r = cc in
     subst P i (h n r le)

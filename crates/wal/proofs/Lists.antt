@@ -1,69 +1,97 @@
--- The laws, over logs as lists of records.
+-- The laws, over the contents of logs.
 use mathlib.Core.Path.{fun_ext}
-use Rattle.std.proofs.Common.{ℕ, suc, zero, ◌≡◌, ◌-◌, ◌<◌, ◌≤◌, List, [], ◌∷◌, ◌++◌, length, take, drop, get_or, sym, ap, ap₂, ◌∙◌, subst, arith, append_assoc, take-append-drop}
+use Rattle.std.proofs.Common.{ℕ, suc, ◌-◌, ◌≤◌, List, [], ◌∷◌, ◌++◌, length, take, drop, sym, ap, ap₂, ◌∙◌, subst, Some, ◌≡◌, inl, inr, arith, append_assoc, take-append-drop}
 use Rattle.std.proofs.Math.Seq.{take-append-add}
-use Rattle.wal.specs.Records.{LogRecord, History, start, ◌▸◌, ◌▸▸◌, history}
+use Rattle.wal.specs.Records.{LogRecord, History, start, ◌▸◌, ◌▸▸◌, LogContent, history, ◌⧺◌, up_to, last_lsn, record_at, first}
 use Rattle.wal.specs.Meaning.{replay, winners}
 use Rattle.wal.specs.Laws.{Obeys, IsLawful}
-use Rattle.wal.specs.Tail.{tail, tail_of}
+use Rattle.wal.specs.Tail.{tail, tail_of, with_tail}
 use Rattle.wal.specs.Theorems.{LawfulByRecord, HopsMeetPending, ReplayIsWinners, TailSettles, CutsResume}
-use Rattle.wal.proofs.Histories.{after-append}
+use Rattle.std.proofs.lemmas.Bool.{cases_eq}
+use Rattle.std.proofs.lemmas.Option.{same_Some}
+use Rattle.wal.proofs.Histories.{after-append, size_of_log, record_last, record_older, record_more, record_within, first_older, first_all}
 use Rattle.wal.proofs.Walks.{walk_meets_pending}
 use Rattle.wal.proofs.Cuts.{cut_of, whole_lawful, whole_tail, whole_winners, no_loser, replay_of_whole}
 
+-- the log and its tail, in the order of time
+pub with_tail_is : (log : LogContent) → history (with_tail log) ≡ history log ▸▸ tail (history log)
+with_tail_is log = after-append start log.records (tail_of log)
+
 pub hops_meet_pending : HopsMeetPending
-hops_meet_pending records t h = walk_meets_pending (history records) t h
+hops_meet_pending log t h = walk_meets_pending (history log) t h
 
 pub replay_is_winners : ReplayIsWinners
-replay_is_winners records h =
-    ap replay (after-append start records (tail_of records)) ∙ fun_ext (λ page. fun_ext (λ slot. replay_of_whole (history records) h page slot))
+replay_is_winners log h =
+    ap replay (with_tail_is log) ∙ fun_ext (λ page. fun_ext (λ slot. replay_of_whole (history log) h page slot))
 
 pub tail_settles : TailSettles
-tail_settles records h =
-    let e : history (records ++ tail_of records) ≡ history records ▸▸ tail (history records) = after-append start records (tail_of records) in
-    let t : tail_of (records ++ tail_of records) ≡ [] = ap tail e ∙ whole_tail (history records) h in
+tail_settles log h =
+    let e = with_tail_is log in
+    let t : tail_of (with_tail log) ≡ [] = ap tail e ∙ whole_tail (history log) h in
     record {
-      lawful = subst IsLawful (sym e) (whole_lawful (history records) h);
-      no_loser = no_loser (history (records ++ tail_of records)) t;
+      lawful = subst IsLawful (sym e) (whole_lawful (history log) h);
+      no_loser = no_loser (history (with_tail log)) t;
       no_tail = t;
-      same = ap winners e ∙ fun_ext (λ page. fun_ext (λ slot. whole_winners (history records) h page slot));
+      same = ap winners e ∙ fun_ext (λ page. fun_ext (λ slot. whole_winners (history log) h page slot));
     }
 
 -- a beginning that has all of the first list
 pub take-append-ge : (n : ℕ) (xs ys : List LogRecord) → length xs ≤ n → take n (xs ++ ys) ≡ xs ++ take (n - length xs) ys
 take-append-ge n xs ys h = ap (λ m. take m (xs ++ ys)) (omega arith) ∙ take-append-add xs ys (n - length xs)
 
+-- the log and as many records of its tail as an LSN allows
+abbrev pub left_of_tail : ℕ → LogContent → ℕ
+left_of_tail lsn log = lsn - length log.records
+
+pub up_to_in_tail : (lsn : ℕ) (log : LogContent) → last_lsn (history log) ≤ lsn → up_to lsn (with_tail log) ≡ log ⧺ take (left_of_tail lsn log) (tail_of log)
+up_to_in_tail lsn log le = ap (λ xs. record { records = xs }) (take-append-ge lsn log.records (tail_of log) (omega (arith, le, size_of_log log)))
+
 pub cuts_resume : CutsResume
-cuts_resume records n h le =
-    let k : ℕ = n - length records in
-    let c = cut_of (history records) k h in
-    let e : take n (records ++ tail_of records) ≡ records ++ take k (tail_of records) = take-append-ge n records (tail_of records) le in
-    let f : history (take n (records ++ tail_of records)) ≡ history records ▸▸ take k (tail_of records) = ap history e ∙ after-append start records (take k (tail_of records)) in
-    let t : tail_of (take n (records ++ tail_of records)) ≡ drop k (tail_of records) = ap tail f ∙ c.rest in
+cuts_resume log lsn h le =
+    let k : ℕ = left_of_tail lsn log in
+    let c = cut_of (history log) k h in
+    let e : up_to lsn (with_tail log) ≡ log ⧺ take k (tail_of log) = up_to_in_tail lsn log le in
+    let f : history (up_to lsn (with_tail log)) ≡ history log ▸▸ take k (tail_of log) = ap history e ∙ after-append start log.records (take k (tail_of log)) in
+    let t : tail_of (up_to lsn (with_tail log)) ≡ drop k (tail_of log) = ap tail f ∙ c.rest in
     record {
       lawful = subst IsLawful (sym f) c.lawful;
-      whole = ap₂ (λ xs ys. xs ++ ys) e t ∙ append_assoc records (take k (tail_of records)) (drop k (tail_of records)) ∙ ap (λ xs. records ++ xs) (take-append-drop k (tail_of records));
+      whole = ap₂ (λ (l : LogContent) (ys : List LogRecord). l ⧺ ys) e t
+          ∙ ap (λ xs. record { records = xs }) (append_assoc log.records (take k (tail_of log)) (drop k (tail_of log)) ∙ ap (λ xs. log.records ++ xs) (take-append-drop k (tail_of log)));
     }
 
 -- EACH RECORD
-abbrev Each : History → List LogRecord → Type 0
-Each log xs = (i : ℕ) (d : LogRecord) → i < length xs → Obeys (log ▸▸ take i xs) (get_or xs i d)
-
 -- a beginning of a lawful log is lawful
 pub lawful_before : (log : History) (xs : List LogRecord) → IsLawful (log ▸▸ xs) → IsLawful log
 lawful_before log [] h = h
 lawful_before log (x ∷ xs) h = (lawful_before (log ▸ x) xs h).0
 
 -- the laws record by record, and back
-each_of_lawful : (log : History) (xs : List LogRecord) → IsLawful (log ▸▸ xs) → Each log xs
-each_of_lawful log [] h zero d l = absurd (omega arith)
-each_of_lawful log [] h (suc i) d l = absurd (omega arith)
-each_of_lawful log (x ∷ xs) h zero d l = (lawful_before (log ▸ x) xs h).1
-each_of_lawful log (x ∷ xs) h (suc i) d l = each_of_lawful (log ▸ x) xs h i d (omega arith)
+abbrev Each : History → Type 0
+Each log = (lsn : ℕ) (r : LogRecord) → record_at log (suc lsn) ≡ Some r → Obeys (first lsn log) r
 
-lawful_of_each : (log : History) (xs : List LogRecord) → IsLawful log → Each log xs → IsLawful (log ▸▸ xs)
-lawful_of_each log [] h e = h
-lawful_of_each log (x ∷ xs) h e = lawful_of_each (log ▸ x) xs (h, e zero x (omega arith)) (λ i d l. e (suc i) d (omega arith))
+-- the log up to its last record but one
+first_but_last : (log : History) (r : LogRecord) → first (last_lsn log) (log ▸ r) ≡ log
+first_but_last log r = first_older log r (last_lsn log) (omega arith) ∙ first_all (last_lsn log) log (omega arith)
+
+pub each_of_lawful : (log : History) → IsLawful log → Each log
+each_of_lawful start h lsn x f = absurd cc
+each_of_lawful (log ▸ r) h lsn x f =
+    elim (cases_eq lsn (last_lsn log)) [
+      | inl e ↦
+          (let same : r ≡ x = same_Some r x (sym (ap (λ n. record_at (log ▸ r) (suc n)) e ∙ record_last log r) ∙ f) in
+          subst (λ l. Obeys l x) (sym (ap (λ n. first n (log ▸ r)) e ∙ first_but_last log r)) (subst (Obeys log) same h.1))
+      | inr d ↦
+          (let le : suc lsn ≤ last_lsn log = omega (arith, d, record_within (log ▸ r) (suc lsn) x f) in
+          subst (λ l. Obeys l x) (sym (first_older log r lsn (omega (arith, le)))) (each_of_lawful log h.0 lsn x (sym (record_older log r (suc lsn) le) ∙ f)))
+    ]
+
+lawful_of_each : (log : History) → Each log → IsLawful log
+lawful_of_each start e = tt
+lawful_of_each (log ▸ r) e = (
+  lawful_of_each log
+      (λ lsn x f. subst (λ l. Obeys l x) (first_older log r lsn (omega (arith, record_within log (suc lsn) x f))) (e lsn x (record_more log r (suc lsn) x f))),
+  subst (λ l. Obeys l r) (first_but_last log r) (e (last_lsn log) r (record_last log r)),
+)
 
 pub lawful_by_record : LawfulByRecord
-lawful_by_record records = (each_of_lawful start records, lawful_of_each start records tt)
+lawful_by_record log = (each_of_lawful (history log), lawful_of_each (history log))

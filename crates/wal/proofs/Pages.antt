@@ -5,8 +5,8 @@ use Rattle.std.proofs.lemmas.List.FromFn.{get_or-map-range_with_len}
 use Rattle.std.specs.Prelude.{slice_index_or}
 use Rattle.std.specs.List.{range_with_len}
 use Rattle.page.specs.Image.{Image}
-use Rattle.wal.specs.Records.{LogRecord, Update, Compensation, Commit, Abort, End, CheckpointBegin, CheckpointEnd, History, start, ◌▸◌, size, record_at, first}
-use Rattle.wal.specs.Meaning.{State, replay, writes, is_on, last_on}
+use Rattle.wal.specs.Records.{LogRecord, Update, Compensation, History, start, ◌▸◌, last_lsn, record_at, first}
+use Rattle.wal.specs.Meaning.{Cells, replay, writes, is_on, last_on}
 use Rattle.wal.specs.Redo.{slots_in}
 use Rattle.wal.specs.Store.{PageLaw}
 use Rattle.wal.specs.Theorems.{replayed_page}
@@ -17,14 +17,10 @@ use Rattle.wal.proofs.Histories.{record_last, record_more, record_within, first_
 pub writes_on : (page slot : ℕ) (r : LogRecord) → writes page slot r ≡ true → is_on page r ≡ true
 writes_on page slot (Update u) e = (and_parts (eqb u.page page) (eqb u.slot slot) e).0
 writes_on page slot (Compensation c) e = (and_parts (eqb c.page page) (eqb c.slot slot) e).0
-writes_on page slot (Commit _) e = absurd (false≢true e)
-writes_on page slot (Abort _) e = absurd (false≢true e)
-writes_on page slot (End _) e = absurd (false≢true e)
-writes_on page slot CheckpointBegin e = absurd (false≢true e)
-writes_on page slot (CheckpointEnd _ _ _) e = absurd (false≢true e)
+writes_on page slot r e = absurd (false≢true e)
 
 -- the slots of a page hang on its 16 cells alone
-pub same_slots : (f g : State) (page : ℕ) → ((slot : ℕ) → slot < 16 → f page slot ≡ g page slot) → slots_in f page ≡ slots_in g page
+pub same_slots : (f g : Cells) (page : ℕ) → ((slot : ℕ) → slot < 16 → f page slot ≡ g page slot) → slots_in f page ≡ slots_in g page
 same_slots f g page h = from 0 16 (λ slot lt. h slot (omega (arith, lt)))
   where
     from : (a n : ℕ) → ((slot : ℕ) → slot < a + n → f page slot ≡ g page slot) → map (λ slot. f page slot) (range_with_len a n) ≡ map (λ slot. g page slot) (range_with_len a n)
@@ -32,14 +28,14 @@ same_slots f g page h = from 0 16 (λ slot lt. h slot (omega (arith, lt)))
     from a (suc n) h = ap₂ (λ (x : Image) (xs : List Image). x ∷ xs) (h a (omega arith)) (from (a + 1) n (λ slot lt. h slot (omega (arith, lt))))
 
 -- what a slot of a made page holds
-pub slot_held : (f : State) (page slot : ℕ) → slot < 16 → slice_index_or (slots_in f page) slot None ≡ f page slot
+pub slot_held : (f : Cells) (page slot : ℕ) → slot < 16 → slice_index_or (slots_in f page) slot None ≡ f page slot
 slot_held f page slot lt = get_or-map-range_with_len (λ s. f page s) 0 16 slot slot None lt (omega arith)
 
 -- THE LAST RECORD ON A PAGE
-pub last_on_within : (page : ℕ) (log : History) → last_on page log ≤ size log
+pub last_on_within : (page : ℕ) (log : History) → last_on page log ≤ last_lsn log
 last_on_within page start = omega arith
 last_on_within page (log ▸ r) =
-    cond_both (is_on page r) (suc (size log)) (last_on page log) (λ n. n ≤ suc (size log)) (λ _. omega arith) (λ _. omega (arith, last_on_within page log))
+    cond_both (is_on page r) (suc (last_lsn log)) (last_on page log) (λ n. n ≤ suc (last_lsn log)) (λ _. omega arith) (λ _. omega (arith, last_on_within page log))
 
 -- no LSN, or that of a record on the page
 abbrev pub IsOnPage : ℕ → History → ℕ → Type 0
@@ -51,7 +47,7 @@ last_on_found page start = inl refl
 last_on_found page (log ▸ r) =
     elim (cases_Bool (is_on page r)) [
       | inl e ↦
-          (let i : last_on page (log ▸ r) ≡ suc (size log) = rw e in
+          (let i : last_on page (log ▸ r) ≡ suc (last_lsn log) = rw e in
           subst (IsOnPage page (log ▸ r)) (sym i) (inr (r, record_last log r, e)))
       | inr e ↦
           (let i : last_on page (log ▸ r) ≡ last_on page log = rw e in
@@ -62,34 +58,34 @@ last_on_found page (log ▸ r) =
 pub last_on_highest : (page : ℕ) (log : History) (n : ℕ) (r : LogRecord) → record_at log n ≡ Some r → is_on page r ≡ true → n ≤ last_on page log
 last_on_highest page start n r f on = absurd (cc)
 last_on_highest page (log ▸ x) n r f on =
-    elim (cases_Bool (eqb n (suc (size log)))) [
+    elim (cases_Bool (eqb n (suc (last_lsn log)))) [
       | inl i ↦
           (let f' : Some x ≡ Some r = rw i at f in
           let j : x ≡ r = cc in
           let on' : is_on page x ≡ true = ap (is_on page) j ∙ on in
-          let l : last_on page (log ▸ x) ≡ suc (size log) = rw on' in
-          omega (arith, l, eqb-true n (suc (size log)) i))
+          let l : last_on page (log ▸ x) ≡ suc (last_lsn log) = rw on' in
+          omega (arith, l, eqb-true n (suc (last_lsn log)) i))
       | inr i ↦
           (let older : n ≤ last_on page log = last_on_highest page log n r (rw i at f) on in
-          cond_both (is_on page x) (suc (size log)) (last_on page log) (λ k. n ≤ k) (λ _. omega (arith, older, last_on_within page log)) (λ _. older))
+          cond_both (is_on page x) (suc (last_lsn log)) (last_on page log) (λ k. n ≤ k) (λ _. omega (arith, older, last_on_within page log)) (λ _. older))
     ]
 
 -- a record on the page is the last one of the log up to it
 pub on_page_last : (log : History) (k page : ℕ) (r : LogRecord) → record_at log k ≡ Some r → is_on page r ≡ true → k ≡ last_on page (first k log)
 on_page_last start k page r f o = absurd (cc)
 on_page_last (log ▸ x) k page r f o =
-    elim (cases_Bool (eqb k (suc (size log)))) [
+    elim (cases_Bool (eqb k (suc (last_lsn log)))) [
       | inl i ↦
-          (let e : k ≡ suc (size log) = eqb-true k (suc (size log)) i in
+          (let e : k ≡ suc (last_lsn log) = eqb-true k (suc (last_lsn log)) i in
           let f' : Some x ≡ Some r = rw i at f in
           let j : x ≡ r = cc in
-          let l : ltb (size log) k ≡ true = lt-ltb (size log) k (omega (arith, e)) in
+          let l : ltb (last_lsn log) k ≡ true = lt-ltb (last_lsn log) k (omega (arith, e)) in
           let on : is_on page x ≡ true = ap (is_on page) j ∙ o in
-          let g : last_on page (log ▸ x) ≡ suc (size log) = rw on in
+          let g : last_on page (log ▸ x) ≡ suc (last_lsn log) = rw on in
           e ∙ sym (ap (λ b. last_on page (cond b (log ▸ x) (first k log))) l ∙ g))
       | inr i ↦
           (let f' : record_at log k ≡ Some r = rw i at f in
-          let l : ltb (size log) k ≡ false = le-ltb (size log) k (record_within log k r f') in
+          let l : ltb (last_lsn log) k ≡ false = le-ltb (last_lsn log) k (record_within log k r f') in
           on_page_last log k page r f' o ∙ sym (ap (λ b. last_on page (cond b (log ▸ x) (first k log))) l))
     ]
 
@@ -99,9 +95,9 @@ replay_to_last page slot start = refl
 replay_to_last page slot (log ▸ r) =
     elim (cases_Bool (is_on page r)) [
       | inl e ↦
-          (let i : last_on page (log ▸ r) ≡ suc (size log) = rw e in
+          (let i : last_on page (log ▸ r) ≡ suc (last_lsn log) = rw e in
           ap (λ n. replay (first n (log ▸ r)) page slot) i
-          ∙ ap (λ b. replay (cond b (log ▸ r) (first (suc (size log)) log)) page slot) (lt-ltb (size log) (suc (size log)) (omega arith)))
+          ∙ ap (λ b. replay (cond b (log ▸ r) (first (suc (last_lsn log)) log)) page slot) (lt-ltb (last_lsn log) (suc (last_lsn log)) (omega arith)))
       | inr e ↦
           (let i : last_on page (log ▸ r) ≡ last_on page log = rw e in
           let off : writes page slot r ≡ false = false_from_ne_true (writes page slot r) (λ w. both_ways (is_on page r) e (writes_on page slot r w)) in

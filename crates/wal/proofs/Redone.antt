@@ -3,47 +3,47 @@ use Rattle.std.proofs.Common.{ℕ, suc, ◌≡◌, ◌<◌, ◌≤◌, ap₂, Bo
 use Rattle.std.proofs.lemmas.Bool.{cases_Bool, and_from, and_right, not_from_false, le-leb, ltb-true, ltb-false, lt-ltb, le-ltb, cond-false}
 use Rattle.std.specs.Prelude.{slice_index_or}
 use Rattle.page.specs.declared.page.Page.{Page}
-use Rattle.wal.specs.Records.{LogRecord, History, start, ◌▸◌, size, history, record_at, first}
-use Rattle.wal.specs.Meaning.{State, effects, replay, writes, image_of, is_on, last_on}
+use Rattle.wal.specs.Records.{LogRecord, History, start, ◌▸◌, last_lsn, history, record_at, first}
+use Rattle.wal.specs.Meaning.{Cells, effects, replay, writes, image_of, is_on, last_on}
 use Rattle.wal.specs.Redo.{rec_lsn_of, is_redone, last_where, slots_in, held_by}
 use Rattle.wal.specs.Theorems.{RedoReplays, RedoSuffices}
 use Rattle.wal.proofs.Histories.{record_last, record_more, first_none}
 use Rattle.wal.proofs.Pages.{writes_on, slot_held, same_slots, on_page_last}
 
 -- where nothing is chosen nothing changes
-none_chosen : (chosen : ℕ → Bool) (state : State) (log : History) (page slot : ℕ) → ((n : ℕ) → n ≤ size log → chosen n ≡ false) → effects (λ n _. chosen n) state log page slot ≡ state page slot
+none_chosen : (chosen : ℕ → Bool) (state : Cells) (log : History) (page slot : ℕ) → ((n : ℕ) → n ≤ last_lsn log → chosen n ≡ false) → effects (λ n _. chosen n) state log page slot ≡ state page slot
 none_chosen chosen state start page slot h = refl
 none_chosen chosen state (log ▸ r) page slot h =
-    cond-false (writes page slot r && chosen (suc (size log))) (image_of r) (effects (λ n _. chosen n) state log page slot)
-    (and_right (writes page slot r) (chosen (suc (size log))) (h (suc (size log)) (omega arith)))
+    cond-false (writes page slot r && chosen (suc (last_lsn log))) (image_of r) (effects (λ n _. chosen n) state log page slot)
+    (and_right (writes page slot r) (chosen (suc (last_lsn log))) (h (suc (last_lsn log)) (omega arith)))
     ∙ none_chosen chosen state log page slot (λ n o. h n (omega arith))
 
 -- one chosen from after the first k on
-redo_from : (chosen : ℕ → Bool) (k : ℕ) (state : State) (log : History) (page slot : ℕ) → ((n : ℕ) → n ≤ k → chosen n ≡ false)
+redo_from : (chosen : ℕ → Bool) (k : ℕ) (state : Cells) (log : History) (page slot : ℕ) → ((n : ℕ) → n ≤ k → chosen n ≡ false)
     → ((n : ℕ) (r : LogRecord) → record_at log n ≡ Some r → is_on page r ≡ true → k < n → chosen n ≡ true)
     → state page slot ≡ replay (first k log) page slot → effects (λ n _. chosen n) state log page slot ≡ replay log page slot
 redo_from chosen k state start page slot below above e = e
 redo_from chosen k state (log ▸ r) page slot below above e =
-    elim (cases_Bool (ltb (size log) k)) [
+    elim (cases_Bool (ltb (last_lsn log) k)) [
       | inl i ↦
           (let e' : state page slot ≡ replay (log ▸ r) page slot = e ∙ ap (λ b. replay (cond b (log ▸ r) (first k log)) page slot) i in
-          none_chosen chosen state (log ▸ r) page slot (λ n o. below n (omega (arith, ltb-true (size log) k i))) ∙ e')
+          none_chosen chosen state (log ▸ r) page slot (λ n o. below n (omega (arith, ltb-true (last_lsn log) k i))) ∙ e')
       | inr i ↦
           (let e' : state page slot ≡ replay (first k log) page slot = e ∙ ap (λ b. replay (cond b (log ▸ r) (first k log)) page slot) i in
           let older : effects (λ n _. chosen n) state log page slot ≡ replay log page slot = redo_from chosen k state log page slot below (λ n x f o l. above n x (record_more log r n x f) o l) e' in
           elim (cases_Bool (writes page slot r)) [
             | inl w ↦
-                (let c : chosen (suc (size log)) ≡ true = above (suc (size log)) r (record_last log r) (writes_on page slot r w) (omega (arith, ltb-false (size log) k i)) in
+                (let c : chosen (suc (last_lsn log)) ≡ true = above (suc (last_lsn log)) r (record_last log r) (writes_on page slot r w) (omega (arith, ltb-false (last_lsn log) k i)) in
                 rw (w, c))
             | inr w ↦ rw (w, older)
           ])
     ]
 
 -- and the PageLSN stays
-none_last : (chosen : ℕ → Bool) (page lsn : ℕ) (log : History) → ((n : ℕ) → n ≤ size log → chosen n ≡ false) → last_where chosen page lsn log ≡ lsn
+none_last : (chosen : ℕ → Bool) (page lsn : ℕ) (log : History) → ((n : ℕ) → n ≤ last_lsn log → chosen n ≡ false) → last_where chosen page lsn log ≡ lsn
 none_last chosen page lsn start h = refl
 none_last chosen page lsn (log ▸ r) h =
-    cond-false (is_on page r && chosen (suc (size log))) (suc (size log)) (last_where chosen page lsn log) (and_right (is_on page r) (chosen (suc (size log))) (h (suc (size log)) (omega arith)))
+    cond-false (is_on page r && chosen (suc (last_lsn log))) (suc (last_lsn log)) (last_where chosen page lsn log) (and_right (is_on page r) (chosen (suc (last_lsn log))) (h (suc (last_lsn log)) (omega arith)))
     ∙ none_last chosen page lsn log (λ n o. h n (omega arith))
 
 -- one chosen from after the first k on, the PageLSN is that of the log
@@ -52,16 +52,16 @@ last_from : (chosen : ℕ → Bool) (k : ℕ) (log : History) (page : ℕ) → (
     → k ≡ last_on page (first k log) → last_where chosen page k log ≡ last_on page log
 last_from chosen k start page below above e = e
 last_from chosen k (log ▸ r) page below above e =
-    elim (cases_Bool (ltb (size log) k)) [
+    elim (cases_Bool (ltb (last_lsn log) k)) [
       | inl i ↦
           (let e' : k ≡ last_on page (log ▸ r) = e ∙ ap (λ b. last_on page (cond b (log ▸ r) (first k log))) i in
-          none_last chosen page k (log ▸ r) (λ n o. below n (omega (arith, ltb-true (size log) k i))) ∙ e')
+          none_last chosen page k (log ▸ r) (λ n o. below n (omega (arith, ltb-true (last_lsn log) k i))) ∙ e')
       | inr i ↦
           (let e' : k ≡ last_on page (first k log) = e ∙ ap (λ b. last_on page (cond b (log ▸ r) (first k log))) i in
           let older : last_where chosen page k log ≡ last_on page log = last_from chosen k log page below (λ n x f o l. above n x (record_more log r n x f) o l) e' in
           elim (cases_Bool (is_on page r)) [
             | inl w ↦
-                (let c : chosen (suc (size log)) ≡ true = above (suc (size log)) r (record_last log r) w (omega (arith, ltb-false (size log) k i)) in
+                (let c : chosen (suc (last_lsn log)) ≡ true = above (suc (last_lsn log)) r (record_last log r) w (omega (arith, ltb-false (last_lsn log) k i)) in
                 rw (w, c))
             | inr w ↦ rw (w, older)
           ])
@@ -100,9 +100,9 @@ redone rec_lsn redo_lsn page_lsn lsn a b c d =
     (and_from (not (eqb redo_lsn 0)) (leb redo_lsn lsn && ltb page_lsn lsn) some (and_from (leb redo_lsn lsn) (ltb page_lsn lsn) (le-leb redo_lsn lsn c) (lt-ltb page_lsn lsn d)))
 
 pub redo_suffices : RedoSuffices
-redo_suffices records store dirty redo_lsn h reaches i d lt =
+redo_suffices log store dirty redo_lsn h reaches i d lt =
     let page : Page = get_or store.pages i d in
-    redo_replays (rec_lsn_of page.number dirty) redo_lsn (history records) page (h.pages i d lt)
+    redo_replays (rec_lsn_of page.number dirty) redo_lsn (history log) page (h.pages i d lt)
     (λ lsn r f on lower.
     let q = reaches i d lt lsn r f on lower in
     ap (λ listed. is_redone listed redo_lsn page.lsn lsn) q.is_listed ∙ redone q.rec_lsn redo_lsn page.lsn lsn q.from_rec_lsn q.some q.from_redo_lsn lower)

@@ -2,8 +2,8 @@
 use Rattle.std.proofs.Common.{ℕ, suc, ◌≡◌, ◌≢◌, Bool, true, false, cond, ◌||◌, ◌&&◌, List, [], ◌∷◌, drop, Option, Some, None, refl, sym, ap, ap₂, ◌∙◌, subst, inl, inr, arith, eq-eqb, ne_eqb, eqb-true, eqb}
 use Rattle.std.proofs.lemmas.Bool.{cases_Bool, cases_eq, false≢true, eqb-false, or_cases, or_left, or_right, or_parts, both_ways, and_parts, and_from, and_left, and_right, false_from_ne_true, cond-true, cond-false}
 use Rattle.page.specs.Image.{Image}
-use Rattle.wal.specs.Records.{UpdateRecord, CompensationRecord, PlainRecord, LogRecord, Update, Compensation, Commit, Abort, End, CheckpointBegin, CheckpointEnd, History, start, ◌▸◌, size, record_at}
-use Rattle.wal.specs.Meaning.{State, empty, pending, finished, committed, ended, is_of, is_commit_of, touches, writes, image_of, has, replay, effects, winners, is_of_committed}
+use Rattle.wal.specs.Records.{UpdateRecord, CompensationRecord, PlainRecord, LogRecord, Update, Compensation, Commit, End, History, start, ◌▸◌, last_lsn, record_at}
+use Rattle.wal.specs.Meaning.{Cells, empty, pending, finished, committed, ended, is_of, is_commit_of, touches, writes, image_of, has, replay, effects, winners, is_of_committed}
 use Rattle.wal.specs.Laws.{Obeys, IsLawful, Compensates}
 use Rattle.wal.specs.Tail.{is_among}
 use Rattle.wal.proofs.Histories.{record_last, record_older, record_more}
@@ -12,12 +12,12 @@ use Rattle.wal.proofs.Holders.{holder, release, release_keeps, release_other, he
 
 -- EFFECTS OF CHOSEN RECORDS
 -- one choice is as good as another that agrees on the records in the cell
-pub effects_same : (f g : ℕ → LogRecord → Bool) (state : State) (log : History) (page slot : ℕ) → ((n : ℕ) (x : LogRecord) → record_at log n ≡ Some x → writes page slot x ≡ true → f n x ≡ g n x) → effects f state log page slot ≡ effects g state log page slot
+pub effects_same : (f g : ℕ → LogRecord → Bool) (state : Cells) (log : History) (page slot : ℕ) → ((n : ℕ) (x : LogRecord) → record_at log n ≡ Some x → writes page slot x ≡ true → f n x ≡ g n x) → effects f state log page slot ≡ effects g state log page slot
 effects_same f g state start page slot h = refl
 effects_same f g state (log ▸ r) page slot h =
     let older : effects f state log page slot ≡ effects g state log page slot = effects_same f g state log page slot (λ n x e w. h n x (record_more log r n x e) w) in
     elim (cases_Bool (writes page slot r)) [
-      | inl w ↦ (let i : f (suc (size log)) r ≡ g (suc (size log)) r = h (suc (size log)) r (record_last log r) w in rw (w, i, older))
+      | inl w ↦ (let i : f (suc (last_lsn log)) r ≡ g (suc (last_lsn log)) r = h (suc (last_lsn log)) r (record_last log r) w in rw (w, i, older))
       | inr w ↦ rw (w, older)
     ]
 
@@ -41,10 +41,8 @@ effects_of_holder f (log ▸ Compensation c) page slot t e h =
       | inr on ↦ rw on (effects_of_holder f log page slot t (rw on at e) h)
     ]
 effects_of_holder f (log ▸ Commit s) page slot t e h = effects_of_holder f log page slot t (release_keeps s.tx t (holder page slot log) e).1 h
-effects_of_holder f (log ▸ Abort s) page slot t e h = effects_of_holder f log page slot t e h
 effects_of_holder f (log ▸ End s) page slot t e h = effects_of_holder f log page slot t (release_keeps s.tx t (holder page slot log) e).1 h
-effects_of_holder f (log ▸ CheckpointBegin) page slot t e h = effects_of_holder f log page slot t e h
-effects_of_holder f (log ▸ CheckpointEnd n ts d) page slot t e h = effects_of_holder f log page slot t e h
+effects_of_holder f (log ▸ r) page slot t e h = effects_of_holder f log page slot t e h
 
 -- UNDOING
 abbrev pub undo_at : Option LogRecord → ℕ → ℕ → Image → Image
@@ -58,12 +56,12 @@ undone log page slot [] v = v
 undone log page slot (n ∷ ns) v = undone log page slot ns (undo_at (record_at log n) page slot v)
 
 -- a longer log changes nothing
-undone_more : (log : History) (r : LogRecord) (page slot : ℕ) (ns : List ℕ) (v : Image) → Falls (suc (size log)) ns → undone (log ▸ r) page slot ns v ≡ undone log page slot ns v
+undone_more : (log : History) (r : LogRecord) (page slot : ℕ) (ns : List ℕ) (v : Image) → Falls (suc (last_lsn log)) ns → undone (log ▸ r) page slot ns v ≡ undone log page slot ns v
 undone_more log r page slot [] v f = refl
 undone_more log r page slot (n ∷ ns) v f =
     let e : record_at (log ▸ r) n ≡ record_at log n = record_older log r n (omega (arith, f.0)) in
     ap (λ x. undone (log ▸ r) page slot ns (undo_at x page slot v)) e
-    ∙ undone_more log r page slot ns (undo_at (record_at log n) page slot v) (Falls-more n (suc (size log)) ns (omega (arith, f.0)) f.1)
+    ∙ undone_more log r page slot ns (undo_at (record_at log n) page slot v) (Falls-more n (suc (last_lsn log)) ns (omega (arith, f.0)) f.1)
 
 -- undoing those of a transaction that hasn't touched the cell leaves it
 undone_untouched : (log : History) (page slot t : ℕ) → touches t page slot log ≡ false → (ns : List ℕ) (v : Image) → ((n : ℕ) → is_among n ns ≡ true → IsUpdateOf t log n) → undone log page slot ns v ≡ v
@@ -113,13 +111,13 @@ module _ (log : History) (h : IsLawful log) (page slot : ℕ) (ih : restored pag
 
   restored_update_on : (u : UpdateRecord) → Obeys log (Update u) → (eqb u.page page && eqb u.slot slot) ≡ true → restored page slot (log ▸ Update u) ≡ winners (log ▸ Update u) page slot
   restored_update_on u o on =
-      let k = suc (size log) in
+      let k = suc (last_lsn log) in
       let (p, s) = and_parts (eqb u.page page) (eqb u.slot slot) on in
       let at_cell : (f : ℕ → ℕ → Image) → f u.page u.slot ≡ f page slot = λ f. ap₂ f (eqb-true u.page page p) (eqb-true u.slot slot s) in
       let holder_is : holder page slot (log ▸ Update u) ≡ Some u.tx = rw on in
-      let pending_is : pending u.tx (log ▸ Update u) ≡ suc (size log) ∷ pending u.tx log = rw (eq-eqb u.tx u.tx refl) in
+      let pending_is : pending u.tx (log ▸ Update u) ≡ suc (last_lsn log) ∷ pending u.tx log = rw (eq-eqb u.tx u.tx refl) in
       let value_is : replay (log ▸ Update u) page slot ≡ u.after = rw on in
-      let undo_is : undo_at (record_at (log ▸ Update u) (suc (size log))) page slot u.after ≡ u.before = ap (λ x. undo_at x page slot u.after) (record_last log (Update u)) ∙ rw on in
+      let undo_is : undo_at (record_at (log ▸ Update u) (suc (last_lsn log))) page slot u.after ≡ u.before = ap (λ x. undo_at x page slot u.after) (record_last log (Update u)) ∙ rw on in
       ap (λ x. restored_by x page slot (log ▸ Update u)) holder_is
       ∙ ap₂ (λ ns v. undone (log ▸ Update u) page slot ns v) pending_is value_is
       ∙ ap (undone (log ▸ Update u) page slot (pending u.tx log)) undo_is
@@ -147,8 +145,8 @@ module _ (log : History) (h : IsLawful log) (page slot : ℕ) (ih : restored pag
       restored_same (Update u) (rw off) (rw off)
       (λ t _ v. elim (cases_Bool (eqb u.tx t)) [
         | inl e ↦
-            (let pending_is : pending t (log ▸ Update u) ≡ suc (size log) ∷ pending t log = rw e in
-            let undo_is : undo_at (record_at (log ▸ Update u) (suc (size log))) page slot v ≡ v = ap (λ x. undo_at x page slot v) (record_last log (Update u)) ∙ rw off in
+            (let pending_is : pending t (log ▸ Update u) ≡ suc (last_lsn log) ∷ pending t log = rw e in
+            let undo_is : undo_at (record_at (log ▸ Update u) (suc (last_lsn log))) page slot v ≡ v = ap (λ x. undo_at x page slot v) (record_last log (Update u)) ∙ rw off in
             ap (λ ns. undone (log ▸ Update u) page slot ns v) pending_is
             ∙ ap (undone (log ▸ Update u) page slot (pending t log)) undo_is
             ∙ undone_more log (Update u) page slot (pending t log) v (pending_falls t log))
@@ -160,10 +158,10 @@ module _ (log : History) (h : IsLawful log) (page slot : ℕ) (ih : restored pag
   same_cell : (c : CompensationRecord) (k : Compensates log c) → (eqb k.update.page page && eqb k.update.slot slot) ≡ (eqb c.page page && eqb c.slot slot)
   same_cell c k = ap₂ (λ x y. eqb x page && eqb y slot) (sym k.page) (sym k.slot)
 
-  below_falls : (c : CompensationRecord) (k : Compensates log c) → Falls (suc (size log)) k.below
+  below_falls : (c : CompensationRecord) (k : Compensates log c) → Falls (suc (last_lsn log)) k.below
   below_falls c k =
-      let f : Falls (suc (size log)) (k.lsn ∷ k.below) = subst (λ ns. Falls (suc (size log)) ns) k.newest (pending_falls c.tx log) in
-      Falls-more k.lsn (suc (size log)) k.below (omega (arith, f.0)) f.1
+      let f : Falls (suc (last_lsn log)) (k.lsn ∷ k.below) = subst (λ ns. Falls (suc (last_lsn log)) ns) k.newest (pending_falls c.tx log) in
+      Falls-more k.lsn (suc (last_lsn log)) k.below (omega (arith, f.0)) f.1
 
   pending_less : (c : CompensationRecord) (k : Compensates log c) → pending c.tx (log ▸ Compensation c) ≡ k.below
   pending_less c k =
@@ -213,11 +211,7 @@ module _ (log : History) (h : IsLawful log) (page slot : ℕ) (ih : restored pag
       own_counts : (x : LogRecord) → is_of s.tx x ≡ true → writes page slot x ≡ true → is_of_committed (log ▸ Commit s) x ≡ true
       own_counts (Update u) e w = or_left (eqb s.tx u.tx) (committed u.tx log) (eq-eqb s.tx u.tx (sym (eqb-true u.tx s.tx e)))
       own_counts (Compensation c) e w = or_left (eqb s.tx c.tx) (committed c.tx log) (eq-eqb s.tx c.tx (sym (eqb-true c.tx s.tx e)))
-      own_counts (Commit _) e w = absurd (false≢true w)
-      own_counts (Abort _) e w = absurd (false≢true w)
-      own_counts (End _) e w = absurd (false≢true w)
-      own_counts CheckpointBegin e w = absurd (false≢true w)
-      own_counts (CheckpointEnd _ _ _) e w = absurd (false≢true w)
+      own_counts r e w = absurd (false≢true w)
 
       untouched : (holder page slot log ≡ Some s.tx → ⊥) → touches s.tx page slot log ≡ false
       untouched n = false_from_ne_true (touches s.tx page slot log) (λ w. n (holds log h page slot s.tx w o.finish.0))
@@ -229,11 +223,7 @@ module _ (log : History) (h : IsLawful log) (page slot : ℕ) (ih : restored pag
       others_count t n (Compensation c) e w =
           ap (λ b. b || committed c.tx log) (ne_eqb s.tx c.tx (λ i. both_ways (touches s.tx page slot log) t
           (found_has (λ r. is_of s.tx r && writes page slot r) log n (Compensation c) e (and_from (eqb c.tx s.tx) (writes page slot (Compensation c)) (eq-eqb c.tx s.tx (sym i)) w))))
-      others_count t n (Commit _) e w = refl
-      others_count t n (Abort _) e w = refl
-      others_count t n (End _) e w = refl
-      others_count t n CheckpointBegin e w = refl
-      others_count t n (CheckpointEnd _ _ _) e w = refl
+      others_count t n x e w = refl
 
       unchanged : (holder page slot log ≡ Some s.tx → ⊥) → winners (log ▸ Commit s) page slot ≡ winners log page slot
       unchanged n = effects_same (λ _ x. is_of_committed (log ▸ Commit s) x) (λ _ x. is_of_committed log x) empty log page slot (others_count (untouched n))

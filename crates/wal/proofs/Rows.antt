@@ -3,11 +3,12 @@ use Rattle.std.proofs.lemmas.Bool.{both_ways, false≢true, or_from, and_right}
 use Rattle.std.proofs.Common.{eqb, ne_eqb, sym, ◌∙◌, ◌&&◌, ◌||◌, true, false, inl, inr, ◌≢◌, ◌<◌, ℕ, zero, suc, ◌≡◌, ◌≤◌, [], ◌∷◌, ◌++◌, List, Option, Some, None, refl, arith}
 use Rattle.std.specs.Prelude.{replicate, take, slice_index_or}
 use Rattle.std.proofs.lemmas.List.Elements.{All-from_recursion}
+use Rattle.std.proofs.lemmas.Option.{same_Some}
 use Rattle.page.specs.Image.{Image}
 use Rattle.page.specs.declared.page.Page.{Page}
 use Rattle.page.specs.Store.{StoreContent, AreNumbered}
 use Rattle.wal.specs.declared.record.State.TheVariants.{Active}
-use Rattle.wal.specs.Records.{TableEntry, LogRecord, Update, Compensation, Commit, Abort, End, CheckpointBegin, CheckpointEnd, history, record_at}
+use Rattle.wal.specs.Records.{TableEntry, LogRecord, Update, Compensation, Commit, Abort, End, CheckpointBegin, CheckpointEnd, LogContent, history, ◌⧺◌, record_at}
 use Rattle.wal.specs.Meaning.{winners, touches}
 use Rattle.wal.specs.Laws.{IsLawful}
 use Rattle.wal.specs.Tail.{tail_of}
@@ -18,8 +19,8 @@ use Rattle.wal.specs.Store.{PageLaw, DirtyLaw, NamesPages, Lawful, Cut, first_en
 use Rattle.wal.specs.Reads.{log_text, Reads}
 use Rattle.wal.specs.Spelling.{frame, Fits}
 use Rattle.wal.specs.Theorems.{GoesOn}
+use Rattle.wal.proofs.Histories.{each_found}
 use Rattle.wal.proofs.CutBytes.{cuts_settle}
-use Rattle.wal.proofs.Fields.{some_is}
 
 abbrev pub a : Image
 a = Some (97 ∷ [])
@@ -45,43 +46,47 @@ A tx prev = Abort (record { tx = tx; prev = prev })
 abbrev pub E : ℕ → ℕ → LogRecord
 E tx prev = End (record { tx = tx; prev = prev })
 
+-- a log of these records
+abbrev pub L : List LogRecord → LogContent
+L records = record { records = records }
+
 -- a transaction that commits
-one_commit : tail_of (U 1 0 0 None a ∷ K 1 1 ∷ []) ≡ []
+one_commit : tail_of (L (U 1 0 0 None a ∷ K 1 1 ∷ [])) ≡ []
 one_commit = refl
 
 -- one that doesn't
-one_loser : tail_of (U 1 0 0 None a ∷ []) ≡ C 1 1 0 0 None ∷ E 1 2 ∷ []
+one_loser : tail_of (L (U 1 0 0 None a ∷ [])) ≡ C 1 1 0 0 None ∷ E 1 2 ∷ []
 one_loser = refl
 
 -- two losers, undone in descending LSN
-two_losers : tail_of (U 1 0 0 None a ∷ U 2 0 1 None b ∷ U 1 1 0 a c ∷ []) ≡ C 1 3 1 0 a ∷ C 2 2 0 1 None ∷ E 2 5 ∷ C 1 4 0 0 None ∷ E 1 7 ∷ []
+two_losers : tail_of (L (U 1 0 0 None a ∷ U 2 0 1 None b ∷ U 1 1 0 a c ∷ [])) ≡ C 1 3 1 0 a ∷ C 2 2 0 1 None ∷ E 2 5 ∷ C 1 4 0 0 None ∷ E 1 7 ∷ []
 two_losers = refl
 
 -- cut within the tail, the rest of it is left to write
-two_losers_cut : tail_of (take 5 (U 1 0 0 None a ∷ U 2 0 1 None b ∷ U 1 1 0 a c ∷ C 1 3 1 0 a ∷ C 2 2 0 1 None ∷ E 2 5 ∷ C 1 4 0 0 None ∷ E 1 7 ∷ [])) ≡ E 2 5 ∷ C 1 4 0 0 None ∷ E 1 7 ∷ []
+two_losers_cut : tail_of (L (take 5 (U 1 0 0 None a ∷ U 2 0 1 None b ∷ U 1 1 0 a c ∷ C 1 3 1 0 a ∷ C 2 2 0 1 None ∷ E 2 5 ∷ C 1 4 0 0 None ∷ E 1 7 ∷ []))) ≡ E 2 5 ∷ C 1 4 0 0 None ∷ E 1 7 ∷ []
 two_losers_cut = refl
 
 -- rolled back in part, and gone on
-partial_rollback_loser : tail_of (U 1 0 0 None a ∷ U 1 1 0 a b ∷ C 1 2 1 0 a ∷ U 1 3 0 a c ∷ []) ≡ C 1 4 3 0 a ∷ C 1 5 0 0 None ∷ E 1 6 ∷ []
+partial_rollback_loser : tail_of (L (U 1 0 0 None a ∷ U 1 1 0 a b ∷ C 1 2 1 0 a ∷ U 1 3 0 a c ∷ [])) ≡ C 1 4 3 0 a ∷ C 1 5 0 0 None ∷ E 1 6 ∷ []
 partial_rollback_loser = refl
 
 -- in the midst of a rollback
-rollback_interrupted : tail_of (U 1 0 0 None a ∷ U 1 1 0 a b ∷ A 1 2 ∷ C 1 3 1 0 a ∷ []) ≡ C 1 4 0 0 None ∷ E 1 5 ∷ []
+rollback_interrupted : tail_of (L (U 1 0 0 None a ∷ U 1 1 0 a b ∷ A 1 2 ∷ C 1 3 1 0 a ∷ [])) ≡ C 1 4 0 0 None ∷ E 1 5 ∷ []
 rollback_interrupted = refl
 
 -- ends first
-several_kinds_of_loser : tail_of (U 1 0 0 None a ∷ A 1 1 ∷ C 1 2 0 0 None ∷ U 2 0 1 None b ∷ A 3 0 ∷ []) ≡ E 1 3 ∷ E 3 5 ∷ C 2 4 0 1 None ∷ E 2 8 ∷ []
+several_kinds_of_loser : tail_of (L (U 1 0 0 None a ∷ A 1 1 ∷ C 1 2 0 0 None ∷ U 2 0 1 None b ∷ A 3 0 ∷ [])) ≡ E 1 3 ∷ E 3 5 ∷ C 2 4 0 1 None ∷ E 2 8 ∷ []
 several_kinds_of_loser = refl
 
 -- one that has rolled back a part and commits: the CLR counts
-partial_rollback_commit : winners (history (U 1 0 0 None a ∷ U 1 1 0 a b ∷ C 1 2 1 0 a ∷ K 1 3 ∷ [])) 0 0 ≡ a
+partial_rollback_commit : winners (history (L (U 1 0 0 None a ∷ U 1 1 0 a b ∷ C 1 2 1 0 a ∷ K 1 3 ∷ []))) 0 0 ≡ a
 partial_rollback_commit = refl
 
-finished_rollback_commit : winners (history (U 1 0 0 None a ∷ A 1 1 ∷ C 1 2 0 0 None ∷ E 1 3 ∷ U 2 0 0 None b ∷ K 2 5 ∷ [])) 0 0 ≡ b
+finished_rollback_commit : winners (history (L (U 1 0 0 None a ∷ A 1 1 ∷ C 1 2 0 0 None ∷ E 1 3 ∷ U 2 0 0 None b ∷ K 2 5 ∷ []))) 0 0 ≡ b
 finished_rollback_commit = refl
 
 -- the laws can be met
-one_commit_lawful : IsLawful (history (U 1 0 0 None a ∷ K 1 1 ∷ []))
+one_commit_lawful : IsLawful (history (L (U 1 0 0 None a ∷ K 1 1 ∷ [])))
 one_commit_lawful = (
   (
     tt,
@@ -90,13 +95,13 @@ one_commit_lawful = (
   record { chain = refl; finish = (refl, refl); compensation = tt; before = tt; strict = tt },
 )
 
-two_losers_strict : (other : ℕ) → other ≢ 1 → touches other 0 0 (history (U 1 0 0 None a ∷ U 2 0 1 None b ∷ [])) ≡ true → ⊥
+two_losers_strict : (other : ℕ) → other ≢ 1 → touches other 0 0 (history (L (U 1 0 0 None a ∷ U 2 0 1 None b ∷ []))) ≡ true → ⊥
 two_losers_strict other n w =
     let e : eqb 1 other ≡ false = ne_eqb 1 other (λ i. n (sym i)) in
     let w' : ((eqb 2 other && false) || false) ≡ true = rw e at w in
     both_ways ((eqb 2 other && false) || false) (or_from (eqb 2 other && false) false (and_right (eqb 2 other) false refl) refl) w'
 
-two_losers_lawful : IsLawful (history (U 1 0 0 None a ∷ U 2 0 1 None b ∷ U 1 1 0 a c ∷ []))
+two_losers_lawful : IsLawful (history (L (U 1 0 0 None a ∷ U 2 0 1 None b ∷ U 1 1 0 a c ∷ [])))
 two_losers_lawful = (
   (
     (
@@ -111,7 +116,7 @@ two_losers_lawful = (
 -- ---- text
 
 -- 66 bytes
-one_commit_text : log_text (U 1 0 0 None a ∷ K 1 1 ∷ []) ≡
+one_commit_text : log_text (L (U 1 0 0 None a ∷ K 1 1 ∷ [])) ≡
     (0x41 ∷ 0x52 ∷ 0x49 ∷ 0x45 ∷ 0x53 ∷ 0x4c ∷ 0x47 ∷ 0x31 ∷ [])
     ++ (0 ∷ 0 ∷ 0 ∷ 0x1d ∷ 1 ∷ 0 ∷ 0 ∷ 0 ∷ 0 ∷ 0 ∷ 0 ∷ 0 ∷ 1 ∷ 0 ∷ 0 ∷ 0 ∷ 1 ∷ 0 ∷ 0 ∷ 0 ∷ 0 ∷ 0 ∷ 0 ∷ 0 ∷ 0 ∷ 0 ∷ 0 ∷ 0 ∷ 0 ∷ 0 ∷ 0xff ∷ 1 ∷ 0x61 ∷ [])
     ++ (0 ∷ 0 ∷ 0 ∷ 0x15 ∷ 3 ∷ 0 ∷ 0 ∷ 0 ∷ 0 ∷ 0 ∷ 0 ∷ 0 ∷ 2 ∷ 0 ∷ 0 ∷ 0 ∷ 1 ∷ 0 ∷ 0 ∷ 0 ∷ 0 ∷ 0 ∷ 0 ∷ 0 ∷ 1 ∷ [])
@@ -126,58 +131,58 @@ abbrev pub store_of : ℕ → Page → StoreContent
 store_of master page = record { master = master; pages = page ∷ [] }
 
 -- the winner's value, with its PageLSN
-one_commit_out : store_out (U 1 0 0 None a ∷ K 1 1 ∷ []) (store_of 0 (holding 0 None)) ≡ store_of 0 (holding 1 a)
+one_commit_out : store_out (L (U 1 0 0 None a ∷ K 1 1 ∷ [])) (store_of 0 (holding 0 None)) ≡ store_of 0 (holding 1 a)
 one_commit_out = refl
 
 -- the loser leaves its CLR's LSN
-one_loser_out : store_out (U 1 0 0 None a ∷ []) (store_of 0 (holding 0 None)) ≡ store_of 0 (holding 2 None)
+one_loser_out : store_out (L (U 1 0 0 None a ∷ [])) (store_of 0 (holding 0 None)) ≡ store_of 0 (holding 2 None)
 one_loser_out = refl
 
 -- a page that has the record already is not redone
-loser_flushed : applied (Some 1) 1 (holding 1 a) (history (U 1 0 0 None a ∷ [])) ≡ 0
+loser_flushed : applied (Some 1) 1 (holding 1 a) (history (L (U 1 0 0 None a ∷ []))) ≡ 0
 loser_flushed = refl
 
-loser_not_flushed : redo_of (Some 1) 1 (history (U 1 0 0 None a ∷ [])) (holding 0 None) ≡ holding 1 a
+loser_not_flushed : redo_of (Some 1) 1 (history (L (U 1 0 0 None a ∷ []))) (holding 0 None) ≡ holding 1 a
 loser_not_flushed = refl
 
 -- with the record at PageLSN there, the two behind it
-partial_rollback_redone : redo_of (Some 3) 3 (history (U 1 0 0 None a ∷ U 1 1 0 a b ∷ C 1 2 1 0 a ∷ U 1 3 0 a c ∷ [])) (holding 2 b) ≡ holding 4 c
+partial_rollback_redone : redo_of (Some 3) 3 (history (L (U 1 0 0 None a ∷ U 1 1 0 a b ∷ C 1 2 1 0 a ∷ U 1 3 0 a c ∷ []))) (holding 2 b) ≡ holding 4 c
 partial_rollback_redone = refl
 
 -- ---- hops
 
 -- over the part that was rolled back
-partial_rollback_hops : hops 1 (history (U 1 0 0 None a ∷ U 1 1 0 a b ∷ C 1 2 1 0 a ∷ U 1 3 0 a c ∷ [])) 4 ≡ record { met = 4 ∷ 1 ∷ []; ends = 0 }
+partial_rollback_hops : hops 1 (history (L (U 1 0 0 None a ∷ U 1 1 0 a b ∷ C 1 2 1 0 a ∷ U 1 3 0 a c ∷ []))) 4 ≡ record { met = 4 ∷ 1 ∷ []; ends = 0 }
 partial_rollback_hops = refl
 
 -- a CLR that points past zero, to itself: a bad hop
-clr_points_past_zero : hops 1 (history (U 1 0 0 None a ∷ C 1 1 2 0 None ∷ [])) 2 ≡ record { met = []; ends = 2 }
+clr_points_past_zero : hops 1 (history (L (U 1 0 0 None a ∷ C 1 1 2 0 None ∷ []))) 2 ≡ record { met = []; ends = 2 }
 clr_points_past_zero = refl
 
 abbrev pub active : ℕ → ℕ → ℕ → TableEntry
 active tx last undo_next = record { tx = tx; state = Active; last = last; undo_next = undo_next }
 
 -- what undo appends by a table that is true, and by one that is not
-partial_rollback_undone : undone_by (history (U 1 0 0 None a ∷ U 1 1 0 a b ∷ C 1 2 1 0 a ∷ U 1 3 0 a c ∷ [])) (active 1 4 4 ∷ []) ≡ C 1 4 3 0 a ∷ C 1 5 0 0 None ∷ E 1 6 ∷ []
+partial_rollback_undone : undone_by (history (L (U 1 0 0 None a ∷ U 1 1 0 a b ∷ C 1 2 1 0 a ∷ U 1 3 0 a c ∷ []))) (active 1 4 4 ∷ []) ≡ C 1 4 3 0 a ∷ C 1 5 0 0 None ∷ E 1 6 ∷ []
 partial_rollback_undone = refl
 
-partial_rollback_misled : undone_by (history (U 1 0 0 None a ∷ U 1 1 0 a b ∷ C 1 2 1 0 a ∷ U 1 3 0 a c ∷ [])) (active 1 4 3 ∷ []) ≡ C 1 4 0 0 None ∷ E 1 5 ∷ []
+partial_rollback_misled : undone_by (history (L (U 1 0 0 None a ∷ U 1 1 0 a b ∷ C 1 2 1 0 a ∷ U 1 3 0 a c ∷ []))) (active 1 4 3 ∷ []) ≡ C 1 4 0 0 None ∷ E 1 5 ∷ []
 partial_rollback_misled = refl
 
 -- ---- checkpoints
 
-abbrev checkpoint_loser : List LogRecord
-checkpoint_loser = U 1 0 0 None a ∷ CheckpointBegin ∷ CheckpointEnd 2 (active 1 1 1 ∷ []) ((0, 1) ∷ []) ∷ []
+abbrev checkpoint_loser : LogContent
+checkpoint_loser = L (U 1 0 0 None a ∷ CheckpointBegin ∷ CheckpointEnd 2 (active 1 1 1 ∷ []) ((0, 1) ∷ []) ∷ [])
 
 checkpoint_loser_tail : tail_of checkpoint_loser ≡ C 1 1 0 0 None ∷ E 1 4 ∷ []
 checkpoint_loser_tail = refl
 
 -- of two ends that name it the first counts
-first_end_counts : first_end 1 (history (CheckpointBegin ∷ CheckpointEnd 1 [] [] ∷ CheckpointEnd 1 (active 9 8 8 ∷ []) [] ∷ [])) ≡ Some ([], [])
+first_end_counts : first_end 1 (history (L (CheckpointBegin ∷ CheckpointEnd 1 [] [] ∷ CheckpointEnd 1 (active 9 8 8 ∷ []) [] ∷ []))) ≡ Some ([], [])
 first_end_counts = refl
 
 -- one that another begin's end stands behind
-begin_not_named : first_end 2 (history (CheckpointBegin ∷ CheckpointBegin ∷ CheckpointEnd 1 [] [] ∷ [])) ≡ None
+begin_not_named : first_end 2 (history (L (CheckpointBegin ∷ CheckpointBegin ∷ CheckpointEnd 1 [] [] ∷ []))) ≡ None
 begin_not_named = refl
 
 checkpoint_loser_covers : (lsn : ℕ) (r : LogRecord) → record_at (history checkpoint_loser) lsn ≡ Some r → 1 ≤ lsn
@@ -186,7 +191,7 @@ checkpoint_loser_covers (suc lsn) r e = omega arith
 
 checkpoint_loser_range : (rec_lsn : ℕ) → ◌≡◌ {A = Option ℕ} (Some 1) (Some rec_lsn) → (1 ≤ rec_lsn) × (rec_lsn ≤ 2)
 checkpoint_loser_range rec_lsn e =
-    let one : 1 ≡ rec_lsn = some_is 1 rec_lsn e in
+    let one : 1 ≡ rec_lsn = same_Some 1 rec_lsn e in
     (omega (arith, one), omega (arith, one))
 
 -- a log with a checkpoint and its store are lawful
@@ -199,7 +204,7 @@ checkpoint_loser_lawful = record {
     ),
     record { chain = tt; finish = tt; compensation = tt; before = tt; strict = tt },
   );
-  names_pages = All-from_recursion (NamesPages 1) checkpoint_loser (omega arith, (tt, (All-from_recursion (λ (d : ℕ × ℕ). d.0 < 1) ((0, 1) ∷ []) (omega arith, tt), tt)));
+  names_pages = each_found (NamesPages 1) checkpoint_loser (All-from_recursion (NamesPages 1) checkpoint_loser.records (omega arith, (tt, (All-from_recursion (λ (d : ℕ × ℕ). d.0 < 1) ((0, 1) ∷ []) (omega arith, tt), tt))));
   pages = All-from_recursion (PageLaw (history checkpoint_loser)) (holding 0 None ∷ []) (record { within = omega arith; on_page = inl refl; slots_are = refl }, tt);
   checkpoint = inr (record {
     transactions = active 1 1 1 ∷ [];
@@ -230,8 +235,8 @@ fits_tables = record {
 checkpoint_loser_reads : Reads (log_text checkpoint_loser) checkpoint_loser 0
 checkpoint_loser_reads = record { tail = []; text = refl; torn_tail = inl (omega arith); torn_count = refl; each = (fits_update, (tt, (fits_tables, tt))); few = omega arith }
 
-abbrev checkpoint_loser_undone : List LogRecord
-checkpoint_loser_undone = checkpoint_loser ++ C 1 1 0 0 None ∷ []
+abbrev checkpoint_loser_undone : LogContent
+checkpoint_loser_undone = checkpoint_loser ⧺ C 1 1 0 0 None ∷ []
 
 checkpoint_loser_cut : Cut checkpoint_loser (store_of 2 (holding 0 None)) (log_text checkpoint_loser_undone) (store_of 2 (holding 4 None))
 checkpoint_loser_cut = record {

@@ -1,7 +1,7 @@
 -- The stacks of pending updates, and the records at an LSN.
 use Rattle.std.proofs.Common.{ℕ, suc, ◌≡◌, ◌<◌, ◌≤◌, true, List, [], ◌∷◌, drop, Some, ap, ◌∙◌, inl, inr, arith, eqb-true, eqb}
 use Rattle.std.proofs.lemmas.Bool.{cond_both, cases_Bool, false≢true, or_cases, or_right}
-use Rattle.wal.specs.Records.{UpdateRecord, LogRecord, Update, Compensation, Commit, Abort, End, CheckpointBegin, CheckpointEnd, History, start, ◌▸◌, size, record_at}
+use Rattle.wal.specs.Records.{UpdateRecord, LogRecord, Update, Compensation, History, start, ◌▸◌, last_lsn, record_at}
 use Rattle.wal.specs.Meaning.{pending}
 use Rattle.wal.specs.Tail.{is_among}
 use Rattle.wal.proofs.Histories.{record_last, record_more}
@@ -30,17 +30,17 @@ Falls-among b n (m ∷ ns) f h =
     ]
 
 -- what is pending falls
-pub pending_falls : (t : ℕ) (log : History) → Falls (suc (size log)) (pending t log)
+pub pending_falls : (t : ℕ) (log : History) → Falls (suc (last_lsn log)) (pending t log)
 pending_falls t start = tt
 pending_falls t (log ▸ Update u) =
-    cond_both (eqb u.tx t) (suc (size log) ∷ pending t log) (pending t log) (λ s. Falls (suc (suc (size log))) s)
+    cond_both (eqb u.tx t) (suc (last_lsn log) ∷ pending t log) (pending t log) (λ s. Falls (suc (suc (last_lsn log))) s)
     (λ _. (omega arith, pending_falls t log))
-    (λ _. Falls-more (suc (size log)) (suc (suc (size log))) (pending t log) (omega arith) (pending_falls t log))
+    (λ _. Falls-more (suc (last_lsn log)) (suc (suc (last_lsn log))) (pending t log) (omega arith) (pending_falls t log))
 pending_falls t (log ▸ Compensation c) =
-    cond_both (eqb c.tx t) (drop 1 (pending t log)) (pending t log) (λ s. Falls (suc (suc (size log))) s)
-    (λ _. Falls-more (suc (size log)) (suc (suc (size log))) (drop 1 (pending t log)) (omega arith) (Falls-drop (suc (size log)) (pending t log) (pending_falls t log)))
-    (λ _. Falls-more (suc (size log)) (suc (suc (size log))) (pending t log) (omega arith) (pending_falls t log))
-pending_falls t (log ▸ _) = Falls-more (suc (size log)) (suc (suc (size log))) (pending t log) (omega arith) (pending_falls t log)
+    cond_both (eqb c.tx t) (drop 1 (pending t log)) (pending t log) (λ s. Falls (suc (suc (last_lsn log))) s)
+    (λ _. Falls-more (suc (last_lsn log)) (suc (suc (last_lsn log))) (drop 1 (pending t log)) (omega arith) (Falls-drop (suc (last_lsn log)) (pending t log) (pending_falls t log)))
+    (λ _. Falls-more (suc (last_lsn log)) (suc (suc (last_lsn log))) (pending t log) (omega arith) (pending_falls t log))
+pending_falls t (log ▸ _) = Falls-more (suc (last_lsn log)) (suc (suc (last_lsn log))) (pending t log) (omega arith) (pending_falls t log)
 
 -- RECORDS
 -- what is pending is an update of that transaction
@@ -60,9 +60,9 @@ pending_found t start n h = absurd (false≢true h)
 pending_found t (log ▸ Update u) n h =
     elim (cases_Bool (eqb u.tx t)) [
       | inl e ↦
-          (let h' : is_among n (suc (size log) ∷ pending t log) ≡ true = rw e at h in
-          elim (or_cases (eqb n (suc (size log))) (is_among n (pending t log)) h') [
-            | inl i ↦ (u, ap (record_at (log ▸ Update u)) (eqb-true n (suc (size log)) i) ∙ record_last log (Update u), eqb-true u.tx t e)
+          (let h' : is_among n (suc (last_lsn log) ∷ pending t log) ≡ true = rw e at h in
+          elim (or_cases (eqb n (suc (last_lsn log))) (is_among n (pending t log)) h') [
+            | inl i ↦ (u, ap (record_at (log ▸ Update u)) (eqb-true n (suc (last_lsn log)) i) ∙ record_last log (Update u), eqb-true u.tx t e)
             | inr i ↦ IsUpdateOf-more t log (Update u) n (pending_found t log n i)
           ])
       | inr e ↦ IsUpdateOf-more t log (Update u) n (pending_found t log n (rw e at h))
@@ -72,8 +72,4 @@ pending_found t (log ▸ Compensation c) n h =
       | inl e ↦ IsUpdateOf-more t log (Compensation c) n (pending_found t log n (among_drop n (pending t log) (rw e at h)))
       | inr e ↦ IsUpdateOf-more t log (Compensation c) n (pending_found t log n (rw e at h))
     ]
-pending_found t (log ▸ Commit s) n h = IsUpdateOf-more t log (Commit s) n (pending_found t log n h)
-pending_found t (log ▸ Abort s) n h = IsUpdateOf-more t log (Abort s) n (pending_found t log n h)
-pending_found t (log ▸ End s) n h = IsUpdateOf-more t log (End s) n (pending_found t log n h)
-pending_found t (log ▸ CheckpointBegin) n h = IsUpdateOf-more t log CheckpointBegin n (pending_found t log n h)
-pending_found t (log ▸ CheckpointEnd b ts d) n h = IsUpdateOf-more t log (CheckpointEnd b ts d) n (pending_found t log n h)
+pending_found t (log ▸ r) n h = IsUpdateOf-more t log r n (pending_found t log n h)

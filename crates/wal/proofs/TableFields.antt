@@ -5,6 +5,7 @@ use Rattle.std.specs.Int.{w32, w64, to_be_bytes}
 use Rattle.std.proofs.lemmas.Bool.{ltb-false, le-ltb}
 use Rattle.std.proofs.lemmas.List.{length-append}
 use Rattle.std.proofs.Math.Nat.{mul-suc}
+use Rattle.std.proofs.lemmas.Option.{same_Some}
 use Rattle.wal.specs.declared.record.State.{State}
 use Rattle.wal.specs.declared.record.State.TheVariants.{Active, Aborting}
 use Rattle.wal.specs.Records.{TableEntry, tx_in, page_in}
@@ -12,23 +13,24 @@ use Rattle.wal.specs.Spelling.{state, entry, dirty_page, table, FitsEntry, FitsD
 use Rattle.wal.specs.Reading.{◌>>=◌, number_at, tx_at, state_at, entry_at, dirty_at, table_at, transactions_at, dirties_at}
 use Rattle.wal.proofs.Loop.{chosen}
 use Rattle.wal.proofs.Rising.{RisesFrom, rises_rising, rising_from_0}
-use Rattle.wal.proofs.Fields.{IsBytes, IsBytes-rest, some_is, bind_some, Takes, Takes-then, IsField, first_of_all, field32, field64, FitsTx, tx_field}
+use Rattle.page.proofs.BigEndian.{AreBytes}
+use Rattle.wal.proofs.Fields.{AreBytes-rest, bind_some, Takes, Takes-then, IsField, first_of_all, field32, field64, FitsTx, tx_field}
 
 -- ---- entries
 
-state_takes : (bytes : List ℕ) (x : State × List ℕ) → IsBytes bytes → state_at bytes ≡ Some x → Takes bytes (state x.0) x.1 × Unit {0}
+state_takes : (bytes : List ℕ) (x : State × List ℕ) → AreBytes bytes → state_at bytes ≡ Some x → Takes bytes (state x.0) x.1 × Unit {0}
 unfolding state_at
 state_takes [] x fits e = absurd cc
 state_takes (code ∷ rest) x fits e =
     elim (chosen (eqb code 0) _ _ _ e) [
       | inl p ↦
-          subst (λ (y : State × List ℕ). Takes (code ∷ rest) (state y.0) y.1 × Unit {0}) (some_is (Active, rest) x p.1)
-          (record { parts = ap (λ (c : ℕ). c ∷ rest) (eqb-true code 0 p.0); rest_fits = IsBytes-rest code rest fits }, tt)
+          subst (λ (y : State × List ℕ). Takes (code ∷ rest) (state y.0) y.1 × Unit {0}) (same_Some (Active, rest) x p.1)
+          (record { parts = ap (λ (c : ℕ). c ∷ rest) (eqb-true code 0 p.0); rest_fits = AreBytes-rest code rest fits }, tt)
       | inr p ↦
           elim (chosen (eqb code 1) _ _ _ p.1) [
             | inl q ↦
-                subst (λ (y : State × List ℕ). Takes (code ∷ rest) (state y.0) y.1 × Unit {0}) (some_is (Aborting, rest) x q.1)
-                (record { parts = ap (λ (c : ℕ). c ∷ rest) (eqb-true code 1 q.0); rest_fits = IsBytes-rest code rest fits }, tt)
+                subst (λ (y : State × List ℕ). Takes (code ∷ rest) (state y.0) y.1 × Unit {0}) (same_Some (Aborting, rest) x q.1)
+                (record { parts = ap (λ (c : ℕ). c ∷ rest) (eqb-true code 1 q.0); rest_fits = AreBytes-rest code rest fits }, tt)
             | inr q ↦ absurd cc
           ]
     ]
@@ -41,7 +43,7 @@ state_again Aborting rest fits = refl
 state_field : IsField state_at state (λ s. Unit {0})
 state_field = record { takes = state_takes; again = state_again }
 
-entry_takes : (bytes : List ℕ) (x : TableEntry × List ℕ) → IsBytes bytes → entry_at bytes ≡ Some x → Takes bytes (entry x.0) x.1 × FitsEntry x.0
+entry_takes : (bytes : List ℕ) (x : TableEntry × List ℕ) → AreBytes bytes → entry_at bytes ≡ Some x → Takes bytes (entry x.0) x.1 × FitsEntry x.0
 unfolding entry_at
 entry_takes bytes x fits e =
     let a = first_of_all tx_at (to_be_bytes w32) FitsTx tx_field bytes _ x fits e in
@@ -52,7 +54,7 @@ entry_takes bytes x fits e =
     let bd = Takes-then a.rest (state b.value) b.rest (to_be_bytes w64 c.value ++ to_be_bytes w64 d.value) d.rest b.takes cd in
     let ad = Takes-then bytes (to_be_bytes w32 a.value) a.rest (state b.value ++ (to_be_bytes w64 c.value ++ to_be_bytes w64 d.value)) d.rest a.takes bd in
     let made : TableEntry × List ℕ = (record { tx = a.value; state = b.value; last = c.value; undo_next = d.value }, d.rest) in
-    subst (λ (y : TableEntry × List ℕ). Takes bytes (entry y.0) y.1 × FitsEntry y.0) (some_is made x d.after)
+    subst (λ (y : TableEntry × List ℕ). Takes bytes (entry y.0) y.1 × FitsEntry y.0) (same_Some made x d.after)
     (ad, record { some_tx = a.fits.0; tx = a.fits.1; last = c.fits; undo_next = d.fits })
 
 entry_again : (e : TableEntry) (rest : List ℕ) → FitsEntry e → entry_at (entry e ++ rest) ≡ Some (e, rest)
@@ -66,14 +68,14 @@ entry_again e rest fits =
 entry_field : IsField entry_at entry FitsEntry
 entry_field = record { takes = entry_takes; again = entry_again }
 
-dirty_takes : (bytes : List ℕ) (x : (ℕ × ℕ) × List ℕ) → IsBytes bytes → dirty_at bytes ≡ Some x → Takes bytes (dirty_page x.0) x.1 × FitsDirty x.0
+dirty_takes : (bytes : List ℕ) (x : (ℕ × ℕ) × List ℕ) → AreBytes bytes → dirty_at bytes ≡ Some x → Takes bytes (dirty_page x.0) x.1 × FitsDirty x.0
 unfolding dirty_at
 dirty_takes bytes x fits e =
     let a = first_of_all (number_at w32) (to_be_bytes w32) (λ n. n < 2 ^ 32) field32 bytes _ x fits e in
     let b = first_of_all (number_at w64) (to_be_bytes w64) (λ n. n < 2 ^ 64) field64 a.rest _ x a.takes.rest_fits a.after in
     let ab = Takes-then bytes (to_be_bytes w32 a.value) a.rest (to_be_bytes w64 b.value) b.rest a.takes b.takes in
     let made : (ℕ × ℕ) × List ℕ = ((a.value, b.value), b.rest) in
-    subst (λ (y : (ℕ × ℕ) × List ℕ). Takes bytes (dirty_page y.0) y.1 × FitsDirty y.0) (some_is made x b.after)
+    subst (λ (y : (ℕ × ℕ) × List ℕ). Takes bytes (dirty_page y.0) y.1 × FitsDirty y.0) (same_Some made x b.after)
     (ab, record { page = a.fits; rec_lsn = b.fits })
 
 dirty_again : (d : ℕ × ℕ) (rest : List ℕ) → FitsDirty d → dirty_at (dirty_page d ++ rest) ≡ Some (d, rest)
@@ -98,16 +100,16 @@ module _ {E : Type 0} (number : E → ℕ) (one : List ℕ → Option (E × List
     each : AllByRecursion Fit x.0
     rises : RisesFrom low (map number x.0)
 
-  table_takes : (count low : ℕ) (bytes : List ℕ) (x : List E × List ℕ) → IsBytes bytes → table_at number one count low bytes ≡ Some x → TableRead count low bytes x
+  table_takes : (count low : ℕ) (bytes : List ℕ) (x : List E × List ℕ) → AreBytes bytes → table_at number one count low bytes ≡ Some x → TableRead count low bytes x
   unfolding table_at
   table_takes zero low bytes x fits e =
-      subst (TableRead zero low bytes) (some_is ([], bytes) x e) (record { takes = record { parts = refl; rest_fits = fits }; len = refl; each = tt; rises = tt })
+      subst (TableRead zero low bytes) (same_Some ([], bytes) x e) (record { takes = record { parts = refl; rest_fits = fits }; len = refl; each = tt; rises = tt })
   table_takes (suc count) low bytes x fits e =
       let a = first_of_all one spell Fit field bytes _ x fits e in
       let b = bind_some (cond (ltb (number a.value) low) None (table_at number one count (number a.value + 1) a.rest)) _ x a.after in
       let g = guard_read (ltb (number a.value) low) (table_at number one count (number a.value + 1) a.rest) b.0 b.1 in
       let others = table_takes count (number a.value + 1) a.rest b.0 a.takes.rest_fits g.1 in
-      subst (TableRead (suc count) low bytes) (some_is (a.value ∷ b.0.0, b.0.1) x b.2)
+      subst (TableRead (suc count) low bytes) (same_Some (a.value ∷ b.0.0, b.0.1) x b.2)
       (record { takes = Takes-then bytes (spell a.value) a.rest (flat_map spell b.0.0) b.0.1 a.takes others.takes; len = omega (arith, others.len); each = (a.fits, others.each); rises = (ltb-false _ _ g.0, others.rises) })
 
   table_again : (low : ℕ) (entries : List E) (rest : List ℕ) → AllByRecursion Fit entries → RisesFrom low (map number entries)
@@ -124,7 +126,7 @@ module _ {E : Type 0} (number : E → ℕ) (one : List ℕ → Option (E × List
   abbrev counted_at : ℕ → List ℕ → Option (List E × List ℕ)
   counted_at most bytes = number_at w32 bytes >>= λ count. cond (ltb most count.0) None (table_at number one count.0 0 count.1)
 
-  counted_takes : (most : ℕ) (bytes : List ℕ) (x : List E × List ℕ) → IsBytes bytes → counted_at most bytes ≡ Some x → Takes bytes (table spell x.0) x.1 × FitsTable most number Fit x.0
+  counted_takes : (most : ℕ) (bytes : List ℕ) (x : List E × List ℕ) → AreBytes bytes → counted_at most bytes ≡ Some x → Takes bytes (table spell x.0) x.1 × FitsTable most number Fit x.0
   counted_takes most bytes x fits e =
       let a = first_of_all (number_at w32) (to_be_bytes w32) (λ n. n < 2 ^ 32) field32 bytes _ x fits e in
       let g = guard_read (ltb most a.value) (table_at number one a.value 0 a.rest) x a.after in

@@ -1,18 +1,18 @@
 -- Reading the entries of a table one after the other, as a loop does, and finding one of them again.
-use Rattle.std.proofs.Common.{◌≡◌, ℕ, zero, suc, ◌+◌, ◌-◌, ◌*◌, ◌<◌, ◌≤◌, inl, inr, true, false, ltb, eqb, List, [], ◌∷◌, ◌++◌, length, take, drop, Option, Some, None, map, refl, sym, ap, subst, ◌∙◌, arith, append_assoc}
+use Rattle.std.proofs.Common.{◌≡◌, ℕ, zero, suc, ◌+◌, ◌-◌, ◌*◌, ◌<◌, ◌≤◌, inl, inr, true, false, ltb, eqb, List, [], ◌∷◌, ◌++◌, length, get_or, take, drop, Option, Some, None, map, refl, sym, ap, subst, ◌∙◌, arith, append_assoc}
 use Rattle.std.specs.Prelude.{is_some, option_map, unwrap_or}
 use Rattle.std.specs.Int.{Width, w32, w64, byte_len, from_be_bytes}
 use Rattle.std.specs.List.{range_with_len, slice_get}
 use Rattle.std.proofs.Math.Nat.{mul-suc}
 use Rattle.std.proofs.lemmas.Bool.{ltb-false, le-ltb, lt-ltb, cases_lt}
 use Rattle.std.proofs.lemmas.List.{append-nil, drop-drop, length-drop, take_more}
-use Rattle.std.proofs.lemmas.Option.{slice_get_within, get_or_from_slice_get}
+use Rattle.std.proofs.lemmas.Option.{same_Some}
 use Rattle.wal.specs.declared.record.State.{State}
 use Rattle.wal.specs.declared.record.State.TheVariants.{Active, Aborting}
 use Rattle.wal.specs.Records.{TableEntry}
 use Rattle.wal.specs.Reading.{◌>>=◌, number_at, tx_at, state_at, entry_at, dirty_at, table_at, entry_there, table_in, IsTable}
 use Rattle.wal.proofs.Loop.{chosen, unwrapped}
-use Rattle.wal.proofs.Fields.{some_is, bind_some, guard_some}
+use Rattle.wal.proofs.Fields.{bind_some, guard_some}
 
 -- ---- how many bytes an entry takes
 
@@ -40,10 +40,10 @@ unfolding state_at
 state_sized [] x e = absurd cc
 state_sized (code ∷ rest) x e =
     elim (chosen (eqb code 0) _ _ _ e) [
-      | inl p ↦ (omega arith, sym (ap (λ q. q.1) (some_is (Active, rest) x p.1)))
+      | inl p ↦ (omega arith, sym (ap (λ q. q.1) (same_Some (Active, rest) x p.1)))
       | inr p ↦
           elim (chosen (eqb code 1) _ _ _ p.1) [
-            | inl q ↦ (omega arith, sym (ap (λ r. r.1) (some_is (Aborting, rest) x q.1)))
+            | inl q ↦ (omega arith, sym (ap (λ r. r.1) (same_Some (Aborting, rest) x q.1)))
             | inr q ↦ absurd cc
           ]
     ]
@@ -64,7 +64,7 @@ entry_size = record {
       let ab = sized_then 4 1 bytes a.0.1 b.0.1 (tx_sized bytes a.0 a.1) (state_sized a.0.1 b.0 b.1) in
       let ac = sized_then 5 8 bytes b.0.1 c.0.1 ab (number_sized w64 b.0.1 c.0 c.1) in
       let ad = sized_then 13 8 bytes c.0.1 d.0.1 ac (number_sized w64 c.0.1 d.0 d.1) in
-      subst (λ (r : List ℕ). Sized 21 bytes r) (ap (λ p. p.1) (some_is made x d.2)) ad;
+      subst (λ (r : List ℕ). Sized 21 bytes r) (ap (λ p. p.1) (same_Some made x d.2)) ad;
 }
 
 pub dirty_size : HasSize dirty_at 12
@@ -75,7 +75,7 @@ dirty_size = record {
       let b = bind_some (number_at w64 a.0.1) _ x a.2 in
       let made : (ℕ × ℕ) × List ℕ = ((a.0.0, b.0.0), b.0.1) in
       let ab = sized_then 4 8 bytes a.0.1 b.0.1 (number_sized w32 bytes a.0 a.1) (number_sized w64 a.0.1 b.0 b.1) in
-      subst (λ (r : List ℕ). Sized 12 bytes r) (ap (λ p. p.1) (some_is made x b.2)) ab;
+      subst (λ (r : List ℕ). Sized 12 bytes r) (ap (λ p. p.1) (same_Some made x b.2)) ab;
 }
 
 -- ---- the loop
@@ -186,14 +186,9 @@ item_past f a zero i le = refl
 item_past f a (suc n) zero le = absurd (omega arith)
 item_past f a (suc n) (suc i) le = item_past f (a + 1) n i (omega arith)
 
--- one item more, or none where there is none
-pub taken_more : {X : Type 0} (xs : List X) (i : ℕ) (x : X) → slice_get xs i ≡ Some x → take (i + 1) xs ≡ take i xs ++ x ∷ []
-taken_more xs i x e = take_more xs i x (slice_get_within xs i x e) ∙ ap (λ y. take i xs ++ y ∷ []) (get_or_from_slice_get xs i x x e)
-
-pub taken_all : {X : Type 0} (xs : List X) (i : ℕ) → slice_get xs i ≡ None → i < length xs → ⊥
-taken_all [] i e lt = absurd (omega (arith, lt))
-taken_all (x ∷ xs) zero e lt = absurd cc
-taken_all (x ∷ xs) (suc i) e lt = taken_all xs i e (omega (arith, lt))
+-- one item more
+pub taken_more : {X : Type 0} (xs : List X) (i : ℕ) (x : X) → i < length xs → get_or xs i x ≡ x → take (i + 1) xs ≡ take i xs ++ x ∷ []
+taken_more xs i x lt is = take_more xs i x lt ∙ ap (λ y. take i xs ++ y ∷ []) is
 
 -- the entry at a place is what is read there
 pub entry_at_place : {E : Type 0} (one : List ℕ → Option (E × List ℕ)) (other : E) (size count : ℕ) (bytes : List ℕ) (place : ℕ) → IsTable one size count bytes → place < count

@@ -2,7 +2,7 @@
 use mathlib.Core.Path.{fun_ext}
 use Rattle.std.proofs.Common.{ℕ, suc, ◌≡◌, Bool, true, false, cond, List, [], ◌∷◌, map, Some, None, refl, sym, ap, ap₂, ◌∙◌, inl, inr, eq-eqb, ne_eqb}
 use Rattle.std.proofs.lemmas.Bool.{cases_Bool, cases_eq, both_ways, false_from_ne_true}
-use Rattle.wal.specs.Records.{tx_in, History, size, history}
+use Rattle.wal.specs.Records.{tx_in, History, last_lsn, history}
 use Rattle.wal.specs.Meaning.{is_loser, pending, last_of}
 use Rattle.wal.specs.Laws.{IsLawful}
 use Rattle.wal.specs.Tail.{written, losers_of, left_of, is_among, rollback, left_to_do, tail}
@@ -53,9 +53,9 @@ module _ (log : History) (h : IsLawful log) where
 
   undone_is_tail : undone_by log (true_table log) ≡ tail log
   undone_is_tail =
-      ap₂ (λ ts s. written (λ t. last_in (entry_for t (true_table log))) (suc (size log)) (rollback ts s log)) (txs_are log (losers_of log)) (fun_ext (λ t. ap (λ w. w.met) (walk_is t)))
-      ∙ written_same (λ t. last_in (entry_for t (true_table log))) (λ t. last_of t log) (suc (size log)) (left_to_do log)
+      ap₂ (λ ts s. written (λ t. last_in (entry_for t (true_table log))) (suc (last_lsn log)) (rollback ts s log)) (txs_are log (losers_of log)) (fun_ext (λ t. ap (λ w. w.met) (walk_is t)))
+      ∙ written_same (λ t. last_in (entry_for t (true_table log))) (λ t. last_of t log) (suc (last_lsn log)) (left_to_do log)
       (left_is_of_losers (λ t. last_in (entry_for t (true_table log)) ≡ last_of t log) log last_is)
 
 pub undo_is_tail : UndoIsTail
-undo_is_tail records h = record { appended = undone_is_tail (history records) h; no_bad_hop = λ t. ap (λ w. w.ends) (walk_is (history records) h t) }
+undo_is_tail log h = record { appended = undone_is_tail (history log) h; no_bad_hop = λ t. ap (λ w. w.ends) (walk_is (history log) h t) }

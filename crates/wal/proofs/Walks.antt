@@ -1,10 +1,11 @@
 -- The walk of a transaction meets its pending updates.
-use Rattle.std.proofs.Common.{ℕ, suc, ◌≡◌, ◌≤◌, true, false, ◌||◌, List, [], ◌∷◌, drop, Some, refl, sym, ap, ap₂, ◌∙◌, subst, inl, inr, arith, eq-eqb, ne_eqb, eqb-true, eqb}
+use Rattle.std.proofs.Common.{ℕ, suc, ◌≡◌, ◌≤◌, true, false, ◌||◌, List, [], ◌∷◌, drop, Option, Some, None, refl, sym, ap, ap₂, ◌∙◌, subst, inl, inr, arith, eq-eqb, ne_eqb, eqb-true, eqb}
+use Rattle.std.specs.Prelude.{option_map, unwrap_or}
 use Rattle.std.proofs.lemmas.Bool.{cases_Bool, or_parts, or_from}
-use Rattle.wal.specs.Records.{UpdateRecord, CompensationRecord, LogRecord, Update, Compensation, Commit, Abort, End, CheckpointBegin, CheckpointEnd, History, start, ◌▸◌, size, record_at}
+use Rattle.wal.specs.Records.{UpdateRecord, CompensationRecord, LogRecord, Update, Compensation, Commit, Abort, End, History, start, ◌▸◌, last_lsn, record_at}
 use Rattle.wal.specs.Meaning.{pending, undo_next_of, last_of, finished, aborted, committed, ended}
 use Rattle.wal.specs.Laws.{Obeys, IsLawful}
-use Rattle.wal.specs.Hops.{hops, meet}
+use Rattle.wal.specs.Hops.{sent_on, hops, meet}
 use Rattle.wal.proofs.Histories.{record_last, record_more}
 
 -- sent to the LSN n, t meets these updates and then ends well
@@ -12,26 +13,25 @@ abbrev pub Walks : ℕ → History → ℕ → List ℕ → Type 0
 Walks t log n ms = hops t log n ≡ record { met = ms; ends = 0 }
 
 -- a walk that is not sent to the last record
-pub hops_other : (t : ℕ) (log : History) (r : LogRecord) (n : ℕ) → eqb n (suc (size log)) ≡ false → hops t (log ▸ r) n ≡ hops t log n
+pub hops_other : (t : ℕ) (log : History) (r : LogRecord) (n : ℕ) → eqb n (suc (last_lsn log)) ≡ false → hops t (log ▸ r) n ≡ hops t log n
 hops_other t log (Update u) n e = rw e
-hops_other t log (Compensation c) n e = rw e
-hops_other t log _ n e = rw e
+hops_other t log r n e = rw e
 
 -- a walk sent into the log before
-hops_older : (t : ℕ) (log : History) (r : LogRecord) (n : ℕ) → n ≤ size log → hops t (log ▸ r) n ≡ hops t log n
-hops_older t log r n h = hops_other t log r n (ne_eqb n (suc (size log)) (λ e. omega arith))
+hops_older : (t : ℕ) (log : History) (r : LogRecord) (n : ℕ) → n ≤ last_lsn log → hops t (log ▸ r) n ≡ hops t log n
+hops_older t log r n h = hops_other t log r n (ne_eqb n (suc (last_lsn log)) (λ e. omega arith))
 
 -- a walk that ends well was sent to a record of the log, or nowhere
-ends_within : (t : ℕ) (log : History) (n : ℕ) → (hops t log n).ends ≡ 0 → n ≤ size log
+ends_within : (t : ℕ) (log : History) (n : ℕ) → (hops t log n).ends ≡ 0 → n ≤ last_lsn log
 ends_within t start n h = omega (arith, h)
 ends_within t (log ▸ r) n h =
-    elim (cases_Bool (eqb n (suc (size log)))) [
-      | inl e ↦ omega (arith, eqb-true n (suc (size log)) e)
+    elim (cases_Bool (eqb n (suc (last_lsn log)))) [
+      | inl e ↦ omega (arith, eqb-true n (suc (last_lsn log)) e)
       | inr e ↦ omega (arith, ends_within t log n (sym (ap (λ w. w.ends) (hops_other t log r n e)) ∙ h))
     ]
 
 -- a good walk starts in the log
-walk_within : (t : ℕ) (log : History) (n : ℕ) (ms : List ℕ) → Walks t log n ms → n ≤ size log
+walk_within : (t : ℕ) (log : History) (n : ℕ) (ms : List ℕ) → Walks t log n ms → n ≤ last_lsn log
 walk_within t log n ms w = ends_within t log n (ap (λ w. w.ends) w)
 
 -- a longer log leads the walk the same way
@@ -39,12 +39,12 @@ walk_more : (t : ℕ) (log : History) (r : LogRecord) (n : ℕ) (ms : List ℕ) 
 walk_more t log r n ms w = hops_older t log r n (walk_within t log n ms w) ∙ w
 
 -- from an update on
-walk_from_update : (t : ℕ) (log : History) (u : UpdateRecord) → eqb u.tx t ≡ true → hops t (log ▸ Update u) (suc (size log)) ≡ meet (suc (size log)) (hops t log u.prev)
-walk_from_update t log u e = rw (eq-eqb (suc (size log)) (suc (size log)) refl, e)
+walk_from_update : (t : ℕ) (log : History) (u : UpdateRecord) → eqb u.tx t ≡ true → hops t (log ▸ Update u) (suc (last_lsn log)) ≡ meet (suc (last_lsn log)) (hops t log u.prev)
+walk_from_update t log u e = rw (eq-eqb (suc (last_lsn log)) (suc (last_lsn log)) refl, e)
 
 -- from a CLR on
-walk_from_compensation : (t : ℕ) (log : History) (c : CompensationRecord) → eqb c.tx t ≡ true → hops t (log ▸ Compensation c) (suc (size log)) ≡ hops t log c.undo_next
-walk_from_compensation t log c e = rw (eq-eqb (suc (size log)) (suc (size log)) refl, e)
+walk_from_compensation : (t : ℕ) (log : History) (c : CompensationRecord) → eqb c.tx t ≡ true → hops t (log ▸ Compensation c) (suc (last_lsn log)) ≡ hops t log c.undo_next
+walk_from_compensation t log c e = rw (eq-eqb (suc (last_lsn log)) (suc (last_lsn log)) refl, e)
 
 -- the first update that a walk meets, and the walk from there
 pub record Meets (t : ℕ) (log : History) (m : ℕ) (ms : List ℕ) : Type 0 where
@@ -59,7 +59,7 @@ Meets-more t log r m ms p = record { update = p.update; found = record_more log 
 pub first_met : (t : ℕ) (log : History) (n m : ℕ) (ms : List ℕ) → Walks t log n (m ∷ ms) → Meets t log m ms
 first_met t start n m ms w = absurd (let e : [] ≡ m ∷ ms = ap (λ w. w.met) w in cc)
 first_met t (log ▸ Update u) n m ms w =
-    elim (cases_Bool (eqb n (suc (size log)))) [
+    elim (cases_Bool (eqb n (suc (last_lsn log)))) [
       | inl e ↦
           elim (cases_Bool (eqb u.tx t)) [
             | inl o ↦
@@ -71,27 +71,22 @@ first_met t (log ▸ Update u) n m ms w =
                 let g : Walks t log u.prev ms = ap₂ (λ x y. record { met = x; ends = y }) l j in
                 record {
                   update = u;
-                  found = ap (record_at (log ▸ Update u)) (sym k ∙ eqb-true n (suc (size log)) e) ∙ record_last log (Update u);
+                  found = ap (record_at (log ▸ Update u)) (sym k ∙ eqb-true n (suc (last_lsn log)) e) ∙ record_last log (Update u);
                   goes_on = walk_more t log (Update u) u.prev ms g;
                 })
             | inr o ↦ absurd (let e' : [] ≡ m ∷ ms = ap (λ w. w.met) (rw (e, o) at w) in cc)
           ]
       | inr e ↦ Meets-more t log (Update u) m ms (first_met t log n m ms (rw e at w))
     ]
-first_met t (log ▸ Compensation c) n m ms w =
-    elim (cases_Bool (eqb n (suc (size log)))) [
-      | inl e ↦
-          elim (cases_Bool (eqb c.tx t)) [
-            | inl o ↦ Meets-more t log (Compensation c) m ms (first_met t log c.undo_next m ms (rw (e, o) at w))
-            | inr o ↦ absurd (let e' : [] ≡ m ∷ ms = ap (λ w. w.met) (rw (e, o) at w) in cc)
-          ]
-      | inr e ↦ Meets-more t log (Compensation c) m ms (first_met t log n m ms (rw e at w))
+first_met t (log ▸ r) n m ms w =
+    elim (cases_Bool (eqb n (suc (last_lsn log)))) [
+      | inl e ↦ by_sent (sent_on t r) (λ next. first_met t log next m ms) (rw e at w)
+      | inr e ↦ Meets-more t log r m ms (first_met t log n m ms (rw e at w))
     ]
-first_met t (log ▸ _) n m ms w =
-    elim (cases_Bool (eqb n (suc (size log)))) [
-      | inl e ↦ absurd (let e' : [] ≡ m ∷ ms = ap (λ w. w.met) (rw e at w) in cc)
-      | inr e ↦ Meets-more t log _ m ms (first_met t log n m ms (rw e at w))
-    ]
+  where
+    by_sent : (o : Option ℕ) → ((next : ℕ) → Walks t log next (m ∷ ms) → Meets t log m ms) → unwrap_or (option_map (λ next. hops t log next) o) (record { met = []; ends = n }) ≡ record { met = m ∷ ms; ends = 0 } → Meets t (log ▸ r) m ms
+    by_sent None older w = absurd (let e : [] ≡ m ∷ ms = ap (λ w. w.met) w in cc)
+    by_sent (Some next) older w = Meets-more t log r m ms (older next w)
 
 -- what is known of the walks of t in a lawful log
 pub record Leads (t : ℕ) (log : History) : Type 0 where
@@ -107,10 +102,10 @@ leads_own_update : (log : History) (u : UpdateRecord) → Leads u.tx log → Obe
 leads_own_update log u h o =
     let own : eqb u.tx u.tx ≡ true = eq-eqb u.tx u.tx refl in
     let before : Walks u.tx log u.prev (pending u.tx log) = ap (hops u.tx log) o.chain ∙ h.last o.finish.0 o.finish.1 in
-    let all : Walks u.tx (log ▸ Update u) (suc (size log)) (suc (size log) ∷ pending u.tx log) = walk_from_update u.tx log u own ∙ ap (meet (suc (size log))) before in
-    let u_is : undo_next_of u.tx (log ▸ Update u) ≡ suc (size log) = rw own in
-    let l_is : last_of u.tx (log ▸ Update u) ≡ suc (size log) = rw own in
-    let p_is : pending u.tx (log ▸ Update u) ≡ suc (size log) ∷ pending u.tx log = rw own in
+    let all : Walks u.tx (log ▸ Update u) (suc (last_lsn log)) (suc (last_lsn log) ∷ pending u.tx log) = walk_from_update u.tx log u own ∙ ap (meet (suc (last_lsn log))) before in
+    let u_is : undo_next_of u.tx (log ▸ Update u) ≡ suc (last_lsn log) = rw own in
+    let l_is : last_of u.tx (log ▸ Update u) ≡ suc (last_lsn log) = rw own in
+    let p_is : pending u.tx (log ▸ Update u) ≡ suc (last_lsn log) ∷ pending u.tx log = rw own in
     record {
       undo_next = walks_at u.tx (log ▸ Update u) _ _ _ _ u_is p_is all;
       last = λ _ _. walks_at u.tx (log ▸ Update u) _ _ _ _ l_is p_is all;
@@ -128,7 +123,7 @@ leads_own_compensation log c h o =
     let d : drop 1 (pending c.tx log) ≡ k.below = ap (drop 1) k.newest in
     let g : Walks c.tx log c.undo_next (drop 1 (pending c.tx log)) = ap (hops c.tx log) p ∙ f.goes_on ∙ ap (λ ms. record { met = ms; ends = 0 }) (sym d) in
     let u_is : undo_next_of c.tx (log ▸ Compensation c) ≡ c.undo_next = rw own in
-    let l_is : last_of c.tx (log ▸ Compensation c) ≡ suc (size log) = rw own in
+    let l_is : last_of c.tx (log ▸ Compensation c) ≡ suc (last_lsn log) = rw own in
     let p_is : pending c.tx (log ▸ Compensation c) ≡ drop 1 (pending c.tx log) = rw own in
     record {
       undo_next = walks_at c.tx (log ▸ Compensation c) _ _ _ _ u_is p_is (walk_more c.tx log (Compensation c) c.undo_next (drop 1 (pending c.tx log)) g);
@@ -174,8 +169,7 @@ leads (log ▸ End s) h t =
     let (v, w) = or_parts (eqb s.tx t) (ended t log) y in
     (or_from (committed t log) (ended t log) x w, b, rw v))
     (leads log h.0 t)
-leads (log ▸ CheckpointBegin) h t = leads_same t log CheckpointBegin refl refl (λ a b. (a, b, refl)) (leads log h.0 t)
-leads (log ▸ CheckpointEnd n ts d) h t = leads_same t log (CheckpointEnd n ts d) refl refl (λ a b. (a, b, refl)) (leads log h.0 t)
+leads (log ▸ r) h t = leads_same t log r refl refl (λ a b. (a, b, refl)) (leads log h.0 t)
 
 -- the updates that the hops of a transaction meet are its pending ones, and no hop is bad
 pub walk_meets_pending : (log : History) (t : ℕ) → IsLawful log → hops t log (undo_next_of t log) ≡ record { met = pending t log; ends = 0 }

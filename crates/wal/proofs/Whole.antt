@@ -11,15 +11,18 @@ use Rattle.page.specs.declared.fault.Fault.{Fault}
 use Rattle.page.specs.declared.fault.Fault.TheVariants.{NoResource, BadLogHeader, BadLength, BadRecord, BadLsn}
 use Rattle.wal.specs.declared.record.State.{State}
 use Rattle.wal.specs.declared.record.State.TheVariants.{Active, Aborting}
-use Rattle.wal.specs.Records.{TableEntry, LogRecord, Update, Compensation, Commit, Abort, End, CheckpointBegin, CheckpointEnd}
-use Rattle.wal.specs.Spelling.{image, state, entry, dirty_page, table, body, frame, FitsImage, Fits}
+use Rattle.wal.specs.Records.{TableEntry, LogRecord, Update, Compensation, CheckpointEnd, LogContent}
+use Rattle.wal.specs.Spelling.{image, state, entry, dirty_page, table, body, frame, Fits}
 use Rattle.wal.specs.Reading.{body_at}
-use Rattle.wal.specs.Frames.{length_of, body_of, frame_at, judged, next_at, frames_at, followed, ◌>>=◌, header, log_at, Gives, Fails}
+use Rattle.wal.specs.Frames.{length_of, body_of, frame_at, judged, next_at, frames_at, followed, ◌>>=◌, header, as_log, log_at, Gives, Fails}
 use Rattle.wal.specs.Reads.{spellings, IsTorn, Reads, OneReading, IsWhole, HasFault, FaultBehind, Cause}
 use Rattle.wal.proofs.Loop.{chosen, Found, next_is}
-use Rattle.wal.proofs.Fields.{IsBytes, IsBytes-take, IsBytes-drop, wide32}
+use Rattle.page.proofs.BigEndian.{AreBytes, AreBytes-take, AreBytes-drop}
+use Rattle.wal.proofs.Fields.{wide32}
 use Rattle.wal.proofs.Bodies.{body_takes, body_again}
 use Rattle.wal.proofs.TableFields.{table_length}
+use Rattle.wal.proofs.Histories.{size_of_log}
+use Rattle.page.specs.Image.{FitsSlot}
 
 bind_ok : {A B : Type 0} (r : Result A Fault) (f : A → Result B Fault) (y : B) → (r >>= f) ≡ Ok y → (x : A) × (r ≡ Ok x) × (f x ≡ Ok y)
 bind_ok (Ok x) f y e = (x, refl, e)
@@ -34,12 +37,12 @@ ok_is x y e = cc
 -- ---- one frame
 
 -- a found frame is the spelling of its record, and then the rest
-pub found_frame : (lsn : ℕ) (bytes : List ℕ) (r : LogRecord) (size : ℕ) → IsBytes bytes → Found lsn bytes r size → (bytes ≡ frame r lsn ++ drop size bytes) × Fits r × (lsn < 2 ^ 64)
+pub found_frame : (lsn : ℕ) (bytes : List ℕ) (r : LogRecord) (size : ℕ) → AreBytes bytes → Found lsn bytes r size → (bytes ≡ frame r lsn ++ drop size bytes) × Fits r × (lsn < 2 ^ 64)
 found_frame lsn bytes r size fits found =
-    let inner = body_takes (body_of bytes) r lsn (IsBytes-take (length_of bytes) (drop 4 bytes) (IsBytes-drop 4 bytes fits)) found.spelled in
+    let inner = body_takes (body_of bytes) r lsn (AreBytes-take (length_of bytes) (drop 4 bytes) (AreBytes-drop 4 bytes fits)) found.spelled in
     let rest : length (drop 4 bytes) ≡ length bytes - 4 = length-drop 4 bytes in
     let len : length (body r lsn) ≡ length_of bytes = ap length (sym inner.0) ∙ omega (arith, length-take (length_of bytes) (drop 4 bytes), found.whole, rest) in
-    let front : to_be_bytes w32 (length_of bytes) ≡ take 4 bytes = wide32.back (take 4 bytes) (omega (arith, length-take 4 bytes, found.whole)) (IsBytes-take 4 bytes fits) in
+    let front : to_be_bytes w32 (length_of bytes) ≡ take 4 bytes = wide32.back (take 4 bytes) (omega (arith, length-take 4 bytes, found.whole)) (AreBytes-take 4 bytes fits) in
     let spelled : frame r lsn ≡ take 4 bytes ++ body_of bytes = ap₂ (λ (a b : List ℕ). a ++ b) (ap (to_be_bytes w32) len ∙ front) (sym inner.0) in
     let back : drop (length_of bytes) (drop 4 bytes) ≡ drop size bytes = drop-drop (length_of bytes) 4 bytes ∙ ap (λ n. drop n bytes) (sym found.size_is) in
     let parts : bytes ≡ take 4 bytes ++ (body_of bytes ++ drop size bytes) =
@@ -49,7 +52,7 @@ found_frame lsn bytes r size fits found =
 image_length : (o : List ℕ) → length o ≤ 48 → length (image (Some o)) ≤ 49
 image_length o h = omega arith
 
-image_size : (i : Option (List ℕ)) → FitsImage i → length (image i) ≤ 49
+image_size : (i : Option (List ℕ)) → FitsSlot i → length (image i) ≤ 49
 image_size None h = omega arith
 image_size (Some o) h = omega (arith, h)
 
@@ -70,10 +73,6 @@ body_size (Update u) lsn fits =
 body_size (Compensation u) lsn fits =
     let a = image_size u.image fits.image in
     (omega (arith, a), omega (arith, a))
-body_size (Commit r) lsn fits = (omega arith, omega arith)
-body_size (Abort r) lsn fits = (omega arith, omega arith)
-body_size (End r) lsn fits = (omega arith, omega arith)
-body_size CheckpointBegin lsn fits = (omega arith, omega arith)
 body_size (CheckpointEnd begin transactions dirty) lsn fits =
     let a = table_length entry 21 (λ e. entry_length e) transactions in
     let b = table_length dirty_page 12 (λ d. refl) dirty in
@@ -81,6 +80,7 @@ body_size (CheckpointEnd begin transactions dirty) lsn fits =
     let d = fits.transactions_fit.few in
     let e = fits.dirty_fit.few in
     (omega (arith, a, b, c, d, e), omega (arith, a, b, c, d, e))
+body_size r lsn fits = (omega arith, omega arith)
 
 -- a frame that stands in front is read
 pub frame_length : (r : LogRecord) (lsn : ℕ) (rest : List ℕ) → Fits r → length_of (frame r lsn ++ rest) ≡ length (body r lsn)
@@ -157,7 +157,7 @@ pub record Spelled (lsn : ℕ) (bytes : List ℕ) (records : List LogRecord) (to
   pub each : AllByRecursion Fits records
   pub few : length records ≤ length bytes
 
-by_next : (limit lsn offset : ℕ) (bytes : List ℕ) (x : List LogRecord × ℕ) → IsBytes bytes → length bytes ≤ suc limit
+by_next : (limit lsn offset : ℕ) (bytes : List ℕ) (x : List LogRecord × ℕ) → AreBytes bytes → length bytes ≤ suc limit
     → ((size : ℕ) (z : List LogRecord × ℕ) → length (drop size bytes) ≤ limit → frames_at limit (lsn + 1) (offset + size) (drop size bytes) ≡ Ok z → Spelled (lsn + 1) (drop size bytes) z.0 z.1)
     → (o : Option (LogRecord × ℕ)) → next_at lsn offset bytes ≡ Ok o → followed bytes (λ size. frames_at limit (lsn + 1) (offset + size) (drop size bytes)) o ≡ Ok x → Spelled lsn bytes x.0 x.1
 by_next limit lsn offset bytes x fits short others_take None n e =
@@ -172,13 +172,13 @@ by_next limit lsn offset bytes x fits short others_take (Some y) n e =
     subst (λ (w : List LogRecord × ℕ). Spelled lsn bytes w.0 w.1) (ok_is (y.0 ∷ b.0.0, b.0.1) x b.2)
     (record { tail = others.tail; text = text; torn_tail = others.torn_tail; torn_count = others.torn_count; each = (one.1, others.each); few = omega (arith, less, others.few) })
 
-pub frames_take : (limit lsn offset : ℕ) (bytes : List ℕ) (x : List LogRecord × ℕ) → IsBytes bytes → length bytes ≤ limit → frames_at limit lsn offset bytes ≡ Ok x → Spelled lsn bytes x.0 x.1
+pub frames_take : (limit lsn offset : ℕ) (bytes : List ℕ) (x : List LogRecord × ℕ) → AreBytes bytes → length bytes ≤ limit → frames_at limit lsn offset bytes ≡ Ok x → Spelled lsn bytes x.0 x.1
 unfolding frames_at
 frames_take zero lsn offset bytes x fits short e =
     subst (λ (y : List LogRecord × ℕ). Spelled lsn bytes y.0 y.1) (ok_is ([], length bytes) x e) (record { tail = bytes; text = refl; torn_tail = inl (omega (arith, short)); torn_count = refl; each = tt; few = omega arith })
 frames_take (suc limit) lsn offset bytes x fits short e =
     let a = bind_ok (next_at lsn offset bytes) (followed bytes (λ size. frames_at limit (lsn + 1) (offset + size) (drop size bytes))) x e in
-    by_next limit lsn offset bytes x fits short (λ size z le f. frames_take limit (lsn + 1) (offset + size) (drop size bytes) z (IsBytes-drop size bytes fits) le f) a.0 a.1 a.2
+    by_next limit lsn offset bytes x fits short (λ size z le f. frames_take limit (lsn + 1) (offset + size) (drop size bytes) z (AreBytes-drop size bytes fits) le f) a.0 a.1 a.2
 
 pub frames_again : (limit lsn offset : ℕ) (records : List LogRecord) (tail : List ℕ) → length records ≤ limit → AllByRecursion Fits records → lsn + length records ≤ 2 ^ 64 → IsTorn tail
     → frames_at limit lsn offset (spellings lsn records ++ tail) ≡ Ok (records, length tail)
@@ -201,42 +201,51 @@ spellings_long : (lsn : ℕ) (records : List LogRecord) → length records ≤ l
 spellings_long lsn [] = omega arith
 spellings_long lsn (r ∷ rs) = omega (arith, spellings_long (lsn + 1) rs, length-append (frame r lsn) (spellings (lsn + 1) rs), length-append (to_be_bytes w32 (length (body r lsn))) (body r lsn))
 
-pub log_takes : (bytes : List ℕ) (x : List LogRecord × ℕ) → IsBytes bytes → length bytes < 2 ^ 64 → log_at bytes ≡ Ok x → Reads bytes x.0 x.1
+-- frames that were read, as a log
+read_on : (bytes : List ℕ) (x : LogContent × ℕ) → (frames_at (length bytes) 1 8 (drop 8 bytes) >>= λ y. Ok (as_log y)) ≡ Ok x → frames_at (length bytes) 1 8 (drop 8 bytes) ≡ Ok (x.0.records, x.1)
+read_on bytes x e = by (frames_at (length bytes) 1 8 (drop 8 bytes)) e
+  where
+    by : (read : Result (List LogRecord × ℕ) Fault) → (read >>= λ y. Ok (as_log y)) ≡ Ok x → read ≡ Ok (x.0.records, x.1)
+    by (Ok y) h = ap (λ (z : LogContent × ℕ). Ok (z.0.records, z.1)) (ok_is (as_log y) x h)
+    by (Err d) h = absurd cc
+
+pub log_takes : (bytes : List ℕ) (x : LogContent × ℕ) → AreBytes bytes → length bytes < 2 ^ 64 → log_at bytes ≡ Ok x → Reads bytes x.0 x.1
 unfolding log_at
 log_takes bytes x fits short e =
     elim (chosen (starts_with eqb bytes header) _ _ _ e) [
       | inl p ↦
           (let front : bytes ≡ header ++ drop 8 bytes = (starts_is Decides-eqb bytes header (starts_with eqb bytes header) refl).0 p.0 in
-          let all = frames_take (length bytes) 1 8 (drop 8 bytes) x (IsBytes-drop 8 bytes fits) (omega (arith, length-drop 8 bytes)) p.1 in
+          let all = frames_take (length bytes) 1 8 (drop 8 bytes) (x.0.records, x.1) (AreBytes-drop 8 bytes fits) (omega (arith, length-drop 8 bytes)) (read_on bytes x p.1) in
           record {
             tail = all.tail;
-            text = front ∙ ap (λ (t : List ℕ). header ++ t) all.text ∙ sym (append_assoc header (spellings 1 x.0) all.tail);
+            text = front ∙ ap (λ (t : List ℕ). header ++ t) all.text ∙ sym (append_assoc header (spellings 1 x.0.records) all.tail);
             torn_tail = all.torn_tail;
             torn_count = all.torn_count;
             each = all.each;
-            few = omega (arith, all.few, length-drop 8 bytes, short);
+            few = omega (arith, all.few, length-drop 8 bytes, short, size_of_log x.0);
           })
       | inr p ↦ absurd cc
     ]
 
-pub log_again : (bytes : List ℕ) (records : List LogRecord) (torn : ℕ) → Reads bytes records torn → log_at bytes ≡ Ok (records, torn)
+pub log_again : (bytes : List ℕ) (log : LogContent) (torn : ℕ) → Reads bytes log torn → log_at bytes ≡ Ok (log, torn)
 unfolding log_at
-log_again bytes records torn reads =
+log_again bytes log torn reads =
+    let records = log.records in
     let text : bytes ≡ header ++ (spellings 1 records ++ reads.tail) = reads.text ∙ append_assoc header (spellings 1 records) reads.tail in
     let b : starts_with eqb bytes header ≡ true = (starts_is Decides-eqb bytes header (starts_with eqb bytes header) refl).1 (spellings 1 records ++ reads.tail) text in
     let rest : drop 8 bytes ≡ spellings 1 records ++ reads.tail = ap (drop 8) text ∙ drop_at header (spellings 1 records ++ reads.tail) 8 refl in
     let long : length bytes ≡ 8 + length (spellings 1 records ++ reads.tail) = ap length text ∙ omega arith in
     let few : length records ≤ length bytes = omega (arith, spellings_long 1 records, long, length-append (spellings 1 records) reads.tail) in
     let all : frames_at (length bytes) 1 8 (drop 8 bytes) ≡ Ok (records, torn) =
-    ap (frames_at (length bytes) 1 8) rest ∙ frames_again (length bytes) 1 8 records reads.tail few reads.each (omega (arith, reads.few)) reads.torn_tail ∙ ap (λ n. Ok (records, n)) reads.torn_count in
-    rw b all
+    ap (frames_at (length bytes) 1 8) rest ∙ frames_again (length bytes) 1 8 records reads.tail few reads.each (omega (arith, reads.few, size_of_log log)) reads.torn_tail ∙ ap (λ n. Ok (records, n)) reads.torn_count in
+    rw b (ap (λ read. read >>= λ y. Ok (as_log y)) all)
 
 pub one_reading : OneReading
 one_reading bytes first second t u a b =
-    let e : ◌≡◌ {A = List LogRecord × ℕ} (first, t) (second, u) = ok_is (first, t) (second, u) (sym (log_again bytes first t a) ∙ log_again bytes second u b) in
+    let e : ◌≡◌ {A = LogContent × ℕ} (first, t) (second, u) = ok_is (first, t) (second, u) (sym (log_again bytes first t a) ∙ log_again bytes second u b) in
     (ap (λ x. x.0) e, ap (λ x. x.1) e)
 
-pub is_found : {X : Type 0} (view : X → List LogRecord × ℕ) (bytes : List ℕ) (r : Result X Fault) → IsBytes bytes → length bytes < 2 ^ 64 → Gives view r (log_at bytes) → IfOk r (λ x. Reads bytes (view x).0 (view x).1)
+pub is_found : {X : Type 0} (view : X → LogContent × ℕ) (bytes : List ℕ) (r : Result X Fault) → AreBytes bytes → length bytes < 2 ^ 64 → Gives view r (log_at bytes) → IfOk r (λ x. Reads bytes (view x).0 (view x).1)
 is_found view bytes (Ok x) fits short given = log_takes bytes (view x) fits short given
 is_found view bytes (Err e) fits short given = tt
 
@@ -252,7 +261,7 @@ bind_err {B = B} (Err d) f e h = inl (ap (λ (k : Fault). Err k) (err_is {B = B}
 none_some : (x : LogRecord × ℕ) → ◌≡◌ {A = Option (LogRecord × ℕ)} None (Some x) → ⊥
 none_some x p = cc
 
-judged_fault : (lsn offset : ℕ) (bytes : List ℕ) (e : Fault) → IsBytes bytes → IsWhole bytes → (f : Option (LogRecord × ℕ)) → frame_at bytes ≡ f → judged lsn offset (4 + length_of bytes) f ≡ Err e → HasFault e lsn offset bytes
+judged_fault : (lsn offset : ℕ) (bytes : List ℕ) (e : Fault) → AreBytes bytes → IsWhole bytes → (f : Option (LogRecord × ℕ)) → frame_at bytes ≡ f → judged lsn offset (4 + length_of bytes) f ≡ Err e → HasFault e lsn offset bytes
 judged_fault lsn offset bytes e fits whole None is h =
     subst (λ d. HasFault d lsn offset bytes) (err_is {B = Option (LogRecord × ℕ)} (BadRecord offset) e h)
     (refl, whole, λ r n fit lt same. none_some (r, n) (sym is ∙ ap body_at same ∙ body_again r n fit lt))
@@ -260,11 +269,11 @@ judged_fault lsn offset bytes e fits whole (Some x) is h =
     elim (chosen (eqb x.1 lsn) _ _ _ h) [
       | inl p ↦ absurd cc
       | inr p ↦
-          (let inner = body_takes (body_of bytes) x.0 x.1 (IsBytes-take (length_of bytes) (drop 4 bytes) (IsBytes-drop 4 bytes fits)) is in
+          (let inner = body_takes (body_of bytes) x.0 x.1 (AreBytes-take (length_of bytes) (drop 4 bytes) (AreBytes-drop 4 bytes fits)) is in
           subst (λ d. HasFault d lsn offset bytes) (err_is {B = Option (LogRecord × ℕ)} (BadLsn offset) e p.1) (refl, whole, x.0, x.1, inner.1, inner.2, inner.0, eqb-false _ _ p.0))
     ]
 
-next_fault : (lsn offset : ℕ) (bytes : List ℕ) (e : Fault) → IsBytes bytes → next_at lsn offset bytes ≡ Err e → HasFault e lsn offset bytes
+next_fault : (lsn offset : ℕ) (bytes : List ℕ) (e : Fault) → AreBytes bytes → next_at lsn offset bytes ≡ Err e → HasFault e lsn offset bytes
 unfolding next_at
 next_fault lsn offset bytes e fits h =
     elim (chosen (ltb (length bytes) 4) _ _ _ h) [
@@ -284,7 +293,7 @@ next_fault lsn offset bytes e fits h =
           ]
     ]
 
-fault_next : (limit lsn offset : ℕ) (bytes : List ℕ) (e : Fault) → IsBytes bytes → lsn + length bytes < 2 ^ 64
+fault_next : (limit lsn offset : ℕ) (bytes : List ℕ) (e : Fault) → AreBytes bytes → lsn + length bytes < 2 ^ 64
     → ((size : ℕ) → lsn + 1 + length (drop size bytes) < 2 ^ 64 → frames_at limit (lsn + 1) (offset + size) (drop size bytes) ≡ Err e → FaultBehind (lsn + 1) (offset + size) (drop size bytes) e)
     → (o : Option (LogRecord × ℕ)) → next_at lsn offset bytes ≡ Ok o → followed bytes (λ size. frames_at limit (lsn + 1) (offset + size) (drop size bytes)) o ≡ Err e → FaultBehind lsn offset bytes e
 fault_next limit lsn offset bytes e fits room others None n h = absurd cc
@@ -308,35 +317,38 @@ fault_next limit lsn offset bytes e fits room others (Some y) n h =
           })
     ]
 
-frames_fault : (limit lsn offset : ℕ) (bytes : List ℕ) (e : Fault) → IsBytes bytes → lsn + length bytes < 2 ^ 64 → frames_at limit lsn offset bytes ≡ Err e → FaultBehind lsn offset bytes e
+frames_fault : (limit lsn offset : ℕ) (bytes : List ℕ) (e : Fault) → AreBytes bytes → lsn + length bytes < 2 ^ 64 → frames_at limit lsn offset bytes ≡ Err e → FaultBehind lsn offset bytes e
 unfolding frames_at
 frames_fault zero lsn offset bytes e fits room h = absurd cc
 frames_fault (suc limit) lsn offset bytes e fits room h =
     elim (bind_err (next_at lsn offset bytes) (followed bytes (λ size. frames_at limit (lsn + 1) (offset + size) (drop size bytes))) e h) [
       | inl p ↦ (let here = next_fault lsn offset bytes e fits p in
           record { records = []; rest = bytes; text = refl; each = tt; few = omega (arith, room); fault = subst (λ n. HasFault e n (offset + 0) bytes) (omega arith) (subst (λ o. HasFault e lsn o bytes) (omega arith) here) })
-      | inr p ↦ fault_next limit lsn offset bytes e fits room (λ size more f. frames_fault limit (lsn + 1) (offset + size) (drop size bytes) e (IsBytes-drop size bytes fits) more f) p.0 p.1 p.2
+      | inr p ↦ fault_next limit lsn offset bytes e fits room (λ size more f. frames_fault limit (lsn + 1) (offset + size) (drop size bytes) e (AreBytes-drop size bytes fits) more f) p.0 p.1 p.2
     ]
 
-log_fault : (bytes : List ℕ) (e : Fault) → IsBytes bytes → length bytes < 2 ^ 64 → log_at bytes ≡ Err e → ((bytes ≡ header ++ drop 8 bytes) × FaultBehind 1 8 (drop 8 bytes) e) ⊎ ((starts_with eqb bytes header ≡ false) × (BadLogHeader ≡ e))
+log_fault : (bytes : List ℕ) (e : Fault) → AreBytes bytes → length bytes < 2 ^ 64 → log_at bytes ≡ Err e → ((bytes ≡ header ++ drop 8 bytes) × FaultBehind 1 8 (drop 8 bytes) e) ⊎ ((starts_with eqb bytes header ≡ false) × (BadLogHeader ≡ e))
 unfolding log_at
 log_fault bytes e fits short h =
     elim (chosen (starts_with eqb bytes header) _ _ _ h) [
       | inl p ↦
           (let front : bytes ≡ header ++ drop 8 bytes = (starts_is Decides-eqb bytes header (starts_with eqb bytes header) refl).0 p.0 in
           let room : 1 + length (drop 8 bytes) < 2 ^ 64 = omega (arith, short, ap length front) in
-          inl (front, frames_fault (length bytes) 1 8 (drop 8 bytes) e (IsBytes-drop 8 bytes fits) room p.1))
-      | inr p ↦ inr (p.0, err_is {B = List LogRecord × ℕ} BadLogHeader e p.1)
+          elim (bind_err (frames_at (length bytes) 1 8 (drop 8 bytes)) (λ y. Ok (as_log y)) e p.1) [
+            | inl q ↦ inl (front, frames_fault (length bytes) 1 8 (drop 8 bytes) e (AreBytes-drop 8 bytes fits) room q)
+            | inr q ↦ absurd cc
+          ])
+      | inr p ↦ inr (p.0, err_is {B = LogContent × ℕ} BadLogHeader e p.1)
     ]
 
 no_header : (bytes : List ℕ) → starts_with eqb bytes header ≡ false → (rest : List ℕ) → bytes ≢ header ++ rest
 no_header bytes e rest text = both_ways (starts_with eqb bytes header) e ((starts_is Decides-eqb bytes header (starts_with eqb bytes header) refl).1 rest text)
 
-cause : (bytes : List ℕ) (e : Fault) → IsBytes bytes → length bytes < 2 ^ 64 → Fails e (log_at bytes) → Cause bytes e
+cause : (bytes : List ℕ) (e : Fault) → AreBytes bytes → length bytes < 2 ^ 64 → Fails e (log_at bytes) → Cause bytes e
 cause bytes NoResource fits short h = tt
 cause bytes BadLogHeader fits short h = elim (log_fault bytes BadLogHeader fits short h) [ inl p ↦ absurd p.1.fault | inr p ↦ no_header bytes p.0 ]
 cause bytes e fits short h = elim (log_fault bytes e fits short h) [ inl p ↦ p | inr p ↦ absurd cc ]
 
-pub is_cause : {X : Type 0} (view : X → List LogRecord × ℕ) (bytes : List ℕ) (r : Result X Fault) → IsBytes bytes → length bytes < 2 ^ 64 → Gives view r (log_at bytes) → IfErr r (λ e. Cause bytes e)
+pub is_cause : {X : Type 0} (view : X → LogContent × ℕ) (bytes : List ℕ) (r : Result X Fault) → AreBytes bytes → length bytes < 2 ^ 64 → Gives view r (log_at bytes) → IfErr r (λ e. Cause bytes e)
 is_cause view bytes (Ok x) fits short given = tt
 is_cause view bytes (Err e) fits short given = cause bytes e fits short given

@@ -4,8 +4,9 @@ use Rattle.std.specs.List.{starts_with}
 use Rattle.std.specs.Int.{w32, from_be_bytes}
 use Rattle.page.specs.declared.fault.Fault.{Fault}
 use Rattle.page.specs.declared.fault.Fault.TheVariants.{NoResource, BadLogHeader, BadLength, BadRecord, BadLsn}
-use Rattle.wal.specs.Records.{LogRecord, CheckpointBegin}
+use Rattle.wal.specs.Records.{LogRecord, CheckpointBegin, LogContent}
 use Rattle.wal.specs.Reading.{body_at}
+use Rattle.wal.specs.declared.sizes.TheConstants.{HEADER_BYTES, LARGEST_BODY, SMALLEST_BODY, SMALLEST_FRAME}
 
 -- the length that a frame in front says, and its body
 abbrev pub length_of : List ℕ → ℕ
@@ -25,10 +26,10 @@ pub record IsPlace (bytes : List ℕ) (offset : ℕ) : Type 0 where
   pub whole : offset + 4 + length_of (drop offset bytes) ≤ length bytes
   pub spelled : is_some (frame_at (drop offset bytes)) ≡ true
 
--- so does at each, each in bytes of its own: a frame takes 13 at least, and 8 stand before them
+-- so does at each, each in bytes of its own: behind the header
 pub record ArePlaces (bytes : List ℕ) (offsets : List ℕ) : Type 0 where
   pub each : All (IsPlace bytes) offsets
-  pub room : 8 + 13 * length offsets ≤ length bytes
+  pub room : HEADER_BYTES + SMALLEST_FRAME * length offsets ≤ length bytes
 
 -- the record of the frame at an offset (some record, where none is)
 unfoldable pub record_of : List ℕ → ℕ → LogRecord
@@ -44,7 +45,7 @@ judged lsn offset size (Some x) = if x.1 == lsn then Ok (Some (x.0, size)) else 
 unfoldable pub next_at : (lsn offset : ℕ) → List ℕ → Result (Option (LogRecord × ℕ)) Fault
 next_at lsn offset bytes =
     if nat_lt (length bytes) 4 then Ok None
-    else if nat_lt (length_of bytes) 9 || nat_lt 70681 (length_of bytes) then Err (BadLength offset)
+    else if nat_lt (length_of bytes) SMALLEST_BODY || nat_lt LARGEST_BODY (length_of bytes) then Err (BadLength offset)
     else if nat_lt (length bytes) (4 + length_of bytes) then Ok None
     else judged lsn offset (4 + length_of bytes) (frame_at bytes)
 
@@ -67,9 +68,13 @@ frames_at (suc limit) lsn offset bytes = next_at lsn offset bytes >>= followed b
 abbrev pub header : List ℕ
 header = 0x41 ∷ 0x52 ∷ 0x49 ∷ 0x45 ∷ 0x53 ∷ 0x4c ∷ 0x47 ∷ 0x31 ∷ []
 
--- the records and how many bytes the torn tail has, or the first fault
-unfoldable pub log_at : List ℕ → Result (List LogRecord × ℕ) Fault
-log_at bytes = if starts_with nat_eq bytes header then frames_at (length bytes) 1 8 (drop 8 bytes) else Err BadLogHeader
+-- these records as a log
+abbrev pub as_log : List LogRecord × ℕ → LogContent × ℕ
+as_log x = (record { records = x.0 }, x.1)
+
+-- the log and how many bytes the torn tail has, or the first fault
+unfoldable pub log_at : List ℕ → Result (LogContent × ℕ) Fault
+log_at bytes = if starts_with nat_eq bytes header then frames_at (length bytes) 1 HEADER_BYTES (drop HEADER_BYTES bytes) >>= (λ x. Ok (as_log x)) else Err BadLogHeader
 
 -- What a function returned, seen by view, is what reading gives, unless memory ran out.
 abbrev pub Fails : {Y : Type 0} → Fault → Result Y Fault → Type 0

@@ -1,9 +1,10 @@
 -- What is seen of a record at a glance.
-use Rattle.std.specs.Prelude.{ℕ, List, [], ◌∷◌, Option, Some, None, ◌==◌, if◌then◌else◌}
+use Rattle.std.specs.Prelude.{◌≡◌, ℕ, ◌+◌, List, [], ◌∷◌, Option, Some, None, ◌==◌, if◌then◌else◌}
 use Rattle.std.specs.Int.{w32, w64}
 use Rattle.wal.specs.declared.glance.Glance.{Glance}
 use Rattle.wal.specs.declared.glance.Glance.TheVariants as seen
-use Rattle.wal.specs.Records.{LogRecord, Update, Compensation, Commit, Abort, End}
+use Rattle.wal.specs.Records.{LogRecord, Update, Compensation, Commit, Abort, End, CheckpointBegin, CheckpointEnd, History, ◌▸◌, record_at, first}
+use Rattle.wal.specs.Spelling.{Fits}
 use Rattle.wal.specs.Reading.{◌>>=◌, number_at, slot_at, plain_at}
 
 -- the record without its images, its tables and its PrevLSN
@@ -13,7 +14,25 @@ glance_of (Compensation c) = seen.Compensation c.tx c.page c.slot c.undo_next
 glance_of (Commit s) = seen.Commit s.tx
 glance_of (Abort s) = seen.Abort s.tx
 glance_of (End s) = seen.End s.tx
-glance_of _ = seen.Checkpoint
+glance_of CheckpointBegin = seen.Checkpoint
+glance_of (CheckpointEnd begin transactions dirty) = seen.Checkpoint
+
+-- whose record it is; a checkpoint's is nobody's
+abbrev pub owner_seen : Glance → Option ℕ
+owner_seen (seen.Update tx page slot) = Some tx
+owner_seen (seen.Compensation tx page slot undo_next) = Some tx
+owner_seen (seen.Commit tx) = Some tx
+owner_seen (seen.Abort tx) = Some tx
+owner_seen (seen.End tx) = Some tx
+owner_seen seen.Checkpoint = None
+
+-- what is seen behind an LSN: of the record whose LSN is one more, which has a spelling
+pub record IsGlanceBehind (log : History) (lsn : ℕ) (glance : Glance) : Type 0 where
+  pub entry : LogRecord
+  pub there : record_at log (lsn + 1) ≡ Some entry
+  pub seen_of : glance ≡ glance_of entry
+  pub fits : Fits entry
+  pub next : first (lsn + 1) log ≡ first lsn log ▸ entry
 
 -- READING. As much of a body as it takes.
 unfoldable pub update_glance : List ℕ → Option Glance

@@ -11,7 +11,5 @@ pub mod Reading
 pub mod Frames
 pub mod Reads
 pub mod Content
-pub mod Shown
 pub mod Glances
-pub mod Images
 pub mod Theorems

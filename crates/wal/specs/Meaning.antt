@@ -1,7 +1,9 @@
 -- What a log means: who has finished, what it leaves in the cells, what is pending.
-use Rattle.std.specs.Prelude.{ℕ, suc, List, [], ◌∷◌, Option, Some, None, Bool, true, false, not, ◌&&◌, ◌||◌, ◌==◌, if◌then◌else◌, drop}
+use Rattle.std.specs.Prelude.{ℕ, suc, List, [], ◌∷◌, Option, Some, None, Bool, true, false, not, ◌&&◌, ◌||◌, ◌==◌, if◌then◌else◌, drop, option_map}
 use Rattle.page.specs.Image.{Image}
-use Rattle.wal.specs.Records.{LogRecord, Update, Compensation, Commit, Abort, End, CheckpointBegin, CheckpointEnd, History, start, ◌▸◌, size}
+use Rattle.wal.specs.declared.record.State.{State}
+use Rattle.wal.specs.declared.record.State.TheVariants.{Active, Aborting}
+use Rattle.wal.specs.Records.{LogRecord, Update, Compensation, Commit, Abort, End, CheckpointBegin, CheckpointEnd, History, start, ◌▸◌, last_lsn}
 
 -- OWNER. The transaction whose record it is; a checkpoint's has none. ARIES, section 4.1 (TransID).
 abbrev pub owner : LogRecord → Option ℕ
@@ -49,8 +51,8 @@ abbrev pub has : (LogRecord → Bool) → History → Bool
 has test start = false
 has test (log ▸ r) = test r || has test log
 
--- STATUS. Committed, aborted, ended, finished, and what a loser is. ARIES, sections 5.2 and 5.3; that a commit finishes a
--- transaction is own.
+-- STATUS. Committed, aborted, ended, finished, unfinished, and what a loser is. ARIES, sections 5.2 and 5.3; that a commit
+-- finishes a transaction is own.
 abbrev pub committed : ℕ → History → Bool
 committed t log = has (is_commit_of t) log
 
@@ -63,8 +65,20 @@ ended t log = has (is_end_of t) log
 abbrev pub finished : ℕ → History → Bool
 finished t log = committed t log || ended t log
 
+-- the tables of a checkpoint and of analysis list the unfinished ones
+abbrev pub is_unfinished : ℕ → History → Bool
+is_unfinished t log = has (is_of t) log && not (finished t log)
+
+-- a restart rolls the losers back: all unfinished ones
 abbrev pub is_loser : ℕ → History → Bool
-is_loser t log = has (is_of t) log && not (finished t log)
+is_loser t log = is_unfinished t log
+
+-- the state of an unfinished one
+abbrev pub state_by : (aborts : Bool) → State
+state_by aborts = if aborts then Aborting else Active
+
+abbrev pub state_at : ℕ → History → State
+state_at t log = state_by (aborted t log)
 
 -- EFFECT. An update and a CLR put an image into a cell; other records change nothing. ARIES, section 4.1; a cell as a page and a
 -- slot is own.
@@ -81,6 +95,10 @@ change_of (Abort s) = None
 change_of (End s) = None
 change_of CheckpointBegin = None
 change_of (CheckpointEnd begin transactions dirty) = None
+
+-- the cell that it is in, as a page and a slot
+abbrev pub cell_of : LogRecord → Option (ℕ × ℕ)
+cell_of r = option_map (λ c. (c.page, c.slot)) (change_of r)
 
 abbrev pub is_in_cell : ℕ → ℕ → Option Change → Bool
 is_in_cell page slot None = false
@@ -106,22 +124,26 @@ abbrev pub image_in : Option LogRecord → Image
 image_in None = None
 image_in (Some r) = image_of r
 
--- STATE. What is in each cell, by page and slot: nothing, or a value. Own.
-abbrev pub State : Type 0
-State = ℕ → ℕ → Image
+-- CELLS. What is in each cell, by page and slot: nothing, or a value. Own.
+abbrev pub Cells : Type 0
+Cells = ℕ → ℕ → Image
 
-abbrev pub empty : State
+abbrev pub empty : Cells
 empty page slot = None
 
--- what a state becomes by the effects of the chosen records, in order: a record is chosen by its LSN and itself
-abbrev pub effects : (ℕ → LogRecord → Bool) → State → History → State
-effects chosen state start page slot = state page slot
-effects chosen state (log ▸ r) page slot =
-    if writes page slot r && chosen (suc (size log)) r then image_of r else effects chosen state log page slot
+-- what cells become by the effects of the chosen records, in order: a record is chosen by its LSN and itself
+abbrev pub effects : (ℕ → LogRecord → Bool) → Cells → History → Cells
+effects chosen cells start page slot = cells page slot
+effects chosen cells (log ▸ r) page slot =
+    if writes page slot r && chosen (suc (last_lsn log)) r then image_of r else effects chosen cells log page slot
 
--- REPLAY. All effects, in order, over empty cells (repeating history). ARIES, section 6.2.
-abbrev pub replay : History → State
-replay log = effects (λ _ _. true) empty log
+-- REPLAY. All effects, in order, over given cells (repeating history). ARIES, section 6.2.
+abbrev pub replay_over : Cells → History → Cells
+replay_over cells log = effects (λ _ _. true) cells log
+
+-- over empty ones
+abbrev pub replay : History → Cells
+replay log = replay_over empty log
 
 -- whether its transaction commits in the log
 abbrev pub is_of_committed : History → LogRecord → Bool
@@ -129,9 +151,14 @@ is_of_committed log (Update u) = committed u.tx log
 is_of_committed log (Compensation c) = committed c.tx log
 is_of_committed log _ = false
 
--- WINNERS. The effects of those records alone whose transaction commits in the log. ARIES, section 3 (what recovery is for).
-abbrev pub winners : History → State
-winners log = effects (λ _ r. is_of_committed log r) empty log
+-- WINNERS. The effects over given cells of those records alone whose transaction commits in the log. ARIES, section 3 (what
+-- recovery is for).
+abbrev pub winners_over : Cells → History → Cells
+winners_over cells log = effects (λ _ r. is_of_committed log r) cells log
+
+-- over empty ones
+abbrev pub winners : History → Cells
+winners log = winners_over empty log
 
 -- whether t has an update or a CLR in this cell
 abbrev pub touches : ℕ → ℕ → ℕ → History → Bool
@@ -141,19 +168,19 @@ touches t page slot log = has (λ r. is_of t r && writes page slot r) log
 -- top off (an empty stack stays empty). ARIES, section 5.2 (CLRs and nested rollbacks); as a stack, own.
 abbrev pub pending : ℕ → History → List ℕ
 pending t start = []
-pending t (log ▸ Update u) = if u.tx == t then suc (size log) ∷ pending t log else pending t log
+pending t (log ▸ Update u) = if u.tx == t then suc (last_lsn log) ∷ pending t log else pending t log
 pending t (log ▸ Compensation c) = if c.tx == t then drop 1 (pending t log) else pending t log
 pending t (log ▸ _) = pending t log
 
 -- the LSN of the last record of t, or 0
 abbrev pub last_of : ℕ → History → ℕ
 last_of t start = 0
-last_of t (log ▸ r) = if is_of t r then suc (size log) else last_of t log
+last_of t (log ▸ r) = if is_of t r then suc (last_lsn log) else last_of t log
 
 -- RAW UNDO-NEXT. Of the last update or CLR of t the own LSN, or its UndoNxtLSN; else 0. ARIES, section 4.3.
 abbrev pub undo_next_of : ℕ → History → ℕ
 undo_next_of t start = 0
-undo_next_of t (log ▸ Update u) = if u.tx == t then suc (size log) else undo_next_of t log
+undo_next_of t (log ▸ Update u) = if u.tx == t then suc (last_lsn log) else undo_next_of t log
 undo_next_of t (log ▸ Compensation c) = if c.tx == t then c.undo_next else undo_next_of t log
 undo_next_of t (log ▸ _) = undo_next_of t log
 
@@ -161,7 +188,11 @@ undo_next_of t (log ▸ _) = undo_next_of t log
 abbrev pub is_on : ℕ → LogRecord → Bool
 is_on page r = is_on_page page (change_of r)
 
--- LAST-ON. The LSN of the last update or CLR on the page, or 0. ARIES, section 4.2 (PageLSN).
+-- LAST-ON. The LSN of the last update or CLR on the page, or where there is none the one given. ARIES, section 4.2 (PageLSN).
+abbrev pub last_on_from : (page page_lsn : ℕ) → History → ℕ
+last_on_from page page_lsn start = page_lsn
+last_on_from page page_lsn (log ▸ r) = if is_on page r then suc (last_lsn log) else last_on_from page page_lsn log
+
+-- of a page that had none before the log
 abbrev pub last_on : ℕ → History → ℕ
-last_on page start = 0
-last_on page (log ▸ r) = if is_on page r then suc (size log) else last_on page log
+last_on page log = last_on_from page 0 log

@@ -6,6 +6,8 @@ use Rattle.page.specs.Image.{Image}
 use Rattle.wal.specs.declared.record.State.{State}
 use Rattle.wal.specs.declared.record.State.TheVariants.{Active, Aborting}
 use Rattle.wal.specs.Records.{PlainRecord, TableEntry, tx_in, page_in, LogRecord, Update, Compensation, Commit, Abort, End, CheckpointBegin, CheckpointEnd}
+use Rattle.page.specs.declared.sizes.TheConstants.{PAGES, VALUE_BYTES}
+use Rattle.wal.specs.declared.sizes.TheConstants.{DIRTY_BYTES, ENTRY_BYTES, TRANSACTIONS}
 
 infixl 10 ◌>>=◌
 abbrev pub ◌>>=◌ : {A B : Type 0} → Option A → (A → Option B) → Option B
@@ -27,12 +29,12 @@ unfoldable pub slot_at : List ℕ → Option (ℕ × List ℕ)
 slot_at [] = None
 slot_at (slot ∷ rest) = if nat_lt 15 slot then None else Some (slot, rest)
 
--- 255 for absent, or a length of at most 48 and that many bytes
+-- 255 for absent, or the length of a value that is not too long, and that many bytes
 unfoldable pub image_at : List ℕ → Option (Image × List ℕ)
 image_at [] = None
 image_at (size ∷ rest) =
     if size == 255 then Some (None, rest)
-    else if nat_lt 48 size then None
+    else if nat_lt VALUE_BYTES size then None
     else if nat_lt (length rest) size then None
     else Some (Some (take size rest), drop size rest)
 
@@ -105,17 +107,17 @@ table_at number entry (suc count) low bytes = do
   others ← if nat_lt (number first.0) low then None else table_at number entry count (number first.0 + 1) first.1
   Some (first.0 ∷ others.0, others.1)
 
--- a count of at most 1,024, and so many entries
+-- a count that a transaction table may have, and so many entries
 unfoldable pub transactions_at : List ℕ → Option (List TableEntry × List ℕ)
 transactions_at bytes = do
   count ← number_at w32 bytes
-  if nat_lt 1024 count.0 then None else table_at tx_in entry_at count.0 0 count.1
+  if nat_lt TRANSACTIONS count.0 then None else table_at tx_in entry_at count.0 0 count.1
 
--- a count of at most 4,096, and so many entries
+-- a count that a dirty page table may have, and so many entries
 unfoldable pub dirties_at : List ℕ → Option (List (ℕ × ℕ) × List ℕ)
 dirties_at bytes = do
   count ← number_at w32 bytes
-  if nat_lt 4096 count.0 then None else table_at page_in dirty_at count.0 0 count.1
+  if nat_lt PAGES count.0 then None else table_at page_in dirty_at count.0 0 count.1
 
 -- the begin that it names, and the two tables
 unfoldable pub checkpoint_at : List ℕ → Option (LogRecord × List ℕ)
@@ -163,13 +165,13 @@ abbrev pub no_entry : TableEntry
 no_entry = record { tx = 0; state = Active; last = 0; undo_next = 0 }
 
 abbrev pub entries_in : ℕ → List ℕ → List TableEntry
-entries_in = table_in entry_at no_entry 21
+entries_in = table_in entry_at no_entry ENTRY_BYTES
 
 abbrev pub AreEntries : ℕ → List ℕ → Type 0
-AreEntries = IsTable entry_at 21
+AreEntries = IsTable entry_at ENTRY_BYTES
 
 abbrev pub dirties_in : ℕ → List ℕ → List (ℕ × ℕ)
-dirties_in = table_in dirty_at (0, 0) 12
+dirties_in = table_in dirty_at (0, 0) DIRTY_BYTES
 
 abbrev pub AreDirties : ℕ → List ℕ → Type 0
-AreDirties = IsTable dirty_at 12
+AreDirties = IsTable dirty_at DIRTY_BYTES

@@ -1,44 +1,45 @@
 -- What a log file is: the header, the spellings of its records with LSNs 1, 2, .., and a torn tail.
 use Rattle.std.specs.Prelude.{◌≡◌, ◌≢◌, ℕ, ◌+◌, ◌<◌, ◌≤◌, ◌^◌, List, [], ◌∷◌, ◌++◌, length, drop, ◌⊎◌}
 use Rattle.std.specs.List.{AllByRecursion}
-use Rattle.wal.specs.Records.{LogRecord}
+use Rattle.wal.specs.Records.{LogRecord, LogContent, history, last_lsn}
 use Rattle.page.specs.Causes.{HasOneCause, HasNoCause}
 use Rattle.wal.specs.Spelling.{body, frame, Fits}
 use Rattle.page.specs.declared.fault.Fault.{Fault}
 use Rattle.page.specs.declared.fault.Fault.TheVariants.{NoResource, BadLogHeader, BadLength, BadRecord, BadLsn}
 use Rattle.wal.specs.Frames.{header, length_of, body_of}
+use Rattle.wal.specs.declared.sizes.TheConstants.{HEADER_BYTES, LARGEST_BODY, SMALLEST_BODY}
 
 -- the spellings of these records, the first of them with this LSN
 abbrev pub spellings : ℕ → List LogRecord → List ℕ
 spellings lsn [] = []
 spellings lsn (r ∷ rs) = frame r lsn ++ spellings (lsn + 1) rs
 
-abbrev pub log_text : List LogRecord → List ℕ
-log_text records = header ++ spellings 1 records
+abbrev pub log_text : LogContent → List ℕ
+log_text log = header ++ spellings 1 log.records
 
 -- up to 3 bytes, or a length that a body may have and fewer bytes than it says
 abbrev pub IsTorn : List ℕ → Type 0
-IsTorn tail = (length tail < 4) ⊎ ((4 ≤ length tail) × (9 ≤ length_of tail) × (length_of tail ≤ 70681) × (length tail < 4 + length_of tail))
+IsTorn tail = (length tail < 4) ⊎ ((4 ≤ length tail) × (SMALLEST_BODY ≤ length_of tail) × (length_of tail ≤ LARGEST_BODY) × (length tail < 4 + length_of tail))
 
-pub record Reads (bytes : List ℕ) (records : List LogRecord) (torn : ℕ) : Type 0 where
+pub record Reads (bytes : List ℕ) (log : LogContent) (torn : ℕ) : Type 0 where
   pub tail : List ℕ
-  pub text : bytes ≡ log_text records ++ tail
+  pub text : bytes ≡ log_text log ++ tail
   pub torn_tail : IsTorn tail
   pub torn_count : length tail ≡ torn
-  pub each : AllByRecursion Fits records
-  pub few : length records < 2 ^ 64
+  pub each : AllByRecursion Fits log.records
+  pub few : last_lsn (history log) < 2 ^ 64
 
 -- one text has one reading
 abbrev pub OneReading : Type 0
-OneReading = (bytes : List ℕ) (first second : List LogRecord) (t u : ℕ) → Reads bytes first t → Reads bytes second u → (first ≡ second) × (t ≡ u)
+OneReading = (bytes : List ℕ) (first second : LogContent) (t u : ℕ) → Reads bytes first t → Reads bytes second u → (first ≡ second) × (t ≡ u)
 
 -- WHICH FAULT
 abbrev pub IsWhole : List ℕ → Type 0
-IsWhole bytes = (9 ≤ length_of bytes) × (length_of bytes ≤ 70681) × (4 + length_of bytes ≤ length bytes)
+IsWhole bytes = (SMALLEST_BODY ≤ length_of bytes) × (length_of bytes ≤ LARGEST_BODY) × (4 + length_of bytes ≤ length bytes)
 
 -- what is wrong in front, where a frame with this LSN should stand
 abbrev pub HasFault : Fault → (lsn offset : ℕ) → List ℕ → Type 0
-HasFault (BadLength place) lsn offset bytes = (place ≡ offset) × (4 ≤ length bytes) × ((length_of bytes < 9) ⊎ (70681 < length_of bytes))
+HasFault (BadLength place) lsn offset bytes = (place ≡ offset) × (4 ≤ length bytes) × ((length_of bytes < SMALLEST_BODY) ⊎ (LARGEST_BODY < length_of bytes))
 HasFault (BadRecord place) lsn offset bytes = (place ≡ offset) × IsWhole bytes × ((r : LogRecord) (n : ℕ) → Fits r → n < 2 ^ 64 → body_of bytes ≢ body r n)
 HasFault (BadLsn place) lsn offset bytes = (place ≡ offset) × IsWhole bytes × (r : LogRecord) × (n : ℕ) × Fits r × (n < 2 ^ 64) × (body_of bytes ≡ body r n) × (n ≢ lsn)
 HasFault e lsn offset bytes = ⊥
@@ -56,7 +57,7 @@ pub record FaultBehind (lsn offset : ℕ) (bytes : List ℕ) (e : Fault) : Type 
 abbrev pub Cause : List ℕ → Fault → Type 0
 Cause bytes NoResource = Unit {0}
 Cause bytes BadLogHeader = (rest : List ℕ) → bytes ≢ header ++ rest
-Cause bytes e = (bytes ≡ header ++ drop 8 bytes) × FaultBehind 1 8 (drop 8 bytes) e
+Cause bytes e = (bytes ≡ header ++ drop HEADER_BYTES bytes) × FaultBehind 1 HEADER_BYTES (drop HEADER_BYTES bytes) e
 
 -- a text that is no log is refused for one cause
 abbrev pub OneLogFault : Type 0
@@ -64,4 +65,4 @@ OneLogFault = (bytes : List ℕ) → HasOneCause (Cause bytes)
 
 -- and one that is a log for none
 abbrev pub NoFaultOfALog : Type 0
-NoFaultOfALog = (bytes : List ℕ) (records : List LogRecord) (torn : ℕ) → Reads bytes records torn → HasNoCause (Cause bytes)
+NoFaultOfALog = (bytes : List ℕ) (log : LogContent) (torn : ℕ) → Reads bytes log torn → HasNoCause (Cause bytes)

@@ -1,7 +1,7 @@
 -- What a log is made of: records as plain data, without where they lie in memory.
 -- ARIES, section 4.1 (log records), 4.3 (transaction table), 4.4 (dirty page table), 5.4 (checkpoints); the layout of a page
 -- in slots, and the LSN as a number, are own.
-use Rattle.std.specs.Prelude.{ℕ, suc, nat_lt, List, [], ◌∷◌, Option, Some, None, ◌==◌, if◌then◌else◌}
+use Rattle.std.specs.Prelude.{◌≡◌, ℕ, suc, nat_lt, List, [], ◌∷◌, ◌++◌, take, Option, Some, None, ◌==◌, if◌then◌else◌}
 use Rattle.page.specs.Image.{Image}
 use Rattle.wal.specs.declared.record.State.{State}
 
@@ -64,20 +64,38 @@ abbrev pub ◌▸▸◌ : History → List LogRecord → History
 log ▸▸ [] = log
 log ▸▸ (r ∷ rs) = (log ▸ r) ▸▸ rs
 
-abbrev pub history : List LogRecord → History
-history records = start ▸▸ records
+-- LOG CONTENT. What a log file holds: its records, of which the first has LSN 1.
+pub record LogContent : Type 0 where
+  pub records : List LogRecord
 
--- how many records, which is the LSN of the last of them
-abbrev pub size : History → ℕ
-size start = 0
-size (log ▸ r) = suc (size log)
+-- the same in the order of time
+abbrev pub history : LogContent → History
+history log = start ▸▸ log.records
+
+-- the log, and these records behind it
+infixl 60 ◌⧺◌
+abbrev pub ◌⧺◌ : LogContent → List LogRecord → LogContent
+log ⧺ more = record { records = log.records ++ more }
+
+-- the log up to an LSN
+abbrev pub up_to : ℕ → LogContent → LogContent
+up_to lsn log = record { records = take lsn log.records }
+
+-- the LSN of its last record, 0 for none
+abbrev pub last_lsn : History → ℕ
+last_lsn start = 0
+last_lsn (log ▸ r) = suc (last_lsn log)
 
 -- the record at an LSN
 abbrev pub record_at : History → ℕ → Option LogRecord
 record_at start lsn = None
-record_at (log ▸ r) lsn = if lsn == suc (size log) then Some r else record_at log lsn
+record_at (log ▸ r) lsn = if lsn == suc (last_lsn log) then Some r else record_at log lsn
 
 -- the first n records of the log
 abbrev pub first : ℕ → History → History
 first n start = start
-first n (log ▸ r) = if nat_lt (size log) n then log ▸ r else first n log
+first n (log ▸ r) = if nat_lt (last_lsn log) n then log ▸ r else first n log
+
+-- what is so of each of its records
+abbrev pub EachRecord : (LogRecord → Type 0) → History → Type 0
+EachRecord P log = (lsn : ℕ) (r : LogRecord) → record_at log lsn ≡ Some r → P r

@@ -3,8 +3,9 @@ use Rattle.std.specs.Prelude.{ℕ, suc, List, [], ◌∷◌, map, Option, Some, 
 use Rattle.std.specs.List.{range_with_len}
 use Rattle.page.specs.declared.page.Page.{Page}
 use Rattle.page.specs.Image.{Image}
-use Rattle.wal.specs.Records.{History, start, ◌▸◌, size}
-use Rattle.wal.specs.Meaning.{State, effects, is_on}
+use Rattle.wal.specs.Records.{History, start, ◌▸◌, last_lsn}
+use Rattle.wal.specs.Meaning.{Cells, effects, is_on}
+use Rattle.page.specs.declared.sizes.TheConstants.{SLOTS}
 
 -- a page's RecLSN, if it is listed in a dirty page table
 abbrev pub rec_lsn_of : ℕ → List (ℕ × ℕ) → Option ℕ
@@ -18,19 +19,19 @@ is_redone None redo_lsn page_lsn lsn = false
 is_redone (Some rec_lsn) redo_lsn page_lsn lsn =
     nat_le rec_lsn lsn && (not (redo_lsn == 0) && (nat_le redo_lsn lsn && nat_lt page_lsn lsn))
 
--- the 16 slots of a page in a state
-abbrev pub slots_in : State → ℕ → List Image
-slots_in state page = map (λ slot. state page slot) (range_with_len 0 16)
+-- the slots of a page in a state
+abbrev pub slots_in : Cells → ℕ → List Image
+slots_in state page = map (λ slot. state page slot) (range_with_len 0 SLOTS)
 
 -- what an image says of its own cells
-abbrev pub held_by : Page → State
+abbrev pub held_by : Page → Cells
 held_by image page slot = slice_index_or image.slots slot None
 
 -- the LSN of the last chosen record on the page, else the one given
 abbrev pub last_where : (ℕ → Bool) → (page page_lsn : ℕ) → History → ℕ
 last_where chosen page page_lsn start = page_lsn
 last_where chosen page page_lsn (log ▸ r) =
-    if is_on page r && chosen (suc (size log)) then suc (size log) else last_where chosen page page_lsn log
+    if is_on page r && chosen (suc (last_lsn log)) then suc (last_lsn log) else last_where chosen page page_lsn log
 
 -- REDO-OF. The effects of these records on the image's slots, in order, and as PageLSN the last of them, else the old one.
 abbrev pub redo_of : (listed : Option ℕ) (redo_lsn : ℕ) → History → Page → Page
@@ -44,5 +45,5 @@ redo_of listed redo_lsn log image = record {
 abbrev pub applied : (listed : Option ℕ) (redo_lsn : ℕ) → Page → History → ℕ
 applied listed redo_lsn image start = 0
 applied listed redo_lsn image (log ▸ r) =
-    if is_on image.number r && is_redone listed redo_lsn image.lsn (suc (size log)) then suc (applied listed redo_lsn image log)
+    if is_on image.number r && is_redone listed redo_lsn image.lsn (suc (last_lsn log)) then suc (applied listed redo_lsn image log)
     else applied listed redo_lsn image log

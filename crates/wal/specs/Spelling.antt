@@ -1,11 +1,13 @@
 -- The one spelling of each record, and what has one.
-use Rattle.std.specs.Prelude.{ℕ, ◌<◌, ◌≤◌, ◌^◌, List, [], ◌∷◌, ◌++◌, length, map, flat_map, Some, None, IfSome}
+use Rattle.std.specs.Prelude.{ℕ, ◌<◌, ◌≤◌, ◌^◌, List, [], ◌∷◌, ◌++◌, length, map, flat_map, Some, None}
 use Rattle.std.specs.List.{AllByRecursion}
 use Rattle.std.specs.Int.{w32, w64, to_be_bytes}
-use Rattle.page.specs.Image.{Image}
+use Rattle.page.specs.Image.{Image, FitsSlot}
 use Rattle.wal.specs.declared.record.State.{State}
 use Rattle.wal.specs.declared.record.State.TheVariants.{Active, Aborting}
 use Rattle.wal.specs.Records.{TableEntry, tx_in, page_in, UpdateRecord, CompensationRecord, PlainRecord, LogRecord, Update, Compensation, Commit, Abort, End, CheckpointBegin, CheckpointEnd}
+use Rattle.page.specs.declared.sizes.TheConstants.{PAGES}
+use Rattle.wal.specs.declared.sizes.TheConstants.{TRANSACTIONS}
 
 -- 255 for absent, or the length and the bytes
 abbrev pub image : Image → List ℕ
@@ -67,9 +69,6 @@ abbrev pub frame : LogRecord → ℕ → List ℕ
 frame r lsn = to_be_bytes w32 (length (body r lsn)) ++ body r lsn
 
 -- WHAT HAS A SPELLING
-abbrev pub FitsImage : Image → Type 0
-FitsImage value = IfSome value (λ bytes. length bytes ≤ 48)
-
 pub record FitsPlain (r : PlainRecord) : Type 0 where
   pub some_tx : 0 < r.tx
   pub tx : r.tx < 2 ^ 32
@@ -81,8 +80,8 @@ pub record FitsUpdate (u : UpdateRecord) : Type 0 where
   pub prev : u.prev < 2 ^ 64
   pub page : u.page < 2 ^ 32
   pub slot : u.slot ≤ 15
-  pub before : FitsImage u.before
-  pub after : FitsImage u.after
+  pub before : FitsSlot u.before
+  pub after : FitsSlot u.after
 
 pub record FitsCompensation (c : CompensationRecord) : Type 0 where
   pub some_tx : 0 < c.tx
@@ -91,7 +90,7 @@ pub record FitsCompensation (c : CompensationRecord) : Type 0 where
   pub page : c.page < 2 ^ 32
   pub slot : c.slot ≤ 15
   pub undo_next : c.undo_next < 2 ^ 64
-  pub image : FitsImage c.image
+  pub image : FitsSlot c.image
 
 pub record FitsEntry (e : TableEntry) : Type 0 where
   pub some_tx : 0 < e.tx
@@ -117,8 +116,8 @@ pub record FitsTable {E : Type 0} (most : ℕ) (number : E → ℕ) (Fit : E →
 
 pub record FitsCheckpoint (begin : ℕ) (transactions : List TableEntry) (dirty : List (ℕ × ℕ)) : Type 0 where
   pub begin_fits : begin < 2 ^ 64
-  pub transactions_fit : FitsTable 1024 tx_in FitsEntry transactions
-  pub dirty_fit : FitsTable 4096 page_in FitsDirty dirty
+  pub transactions_fit : FitsTable TRANSACTIONS tx_in FitsEntry transactions
+  pub dirty_fit : FitsTable PAGES page_in FitsDirty dirty
 
 abbrev pub Fits : LogRecord → Type 0
 Fits (Update u) = FitsUpdate u

@@ -3,19 +3,17 @@ use Rattle.std.specs.Prelude.{◌≡◌, ◌≤◌, ◌<◌, ◌⊎◌, ℕ, Lis
 use Rattle.std.specs.List.{range_with_len}
 use Rattle.page.specs.declared.page.Page.{Page}
 use Rattle.page.specs.Store.{StoreContent}
-use Rattle.wal.specs.declared.record.State.{State}
-use Rattle.wal.specs.declared.record.State.TheVariants.{Active, Aborting}
-use Rattle.wal.specs.Records.{TableEntry, LogRecord, Update, Compensation, CheckpointBegin, CheckpointEnd, History, start, ◌▸◌, history, size, record_at, first}
-use Rattle.wal.specs.Meaning.{aborted, replay, winners, last_of, undo_next_of, is_on, last_on}
+use Rattle.wal.specs.Records.{TableEntry, LogRecord, Update, Compensation, CheckpointBegin, CheckpointEnd, History, start, ◌▸◌, LogContent, history, last_lsn, record_at, first, EachRecord}
+use Rattle.wal.specs.Meaning.{state_at, replay, winners, last_of, undo_next_of, is_on, last_on}
 use Rattle.wal.specs.Laws.{IsLawful}
-use Rattle.wal.specs.Tail.{losers_of, tail_of}
+use Rattle.wal.specs.Tail.{unfinished_of, with_tail}
 use Rattle.wal.specs.Redo.{rec_lsn_of, slots_in}
 use Rattle.wal.specs.Reads.{log_text, Reads}
 
 -- PAGE LAW. PageLSN is 0 or the LSN of a record on the page, and the slots are what the log up to PageLSN makes of them.
 -- ARIES, section 4.2 (PageLSN), and write-ahead logging, section 1.1.
 pub record PageLaw (log : History) (page : Page) : Type 0 where
-  pub within : page.lsn ≤ size log
+  pub within : page.lsn ≤ last_lsn log
   pub on_page : (page.lsn ≡ 0) ⊎ ((r : LogRecord) × (record_at log page.lsn ≡ Some r) × (is_on page.number r ≡ true))
   pub slots_are : page.slots ≡ slots_in (replay (first page.lsn log)) page.number
 
@@ -29,7 +27,7 @@ or_else None other = other
 abbrev pub first_end : ℕ → History → Option (List TableEntry × List (ℕ × ℕ))
 first_end m start = None
 first_end m (log ▸ CheckpointEnd begin transactions dirty) =
-    or_else (first_end m log) (if begin == m && nat_le m (size log) then Some (transactions, dirty) else None)
+    or_else (first_end m log) (if begin == m && nat_le m (last_lsn log) then Some (transactions, dirty) else None)
 first_end m (log ▸ _) = first_end m log
 
 -- CHECKPOINT of the master m: a begin stands there, and a later end names it. Its tables are those of the first such end. ARIES,
@@ -41,16 +39,13 @@ is_begin _ = false
 abbrev pub checkpoint_at : ℕ → History → Option (List TableEntry × List (ℕ × ℕ))
 checkpoint_at m log = if is_begin (record_at log m) then first_end m log else None
 
-abbrev pub state_of : Bool → State
-state_of is_aborting = if is_aborting then Aborting else Active
-
--- what is true of a loser: its state, its last record and its raw undo-next
+-- what is true of an unfinished transaction: its state, its last record and its raw undo-next
 abbrev pub true_entry : History → ℕ → TableEntry
-true_entry log t = record { tx = t; state = state_of (aborted t log); last = last_of t log; undo_next = undo_next_of t log }
+true_entry log t = record { tx = t; state = state_at t log; last = last_of t log; undo_next = undo_next_of t log }
 
--- the losers of the log with what is true of them, in rising number
+-- the unfinished transactions of the log with what is true of them, in rising number
 abbrev pub true_table : History → List TableEntry
-true_table log = map (true_entry log) (losers_of log)
+true_table log = map (true_entry log) (unfinished_of log)
 
 -- DIRTY LAW of a checkpoint at m, for a page: its RecLSN lies in 1 to m, and no record up to m that its image lacks is left out
 pub record DirtyLaw (log : History) (m page page_lsn : ℕ) (listed : Option ℕ) : Type 0 where
@@ -78,29 +73,29 @@ NamesPages count (CheckpointEnd begin transactions dirty) = All (λ d. d.0 < cou
 NamesPages count _ = Unit {0}
 
 -- LAWFUL. A log and a store that an ARIES system can leave behind.
-pub record Lawful (records : List LogRecord) (store : StoreContent) : Type 0 where
-  pub log : IsLawful (history records)
-  pub names_pages : All (NamesPages (length store.pages)) records
-  pub pages : All (PageLaw (history records)) store.pages
-  pub checkpoint : CheckpointLaw (history records) store.pages store.master
+pub record Lawful (content : LogContent) (store : StoreContent) : Type 0 where
+  pub log : IsLawful (history content)
+  pub names_pages : EachRecord (NamesPages (length store.pages)) (history content)
+  pub pages : All (PageLaw (history content)) store.pages
+  pub checkpoint : CheckpointLaw (history content) store.pages store.master
 
 -- STORE-OUT. The count and the master stay; each page has what the winners leave, and as PageLSN the last record on it in the
 -- log and its tail. ARIES, section 3.
-abbrev pub page_out : List LogRecord → ℕ → Page
-page_out records page = record { number = page; lsn = last_on page (history (records ++ tail_of records)); slots = slots_in (winners (history records)) page }
+abbrev pub page_out : LogContent → ℕ → Page
+page_out log page = record { number = page; lsn = last_on page (history (with_tail log)); slots = slots_in (winners (history log)) page }
 
-abbrev pub store_out : List LogRecord → StoreContent → StoreContent
-store_out records store = record { master = store.master; pages = map (page_out records) (range_with_len 0 (length store.pages)) }
+abbrev pub store_out : LogContent → StoreContent → StoreContent
+store_out log store = record { master = store.master; pages = map (page_out log) (range_with_len 0 (length store.pages)) }
 
 -- CUT (own). What a restart of (L, S) that was interrupted may leave: L's log text and a beginning of its tail's, with the
 -- whole records L' in it; and a store of the same count and master whose pages keep the page law over L', none of them older
 -- than in S.
-pub record Cut (records : List LogRecord) (store : StoreContent) (bytes : List ℕ) (left : StoreContent) : Type 0 where
+pub record Cut (log : LogContent) (store : StoreContent) (bytes : List ℕ) (left : StoreContent) : Type 0 where
   pub written : List ℕ
   pub missing : List ℕ
-  pub begins : bytes ≡ log_text records ++ written
-  pub ends : log_text (records ++ tail_of records) ≡ bytes ++ missing
-  pub whole : List LogRecord
+  pub begins : bytes ≡ log_text log ++ written
+  pub ends : log_text (with_tail log) ≡ bytes ++ missing
+  pub whole : LogContent
   pub torn : ℕ
   pub reads : Reads bytes whole torn
   pub master : left.master ≡ store.master

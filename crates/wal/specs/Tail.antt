@@ -1,8 +1,8 @@
 -- What a restart adds to a log. ARIES, section 6.3 (undo pass); that the ends of losers with nothing pending come first, in
 -- rising number, and the LSNs by counting, are own.
 use Rattle.std.specs.Prelude.{ℕ, suc, zero, List, [], ◌∷◌, ◌++◌, Bool, true, false, ◌||◌, ◌==◌, if◌then◌else◌, map, filter, flat_map, max, Option, Some, None}
-use Rattle.wal.specs.Records.{UpdateRecord, LogRecord, Update, Compensation, End, History, start, ◌▸◌, history, size}
-use Rattle.wal.specs.Meaning.{owner, is_loser, pending, last_of}
+use Rattle.wal.specs.Records.{UpdateRecord, LogRecord, Update, Compensation, End, History, start, ◌▸◌, LogContent, history, ◌⧺◌, last_lsn}
+use Rattle.wal.specs.Meaning.{owner, is_unfinished, is_loser, pending, last_of}
 
 -- WHAT IS WRITTEN
 -- the end of a transaction, or the CLR of an update
@@ -61,7 +61,7 @@ is_lowest n (m ∷ k ∷ ms) = is_lowest n (k ∷ ms)
 abbrev pub updates_where : (ℕ → UpdateRecord → Bool) → History → List (ℕ × UpdateRecord)
 updates_where chosen start = []
 updates_where chosen (log ▸ Update u) =
-    if chosen (suc (size log)) u then (suc (size log), u) ∷ updates_where chosen log else updates_where chosen log
+    if chosen (suc (last_lsn log)) u then (suc (last_lsn log), u) ∷ updates_where chosen log else updates_where chosen log
 updates_where chosen (log ▸ _) = updates_where chosen log
 
 -- the updates on the stacks, which have the LSNs that each transaction is to undo
@@ -97,9 +97,15 @@ abbrev pub above_all : History → ℕ
 above_all start = 0
 above_all (log ▸ r) = max (suc (tx_of r)) (above_all log)
 
--- in rising number
+-- the transactions of the log that are chosen, in rising number
+abbrev pub transactions_of : (ℕ → Bool) → History → List ℕ
+transactions_of chosen log = filter chosen (numbers_from 0 (above_all log))
+
+abbrev pub unfinished_of : History → List ℕ
+unfinished_of log = transactions_of (λ t. is_unfinished t log) log
+
 abbrev pub losers_of : History → List ℕ
-losers_of log = filter (λ t. is_loser t log) (numbers_from 0 (above_all log))
+losers_of log = transactions_of (λ t. is_loser t log) log
 
 -- a loser's pending updates
 abbrev pub left_of : History → ℕ → List ℕ
@@ -110,8 +116,12 @@ left_to_do log = rollback (losers_of log) (left_of log) log
 
 -- TAIL. The losers of the log are rolled back, and these records written behind it.
 abbrev pub tail : History → List LogRecord
-tail log = written (λ t. last_of t log) (suc (size log)) (left_to_do log)
+tail log = written (λ t. last_of t log) (suc (last_lsn log)) (left_to_do log)
 
--- the tail of these records
-abbrev pub tail_of : List LogRecord → List LogRecord
-tail_of records = tail (history records)
+-- the tail of this log
+abbrev pub tail_of : LogContent → List LogRecord
+tail_of log = tail (history log)
+
+-- the log and its tail
+abbrev pub with_tail : LogContent → LogContent
+with_tail log = log ⧺ tail_of log

@@ -1,57 +1,53 @@
 -- What is proved of the definitions alone.
-use Rattle.std.specs.Prelude.{◌≡◌, ◌↔◌, ◌≤◌, ◌<◌, ℕ, List, [], ◌++◌, length, take, slice_index_or, true, false, Option, Some, filter, All}
+use Rattle.std.specs.Prelude.{suc, ◌≡◌, ◌↔◌, ◌≤◌, ◌<◌, ℕ, List, [], length, slice_index_or, true, false, Option, Some, filter, All}
 use Rattle.page.specs.declared.page.Page.{Page}
 use Rattle.page.specs.Store.{StoreContent, AreNumbered}
-use Rattle.wal.specs.Records.{LogRecord, History, history, record_at}
+use Rattle.wal.specs.Records.{LogRecord, History, LogContent, history, up_to, last_lsn, record_at, first}
 use Rattle.wal.specs.Meaning.{is_loser, pending, undo_next_of, replay, winners, is_on, last_on}
 use Rattle.wal.specs.Laws.{Obeys, IsLawful}
-use Rattle.wal.specs.Tail.{is_end, losers_of, tail, tail_of}
+use Rattle.wal.specs.Tail.{is_end, losers_of, tail, tail_of, with_tail}
 use Rattle.wal.specs.Hops.{hops}
 use Rattle.wal.specs.Redo.{rec_lsn_of, is_redone, slots_in, redo_of}
 use Rattle.wal.specs.Undo.{entry_for, walk_of, undone_by}
 use Rattle.wal.specs.Store.{PageLaw, true_table, Lawful, store_out, Cut}
 use Rattle.wal.specs.Reads.{Reads}
 
--- the log of these records obeys the laws
-abbrev pub AreLawful : List LogRecord → Type 0
-AreLawful records = IsLawful (history records)
-
 -- A log is lawful where each record obeys the laws after those before it.
 abbrev pub LawfulByRecord : Type 0
-LawfulByRecord = (records : List LogRecord) →
-    AreLawful records ↔ ((i : ℕ) (d : LogRecord) → i < length records → Obeys (history (take i records)) (slice_index_or records i d))
+LawfulByRecord = (log : LogContent) →
+    IsLawful (history log) ↔ ((lsn : ℕ) (r : LogRecord) → record_at (history log) (suc lsn) ≡ Some r → Obeys (first lsn (history log)) r)
 
 -- The hops of a transaction from its undo-next meet its pending updates, the newest first, and none is bad.
 abbrev pub HopsMeetPending : Type 0
-HopsMeetPending = (records : List LogRecord) (t : ℕ) → AreLawful records →
-    hops t (history records) (undo_next_of t (history records)) ≡ record { met = pending t (history records); ends = 0 }
+HopsMeetPending = (log : LogContent) (t : ℕ) → IsLawful (history log) →
+    hops t (history log) (undo_next_of t (history log)) ≡ record { met = pending t (history log); ends = 0 }
 
 -- The log and its tail, replayed, leave in each cell what the winners leave there.
 abbrev pub ReplayIsWinners : Type 0
-ReplayIsWinners = (records : List LogRecord) → AreLawful records →
-    replay (history (records ++ tail_of records)) ≡ winners (history records)
+ReplayIsWinners = (log : LogContent) → IsLawful (history log) →
+    replay (history (with_tail log)) ≡ winners (history log)
 
 -- The log and its tail are lawful, have no loser and no tail, and the same winners.
-pub record Settles (records : List LogRecord) : Type 0 where
-  pub lawful : AreLawful (records ++ tail_of records)
-  pub no_loser : (t : ℕ) → is_loser t (history (records ++ tail_of records)) ≡ false
-  pub no_tail : tail_of (records ++ tail_of records) ≡ []
-  pub same : winners (history (records ++ tail_of records)) ≡ winners (history records)
+pub record Settles (log : LogContent) : Type 0 where
+  pub lawful : IsLawful (history (with_tail log))
+  pub no_loser : (t : ℕ) → is_loser t (history (with_tail log)) ≡ false
+  pub no_tail : tail_of (with_tail log) ≡ []
+  pub same : winners (history (with_tail log)) ≡ winners (history log)
 
 abbrev pub TailSettles : Type 0
-TailSettles = (records : List LogRecord) → AreLawful records → Settles records
+TailSettles = (log : LogContent) → IsLawful (history log) → Settles log
 
 -- In the tail of a lawful log as many transactions end as there are losers: each loser once.
 abbrev pub LosersEnd : Type 0
-LosersEnd = (records : List LogRecord) → AreLawful records → length (filter is_end (tail_of records)) ≡ length (losers_of (history records))
+LosersEnd = (log : LogContent) → IsLawful (history log) → length (filter is_end (tail_of log)) ≡ length (losers_of (history log))
 
 -- A log that was cut within its tail is lawful, and its own tail completes it to the same whole.
-pub record Resumes (records : List LogRecord) (n : ℕ) : Type 0 where
-  pub lawful : AreLawful (take n (records ++ tail_of records))
-  pub whole : take n (records ++ tail_of records) ++ tail_of (take n (records ++ tail_of records)) ≡ records ++ tail_of records
+pub record Resumes (log : LogContent) (lsn : ℕ) : Type 0 where
+  pub lawful : IsLawful (history (up_to lsn (with_tail log)))
+  pub whole : with_tail (up_to lsn (with_tail log)) ≡ with_tail log
 
 abbrev pub CutsResume : Type 0
-CutsResume = (records : List LogRecord) (n : ℕ) → AreLawful records → length records ≤ n → Resumes records n
+CutsResume = (log : LogContent) (lsn : ℕ) → IsLawful (history log) → last_lsn (history log) ≤ lsn → Resumes log lsn
 
 -- no record on the page that the image lacks is left out by redo
 abbrev pub SkipsNothing : (listed : Option ℕ) (redo_lsn page page_lsn : ℕ) → History → Type 0
@@ -82,8 +78,8 @@ ReachesAll dirty redo_lsn log page =
 
 -- By any dirty page table and redo_lsn that reach all that the images lack, redo makes each page what the log makes of it.
 abbrev pub RedoSuffices : Type 0
-RedoSuffices = (records : List LogRecord) (store : StoreContent) (dirty : List (ℕ × ℕ)) (redo_lsn : ℕ) → Lawful records store → All (ReachesAll dirty redo_lsn (history records)) store.pages
-    → All (λ page. redo_of (rec_lsn_of page.number dirty) redo_lsn (history records) page ≡ replayed_page (history records) page.number) store.pages
+RedoSuffices = (log : LogContent) (store : StoreContent) (dirty : List (ℕ × ℕ)) (redo_lsn : ℕ) → Lawful log store → All (ReachesAll dirty redo_lsn (history log)) store.pages
+    → All (λ page. redo_of (rec_lsn_of page.number dirty) redo_lsn (history log) page ≡ replayed_page (history log) page.number) store.pages
 
 -- On a lawful log and the true table of its losers, undo appends the tail, and no hop is bad.
 pub record UndoesAll (log : History) : Type 0 where
@@ -91,45 +87,45 @@ pub record UndoesAll (log : History) : Type 0 where
   pub no_bad_hop : (t : ℕ) → (walk_of log (entry_for t (true_table log))).ends ≡ 0
 
 abbrev pub UndoIsTail : Type 0
-UndoIsTail = (records : List LogRecord) → AreLawful records → UndoesAll (history records)
+UndoIsTail = (log : LogContent) → IsLawful (history log) → UndoesAll (history log)
 
 -- THE STORE
--- A store that a restart may leave beside the first n records of the log and its tail, all of the log's among them: the count
--- and the master stay, the pages keep the page law over these records, and none is older.
-pub record Interrupted (records : List LogRecord) (store : StoreContent) (n : ℕ) (left : StoreContent) : Type 0 where
-  pub past : length records ≤ n
+-- A store that a restart may leave beside the log and its tail up to an LSN, not below the log's last: the count and the master
+-- stay, the pages keep the page law over these records, and none is older.
+pub record Interrupted (log : LogContent) (store : StoreContent) (lsn : ℕ) (left : StoreContent) : Type 0 where
+  pub past : last_lsn (history log) ≤ lsn
   pub numbered : AreNumbered left.pages
   pub master : left.master ≡ store.master
   pub count : length left.pages ≡ length store.pages
-  pub pages : All (PageLaw (history (take n (records ++ tail_of records)))) left.pages
+  pub pages : All (PageLaw (history (up_to lsn (with_tail log)))) left.pages
   pub not_older : (i : ℕ) (d : Page) → i < length store.pages → (slice_index_or store.pages i d).lsn ≤ (slice_index_or left.pages i d).lsn
 
 -- A log and a store from which a restart goes on to the same log and the same store.
-pub record GoesOn (records : List LogRecord) (store : StoreContent) (whole : List LogRecord) (left : StoreContent) : Type 0 where
+pub record GoesOn (log : LogContent) (store : StoreContent) (whole : LogContent) (left : StoreContent) : Type 0 where
   pub lawful : Lawful whole left
-  pub same_log : whole ++ tail_of whole ≡ records ++ tail_of records
-  pub same_store : store_out whole left ≡ store_out records store
+  pub same_log : with_tail whole ≡ with_tail log
+  pub same_store : store_out whole left ≡ store_out log store
 
 -- A restart that was interrupted is lawful, and a further one goes on to the same end.
 abbrev pub RestartGoesOn : Type 0
-RestartGoesOn = (records : List LogRecord) (store : StoreContent) (n : ℕ) (left : StoreContent)
-    → AreNumbered store.pages → Lawful records store → Interrupted records store n left → GoesOn records store (take n (records ++ tail_of records)) left
+RestartGoesOn = (log : LogContent) (store : StoreContent) (lsn : ℕ) (left : StoreContent)
+    → AreNumbered store.pages → Lawful log store → Interrupted log store lsn left → GoesOn log store (up_to lsn (with_tail log)) left
 
 -- The log and its tail with the store after a restart are lawful, and a further restart leaves that store as it is.
-pub record Settled (records : List LogRecord) (store : StoreContent) : Type 0 where
-  pub lawful : Lawful (records ++ tail_of records) (store_out records store)
-  pub same_store : store_out (records ++ tail_of records) (store_out records store) ≡ store_out records store
+pub record Settled (log : LogContent) (store : StoreContent) : Type 0 where
+  pub lawful : Lawful (with_tail log) (store_out log store)
+  pub same_store : store_out (with_tail log) (store_out log store) ≡ store_out log store
 
 abbrev pub StoreSettles : Type 0
-StoreSettles = (records : List LogRecord) (store : StoreContent) → AreNumbered store.pages → Lawful records store → Settled records store
+StoreSettles = (log : LogContent) (store : StoreContent) → AreNumbered store.pages → Lawful log store → Settled log store
 
 -- Of a log that was read and its store: the whole records of a cut and its store are lawful, and a restart goes on from them to
 -- the same log and the same store.
 abbrev pub CutsSettle : Type 0
-CutsSettle = (records : List LogRecord) (store : StoreContent) (text : List ℕ) (torn : ℕ) (bytes : List ℕ) (left : StoreContent) → Reads text records torn → AreNumbered store.pages → AreNumbered left.pages
-    → Lawful records store → (c : Cut records store bytes left) → GoesOn records store c.whole left
+CutsSettle = (log : LogContent) (store : StoreContent) (text : List ℕ) (torn : ℕ) (bytes : List ℕ) (left : StoreContent) → Reads text log torn → AreNumbered store.pages → AreNumbered left.pages
+    → Lawful log store → (c : Cut log store bytes left) → GoesOn log store c.whole left
 
 -- So a restart may be interrupted again and again: a cut of what a cut goes on to is a cut of the first log and store.
 abbrev pub CutsCompose : Type 0
-CutsCompose = (records : List LogRecord) (store : StoreContent) (text : List ℕ) (torn : ℕ) (bytes : List ℕ) (left : StoreContent) → Reads text records torn → AreNumbered store.pages → AreNumbered left.pages
-    → Lawful records store → (c : Cut records store bytes left) → (later : List ℕ) (later_left : StoreContent) → Cut c.whole left later later_left → Cut records store later later_left
+CutsCompose = (log : LogContent) (store : StoreContent) (text : List ℕ) (torn : ℕ) (bytes : List ℕ) (left : StoreContent) → Reads text log torn → AreNumbered store.pages → AreNumbered left.pages
+    → Lawful log store → (c : Cut log store bytes left) → (later : List ℕ) (later_left : StoreContent) → Cut c.whole left later later_left → Cut log store later later_left

@@ -1,6 +1,6 @@
 -- UNDO. What undo appends, for any log and any table of losers. ARIES, section 6.3 (undo pass).
 use Rattle.std.specs.Prelude.{ℕ, suc, List, [], ◌∷◌, Option, Some, None, ◌==◌, if◌then◌else◌, map}
-use Rattle.wal.specs.Records.{TableEntry, tx_in, LogRecord, History, size}
+use Rattle.wal.specs.Records.{TableEntry, tx_in, LogRecord, History, last_lsn}
 use Rattle.wal.specs.Hops.{Walk, hops}
 use Rattle.wal.specs.Tail.{written, rollback}
 
@@ -21,4 +21,4 @@ last_in (Some e) = e.last
 -- UNDONE. The transactions of the table are rolled back, each by the updates that its hops meet, and these records written.
 abbrev pub undone_by : History → List TableEntry → List LogRecord
 undone_by log entries =
-    written (λ t. last_in (entry_for t entries)) (suc (size log)) (rollback (map tx_in entries) (λ t. (walk_of log (entry_for t entries)).met) log)
+    written (λ t. last_in (entry_for t entries)) (suc (last_lsn log)) (rollback (map tx_in entries) (λ t. (walk_of log (entry_for t entries)).met) log)

@@ -24,12 +24,12 @@ impl<'a> Log<'a> {
         ensures found { option_map (λ x. (x.0, x.1)) result ≡ first_end master (history self.now) }
         ensures fits { IfSome result (λ x. Fits (CheckpointEnd master x.0 x.1)) }
     {
-        for index in master..self.len() {
+        for lsn in master..self.last() {
             if let RecordView::CheckpointEnd {
                 begin,
                 transactions,
                 dirty,
-            } = self.nth(index)
+            } = self.after(lsn)
             {
                 if begin == master {
                     return Some((transactions, dirty));

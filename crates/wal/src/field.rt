@@ -3,11 +3,12 @@
 ghost use Rattle.std.specs.Prelude.{◌≡◌, ◌++◌, ◌∷◌, [], OnOk, length, map, option_map, ◌<◌, ◌^◌};
 ghost use Rattle.std.specs.Int.{w32, w64, to_be_bytes};
 ghost use Rattle.wal.specs.Reading.{number_at, tx_at, slot_at, image_at, plain_at, state_at, entry_at, dirty_at};
-ghost use Rattle.wal.specs.Spelling.{image, state as state_text, entry as entry_text, dirty_page, table, FitsImage};
+ghost use Rattle.wal.specs.Spelling.{image, state as state_text, entry as entry_text, dirty_page, table};
 ghost use Rattle.wal.specs.Content.{entry_of, Keeps};
+ghost use Rattle.page.specs.Image.{FitsSlot};
 
 use crate::record::{Entry, State};
-use page::Value;
+use page::{SLOTS, VALUE_BYTES, Value};
 use std::alloc::{AllocError, Allocator};
 
 #[inline]
@@ -58,7 +59,7 @@ pub fn slot_at(bytes: &[u8]) -> Option<(u8, &[u8])>
     match bytes {
         [] => None,
         [slot, rest @ ..] => {
-            if *slot > 15 {
+            if *slot as usize >= SLOTS {
                 return None;
             }
             Some((*slot, rest))
@@ -77,7 +78,7 @@ pub fn image_at(bytes: &[u8]) -> Option<(Option<&[u8]>, &[u8])>
             if *size == 255 {
                 return Some((None, rest));
             }
-            if *size > 48 {
+            if *size as usize > VALUE_BYTES {
                 return None;
             }
             let size = *size as usize;
@@ -156,7 +157,7 @@ pub fn put_image<A: Allocator>(
     out: &mut Vec<u8, A>,
     value: &Option<Value>,
 ) -> Result<(), AllocError>
-    requires { FitsImage value.now }
+    requires { FitsSlot value.now }
     ensures ok { OnOk result (out.new.items ≡ out.old.items ++ image value.now) }
     ensures kept { Keeps out.old.items out.new.items }
 {

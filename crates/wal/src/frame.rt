@@ -6,18 +6,22 @@ ghost use Rattle.std.specs.Int.{w32, w64, to_be_bytes};
 ghost use Rattle.wal.specs.Records.{CompensationRecord, PlainRecord, UpdateRecord};
 ghost use Rattle.wal.specs.Reading.{update_at, compensation_at, commit_at, abort_at, end_at, transactions_at, dirties_at, checkpoint_at, fields_at, body_at};
 ghost use Rattle.wal.specs.Frames.{next_at, Gives};
-ghost use Rattle.wal.specs.Spelling.{image, plain, update, compensation, body, frame, checkpoint, table, entry, dirty_page, kind_of, fields, Fits, FitsImage, FitsCheckpoint, FitsTable};
-ghost use Rattle.wal.specs.Content.{content, Keeps};
-ghost use Rattle.wal.specs.Shown.{shown};
+ghost use Rattle.wal.specs.Spelling.{image, plain, update, compensation, body, frame, checkpoint, table, entry, dirty_page, kind_of, fields, Fits, FitsCheckpoint, FitsTable};
+ghost use Rattle.wal.specs.Content.{content, Keeps, shown};
+ghost use Rattle.page.specs.Image.{FitsSlot};
 
 use crate::field::{
     image_at, image_len, plain_at, put_cell, put_dirties, put_entries, put_image, put_plain,
     slot_at, u32_at, u64_at,
 };
 use crate::record::Record;
+use crate::sizes::{
+    CELL_BYTES, CHECKPOINT_BODY, DIRTY_BYTES, ENTRY_BYTES, LARGEST_BODY, LSN_BYTES, PLAIN_BODY,
+    SMALLEST_BODY, TRANSACTIONS,
+};
 use crate::view;
 use crate::view::{DirtyTable, RecordView, TransactionTable};
-use page::Fault;
+use page::{Fault, PAGES};
 use std::alloc::{AllocError, Allocator};
 
 #[inline]
@@ -94,7 +98,7 @@ fn transactions_at(bytes: &[u8]) -> Option<(TransactionTable, &[u8])>
     ensures { option_map (λ x. (x.0, x.1.now)) result ≡ transactions_at bytes.now }
 {
     let (count, rest) = u32_at(bytes)?;
-    if count > 1024 {
+    if count as usize > TRANSACTIONS {
         return None;
     }
     view::entries_at(count, rest)
@@ -105,7 +109,7 @@ fn dirties_at(bytes: &[u8]) -> Option<(DirtyTable, &[u8])>
     ensures { option_map (λ x. (x.0, x.1.now)) result ≡ dirties_at bytes.now }
 {
     let (count, rest) = u32_at(bytes)?;
-    if count > 4096 {
+    if count as usize > PAGES {
         return None;
     }
     view::dirties_at(count, rest)
@@ -173,7 +177,7 @@ pub fn next_at(lsn: u64, offset: usize, bytes: &[u8]) -> Result<Option<(RecordVi
     }
     let (front, rest) = bytes.split_at(4);
     let size = u32::from_be_bytes([front[0], front[1], front[2], front[3]]) as usize;
-    if size < 9 || size > 70681 {
+    if size < SMALLEST_BODY || size > LARGEST_BODY {
         return Err(Fault::BadLength(offset as u64));
     }
     if rest.len() < size {
@@ -195,17 +199,24 @@ fn body_len(entry: &Record) -> u32
     ensures { result ≡ length (body (content entry.now) 0) }
 {
     match entry {
-        Record::Update { before, after, .. } => (26 + image_len(before) + image_len(after)) as u32,
-        Record::Compensation { image, .. } => (34 + image_len(image)) as u32,
-        Record::Commit { .. } => 21,
-        Record::Abort { .. } => 21,
-        Record::End { .. } => 21,
-        Record::CheckpointBegin => 9,
+        Record::Update { before, after, .. } => {
+            (PLAIN_BODY + CELL_BYTES + image_len(before) + image_len(after)) as u32
+        }
+        Record::Compensation { image, .. } => (PLAIN_BODY
+            + CELL_BYTES
+            + LSN_BYTES
+            + image_len(image)) as u32,
+        Record::Commit { .. } => PLAIN_BODY as u32,
+        Record::Abort { .. } => PLAIN_BODY as u32,
+        Record::End { .. } => PLAIN_BODY as u32,
+        Record::CheckpointBegin => SMALLEST_BODY as u32,
         Record::CheckpointEnd {
             transactions,
             dirty,
             ..
-        } => (25 + 21 * transactions.len() + 12 * dirty.len()) as u32,
+        } => {
+            (CHECKPOINT_BODY + ENTRY_BYTES * transactions.len() + DIRTY_BYTES * dirty.len()) as u32
+        },
     }
 }
 

@@ -2,6 +2,7 @@
 
 ghost use Rattle.std.specs.Prelude.{◌≡◌, ℕ, Some, drop, option_map};
 ghost use Rattle.wal.specs.Records.{LogRecord};
+ghost use Rattle.wal.specs.Meaning.{cell_of};
 ghost use Rattle.wal.specs.Spelling.{Fits};
 ghost use Rattle.wal.specs.Frames.{IsPlace, body_of, frame_at};
 ghost use Rattle.wal.specs.Glances.{glance_of, update_glance, compensation_glance, commit_glance, abort_glance, end_glance, fields_glance, body_glance};
@@ -38,6 +39,24 @@ pub enum Glance {
     },
     /// A checkpoint began or ended.
     Checkpoint,
+}
+
+impl Glance {
+    /// The page and the slot of the cell that the record puts an image into; None for a record that
+    /// changes no cell.
+    #[inline(always)]
+    pub fn cell(&self) -> Option<(u32, u8)>
+        ensures { (r : LogRecord) → self.now ≡ glance_of r → result ≡ cell_of r }
+    {
+        match self {
+            Glance::Update { page, slot, .. } => Some((*page, *slot)),
+            Glance::Compensation { page, slot, .. } => Some((*page, *slot)),
+            Glance::Commit { .. } => None,
+            Glance::Abort { .. } => None,
+            Glance::End { .. } => None,
+            Glance::Checkpoint => None,
+        }
+    }
 }
 
 #[inline(always)]

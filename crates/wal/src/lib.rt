@@ -5,19 +5,21 @@
 //! laws are the functions of `laws`.
 #![tactic(auto)]
 
+mod change;
 mod checkpoint;
 mod field;
 mod frame;
 mod glance;
-mod image;
 mod laws;
 mod log;
 mod offsets;
 mod record;
+mod sizes;
 #[cfg(test)]
 mod tests;
 mod view;
 
+pub use change::Change;
 pub use frame::write_frame;
 pub use glance::Glance;
 pub use laws::{
@@ -27,4 +29,5 @@ pub use laws::{
 };
 pub use log::{Log, read_log};
 pub use record::{Entry, Record, State};
+pub use sizes::TRANSACTIONS;
 pub use view::{DirtyTable, RecordView, TransactionTable, value_of};

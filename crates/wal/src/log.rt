@@ -1,26 +1,27 @@
 //! A log that lies in bytes.
 
-ghost use Rattle.std.specs.Prelude.{◌≡◌, ◌+◌, ◌<◌, ◌≤◌, ◌^◌, ℕ, List, All, length, map, take, drop, slice_index_or, option_map, IfErr, IfOk, IfSome, Ok};
-ghost use Rattle.wal.specs.Glances.{glance_of};
+ghost use Rattle.std.specs.Prelude.{◌≡◌, ◌+◌, ◌<◌, ◌≤◌, ◌^◌, ℕ, All, length, map, drop, Some, option_map, IfErr, IfOk, IfSome, Ok, ◌*◌};
+ghost use Rattle.wal.specs.Glances.{IsGlanceBehind};
 ghost use Rattle.wal.specs.Meaning.{image_in};
-ghost use Rattle.wal.specs.Records.{LogRecord, CheckpointBegin, ◌▸◌, history, record_at};
+ghost use Rattle.wal.specs.Records.{LogContent, start, ◌▸◌, ◌▸▸◌, history, last_lsn, record_at, first};
 ghost use Rattle.wal.specs.Frames.{IsPlace, ArePlaces, record_of, length_of, frame_at, next_at, frames_at, log_at, Gives};
 ghost use Rattle.wal.specs.Reads.{Cause, Reads};
 ghost use Rattle.wal.specs.Spelling.{Fits};
-ghost use Rattle.wal.specs.Shown.{shown};
+ghost use Rattle.wal.specs.Content.{shown};
+ghost use Rattle.wal.specs.declared.sizes.TheConstants.{HEADER_BYTES, SMALLEST_FRAME};
 
 use crate::frame::{body_at, next_at};
-use crate::glance::{Glance, glance_here};
-use crate::image::image_here;
+use crate::glance::{Glance, body_here, glance_here};
 use crate::offsets::Offsets;
-use crate::view::RecordView;
+use crate::sizes::HEADER_BYTES;
+use crate::view::{RecordView, value_of};
 use page::{Fault, Value};
 use std::alloc::Global;
 use std::marker::Model;
 
 /// A log that stays in the bytes that it was read from. Beside them it holds one offset for each record,
-/// of 4 bytes in the first 4 GiB and of 8 behind them. Contracts see it as the list of its records, the
-/// first of which has LSN 1.
+/// of 4 bytes in the first 4 GiB and of 8 behind them. Contracts see its content: its records,
+/// the first of which has LSN 1.
 #[derive(Drop)]
 pub struct Log<'a> {
     bytes: &'a [u8],
@@ -28,29 +29,36 @@ pub struct Log<'a> {
 }
 
 impl<'a> Model for Log<'a> {
-    ghost Value = { List LogRecord };
+    ghost Value = { LogContent };
 
-    ghost view = { λ log. map (record_of log.bytes.now) log.offsets };
+    ghost view = { λ log. record { records = map (record_of log.bytes.now) log.offsets } };
 
     ghost invariant = { λ log. ArePlaces log.bytes.now log.offsets };
 }
 
 impl<'a> Log<'a> {
-    /// How many records it has, which is the largest LSN.
+    /// How many records it has.
     pub fn len(&self) -> u64
-        ensures { result ≡ length self.now }
+        ensures { result ≡ length self.now.records }
     {
         self.offsets.len() as u64
     }
 
-    /// The LSN of a record that is to come behind the last one. It leaves room for as many further
-    /// records as a vector holds.
+    /// The LSN of its last record, 0 where it has none.
+    pub fn last(&self) -> u64
+        ensures { result ≡ last_lsn (history self.now) }
+    {
+        self.offsets.len() as u64
+    }
+
+    /// The LSN of a record that is to come behind the last one. The log's bytes are fewer than 2^63 and
+    /// each record takes 13 of them at least, so there is room for many LSNs more (`room`).
     pub fn next_lsn(&self) -> u64
-        ensures next { result ≡ length self.now + 1 }
-        ensures room { result ≤ 2 ^ 63 }
+        ensures next { result ≡ last_lsn (history self.now) + 1 }
+        ensures room { HEADER_BYTES + SMALLEST_FRAME * length self.now.records < 2 ^ 63 }
     {
         let _room = self.bytes.len();
-        self.offsets.len() as u64 + 1
+        self.last() + 1
     }
 
     /// The record at an LSN, None for 0 and past the end. It is decoded from the bytes at each call,
@@ -63,46 +71,34 @@ impl<'a> Log<'a> {
     }
 
     /// The image that the record at an LSN put into its cell: None where that was no value, for a record
-    /// that is in no cell, and for 0 and past the end. No more of the record is decoded than that.
+    /// that is in no cell, and for 0 and past the end.
     pub fn image(&self, lsn: u64) -> Option<Value>
         ensures { result ≡ image_in (record_at (history self.now) lsn) }
     {
-        if lsn == 0 {
-            return None;
-        }
-        if lsn > self.len() {
-            return None;
-        }
-        let offset = self.offsets.get((lsn - 1) as usize);
-        match image_here(self.bytes, offset) {
-            Some(image) => image,
-            None => unreachable!(),
-        }
+        value_of(self.get(lsn)?.change()?.image)
     }
 
-    /// The record at a place, from 0: the one whose LSN is one more.
-    pub fn nth(&self, index: u64) -> RecordView<'a>
-        requires { index < length self.now }
-        ensures item { slice_index_or self.now index (shown result) ≡ shown result }
+    /// The record behind an LSN, which is below the last one: the record whose LSN is one more.
+    pub fn after(&self, lsn: u64) -> RecordView<'a>
+        requires { lsn < last_lsn (history self.now) }
+        ensures there { record_at (history self.now) (lsn + 1) ≡ Some (shown result) }
         ensures fits { Fits (shown result) }
-        ensures next { history (take (index + 1) self.now) ≡ history (take index self.now) ▸ shown result }
+        ensures next { first (lsn + 1) (history self.now) ≡ first lsn (history self.now) ▸ shown result }
     {
-        let _len = self.len();
-        match self.get(index + 1) {
+        let _last = self.last();
+        match self.get(lsn + 1) {
             Some(view) => view,
             None => unreachable!(),
         }
     }
 
-    /// The record at a place, from 0, at a glance: as `nth`, but no more of it is decoded than that.
+    /// The record behind an LSN at a glance: as `after`, but no more of it is decoded than that.
     #[inline(always)]
-    pub fn glance(&self, index: u64) -> Glance
-        requires { index < length self.now }
-        ensures item { result ≡ glance_of (slice_index_or self.now index CheckpointBegin) }
-        ensures fits { Fits (slice_index_or self.now index CheckpointBegin) }
-        ensures next { history (take (index + 1) self.now) ≡ history (take index self.now) ▸ slice_index_or self.now index CheckpointBegin }
+    pub fn glance_after(&self, lsn: u64) -> Glance
+        requires { lsn < last_lsn (history self.now) }
+        ensures { IsGlanceBehind (history self.now) lsn result }
     {
-        let offset = self.offsets.get(index as usize);
+        let offset = self.offsets.get(lsn as usize);
         match glance_here(self.bytes, offset) {
             Some(glance) => glance,
             None => unreachable!(),
@@ -112,7 +108,7 @@ impl<'a> Log<'a> {
 
 fn record_in<'a>(bytes: &'a [u8], offsets: &Offsets, lsn: u64) -> Option<RecordView<'a>>
     requires { All (IsPlace bytes.now) offsets.now }
-    ensures found { option_map shown result ≡ record_at (history (map (record_of bytes.now) offsets.now)) lsn }
+    ensures found { option_map shown result ≡ record_at (start ▸▸ map (record_of bytes.now) offsets.now) lsn }
     ensures fits { IfSome result (λ view. Fits (shown view)) }
 {
     if lsn == 0 {
@@ -130,21 +126,19 @@ fn record_here(bytes: &[u8], offset: usize) -> Option<RecordView>
     ensures found { option_map shown result ≡ option_map (λ x. x.0) (frame_at (drop offset bytes.now)) }
     ensures fits { IfSome result (λ view. Fits (shown view)) }
 {
-    let (front, rest) = bytes[offset..].split_at(4);
-    let size = u32::from_be_bytes([front[0], front[1], front[2], front[3]]) as usize;
-    match body_at(&rest[..size]) {
+    match body_at(body_here(bytes, offset)) {
         Some((view, _)) => Some(view),
         None => None,
     }
 }
 
 fn offsets_of(alloc: Global, bytes: &[u8]) -> Result<(Offsets, usize), Fault>
-    requires { 8 ≤ length bytes.now }
+    requires { HEADER_BYTES ≤ length bytes.now }
     ensures places { IfOk result (λ x. ArePlaces bytes.now x.0) }
-    ensures read { Gives (λ x. (map (record_of bytes.now) x.0, x.1)) result (frames_at (length bytes.now) 1 8 (drop 8 bytes.now)) }
+    ensures read { Gives (λ x. (map (record_of bytes.now) x.0, x.1)) result (frames_at (length bytes.now) 1 HEADER_BYTES (drop HEADER_BYTES bytes.now)) }
 {
     let mut offsets = Offsets::new(alloc);
-    let mut offset = 8;
+    let mut offset = HEADER_BYTES;
     for number in 0..bytes.len() {
         let (_, rest) = bytes.split_at(offset);
         match next_at(number as u64 + 1, offset, rest)? {
@@ -183,7 +177,7 @@ pub fn read_log<'a>(alloc: Global, bytes: &'a [u8]) -> Result<(Log<'a>, usize), 
     // What is read stands there.
     ensures found { IfOk result (λ x. Reads bytes.now x.0 x.1) }
     // What stands there is read, unless memory runs out.
-    ensures only { (records : List LogRecord) (torn : ℕ) → Reads bytes.now records torn → Gives (λ x. x) result (Ok (records, torn)) }
+    ensures only { (log : LogContent) (torn : ℕ) → Reads bytes.now log torn → Gives (λ x. x) result (Ok (log, torn)) }
     // A refusal has its cause in the bytes, memory aside.
     ensures fault { IfErr result (Cause bytes.now) }
 {

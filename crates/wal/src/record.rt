@@ -2,10 +2,14 @@
 
 ghost use Rattle.std.specs.Prelude.{◌≡◌, ◌<◌, ◌≤◌, ◌^◌, true, ◌↔◌, map, All};
 ghost use Rattle.wal.specs.Records.{tx_in, page_in};
-ghost use Rattle.wal.specs.Spelling.{Fits, FitsImage, FitsPlain, FitsEntry, FitsDirty, FitsTable, IsRising};
+ghost use Rattle.wal.specs.Spelling.{Fits, FitsPlain, FitsEntry, FitsDirty, FitsTable, IsRising};
 ghost use Rattle.wal.specs.Content.{entry_of, content};
+ghost use Rattle.page.specs.declared.sizes.TheConstants.{PAGES};
+ghost use Rattle.wal.specs.declared.sizes.TheConstants.{TRANSACTIONS};
+ghost use Rattle.page.specs.Image.{FitsSlot};
 
-use page::Value;
+use crate::sizes::TRANSACTIONS;
+use page::{PAGES, SLOTS, VALUE_BYTES, Value};
 
 /// What a transaction table says of how a transaction stands.
 #[derive(Clone, Copy, Debug, PartialEq, Eq)]
@@ -124,7 +128,7 @@ fn is_plain(tx: u32, prev: u64) -> bool
 fn is_cell(page: u32, slot: u8) -> bool
     ensures { result ≡ true ↔ (page < 2 ^ 32) × (slot ≤ 15) }
 {
-    slot <= 15
+    (slot as usize) < SLOTS
 }
 
 // Every u64 has eight bytes.
@@ -135,11 +139,11 @@ fn is_lsn(lsn: u64) -> bool
 }
 
 fn fits(value: &Option<Value>) -> bool
-    ensures { result ≡ true ↔ FitsImage value.now }
+    ensures { result ≡ true ↔ FitsSlot value.now }
 {
     match value {
         None => true,
-        Some(value) => value.as_slice().len() <= 48,
+        Some(value) => value.as_slice().len() <= VALUE_BYTES,
     }
 }
 
@@ -157,16 +161,16 @@ fn is_dirty_page(page: u32, rec_lsn: u64) -> bool
 
 #[tactic(auto, using(crate::proofs::Rising::entries_fit))]
 fn is_transaction_table(entries: &[(u32, Entry)]) -> bool
-    ensures { result ≡ true ↔ FitsTable 1024 tx_in FitsEntry (map entry_of entries.now) }
+    ensures { result ≡ true ↔ FitsTable TRANSACTIONS tx_in FitsEntry (map entry_of entries.now) }
 {
-    entries.len() <= 1024 && are_entries(entries)
+    entries.len() <= TRANSACTIONS && are_entries(entries)
 }
 
 #[tactic(auto, using(crate::proofs::Rising::dirty_pages_fit))]
 fn is_dirty_table(entries: &[(u32, u64)]) -> bool
-    ensures { result ≡ true ↔ FitsTable 4096 page_in FitsDirty entries.now }
+    ensures { result ≡ true ↔ FitsTable PAGES page_in FitsDirty entries.now }
 {
-    entries.len() <= 4096 && are_dirty_pages(entries)
+    entries.len() <= PAGES && are_dirty_pages(entries)
 }
 
 fn are_entries(entries: &[(u32, Entry)]) -> bool

@@ -1,16 +1,17 @@
 //! A record as it lies in the bytes of a log.
 
-ghost use Rattle.std.specs.Prelude.{◌≡◌, ◌<◌, ◌*◌, ◌≤◌, length, map, option_map, IfSome, IfOk, IfErr};
+ghost use Rattle.std.specs.Prelude.{ℕ, slice_index_or, ◌≡◌, ◌<◌, ◌*◌, ◌≤◌, length, map, option_map, IfSome, IfOk, IfErr};
 ghost use Rattle.std.specs.List.{slice_get};
-ghost use Rattle.wal.specs.Records.{tx_in, page_in};
+ghost use Rattle.wal.specs.Records.{TableEntry, tx_in, page_in};
 ghost use Rattle.wal.specs.Reading.{entry_at, dirty_at, table_at, entries_in, AreEntries, dirties_in, AreDirties};
 ghost use Rattle.wal.specs.Spelling.{Fits};
-ghost use Rattle.wal.specs.Content.{entry_of, content};
-ghost use Rattle.wal.specs.Shown.{shown};
+ghost use Rattle.wal.specs.Content.{entry_of, content, shown};
 ghost use Rattle.page.specs.declared.fault.Fault.TheVariants.{NoResource};
+ghost use Rattle.page.specs.declared.sizes.TheConstants.{VALUE_BYTES};
 
 use crate::field::{dirty_at, entry_at};
 use crate::record::{Entry, Record};
+use crate::sizes::{DIRTY_BYTES, ENTRY_BYTES};
 use page::{Fault, Value};
 use std::alloc::{AllocError, Global};
 use std::marker::Model;
@@ -54,6 +55,17 @@ impl<'a> TransactionTable<'a> {
         }
         entry_in(self.bytes, self.count, place)
     }
+
+    /// The transaction and its entry at a place from 0 that is below `len`.
+    pub fn entry(&self, place: usize) -> (u32, Entry)
+        requires { place < length self.now }
+        ensures { (other : TableEntry) → slice_index_or self.now place other ≡ entry_of result }
+    {
+        match self.get(place) {
+            Some(entry) => entry,
+            None => unreachable!(),
+        }
+    }
 }
 
 fn entry_in(bytes: &[u8], count: usize, place: usize) -> Option<(u32, Entry)>
@@ -61,7 +73,7 @@ fn entry_in(bytes: &[u8], count: usize, place: usize) -> Option<(u32, Entry)>
     requires place { place < count }
     ensures { option_map entry_of result ≡ slice_get (entries_in count bytes.now) place }
 {
-    let (_, rest) = bytes.split_at(21 * place);
+    let (_, rest) = bytes.split_at(ENTRY_BYTES * place);
     let (tx, entry, _) = entry_at(rest)?;
     Some((tx, entry))
 }
@@ -103,6 +115,17 @@ impl<'a> DirtyTable<'a> {
         }
         dirty_in(self.bytes, self.count, place)
     }
+
+    /// The page and its RecLSN at a place from 0 that is below `len`.
+    pub fn entry(&self, place: usize) -> (u32, u64)
+        requires { place < length self.now }
+        ensures { (other : ℕ × ℕ) → slice_index_or self.now place other ≡ result }
+    {
+        match self.get(place) {
+            Some(entry) => entry,
+            None => unreachable!(),
+        }
+    }
 }
 
 fn dirty_in(bytes: &[u8], count: usize, place: usize) -> Option<(u32, u64)>
@@ -110,7 +133,7 @@ fn dirty_in(bytes: &[u8], count: usize, place: usize) -> Option<(u32, u64)>
     requires place { place < count }
     ensures { result ≡ slice_get (dirties_in count bytes.now) place }
 {
-    let (_, rest) = bytes.split_at(12 * place);
+    let (_, rest) = bytes.split_at(DIRTY_BYTES * place);
     let (page, rec_lsn, _) = dirty_at(rest)?;
     Some((page, rec_lsn))
 }
@@ -273,7 +296,7 @@ impl<'a> RecordView<'a> {
 
 /// The value of an image that a view lends; an image of a log has at most 48 bytes.
 pub fn value_of(image: Option<&[u8]>) -> Option<Value>
-    requires { IfSome image (λ bytes. length bytes.now ≤ 48) }
+    requires { IfSome image (λ bytes. length bytes.now ≤ VALUE_BYTES) }
     ensures { result ≡ option_map (λ bytes. bytes.now) image.entry }
 {
     match image {
@@ -287,9 +310,7 @@ fn entries_of(alloc: Global, table: &TransactionTable) -> Result<Vec<(u32, Entry
 {
     let mut entries = Vec::with_capacity(alloc, table.len())?;
     for place in 0..table.len() {
-        if let Some(entry) = table.get(place) {
-            entries.push(entry)?;
-        }
+        entries.push(table.entry(place))?;
     }
     Ok(entries)
 }
@@ -299,9 +320,7 @@ fn dirty_pages_of(alloc: Global, table: &DirtyTable) -> Result<Vec<(u32, u64)>, 
 {
     let mut entries = Vec::with_capacity(alloc, table.len())?;
     for place in 0..table.len() {
-        if let Some(entry) = table.get(place) {
-            entries.push(entry)?;
-        }
+        entries.push(table.entry(place))?;
     }
     Ok(entries)
 }

@@ -15,15 +15,6 @@ returns-in_ok-put_image-in-Compensation-clause-ok g c =
     rw c.in-Compensation.is (four c.args.out.now.items (to_be_bytes w32 c.in-Compensation.tx ++ to_be_bytes w64 c.in-Compensation.prev) (to_be_bytes w32 c.in-Compensation.page) (c.in-Compensation.slot ∷ []) (to_be_bytes w64 c.in-Compensation.undo_next) (image c.in-Compensation.image)
     _ _ _ _ c.in_ok-put_plain-in-Compensation.ensures.ok c.in_ok-put_cell-in-Compensation.ensures.ok (c.in_ok-extend_from_slice-in-Compensation.ensures.items ∙ ap (λ (x : List ℕ). c.put_cell-in-Compensation.new.out.items ++ x) c.to_be_bytes.ensures) c.in_ok-put_image-in-Compensation.ensures.ok)
 
-pub returns-in_ok-put_plain-in-Commit-clause-ok : goal.returns-in_ok-put_plain-in-Commit-clause-ok
-returns-in_ok-put_plain-in-Commit-clause-ok g c = rw c.in-Commit.is c.in_ok-put_plain-in-Commit.ensures.ok
-
-pub returns-in_ok-put_plain-in-Abort-clause-ok : goal.returns-in_ok-put_plain-in-Abort-clause-ok
-returns-in_ok-put_plain-in-Abort-clause-ok g c = rw c.in-Abort.is c.in_ok-put_plain-in-Abort.ensures.ok
-
-pub returns-in_ok-put_plain-in-End-clause-ok : goal.returns-in_ok-put_plain-in-End-clause-ok
-returns-in_ok-put_plain-in-End-clause-ok g c = rw c.in-End.is c.in_ok-put_plain-in-End.ensures.ok
-
 pub returns-in_ok-put_dirties-in-CheckpointEnd-clause-ok : goal.returns-in_ok-put_dirties-in-CheckpointEnd-clause-ok
 returns-in_ok-put_dirties-in-CheckpointEnd-clause-ok g c =
     let old = c.args.out.now.items in

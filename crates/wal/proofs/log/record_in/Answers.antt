@@ -1,15 +1,15 @@
 use Rattle.std.proofs.Common.{map, drop, option_map, sym, ap, ◌∙◌, inl, inr, arith}
-use Rattle.wal.specs.Records.{history}
+use Rattle.wal.specs.Records.{start, ◌▸▸◌}
 use Rattle.wal.specs.Frames.{record_of, frame_at}
 use Rattle.wal.proofs.Histories.{record_none}
-use Rattle.wal.proofs.Places.{size_of, record_there}
+use Rattle.wal.proofs.Places.{size_of_map, record_there}
 use Rattle.wal.proofs.log.record_in.Goals as goal
 
 pub returns-then-lsn-eq0-clause-found : goal.returns-then-lsn-eq0-clause-found
-returns-then-lsn-eq0-clause-found c = sym (record_none (history (map (record_of c.args.bytes.now) c.args.offsets.now)) c.args.lsn (inl (omega arith)))
+returns-then-lsn-eq0-clause-found c = sym (record_none (start ▸▸ map (record_of c.args.bytes.now) c.args.offsets.now) c.args.lsn (inl (omega arith)))
 
 pub returns-then-lsn-len-clause-found : goal.returns-then-lsn-len-clause-found
-returns-then-lsn-len-clause-found c = sym (record_none (history (map (record_of c.args.bytes.now) c.args.offsets.now)) c.args.lsn (inr (omega (arith, size_of (record_of c.args.bytes.now) c.args.offsets.now))))
+returns-then-lsn-len-clause-found c = sym (record_none (start ▸▸ map (record_of c.args.bytes.now) c.args.offsets.now) c.args.lsn (inr (omega (arith, size_of_map (record_of c.args.bytes.now) c.args.offsets.now))))
 
 pub returns-clause-found : goal.returns-clause-found
 returns-clause-found c =

@@ -1,20 +1,23 @@
-use Rattle.std.proofs.Common.{◌≤◌, take, arith, subst}
-use Rattle.std.proofs.lemmas.List.{length-take}
-use Rattle.wal.specs.Records.{CheckpointEnd, history, size}
+use Rattle.std.proofs.Common.{arith, subst, sym, ap, ◌∙◌}
+use Rattle.wal.specs.Records.{CheckpointEnd, history, first}
 use Rattle.wal.specs.Spelling.{Fits}
-use Rattle.wal.proofs.Histories.{size_of_list}
+use Rattle.wal.specs.Store.{first_end}
+use Rattle.wal.proofs.Histories.{size_of_first_le, first_all}
 use Rattle.wal.proofs.Checkpoints.{first_end_none, first_end_met}
 use Rattle.wal.proofs.log.Log.end_naming.Goals as goal
 
-pub loop-index-init : goal.loop-index-init
-loop-index-init c =
-    let short : size (history (take c.args.master c.args.self.now)) ≤ c.args.master = omega (arith, size_of_list (take c.args.master c.args.self.now), length-take c.args.master c.args.self.now) in
-    first_end_none c.args.master (history (take c.args.master c.args.self.now)) short
+pub loop-lsn-init : goal.loop-lsn-init
+loop-lsn-init c = first_end_none c.args.master (first c.args.master (history c.args.self.now)) (size_of_first_le c.args.master (history c.args.self.now))
 
 pub returns-then-begin-master-clause-found : goal.returns-then-begin-master-clause-found
 returns-then-begin-master-clause-found c =
-    first_end_met c.args.self.now c.args.master c.loop-index.index c.in-CheckpointEnd.begin c.in-CheckpointEnd.transactions c.in-CheckpointEnd.dirty (omega arith) (omega arith) c.if-begin-master.true c.loop-index.invariant c.in-CheckpointEnd.ensures.next
+    first_end_met (history c.args.self.now) c.args.master c.loop-lsn.lsn c.in-CheckpointEnd.begin c.in-CheckpointEnd.transactions c.in-CheckpointEnd.dirty (omega arith) (omega arith) c.if-begin-master.true c.loop-lsn.invariant c.in-CheckpointEnd.ensures.next
 
 pub returns-then-begin-master-clause-fits : goal.returns-then-begin-master-clause-fits
 returns-then-begin-master-clause-fits c =
     subst (λ m. Fits (CheckpointEnd m c.in-CheckpointEnd.transactions c.in-CheckpointEnd.dirty)) c.if-begin-master.true c.in-CheckpointEnd.ensures.fits
+
+pub returns-clause-found : goal.returns-clause-found
+returns-clause-found c =
+    let log = history c.args.self.now in
+    sym (ap (first_end c.args.master) (sym (first_all c.loop-lsn.lsn log (omega (arith, c.loop-lsn-test.false, c.last-lsn-end.ensures)))) ∙ c.loop-lsn.invariant)

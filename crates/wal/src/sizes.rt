@@ -1,0 +1,38 @@
+//! How large the body of a frame and the tables of a checkpoint are.
+
+use page::PAGES;
+
+/// How many entries the transaction table of a checkpoint has at most. Its dirty page table has at most
+/// one for each page.
+pub const TRANSACTIONS: usize = 1024;
+
+/// How many bytes the header of a log takes.
+pub const HEADER_BYTES: usize = 8;
+
+/// How many bytes an LSN takes.
+pub const LSN_BYTES: usize = 8;
+
+/// How many bytes a cell takes: page and slot.
+pub const CELL_BYTES: usize = 5;
+
+/// How many bytes an entry of a transaction table takes: transaction, state, LastLSN, UndoNxtLSN.
+pub const ENTRY_BYTES: usize = 5 + 2 * LSN_BYTES;
+
+/// How many bytes an entry of a dirty page table takes: page and RecLSN.
+pub const DIRTY_BYTES: usize = 4 + LSN_BYTES;
+
+/// How many bytes the smallest body takes, which is that of a checkpoint begin: kind and LSN.
+pub const SMALLEST_BODY: usize = 1 + LSN_BYTES;
+
+/// How many bytes the smallest frame takes: the length of its body, and the body.
+pub const SMALLEST_FRAME: usize = 4 + SMALLEST_BODY;
+
+/// How many bytes the body of a commit, an abort or an end takes: kind, LSN, transaction, PrevLSN.
+pub const PLAIN_BODY: usize = SMALLEST_BODY + 4 + LSN_BYTES;
+
+/// How many bytes the body of a checkpoint end takes without its entries: kind, LSN, the LSN of its
+/// begin, and the count of each table.
+pub const CHECKPOINT_BODY: usize = SMALLEST_BODY + LSN_BYTES + 8;
+
+/// How many bytes the largest body takes, which is that of a checkpoint end with full tables.
+pub const LARGEST_BODY: usize = CHECKPOINT_BODY + ENTRY_BYTES * TRANSACTIONS + DIRTY_BYTES * PAGES;
