@@ -3,12 +3,12 @@ use Rattle.std.proofs.Common.{ℕ, suc, ◌≡◌, ◌≤◌, Bool, true, false,
 use Rattle.std.proofs.lemmas.Bool.{cases_Bool, or_parts, or_from, or_left, or_right, both_ways, and_right, and_left, ltb-false, and_from, not_from_false, not_from_true}
 use Rattle.wal.specs.declared.record.State.{State}
 use Rattle.wal.specs.declared.record.State.TheVariants.{Active, Aborting}
-use Rattle.wal.specs.Records.{TableEntry, UpdateRecord, CompensationRecord, PlainRecord, LogRecord, Update, Compensation, Commit, Abort, End, CheckpointBegin, CheckpointEnd, History, start, ◌▸◌, size, first}
-use Rattle.wal.specs.Meaning.{is_of, has, aborted, committed, ended, finished, is_loser, last_of, undo_next_of}
+use Rattle.wal.specs.Records.{TableEntry, LogRecord, Update, Compensation, Commit, Abort, End, History, start, ◌▸◌, last_lsn, first}
+use Rattle.wal.specs.Meaning.{state_by, is_of, has, aborted, committed, ended, finished, is_unfinished, last_of, undo_next_of}
 use Rattle.wal.specs.Laws.{IsLawful, Obeys}
-use Rattle.wal.specs.Store.{state_of, true_entry}
-use Rattle.analysis.specs.Tables.{is_work_of, finishes, work_since, finished_since, undo_next_in, is_aborting, aborts_in, entry_by, base_since, analysed_entry}
-use Rattle.analysis.specs.Lawful.{loser_entry}
+use Rattle.wal.specs.Store.{true_entry}
+use Rattle.analysis.specs.Tables.{finishes, work_since, finished_since, undo_next_in, is_aborting, aborts_in, entry_by, base_since, analysed_entry}
+use Rattle.analysis.specs.Lawful.{unfinished_entry}
 
 -- the last of the work, else the base's
 abbrev last_in_work : List (ℕ × LogRecord) → Option TableEntry → ℕ
@@ -37,6 +37,10 @@ pub record Absent (t : ℕ) (log : History) : Type 0 where
   pub undo_next : undo_next_of t log ≡ 0
   pub last : last_of t log ≡ 0
 
+-- a record of another is not the last of t
+last_other : (t : ℕ) (log : History) (r : LogRecord) → is_of t r ≡ false → last_of t (log ▸ r) ≡ last_of t log
+last_other t log r e = rw e refl
+
 absent : (t : ℕ) (log : History) → has (is_of t) log ≡ false → Absent t log
 absent t start h = record { aborts = refl; undo_next = refl; last = refl }
 absent t (log ▸ Update u) h =
@@ -47,46 +51,40 @@ absent t (log ▸ Compensation c) h =
     let (a, b) = or_parts (eqb c.tx t) (has (is_of t) log) h in
     let k = absent t log b in
     record { aborts = k.aborts; undo_next = rw a k.undo_next; last = rw a k.last }
-absent t (log ▸ Commit s) h =
-    let (a, b) = or_parts (eqb s.tx t) (has (is_of t) log) h in
-    let k = absent t log b in
-    record { aborts = k.aborts; undo_next = k.undo_next; last = rw a k.last }
 absent t (log ▸ Abort s) h =
     let (a, b) = or_parts (eqb s.tx t) (has (is_of t) log) h in
     let k = absent t log b in
     record { aborts = or_from (eqb s.tx t) (aborted t log) a k.aborts; undo_next = k.undo_next; last = rw a k.last }
-absent t (log ▸ End s) h =
-    let (a, b) = or_parts (eqb s.tx t) (has (is_of t) log) h in
+absent t (log ▸ r) h =
+    let (a, b) = or_parts (is_of t r) (has (is_of t) log) h in
     let k = absent t log b in
-    record { aborts = k.aborts; undo_next = k.undo_next; last = rw a k.last }
-absent t (log ▸ CheckpointBegin) h = (let k = absent t log h in record { aborts = k.aborts; undo_next = k.undo_next; last = k.last })
-absent t (log ▸ CheckpointEnd n ts d) h = (let k = absent t log h in record { aborts = k.aborts; undo_next = k.undo_next; last = k.last })
+    record { aborts = k.aborts; undo_next = k.undo_next; last = last_other t log r a ∙ k.last }
 
-aborting_is : (b : Bool) → is_aborting (state_of b) ≡ b
+aborting_is : (b : Bool) → is_aborting (state_by b) ≡ b
 aborting_is true = refl
 aborting_is false = refl
 
 -- AT THE CHECKPOINT
-loser_is : (t : ℕ) (log : History) → finished t log ≡ false → is_loser t log ≡ has (is_of t) log
-loser_is t log f =
+unfinished_is : (t : ℕ) (log : History) → finished t log ≡ false → is_unfinished t log ≡ has (is_of t) log
+unfinished_is t log f =
     let n : not (finished t log) ≡ true = not_from_false (finished t log) f in
     elim (cases_Bool (has (is_of t) log)) [
       | inl e ↦ and_from (has (is_of t) log) (not (finished t log)) e n ∙ sym e
       | inr e ↦ and_left (has (is_of t) log) (not (finished t log)) e ∙ sym e
     ]
 
-not_loser : (t : ℕ) (log : History) → finished t log ≡ true → is_loser t log ≡ false
-not_loser t log f = and_right (has (is_of t) log) (not (finished t log)) (not_from_true (finished t log) f)
+not_unfinished : (t : ℕ) (log : History) → finished t log ≡ true → is_unfinished t log ≡ false
+not_unfinished t log f = and_right (has (is_of t) log) (not (finished t log)) (not_from_true (finished t log) f)
 
-entry_if : (t : ℕ) (log : History) (b : Bool) → is_loser t log ≡ b → loser_entry log t ≡ cond b (Some (true_entry log t)) None
+entry_if : (t : ℕ) (log : History) (b : Bool) → is_unfinished t log ≡ b → unfinished_entry log t ≡ cond b (Some (true_entry log t)) None
 entry_if t log b e = ap (λ x. cond x (Some (true_entry log t)) None) e
 
-at_checkpoint : (t : ℕ) (log : History) → Known t log [] (loser_entry log t)
+at_checkpoint : (t : ℕ) (log : History) → Known t log [] (unfinished_entry log t)
 at_checkpoint t log = by_has (has (is_of t) log) refl (finished t log) refl
   where
-    by_has : (b : Bool) → has (is_of t) log ≡ b → (f : Bool) → finished t log ≡ f → Known t log [] (loser_entry log t)
+    by_has : (b : Bool) → has (is_of t) log ≡ b → (f : Bool) → finished t log ≡ f → Known t log [] (unfinished_entry log t)
     by_has b e true f =
-        (let n : loser_entry log t ≡ None = entry_if t log false (not_loser t log f) in
+        (let n : unfinished_entry log t ≡ None = entry_if t log false (not_unfinished t log f) in
         subst (λ o. Known t log [] o) (sym n)
         (record {
           gone = λ _. (refl, refl);
@@ -97,7 +95,7 @@ at_checkpoint t log = by_has (has (is_of t) log) refl (finished t log) refl
           own = λ x i. absurd (cc);
         }))
     by_has true e false f =
-        (let n : loser_entry log t ≡ Some (true_entry log t) = entry_if t log true (loser_is t log f ∙ e) in
+        (let n : unfinished_entry log t ≡ Some (true_entry log t) = entry_if t log true (unfinished_is t log f ∙ e) in
         subst (λ o. Known t log [] o) (sym n)
         (record {
           gone = λ g. absurd (both_ways (finished t log) f g);
@@ -108,7 +106,7 @@ at_checkpoint t log = by_has (has (is_of t) log) refl (finished t log) refl
           own = λ x i. (let j : true_entry log t ≡ x = cc in ap (λ y. y.tx) (sym j));
         }))
     by_has false e false f =
-        (let n : loser_entry log t ≡ None = entry_if t log false (loser_is t log f ∙ e) in
+        (let n : unfinished_entry log t ≡ None = entry_if t log false (unfinished_is t log f ∙ e) in
         let k = absent t log e in
         subst (λ o. Known t log [] o) (sym n)
         (record {
@@ -152,11 +150,11 @@ Known-finished t log f =
 -- one that goes on with the work of t
 Known-work : (t : ℕ) (log : History) (r : LogRecord) (work : List (ℕ × LogRecord)) (base : Option TableEntry)
     → finished t (log ▸ r) ≡ false → is_of t r ≡ true
-    → aborts_in ((suc (size log), r) ∷ work) base ≡ aborted t (log ▸ r)
-    → undo_next_in ((suc (size log), r) ∷ work) base ≡ undo_next_of t (log ▸ r)
-    → ((e : TableEntry) → base ≡ Some e → e.tx ≡ t) → Known t (log ▸ r) ((suc (size log), r) ∷ work) base
+    → aborts_in ((suc (last_lsn log), r) ∷ work) base ≡ aborted t (log ▸ r)
+    → undo_next_in ((suc (last_lsn log), r) ∷ work) base ≡ undo_next_of t (log ▸ r)
+    → ((e : TableEntry) → base ≡ Some e → e.tx ≡ t) → Known t (log ▸ r) ((suc (last_lsn log), r) ∷ work) base
 Known-work t log r work base f o a u own =
-    let l : last_of t (log ▸ r) ≡ suc (size log) = rw o in
+    let l : last_of t (log ▸ r) ≡ suc (last_lsn log) = rw o in
     record {
       gone = λ g. absurd (both_ways (finished t (log ▸ r)) f g);
       aborts = λ _. a;
@@ -170,156 +168,109 @@ Known-work t log r work base f o a u own =
 abbrev KnownAt : ℕ → ℕ → Option TableEntry → History → Type 0
 KnownAt t m base log = Known t log (work_since t m log) (base_since t m base log)
 
-module _ (t m : ℕ) (base : Option TableEntry) (log : History) (behind : ltb (size log) m ≡ false) (k : KnownAt t m base log) where
-  update_next : (u : UpdateRecord) → Obeys log (Update u) → KnownAt t m base (log ▸ Update u)
-  update_next u o =
-      elim (cases_Bool (eqb u.tx t)) [
-        | inl e ↦
-            (let open_still : finished t log ≡ false = ap (λ x. finished x log) (sym (eqb-true u.tx t e)) ∙ o.finish.0 in
-            let w : work_since t m (log ▸ Update u) ≡ (suc (size log), Update u) ∷ work_since t m log = rw (behind, e) in
-            let b : base_since t m base (log ▸ Update u) ≡ base_since t m base log = rw behind in
-            let n : undo_next_of t (log ▸ Update u) ≡ suc (size log) = rw e in
-            subst (λ x. Known t (log ▸ Update u) x (base_since t m base (log ▸ Update u))) (sym w)
-            (subst (λ x. Known t (log ▸ Update u) ((suc (size log), Update u) ∷ work_since t m log) x) (sym b)
-            (Known-work t log (Update u) (work_since t m log) (base_since t m base log) open_still e (k.aborts open_still) (sym n) k.own)))
-        | inr e ↦
-            (let w : work_since t m (log ▸ Update u) ≡ work_since t m log = rw (behind, e) in
-            let b : base_since t m base (log ▸ Update u) ≡ base_since t m base log = rw behind in
-            subst (λ x. Known t (log ▸ Update u) x (base_since t m base (log ▸ Update u))) (sym w)
-            (subst (λ x. Known t (log ▸ Update u) (work_since t m log) x) (sym b)
-            (Known-other t log (Update u) (work_since t m log) (base_since t m base log) refl refl (rw e) e k)))
-      ]
-
-  compensation_next : (c : CompensationRecord) → Obeys log (Compensation c) → KnownAt t m base (log ▸ Compensation c)
-  compensation_next c o =
-      elim (cases_Bool (eqb c.tx t)) [
-        | inl e ↦
-            (let open_still : finished t log ≡ false = ap (λ x. finished x log) (sym (eqb-true c.tx t e)) ∙ o.finish in
-            let w : work_since t m (log ▸ Compensation c) ≡ (suc (size log), Compensation c) ∷ work_since t m log = rw (behind, e) in
-            let b : base_since t m base (log ▸ Compensation c) ≡ base_since t m base log = rw behind in
-            let n : undo_next_of t (log ▸ Compensation c) ≡ c.undo_next = rw e in
-            subst (λ x. Known t (log ▸ Compensation c) x (base_since t m base (log ▸ Compensation c))) (sym w)
-            (subst (λ x. Known t (log ▸ Compensation c) ((suc (size log), Compensation c) ∷ work_since t m log) x) (sym b)
-            (Known-work t log (Compensation c) (work_since t m log) (base_since t m base log) open_still e (k.aborts open_still) (sym n) k.own)))
-        | inr e ↦
-            (let w : work_since t m (log ▸ Compensation c) ≡ work_since t m log = rw (behind, e) in
-            let b : base_since t m base (log ▸ Compensation c) ≡ base_since t m base log = rw behind in
-            subst (λ x. Known t (log ▸ Compensation c) x (base_since t m base (log ▸ Compensation c))) (sym w)
-            (subst (λ x. Known t (log ▸ Compensation c) (work_since t m log) x) (sym b)
-            (Known-other t log (Compensation c) (work_since t m log) (base_since t m base log) refl refl (rw e) e k)))
-      ]
-
-  abort_next : (s : PlainRecord) → Obeys log (Abort s) → KnownAt t m base (log ▸ Abort s)
-  abort_next s o =
-      elim (cases_Bool (eqb s.tx t)) [
-        | inl e ↦
-            (let open_still : finished t log ≡ false = ap (λ x. finished x log) (sym (eqb-true s.tx t e)) ∙ o.finish.0 in
-            let w : work_since t m (log ▸ Abort s) ≡ (suc (size log), Abort s) ∷ work_since t m log = rw (behind, e) in
-            let b : base_since t m base (log ▸ Abort s) ≡ base_since t m base log = rw behind in
-            subst (λ x. Known t (log ▸ Abort s) x (base_since t m base (log ▸ Abort s))) (sym w)
-            (subst (λ x. Known t (log ▸ Abort s) ((suc (size log), Abort s) ∷ work_since t m log) x) (sym b)
-            (Known-work t log (Abort s) (work_since t m log) (base_since t m base log) open_still e (sym (or_left (eqb s.tx t) (aborted t log) e)) (k.undo_next open_still) k.own)))
-        | inr e ↦
-            (let w : work_since t m (log ▸ Abort s) ≡ work_since t m log = rw (behind, e) in
-            let b : base_since t m base (log ▸ Abort s) ≡ base_since t m base log = rw behind in
-            subst (λ x. Known t (log ▸ Abort s) x (base_since t m base (log ▸ Abort s))) (sym w)
-            (subst (λ x. Known t (log ▸ Abort s) (work_since t m log) x) (sym b)
-            (Known-other t log (Abort s) (work_since t m log) (base_since t m base log) refl (rw e) refl e k)))
-      ]
-
-  commit_next : (s : PlainRecord) → KnownAt t m base (log ▸ Commit s)
-  commit_next s =
-      elim (cases_Bool (eqb s.tx t)) [
-        | inl e ↦
-            (let w : work_since t m (log ▸ Commit s) ≡ [] = rw (behind, e) in
-            let b : base_since t m base (log ▸ Commit s) ≡ None = rw (behind, e) in
-            let f : finished t (log ▸ Commit s) ≡ true = or_left (eqb s.tx t || committed t log) (ended t log) (or_left (eqb s.tx t) (committed t log) e) in
-            subst (λ x. Known t (log ▸ Commit s) x (base_since t m base (log ▸ Commit s))) (sym w) (subst (λ x. Known t (log ▸ Commit s) [] x) (sym b) (Known-finished t (log ▸ Commit s) f)))
-        | inr e ↦
-            (let w : work_since t m (log ▸ Commit s) ≡ work_since t m log = rw (behind, e) in
-            let b : base_since t m base (log ▸ Commit s) ≡ base_since t m base log = rw (behind, e) in
-            subst (λ x. Known t (log ▸ Commit s) x (base_since t m base (log ▸ Commit s))) (sym w)
-            (subst (λ x. Known t (log ▸ Commit s) (work_since t m log) x) (sym b)
-            (Known-other t log (Commit s) (work_since t m log) (base_since t m base log) (rw e) refl refl e k)))
-      ]
-
-  end_next : (s : PlainRecord) → KnownAt t m base (log ▸ End s)
-  end_next s =
-      elim (cases_Bool (eqb s.tx t)) [
-        | inl e ↦
-            (let w : work_since t m (log ▸ End s) ≡ [] = rw (behind, e) in
-            let b : base_since t m base (log ▸ End s) ≡ None = rw (behind, e) in
-            let f : finished t (log ▸ End s) ≡ true = or_right (committed t log) (eqb s.tx t || ended t log) (or_left (eqb s.tx t) (ended t log) e) in
-            subst (λ x. Known t (log ▸ End s) x (base_since t m base (log ▸ End s))) (sym w) (subst (λ x. Known t (log ▸ End s) [] x) (sym b) (Known-finished t (log ▸ End s) f)))
-        | inr e ↦
-            (let w : work_since t m (log ▸ End s) ≡ work_since t m log = rw (behind, e) in
-            let b : base_since t m base (log ▸ End s) ≡ base_since t m base log = rw (behind, e) in
-            subst (λ x. Known t (log ▸ End s) x (base_since t m base (log ▸ End s))) (sym w)
-            (subst (λ x. Known t (log ▸ End s) (work_since t m log) x) (sym b)
-            (Known-other t log (End s) (work_since t m log) (base_since t m base log) (rw e) refl refl e k)))
-      ]
-
-  checkpoint_next : (r : LogRecord) → finished t (log ▸ r) ≡ finished t log → aborted t (log ▸ r) ≡ aborted t log → undo_next_of t (log ▸ r) ≡ undo_next_of t log → is_of t r ≡ false
+module _ (t m : ℕ) (base : Option TableEntry) (log : History) (behind : ltb (last_lsn log) m ≡ false) (k : KnownAt t m base log) where
+  -- a record of another, or of none
+  other_next : (r : LogRecord) → finished t (log ▸ r) ≡ finished t log → aborted t (log ▸ r) ≡ aborted t log → undo_next_of t (log ▸ r) ≡ undo_next_of t log → is_of t r ≡ false
       → work_since t m (log ▸ r) ≡ work_since t m log → base_since t m base (log ▸ r) ≡ base_since t m base log → KnownAt t m base (log ▸ r)
-  checkpoint_next r f a u o w b =
+  other_next r f a u o w b =
       subst (λ x. Known t (log ▸ r) x (base_since t m base (log ▸ r))) (sym w)
       (subst (λ x. Known t (log ▸ r) (work_since t m log) x) (sym b) (Known-other t log r (work_since t m log) (base_since t m base log) f a u o k))
 
-  pub next_known : (r : LogRecord) → Obeys log r → KnownAt t m base (log ▸ r)
-  next_known (Update u) o = update_next u o
-  next_known (Compensation c) o = compensation_next c o
-  next_known (Commit s) o = commit_next s
-  next_known (Abort s) o = abort_next s o
-  next_known (End s) o = end_next s
-  next_known CheckpointBegin o = checkpoint_next CheckpointBegin refl refl refl refl (rw behind) (rw behind)
-  next_known (CheckpointEnd n ts d) o = checkpoint_next (CheckpointEnd n ts d) refl refl refl refl (rw behind) (rw behind)
+  -- one that goes on with the work of t
+  work_next : (r : LogRecord) → finished t (log ▸ r) ≡ false → is_of t r ≡ true
+      → aborts_in ((suc (last_lsn log), r) ∷ work_since t m log) (base_since t m base log) ≡ aborted t (log ▸ r)
+      → undo_next_of t (log ▸ r) ≡ undo_next_in ((suc (last_lsn log), r) ∷ work_since t m log) (base_since t m base log)
+      → work_since t m (log ▸ r) ≡ (suc (last_lsn log), r) ∷ work_since t m log → base_since t m base (log ▸ r) ≡ base_since t m base log → KnownAt t m base (log ▸ r)
+  work_next r f o a u w b =
+      subst (λ x. Known t (log ▸ r) x (base_since t m base (log ▸ r))) (sym w)
+      (subst (λ x. Known t (log ▸ r) ((suc (last_lsn log), r) ∷ work_since t m log) x) (sym b)
+      (Known-work t log r (work_since t m log) (base_since t m base log) f o a (sym u) k.own))
 
-known_after : (t m : ℕ) (log : History) → IsLawful log → m ≤ size log → KnownAt t m (loser_entry (first m log) t) log
+  -- one that finishes t
+  finish_next : (r : LogRecord) → finished t (log ▸ r) ≡ true → work_since t m (log ▸ r) ≡ [] → base_since t m base (log ▸ r) ≡ None → KnownAt t m base (log ▸ r)
+  finish_next r f w b =
+      subst (λ x. Known t (log ▸ r) x (base_since t m base (log ▸ r))) (sym w) (subst (λ x. Known t (log ▸ r) [] x) (sym b) (Known-finished t (log ▸ r) f))
+
+  pub next_known : (r : LogRecord) → Obeys log r → KnownAt t m base (log ▸ r)
+  next_known (Update u) o =
+      elim (cases_Bool (eqb u.tx t)) [
+        | inl e ↦
+            (let open_still : finished t log ≡ false = ap (λ x. finished x log) (sym (eqb-true u.tx t e)) ∙ o.finish.0 in
+            work_next (Update u) open_still e (k.aborts open_still) (rw e) (rw (behind, e)) (rw behind))
+        | inr e ↦ other_next (Update u) refl refl (rw e) e (rw (behind, e)) (rw behind)
+      ]
+  next_known (Compensation c) o =
+      elim (cases_Bool (eqb c.tx t)) [
+        | inl e ↦
+            (let open_still : finished t log ≡ false = ap (λ x. finished x log) (sym (eqb-true c.tx t e)) ∙ o.finish in
+            work_next (Compensation c) open_still e (k.aborts open_still) (rw e) (rw (behind, e)) (rw behind))
+        | inr e ↦ other_next (Compensation c) refl refl (rw e) e (rw (behind, e)) (rw behind)
+      ]
+  next_known (Commit s) o =
+      elim (cases_Bool (eqb s.tx t)) [
+        | inl e ↦ finish_next (Commit s) (or_left (eqb s.tx t || committed t log) (ended t log) (or_left (eqb s.tx t) (committed t log) e)) (rw (behind, e)) (rw (behind, e))
+        | inr e ↦ other_next (Commit s) (rw e) refl refl e (rw (behind, e)) (rw (behind, e))
+      ]
+  next_known (Abort s) o =
+      elim (cases_Bool (eqb s.tx t)) [
+        | inl e ↦
+            (let open_still : finished t log ≡ false = ap (λ x. finished x log) (sym (eqb-true s.tx t e)) ∙ o.finish.0 in
+            work_next (Abort s) open_still e (sym (or_left (eqb s.tx t) (aborted t log) e)) (sym (k.undo_next open_still)) (rw (behind, e)) (rw behind))
+        | inr e ↦ other_next (Abort s) refl (rw e) refl e (rw (behind, e)) (rw behind)
+      ]
+  next_known (End s) o =
+      elim (cases_Bool (eqb s.tx t)) [
+        | inl e ↦ finish_next (End s) (or_right (committed t log) (eqb s.tx t || ended t log) (or_left (eqb s.tx t) (ended t log) e)) (rw (behind, e)) (rw (behind, e))
+        | inr e ↦ other_next (End s) (rw e) refl refl e (rw (behind, e)) (rw (behind, e))
+      ]
+  next_known r o = other_next r refl refl refl refl (rw behind) (rw behind)
+
+known_after : (t m : ℕ) (log : History) → IsLawful log → m ≤ last_lsn log → KnownAt t m (unfinished_entry (first m log) t) log
 known_after t m start h l = at_checkpoint t start
 known_after t m (log ▸ r) h l =
-    elim (cases_Bool (ltb (size log) m)) [
+    elim (cases_Bool (ltb (last_lsn log) m)) [
       | inl i ↦
-          (let w : work_since t m (log ▸ r) ≡ [] = ap (λ b. cond (b || (finishes t r)) [] (cond (is_work_of t r) ((suc (size log), r) ∷ work_since t m log) (work_since t m log))) i in
+          (let w : work_since t m (log ▸ r) ≡ [] = ap (λ b. cond (b || (finishes t r)) [] (cond (is_of t r) ((suc (last_lsn log), r) ∷ work_since t m log) (work_since t m log))) i in
           let f : first m (log ▸ r) ≡ log ▸ r = ap (λ b. cond b (log ▸ r) (first m log)) i in
           let s : finished_since t m (log ▸ r) ≡ false = rw i in
-          let b : base_since t m (loser_entry (first m (log ▸ r)) t) (log ▸ r) ≡ loser_entry (log ▸ r) t =
-          ap (λ x. cond x None (loser_entry (first m (log ▸ r)) t)) s ∙ ap (λ x. loser_entry x t) f in
-          subst (λ x. Known t (log ▸ r) x (base_since t m (loser_entry (first m (log ▸ r)) t) (log ▸ r))) (sym w) (subst (λ x. Known t (log ▸ r) [] x) (sym b) (at_checkpoint t (log ▸ r))))
+          let b : base_since t m (unfinished_entry (first m (log ▸ r)) t) (log ▸ r) ≡ unfinished_entry (log ▸ r) t =
+          ap (λ x. cond x None (unfinished_entry (first m (log ▸ r)) t)) s ∙ ap (λ x. unfinished_entry x t) f in
+          subst (λ x. Known t (log ▸ r) x (base_since t m (unfinished_entry (first m (log ▸ r)) t) (log ▸ r))) (sym w) (subst (λ x. Known t (log ▸ r) [] x) (sym b) (at_checkpoint t (log ▸ r))))
       | inr i ↦
           (let f : first m (log ▸ r) ≡ first m log = ap (λ b. cond b (log ▸ r) (first m log)) i in
-          subst (λ x. KnownAt t m (loser_entry x t) (log ▸ r)) (sym f)
-          (next_known t m (loser_entry (first m log) t) log i (known_after t m log h.0 (ltb-false (size log) m i)) r h.1))
+          subst (λ x. KnownAt t m (unfinished_entry x t) (log ▸ r)) (sym f)
+          (next_known t m (unfinished_entry (first m log) t) log i (known_after t m log h.0 (ltb-false (last_lsn log) m i)) r h.1))
     ]
 
 -- WHAT IS KNOWN IS THE ENTRY
-state_is : (s : State) → s ≡ state_of (is_aborting s)
+state_is : (s : State) → s ≡ state_by (is_aborting s)
 state_is Active = refl
 state_is Aborting = refl
 
-entry_is : (t : ℕ) (log : History) (work : List (ℕ × LogRecord)) (base : Option TableEntry) → Known t log work base → entry_by t work base ≡ loser_entry log t
+entry_is : (t : ℕ) (log : History) (work : List (ℕ × LogRecord)) (base : Option TableEntry) → Known t log work base → entry_by t work base ≡ unfinished_entry log t
 entry_is t log work base k = by_finished (finished t log) refl
   where
-    by_work : (w : List (ℕ × LogRecord)) (b : Option TableEntry) → Known t log w b → finished t log ≡ false → entry_by t w b ≡ loser_entry log t
-    by_work [] None n f = sym (entry_if t log false (loser_is t log f ∙ sym (n.listed f)))
+    by_work : (w : List (ℕ × LogRecord)) (b : Option TableEntry) → Known t log w b → finished t log ≡ false → entry_by t w b ≡ unfinished_entry log t
+    by_work [] None n f = sym (entry_if t log false (unfinished_is t log f ∙ sym (n.listed f)))
     by_work [] (Some e) n f =
         (let a : is_aborting e.state ≡ aborted t log = n.aborts f in
-        let s : e.state ≡ state_of (aborted t log) = state_is e.state ∙ ap state_of a in
+        let s : e.state ≡ state_by (aborted t log) = state_is e.state ∙ ap state_by a in
         let o : e.tx ≡ t = n.own e refl in
         let u : e.undo_next ≡ undo_next_of t log = n.undo_next f in
         let l : e.last ≡ last_of t log = n.last f in
         let x : ◌≡◌ {A = TableEntry} (record { tx = e.tx; state = e.state; last = e.last; undo_next = e.undo_next }) (true_entry log t) = cc in
-        ap (λ y. Some y) x ∙ sym (entry_if t log true (loser_is t log f ∙ sym (n.listed f))))
+        ap (λ y. Some y) x ∙ sym (entry_if t log true (unfinished_is t log f ∙ sym (n.listed f))))
     by_work (x ∷ w) b n f =
-        (let a : state_of (aborts_in (x ∷ w) b) ≡ state_of (aborted t log) = ap state_of (n.aborts f) in
+        (let a : state_by (aborts_in (x ∷ w) b) ≡ state_by (aborted t log) = ap state_by (n.aborts f) in
         let u : undo_next_in (x ∷ w) b ≡ undo_next_of t log = n.undo_next f in
         let l : x.0 ≡ last_of t log = n.last f in
-        let y : ◌≡◌ {A = TableEntry} (record { tx = t; state = state_of (aborts_in (x ∷ w) b); last = x.0; undo_next = undo_next_in (x ∷ w) b }) (true_entry log t) = cc in
-        ap (λ z. Some z) y ∙ sym (entry_if t log true (loser_is t log f ∙ sym (n.listed f))))
+        let y : ◌≡◌ {A = TableEntry} (record { tx = t; state = state_by (aborts_in (x ∷ w) b); last = x.0; undo_next = undo_next_in (x ∷ w) b }) (true_entry log t) = cc in
+        ap (λ z. Some z) y ∙ sym (entry_if t log true (unfinished_is t log f ∙ sym (n.listed f))))
 
-    by_finished : (b : Bool) → finished t log ≡ b → entry_by t work base ≡ loser_entry log t
-    by_finished true f = (let g = k.gone f in ap₂ (λ w b. entry_by t w b) g.0 g.1 ∙ sym (entry_if t log false (not_loser t log f)))
+    by_finished : (b : Bool) → finished t log ≡ b → entry_by t work base ≡ unfinished_entry log t
+    by_finished true f = (let g = k.gone f in ap₂ (λ w b. entry_by t w b) g.0 g.1 ∙ sym (entry_if t log false (not_unfinished t log f)))
     by_finished false f = by_work work base k f
 
 -- From what is true at m, analysis finds what is true at the end.
-pub analysis_is_true : (log : History) (t m : ℕ) → IsLawful log → m ≤ size log → analysed_entry t m (loser_entry (first m log) t) log ≡ loser_entry log t
-analysis_is_true log t m h l = entry_is t log (work_since t m log) (base_since t m (loser_entry (first m log) t) log) (known_after t m log h l)
+pub analysis_is_true : (log : History) (t m : ℕ) → IsLawful log → m ≤ last_lsn log → analysed_entry t m (unfinished_entry (first m log) t) log ≡ unfinished_entry log t
+analysis_is_true log t m h l = entry_is t log (work_since t m log) (base_since t m (unfinished_entry (first m log) t) log) (known_after t m log h l)

@@ -1,7 +1,7 @@
 -- Redo by the tables that analysis finds skips nothing.
 use Rattle.std.proofs.Common.{ℕ, suc, ◌≡◌, ◌<◌, ◌≤◌, true, cond, ◌&&◌, List, [], ◌∷◌, Option, Some, None, refl, sym, ap, ◌∙◌, subst, inl, inr, arith, eqb-true, eqb, leb}
 use Rattle.std.proofs.lemmas.Bool.{cases_Bool, cases_lt, and_from, and_parts, leb-true, le-leb}
-use Rattle.wal.specs.Records.{LogRecord, History, start, ◌▸◌, size, record_at}
+use Rattle.wal.specs.Records.{LogRecord, History, start, ◌▸◌, last_lsn, record_at}
 use Rattle.wal.specs.Meaning.{is_on}
 use Rattle.wal.specs.Redo.{rec_lsn_of}
 use Rattle.wal.specs.Store.{or_else, DirtyLaw}
@@ -21,23 +21,23 @@ or_else_later : (m lsn : ℕ) (o : Option ℕ) → ((i : ℕ) → o ≡ Some i �
 or_else_later m lsn None h l = (lsn, refl, omega arith, l)
 or_else_later m lsn (Some i) h l = (let k = h i refl in (i, refl, k.1, k.0))
 
-behind_within : (m page : ℕ) (log : History) (i : ℕ) → first_behind m page log ≡ Some i → (m < i) × (i ≤ size log)
+behind_within : (m page : ℕ) (log : History) (i : ℕ) → first_behind m page log ≡ Some i → (m < i) × (i ≤ last_lsn log)
 behind_within m page start i e = absurd (cc)
 behind_within m page (log ▸ r) i e = by_older (first_behind m page log) refl (λ j. behind_within m page log j)
   where
-    by_older : (o : Option ℕ) → first_behind m page log ≡ o → ((j : ℕ) → first_behind m page log ≡ Some j → (m < j) × (j ≤ size log)) → (m < i) × (i ≤ suc (size log))
+    by_older : (o : Option ℕ) → first_behind m page log ≡ o → ((j : ℕ) → first_behind m page log ≡ Some j → (m < j) × (j ≤ last_lsn log)) → (m < i) × (i ≤ suc (last_lsn log))
     by_older (Some j) f ih =
-        (let e' : Some j ≡ Some i = sym (ap (λ o. or_else o (cond (leb m (size log) && is_on page r) (Some (suc (size log))) None)) f) ∙ e in
+        (let e' : Some j ≡ Some i = sym (ap (λ o. or_else o (cond (leb m (last_lsn log) && is_on page r) (Some (suc (last_lsn log))) None)) f) ∙ e in
         let k : j ≡ i = cc in
         let w = ih j f in
         (omega (arith, k, w.0), omega (arith, k, w.1)))
     by_older None f ih =
-        (let e' : cond (leb m (size log) && is_on page r) (Some (suc (size log))) None ≡ Some i = sym (ap (λ o. or_else o (cond (leb m (size log) && is_on page r) (Some (suc (size log))) None)) f) ∙ e in
-        elim (cases_Bool (leb m (size log) && is_on page r)) [
+        (let e' : cond (leb m (last_lsn log) && is_on page r) (Some (suc (last_lsn log))) None ≡ Some i = sym (ap (λ o. or_else o (cond (leb m (last_lsn log) && is_on page r) (Some (suc (last_lsn log))) None)) f) ∙ e in
+        elim (cases_Bool (leb m (last_lsn log) && is_on page r)) [
           | inl t ↦
-              (let g : Some (suc (size log)) ≡ Some i = rw t at e' in
-              let k : suc (size log) ≡ i = cc in
-              let l : m ≤ size log = leb-true m (size log) (and_parts (leb m (size log)) (is_on page r) t).0 in
+              (let g : Some (suc (last_lsn log)) ≡ Some i = rw t at e' in
+              let k : suc (last_lsn log) ≡ i = cc in
+              let l : m ≤ last_lsn log = leb-true m (last_lsn log) (and_parts (leb m (last_lsn log)) (is_on page r) t).0 in
               (omega arith, omega arith))
           | inr t ↦ absurd (let g : None ≡ Some i = rw t at e' in cc)
         ])
@@ -45,17 +45,17 @@ behind_within m page (log ▸ r) i e = by_older (first_behind m page log) refl (
 found_behind : (m page : ℕ) (log : History) (lsn : ℕ) (r : LogRecord) → record_at log lsn ≡ Some r → is_on page r ≡ true → m < lsn → Behind m lsn (first_behind m page log)
 found_behind m page start lsn r f o l = absurd (cc)
 found_behind m page (log ▸ x) lsn r f o l =
-    elim (cases_Bool (eqb lsn (suc (size log)))) [
+    elim (cases_Bool (eqb lsn (suc (last_lsn log)))) [
       | inl e ↦
-          (let i : lsn ≡ suc (size log) = eqb-true lsn (suc (size log)) e in
+          (let i : lsn ≡ suc (last_lsn log) = eqb-true lsn (suc (last_lsn log)) e in
           let f' : Some x ≡ Some r = rw e at f in
           let j : x ≡ r = cc in
-          let t : (leb m (size log) && is_on page x) ≡ true = and_from (leb m (size log)) (is_on page x) (le-leb m (size log) (omega (arith, i))) (ap (is_on page) j ∙ o) in
-          let c : cond (leb m (size log) && is_on page x) (Some (suc (size log))) None ≡ Some lsn = ap (λ b. cond b (Some (suc (size log))) None) t ∙ ap (λ n. Some n) (sym i) in
+          let t : (leb m (last_lsn log) && is_on page x) ≡ true = and_from (leb m (last_lsn log)) (is_on page x) (le-leb m (last_lsn log) (omega (arith, i))) (ap (is_on page) j ∙ o) in
+          let c : cond (leb m (last_lsn log) && is_on page x) (Some (suc (last_lsn log))) None ≡ Some lsn = ap (λ b. cond b (Some (suc (last_lsn log))) None) t ∙ ap (λ n. Some n) (sym i) in
           subst (λ p. Behind m lsn (or_else (first_behind m page log) p)) (sym c)
           (or_else_later m lsn (first_behind m page log) (λ k h. (let w = behind_within m page log k h in (w.0, omega (arith, i, w.1)))) l))
       | inr e ↦
-          or_else_keeps m lsn (first_behind m page log) (cond (leb m (size log) && is_on page x) (Some (suc (size log))) None) (found_behind m page log lsn r (rw e at f) o l)
+          or_else_keeps m lsn (first_behind m page log) (cond (leb m (last_lsn log) && is_on page x) (Some (suc (last_lsn log))) None) (found_behind m page log lsn r (rw e at f) o l)
     ]
 
 -- the smallest is no later than any, and not 0

@@ -3,6 +3,7 @@ use Rattle.std.proofs.Common.{◌≡◌, ℕ, zero, suc, replicate, ◌%◌, ◌
 use Rattle.std.proofs.lemmas.Bool.{cases_eq}
 use Rattle.std.proofs.lemmas.List.{get_or-set_same, get_or-set_other}
 use Rattle.std.proofs.Math.Nat.{mod-lt}
+use Rattle.std.proofs.lemmas.Option.{same_Some}
 use Rattle.wal.specs.Records.{TableEntry}
 use Rattle.wal.specs.declared.record.Entry.{Entry}
 use Rattle.wal.specs.Content.{entry_of}
@@ -11,9 +12,6 @@ use Rattle.analysis.specs.Steps.{kept_entry, held_entry, AreKept, IsMoved}
 
 abbrev pub Slots : Type 0
 Slots = List (Option (ℕ × Entry))
-
-some_same : {X : Type 0} {x y : X} → Some x ≡ Some y → x ≡ y
-some_same e = cc
 
 -- what is kept of another transaction is nothing of this one
 kept_other : (t : ℕ) (p : ℕ × Entry) (other : Option TableEntry) → (t ≡ p.0 → ⊥) → kept_entry t (Some p) other ≡ other
@@ -79,7 +77,7 @@ keep_are tx entry kept count are place p is =
     ]
   where
     number : {a b : ℕ × Entry} → Some a ≡ Some b → a.0 ≡ b.0
-    number e = ap (λ (x : ℕ × Entry). x.0) (some_same e)
+    number e = ap (λ (x : ℕ × Entry). x.0) (same_Some _ _ e)
 
 pub forget_are : (place : ℕ) (kept : Slots) → place < length kept → AreKept kept → AreKept (set kept place None)
 forget_are place kept lt are other p is =

@@ -4,6 +4,7 @@ pub mod Scanned
 pub mod Smallest
 pub mod Analysed
 pub mod Covered
+pub mod Rising
 pub mod Truth
 pub mod Numbers
 pub mod OneTables

@@ -1,8 +1,6 @@
 -- Maps from numbers, read key by key.
 use Rattle.std.proofs.Common.{ℕ, zero, suc, ◌≡◌, ◌<◌, Bool, true, false, cond, eqb, eq-eqb, eqb-true, ◌+◌, List, [], ◌∷◌, length, drop, get_or, set, replicate, drop-cons, Option, Some, None, refl, sym, ap, ap₂, ◌∙◌, arith, inl, inr}
 use Rattle.std.specs.Prelude.{option_map, is_some}
-use Rattle.std.specs.List.{slice_get}
-use Rattle.std.proofs.lemmas.Option.{slice_get_within, get_or_from_slice_get, slice_get-get_or}
 use Rattle.wal.specs.Records.{TableEntry}
 use Rattle.std.specs.Ordering.{is_eq, nat_cmp}
 use Rattle.std.specs.Map.{lookup}
@@ -119,26 +117,21 @@ listed_noted known old new page lsn step listed p noted =
     by_other same e = (let f : eqb page p ≡ true = eq-eqb page p (sym same) in cc)
 
 -- LENT TABLES, from their end to their front
-pub drop-get : {X : Type 0} (xs : List X) (i : ℕ) (x : X) → slice_get xs i ≡ Some x → drop i xs ≡ x ∷ drop (i + 1) xs
-drop-get xs i x e =
-    let lt : i < length xs = slice_get_within xs i x e in
+pub drop-get : {X : Type 0} (xs : List X) (i : ℕ) (x : X) → i < length xs → get_or xs i x ≡ x → drop i xs ≡ x ∷ drop (i + 1) xs
+drop-get xs i x lt there =
     let n : suc i ≡ i + 1 = omega arith in
-    drop-cons xs i x lt ∙ ap₂ (λ y (k : ℕ). y ∷ drop k xs) (get_or_from_slice_get xs i x x e) n
+    drop-cons xs i x lt ∙ ap₂ (λ y (k : ℕ). y ∷ drop k xs) there n
 
-pub no_place : {X : Type 0} (xs : List X) (i : ℕ) → i < length xs → slice_get xs i ≡ None → ⊥
-no_place [] i lt e = omega arith
-no_place (x ∷ xs) i lt e = (let f : None ≡ Some (get_or (x ∷ xs) i x) = sym e ∙ slice_get-get_or (x ∷ xs) i x lt in cc)
-
-pub entry_put : (t place tx : ℕ) (entry : Entry) (table : List TableEntry) (old new : List (ℕ × Entry)) → slice_get table place ≡ Some (entry_of (tx, entry))
+pub entry_put : (t place tx : ℕ) (entry : Entry) (table : List TableEntry) (old new : List (ℕ × Entry)) → place < length table → get_or table place (entry_of (tx, entry)) ≡ entry_of (tx, entry)
     → ((t : ℕ) → entry_at t old ≡ entry_for t (drop (place + 1) table)) → entry_at t new ≡ cond (eqb tx t) (Some (entry_of (t, entry))) (entry_at t old) → entry_at t new ≡ entry_for t (drop place table)
-entry_put t place tx entry table old new there behind put =
-    put ∙ ap (cond (eqb tx t) (Some (entry_of (t, entry)))) (behind t) ∙ own (eqb tx t) refl ∙ ap (entry_for t) (sym (drop-get table place (entry_of (tx, entry)) there))
+entry_put t place tx entry table old new lt there behind put =
+    put ∙ ap (cond (eqb tx t) (Some (entry_of (t, entry)))) (behind t) ∙ own (eqb tx t) refl ∙ ap (entry_for t) (sym (drop-get table place (entry_of (tx, entry)) lt there))
   where
     own : (b : Bool) → eqb tx t ≡ b → cond (eqb tx t) (Some (entry_of (t, entry))) (entry_for t (drop (place + 1) table)) ≡ entry_for t (entry_of (tx, entry) ∷ drop (place + 1) table)
     own true e = rw e (ap (λ n. Some (entry_of (n, entry))) (sym (eqb-true tx t e)))
     own false e = rw e refl
 
-pub page_put : (p place page rec_lsn : ℕ) (table old new : List (ℕ × ℕ)) → slice_get table place ≡ Some (page, rec_lsn)
+pub page_put : (p place page rec_lsn : ℕ) (table old new : List (ℕ × ℕ)) → place < length table → get_or table place (page, rec_lsn) ≡ (page, rec_lsn)
     → ((p : ℕ) → rec_lsn_of p old ≡ rec_lsn_of p (drop (place + 1) table)) → rec_lsn_of p new ≡ cond (eqb page p) (Some rec_lsn) (rec_lsn_of p old) → rec_lsn_of p new ≡ rec_lsn_of p (drop place table)
-page_put p place page rec_lsn table old new there behind put =
-    put ∙ ap (cond (eqb page p) (Some rec_lsn)) (behind p) ∙ ap (rec_lsn_of p) (sym (drop-get table place (page, rec_lsn) there))
+page_put p place page rec_lsn table old new lt there behind put =
+    put ∙ ap (cond (eqb page p) (Some rec_lsn)) (behind p) ∙ ap (rec_lsn_of p) (sym (drop-get table place (page, rec_lsn) lt there))

@@ -1,8 +1,9 @@
 -- No record and no checkpoint names transaction 0, so it is never listed.
 use Rattle.std.proofs.Common.{ℕ, ◌≡◌, ne_eqb, List, [], ◌∷◌, None, refl, arith}
 use Rattle.std.specs.List.{AllByRecursion}
-use Rattle.wal.specs.Records.{TableEntry, LogRecord, Update, Compensation, Commit, Abort, End, CheckpointBegin, CheckpointEnd}
+use Rattle.wal.specs.Records.{TableEntry, LogRecord, CheckpointBegin, CheckpointEnd}
 use Rattle.wal.specs.Spelling.{FitsEntry, Fits}
+use Rattle.wal.specs.Tail.{tx_of}
 use Rattle.wal.specs.Undo.{entry_for}
 use Rattle.analysis.specs.Steps.{entry_after}
 
@@ -13,10 +14,6 @@ none_listed (e ∷ entries) f = rw (ne_eqb e.tx 0 (λ i. omega (arith, f.0.some_
 
 -- when a record has been looked at
 pub none_noted : (lsn : ℕ) (r : LogRecord) → Fits r → entry_after lsn r 0 None ≡ None
-none_noted lsn (Update u) f = rw (ne_eqb u.tx 0 (λ i. omega (arith, f.some_tx, i))) refl
-none_noted lsn (Compensation c) f = rw (ne_eqb c.tx 0 (λ i. omega (arith, f.some_tx, i))) refl
-none_noted lsn (Abort s) f = rw (ne_eqb s.tx 0 (λ i. omega (arith, f.some_tx, i))) refl
-none_noted lsn (Commit s) f = rw (ne_eqb s.tx 0 (λ i. omega (arith, f.some_tx, i))) refl
-none_noted lsn (End s) f = rw (ne_eqb s.tx 0 (λ i. omega (arith, f.some_tx, i))) refl
 none_noted lsn CheckpointBegin f = refl
 none_noted lsn (CheckpointEnd begin transactions dirty) f = refl
+none_noted lsn r f = rw (ne_eqb (tx_of r) 0 (λ i. omega (arith, f.some_tx, i))) refl

@@ -1,24 +1,24 @@
 -- One record more, looked at.
-use Rattle.std.proofs.Common.{ℕ, suc, ◌≡◌, ◌+◌, ◌≤◌, true, false, cond, eqb, ltb, leb, List, [], ◌∷◌, Option, Some, None, refl, sym, ap, ap₂, ◌∙◌, arith, inl, inr}
+use Rattle.std.proofs.Common.{ℕ, suc, ◌≡◌, ◌+◌, ◌≤◌, true, false, cond, ltb, leb, List, [], ◌∷◌, Option, Some, None, refl, sym, ap, ap₂, ◌∙◌, arith, inl, inr}
 use Rattle.std.proofs.lemmas.Bool.{cases_Bool, le-ltb, lt-ltb, le-leb, lt-leb}
 use Rattle.wal.specs.declared.record.State.{State}
 use Rattle.wal.specs.declared.record.State.TheVariants.{Active, Aborting}
-use Rattle.wal.specs.Records.{TableEntry, LogRecord, Update, Compensation, Commit, Abort, End, CheckpointBegin, CheckpointEnd, History, start, ◌▸◌, size}
-use Rattle.wal.specs.Meaning.{is_on}
-use Rattle.wal.specs.Store.{or_else, state_of}
+use Rattle.wal.specs.Records.{TableEntry, LogRecord, Update, CheckpointBegin, CheckpointEnd, History, start, ◌▸◌, last_lsn}
+use Rattle.wal.specs.Meaning.{state_by, is_of, is_on}
+use Rattle.wal.specs.Store.{or_else}
 use Rattle.analysis.specs.Tables.{work_since, finished_since, base_since, undo_next_in, aborts_in, is_aborting, entry_by, analysed_entry, first_behind, analysed_rec_lsn}
-use Rattle.analysis.specs.Steps.{state_in, undo_next_of_entry, entry_after, rec_lsn_after, entry_seen, rec_lsn_seen}
+use Rattle.analysis.specs.Steps.{state_in, undo_next_of_entry, entry_after, rec_lsn_after, entry_seen}
 use Rattle.wal.specs.declared.glance.Glance.{Glance}
 use Rattle.wal.specs.Glances.{glance_of}
 
 -- what the entry says of the state and the undo-next
-state_of-aborting : (s : State) → state_of (is_aborting s) ≡ s
-state_of-aborting Active = refl
-state_of-aborting Aborting = refl
+state_by-aborting : (s : State) → state_by (is_aborting s) ≡ s
+state_by-aborting Active = refl
+state_by-aborting Aborting = refl
 
-pub state_in-entry : (t : ℕ) (work : List (ℕ × LogRecord)) (base : Option TableEntry) → state_in (entry_by t work base) ≡ state_of (aborts_in work base)
+pub state_in-entry : (t : ℕ) (work : List (ℕ × LogRecord)) (base : Option TableEntry) → state_in (entry_by t work base) ≡ state_by (aborts_in work base)
 state_in-entry t [] None = refl
-state_in-entry t [] (Some e) = sym (state_of-aborting e.state)
+state_in-entry t [] (Some e) = sym (state_by-aborting e.state)
 state_in-entry t (x ∷ work) base = refl
 
 pub undo_next-entry : (t : ℕ) (work : List (ℕ × LogRecord)) (base : Option TableEntry) → undo_next_of_entry (entry_by t work base) ≡ undo_next_in work base
@@ -26,88 +26,70 @@ undo_next-entry t [] None = refl
 undo_next-entry t [] (Some e) = refl
 undo_next-entry t (x ∷ work) base = refl
 
+-- an entry that says this
+abbrev saying : ℕ → State → ℕ → Option TableEntry
+saying t s n = Some (record { tx = t; state = s; last = 0; undo_next = n })
+
 -- ONE RECORD MORE, behind m
-pub entry_more : (t m : ℕ) (base : Option TableEntry) (log : History) (r : LogRecord) → m ≤ size log
-    → analysed_entry t m base (log ▸ r) ≡ entry_after (suc (size log)) r t (analysed_entry t m base log)
-entry_more t m base log (Update u) le =
-    let behind : ltb (size log) m ≡ false = le-ltb _ _ le in
-    elim (cases_Bool (eqb u.tx t)) [
+pub entry_more : (t m : ℕ) (base : Option TableEntry) (log : History) (r : LogRecord) → m ≤ last_lsn log
+    → analysed_entry t m base (log ▸ r) ≡ entry_after (suc (last_lsn log)) r t (analysed_entry t m base log)
+entry_more t m base log CheckpointBegin le = (let behind : ltb (last_lsn log) m ≡ false = le-ltb _ _ le in rw behind refl)
+entry_more t m base log (CheckpointEnd begin transactions dirty) le = (let behind : ltb (last_lsn log) m ≡ false = le-ltb _ _ le in rw behind refl)
+entry_more t m base log r le =
+    let behind : ltb (last_lsn log) m ≡ false = le-ltb _ _ le in
+    let work = work_since t m log in
+    let b = base_since t m base log in
+    elim (cases_Bool (is_of t r)) [
       | inl e ↦
-          (let work = work_since t m log in
-          let b = base_since t m base log in
-          rw (behind, e) (ap (λ s. Some (record { tx = t; state = s; last = suc (size log); undo_next = suc (size log) })) (sym (state_in-entry t work b))))
+          (let same : entry_after (suc (last_lsn log)) r t (saying t (state_by (aborts_in work b)) (undo_next_in work b)) ≡ entry_after (suc (last_lsn log)) r t (saying t (state_in (entry_by t work b)) (undo_next_of_entry (entry_by t work b))) =
+          ap₂ (λ s n. entry_after (suc (last_lsn log)) r t (saying t s n)) (sym (state_in-entry t work b)) (sym (undo_next-entry t work b)) in
+          rw (behind, e) (rw e at same))
       | inr e ↦ rw (behind, e) refl
     ]
-entry_more t m base log (Compensation c) le =
-    let behind : ltb (size log) m ≡ false = le-ltb _ _ le in
-    elim (cases_Bool (eqb c.tx t)) [
-      | inl e ↦
-          (let work = work_since t m log in
-          let b = base_since t m base log in
-          rw (behind, e) (ap (λ s. Some (record { tx = t; state = s; last = suc (size log); undo_next = c.undo_next })) (sym (state_in-entry t work b))))
-      | inr e ↦ rw (behind, e) refl
-    ]
-entry_more t m base log (Abort a) le =
-    let behind : ltb (size log) m ≡ false = le-ltb _ _ le in
-    elim (cases_Bool (eqb a.tx t)) [
-      | inl e ↦
-          (let work = work_since t m log in
-          let b = base_since t m base log in
-          rw (behind, e) (ap (λ n. Some (record { tx = t; state = Aborting; last = suc (size log); undo_next = n })) (sym (undo_next-entry t work b))))
-      | inr e ↦ rw (behind, e) refl
-    ]
-entry_more t m base log (Commit s) le =
-    let behind : ltb (size log) m ≡ false = le-ltb _ _ le in
-    elim (cases_Bool (eqb s.tx t)) [ inl e ↦ rw (behind, e) refl | inr e ↦ rw (behind, e) refl ]
-entry_more t m base log (End s) le =
-    let behind : ltb (size log) m ≡ false = le-ltb _ _ le in
-    elim (cases_Bool (eqb s.tx t)) [ inl e ↦ rw (behind, e) refl | inr e ↦ rw (behind, e) refl ]
-entry_more t m base log CheckpointBegin le = (let behind : ltb (size log) m ≡ false = le-ltb _ _ le in rw behind refl)
-entry_more t m base log (CheckpointEnd n ts d) le = (let behind : ltb (size log) m ≡ false = le-ltb _ _ le in rw behind refl)
 
 or_else-assoc : (a b c : Option ℕ) → or_else a (or_else b c) ≡ or_else (or_else a b) c
 or_else-assoc None b c = refl
 or_else-assoc (Some x) b c = refl
 
-pub rec_lsn_more : (page m : ℕ) (base : Option ℕ) (log : History) (r : LogRecord) → m ≤ size log
-    → analysed_rec_lsn page m base (log ▸ r) ≡ rec_lsn_after (suc (size log)) r page (analysed_rec_lsn page m base log)
+pub rec_lsn_more : (page m : ℕ) (base : Option ℕ) (log : History) (r : LogRecord) → m ≤ last_lsn log
+    → analysed_rec_lsn page m base (log ▸ r) ≡ rec_lsn_after (suc (last_lsn log)) r page (analysed_rec_lsn page m base log)
 rec_lsn_more page m base log r le =
-    let behind : leb m (size log) ≡ true = le-leb _ _ le in
-    rw behind (or_else-assoc base (first_behind m page log) (cond (is_on page r) (Some (suc (size log))) None))
+    let behind : leb m (last_lsn log) ≡ true = le-leb _ _ le in
+    rw behind (or_else-assoc base (first_behind m page log) (cond (is_on page r) (Some (suc (last_lsn log))) None))
 
 -- NO RECORD behind m
-pub work_none : (t m : ℕ) (log : History) → size log ≤ m → work_since t m log ≡ []
+pub work_none : (t m : ℕ) (log : History) → last_lsn log ≤ m → work_since t m log ≡ []
 work_none t m start le = refl
-work_none t m (log ▸ r) le = (let e : ltb (size log) m ≡ true = lt-ltb _ _ (omega arith) in rw e refl)
+work_none t m (log ▸ r) le = (let e : ltb (last_lsn log) m ≡ true = lt-ltb _ _ (omega arith) in rw e refl)
 
-finished_none : (t m : ℕ) (log : History) → size log ≤ m → finished_since t m log ≡ false
+finished_none : (t m : ℕ) (log : History) → last_lsn log ≤ m → finished_since t m log ≡ false
 finished_none t m start le = refl
-finished_none t m (log ▸ r) le = (let e : ltb (size log) m ≡ true = lt-ltb _ _ (omega arith) in rw e refl)
+finished_none t m (log ▸ r) le = (let e : ltb (last_lsn log) m ≡ true = lt-ltb _ _ (omega arith) in rw e refl)
 
-pub entry_none : (t m : ℕ) (base : Option TableEntry) (log : History) → size log ≤ m → analysed_entry t m base log ≡ base
+pub entry_none : (t m : ℕ) (base : Option TableEntry) (log : History) → last_lsn log ≤ m → analysed_entry t m base log ≡ base
 entry_none t m base log le = rw (work_none t m log le, finished_none t m log le) refl
 
-behind_none : (m page : ℕ) (log : History) → size log ≤ m → first_behind m page log ≡ None
+behind_none : (m page : ℕ) (log : History) → last_lsn log ≤ m → first_behind m page log ≡ None
 behind_none m page start le = refl
 behind_none m page (log ▸ r) le =
     let older = behind_none m page log (omega arith) in
-    let e : leb m (size log) ≡ false = lt-leb m (size log) (omega arith) in
+    let e : leb m (last_lsn log) ≡ false = lt-leb m (last_lsn log) (omega arith) in
     rw (older, e) refl
 
 or_else-none : (a : Option ℕ) → or_else a None ≡ a
 or_else-none None = refl
 or_else-none (Some x) = refl
 
-pub rec_lsn_none : (page m : ℕ) (base : Option ℕ) (log : History) → size log ≤ m → analysed_rec_lsn page m base log ≡ base
+pub rec_lsn_none : (page m : ℕ) (base : Option ℕ) (log : History) → last_lsn log ≤ m → analysed_rec_lsn page m base log ≡ base
 rec_lsn_none page m base log le = rw (behind_none m page log le) (or_else-none base)
 
 -- FROM RECORD TO RECORD of a list
-pub entry_next : (t m : ℕ) (base old new : Option TableEntry) (log : History) (r : LogRecord) (lsn : ℕ) → m ≤ size log → size log + 1 ≡ lsn
+pub entry_next : (t m : ℕ) (base old new : Option TableEntry) (log : History) (r : LogRecord) (lsn : ℕ) → m ≤ last_lsn log → last_lsn log + 1 ≡ lsn
     → old ≡ analysed_entry t m base log → new ≡ entry_after lsn r t old → new ≡ analysed_entry t m base (log ▸ r)
 entry_next t m base old new log r lsn le at before after =
     after ∙ ap₂ (λ n o. entry_after n r t o) (sym at ∙ omega arith) before ∙ sym (entry_more t m base log r le)
 
-pub rec_lsn_next : (page m : ℕ) (base old new : Option ℕ) (log : History) (r : LogRecord) (lsn : ℕ) → m ≤ size log → size log + 1 ≡ lsn
+pub rec_lsn_next : (page m : ℕ) (base old new : Option ℕ) (log : History) (r : LogRecord) (lsn : ℕ) → m ≤ last_lsn log → last_lsn log + 1 ≡ lsn
     → old ≡ analysed_rec_lsn page m base log → new ≡ rec_lsn_after lsn r page old → new ≡ analysed_rec_lsn page m base (log ▸ r)
 rec_lsn_next page m base old new log r lsn le at before after =
     after ∙ ap₂ (λ n o. rec_lsn_after n r page o) (sym at ∙ omega arith) before ∙ sym (rec_lsn_more page m base log r le)
@@ -118,21 +100,4 @@ entry_glanced lsn t r g old new is e = e ∙ (ap (λ x. entry_seen lsn x t old) 
   where
     same : (r : LogRecord) → entry_seen lsn (glance_of r) t old ≡ entry_after lsn r t old
     same (Update u) = refl
-    same (Compensation c) = refl
-    same (Commit s) = refl
-    same (Abort s) = refl
-    same (End s) = refl
-    same CheckpointBegin = refl
-    same (CheckpointEnd b x d) = refl
-
-pub rec_lsn_glanced : (lsn page : ℕ) (r : LogRecord) (g : Glance) (old new : Option ℕ) → g ≡ glance_of r → new ≡ rec_lsn_seen lsn g page old → new ≡ rec_lsn_after lsn r page old
-rec_lsn_glanced lsn page r g old new is e = e ∙ (ap (λ x. rec_lsn_seen lsn x page old) is ∙ same r)
-  where
-    same : (r : LogRecord) → rec_lsn_seen lsn (glance_of r) page old ≡ rec_lsn_after lsn r page old
-    same (Update u) = refl
-    same (Compensation c) = refl
-    same (Commit s) = refl
-    same (Abort s) = refl
-    same (End s) = refl
-    same CheckpointBegin = refl
-    same (CheckpointEnd b x d) = refl
+    same r = refl

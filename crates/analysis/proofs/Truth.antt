@@ -1,45 +1,45 @@
 -- The tables of a lawful log and its store are true.
 use Rattle.std.proofs.Common.{ℕ, ◌≡◌, ◌≤◌, ne_eqb, List, [], get_or, Option, Some, None, refl, sym, ap, ◌∙◌, subst, arith, inl, inr}
-use Rattle.std.specs.Prelude.{All, map}
+use Rattle.std.specs.Prelude.{All}
 use Rattle.std.proofs.lemmas.Bool.{cases_eq}
 use Rattle.page.specs.declared.page.Page.{Page}
 use Rattle.page.specs.Store.{StoreContent}
-use Rattle.wal.specs.Records.{TableEntry, LogRecord, History, history, size, record_at, first}
+use Rattle.wal.specs.Records.{TableEntry, LogRecord, History, LogContent, history, last_lsn, record_at, first}
 use Rattle.wal.specs.Redo.{rec_lsn_of}
-use Rattle.wal.specs.Content.{entry_of}
 use Rattle.wal.specs.Store.{checkpoint_at, true_table, DirtyLaw, CheckpointLaw, Lawful}
 use Rattle.wal.proofs.Histories.{record_none, first_none}
 use Rattle.wal.proofs.Checkpoints.{checkpoint_within}
 use Rattle.wal.proofs.Undone.{true_entry_for}
-use Rattle.wal.proofs.Entries.{same_table, rise, true_table_rises}
+use Rattle.wal.proofs.Entries.{same_table, true_table_rises}
 use Rattle.wal.specs.Undo.{entry_for}
 use Rattle.wal.specs.Theorems.{IsReached}
-use Rattle.analysis.specs.declared.tables.Tables.{Tables}
-use Rattle.analysis.specs.Tables.{base_of, analysed_entry, AreTablesOf}
-use Rattle.analysis.specs.Lawful.{loser_entry, AreTrue}
+use Rattle.analysis.specs.Tables.{base_of, analysed_entry, AreTablesOf, TablesContent}
+use Rattle.analysis.specs.Lawful.{unfinished_entry, AreTrue}
 use Rattle.analysis.proofs.Analysed.{analysis_is_true}
 use Rattle.analysis.proofs.Covered.{covered}
+use Rattle.analysis.proofs.Rising.{rise_from_0}
 
 -- THE BASE of a lawful pair is true
 pub record IsTrueBase (log : History) (pages : List Page) (m : ℕ) (transactions : List TableEntry) (dirty : List (ℕ × ℕ)) : Type 0 where
-  pub within : m ≤ size log
-  pub entries : (t : ℕ) → entry_for t transactions ≡ loser_entry (first m log) t
+  pub within : m ≤ last_lsn log
+  pub entries : (t : ℕ) → entry_for t transactions ≡ unfinished_entry (first m log) t
   pub pages_are : All (λ page. DirtyLaw log m page.number page.lsn (rec_lsn_of page.number dirty)) pages
 
 no_base : (log : History) (pages : List Page) → IsTrueBase log pages 0 [] []
 no_base log pages = record {
   within = omega arith;
-  entries = λ t. sym (ap (λ x. loser_entry x t) (first_none log));
+  entries = λ t. sym (ap (λ x. unfinished_entry x t) (first_none log));
   pages_are = λ i d lt. record { range = λ rec_lsn e. absurd cc; covers = λ lsn r le e on. absurd (nothing lsn r le e) };
 }
   where
     nothing : (lsn : ℕ) (r : LogRecord) → lsn ≤ 0 → record_at log lsn ≡ Some r → ⊥
     nothing lsn r le e = (let none : record_at log lsn ≡ None = record_none log lsn (inl (omega arith)) in let f : None ≡ Some r = sym none ∙ e in cc)
 
-abbrev both : List TableEntry → List (ℕ × ℕ) → Option (List TableEntry × List (ℕ × ℕ))
+-- the two tables of a base
+abbrev pub both : List TableEntry → List (ℕ × ℕ) → Option (List TableEntry × List (ℕ × ℕ))
 both transactions dirty = Some (transactions, dirty)
 
-pair_is : (a b : List TableEntry) (c d : List (ℕ × ℕ)) → both a c ≡ both b d → (a ≡ b) × (c ≡ d)
+pub pair_is : (a b : List TableEntry) (c d : List (ℕ × ℕ)) → both a c ≡ both b d → (a ≡ b) × (c ≡ d)
 pair_is a b c d e =
     let p : ◌≡◌ {A = List TableEntry × List (ℕ × ℕ)} (a, c) (b, d) = cc in
     (ap (λ x. x.0) p, ap (λ x. x.1) p)
@@ -68,16 +68,16 @@ true_base log pages m transactions dirty law e =
           ]
     ]
 
-pub tables_true : (records : List LogRecord) (store : StoreContent) (tables : Tables) → Lawful records store → AreTablesOf records store.master tables → AreTrue records store tables
-tables_true records store tables lawful are =
-    let log = history records in
+pub tables_true : (log : LogContent) (store : StoreContent) (tables : TablesContent) → Lawful log store → AreTablesOf log store.master tables → AreTrue log store tables
+tables_true content store tables lawful are =
+    let log = history content in
     let base = true_base log store.pages store.master are.transactions are.dirty lawful.checkpoint are.base in
     record {
-      losers = same_table 0 (map entry_of tables.transactions.entries) (true_table log) (rise tables.transactions.entries are.entries_rise) (true_table_rises log)
+      unfinished = same_table 0 tables.transactions (true_table log) (rise_from_0 tables.transactions are.entries_rise) (true_table_rises log)
           (λ t. are.entries t ∙ ap (λ o. analysed_entry t store.master o log) (base.entries t) ∙ analysis_is_true log t store.master lawful.log base.within
           ∙ sym (true_entry_for log t));
       reaches = λ i d lt lsn r found on later.
           let image = get_or store.pages i d in
-          subst (λ n. IsReached (rec_lsn_of image.number tables.dirty.entries) n lsn) (sym are.redo_lsn)
-          (covered log store.master image.number image.lsn (rec_lsn_of image.number are.dirty) tables.dirty.entries (base.pages_are i d lt) (are.pages image.number) lsn r found on later);
+          subst (λ n. IsReached (rec_lsn_of image.number tables.dirty) n lsn) (sym are.redo_lsn)
+          (covered log store.master image.number image.lsn (rec_lsn_of image.number are.dirty) tables.dirty (base.pages_are i d lt) (are.pages image.number) lsn r found on later);
     }

@@ -5,12 +5,14 @@ use Rattle.wal.specs.declared.record.State.TheVariants.{Active, Aborting}
 use Rattle.wal.specs.Records.{TableEntry, LogRecord, Update, Compensation, Commit, Abort, End}
 use Rattle.wal.specs.declared.glance.Glance.{Glance}
 use Rattle.wal.specs.declared.glance.Glance.TheVariants as seen
-use Rattle.wal.specs.Meaning.{is_on}
+use Rattle.wal.specs.Glances.{owner_seen}
+use Rattle.wal.specs.Meaning.{is_owned_by, is_of, is_on}
 use Rattle.wal.specs.Redo.{rec_lsn_of}
 use Rattle.wal.specs.Store.{or_else}
 use Rattle.wal.specs.Content.{entry_of}
 use Rattle.wal.specs.declared.record.Entry.{Entry}
 use Rattle.analysis.specs.Tables.{entry_at}
+use Rattle.analysis.specs.declared.kept.TheConstants.{PLACES}
 
 -- a transaction without an entry is active, and has nothing to undo
 abbrev pub state_in : Option TableEntry → State
@@ -21,7 +23,7 @@ abbrev pub undo_next_of_entry : Option TableEntry → ℕ
 undo_next_of_entry None = 0
 undo_next_of_entry (Some e) = e.undo_next
 
--- the entry of t when the record with this LSN has been looked at
+-- the entry of t when the record with this LSN has been looked at; one that is no more than a record of t is its last
 abbrev pub entry_after : ℕ → LogRecord → ℕ → Option TableEntry → Option TableEntry
 entry_after lsn (Update u) t old =
     if u.tx == t then Some (record { tx = t; state = state_in old; last = lsn; undo_next = lsn }) else old
@@ -31,11 +33,8 @@ entry_after lsn (Abort s) t old =
     if s.tx == t then Some (record { tx = t; state = Aborting; last = lsn; undo_next = undo_next_of_entry old }) else old
 entry_after lsn (Commit s) t old = if s.tx == t then None else old
 entry_after lsn (End s) t old = if s.tx == t then None else old
-entry_after lsn _ t old = old
-
--- the RecLSN of a page then
-abbrev pub rec_lsn_after : ℕ → LogRecord → ℕ → Option ℕ → Option ℕ
-rec_lsn_after lsn r page old = or_else old (if is_on page r then Some lsn else None)
+entry_after lsn r t old =
+    if is_of t r then Some (record { tx = t; state = state_in old; last = lsn; undo_next = undo_next_of_entry old }) else old
 
 -- the same by what is seen of the record at a glance
 abbrev pub entry_seen : ℕ → Glance → ℕ → Option TableEntry → Option TableEntry
@@ -47,15 +46,14 @@ entry_seen lsn (seen.Abort tx) t old =
     if tx == t then Some (record { tx = t; state = Aborting; last = lsn; undo_next = undo_next_of_entry old }) else old
 entry_seen lsn (seen.Commit tx) t old = if tx == t then None else old
 entry_seen lsn (seen.End tx) t old = if tx == t then None else old
-entry_seen lsn _ t old = old
+entry_seen lsn glance t old =
+    if is_owned_by t (owner_seen glance)
+    then Some (record { tx = t; state = state_in old; last = lsn; undo_next = undo_next_of_entry old })
+    else old
 
-abbrev pub is_seen_on : ℕ → Glance → Bool
-is_seen_on page (seen.Update tx own slot) = own == page
-is_seen_on page (seen.Compensation tx own slot undo_next) = own == page
-is_seen_on page _ = false
-
-abbrev pub rec_lsn_seen : ℕ → Glance → ℕ → Option ℕ → Option ℕ
-rec_lsn_seen lsn g page old = or_else old (if is_seen_on page g then Some lsn else None)
+-- the RecLSN of a page when the record with this LSN has been looked at
+abbrev pub rec_lsn_after : ℕ → LogRecord → ℕ → Option ℕ → Option ℕ
+rec_lsn_after lsn r page old = or_else old (if is_on page r then Some lsn else None)
 
 -- pages that are noted as known are listed (own)
 abbrev pub AreListed : List Bool → List (ℕ × ℕ) → Type 0
@@ -66,18 +64,18 @@ abbrev pub kept_entry : ℕ → Option (ℕ × Entry) → Option TableEntry → 
 kept_entry t None other = other
 kept_entry t (Some p) other = if p.0 == t then Some (entry_of (t, p.1)) else other
 
--- the entry of t, which is kept at the place t modulo 256 or stands in the table (own)
+-- the entry of t, which is kept at its place or stands in the table (own)
 abbrev pub held_entry : ℕ → List (Option (ℕ × Entry)) → List (ℕ × Entry) → Option TableEntry
-held_entry t kept entries = kept_entry t (slice_index_or kept (t % 256) None) (entry_at t entries)
+held_entry t kept entries = kept_entry t (slice_index_or kept (t % PLACES) None) (entry_at t entries)
 
 -- an entry is kept at its transaction's place
 abbrev pub AreKept : List (Option (ℕ × Entry)) → Type 0
-AreKept kept = (place : ℕ) (p : ℕ × Entry) → slice_index_or kept place None ≡ Some p → p.0 % 256 ≡ place
+AreKept kept = (place : ℕ) (p : ℕ × Entry) → slice_index_or kept place None ≡ Some p → p.0 % PLACES ≡ place
 
 -- the entry that is kept at the place of tx stands in the table, if it is another's
 pub record IsMoved (tx : ℕ) (kept : List (Option (ℕ × Entry))) (old new : List (ℕ × Entry)) : Type 0 where
-  pub here : (t : ℕ) → (t ≡ tx → ⊥) → t % 256 ≡ tx % 256 → entry_at t new ≡ held_entry t kept old
-  pub elsewhere : (t : ℕ) → (t % 256 ≡ tx % 256 → ⊥) → entry_at t new ≡ entry_at t old
+  pub here : (t : ℕ) → (t ≡ tx → ⊥) → t % PLACES ≡ tx % PLACES → entry_at t new ≡ held_entry t kept old
+  pub elsewhere : (t : ℕ) → (t % PLACES ≡ tx % PLACES → ⊥) → entry_at t new ≡ entry_at t old
 
 -- the smaller of the smallest so far, 0 for none, and another
 abbrev pub lower : ℕ → ℕ → ℕ

@@ -1,46 +1,49 @@
 -- TABLES-OF. What analysis finds from a checkpoint on: last and first records, not a scan (own, for every log).
 use Rattle.std.specs.Prelude.{◌≡◌, ℕ, suc, List, [], ◌∷◌, Option, Some, None, Bool, true, false, ◌||◌, ◌&&◌, ◌==◌, nat_lt, nat_le, min, max, map, if◌then◌else◌}
-use Rattle.std.specs.Ordering.{nat_cmp}
-use Rattle.std.specs.BTreeMap.{IsOrdered}
 use Rattle.page.specs.declared.fault.Fault.{Fault}
 use Rattle.page.specs.declared.fault.Fault.TheVariants.{NoResource, BadMaster}
 use Rattle.page.specs.Causes.{HasOneCause, HasNoCause}
 use Rattle.wal.specs.declared.record.State.{State}
 use Rattle.wal.specs.declared.record.State.TheVariants.{Active, Aborting}
 use Rattle.wal.specs.declared.record.Entry.{Entry}
-use Rattle.wal.specs.Records.{TableEntry, LogRecord, Update, Compensation, Abort, History, start, ◌▸◌, history, size}
-use Rattle.wal.specs.Meaning.{is_commit_of, is_end_of, is_on}
+use Rattle.wal.specs.Records.{TableEntry, LogRecord, Update, Compensation, Abort, History, start, ◌▸◌, LogContent, history, last_lsn, tx_in, page_in}
+use Rattle.wal.specs.Meaning.{state_by, is_of, is_commit_of, is_end_of, is_on}
 use Rattle.wal.specs.Redo.{rec_lsn_of}
 use Rattle.wal.specs.Undo.{entry_for}
-use Rattle.wal.specs.Store.{or_else, checkpoint_at, state_of}
+use Rattle.wal.specs.Store.{or_else, checkpoint_at}
 use Rattle.wal.specs.Content.{entry_of}
-use Rattle.analysis.specs.declared.tables.Tables.{Tables}
+use Rattle.wal.specs.Spelling.{IsRising}
+
+-- THE TABLES as contracts see them. The unfinished transactions, the dirty pages with their RecLSNs, and where redo begins.
+-- ARIES, section 4.3 (transaction table) and 4.4 (dirty page table).
+pub record TablesContent : Type 0 where
+  pub transactions : List TableEntry
+  pub dirty : List (ℕ × ℕ)
+  pub redo_lsn : ℕ
+
+-- the losers among the unfinished transactions, which undo rolls back: all of them
+abbrev pub losers_in : TablesContent → List TableEntry
+losers_in tables = tables.transactions
 
 -- THE BASE. Empty where the master is 0, else the tables of its checkpoint.
 abbrev pub base_of : ℕ → History → Option (List TableEntry × List (ℕ × ℕ))
 base_of m log = if m == 0 then Some ([], []) else checkpoint_at m log
 
--- A TRANSACTION. Its work: the updates, CLRs and aborts of it behind the LSN m and behind its last commit or end there,
--- the newest first
-abbrev pub is_work_of : ℕ → LogRecord → Bool
-is_work_of t (Update u) = u.tx == t
-is_work_of t (Compensation c) = c.tx == t
-is_work_of t (Abort s) = s.tx == t
-is_work_of t _ = false
-
+-- A TRANSACTION
 abbrev pub finishes : ℕ → LogRecord → Bool
 finishes t r = is_commit_of t r || is_end_of t r
 
+-- its work: its records behind the LSN m and behind its last commit or end there, the newest first
 abbrev pub work_since : ℕ → ℕ → History → List (ℕ × LogRecord)
 work_since t m start = []
 work_since t m (log ▸ r) =
-    if nat_lt (size log) m || finishes t r then []
-    else if is_work_of t r then (suc (size log), r) ∷ work_since t m log else work_since t m log
+    if nat_lt (last_lsn log) m || finishes t r then []
+    else if is_of t r then (suc (last_lsn log), r) ∷ work_since t m log else work_since t m log
 
 -- whether it has a commit or an end behind m
 abbrev pub finished_since : ℕ → ℕ → History → Bool
 finished_since t m start = false
-finished_since t m (log ▸ r) = if nat_lt (size log) m then false else finishes t r || finished_since t m log
+finished_since t m (log ▸ r) = if nat_lt (last_lsn log) m then false else finishes t r || finished_since t m log
 
 -- the base counts where it has not finished behind m
 abbrev pub base_since : ℕ → ℕ → Option TableEntry → History → Option TableEntry
@@ -68,7 +71,7 @@ aborts_in ((lsn, _) ∷ work) base = aborts_in work base
 -- an entry where there is work, or the base has one; LastLSN is the last of the work
 abbrev pub entry_by : ℕ → List (ℕ × LogRecord) → Option TableEntry → Option TableEntry
 entry_by t [] base = base
-entry_by t (x ∷ work) base = Some (record { tx = t; state = state_of (aborts_in (x ∷ work) base); last = x.0; undo_next = undo_next_in (x ∷ work) base })
+entry_by t (x ∷ work) base = Some (record { tx = t; state = state_by (aborts_in (x ∷ work) base); last = x.0; undo_next = undo_next_in (x ∷ work) base })
 
 abbrev pub analysed_entry : ℕ → ℕ → Option TableEntry → History → Option TableEntry
 analysed_entry t m base log = entry_by t (work_since t m log) (base_since t m base log)
@@ -76,7 +79,7 @@ analysed_entry t m base log = entry_by t (work_since t m log) (base_since t m ba
 -- A PAGE. The base's RecLSN, else the first record on it behind m.
 abbrev pub first_behind : ℕ → ℕ → History → Option ℕ
 first_behind m page start = None
-first_behind m page (log ▸ r) = or_else (first_behind m page log) (if nat_le m (size log) && is_on page r then Some (suc (size log)) else None)
+first_behind m page (log ▸ r) = or_else (first_behind m page log) (if nat_le m (last_lsn log) && is_on page r then Some (suc (last_lsn log)) else None)
 
 abbrev pub analysed_rec_lsn : ℕ → ℕ → Option ℕ → History → Option ℕ
 analysed_rec_lsn page m base log = or_else base (first_behind m page log)
@@ -88,28 +91,25 @@ redo_lsn_of (d ∷ []) = max 1 d.1
 redo_lsn_of (d ∷ e ∷ dirty) = min (max 1 d.1) (redo_lsn_of (e ∷ dirty))
 
 -- WHAT THE TABLES SAY
-abbrev pub entry_at : ℕ → List (ℕ × Entry) → Option TableEntry
-entry_at t entries = entry_for t (map entry_of entries)
-
 -- the tables of this log behind the LSN m: in both the numbers rise, each once, and at each stands what the log says
-pub record AreTablesOf (records : List LogRecord) (m : ℕ) (tables : Tables) : Type 0 where
+pub record AreTablesOf (log : LogContent) (m : ℕ) (tables : TablesContent) : Type 0 where
   pub transactions : List TableEntry
   pub dirty : List (ℕ × ℕ)
-  pub base : base_of m (history records) ≡ Some (transactions, dirty)
-  pub entries : (t : ℕ) → entry_at t tables.transactions.entries ≡ analysed_entry t m (entry_for t transactions) (history records)
-  pub pages : (page : ℕ) → rec_lsn_of page tables.dirty.entries ≡ analysed_rec_lsn page m (rec_lsn_of page dirty) (history records)
-  pub entries_rise : IsOrdered nat_cmp tables.transactions
-  pub pages_rise : IsOrdered nat_cmp tables.dirty
-  pub redo_lsn : tables.redo_lsn ≡ redo_lsn_of tables.dirty.entries
+  pub base : base_of m (history log) ≡ Some (transactions, dirty)
+  pub entries : (t : ℕ) → entry_for t tables.transactions ≡ analysed_entry t m (entry_for t transactions) (history log)
+  pub pages : (page : ℕ) → rec_lsn_of page tables.dirty ≡ analysed_rec_lsn page m (rec_lsn_of page dirty) (history log)
+  pub entries_rise : IsRising (map tx_in tables.transactions)
+  pub pages_rise : IsRising (map page_in tables.dirty)
+  pub redo_lsn : tables.redo_lsn ≡ redo_lsn_of tables.dirty
 
 -- ONE ANSWER. No log has two such tables behind one LSN.
-pub record AreSame (a b : Tables) : Type 0 where
-  pub transactions : a.transactions.entries ≡ b.transactions.entries
-  pub dirty : a.dirty.entries ≡ b.dirty.entries
-  pub redo_lsn : a.redo_lsn ≡ b.redo_lsn
-
 abbrev pub OneTables : Type 0
-OneTables = (records : List LogRecord) (m : ℕ) (a b : Tables) → AreTablesOf records m a → AreTablesOf records m b → AreSame a b
+OneTables = (log : LogContent) (m : ℕ) (a b : TablesContent) → AreTablesOf log m a → AreTablesOf log m b → a ≡ b
+
+-- THE MAPS while analysis fills them
+-- the entry of a transaction in a map
+abbrev pub entry_at : ℕ → List (ℕ × Entry) → Option TableEntry
+entry_at t entries = entry_for t (map entry_of entries)
 
 -- the maps hold the base
 pub record IsBase (m : ℕ) (log : History) (entries : List (ℕ × Entry)) (pages : List (ℕ × ℕ)) : Type 0 where
@@ -127,8 +127,8 @@ BaseFault m log e = ⊥
 
 -- a log without tables behind an LSN has none for one cause
 abbrev pub OneBaseFault : Type 0
-OneBaseFault = (records : List LogRecord) (m : ℕ) → HasOneCause (BaseFault m (history records))
+OneBaseFault = (log : LogContent) (m : ℕ) → HasOneCause (BaseFault m (history log))
 
 -- and one with tables for none
 abbrev pub NoFaultOfTables : Type 0
-NoFaultOfTables = (records : List LogRecord) (m : ℕ) (tables : Tables) → AreTablesOf records m tables → HasNoCause (BaseFault m (history records))
+NoFaultOfTables = (log : LogContent) (m : ℕ) (tables : TablesContent) → AreTablesOf log m tables → HasNoCause (BaseFault m (history log))

@@ -22,9 +22,8 @@ fn put_transaction(
     ensures ok { OnOk result (((t : ℕ) → entry_at t map.old.entries ≡ entry_for t (drop (place + 1) table.now)) → (t : ℕ) → entry_at t map.new.entries ≡ entry_for t (drop place table.now)) }
     ensures err { IfErr result (λ e. e ≡ NoResource) }
 {
-    if let Some((tx, entry)) = table.get(place) {
-        map.insert(tx, entry)?;
-    }
+    let (tx, entry) = table.entry(place);
+    map.insert(tx, entry)?;
     Ok(())
 }
 
@@ -47,9 +46,8 @@ fn put_page(map: &mut BTreeMap<u32, u64>, table: &DirtyTable, place: usize) -> R
     ensures ok { OnOk result (((p : ℕ) → rec_lsn_of p map.old.entries ≡ rec_lsn_of p (drop (place + 1) table.now)) → (p : ℕ) → rec_lsn_of p map.new.entries ≡ rec_lsn_of p (drop place table.now)) }
     ensures err { IfErr result (λ e. e ≡ NoResource) }
 {
-    if let Some((page, rec_lsn)) = table.get(place) {
-        map.insert(page, rec_lsn)?;
-    }
+    let (page, rec_lsn) = table.entry(place);
+    map.insert(page, rec_lsn)?;
     Ok(())
 }
 

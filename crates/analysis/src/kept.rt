@@ -12,16 +12,19 @@ use page::Fault;
 use std::collections::BTreeMap;
 use wal::{Entry, State};
 
+/// How many entries are kept aside.
+pub const PLACES: usize = 256;
+
 /// The entry of a transaction: a new one is active, and has nothing to undo.
 pub fn entry_in(
     transactions: &BTreeMap<u32, Entry>,
-    kept: &[Option<(u32, Entry)>; 256],
+    kept: &[Option<(u32, Entry)>; PLACES],
     tx: u32,
 ) -> Entry
     ensures state { result.state ≡ state_in (held_entry tx kept.now transactions.now.entries) }
     ensures undo_next { result.undo_next ≡ undo_next_of_entry (held_entry tx kept.now transactions.now.entries) }
 {
-    if let Some((own, entry)) = kept[(tx % 256) as usize] {
+    if let Some((own, entry)) = kept[tx as usize % PLACES] {
         if own == tx {
             return entry;
         }
@@ -48,14 +51,14 @@ fn put(transactions: &mut BTreeMap<u32, Entry>, tx: u32, entry: Entry) -> Result
 /// Puts the entry that is kept at the place of a transaction, if it is another's.
 fn make_place(
     transactions: &mut BTreeMap<u32, Entry>,
-    kept: &[Option<(u32, Entry)>; 256],
+    kept: &[Option<(u32, Entry)>; PLACES],
     tx: u32,
 ) -> Result<(), Fault>
     requires { AreKept kept.now }
     ensures ok { OnOk result (IsMoved tx kept.now transactions.old.entries transactions.new.entries) }
     ensures err { IfErr result (λ e. e ≡ NoResource) }
 {
-    if let Some((own, entry)) = kept[(tx % 256) as usize] {
+    if let Some((own, entry)) = kept[tx as usize % PLACES] {
         if own != tx {
             put(transactions, own, entry)?;
         }
@@ -66,7 +69,7 @@ fn make_place(
 /// Keeps the entry of a transaction.
 pub fn keep(
     transactions: &mut BTreeMap<u32, Entry>,
-    kept: &mut [Option<(u32, Entry)>; 256],
+    kept: &mut [Option<(u32, Entry)>; PLACES],
     tx: u32,
     entry: Entry,
 ) -> Result<(), Fault>
@@ -76,18 +79,18 @@ pub fn keep(
     ensures err { IfErr result (λ e. e ≡ NoResource) }
 {
     make_place(transactions, kept, tx)?;
-    kept[(tx % 256) as usize] = Some((tx, entry));
+    kept[tx as usize % PLACES] = Some((tx, entry));
     Ok(())
 }
 
 /// Keeps no entry of a transaction.
-fn forget(kept: &mut [Option<(u32, Entry)>; 256], tx: u32)
+fn forget(kept: &mut [Option<(u32, Entry)>; PLACES], tx: u32)
     requires { AreKept kept.old }
     ensures other { (t : ℕ) (entries : List (ℕ × Entry)) → (t ≡ tx → ⊥) → held_entry t kept.new entries ≡ held_entry t kept.old entries }
     ensures own { (entries : List (ℕ × Entry)) → held_entry tx kept.new entries ≡ entry_at tx entries }
     ensures kept { AreKept kept.new }
 {
-    let place = (tx % 256) as usize;
+    let place = tx as usize % PLACES;
     if let Some((own, _)) = kept[place] {
         if own == tx {
             kept[place] = None;
@@ -98,7 +101,7 @@ fn forget(kept: &mut [Option<(u32, Entry)>; 256], tx: u32)
 /// Takes the entry of a transaction away, if it has one.
 pub fn finish(
     transactions: &mut BTreeMap<u32, Entry>,
-    kept: &mut [Option<(u32, Entry)>; 256],
+    kept: &mut [Option<(u32, Entry)>; PLACES],
     tx: u32,
 )
     requires { AreKept kept.old }
@@ -112,13 +115,13 @@ pub fn finish(
 /// Puts all entries that are kept.
 pub fn put_back(
     transactions: &mut BTreeMap<u32, Entry>,
-    kept: &[Option<(u32, Entry)>; 256],
+    kept: &[Option<(u32, Entry)>; PLACES],
 ) -> Result<(), Fault>
     requires { AreKept kept.now }
     ensures ok { OnOk result ((t : ℕ) → entry_at t transactions.new.entries ≡ held_entry t kept.now transactions.old.entries) }
     ensures err { IfErr result (λ e. e ≡ NoResource) }
 {
-    for place in 0..256 {
+    for place in 0..PLACES {
         if let Some((tx, entry)) = kept[place] {
             put(transactions, tx, entry)?;
         }

@@ -5,7 +5,8 @@ ghost use Rattle.page.specs.Store.{StoreContent};
 ghost use Rattle.wal.specs.Records.{history};
 ghost use Rattle.wal.specs.Store.{Lawful};
 ghost use Rattle.analysis.specs.Lawful.{AreTrue};
-ghost use Rattle.analysis.specs.Tables.{entry_at, redo_lsn_of, AreTablesOf, BaseFault};
+ghost use Rattle.wal.specs.Undo.{entry_for};
+ghost use Rattle.analysis.specs.Tables.{redo_lsn_of, AreTablesOf, BaseFault};
 ghost use Rattle.analysis.specs.Steps.{lower};
 
 use crate::Tables;
@@ -50,7 +51,7 @@ pub fn analyse(alloc: Global, log: &Log, master: u64) -> Result<Tables, Fault>
     // On a lawful log and its store: exactly the losers, and no record that an image lacks is skipped.
     ensures lawful { (store : StoreContent) → Lawful log.now store → store.master ≡ master → IfOk result (AreTrue log.now store) }
     // No record and no checkpoint that was read names transaction 0: the grammar of logs forbids it.
-    ensures numbered { IfOk result (λ tables. entry_at 0 tables.transactions.entries ≡ None) }
+    ensures numbered { IfOk result (λ tables. entry_for 0 tables.transactions ≡ None) }
     ensures fault { IfErr result (BaseFault master (history log.now)) }
 {
     let (mut transactions, mut dirty) = base(alloc, log, master)?;

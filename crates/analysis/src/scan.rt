@@ -4,23 +4,21 @@ ghost use Rattle.std.specs.Prelude.{◌≡◌, ℕ, IfOk, OnOk, IfErr, nat_eq, i
 ghost use Rattle.page.specs.declared.fault.Fault.TheVariants.{NoResource};
 ghost use Rattle.wal.specs.Content.{entry_of};
 ghost use Rattle.wal.specs.Records.{LogRecord, TableEntry, history};
+ghost use Rattle.wal.specs.Glances.{glance_of};
 ghost use Rattle.wal.specs.Redo.{rec_lsn_of};
 ghost use Rattle.wal.specs.Store.{or_else};
 ghost use Rattle.analysis.specs.Tables.{entry_at, analysed_entry, analysed_rec_lsn};
-ghost use Rattle.analysis.specs.Steps.{entry_seen, rec_lsn_seen, AreListed, held_entry, AreKept};
+ghost use Rattle.analysis.specs.Steps.{entry_seen, rec_lsn_after, AreListed, held_entry, AreKept};
 
-use crate::kept::{entry_in, finish, keep, put_back};
-use page::Fault;
+use crate::kept::{PLACES, entry_in, finish, keep, put_back};
+use page::{Fault, PAGES};
 use std::collections::BTreeMap;
 use wal::{Entry, Glance, Log, State};
-
-/// How many pages a store has at most.
-const PAGES: usize = 4096;
 
 /// What a record does to the transaction table.
 fn note_transaction(
     transactions: &mut BTreeMap<u32, Entry>,
-    kept: &mut [Option<(u32, Entry)>; 256],
+    kept: &mut [Option<(u32, Entry)>; PLACES],
     glance: Glance,
     lsn: u64,
 ) -> Result<(), Fault>
@@ -122,14 +120,12 @@ fn note_page(
     lsn: u64,
 ) -> Result<(), Fault>
     requires { AreListed known.old dirty.old.entries }
-    ensures ok { OnOk result ((p : ℕ) → rec_lsn_of p dirty.new.entries ≡ rec_lsn_seen lsn glance p (rec_lsn_of p dirty.old.entries)) }
+    ensures ok { OnOk result ((r : LogRecord) → glance ≡ glance_of r → (p : ℕ) → rec_lsn_of p dirty.new.entries ≡ rec_lsn_after lsn r p (rec_lsn_of p dirty.old.entries)) }
     ensures known { OnOk result (AreListed known.new dirty.new.entries) }
     ensures err { IfErr result (λ e. e ≡ NoResource) }
 {
-    match glance {
-        Glance::Update { page, .. } => list_unknown(dirty, known, page, lsn)?,
-        Glance::Compensation { page, .. } => list_unknown(dirty, known, page, lsn)?,
-        _ => {}
+    if let Some((page, _)) = glance.cell() {
+        list_unknown(dirty, known, page, lsn)?;
     }
     Ok(())
 }
@@ -149,11 +145,11 @@ pub fn scan(
     ensures err { IfErr result (λ e. e ≡ NoResource) }
 {
     let mut known = [false; PAGES];
-    let mut kept = [None; 256];
-    for index in master..log.len() {
-        let glance = log.glance(index);
-        note_transaction(transactions, &mut kept, glance, index + 1)?;
-        note_page(dirty, &mut known, glance, index + 1)?;
+    let mut kept = [None; PLACES];
+    for lsn in master..log.last() {
+        let glance = log.glance_after(lsn);
+        note_transaction(transactions, &mut kept, glance, lsn + 1)?;
+        note_page(dirty, &mut known, glance, lsn + 1)?;
     }
     put_back(transactions, &kept)?;
     Ok(())

@@ -4,9 +4,11 @@ ghost use Rattle.std.specs.Prelude.{◌≡◌};
 ghost use Rattle.wal.specs.Redo.{rec_lsn_of};
 
 use std::collections::BTreeMap;
+use std::marker::Model;
 use wal::Entry;
 
-/// The tables of a crash.
+/// The tables of a crash. Contracts see them as the lists of their entries, in rising number, and the LSN
+/// from which redo looks at records.
 #[derive(Drop)]
 pub struct Tables {
     /// The unfinished transactions and what is known of each: its state, LastLSN and UndoNxtLSN.
@@ -18,10 +20,20 @@ pub struct Tables {
     pub redo_lsn: u64,
 }
 
+impl Model for Tables {
+    ghost use Rattle.std.specs.Prelude.{map};
+    ghost use Rattle.wal.specs.Content.{entry_of};
+    ghost use Rattle.analysis.specs.Tables.{TablesContent};
+
+    ghost Value = { TablesContent };
+
+    ghost view = { λ s. record { transactions = map entry_of s.transactions.entries; dirty = s.dirty.entries; redo_lsn = s.redo_lsn } };
+}
+
 impl Tables {
     /// The RecLSN of a page, None where it is not listed as dirty.
     pub fn rec_lsn(&self, page: u32) -> Option<u64>
-        ensures { result ≡ rec_lsn_of page self.now.dirty.entries }
+        ensures { result ≡ rec_lsn_of page self.now.dirty }
     {
         match self.dirty.get(&page) {
             Some(rec_lsn) => Some(*rec_lsn),

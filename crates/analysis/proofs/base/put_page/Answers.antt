@@ -1,11 +1,12 @@
-use Rattle.std.proofs.Common.{Some, sym}
-use Rattle.analysis.proofs.Maps.{rec_lsn-changed, page_put, no_place}
+use Rattle.std.proofs.Common.{Some}
+use Rattle.analysis.proofs.Maps.{rec_lsn-changed, page_put}
 use Rattle.analysis.proofs.base.put_page.Goals as goal
 
-pub returns-in_ok-insert-clause-ok : goal.returns-in_ok-insert-clause-ok
-returns-in_ok-insert-clause-ok c = λ behind p.
-    page_put p c.args.place c.in-Some.page c.in-Some.rec_lsn c.args.table.now c.args.map.now.entries c.insert.new.self.entries (sym c.in-Some.ensures) behind
-    (rec_lsn-changed p c.in-Some.page c.args.map.now.entries c.insert.new.self.entries (Some c.in-Some.rec_lsn) (c.in_ok-insert.ensures.updates.0 p))
-
-pub returns-in_default-clause-ok : goal.returns-in_default-clause-ok
-returns-in_default-clause-ok c = λ behind p. absurd (no_place c.args.table.now c.args.place c.requires (sym c.in_default.ensures))
+pub returns-clause-ok : goal.returns-clause-ok
+returns-clause-ok c = λ behind p.
+    let page = c.entry-page.result.0 in
+    let rec_lsn = c.entry-page.result.1 in
+    let old = c.args.map.now.entries in
+    let new = c.insert.new.self.entries in
+    page_put p c.args.place page rec_lsn c.args.table.now old new c.requires (c.entry-page.ensures (page, rec_lsn)) behind
+    (rec_lsn-changed p page old new (Some rec_lsn) (c.in_ok-insert.ensures.updates.0 p))

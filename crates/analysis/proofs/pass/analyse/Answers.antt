@@ -1,6 +1,8 @@
 use Rattle.std.proofs.Common.{sym, subst}
-use Rattle.analysis.specs.declared.tables.Tables.{Tables}
-use Rattle.analysis.specs.Tables.{AreTablesOf}
+use Rattle.std.specs.Prelude.{map}
+use Rattle.wal.specs.Content.{entry_of}
+use Rattle.analysis.specs.Tables.{TablesContent, AreTablesOf}
+use Rattle.analysis.proofs.Rising.{entries_rise, pages_rise}
 use Rattle.analysis.proofs.Truth.{tables_true}
 use Rattle.analysis.proofs.pass.analyse.Goals as goal
 
@@ -13,14 +15,14 @@ returns-clause-tables c =
       base = base.base;
       entries = λ t. c.in_ok-scan.ensures.entries t _ (base.entries_are t);
       pages = λ p. c.in_ok-scan.ensures.pages p _ (base.pages_are p);
-      entries_rise = c.iter-in_order.ensures.ordered;
-      pages_rise = c.iter-in_order_too.ensures.ordered;
+      entries_rise = entries_rise c.scan.new.transactions.entries c.iter-in_order.ensures.ordered;
+      pages_rise = pages_rise c.scan.new.dirty.entries c.iter-in_order_too.ensures.ordered;
       redo_lsn = c.redo_lsn_of-redo_lsn.ensures;
     }
 
 pub returns-clause-lawful : goal.returns-clause-lawful
 returns-clause-lawful c = λ store lawful own.
-    let made : Tables = record { transactions = c.scan.new.transactions; dirty = c.scan.new.dirty; redo_lsn = c.redo_lsn_of-redo_lsn.result } in
+    let made : TablesContent = record { transactions = map entry_of c.scan.new.transactions.entries; dirty = c.scan.new.dirty.entries; redo_lsn = c.redo_lsn_of-redo_lsn.result } in
     tables_true c.args.log.now store made lawful (subst (λ m. AreTablesOf c.args.log.now m made) (sym own) (returns-clause-tables c))
 
 pub returns-clause-numbered : goal.returns-clause-numbered
