@@ -1,15 +1,11 @@
 -- One page among those of a part, changed in its place.
-use Rattle.std.proofs.Common.{◌≡◌, ◌≢◌, ℕ, ◌<◌, List, [], ◌∷◌, Option, Some, map, length, get_or, set, refl, sym, ap, ap₂, ◌∙◌, inl, inr, arith}
+use Rattle.std.proofs.Common.{◌≡◌, ◌≢◌, ℕ, ◌<◌, List, [], ◌∷◌, Some, map, length, get_or, set, sym, ap, ◌∙◌, inl, inr, arith}
 use Rattle.std.specs.List.{slice_get}
 use Rattle.std.proofs.lemmas.Bool.{cases_eq}
 use Rattle.std.proofs.lemmas.List.{ext_get_or, get_or-set_same, get_or-set_other, length-set, length-map, get_or-map}
 use Rattle.std.proofs.lemmas.Option.{slice_get-get_or, slice_get_within, get_or_from_slice_get}
 use Rattle.redo.specs.declared.progress.Progress.{Progress}
 use Rattle.page.specs.Image.{Image}
-use denote.Bor.{Bor}
-use Rattle.wal.specs.declared.view.RecordView.{RecordView}
-use Rattle.wal.specs.declared.view.RecordView.TheVariants as code
-use Rattle.wal.specs.Shown.{shown}
 use Rattle.wal.specs.Records.{LogRecord}
 use Rattle.redo.specs.Changes.{page_named, put, advance}
 use Rattle.redo.specs.Rounds.{StandsAlone, numbers_of}
@@ -55,24 +51,3 @@ put_alone redo_lsn lsn slot value r place_of (q ∷ qs) new page place alone not
   where
     named_once : {a b : ℕ} → page_named r ≡ Some a → page_named r ≡ Some b → a ≡ b
     named_once e f = cc
-
--- and a record on no page changes none
-pub map_idle : (redo_lsn lsn : ℕ) (r : LogRecord) (ps : List Progress) → ((page : ℕ) → page_named r ≡ Some page → ⊥) → ps ≡ map (advance redo_lsn lsn r) ps
-map_idle redo_lsn lsn r [] none = refl
-map_idle redo_lsn lsn r (p ∷ ps) none = ap₂ (λ x xs. x ∷ xs) (sym (advance_elsewhere redo_lsn lsn r p (λ page e _. none page e))) (map_idle redo_lsn lsn r ps none)
-
--- what a view that is no update and no CLR shows
-abbrev pub IsNoUpdate : RecordView → Type 0
-IsNoUpdate v = (tx prev page slot : ℕ) (before after : Option (Bor (List ℕ))) → v ≡ code.Update tx prev page slot before after → ⊥
-
-abbrev pub IsNoCompensation : RecordView → Type 0
-IsNoCompensation v = (tx prev page slot undo_next : ℕ) (image : Option (Bor (List ℕ))) → v ≡ code.Compensation tx prev page slot undo_next image → ⊥
-
-pub names_none : (v : RecordView) → IsNoUpdate v → IsNoCompensation v → (page : ℕ) → page_named (shown v) ≡ Some page → ⊥
-names_none (code.Update tx prev page slot before after) no_update no_clr n e = no_update tx prev page slot before after refl
-names_none (code.Compensation tx prev page slot undo_next image) no_update no_clr n e = no_clr tx prev page slot undo_next image refl
-names_none (code.Commit tx prev) no_update no_clr n e = absurd (cc)
-names_none (code.Abort tx prev) no_update no_clr n e = absurd (cc)
-names_none (code.End tx prev) no_update no_clr n e = absurd (cc)
-names_none code.CheckpointBegin no_update no_clr n e = absurd (cc)
-names_none (code.CheckpointEnd begin transactions dirty) no_update no_clr n e = absurd (cc)

@@ -2,8 +2,8 @@
 use Rattle.std.proofs.Common.{◌≡◌, ℕ, zero, suc, ◌-◌, ◌<◌, ◌≤◌, min, List, Some, length, refl, ap, ◌∙◌, cond, ne_eqb, arith}
 use Rattle.page.specs.declared.fault.Fault.{Fault}
 use Rattle.page.specs.declared.fault.Fault.TheVariants.{NoResource, NoSuchPage}
-use Rattle.wal.specs.Records.{LogRecord, history, record_at}
-use Rattle.wal.proofs.Histories.{record_within, size_of_list}
+use Rattle.wal.specs.Records.{LogRecord, history, record_at, last_lsn, LogContent}
+use Rattle.wal.proofs.Histories.{record_within}
 use Rattle.redo.specs.declared.route.Route.{Route}
 use Rattle.redo.specs.Passes.{PassContent}
 use Rattle.redo.specs.Rounds.{skipped, skipped_in, RoundFault, AreRoutes}
@@ -24,27 +24,27 @@ not_skipped : (redo_lsn len lsn : ℕ) → IsLookedAt redo_lsn lsn → lsn ≤ l
 not_skipped zero len lsn h within = absurd (h.0 refl)
 not_skipped (suc n) len lsn h within = let from = h.1 in let e = skipped_some n len in omega arith
 
-in_log : (records : List LogRecord) (lsn : ℕ) (r : LogRecord) → record_at (history records) lsn ≡ Some r → lsn ≤ length records
-in_log records lsn r e = omega (arith, record_within (history records) lsn r e, size_of_list records)
+in_log : (log : LogContent) (lsn : ℕ) (r : LogRecord) → record_at (history log) lsn ≡ Some r → lsn ≤ last_lsn (history log)
+in_log log lsn r e = record_within (history log) lsn r e
 
-pub exist_all : (pass : PassContent) (routes : List Route) → AreRoutes pass routes → AllExist pass.records (length pass.images) pass.redo_lsn
+pub exist_all : (pass : PassContent) (routes : List Route) → AreRoutes pass routes → AllExist pass.log (length pass.images) pass.redo_lsn
 exist_all pass routes are lsn r looked found =
-    let within = in_log pass.records lsn r found in
-    let len = length pass.records in
+    let within = in_log pass.log lsn r found in
+    let len = last_lsn (history pass.log) in
     let last = boundary_last (skipped_in pass) len (length routes) (skipped_within pass.redo_lsn len) are.some in
     all_exist pass routes are lsn r (not_skipped pass.redo_lsn len lsn looked within) (omega (arith, within, last)) found
 
-pub round_fault : (pass : PassContent) (workers : ℕ) (e : Fault) → AreWorkers workers → RoundFault pass e → RedoFault pass.records (length pass.images) pass.redo_lsn workers e
+pub round_fault : (pass : PassContent) (workers : ℕ) (e : Fault) → AreWorkers workers → RoundFault pass e → RedoFault pass.log (length pass.images) pass.redo_lsn workers e
 round_fault pass workers NoResource fit cause = tt
 round_fault pass workers (NoSuchPage lsn) fit m =
-    let within = in_log pass.records lsn m.entry m.there in (
+    let within = in_log pass.log lsn m.entry m.there in (
       fit,
       record {
         entry = m.entry;
-        looked_at = looked_at pass.redo_lsn (length pass.records) lsn m.past within;
+        looked_at = looked_at pass.redo_lsn (last_lsn (history pass.log)) lsn m.past within;
         there = m.there;
         beyond = m.beyond;
-        before = λ k r looked less found. m.before k r (not_skipped pass.redo_lsn (length pass.records) k looked (in_log pass.records k r found)) (omega arith) found;
+        before = λ k r looked less found. m.before k r (not_skipped pass.redo_lsn (last_lsn (history pass.log)) k looked (in_log pass.log k r found)) (omega arith) found;
       },
     )
 round_fault pass workers e fit cause = absurd cause

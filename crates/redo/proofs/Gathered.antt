@@ -4,7 +4,7 @@ use Rattle.std.specs.List.{slice_get}
 use Rattle.std.proofs.lemmas.Bool.{cases_eq}
 use Rattle.std.proofs.lemmas.List.{get_or-set_same, get_or-set_other, length-set, get_or-append-add}
 use Rattle.std.proofs.lemmas.List.Elements.{Contains-append_cases}
-use Rattle.std.proofs.lemmas.Option.{slice_get-get_or, slice_get_within, get_or_from_slice_get}
+use Rattle.std.proofs.lemmas.Option.{slice_get-get_or, slice_get_within, get_or_from_slice_get, same_Some}
 use Rattle.page.specs.declared.page.Page.{Page}
 use Rattle.wal.specs.Records.{history}
 use Rattle.board.specs.Drawn.{BoardId}
@@ -12,7 +12,7 @@ use Rattle.redo.specs.Passes.{PassContent}
 use Rattle.redo.specs.declared.progress.Progress.{Progress}
 use Rattle.redo.specs.declared.crew.Share.{Share}
 use Rattle.redo.specs.Rounds.{progress_in, IsDone, HasPage, IsPut, ArePut, IsBack}
-use Rattle.redo.proofs.Reading.{get_more, get_split, get_same, some_same}
+use Rattle.redo.proofs.Reading.{get_more, get_split, get_same}
 
 -- PLACES OF A LIST THAT IS WRITTEN
 get_set_same : {X : Type 0} (xs : List X) (i : ℕ) (x : X) → i < length xs → slice_get (set xs i x) i ≡ Some x
@@ -113,17 +113,17 @@ map_of : {X : Type 0} (h : Page → X) (images : List Page) (xs : List X) → le
 map_of h [] [] e at = refl
 map_of h [] (x ∷ xs) e at = absurd (omega arith)
 map_of h (image ∷ images) [] e at = absurd (omega arith)
-map_of h (image ∷ images) (x ∷ xs) e at = ap₂ (λ y ys. y ∷ ys) (some_same (at 0 image refl)) (map_of h images xs (omega arith) (λ k i f. at (suc k) i f))
+map_of h (image ∷ images) (x ∷ xs) e at = ap₂ (λ y ys. y ∷ ys) (same_Some _ _ (at 0 image refl)) (map_of h images xs (omega arith) (λ k i f. at (suc k) i f))
 
 module _ (pass : PassContent) (pages : List Page) (counts : List ℕ) (put : (number : ℕ) → number < length pass.images → IsPut pass pages counts number) where
-  pub pages_are : length pages ≡ length pass.images → pages ≡ map (λ image. (progress_in pass (history pass.records) image).page) pass.images
-  pages_are same = map_of (λ image. (progress_in pass (history pass.records) image).page) pass.images pages same
+  pub pages_are : length pages ≡ length pass.images → pages ≡ map (λ image. (progress_in pass (history pass.log) image).page) pass.images
+  pages_are same = map_of (λ image. (progress_in pass (history pass.log) image).page) pass.images pages same
       (λ k image e.
       let is = put k (slice_get_within pass.images k image e) in
-      is.page ∙ ap (λ i. Some ((progress_in pass (history pass.records) i).page)) (get_same pass.images k is.image image is.there e))
+      is.page ∙ ap (λ i. Some ((progress_in pass (history pass.log) i).page)) (get_same pass.images k is.image image is.there e))
 
-  pub counts_are : length counts ≡ length pass.images → counts ≡ map (λ image. (progress_in pass (history pass.records) image).applied) pass.images
-  counts_are same = map_of (λ image. (progress_in pass (history pass.records) image).applied) pass.images counts same
+  pub counts_are : length counts ≡ length pass.images → counts ≡ map (λ image. (progress_in pass (history pass.log) image).applied) pass.images
+  counts_are same = map_of (λ image. (progress_in pass (history pass.log) image).applied) pass.images counts same
       (λ k image e.
       let is = put k (slice_get_within pass.images k image e) in
-      is.count ∙ ap (λ i. Some ((progress_in pass (history pass.records) i).applied)) (get_same pass.images k is.image image is.there e))
+      is.count ∙ ap (λ i. Some ((progress_in pass (history pass.log) i).applied)) (get_same pass.images k is.image image is.there e))

@@ -8,6 +8,7 @@ pub mod Alone
 pub mod Replay
 pub mod Tallies
 pub mod Parts
+pub mod Counting
 pub mod Notes
 pub mod Noting
 pub mod Gathered

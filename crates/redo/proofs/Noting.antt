@@ -1,64 +1,61 @@
 -- One record more of a stretch, noted for its part.
-use Rattle.std.proofs.Common.{◌≡◌, ℕ, suc, ◌+◌, ◌<◌, ◌≤◌, List, [], ◌∷◌, ◌++◌, All, Bool, Some, None, true, false, refl, map, inl, inr, eq-eqb, ne_eqb, cond, eqb, take, length, get_or, sym, ap, ◌∙◌, subst, arith}
+use Rattle.std.proofs.Common.{◌≡◌, ℕ, suc, ◌+◌, ◌<◌, ◌≤◌, List, [], ◌∷◌, ◌++◌, All, Bool, Some, None, true, false, refl, map, inl, inr, eq-eqb, ne_eqb, cond, eqb, length, get_or, sym, ap, ◌∙◌, subst, arith}
 use mathlib.Core.Logic.{dite}
 use native.Mathlib.Decide.{dec_lt}
 use Rattle.page.specs.declared.fault.Fault.{Fault}
 use Rattle.page.specs.declared.fault.Fault.TheVariants.{NoResource, NoSuchPage}
+use Rattle.std.specs.Prelude.{option_map}
 use Rattle.std.specs.List.{slice_get}
 use Rattle.std.proofs.lemmas.Bool.{cond_both, cases_eq}
 use Rattle.std.proofs.lemmas.List.{map-append}
 use Rattle.std.proofs.lemmas.List.Elements.{All-push}
-use Rattle.std.proofs.lemmas.Option.{slice_get-get_or}
+use Rattle.std.proofs.lemmas.Option.{slice_get-get_or, same_Some}
 use Rattle.wal.specs.Spelling.{Fits}
 use Rattle.redo.specs.declared.note.Note.{Note}
-use Rattle.wal.specs.Records.{LogRecord, Update, Compensation, Commit, Abort, End, CheckpointBegin, CheckpointEnd, History, ◌▸◌, size, history, record_at}
-use Rattle.wal.proofs.Histories.{record_item, size_of_beginning}
-use Rattle.redo.specs.Changes.{page_named, part_of_page, is_part, cell_named, IsNote, NamesBelow, on_part, lsns_where, lsn_in}
+use Rattle.wal.specs.Records.{LogRecord, Update, Compensation, History, ◌▸◌, last_lsn, history, record_at, first}
+use Rattle.wal.proofs.Histories.{size_of_first, size_of_first_le}
+use Rattle.redo.specs.Changes.{page_named, part_of_page, is_part, IsNote, NamesBelow, on_part, lsns_where, lsn_in}
+use Rattle.wal.specs.Meaning.{cell_of}
 use Rattle.redo.specs.Passes.{PassContent}
 use Rattle.redo.specs.Rounds.{ExistWithin, NoteFault, RouteFault}
-use Rattle.redo.proofs.Reading.{some_same}
 use Rattle.redo.proofs.Routes.{lsns_none}
 use Rattle.redo.proofs.Replay.{lsns_more, page_of_cell}
 
--- the record at a place of the log
-pub item_there : (records : List LogRecord) (i : ℕ) (r : LogRecord) → i < length records → get_or records i CheckpointBegin ≡ r → record_at (history records) (i + 1) ≡ Some r
-item_there records i r lt is = record_item records i CheckpointBegin lt ∙ ap Some is
-
 -- nothing is noted before the first
-pub none_noted : (pass : PassContent) (from part : ℕ) → from ≤ length pass.records → lsns_where (on_part pass.parting.part_of part) from (history (take from pass.records)) ≡ []
-none_noted pass from part le = lsns_none (on_part pass.parting.part_of part) from (history (take from pass.records)) (omega (arith, size_of_beginning pass.records from le))
+pub none_noted : (pass : PassContent) (from part : ℕ) → from ≤ last_lsn (history pass.log) → lsns_where (on_part pass.parting.part_of part) from (first from (history pass.log)) ≡ []
+none_noted pass from part le = lsns_none (on_part pass.parting.part_of part) from (first from (history pass.log)) (size_of_first_le from (history pass.log))
 
-module _ (pass : PassContent) (from index : ℕ) (r : LogRecord) (le : from ≤ index) (lt : index < length pass.records) (at : record_at (history pass.records) (index + 1) ≡ Some r) where
-  pub one_noted : (part : ℕ) (old new : List ℕ) → history (take (index + 1) pass.records) ≡ history (take index pass.records) ▸ r
-      → new ≡ cond (on_part pass.parting.part_of part r) (old ++ (index + 1) ∷ []) old → old ≡ lsns_where (on_part pass.parting.part_of part) from (history (take index pass.records))
-      → new ≡ lsns_where (on_part pass.parting.part_of part) from (history (take (index + 1) pass.records))
+module _ (pass : PassContent) (from seen : ℕ) (r : LogRecord) (le : from ≤ seen) (lt : seen < last_lsn (history pass.log)) (at : record_at (history pass.log) (seen + 1) ≡ Some r) where
+  pub one_noted : (part : ℕ) (old new : List ℕ) → first (seen + 1) (history pass.log) ≡ first seen (history pass.log) ▸ r
+      → new ≡ cond (on_part pass.parting.part_of part r) (old ++ (seen + 1) ∷ []) old → old ≡ lsns_where (on_part pass.parting.part_of part) from (first seen (history pass.log))
+      → new ≡ lsns_where (on_part pass.parting.part_of part) from (first (seen + 1) (history pass.log))
   one_noted part old new next is before =
       let test = on_part pass.parting.part_of part in
-      let log = history (take index pass.records) in
-      let count : size log ≡ index = size_of_beginning pass.records index (omega (arith, lt)) in
-      let lsn : index + 1 ≡ suc (size log) = omega (arith, count) in
+      let log = first seen (history pass.log) in
+      let count : last_lsn log ≡ seen = size_of_first seen (history pass.log) (omega (arith, lt)) in
+      let lsn : seen + 1 ≡ suc (last_lsn log) = omega (arith, count) in
       is
-      ∙ (ap (λ xs. cond (test r) (xs ++ (index + 1) ∷ []) xs) before
+      ∙ (ap (λ xs. cond (test r) (xs ++ (seen + 1) ∷ []) xs) before
       ∙ (ap (λ n. cond (test r) (lsns_where test from log ++ n ∷ []) (lsns_where test from log)) lsn
       ∙ (sym (lsns_more test from log r (omega (arith, count, le))) ∙ ap (lsns_where test from) (sym next))))
 
-  pub exist_more : NamesBelow (length pass.images) r → ExistWithin pass.records (length pass.images) from index → ExistWithin pass.records (length pass.images) from (index + 1)
+  pub exist_more : NamesBelow (length pass.images) r → ExistWithin pass.log (length pass.images) from seen → ExistWithin pass.log (length pass.images) from (seen + 1)
   exist_more below old lsn x past within found =
-      dite (dec_lt lsn (index + 1))
+      dite (dec_lt lsn (seen + 1))
       (λ less. old lsn x past (omega arith) found)
       (λ last.
-      let here : lsn ≡ index + 1 = omega arith in
-      subst (NamesBelow (length pass.images)) (some_same (sym at ∙ (ap (record_at (history pass.records)) (sym here) ∙ found))) below)
+      let here : lsn ≡ seen + 1 = omega arith in
+      subst (NamesBelow (length pass.images)) (same_Some _ _ (sym at ∙ (ap (record_at (history pass.log)) (sym here) ∙ found))) below)
 
-  pub refused : (count to : ℕ) (e : Fault) → count ≡ length pass.images → index < to → ExistWithin pass.records (length pass.images) from index → NoteFault count (index + 1) r e → RouteFault pass from to e
+  pub refused : (count to : ℕ) (e : Fault) → count ≡ length pass.images → seen < to → ExistWithin pass.log (length pass.images) from seen → NoteFault count (seen + 1) r e → RouteFault pass from to e
   refused count to NoResource same within old cause = tt
   refused count to (NoSuchPage lsn) same within old cause =
-      let here : lsn ≡ index + 1 = cause.0 in (
+      let here : lsn ≡ seen + 1 = cause.0 in (
         omega arith,
         record {
           entry = r;
           past = omega (arith, le);
-          there = ap (record_at (history pass.records)) here ∙ at;
+          there = ap (record_at (history pass.log)) here ∙ at;
           beyond = λ below. cause.1 (subst (λ n. NamesBelow n r) (sym same) below);
           before = λ k x past less found. old k x past (omega arith) found;
         },
@@ -67,26 +64,16 @@ module _ (pass : PassContent) (from index : ℕ) (r : LogRecord) (le : from ≤ 
 
 -- THE NOTES
 -- a slot is one of 16
-pub small_slot : (r : LogRecord) (page slot : ℕ) → Fits r → cell_named r ≡ Some (page, slot) → slot < 16
-small_slot (Update u) page slot fits e = let is : u.slot ≡ slot = ap (λ (x : ℕ × ℕ). x.1) (some_same e) in omega (arith, is, fits.slot)
-small_slot (Compensation c) page slot fits e = let is : c.slot ≡ slot = ap (λ (x : ℕ × ℕ). x.1) (some_same e) in omega (arith, is, fits.slot)
-small_slot (Commit s) page slot fits e = absurd (cc)
-small_slot (Abort s) page slot fits e = absurd (cc)
-small_slot (End s) page slot fits e = absurd (cc)
-small_slot CheckpointBegin page slot fits e = absurd (cc)
-small_slot (CheckpointEnd b t d) page slot fits e = absurd (cc)
+pub small_slot : (r : LogRecord) (page slot : ℕ) → Fits r → cell_of r ≡ Some (page, slot) → slot < 16
+small_slot (Update u) page slot fits e = let is : u.slot ≡ slot = ap (λ (x : ℕ × ℕ). x.1) (same_Some _ _ e) in omega (arith, is, fits.slot)
+small_slot (Compensation c) page slot fits e = let is : c.slot ≡ slot = ap (λ (x : ℕ × ℕ). x.1) (same_Some _ _ e) in omega (arith, is, fits.slot)
+small_slot r page slot fits e = absurd (cc)
 
 -- what is in no cell is on no page
-pub no_page : (r : LogRecord) → None ≡ cell_named r → page_named r ≡ None
-no_page (Update u) e = absurd (cc)
-no_page (Compensation c) e = absurd (cc)
-no_page (Commit s) e = refl
-no_page (Abort s) e = refl
-no_page (End s) e = refl
-no_page CheckpointBegin e = refl
-no_page (CheckpointEnd b t d) e = refl
+pub no_page : (r : LogRecord) → None ≡ cell_of r → page_named r ≡ None
+no_page r e = sym (ap (option_map (λ (x : ℕ × ℕ). x.0)) e)
 
-pub no_cell : (part_of : List ℕ) (part : ℕ) (r : LogRecord) → None ≡ cell_named r → on_part part_of part r ≡ false
+pub no_cell : (part_of : List ℕ) (part : ℕ) (r : LogRecord) → None ≡ cell_of r → on_part part_of part r ≡ false
 no_cell part_of part r e = ap (λ o. is_part part (part_of_page part_of o)) (no_page r e)
 
 -- one note more
@@ -100,7 +87,7 @@ past_end [] i e lt = omega arith
 past_end (x ∷ xs) i e lt = (let f : None ≡ Some (get_or (x ∷ xs) i x) = e ∙ slice_get-get_or (x ∷ xs) i x lt in cc)
 
 -- the LSNs with it
-pub lsns_noted : (part_of : List ℕ) (k part : ℕ) (r : LogRecord) (page slot : ℕ) (note : Note) (old new : List Note) → cell_named r ≡ Some (page, slot) → slice_get part_of page ≡ Some part → new ≡ cond (eqb k part) (old ++ note ∷ []) old
+pub lsns_noted : (part_of : List ℕ) (k part : ℕ) (r : LogRecord) (page slot : ℕ) (note : Note) (old new : List Note) → cell_of r ≡ Some (page, slot) → slice_get part_of page ≡ Some part → new ≡ cond (eqb k part) (old ++ note ∷ []) old
     → map lsn_in new ≡ cond (on_part part_of k r) (map lsn_in old ++ note.lsn ∷ []) (map lsn_in old)
 lsns_noted part_of k part r page slot note old new cell given is =
     let own : on_part part_of k r ≡ eqb k part = ap (λ o. is_part k (part_of_page part_of o)) (page_of_cell r page slot cell) ∙ (ap (is_part k) given ∙ eqb-turned part k) in

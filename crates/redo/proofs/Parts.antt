@@ -8,8 +8,8 @@ use Rattle.std.proofs.lemmas.Simd.{map-map}
 use Rattle.std.proofs.Math.Seq.{take-suc}
 use mathlib.Core.Path.{fun_ext}
 use Rattle.page.specs.Store.{AreNumbered}
-use Rattle.wal.specs.Records.{LogRecord, History, history, record_at}
-use Rattle.wal.proofs.Histories.{history_all}
+use Rattle.wal.specs.Records.{LogRecord, History, history, record_at, last_lsn, first}
+use Rattle.wal.proofs.Histories.{first_all}
 use Rattle.redo.specs.declared.progress.Progress.{Progress}
 use Rattle.redo.specs.Changes.{advance_by, step}
 use Rattle.redo.specs.Passes.{PassContent}
@@ -60,10 +60,10 @@ fold_next log redo_lsn lsns i lsn old ps new lt at before is =
     ∙ ap (λ (g : Progress → Progress). map g old) (fun_ext (λ p. sym (ap (fold f p) more ∙ fold_push f p (take i lsns) lsn)))))
 
 -- AT THE END
-module _ (pass : PassContent) (part : ℕ) (numbered : AreNumbered pass.images) (dealt : length pass.parting.part_of ≡ length pass.images) (fits : length pass.records < 2 ^ 64) where
-  pub all_done : (ps : List Progress) → IsUpTo pass part (length pass.records) ps → All (IsDone pass) ps
+module _ (pass : PassContent) (part : ℕ) (numbered : AreNumbered pass.images) (dealt : length pass.parting.part_of ≡ length pass.images) (fits : last_lsn (history pass.log) < 2 ^ 64) where
+  pub all_done : (ps : List Progress) → IsUpTo pass part (last_lsn (history pass.log)) ps → All (IsDone pass) ps
   all_done ps up k d lt =
-      let at : ℕ → Progress = λ number. progress_in pass (history (take (length pass.records) pass.records)) (image_at pass.images number) in
+      let at : ℕ → Progress = λ number. progress_in pass (first (last_lsn (history pass.log)) (history pass.log)) (image_at pass.images number) in
       let below : k < length up.members = omega (arith, lt, ap length up.redone, length-map up.members at) in
       let m = get_or up.members k 0 in
       let is : get_or ps k d ≡ at m = ap (λ xs. get_or xs k d) up.redone ∙ get_or-map at up.members k 0 d below in
@@ -73,12 +73,12 @@ module _ (pass : PassContent) (part : ℕ) (numbered : AreNumbered pass.images) 
         image = image_at pass.images m;
         there = ap (slice_get pass.images) number ∙ slice_get-get_or pass.images m (image_at pass.images m) within
             ∙ ap Some (get_or_default pass.images m (image_at pass.images m) (record { number = m; lsn = 0; slots = replicate 16 None }) within);
-        redone = is ∙ ap (λ h. progress_in pass h (image_at pass.images m)) (history_all pass.records (length pass.records) (omega arith));
+        redone = is ∙ ap (λ h. progress_in pass h (image_at pass.images m)) (first_all (last_lsn (history pass.log)) (history pass.log) (omega arith));
       }
 
   pub all_there : (n : ℕ) (ps : List Progress) → IsUpTo pass part n ps → HasPart pass part ps
   all_there n ps up page given =
-      let at : ℕ → Progress = λ number. progress_in pass (history (take n pass.records)) (image_at pass.images number) in
+      let at : ℕ → Progress = λ number. progress_in pass (first n (history pass.log)) (image_at pass.images number) in
       let member = up.are.found page (omega (arith, slice_get_within pass.parting.part_of page part given, up.all)) given in
       let lt = slice_get_within up.members member.place page member.there in
       let is : get_or ps member.place (at page) ≡ at page =

@@ -5,7 +5,7 @@ use Rattle.std.specs.List.{slice_get}
 use Rattle.std.specs.Result.{is_err}
 use Rattle.std.proofs.lemmas.List.{get_or_append_left, take_at}
 use Rattle.std.proofs.Math.Seq.{get_or-append_seam}
-use Rattle.std.proofs.lemmas.Option.{slice_get-get_or, slice_get_within, get_or_from_slice_get, slice_get_past}
+use Rattle.std.proofs.lemmas.Option.{slice_get-get_or, slice_get_within, get_or_from_slice_get, slice_get_past, same_Some}
 use mathlib.Core.Logic.{dite}
 use native.Mathlib.Decide.{dec_lt}
 use Rattle.redo.specs.Lists.{items_of, list_at}
@@ -58,9 +58,6 @@ both_empty (x ∷ xs) ys e = absurd (cc)
 pub written_back : {X : Type 0} (n : ℕ) (items ws : List X) → length ws ≡ n → take n (ws ++ drop (length ws) items) ≡ ws
 written_back n items ws e = take_at ws (drop (length ws) items) n e
 
-pub some_same : {X : Type 0} {x y : X} → Some x ≡ Some y → x ≡ y
-some_same e = cc
-
 -- the only one
 pub contains_one : {X : Type 0} (x y : X) → Contains (x ∷ []) y → x ≡ y
 contains_one x y has =
@@ -75,7 +72,7 @@ on_ok (Err x) e h = absurd (cc)
 -- what is so of each element is so of the one that was popped
 pub popped : {X : Type 0} (P : X → Type 0) (xs : List X) (n : ℕ) (x : X) → All P xs → n ≡ length xs → 0 < n → ((d : X) → 0 < n → Some x ≡ Some (get_or xs (n - 1) d)) → P x
 popped P xs n x all count any last =
-    let at : x ≡ get_or xs (n - 1) x = some_same (last x any) in
+    let at : x ≡ get_or xs (n - 1) x = same_Some _ _ (last x any) in
     subst P (sym at) (all (n - 1) x (omega arith))
 
 pub or_false : (a b : Bool) → (a || b) ≡ false → (a ≡ false) × (b ≡ false)

@@ -1,42 +1,38 @@
 -- The records of a stretch, applied by their LSNs in order.
-use Rattle.std.proofs.Common.{◌≡◌, ℕ, zero, suc, ◌+◌, ◌-◌, ◌<◌, ◌≤◌, ◌^◌, Bool, true, false, cond, ◌&&◌, not, eqb, leb, ltb, List, [], ◌∷◌, ◌++◌, All, Option, Some, None, map, take, drop, take-append-drop, replicate, length, get_or, min, refl, sym, ap, ◌∙◌, subst, inl, inr, arith, length-append, eq-eqb, eqb-true}
+use Rattle.std.proofs.Common.{◌≡◌, ℕ, zero, suc, ◌+◌, ◌-◌, ◌<◌, ◌≤◌, ◌^◌, Bool, true, false, cond, ◌&&◌, not, eqb, leb, ltb, List, [], ◌∷◌, ◌++◌, All, Option, Some, None, map, replicate, length, get_or, min, refl, sym, ap, ◌∙◌, subst, inl, inr, arith, length-append, eq-eqb, eqb-true}
+use Rattle.std.specs.Prelude.{option_map}
 use Rattle.std.specs.List.{fold, slice_get}
 use Rattle.std.proofs.lemmas.Bool.{cases_Bool, cond_both, and_right, and_parts, le-leb, leb-true, lt-leb, false≢true}
 use Rattle.std.proofs.lemmas.List.{length-map, get_or-map, ext_get_or}
 use Rattle.std.proofs.lemmas.List.Elements.{All-push}
 use Rattle.std.proofs.lemmas.List.Sums.{fold_push}
-use Rattle.std.proofs.lemmas.Option.{slice_get-get_or, slice_get_within}
+use Rattle.std.proofs.lemmas.Option.{slice_get-get_or, slice_get_within, same_Some}
 use mathlib.Core.Path.{fun_ext}
 use Rattle.page.specs.declared.page.Page.{Page}
 use Rattle.page.specs.Store.{AreNumbered}
-use Rattle.wal.specs.Records.{LogRecord, Update, Compensation, Commit, Abort, End, CheckpointBegin, CheckpointEnd, History, start, ◌▸◌, size, history, record_at}
+use Rattle.wal.specs.Records.{LogRecord, History, start, ◌▸◌, last_lsn, history, record_at, first}
+use Rattle.wal.specs.Meaning.{cell_of}
 use Rattle.std.proofs.lemmas.List.FromFn.{length-map-range_with_len, get_or-map-range_with_len}
 use Rattle.wal.specs.Redo.{is_redone, applied, rec_lsn_of, slots_in, held_by}
-use Rattle.wal.proofs.Histories.{history_more, record_item, size_of_beginning, record_more, record_last, record_within, record_in_front, after-append}
+use Rattle.wal.proofs.Histories.{behind, size_of_first, size_of_first_le, first_none, record_in_first, record_more, record_last, record_within}
 use Rattle.redo.specs.declared.progress.Progress.{Progress}
 use Rattle.redo.specs.declared.note.Note.{Note}
-use Rattle.redo.specs.Changes.{page_named, cell_named, lsn_in, IsNote, part_of_page, is_part, on_part, lsns_where, progress_at, advance, advance_by, step}
+use Rattle.redo.specs.Changes.{page_named, lsn_in, IsNote, part_of_page, is_part, on_part, lsns_where, progress_at, advance, advance_by, step}
 use Rattle.redo.specs.Parting.{AreMembers}
 use Rattle.redo.specs.Passes.{PassContent}
 use Rattle.redo.specs.Rounds.{skipped, skipped_in, progress_in, image_at, numbers_of, Stands, IsUpTo}
-use Rattle.redo.proofs.Reading.{get_same, some_same}
+use Rattle.redo.proofs.Reading.{get_same}
 use Rattle.redo.proofs.Routes.{lsns_none}
 use Rattle.redo.proofs.Stretches.{skipped_within}
 use Rattle.redo.proofs.Advance.{advanced, advance_had, advance_elsewhere, advance_count}
 
 -- a cell names its page
-pub page_of_cell : (r : LogRecord) (page slot : ℕ) → cell_named r ≡ Some (page, slot) → page_named r ≡ Some page
-page_of_cell (Update u) page slot e = ap (λ (x : ℕ × ℕ). Some x.0) (some_same e)
-page_of_cell (Compensation c) page slot e = ap (λ (x : ℕ × ℕ). Some x.0) (some_same e)
-page_of_cell (Commit s) page slot e = absurd (cc)
-page_of_cell (Abort s) page slot e = absurd (cc)
-page_of_cell (End s) page slot e = absurd (cc)
-page_of_cell CheckpointBegin page slot e = absurd (cc)
-page_of_cell (CheckpointEnd b t d) page slot e = absurd (cc)
+pub page_of_cell : (r : LogRecord) (page slot : ℕ) → cell_of r ≡ Some (page, slot) → page_named r ≡ Some page
+page_of_cell r page slot e = ap (option_map (λ (x : ℕ × ℕ). x.0)) e
 
 -- ONE RECORD MORE OF A STRETCH
-pub lsns_more : (test : LogRecord → Bool) (from : ℕ) (log : History) (r : LogRecord) → from ≤ size log → lsns_where test from (log ▸ r) ≡ cond (test r) (lsns_where test from log ++ suc (size log) ∷ []) (lsns_where test from log)
-lsns_more test from log r le = ap (λ b. cond (b && test r) (lsns_where test from log ++ suc (size log) ∷ []) (lsns_where test from log)) (le-leb from (size log) le)
+pub lsns_more : (test : LogRecord → Bool) (from : ℕ) (log : History) (r : LogRecord) → from ≤ last_lsn log → lsns_where test from (log ▸ r) ≡ cond (test r) (lsns_where test from log ++ suc (last_lsn log) ∷ []) (lsns_where test from log)
+lsns_more test from log r le = ap (λ b. cond (b && test r) (lsns_where test from log ++ suc (last_lsn log) ∷ []) (lsns_where test from log)) (le-leb from (last_lsn log) le)
 
 -- a record on no page of a part changes none of them
 off_part : (part_of : List ℕ) (part redo_lsn lsn : ℕ) (r : LogRecord) (p : Progress) → slice_get part_of p.page.number ≡ Some part → on_part part_of part r ≡ false → advance redo_lsn lsn r p ≡ p
@@ -58,39 +54,39 @@ image_begun pass image count =
 -- A STRETCH
 module _ (pass : PassContent) (part : ℕ) (image : Page) (here : slice_get pass.parting.part_of image.number ≡ Some part) where
   -- the LSNs of the stretch from the first m records to the first m + k, applied in order
-  pub stretch : (m k : ℕ) → m + k ≤ length pass.records
-      → fold (step (history pass.records) pass.redo_lsn) (progress_in pass (history (take m pass.records)) image) (lsns_where (on_part pass.parting.part_of part) m (history (take (m + k) pass.records)))
-      ≡ progress_in pass (history (take (m + k) pass.records)) image
+  pub stretch : (m k : ℕ) → m + k ≤ last_lsn (history pass.log)
+      → fold (step (history pass.log) pass.redo_lsn) (progress_in pass (first m (history pass.log)) image) (lsns_where (on_part pass.parting.part_of part) m (first (m + k) (history pass.log)))
+      ≡ progress_in pass (first (m + k) (history pass.log)) image
   stretch m zero le =
-      let same : history (take (m + zero) pass.records) ≡ history (take m pass.records) = ap (λ n. history (take n pass.records)) (omega arith) in
-      let none : lsns_where (on_part pass.parting.part_of part) m (history (take (m + zero) pass.records)) ≡ [] =
-      lsns_none (on_part pass.parting.part_of part) m (history (take (m + zero) pass.records)) (omega (arith, size_of_beginning pass.records (m + zero) le)) in
-      ap (fold (step (history pass.records) pass.redo_lsn) (progress_in pass (history (take m pass.records)) image)) none ∙ ap (λ h. progress_in pass h image) (sym same)
+      let same : first (m + zero) (history pass.log) ≡ first m (history pass.log) = ap (λ n. first n (history pass.log)) (omega arith) in
+      let none : lsns_where (on_part pass.parting.part_of part) m (first (m + zero) (history pass.log)) ≡ [] =
+      lsns_none (on_part pass.parting.part_of part) m (first (m + zero) (history pass.log)) (omega (arith, size_of_first_le (m + zero) (history pass.log))) in
+      ap (fold (step (history pass.log) pass.redo_lsn) (progress_in pass (first m (history pass.log)) image)) none ∙ ap (λ h. progress_in pass h image) (sym same)
   stretch m (suc k) le =
-      let whole = history pass.records in
-      let log = history (take (m + k) pass.records) in
-      let r = get_or pass.records (m + k) CheckpointBegin in
-      let begun = progress_in pass (history (take m pass.records)) image in
+      let whole = (history pass.log) in
+      let log = first (m + k) (history pass.log) in
+      let found = behind (history pass.log) (m + k) (omega (arith, le)) in
+      let r = found.entry in
+      let begun = progress_in pass (first m (history pass.log)) image in
       let test = on_part pass.parting.part_of part in
       let f = step whole pass.redo_lsn in
-      let long : m + k < length pass.records = omega (arith, le) in
-      let count : size log ≡ m + k = size_of_beginning pass.records (m + k) (omega (arith, le)) in
-      let next : history (take (m + suc k) pass.records) ≡ log ▸ r = ap (λ n. history (take n pass.records)) (omega arith) ∙ history_more pass.records (m + k) CheckpointBegin long in
-      let lsns : lsns_where test m (history (take (m + suc k) pass.records)) ≡ cond (test r) (lsns_where test m log ++ suc (size log) ∷ []) (lsns_where test m log) =
+      let count : last_lsn log ≡ m + k = size_of_first (m + k) (history pass.log) (omega (arith, le)) in
+      let next : first (m + suc k) (history pass.log) ≡ log ▸ r = ap (λ n. first n (history pass.log)) (omega arith) ∙ found.next in
+      let lsns : lsns_where test m (first (m + suc k) (history pass.log)) ≡ cond (test r) (lsns_where test m log ++ suc (last_lsn log) ∷ []) (lsns_where test m log) =
       ap (lsns_where test m) next ∙ lsns_more test m log r (omega (arith, count)) in
       let before : fold f begun (lsns_where test m log) ≡ progress_in pass log image = stretch m k (omega (arith, le)) in
-      let after : progress_in pass (log ▸ r) image ≡ advance pass.redo_lsn (suc (size log)) r (progress_in pass log image) = advanced (rec_lsn_of image.number pass.dirty) pass.redo_lsn log r image in
-      let there : record_at whole (suc (size log)) ≡ Some r = ap (record_at whole) (omega (arith, count)) ∙ record_item pass.records (m + k) CheckpointBegin long in
+      let after : progress_in pass (log ▸ r) image ≡ advance pass.redo_lsn (suc (last_lsn log)) r (progress_in pass log image) = advanced (rec_lsn_of image.number pass.dirty) pass.redo_lsn log r image in
+      let there : record_at whole (suc (last_lsn log)) ≡ Some r = ap (record_at whole) (omega (arith, count)) ∙ found.there in
       elim (cases_Bool (test r)) [
         | inl is ↦
-            (ap (fold f begun) (lsns ∙ ap (λ b. cond b (lsns_where test m log ++ suc (size log) ∷ []) (lsns_where test m log)) is)
-            ∙ (fold_push f begun (lsns_where test m log) (suc (size log))
-            ∙ (ap (λ p. f p (suc (size log))) before
-            ∙ (ap (λ o. advance_by pass.redo_lsn (suc (size log)) o (progress_in pass log image)) there ∙ (sym after ∙ ap (λ h. progress_in pass h image) (sym next))))))
+            (ap (fold f begun) (lsns ∙ ap (λ b. cond b (lsns_where test m log ++ suc (last_lsn log) ∷ []) (lsns_where test m log)) is)
+            ∙ (fold_push f begun (lsns_where test m log) (suc (last_lsn log))
+            ∙ (ap (λ p. f p (suc (last_lsn log))) before
+            ∙ (ap (λ o. advance_by pass.redo_lsn (suc (last_lsn log)) o (progress_in pass log image)) there ∙ (sym after ∙ ap (λ h. progress_in pass h image) (sym next))))))
         | inr off ↦
-            (ap (fold f begun) (lsns ∙ ap (λ b. cond b (lsns_where test m log ++ suc (size log) ∷ []) (lsns_where test m log)) off)
+            (ap (fold f begun) (lsns ∙ ap (λ b. cond b (lsns_where test m log ++ suc (last_lsn log) ∷ []) (lsns_where test m log)) off)
             ∙ (before
-            ∙ (sym (off_part pass.parting.part_of part pass.redo_lsn (suc (size log)) r (progress_in pass log image) here off) ∙ (sym after ∙ ap (λ h. progress_in pass h image) (sym next)))))
+            ∙ (sym (off_part pass.parting.part_of part pass.redo_lsn (suc (last_lsn log)) r (progress_in pass log image) here off) ∙ (sym after ∙ ap (λ h. progress_in pass h image) (sym next)))))
       ]
 
 -- a record of the log that passes a test
@@ -116,35 +112,36 @@ not_looked_at (Some x) redo_lsn len k n le some =
     positive (suc r) z le = omega arith
 
 -- the records that redo skips change nothing
-pub skips_none : (pass : PassContent) (image : Page) (n : ℕ) → n ≤ skipped_in pass → n ≤ length pass.records → progress_in pass (history (take n pass.records)) image ≡ progress_in pass start image
-skips_none pass image zero le within = refl
+pub skips_none : (pass : PassContent) (image : Page) (n : ℕ) → n ≤ skipped_in pass → n ≤ last_lsn (history pass.log) → progress_in pass (first n (history pass.log)) image ≡ progress_in pass start image
+skips_none pass image zero le within = ap (λ h. progress_in pass h image) (first_none (history pass.log))
 skips_none pass image (suc n) le within =
-    let log = history (take n pass.records) in
-    let r = get_or pass.records n CheckpointBegin in
-    let count : size log ≡ n = size_of_beginning pass.records n (omega (arith, within)) in
+    let log = first n (history pass.log) in
+    let found = behind (history pass.log) n (omega (arith, within)) in
+    let r = found.entry in
+    let count : last_lsn log ≡ n = size_of_first n (history pass.log) (omega (arith, within)) in
     let same : suc n ≡ n + 1 = omega arith in
-    let next : history (take (suc n) pass.records) ≡ log ▸ r = ap (λ k. history (take k pass.records)) same ∙ history_more pass.records n CheckpointBegin within in
+    let next : first (suc n) (history pass.log) ≡ log ▸ r = ap (λ k. first k (history pass.log)) same ∙ found.next in
     ap (λ h. progress_in pass h image) next
     ∙ (advanced (rec_lsn_of image.number pass.dirty) pass.redo_lsn log r image
-    ∙ (advance_had pass.redo_lsn (suc (size log)) r (progress_in pass log image) (not_looked_at (rec_lsn_of image.number pass.dirty) pass.redo_lsn (length pass.records) (progress_in pass log image).page.lsn (suc (size log)) (omega (arith, count, le)) (omega arith))
+    ∙ (advance_had pass.redo_lsn (suc (last_lsn log)) r (progress_in pass log image) (not_looked_at (rec_lsn_of image.number pass.dirty) pass.redo_lsn (last_lsn (history pass.log)) (progress_in pass log image).page.lsn (suc (last_lsn log)) (omega (arith, count, le)) (omega arith))
     ∙ skips_none pass image n (omega (arith, le)) (omega (arith, within))))
 
 -- COUNTS
-pub applied_within : (rec_lsn : Option ℕ) (redo_lsn : ℕ) (image : Page) (log : History) → applied rec_lsn redo_lsn image log ≤ size log
+pub applied_within : (rec_lsn : Option ℕ) (redo_lsn : ℕ) (image : Page) (log : History) → applied rec_lsn redo_lsn image log ≤ last_lsn log
 applied_within rec_lsn redo_lsn image start = omega arith
 applied_within rec_lsn redo_lsn image (log ▸ r) =
     let fewer = applied_within rec_lsn redo_lsn image log in
     let more : (progress_at rec_lsn redo_lsn (log ▸ r) image).applied ≤ suc (applied rec_lsn redo_lsn image log) =
-    subst (λ (p : Progress). p.applied ≤ suc (applied rec_lsn redo_lsn image log)) (sym (advanced rec_lsn redo_lsn log r image)) (advance_count redo_lsn (suc (size log)) r (progress_at rec_lsn redo_lsn log image)) in
+    subst (λ (p : Progress). p.applied ≤ suc (applied rec_lsn redo_lsn image log)) (sym (advanced rec_lsn redo_lsn log r image)) (advance_count redo_lsn (suc (last_lsn log)) r (progress_at rec_lsn redo_lsn log image)) in
     omega (arith, more, fewer)
 
-pub lsns_few : (test : LogRecord → Bool) (from : ℕ) (log : History) → length (lsns_where test from log) ≤ size log - from
+pub lsns_few : (test : LogRecord → Bool) (from : ℕ) (log : History) → length (lsns_where test from log) ≤ last_lsn log - from
 lsns_few test from start = omega arith
 lsns_few test from (log ▸ r) =
-    cond_both (leb from (size log) && test r) (lsns_where test from log ++ suc (size log) ∷ []) (lsns_where test from log) (λ xs. length xs ≤ suc (size log) - from)
+    cond_both (leb from (last_lsn log) && test r) (lsns_where test from log ++ suc (last_lsn log) ∷ []) (lsns_where test from log) (λ xs. length xs ≤ suc (last_lsn log) - from)
     (λ e.
     omega
-    (arith, length-append (lsns_where test from log) (suc (size log) ∷ []), lsns_few test from log, leb-true from (size log) (and_parts (leb from (size log)) (test r) e).0))
+    (arith, length-append (lsns_where test from log) (suc (last_lsn log) ∷ []), lsns_few test from log, leb-true from (last_lsn log) (and_parts (leb from (last_lsn log)) (test r) e).0))
     (λ _. omega (arith, lsns_few test from log))
 
 -- THE PAGES OF A PART
@@ -154,22 +151,19 @@ pub lsns_found : (test : LogRecord → Bool) (from : ℕ) (log whole : History) 
 lsns_found test from start whole on = λ k d lt. absurd (omega arith)
 lsns_found test from (log ▸ r) whole on =
     let rest = lsns_found test from log whole (λ n x e. on n x (record_more log r n x e)) in
-    cond_both (leb from (size log) && test r) (lsns_where test from log ++ suc (size log) ∷ []) (lsns_where test from log) (All (λ lsn. IsFound test whole lsn))
-    (λ e. All-push (λ lsn. IsFound test whole lsn) (lsns_where test from log) (suc (size log)) rest (record { entry = r; there = on (suc (size log)) r (record_last log r); passes = (and_parts (leb from (size log)) (test r) e).1 }))
+    cond_both (leb from (last_lsn log) && test r) (lsns_where test from log ++ suc (last_lsn log) ∷ []) (lsns_where test from log) (All (λ lsn. IsFound test whole lsn))
+    (λ e. All-push (λ lsn. IsFound test whole lsn) (lsns_where test from log) (suc (last_lsn log)) rest (record { entry = r; there = on (suc (last_lsn log)) r (record_last log r); passes = (and_parts (leb from (last_lsn log)) (test r) e).1 }))
     (λ _. rest)
 
--- what stands in the first n records stands in the log
-found_first : (xs : List LogRecord) (n : ℕ) → n ≤ length xs → (k : ℕ) (r : LogRecord) → record_at (history (take n xs)) k ≡ Some r → record_at (history xs) k ≡ Some r
-found_first xs n le k r e =
-    ap (λ ys. record_at (history ys) k) (sym (take-append-drop n xs))
-    ∙ (ap (λ h. record_at h k) (after-append start (take n xs) (drop n xs))
-    ∙ (record_in_front (history (take n xs)) (drop n xs) k (record_within (history (take n xs)) k r e) ∙ e))
+-- what stands in the log up to an LSN stands in the log
+found_first : (lsn : ℕ) (log : History) → lsn ≤ last_lsn log → (k : ℕ) (r : LogRecord) → record_at (first lsn log) k ≡ Some r → record_at log k ≡ Some r
+found_first lsn log le k r e = sym (record_in_first lsn log k (omega (arith, record_within (first lsn log) k r e, size_of_first lsn log le))) ∙ e
 
 -- an image has its number
 pub image_number : (images : List Page) (number : ℕ) → AreNumbered images → number < length images → (image_at images number).number ≡ number
 image_number images number numbered lt = numbered.at_place number (record { number = number; lsn = 0; slots = replicate 16 None }) lt
 
-module _ (pass : PassContent) (part : ℕ) (numbered : AreNumbered pass.images) (dealt : length pass.parting.part_of ≡ length pass.images) (fits : length pass.records < 2 ^ 64) where
+module _ (pass : PassContent) (part : ℕ) (numbered : AreNumbered pass.images) (dealt : length pass.parting.part_of ≡ length pass.images) (fits : last_lsn (history pass.log) < 2 ^ 64) where
   -- a member has an image
   pub member_image : (members : List ℕ) → AreMembers pass.parting.part_of pass.parting.place_of part members → (k d : ℕ) → k < length members
       → (get_or members k d < length pass.images) × (slice_get pass.parting.part_of (image_at pass.images (get_or members k d)).number ≡ Some part)
@@ -192,19 +186,19 @@ module _ (pass : PassContent) (part : ℕ) (numbered : AreNumbered pass.images) 
       ∙ (ap (λ (p : Progress). p.page.number) (get_or-map at members k 0 (at 0) below) ∙ image_number pass.images (get_or members k 0) numbered (member_image members are k 0 below).0))
 
   -- the page of each noted record of the part stands among them
-  pub all_stand : (m n : ℕ) (ps : List Progress) (notes : List Note) → n ≤ length pass.records → IsUpTo pass part m ps
-      → map lsn_in notes ≡ lsns_where (on_part pass.parting.part_of part) m (history (take n pass.records)) → All (IsNote (history pass.records) pass.parting.place_of) notes
-      → All (Stands (history pass.records) pass.parting.place_of (numbers_of ps)) notes
+  pub all_stand : (m n : ℕ) (ps : List Progress) (notes : List Note) → n ≤ last_lsn (history pass.log) → IsUpTo pass part m ps
+      → map lsn_in notes ≡ lsns_where (on_part pass.parting.part_of part) m (first n (history pass.log)) → All (IsNote (history pass.log) pass.parting.place_of) notes
+      → All (Stands (history pass.log) pass.parting.place_of (numbers_of ps)) notes
   all_stand m n ps notes le up are noted k d lt =
-      let log = history (take m pass.records) in
-      let lsns = lsns_where (on_part pass.parting.part_of part) m (history (take n pass.records)) in
+      let log = first m (history pass.log) in
+      let lsns = lsns_where (on_part pass.parting.part_of part) m (first n (history pass.log)) in
       let numbers : numbers_of ps ≡ up.members = ap numbers_of up.redone ∙ numbers_are up.members log up.are in
       let note = get_or notes k d in
       let is = noted k d lt in
       let lsn : get_or lsns k 0 ≡ note.lsn = sym (ap (λ xs. get_or xs k 0) are) ∙ get_or-map lsn_in notes k d 0 lt in
       let below : k < length lsns = omega (arith, lt, ap (λ (xs : List ℕ). length xs) are, length-map notes lsn_in) in
-      let found = lsns_found (on_part pass.parting.part_of part) m (history (take n pass.records)) (history pass.records) (found_first pass.records n le) k 0 below in
-      let same : found.entry ≡ is.entry = some_same (sym found.there ∙ (ap (record_at (history pass.records)) lsn ∙ is.there)) in
+      let found = lsns_found (on_part pass.parting.part_of part) m (first n (history pass.log)) (history pass.log) (found_first n (history pass.log) le) k 0 below in
+      let same : found.entry ≡ is.entry = same_Some _ _ (sym found.there ∙ (ap (record_at (history pass.log)) lsn ∙ is.there)) in
       let named : page_named is.entry ≡ Some is.page = page_of_cell is.entry is.page note.slot is.cell in
       let given : slice_get pass.parting.part_of is.page ≡ Some part = part_is (slice_get pass.parting.part_of is.page) (sym (ap (λ o. is_part part (part_of_page pass.parting.part_of o)) (ap page_named same ∙ named)) ∙ found.passes) in
       let member = up.are.found is.page (omega (arith, slice_get_within pass.parting.part_of is.page part given, up.all)) given in
@@ -228,32 +222,32 @@ module _ (pass : PassContent) (part : ℕ) (numbered : AreNumbered pass.images) 
       part_is (Some x) e = ap Some (eqb-true x part e)
 
   -- no count of theirs can overflow
-  pub all_room : (m n : ℕ) (ps : List Progress) → m ≤ n → n ≤ length pass.records → IsUpTo pass part m ps
-      → All (λ p. p.applied + length (lsns_where (on_part pass.parting.part_of part) m (history (take n pass.records))) < 2 ^ 64) ps
+  pub all_room : (m n : ℕ) (ps : List Progress) → m ≤ n → n ≤ last_lsn (history pass.log) → IsUpTo pass part m ps
+      → All (λ p. p.applied + length (lsns_where (on_part pass.parting.part_of part) m (first n (history pass.log))) < 2 ^ 64) ps
   all_room m n ps less le up k d lt =
-      let at : ℕ → Progress = λ number. progress_in pass (history (take m pass.records)) (image_at pass.images number) in
+      let at : ℕ → Progress = λ number. progress_in pass (first m (history pass.log)) (image_at pass.images number) in
       let below : k < length up.members = omega (arith, ap length up.redone, length-map up.members at) in
       let is : get_or ps k d ≡ at (get_or up.members k 0) = ap (λ xs. get_or xs k d) up.redone ∙ get_or-map at up.members k 0 d below in
       let image = image_at pass.images (get_or up.members k 0) in
-      let few = applied_within (rec_lsn_of image.number pass.dirty) pass.redo_lsn image (history (take m pass.records)) in
-      let count : (get_or ps k d).applied ≡ applied (rec_lsn_of image.number pass.dirty) pass.redo_lsn image (history (take m pass.records)) = ap (λ (p : Progress). p.applied) is in
+      let few = applied_within (rec_lsn_of image.number pass.dirty) pass.redo_lsn image (first m (history pass.log)) in
+      let count : (get_or ps k d).applied ≡ applied (rec_lsn_of image.number pass.dirty) pass.redo_lsn image (first m (history pass.log)) = ap (λ (p : Progress). p.applied) is in
       omega (
         arith,
         few,
         count,
-        lsns_few (on_part pass.parting.part_of part) m (history (take n pass.records)),
-        size_of_beginning pass.records m (omega (arith, less, le)),
-        size_of_beginning pass.records n le,
+        lsns_few (on_part pass.parting.part_of part) m (first n (history pass.log)),
+        size_of_first m (history pass.log) (omega (arith, less, le)),
+        size_of_first n (history pass.log) le,
         fits,
       )
 
   -- one stretch further
-  pub further : (m n : ℕ) (old new : List Progress) → m ≤ n → n ≤ length pass.records → IsUpTo pass part m old
-      → new ≡ map (λ p. fold (step (history pass.records) pass.redo_lsn) p (lsns_where (on_part pass.parting.part_of part) m (history (take n pass.records)))) old → IsUpTo pass part n new
+  pub further : (m n : ℕ) (old new : List Progress) → m ≤ n → n ≤ last_lsn (history pass.log) → IsUpTo pass part m old
+      → new ≡ map (λ p. fold (step (history pass.log) pass.redo_lsn) p (lsns_where (on_part pass.parting.part_of part) m (first n (history pass.log)))) old → IsUpTo pass part n new
   further m n old new less le up is =
-      let lsns = lsns_where (on_part pass.parting.part_of part) m (history (take n pass.records)) in
-      let run : Progress → Progress = λ p. fold (step (history pass.records) pass.redo_lsn) p lsns in
-      let at : ℕ → ℕ → Progress = λ i number. progress_in pass (history (take i pass.records)) (image_at pass.images number) in
+      let lsns = lsns_where (on_part pass.parting.part_of part) m (first n (history pass.log)) in
+      let run : Progress → Progress = λ p. fold (step (history pass.log) pass.redo_lsn) p lsns in
+      let at : ℕ → ℕ → Progress = λ i number. progress_in pass (first i (history pass.log)) (image_at pass.images number) in
       let sum : m + (n - m) ≡ n = omega (arith, less) in
       record {
         members = up.members;
@@ -268,7 +262,7 @@ module _ (pass : PassContent) (part : ℕ) (numbered : AreNumbered pass.images) 
             let here = (member_image up.members up.are k 0 below).1 in
             get_or-map run (map (at m) up.members) k (at 0 0) (at 0 0) (omega (arith, length-map up.members (at m), below))
             ∙ (ap run (get_or-map (at m) up.members k 0 (at 0 0) below)
-            ∙ (subst (λ i. fold (step (history pass.records) pass.redo_lsn) (at m (get_or up.members k 0)) (lsns_where (on_part pass.parting.part_of part) m (history (take i pass.records))) ≡ at i (get_or up.members k 0)) sum
+            ∙ (subst (λ i. fold (step (history pass.log) pass.redo_lsn) (at m (get_or up.members k 0)) (lsns_where (on_part pass.parting.part_of part) m (first i (history pass.log))) ≡ at i (get_or up.members k 0)) sum
             (stretch pass part image here m (n - m) (omega (arith, less, le)))
             ∙ sym (get_or-map (at n) up.members k 0 (at 0 0) below)))));
       }
@@ -276,7 +270,7 @@ module _ (pass : PassContent) (part : ℕ) (numbered : AreNumbered pass.images) 
   -- redo begins with the images
   pub begins : (ps : List Progress) → IsUpTo pass part 0 ps → IsUpTo pass part (skipped_in pass) ps
   begins ps up =
-      let at : ℕ → ℕ → Progress = λ i number. progress_in pass (history (take i pass.records)) (image_at pass.images number) in
+      let at : ℕ → ℕ → Progress = λ i number. progress_in pass (first i (history pass.log)) (image_at pass.images number) in
       let same : at 0 ≡ at (skipped_in pass) =
-      fun_ext (λ number. sym (skips_none pass (image_at pass.images number) (skipped_in pass) (omega arith) (skipped_within pass.redo_lsn (length pass.records)))) in
+      fun_ext (λ number. ap (λ h. progress_in pass h (image_at pass.images number)) (first_none (history pass.log)) ∙ sym (skips_none pass (image_at pass.images number) (skipped_in pass) (omega arith) (skipped_within pass.redo_lsn (last_lsn (history pass.log))))) in
       record { members = up.members; are = up.are; all = up.all; redone = up.redone ∙ ap (λ f. map f up.members) same }

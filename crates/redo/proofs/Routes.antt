@@ -8,7 +8,7 @@ use mathlib.Core.Logic.{dite}
 use native.Mathlib.Decide.{dec_lt}
 use Rattle.page.specs.declared.fault.Fault.{Fault}
 use Rattle.page.specs.declared.fault.Fault.TheVariants.{NoResource, NoSuchPage}
-use Rattle.wal.specs.Records.{LogRecord, History, start, ◌▸◌, size}
+use Rattle.wal.specs.Records.{LogRecord, History, start, ◌▸◌, last_lsn, history, LogContent}
 use Rattle.redo.specs.Changes.{lsns_where}
 use Rattle.redo.specs.Passes.{PassContent}
 use Rattle.redo.specs.declared.route.Route.{Route}
@@ -20,31 +20,31 @@ abbrev pub answered : Route → Result Route Fault
 answered route = Ok route
 
 -- nothing stands above the end of a log
-pub lsns_none : (test : LogRecord → Bool) (from : ℕ) (log : History) → size log ≤ from → lsns_where test from log ≡ []
+pub lsns_none : (test : LogRecord → Bool) (from : ℕ) (log : History) → last_lsn log ≤ from → lsns_where test from log ≡ []
 lsns_none test from start le = refl
 lsns_none test from (log ▸ r) le =
-    let b : leb from (size log) ≡ false = lt-leb from (size log) (omega arith) in
-    ap (λ t. cond (t && test r) (lsns_where test from log ++ suc (size log) ∷ []) (lsns_where test from log)) b ∙ lsns_none test from log (omega arith)
+    let b : leb from (last_lsn log) ≡ false = lt-leb from (last_lsn log) (omega arith) in
+    ap (λ t. cond (t && test r) (lsns_where test from log ++ suc (last_lsn log) ∷ []) (lsns_where test from log)) b ∙ lsns_none test from log (omega arith)
 
 -- stretch after stretch
-pub exist_join : (records : List LogRecord) (count a b c : ℕ) → ExistWithin records count a b → ExistWithin records count b c → ExistWithin records count a c
-exist_join records count a b c h g lsn r past within at = dite (dec_lt b lsn) (λ lt. g lsn r lt within at) (λ ge. h lsn r past (omega arith) at)
+pub exist_join : (log : LogContent) (count a b c : ℕ) → ExistWithin log count a b → ExistWithin log count b c → ExistWithin log count a c
+exist_join log count a b c h g lsn r past within at = dite (dec_lt b lsn) (λ lt. g lsn r lt within at) (λ ge. h lsn r past (omega arith) at)
 
-pub exist_none : (records : List LogRecord) (count a : ℕ) → ExistWithin records count a a
-exist_none records count a lsn r past within at = absurd (omega arith)
+pub exist_none : (log : LogContent) (count a : ℕ) → ExistWithin log count a a
+exist_none log count a lsn r past within at = absurd (omega arith)
 
 module _ (pass : PassContent) (workers : ℕ) where
   -- the records of the first k stretches
-  exist_first : (k : ℕ) → ((j : ℕ) → j < k → ExistWithin pass.records (length pass.images) (boundary_in pass workers j) (boundary_in pass workers (j + 1)))
-      → ExistWithin pass.records (length pass.images) (skipped_in pass) (boundary_in pass workers k)
+  exist_first : (k : ℕ) → ((j : ℕ) → j < k → ExistWithin pass.log (length pass.images) (boundary_in pass workers j) (boundary_in pass workers (j + 1)))
+      → ExistWithin pass.log (length pass.images) (skipped_in pass) (boundary_in pass workers k)
   exist_first zero h =
-      subst (ExistWithin pass.records (length pass.images) (skipped_in pass)) (sym (boundary_first (skipped_in pass) (length pass.records) workers)) (exist_none pass.records (length pass.images) (skipped_in pass))
+      subst (ExistWithin pass.log (length pass.images) (skipped_in pass)) (sym (boundary_first (skipped_in pass) (last_lsn (history pass.log)) workers)) (exist_none pass.log (length pass.images) (skipped_in pass))
   exist_first (suc k) h =
-      let here : ExistWithin pass.records (length pass.images) (boundary_in pass workers k) (boundary_in pass workers (suc k)) = subst (λ n. ExistWithin pass.records (length pass.images) (boundary_in pass workers k) (boundary_in pass workers n)) (omega arith) (h k (omega arith)) in
-      exist_join pass.records (length pass.images) (skipped_in pass) (boundary_in pass workers k) (boundary_in pass workers (suc k)) (exist_first k (λ j lt. h j (omega arith))) here
+      let here : ExistWithin pass.log (length pass.images) (boundary_in pass workers k) (boundary_in pass workers (suc k)) = subst (λ n. ExistWithin pass.log (length pass.images) (boundary_in pass workers k) (boundary_in pass workers n)) (omega arith) (h k (omega arith)) in
+      exist_join pass.log (length pass.images) (skipped_in pass) (boundary_in pass workers k) (boundary_in pass workers (suc k)) (exist_first k (λ j lt. h j (omega arith))) here
 
 -- all records that are looked at are on pages of the store
-pub all_exist : (pass : PassContent) (routes : List Route) → AreRoutes pass routes → ExistWithin pass.records (length pass.images) (skipped_in pass) (boundary_in pass (length routes) (length routes))
+pub all_exist : (pass : PassContent) (routes : List Route) → AreRoutes pass routes → ExistWithin pass.log (length pass.images) (skipped_in pass) (boundary_in pass (length routes) (length routes))
 all_exist pass [] are = absurd (let some = are.some in omega arith)
 all_exist pass (r ∷ rs) are = exist_first pass (length (r ∷ rs)) (length (r ∷ rs)) (λ j lt. (are.each j r lt).exist)
 
@@ -79,14 +79,14 @@ module _ (pass : PassContent) (results : List (Result Route Fault)) (each : IfEa
       ∙ ap (λ i. get_or (map answered routes ++ Err fault ∷ more) i (Err fault)) (sym count)
       ∙ get_or-append_seam (map answered routes) (Err fault) more (Err fault) in
       let cause : RouteFault pass (boundary_in pass n k) (boundary_in pass n (k + 1)) fault = subst (IfRoute pass n k) at (each k (Err fault) within) in
-      let exist : ExistWithin pass.records (length pass.images) (skipped_in pass) (boundary_in pass n k) = exist_first pass n k (exist_of routes are) in
+      let exist : ExistWithin pass.log (length pass.images) (skipped_in pass) (boundary_in pass n k) = exist_first pass n k (exist_of routes are) in
       of fault exist cause
     where
-      exist_of : (rs : List Route) → results ≡ map answered rs ++ Err fault ∷ more → (j : ℕ) → j < length rs → ExistWithin pass.records (length pass.images) (boundary_in pass (length results) j) (boundary_in pass (length results) (j + 1))
+      exist_of : (rs : List Route) → results ≡ map answered rs ++ Err fault ∷ more → (j : ℕ) → j < length rs → ExistWithin pass.log (length pass.images) (boundary_in pass (length results) j) (boundary_in pass (length results) (j + 1))
       exist_of [] is j lt = absurd (omega arith)
       exist_of (r ∷ rs) is j lt = (route_at (r ∷ rs) (Err fault ∷ more) is j r lt).exist
 
-      of : (e : Fault) → ExistWithin pass.records (length pass.images) (skipped_in pass) (boundary_in pass (length results) (length routes)) → RouteFault pass (boundary_in pass (length results) (length routes)) (boundary_in pass (length results) (length routes + 1)) e → RoundFault pass e
+      of : (e : Fault) → ExistWithin pass.log (length pass.images) (skipped_in pass) (boundary_in pass (length results) (length routes)) → RouteFault pass (boundary_in pass (length results) (length routes)) (boundary_in pass (length results) (length routes + 1)) e → RoundFault pass e
       of NoResource exist cause = tt
       of (NoSuchPage lsn) exist cause =
           let m = cause.1 in
@@ -95,6 +95,6 @@ module _ (pass : PassContent) (results : List (Result Route Fault)) (each : IfEa
             past = omega (arith, m.past);
             there = m.there;
             beyond = m.beyond;
-            before = exist_join pass.records (length pass.images) (skipped_in pass) (boundary_in pass (length results) (length routes)) (lsn - 1) exist m.before;
+            before = exist_join pass.log (length pass.images) (skipped_in pass) (boundary_in pass (length results) (length routes)) (lsn - 1) exist m.before;
           }
       of e exist cause = absurd cause

@@ -1,20 +1,21 @@
 -- Pages by LSNs alone: what a tally tells of a page.
 use Rattle.std.proofs.Common.{◌≡◌, ℕ, zero, suc, ◌<◌, false, cond, eqb, List, [], ◌∷◌, Option, Some, None, map, replicate, length, get_or, set, refl, sym, ap, ◌∙◌, inl, inr, arith, ne_eqb, eq-eqb}
+use Rattle.std.specs.Prelude.{option_map}
 use Rattle.std.specs.List.{slice_get}
 use Rattle.std.proofs.lemmas.Bool.{cases_Bool}
 use Rattle.std.proofs.lemmas.List.{length-map, get_or-map, map-set}
+use Rattle.std.proofs.lemmas.Option.{same_Some}
 use Rattle.page.specs.Image.{Image}
-use Rattle.wal.specs.Records.{LogRecord, Update, Compensation, Commit, Abort, End, CheckpointBegin, CheckpointEnd, History, start, history, record_at}
-use Rattle.wal.specs.Meaning.{image_of, image_in}
+use Rattle.wal.specs.Records.{LogRecord, History, start, history, record_at}
+use Rattle.wal.specs.Meaning.{cell_of, Change, change_of, image_put, image_of, image_in}
 use Rattle.wal.specs.Redo.{is_redone, rec_lsn_of}
 use Rattle.wal.proofs.Histories.{record_none}
 use Rattle.redo.specs.declared.progress.Progress.{Progress}
 use Rattle.redo.specs.declared.tally.Tally.{Tally}
 use Rattle.redo.specs.declared.note.Note.{Note}
-use Rattle.redo.specs.Changes.{cell_named, put, advance, advance_by, step, counted, held_after, slots_after}
+use Rattle.redo.specs.Changes.{put, changed_by, advance, advance_by, step, counted, held_after, slots_after}
 use Rattle.redo.specs.Passes.{PassContent}
 use Rattle.redo.specs.Rounds.{Stands, numbers_of, progress_in, image_at, resolved}
-use Rattle.redo.proofs.Reading.{some_same}
 use Rattle.redo.proofs.Alone.{alone_within, put_alone}
 use Rattle.redo.proofs.Replay.{image_begun, page_of_cell}
 
@@ -27,20 +28,15 @@ positive log zero r there = absurd (none (sym (record_none log zero (inl refl)) 
 positive log (suc n) r there = ne_eqb (suc n) 0 (λ e. omega (arith, e))
 
 -- a record in a cell of a page puts its image there
-does : (redo_lsn lsn : ℕ) (r : LogRecord) (page slot : ℕ) → cell_named r ≡ Some (page, slot) → (p : Progress) → page ≡ p.page.number → advance redo_lsn lsn r p ≡ put redo_lsn lsn slot (image_of r) p
-does redo_lsn lsn (Update u) page slot e p here =
-    let own : u.page ≡ page = ap (λ (x : ℕ × ℕ). x.0) (some_same e) in
-    let at : u.slot ≡ slot = ap (λ (x : ℕ × ℕ). x.1) (some_same e) in
-    ap (λ b. cond b (put redo_lsn lsn u.slot u.after p) p) (eq-eqb u.page p.page.number (own ∙ here)) ∙ ap (λ s. put redo_lsn lsn s u.after p) at
-does redo_lsn lsn (Compensation c) page slot e p here =
-    let own : c.page ≡ page = ap (λ (x : ℕ × ℕ). x.0) (some_same e) in
-    let at : c.slot ≡ slot = ap (λ (x : ℕ × ℕ). x.1) (some_same e) in
-    ap (λ b. cond b (put redo_lsn lsn c.slot c.image p) p) (eq-eqb c.page p.page.number (own ∙ here)) ∙ ap (λ s. put redo_lsn lsn s c.image p) at
-does redo_lsn lsn (Commit s) page slot e p here = absurd (cc)
-does redo_lsn lsn (Abort s) page slot e p here = absurd (cc)
-does redo_lsn lsn (End s) page slot e p here = absurd (cc)
-does redo_lsn lsn CheckpointBegin page slot e p here = absurd (cc)
-does redo_lsn lsn (CheckpointEnd b t d) page slot e p here = absurd (cc)
+does : (redo_lsn lsn : ℕ) (r : LogRecord) (page slot : ℕ) → cell_of r ≡ Some (page, slot) → (p : Progress) → page ≡ p.page.number → advance redo_lsn lsn r p ≡ put redo_lsn lsn slot (image_of r) p
+does redo_lsn lsn r page slot e p here = by (change_of r) e
+  where
+    by : (o : Option Change) → ◌≡◌ {A = Option (ℕ × ℕ)} (option_map (λ c. (c.page, c.slot)) o) (Some (page, slot)) → changed_by redo_lsn lsn o p ≡ put redo_lsn lsn slot (image_put o) p
+    by None e = absurd (cc)
+    by (Some c) e =
+        let own : c.page ≡ page = ap (λ (x : ℕ × ℕ). x.0) (same_Some _ _ e) in
+        let at : c.slot ≡ slot = ap (λ (x : ℕ × ℕ). x.1) (same_Some _ _ e) in
+        ap (λ b. cond b (put redo_lsn lsn c.slot c.image p) p) (eq-eqb c.page p.page.number (own ∙ here)) ∙ ap (λ s. put redo_lsn lsn s c.image p) at
 
 -- SLOTS
 -- one LSN changed is one slot changed
@@ -68,22 +64,22 @@ slots_count log [] (x ∷ xs) e = absurd (omega (arith, e))
 slots_count log (l ∷ ls) (x ∷ xs) e = ap suc (slots_count log ls xs (omega (arith, e)))
 
 -- A RECORD MORE
-pub counted_put : (pass : PassContent) (redo_lsn lsn slot : ℕ) (r : LogRecord) (t : Tally) → record_at (history pass.records) lsn ≡ Some r
+pub counted_put : (pass : PassContent) (redo_lsn lsn slot : ℕ) (r : LogRecord) (t : Tally) → record_at (history pass.log) lsn ≡ Some r
     → resolved pass (counted redo_lsn lsn slot t) ≡ put redo_lsn lsn slot (image_of r) (resolved pass t)
 counted_put pass redo_lsn lsn slot r t there =
     elim (cases_Bool (is_redone t.rec_lsn redo_lsn t.lsn lsn)) [
       | inl lacking ↦
-          (let held : (x : Image) → held_after (history pass.records) lsn x ≡ image_of r =
-          λ x. ap (λ b. cond b x (image_in (record_at (history pass.records) lsn))) (positive (history pass.records) lsn r there) ∙ ap image_in there in
-          let slots = slots_set (history pass.records) t.lasts (image_at pass.images t.number).slots slot lsn (image_of r) held in
+          (let held : (x : Image) → held_after (history pass.log) lsn x ≡ image_of r =
+          λ x. ap (λ b. cond b x (image_in (record_at (history pass.log) lsn))) (positive (history pass.log) lsn r there) ∙ ap image_in there in
+          let slots = slots_set (history pass.log) t.lasts (image_at pass.images t.number).slots slot lsn (image_of r) held in
           rw lacking (ap (λ xs. record { page = record { number = t.number; lsn = lsn; slots = xs }; rec_lsn = t.rec_lsn; applied = suc t.applied }) slots))
       | inr over ↦ rw over refl
     ]
 
 -- a noted record, counted for its page, is that record applied to the pages
-pub counted_alone : (pass : PassContent) (ts new : List Tally) (n : Note) → Stands (history pass.records) pass.parting.place_of (numbers_of (map (resolved pass) ts)) n
+pub counted_alone : (pass : PassContent) (ts new : List Tally) (n : Note) → Stands (history pass.log) pass.parting.place_of (numbers_of (map (resolved pass) ts)) n
     → ((d : Tally) → new ≡ set ts n.place (counted pass.redo_lsn n.lsn n.slot (get_or ts n.place d)))
-    → map (resolved pass) new ≡ map (λ p. step (history pass.records) pass.redo_lsn p n.lsn) (map (resolved pass) ts)
+    → map (resolved pass) new ≡ map (λ p. step (history pass.log) pass.redo_lsn p n.lsn) (map (resolved pass) ts)
 counted_alone pass [] new n stands is = absurd (let lt = alone_within pass.parting.place_of [] stands.page stands.alone in omega arith)
 counted_alone pass (q ∷ qs) new n stands is =
     let ts = q ∷ qs in
@@ -107,8 +103,8 @@ pub begun_page : (pass : PassContent) (number : ℕ) (rec_lsn : Option ℕ) → 
     → resolved pass (record { number = number; lsn = (image_at pass.images number).lsn; rec_lsn = rec_lsn; applied = 0; lasts = replicate 16 0 }) ≡ progress_in pass start (image_at pass.images number)
 begun_page pass number rec_lsn own count listed =
     let image = image_at pass.images number in
-    let slots : slots_after (history pass.records) (replicate 16 0) image.slots ≡ image.slots =
-    ap (λ n. slots_after (history pass.records) (replicate n 0) image.slots) (sym count) ∙ slots_none (history pass.records) image.slots in
+    let slots : slots_after (history pass.log) (replicate 16 0) image.slots ≡ image.slots =
+    ap (λ n. slots_after (history pass.log) (replicate n 0) image.slots) (sym count) ∙ slots_none (history pass.log) image.slots in
     ap (λ xs. record { page = record { number = number; lsn = image.lsn; slots = xs }; rec_lsn = rec_lsn; applied = 0 }) slots
     ∙ (ap (λ n. record { page = record { number = n; lsn = image.lsn; slots = image.slots }; rec_lsn = rec_lsn; applied = 0 }) (sym own)
     ∙ (ap (λ o. record { page = image; rec_lsn = o; applied = 0 }) (listed ∙ ap (λ n. rec_lsn_of n pass.dirty) (sym own)) ∙ sym (image_begun pass image count)))

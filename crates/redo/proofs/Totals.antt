@@ -5,7 +5,7 @@ use Rattle.std.proofs.lemmas.List.Sums.{sum-map}
 use Rattle.std.proofs.lemmas.List.Recursion.{is_sum_by}
 use Rattle.page.specs.declared.page.Page.{Page}
 use Rattle.page.specs.Store.{AreNumbered}
-use Rattle.wal.specs.Records.{LogRecord, Update, Compensation, Commit, Abort, End, CheckpointBegin, CheckpointEnd, History, start, ◌▸◌, size}
+use Rattle.wal.specs.Records.{LogRecord, Update, Compensation, History, start, ◌▸◌, last_lsn}
 use Rattle.wal.specs.Meaning.{is_on}
 use Rattle.wal.specs.Redo.{is_redone, rec_lsn_of, applied}
 
@@ -13,11 +13,7 @@ use Rattle.wal.specs.Redo.{is_redone, rec_lsn_of, applied}
 on_one : (r : LogRecord) (p q : ℕ) → is_on p r ≡ true → is_on q r ≡ true → p ≡ q
 on_one (Update u) p q e f = sym (eqb-true u.page p e) ∙ eqb-true u.page q f
 on_one (Compensation c) p q e f = sym (eqb-true c.page p e) ∙ eqb-true c.page q f
-on_one (Commit _) p q e f = absurd (false≢true e)
-on_one (Abort _) p q e f = absurd (false≢true e)
-on_one (End _) p q e f = absurd (false≢true e)
-on_one CheckpointBegin p q e f = absurd (false≢true e)
-on_one (CheckpointEnd _ _ _) p q e f = absurd (false≢true e)
+on_one r p q e f = absurd (false≢true e)
 
 -- what pages have, added up
 abbrev total : (Page → ℕ) → List Page → ℕ
@@ -44,7 +40,7 @@ module _ (dirty : List (ℕ × ℕ)) (redo_lsn : ℕ) where
   one_count : (log : History) (r : LogRecord) (image : Page) → count (log ▸ r) image ≤ suc (count log image)
   unfolding count
   one_count log r image =
-      cond_both (is_on image.number r && is_redone (rec_lsn_of image.number dirty) redo_lsn image.lsn (suc (size log))) (suc (count log image)) (count log image) (λ n. n ≤ suc (count log image)) (λ _. omega arith) (λ _. omega arith)
+      cond_both (is_on image.number r && is_redone (rec_lsn_of image.number dirty) redo_lsn image.lsn (suc (last_lsn log))) (suc (count log image)) (count log image) (λ n. n ≤ suc (count log image)) (λ _. omega arith) (λ _. omega arith)
 
   none_more : (log : History) (r : LogRecord) (p a : ℕ) (images : List Page) → is_on p r ≡ true → p < a → AreFrom a images → total (count (log ▸ r)) images ≡ total (count log) images
   unfolding AreFrom
@@ -70,14 +66,14 @@ module _ (dirty : List (ℕ × ℕ)) (redo_lsn : ℕ) where
   none_yet [] = omega arith
   none_yet (image ∷ images) = omega (arith, none_yet images)
 
-  within : (log : History) (images : List Page) → AreFrom 0 images → total (count log) images ≤ size log
+  within : (log : History) (images : List Page) → AreFrom 0 images → total (count log) images ≤ last_lsn log
   within start images from = none_yet images
   within (log ▸ r) images from = omega (arith, within log images from, one_more log r 0 images from)
 
 -- so all pages together have at most as many as the log
-pub applied_once : (dirty : List (ℕ × ℕ)) (redo_lsn : ℕ) (log : History) (images : List Page) → AreNumbered images → sum (map (λ image. applied (rec_lsn_of image.number dirty) redo_lsn image log) images) ≤ size log
+pub applied_once : (dirty : List (ℕ × ℕ)) (redo_lsn : ℕ) (log : History) (images : List Page) → AreNumbered images → sum (map (λ image. applied (rec_lsn_of image.number dirty) redo_lsn image log) images) ≤ last_lsn log
 unfolding count AreFrom
 applied_once dirty redo_lsn log images numbered =
     let f : Page → ℕ = λ image. applied (rec_lsn_of image.number dirty) redo_lsn image log in
-    let few : total f images ≤ size log = within dirty redo_lsn log images (λ i d lt. numbered.at_place i d lt ∙ omega arith) in
+    let few : total f images ≤ last_lsn log = within dirty redo_lsn log images (λ i d lt. numbered.at_place i d lt ∙ omega arith) in
     omega (arith, few, sum-map f images, is_sum_by (total f) f refl (λ x xs. refl) images)

@@ -3,20 +3,17 @@ use Rattle.std.specs.Prelude.{◌≡◌, ℕ, suc, ◌<◌, List, [], ◌∷◌,
 use Rattle.std.specs.List.{slice_get}
 use Rattle.page.specs.Image.{Image}
 use Rattle.page.specs.declared.page.Page.{Page}
-use Rattle.wal.specs.Records.{LogRecord, Update, Compensation, History, start, ◌▸◌, size, record_at}
-use Rattle.wal.specs.Meaning.{change_of, image_in}
+use Rattle.wal.specs.Records.{LogRecord, History, start, ◌▸◌, last_lsn, record_at}
+use Rattle.wal.specs.Meaning.{Change, change_of, cell_of, image_in}
 use Rattle.wal.specs.Redo.{is_redone, redo_of, applied}
 use Rattle.redo.specs.declared.progress.Progress.{Progress}
 use Rattle.redo.specs.declared.tally.Tally.{Tally}
 use Rattle.redo.specs.declared.note.Note.{Note}
+use Rattle.page.specs.declared.sizes.TheConstants.{SLOTS}
 
 -- the page that an update or a CLR is on
 abbrev pub page_named : LogRecord → Option ℕ
-page_named r = option_map (λ c. c.page) (change_of r)
-
--- the page and the slot that an update or a CLR is in
-abbrev pub cell_named : LogRecord → Option (ℕ × ℕ)
-cell_named r = option_map (λ c. (c.page, c.slot)) (change_of r)
+page_named r = option_map (λ x. x.0) (cell_of r)
 
 -- a record is on no page past the count
 abbrev pub NamesBelow : ℕ → LogRecord → Type 0
@@ -39,7 +36,7 @@ on_part part_of part r = is_part part (part_of_page part_of (page_named r))
 abbrev pub lsns_where : (LogRecord → Bool) → (from : ℕ) → History → List ℕ
 lsns_where test from start = []
 lsns_where test from (log ▸ r) =
-    if nat_le from (size log) && test r then lsns_where test from log ++ suc (size log) ∷ [] else lsns_where test from log
+    if nat_le from (last_lsn log) && test r then lsns_where test from log ++ suc (last_lsn log) ∷ [] else lsns_where test from log
 
 -- the LSN of a note
 abbrev pub lsn_in : Note → ℕ
@@ -50,8 +47,8 @@ pub record IsNote (log : History) (place_of : List ℕ) (n : Note) : Type 0 wher
   pub entry : LogRecord
   pub there : record_at log n.lsn ≡ Some entry
   pub page : ℕ
-  pub cell : cell_named entry ≡ Some (page, n.slot)
-  pub small : n.slot < 16
+  pub cell : cell_of entry ≡ Some (page, n.slot)
+  pub small : n.slot < SLOTS
   pub place : slice_get place_of page ≡ Some n.place
 
 -- a page as redo has it when it has come to the end of a log, with how many records it applied
@@ -65,11 +62,14 @@ put redo_lsn lsn slot image p =
     then record { page = record { number = p.page.number; lsn = lsn; slots = slice_set p.page.slots slot image }; rec_lsn = p.rec_lsn; applied = suc p.applied }
     else p
 
+-- what a change by the record at an LSN makes of a page, if there is one
+abbrev pub changed_by : (redo_lsn lsn : ℕ) → Option Change → Progress → Progress
+changed_by redo_lsn lsn None p = p
+changed_by redo_lsn lsn (Some c) p = if c.page == p.page.number then put redo_lsn lsn c.slot c.image p else p
+
 -- what the record at an LSN does to a page
 abbrev pub advance : (redo_lsn lsn : ℕ) → LogRecord → Progress → Progress
-advance redo_lsn lsn (Update u) p = if u.page == p.page.number then put redo_lsn lsn u.slot u.after p else p
-advance redo_lsn lsn (Compensation c) p = if c.page == p.page.number then put redo_lsn lsn c.slot c.image p else p
-advance redo_lsn lsn _ p = p
+advance redo_lsn lsn r p = changed_by redo_lsn lsn (change_of r) p
 
 abbrev pub advance_by : (redo_lsn lsn : ℕ) → Option LogRecord → Progress → Progress
 advance_by redo_lsn lsn None p = p

@@ -2,10 +2,11 @@
 use Rattle.std.specs.Prelude.{◌≡◌, ℕ, ◌/◌, ◌%◌, List, [], ◌∷◌, length, slice_index_or}
 use Rattle.redo.specs.declared.note.Note.{Note}
 use Rattle.redo.specs.declared.note.NoteList.TheInside.{Inside}
+use Rattle.page.specs.declared.sizes.TheConstants.{SLOTS}
 
--- the cell of a number is the place and the slot, where the number is 16 times the place and the slot
+-- the cell of a number is the place and the slot, where the number is SLOTS times the place and the slot
 abbrev pub note_of : (lsn cell : ℕ) → Note
-note_of lsn cell = record { lsn = lsn; place = cell / 16; slot = cell % 16 }
+note_of lsn cell = record { lsn = lsn; place = cell / SLOTS; slot = cell % SLOTS }
 
 -- each LSN with the cell that stands beside it
 abbrev pub notes_of : (lsns cells : List ℕ) → List Note

@@ -6,6 +6,7 @@ use Rattle.page.specs.declared.fault.Fault.{Fault}
 use Rattle.page.specs.declared.fault.Fault.TheVariants.{NoResource, BadParting}
 use Rattle.redo.specs.declared.parting.Parting.TheInside.{Inside}
 use Rattle.redo.specs.Lists.{list_at}
+use Rattle.page.specs.declared.sizes.TheConstants.{PAGES}
 
 -- how many parts there are, the part of each page, and each page's place among the pages of its part
 pub record PartingContent : Type 0 where
@@ -13,9 +14,9 @@ pub record PartingContent : Type 0 where
   pub part_of : List ℕ
   pub place_of : List ℕ
 
--- sizes that pages and parts may have: 1 to 4,096
+-- so many pages, and so many parts, a parting may have
 abbrev pub IsSize : ℕ → Type 0
-IsSize n = (1 ≤ n) × (n ≤ 4096)
+IsSize n = (1 ≤ n) × (n ≤ PAGES)
 
 -- each page is given one of the parts
 pub record IsDealt (pages parts : ℕ) (part_of : List ℕ) : Type 0 where
@@ -55,7 +56,7 @@ pub record IsParting (s : Inside) : Type 0 where
   pub places : length s.place_of.items ≡ length s.part_of.items
   pub count : length s.members.items ≡ s.parts
   pub lists : AreLists s.part_of.items s.place_of.items s.members.items
-  pub low : All (λ place. place < 4096) s.place_of.items
+  pub low : All (λ place. place < PAGES) s.place_of.items
 
 -- page p has part p modulo the count
 abbrev pub by_number : (pages parts : ℕ) → List ℕ

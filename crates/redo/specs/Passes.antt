@@ -2,22 +2,22 @@
 use Rattle.std.specs.Prelude.{◌≡◌, ℕ, List, length}
 use Rattle.page.specs.declared.page.Page.{Page}
 use Rattle.page.specs.Store.{AreNumbered}
-use Rattle.wal.specs.Records.{LogRecord}
-use Rattle.analysis.specs.declared.tables.Tables.{Tables}
+use Rattle.wal.specs.Records.{LogContent}
+use Rattle.analysis.specs.Tables.{TablesContent}
 use Rattle.redo.specs.declared.pass.Pass.TheInside.{Inside}
 use Rattle.redo.specs.Parting.{PartingContent}
 
--- the records of the log, the pages of the store, the dirty page table and redo_lsn, and the parting
+-- the log, the pages of the store, the dirty page table and redo_lsn, and the parting
 pub record PassContent : Type 0 where
-  pub records : List LogRecord
+  pub log : LogContent
   pub images : List Page
   pub dirty : List (ℕ × ℕ)
   pub redo_lsn : ℕ
   pub parting : PartingContent
 
 -- these, taken from a log, pages, tables and a parting
-abbrev pub pass_over : List LogRecord → List Page → Tables → PartingContent → PassContent
-pass_over records images tables parting = record { records = records; images = images; dirty = tables.dirty.entries; redo_lsn = tables.redo_lsn; parting = parting }
+abbrev pub pass_over : LogContent → List Page → TablesContent → PartingContent → PassContent
+pass_over log images tables parting = record { log = log; images = images; dirty = tables.dirty; redo_lsn = tables.redo_lsn; parting = parting }
 
 -- what contracts see of a pass
 abbrev pub pass_of : Inside → PassContent

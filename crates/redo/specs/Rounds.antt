@@ -1,10 +1,11 @@
 -- What the two rounds of workers hand over (own).
-use Rattle.std.specs.Prelude.{◌≡◌, ℕ, ◌+◌, ◌-◌, ◌*◌, ◌/◌, ◌%◌, ◌<◌, ◌≤◌, List, [], All, Contains, Some, false, ◌==◌, if◌then◌else◌, min, length, take, slice_index_or, replicate, None, map, Result, MatchResult}
+use Rattle.std.specs.Prelude.{◌≡◌, ℕ, ◌+◌, ◌-◌, ◌*◌, ◌/◌, ◌%◌, ◌<◌, ◌≤◌, List, [], All, Contains, Some, false, ◌==◌, if◌then◌else◌, min, length, slice_index_or, replicate, None, map, Result, MatchResult}
 use Rattle.std.specs.List.{slice_get}
 use Rattle.page.specs.declared.fault.Fault.{Fault}
 use Rattle.page.specs.declared.fault.Fault.TheVariants.{NoResource, NoSuchPage}
 use Rattle.page.specs.declared.page.Page.{Page}
-use Rattle.wal.specs.Records.{LogRecord, History, history, record_at}
+use Rattle.wal.specs.Records.{LogRecord, History, LogContent, history, last_lsn, record_at, first}
+use Rattle.wal.specs.Meaning.{cell_of}
 use Rattle.wal.specs.Redo.{rec_lsn_of}
 use Rattle.wal.specs.declared.glance.Glance.{Glance}
 use Rattle.wal.specs.Glances.{glance_of}
@@ -18,40 +19,41 @@ use Rattle.redo.specs.declared.crew.Job.{Job}
 use Rattle.redo.specs.declared.crew.Share.{Share}
 use Rattle.redo.specs.Notes.{notes_at}
 use Rattle.redo.specs.Parting.{AreMembers}
-use Rattle.redo.specs.Changes.{cell_named, NamesBelow, on_part, lsns_where, lsn_in, IsNote, progress_at, slots_after}
+use Rattle.redo.specs.Changes.{NamesBelow, on_part, lsns_where, lsn_in, IsNote, progress_at, slots_after}
 use Rattle.redo.specs.Passes.{PassContent}
+use Rattle.page.specs.declared.sizes.TheConstants.{SLOTS}
 
 -- THE FIRST ROUND
--- how many records redo does not look at
-abbrev pub skipped : (redo_lsn length : ℕ) → ℕ
-skipped redo_lsn len = if redo_lsn == 0 then len else min len (redo_lsn - 1)
+-- the LSN up to which redo does not look at records
+abbrev pub skipped : (redo_lsn last : ℕ) → ℕ
+skipped redo_lsn last = if redo_lsn == 0 then last else min last (redo_lsn - 1)
 
 abbrev pub skipped_in : PassContent → ℕ
-skipped_in pass = skipped pass.redo_lsn (length pass.records)
+skipped_in pass = skipped pass.redo_lsn (last_lsn (history pass.log))
 
--- how many records stand before the stretch of a worker, where those behind the first `from` are cut into as many stretches as workers
-abbrev pub boundary : (from length workers worker : ℕ) → ℕ
-boundary from len workers worker = from + (len - from) / workers * worker + min worker ((len - from) % workers)
+-- the LSN below the stretch of a worker, where the LSNs above `from` up to the last are cut into as many stretches as workers
+abbrev pub boundary : (from last workers worker : ℕ) → ℕ
+boundary from last workers worker = from + (last - from) / workers * worker + min worker ((last - from) % workers)
 
 abbrev pub boundary_in : PassContent → (workers worker : ℕ) → ℕ
-boundary_in pass workers worker = boundary (skipped_in pass) (length pass.records) workers worker
+boundary_in pass workers worker = boundary (skipped_in pass) (last_lsn (history pass.log)) workers worker
 
 -- each record above `from` up to `to` is on a page below the count
-abbrev pub ExistWithin : List LogRecord → (count from to : ℕ) → Type 0
-ExistWithin records count from to = (lsn : ℕ) (r : LogRecord) → from < lsn → lsn ≤ to → record_at (history records) lsn ≡ Some r → NamesBelow count r
+abbrev pub ExistWithin : LogContent → (count from to : ℕ) → Type 0
+ExistWithin log count from to = (lsn : ℕ) (r : LogRecord) → from < lsn → lsn ≤ to → record_at (history log) lsn ≡ Some r → NamesBelow count r
 
 -- the first record above `from` on a page past the count
-pub record IsMissing (records : List LogRecord) (count from lsn : ℕ) : Type 0 where
+pub record IsMissing (log : LogContent) (count from lsn : ℕ) : Type 0 where
   pub entry : LogRecord
   pub past : from < lsn
-  pub there : record_at (history records) lsn ≡ Some entry
+  pub there : record_at (history log) lsn ≡ Some entry
   pub beyond : NamesBelow count entry → ⊥
-  pub before : ExistWithin records count from (lsn - 1)
+  pub before : ExistWithin log count from (lsn - 1)
 
 -- why a worker gives no lists
 abbrev pub RouteFault : PassContent → (from to : ℕ) → Fault → Type 0
 RouteFault pass from to NoResource = Unit {0}
-RouteFault pass from to (NoSuchPage lsn) = (lsn ≤ to) × IsMissing pass.records (length pass.images) from lsn
+RouteFault pass from to (NoSuchPage lsn) = (lsn ≤ to) × IsMissing pass.log (length pass.images) from lsn
 RouteFault pass from to e = ⊥
 
 -- what is seen at a glance is seen of a record that has a spelling
@@ -69,9 +71,9 @@ NoteFault count lsn r e = ⊥
 -- for each part the LSNs above `from` up to `to` of the records on its pages
 pub record IsRoute (pass : PassContent) (from to : ℕ) (route : Route) : Type 0 where
   pub count : length route.lists.items ≡ pass.parting.parts
-  pub lsns : (part : ℕ) → part < pass.parting.parts → map lsn_in (notes_at route.lists.items part) ≡ lsns_where (on_part pass.parting.part_of part) from (history (take to pass.records))
-  pub notes : (part : ℕ) → part < pass.parting.parts → All (IsNote (history pass.records) pass.parting.place_of) (notes_at route.lists.items part)
-  pub exist : ExistWithin pass.records (length pass.images) from to
+  pub lsns : (part : ℕ) → part < pass.parting.parts → map lsn_in (notes_at route.lists.items part) ≡ lsns_where (on_part pass.parting.part_of part) from (first to (history pass.log))
+  pub notes : (part : ℕ) → part < pass.parting.parts → All (IsNote (history pass.log) pass.parting.place_of) (notes_at route.lists.items part)
+  pub exist : ExistWithin pass.log (length pass.images) from to
 
 -- what one worker of so many answers
 abbrev pub IfRoute : PassContent → (workers worker : ℕ) → Result Route Fault → Type 0
@@ -85,7 +87,7 @@ IfEach pass results = (k : ℕ) (d : Result Route Fault) → k < length results 
 -- why the first round gives no routes
 abbrev pub RoundFault : PassContent → Fault → Type 0
 RoundFault pass NoResource = Unit {0}
-RoundFault pass (NoSuchPage lsn) = IsMissing pass.records (length pass.images) (skipped_in pass) lsn
+RoundFault pass (NoSuchPage lsn) = IsMissing pass.log (length pass.images) (skipped_in pass) lsn
 RoundFault pass e = ⊥
 
 -- so have all workers done
@@ -106,8 +108,8 @@ pub record Stands (log : History) (place_of numbers : List ℕ) (n : Note) : Typ
   pub entry : LogRecord
   pub there : record_at log n.lsn ≡ Some entry
   pub page : ℕ
-  pub cell : cell_named entry ≡ Some (page, n.slot)
-  pub small : n.slot < 16
+  pub cell : cell_of entry ≡ Some (page, n.slot)
+  pub small : n.slot < SLOTS
   pub alone : StandsAlone place_of numbers page
   pub place : n.place ≡ alone.place
 
@@ -121,19 +123,19 @@ progress_in pass log image = progress_at (rec_lsn_of image.number pass.dirty) pa
 
 -- the image of a page in the store; an empty page where it has none
 abbrev pub image_at : List Page → ℕ → Page
-image_at images number = slice_index_or images number (record { number = number; lsn = 0; slots = replicate 16 None })
+image_at images number = slice_index_or images number (record { number = number; lsn = 0; slots = replicate SLOTS None })
 
--- the pages of a part, redone up to the first n records
-pub record IsUpTo (pass : PassContent) (part n : ℕ) (ps : List Progress) : Type 0 where
+-- the pages of a part, redone up to an LSN
+pub record IsUpTo (pass : PassContent) (part lsn : ℕ) (ps : List Progress) : Type 0 where
   pub members : List ℕ
   pub are : AreMembers pass.parting.part_of pass.parting.place_of part members
   pub all : length pass.parting.place_of ≡ length pass.parting.part_of
-  pub redone : ps ≡ map (λ number. progress_in pass (history (take n pass.records)) (image_at pass.images number)) members
+  pub redone : ps ≡ map (λ number. progress_in pass (first lsn (history pass.log)) (image_at pass.images number)) members
 
 -- what a tally tells of a page: its image in the store, and the values of the records that are the last in their slots
 abbrev pub resolved : PassContent → Tally → Progress
 resolved pass t = record {
-  page = record { number = t.number; lsn = t.lsn; slots = slots_after (history pass.records) t.lasts (image_at pass.images t.number).slots };
+  page = record { number = t.number; lsn = t.lsn; slots = slots_after (history pass.log) t.lasts (image_at pass.images t.number).slots };
   rec_lsn = t.rec_lsn;
   applied = t.applied;
 }
@@ -142,7 +144,7 @@ resolved pass t = record {
 pub record IsDone (pass : PassContent) (p : Progress) : Type 0 where
   pub image : Page
   pub there : slice_get pass.images p.page.number ≡ Some image
-  pub redone : p ≡ progress_in pass (history pass.records) image
+  pub redone : p ≡ progress_in pass (history pass.log) image
 
 -- the page of a number is among these
 pub record HasPage (ps : List Progress) (page : ℕ) : Type 0 where
@@ -159,8 +161,8 @@ HasPart pass part ps = (page : ℕ) → slice_get pass.parting.part_of page ≡ 
 pub record IsPut (pass : PassContent) (pages : List Page) (counts : List ℕ) (number : ℕ) : Type 0 where
   pub image : Page
   pub there : slice_get pass.images number ≡ Some image
-  pub page : slice_get pages number ≡ Some ((progress_in pass (history pass.records) image).page)
-  pub count : slice_get counts number ≡ Some ((progress_in pass (history pass.records) image).applied)
+  pub page : slice_get pages number ≡ Some ((progress_in pass (history pass.log) image).page)
+  pub count : slice_get counts number ≡ Some ((progress_in pass (history pass.log) image).applied)
 
 -- so do the places of all pages of these parts
 abbrev pub ArePut : PassContent → List Page → List ℕ → (drawn : List ℕ) → Type 0

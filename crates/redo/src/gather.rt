@@ -96,7 +96,7 @@ pub fn assemble(
     ensures err { IfErr result (λ e. e ≡ NoResource) }
 {
     let _parts = parting.parts();
-    let _len = log.len();
+    let _last = log.last();
     let mut counts = vec![in alloc; 0; pages.len()]?;
     let seat = gather(
         log,

@@ -21,7 +21,7 @@ pub use gate::{Gate, OpenGate};
 pub use laws::{no_fault_of_redo, one_redo_fault};
 pub use parting::Parting;
 pub use redone::Redone;
-pub use rounds::{redo, redo_in_place};
+pub use rounds::{WORKERS, are_workers, redo, redo_in_place};
 
 #[cfg(test)]
 mod tests;

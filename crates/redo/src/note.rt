@@ -2,8 +2,9 @@
 
 ghost use Rattle.std.specs.Prelude.{◌≡◌, ◌<◌, [], ◌∷◌, ◌++◌, length, slice_index_or, OnOk, IfErr};
 ghost use Rattle.page.specs.declared.fault.Fault.TheVariants.{NoResource};
+ghost use Rattle.page.specs.declared.sizes.TheConstants.{PAGES, SLOTS};
 
-use page::Fault;
+use page::{Fault, SLOTS};
 use std::alloc::Global;
 use std::marker::Model;
 
@@ -16,7 +17,7 @@ pub struct Note {
     pub slot: u8,
 }
 
-/// Notes in 10 bytes each: beside the LSNs there is a number for each cell, 16 times the place and the
+/// Notes in 10 bytes each: beside the LSNs there is a number for each cell, `SLOTS` times the place and the
 /// slot. Contracts see the list of the notes.
 #[derive(Drop)]
 pub struct NoteList {
@@ -63,19 +64,20 @@ impl NoteList {
         let cell = self.cells[index];
         Note {
             lsn: self.lsns[index],
-            place: cell / 16,
-            slot: (cell % 16) as u8,
+            place: cell / SLOTS as u16,
+            slot: (cell % SLOTS as u16) as u8,
         }
     }
 
     /// Puts a note behind the others. The only error is `NoResource`.
     pub fn push(&mut self, note: Note) -> Result<(), Fault>
-        requires place { note.place < 4096 }
-        requires slot { note.slot < 16 }
+        requires place { note.place < PAGES }
+        requires slot { note.slot < SLOTS }
         ensures ok { OnOk result (self.new ≡ self.old ++ note ∷ []) }
         ensures err { IfErr result (λ e. e ≡ NoResource) }
     {
-        self.cells.push(16 * note.place + note.slot as u16)?;
+        self.cells
+            .push(SLOTS as u16 * note.place + note.slot as u16)?;
         match self.lsns.push(note.lsn) {
             Ok(()) => Ok(()),
             Err(_) => {

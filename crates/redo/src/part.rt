@@ -7,6 +7,7 @@ ghost use Rattle.wal.specs.Records.{start, history, record_at};
 ghost use Rattle.redo.specs.Changes.{counted, step, lsn_in, held_after, slots_after};
 ghost use Rattle.redo.specs.Rounds.{AreRoutes, IsUpTo, IsDone, HasPart, Stands, numbers_of, progress_in, image_at, resolved};
 ghost use Rattle.redo.specs.declared.tally.Tally.{Tally};
+ghost use Rattle.page.specs.declared.sizes.TheConstants.{SLOTS};
 
 use crate::gate::Entered;
 use crate::note::{Note, NoteList};
@@ -14,13 +15,13 @@ use crate::pass::Pass;
 use crate::progress::Progress;
 use crate::route::Route;
 use crate::tally::Tally;
-use page::{Fault, Page, Value};
+use page::{Fault, Page, SLOTS, Value};
 use std::alloc::Global;
 use wal::Log;
 
-/// A page has 16 slots.
-fn count_slots(slots: &[Option<Value>; 16]) -> usize
-    ensures { length slots.now ≡ 16 }
+/// How many slots a page has.
+fn count_slots(slots: &[Option<Value>; SLOTS]) -> usize
+    ensures { length slots.now ≡ SLOTS }
 {
     slots.len()
 }
@@ -29,7 +30,7 @@ fn count_slots(slots: &[Option<Value>; 16]) -> usize
 fn image(pass: &Pass, number: u32) -> Page
     ensures image { result ≡ image_at pass.now.images number }
     ensures number { result.number ≡ number }
-    ensures slots { length result.slots ≡ 16 }
+    ensures slots { length result.slots ≡ SLOTS }
 {
     let store = pass.store;
     let page = match store.pages.get(number as usize) {
@@ -65,7 +66,7 @@ fn begin(alloc: Global, pass: &Pass, part: u32) -> Result<Vec<Tally>, Fault>
 /// Counts the record at an LSN for the page at a place, if the page lacks it.
 fn count_at(tallies: &mut [Tally], place: usize, redo_lsn: u64, lsn: u64, slot: usize)
     requires place { place < length tallies.old }
-    requires slot { slot < 16 }
+    requires slot { slot < SLOTS }
     requires room { All (λ t. t.applied + 1 < 2 ^ 64) tallies.old }
     ensures { (d : Tally) → tallies.new ≡ slice_set tallies.old place (counted redo_lsn lsn slot (slice_index_or tallies.old place d)) }
 {
@@ -74,11 +75,11 @@ fn count_at(tallies: &mut [Tally], place: usize, redo_lsn: u64, lsn: u64, slot: 
 
 /// Counts a noted record of the log for its page, one of these.
 fn redo_noted(pass: &Pass, note: Note, tallies: &mut [Tally])
-    requires stands { Stands (history pass.now.records) pass.now.parting.place_of (numbers_of (map (resolved pass.now) tallies.old)) note }
+    requires stands { Stands (history pass.now.log) pass.now.parting.place_of (numbers_of (map (resolved pass.now) tallies.old)) note }
     requires room { All (λ p. p.applied + 1 < 2 ^ 64) (map (resolved pass.now) tallies.old) }
-    ensures { map (resolved pass.now) tallies.new ≡ map (λ p. step (history pass.now.records) pass.now.redo_lsn p note.lsn) (map (resolved pass.now) tallies.old) }
+    ensures { map (resolved pass.now) tallies.new ≡ map (λ p. step (history pass.now.log) pass.now.redo_lsn p note.lsn) (map (resolved pass.now) tallies.old) }
 {
-    let redo_lsn = pass.tables.redo_lsn;
+    let redo_lsn = pass.redo_lsn();
     count_at(
         tallies,
         note.place as usize,
@@ -90,9 +91,9 @@ fn redo_noted(pass: &Pass, note: Note, tallies: &mut [Tally])
 
 /// Counts noted records for the pages of a part, in this order.
 fn replay(pass: &Pass, notes: &NoteList, tallies: &mut [Tally])
-    requires stand { All (Stands (history pass.now.records) pass.now.parting.place_of (numbers_of (map (resolved pass.now) tallies.old))) notes.now }
+    requires stand { All (Stands (history pass.now.log) pass.now.parting.place_of (numbers_of (map (resolved pass.now) tallies.old))) notes.now }
     requires room { All (λ p. p.applied + length notes.now < 2 ^ 64) (map (resolved pass.now) tallies.old) }
-    ensures { map (resolved pass.now) tallies.new ≡ map (λ p. fold (step (history pass.now.records) pass.now.redo_lsn) p (map lsn_in notes.now)) (map (resolved pass.now) tallies.old) }
+    ensures { map (resolved pass.now) tallies.new ≡ map (λ p. fold (step (history pass.now.log) pass.now.redo_lsn) p (map lsn_in notes.now)) (map (resolved pass.now) tallies.old) }
 {
     for index in 0..notes.len() {
         redo_noted(pass, notes.get(index), tallies);
@@ -107,10 +108,10 @@ fn held(log: &Log, lsn: u64, image: Option<Value>) -> Option<Value>
 }
 
 /// Puts the values of the last records into their slots.
-fn fill(log: &Log, lasts: &[u64; 16], slots: &mut [Option<Value>; 16])
+fn fill(log: &Log, lasts: &[u64; SLOTS], slots: &mut [Option<Value>; SLOTS])
     ensures { slots.new ≡ slots_after (history log.now) lasts.now slots.old }
 {
-    for slot in 0..16 {
+    for slot in 0..SLOTS {
         slots[slot] = held(log, lasts[slot], slots[slot]);
     }
 }
@@ -137,7 +138,7 @@ fn count_part(alloc: Global, pass: &Pass, routes: &[Route], part: u32) -> Result
     ensures all { IfOk result (λ tallies. HasPart pass.now part (map (resolved pass.now) tallies.items)) }
     ensures err { IfErr result (λ e. e ≡ NoResource) }
 {
-    let _len = pass.log.len();
+    let _last = pass.log.last();
     let mut tallies = begin(alloc, pass, part)?;
     for route in routes {
         replay(pass, route.notes(part), &mut tallies);

@@ -5,9 +5,10 @@ ghost use Rattle.std.specs.List.{slice_get, range_with_len};
 ghost use Rattle.page.specs.declared.fault.Fault.TheVariants.{NoResource};
 ghost use Rattle.redo.specs.Lists.{list_at};
 ghost use Rattle.redo.specs.Parting.{IsSize, IsDealt, PartingFault, AreMembers, AreLists, by_number, NumberFault};
+ghost use Rattle.page.specs.declared.sizes.TheConstants.{PAGES};
 
 use crate::lists::{empty_lists, len_at, push_to};
-use page::Fault;
+use page::{Fault, PAGES};
 use std::alloc::Global;
 use std::marker::Model;
 
@@ -32,13 +33,6 @@ impl Model for Parting {
     ghost invariant = { IsParting };
 }
 
-/// Whether it is a number of pages or of parts that a parting may have.
-fn is_size(count: u32) -> bool
-    ensures { IsTrue result ↔ IsSize count }
-{
-    (1..=4096).contains(&count)
-}
-
 /// Whether each page is given a part below the count.
 fn are_below(parts: u32, part_of: &[u32]) -> bool
     ensures { IsTrue result ↔ All (λ part. part < parts) part_of.now }
@@ -52,7 +46,7 @@ fn index(alloc: Global, parts: u32, part_of: &[u32]) -> Result<(Vec<u16>, Vec<Ve
     ensures places { IfOk result (λ x. length x.0.items ≡ length part_of.now) }
     ensures count { IfOk result (λ x. length x.1.items ≡ parts) }
     ensures lists { IfOk result (λ x. AreLists part_of.now x.0.items x.1.items) }
-    ensures low { IfOk result (λ x. All (λ place. place < 4096) x.0.items) }
+    ensures low { IfOk result (λ x. All (λ place. place < PAGES) x.0.items) }
     ensures err { IfErr result (λ e. e ≡ NoResource) }
 {
     let mut place_of = Vec::new(alloc);
@@ -67,6 +61,13 @@ fn index(alloc: Global, parts: u32, part_of: &[u32]) -> Result<(Vec<u16>, Vec<Ve
 }
 
 impl Parting {
+    /// Whether a parting can have so many pages or so many parts: 1 to `page::PAGES`.
+    pub fn can_have(count: u32) -> bool
+        ensures { IsTrue result ↔ IsSize count }
+    {
+        (1..=PAGES as u32).contains(&count)
+    }
+
     /// The parting of so many pages into so many parts that gives page p the part `part_of[p]`.
     ///
     /// Answers [`Fault::BadParting`] where pages or parts are outside 1 to 4,096, there is not one entry
@@ -76,7 +77,7 @@ impl Parting {
         ensures dealt { OnOk result (IsDealt pages parts part_of.now) }
         ensures fault { IfErr result (PartingFault pages parts part_of.now) }
     {
-        if !is_size(pages) || !is_size(parts) {
+        if !Parting::can_have(pages) || !Parting::can_have(parts) {
             return Err(Fault::BadParting);
         }
         if part_of.len() != pages as usize || !are_below(parts, part_of) {
@@ -100,7 +101,7 @@ impl Parting {
         ensures sizes { OnOk result (IsSize pages × IsSize parts) }
         ensures fault { IfErr result (NumberFault pages parts) }
     {
-        if !is_size(pages) || !is_size(parts) {
+        if !Parting::can_have(pages) || !Parting::can_have(parts) {
             return Err(Fault::BadParting);
         }
         let mut part_of = Vec::new(alloc);

@@ -10,7 +10,7 @@ use std::marker::Model;
 use wal::Log;
 
 /// A log, a store, what analysis found and a parting of the store's pages, lent to all workers.
-/// Contracts see the records, the pages, the dirty page table with redo_lsn, and the parting.
+/// Contracts see the log, the pages, the dirty page table with redo_lsn, and the parting.
 #[derive(Drop)]
 pub struct Pass<'a> {
     pub log: &'a Log<'a>,
@@ -30,17 +30,25 @@ impl<'a> Model for Pass<'a> {
 }
 
 impl<'a> Pass<'a> {
-    /// How many records at the log's front redo does not look at: those below redo_lsn; all where it
-    /// is 0.
+    /// The LSN from which redo looks at records, 0 where it looks at none.
+    pub fn redo_lsn(&self) -> u64
+        ensures { result ≡ self.now.redo_lsn }
+    {
+        let tables = self.tables;
+        tables.redo_lsn
+    }
+
+    /// The LSN up to which redo does not look at records: the one below redo_lsn; the log's last where
+    /// redo_lsn is 0 or behind it.
     pub fn skipped(&self) -> u64
         ensures { result ≡ skipped_in self.now }
     {
-        let redo_lsn = self.tables.redo_lsn;
-        let len = self.log.len();
+        let redo_lsn = self.redo_lsn();
+        let last = self.log.last();
         if redo_lsn == 0 {
-            len
+            last
         } else {
-            len.min(redo_lsn - 1)
+            last.min(redo_lsn - 1)
         }
     }
 }

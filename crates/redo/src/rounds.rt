@@ -19,11 +19,14 @@ use std::alloc::Global;
 use std::thread::Threads;
 use wal::Log;
 
-/// Whether there may be so many workers.
-fn are_workers(workers: u32) -> bool
+/// How many workers redo has at most.
+pub const WORKERS: u32 = 64;
+
+/// Whether redo may have so many workers: 1 to [`WORKERS`].
+pub fn are_workers(workers: u32) -> bool
     ensures { IsTrue result ↔ AreWorkers workers }
 {
-    (1..=64).contains(&workers)
+    (1..=WORKERS).contains(&workers)
 }
 
 /// The second round of workers: each draws parts from a board and redoes them. The board, and what

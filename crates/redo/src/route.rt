@@ -2,11 +2,12 @@
 
 ghost use Rattle.std.specs.Prelude.{◌≡◌, ℕ, ◌+◌, ◌<◌, ◌≤◌, [], ◌∷◌, ◌++◌, All, Some, length, map, vec_len, slice_set, OnOk, IfOk, IfErr, MatchResult, if◌then◌else◌};
 ghost use Rattle.page.specs.declared.fault.Fault.TheVariants.{NoResource};
-ghost use Rattle.wal.specs.Records.{LogRecord, History, record_at};
+ghost use Rattle.wal.specs.Records.{LogRecord, History, record_at, last_lsn, history};
 ghost use Rattle.wal.specs.Glances.{glance_of};
 ghost use Rattle.redo.specs.Notes.{notes_at};
-ghost use Rattle.redo.specs.Changes.{cell_named, NamesBelow, on_part, lsn_in, IsNote};
+ghost use Rattle.redo.specs.Changes.{NamesBelow, on_part, lsn_in, IsNote};
 ghost use Rattle.redo.specs.Rounds.{IsRoute, AreRoutes, ExistWithin, RouteFault, IsSeen, NoteFault, IfRoute, IfEach, RoundFault, boundary_in};
+ghost use Rattle.page.specs.declared.sizes.TheConstants.{PAGES, SLOTS};
 
 use crate::Parting;
 use crate::note::{Note, NoteList};
@@ -50,25 +51,14 @@ fn empty_notes(alloc: Global, parts: u32) -> Result<Vec<NoteList>, Fault>
 /// Puts a note behind those for a part. The only error is `NoResource`.
 fn note_for(lists: &mut [NoteList], part: usize, note: Note) -> Result<(), Fault>
     requires part { part < length lists.old }
-    requires place { note.place < 4096 }
-    requires slot { note.slot < 16 }
+    requires place { note.place < PAGES }
+    requires slot { note.slot < SLOTS }
     ensures count { length lists.new ≡ length lists.old }
     ensures ok { OnOk result (lists.new ≡ slice_set lists.old part (notes_at lists.old part ++ note ∷ [])) }
     ensures err { IfErr result (λ e. e ≡ NoResource) }
 {
     lists[part].push(note)?;
     Ok(())
-}
-
-/// The page and the slot that a record is in.
-fn cell_of(glance: Glance) -> Option<(u32, u8)>
-    ensures { (r : LogRecord) → glance ≡ glance_of r → result ≡ cell_named r }
-{
-    match glance {
-        Glance::Update { page, slot, .. } => Some((page, slot)),
-        Glance::Compensation { page, slot, .. } => Some((page, slot)),
-        _ => None,
-    }
 }
 
 /// Notes a record for the part of its page.
@@ -86,7 +76,7 @@ fn put_note(
     ensures notes { OnOk result ((log : History) (r : LogRecord) → glance ≡ glance_of r → record_at log lsn ≡ Some r → (part : ℕ) → All (IsNote log parting.now.place_of) (notes_at lists.old part) → All (IsNote log parting.now.place_of) (notes_at lists.new part)) }
     ensures fault { IfErr result (λ e. (r : LogRecord) → glance ≡ glance_of r → NoteFault (length parting.now.part_of) lsn r e) }
 {
-    let Some((page, slot)) = cell_of(glance) else {
+    let Some((page, slot)) = glance.cell() else {
         return Ok(());
     };
     let Some(part) = parting.part_at(page) else {
@@ -97,32 +87,32 @@ fn put_note(
     Ok(())
 }
 
-/// The route through the records behind the first `from`, up to the first `to`. Refuses the first of
-/// them on a page that there is not by `NoSuchPage`.
+/// The route through the records with LSNs above `from`, up to `to`. Refuses the first of them on a page
+/// that there is not by `NoSuchPage`.
 fn route_through(alloc: Global, pass: &Pass, from: u64, to: u64) -> Result<Route, Fault>
     requires stretch { from ≤ to }
-    requires within { to ≤ length pass.now.records }
+    requires within { to ≤ last_lsn (history pass.now.log) }
     ensures ok { IfOk result (IsRoute pass.now from to) }
     ensures fault { IfErr result (RouteFault pass.now from to) }
 {
     let mut lists = empty_notes(alloc, pass.parting.parts())?;
-    for index in from..to {
-        let glance = pass.log.glance(index);
-        if let Err(fault) = put_note(pass.parting, glance, index + 1, &mut lists) {
+    for lsn in from..to {
+        let glance = pass.log.glance_after(lsn);
+        if let Err(fault) = put_note(pass.parting, glance, lsn + 1, &mut lists) {
             return Err(fault);
         }
     }
     Ok(Route { lists })
 }
 
-/// How many records stand before the stretch of a worker.
+/// The LSN below the stretch of a worker.
 fn boundary(pass: &Pass, workers: u32, worker: u64) -> u64
     requires workers { 0 < workers }
     requires worker { worker ≤ workers }
     ensures { result ≡ boundary_in pass.now workers worker }
 {
     let from = pass.skipped();
-    let count = pass.log.len() - from;
+    let count = pass.log.last() - from;
     let workers = workers as u64;
     from + count / workers * worker + worker.min(count % workers)
 }

@@ -3,6 +3,9 @@
 ghost use Rattle.std.specs.Prelude.{◌≡◌, ◌+◌, ◌<◌, ◌^◌, length, replicate};
 ghost use Rattle.wal.specs.Redo.{is_redone};
 ghost use Rattle.redo.specs.Changes.{counted};
+ghost use Rattle.page.specs.declared.sizes.TheConstants.{SLOTS};
+
+use page::SLOTS;
 
 /// What redo knows of a page before it fetches a value: of all the records that it applies to a slot
 /// the last alone counts.
@@ -17,20 +20,20 @@ pub struct Tally {
     /// How many records were applied to it.
     pub applied: u64,
     /// Of each slot the LSN of the record that was applied last, 0 for none.
-    pub lasts: [u64; 16],
+    pub lasts: [u64; SLOTS],
 }
 
 impl Tally {
     /// A page to which no record was applied.
     pub fn begin(number: u32, lsn: u64, rec_lsn: Option<u64>) -> Tally
-        ensures { result ≡ record { number = number; lsn = lsn; rec_lsn = rec_lsn; applied = 0; lasts = replicate 16 0 } }
+        ensures { result ≡ record { number = number; lsn = lsn; rec_lsn = rec_lsn; applied = 0; lasts = replicate SLOTS 0 } }
     {
         Tally {
             number,
             lsn,
             rec_lsn,
             applied: 0,
-            lasts: [0; 16],
+            lasts: [0; SLOTS],
         }
     }
 
@@ -48,7 +51,7 @@ impl Tally {
 
     /// Counts the record at this LSN, which is in a slot, if the page lacks it.
     pub fn count(&mut self, redo_lsn: u64, lsn: u64, slot: usize)
-        requires slot { slot < 16 }
+        requires slot { slot < SLOTS }
         requires room { self.old.applied + 1 < 2 ^ 64 }
         ensures { self.new ≡ counted redo_lsn lsn slot self.old }
     {

@@ -1,7 +1,7 @@
 use Rattle.std.proofs.Common.{◌≡◌, ℕ, ◌<◌, false, List, Contains, map, sum, length, sym, ap, ◌∙◌, subst, arith}
 use Rattle.page.specs.declared.page.Page.{Page}
 use Rattle.wal.specs.Records.{history}
-use Rattle.wal.proofs.Histories.{size_of_list}
+use Rattle.wal.proofs.Histories.{size_of_log}
 use Rattle.redo.specs.Passes.{PassContent, pass_over}
 use Rattle.redo.specs.Redone.{applied_to}
 use Rattle.redo.specs.Rounds.{ArePut}
@@ -31,10 +31,10 @@ total-applied-requires c =
     let counted : length counts ≡ length images = gathered.counts_count ∙ ap (λ (xs : List Page). length xs) lent in
     let same : c.deref.result.now ≡ counts = c.deref.ensures.value ∙ written_back c.in_ok-counts.counts.len c.in_ok-counts.counts.items counts (omega (arith, counted, c.in_ok-counts.ensures.len, c.len.ensures, c.args.pages.ok.0)) in
     let are : c.deref.result.now ≡ map (applied_to log tables) images = same ∙ counts_are pass pages counts put counted in
-    let few = applied_once tables.dirty.entries tables.redo_lsn (history log) images c.requires.numbered in
-    let count = c.len-len.ensures in
-    let bound = c.len-len.type_inv in
-    omega (arith, few, ap sum are, size_of_list log, count, bound)
+    let few = applied_once tables.dirty tables.redo_lsn (history log) images c.requires.numbered in
+    let count = c.last-last.ensures in
+    let bound = c.last-last.type_inv in
+    omega (arith, few, ap sum are, size_of_log log, count, bound)
 
 pub returns-clause-pages : goal.returns-clause-pages
 returns-clause-pages c =

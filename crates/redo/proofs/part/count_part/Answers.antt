@@ -1,16 +1,14 @@
-use Rattle.std.proofs.Common.{◌≡◌, ℕ, ◌+◌, ◌<◌, ◌≤◌, ◌^◌, List, All, map, take, length, sym, ap, ◌∙◌, subst, arith}
+use Rattle.std.proofs.Common.{◌≡◌, ℕ, ◌+◌, ◌<◌, ◌^◌, List, All, map, length, sym, ap, ◌∙◌, subst, arith}
 use Rattle.std.specs.List.{fold}
 use Rattle.std.proofs.lemmas.List.{length-map}
-use Rattle.page.specs.declared.page.Page.{Page}
-use Rattle.page.specs.Store.{AreNumbered}
-use Rattle.wal.specs.Records.{history}
+use Rattle.wal.specs.Records.{history, last_lsn, first}
 use Rattle.redo.specs.declared.progress.Progress.{Progress}
 use Rattle.redo.specs.declared.tally.Tally.{Tally}
-use Rattle.redo.specs.Notes.{notes_at}
-use Rattle.redo.specs.Changes.{on_part, lsns_where, step, lsn_in, IsNote}
-use Rattle.redo.specs.Rounds.{boundary_in, skipped_in, IsUpTo, IsRoute, Stands, numbers_of, resolved}
+use Rattle.redo.specs.Changes.{on_part, lsns_where, step, lsn_in}
+use Rattle.redo.specs.Rounds.{boundary_in, skipped_in, IsUpTo, Stands, numbers_of, resolved}
 use Rattle.redo.proofs.Reading.{written_back}
-use Rattle.redo.proofs.Stretches.{boundary_first, boundary_last, boundary_next, boundary_within, skipped_within}
+use Rattle.redo.proofs.Stretches.{boundary_first, boundary_last, skipped_within}
+use Rattle.redo.proofs.Counting.{sound, stretch}
 use Rattle.redo.proofs.Replay.{all_stand, all_room, further, begins}
 use Rattle.redo.proofs.Parts.{all_done, all_there}
 use Rattle.redo.proofs.part.count_part.Goals as goal
@@ -18,119 +16,79 @@ use Rattle.redo.proofs.part.count_part.Goals as goal
 pub loop-route-init : goal.loop-route-init
 loop-route-init c =
     let pass = c.args.pass.now in
-    let images = ap (λ p. p.images) c.pass.view_is in
-    let numbered : AreNumbered pass.images = subst AreNumbered images c.pass.invariant.numbered in
-    let dealt : length pass.parting.part_of ≡ length pass.images = sym (ap (λ p. length p.parting.part_of) c.pass.view_is) ∙ (c.pass.invariant.dealt ∙ ap (λ (xs : List Page). length xs) images) in
-    let fits : length pass.records < 2 ^ 64 = (let count = c.len-len.ensures in let bound = c.len-len.type_inv in omega (arith, count, bound, ap (λ p. length p.records) c.pass.view_is)) in
+    let known = sound _ pass c.last-last.result c.pass.view_is c.pass.invariant c.last-last.ensures c.last-last.type_inv in
     let ps = map (resolved pass) c.in_ok-tallies.tallies.items in
-    subst (λ n. IsUpTo pass c.args.part n ps) (sym (boundary_first (skipped_in pass) (length pass.records) (length c.args.routes.now)))
-    (begins pass c.args.part numbered dealt fits ps c.in_ok-tallies.ensures.begun)
+    subst (λ n. IsUpTo pass c.args.part n ps) (sym (boundary_first (skipped_in pass) (last_lsn (history pass.log)) (length c.args.routes.now)))
+    (begins pass c.args.part known.numbered known.dealt known.fits ps c.in_ok-tallies.ensures.begun)
 
 pub replay-requires-clause-stand : goal.replay-requires-clause-stand
 replay-requires-clause-stand c =
     let pass = c.args.pass.now in
-    let images = ap (λ p. p.images) c.pass.view_is in
-    let numbered : AreNumbered pass.images = subst AreNumbered images c.pass.invariant.numbered in
-    let dealt : length pass.parting.part_of ≡ length pass.images = sym (ap (λ p. length p.parting.part_of) c.pass.view_is) ∙ (c.pass.invariant.dealt ∙ ap (λ (xs : List Page). length xs) images) in
-    let fits : length pass.records < 2 ^ 64 = (let count = c.len-len.ensures in let bound = c.len-len.type_inv in omega (arith, count, bound, ap (λ p. length p.records) c.pass.view_is)) in
+    let known = sound _ pass c.last-last.result c.pass.view_is c.pass.invariant c.last-last.ensures c.last-last.type_inv in
     let workers = length c.args.routes.now in
     let k = c.loop-route.route-index in
-    let lt : k < workers = c.loop-route-test.true in
-    let len = length pass.records in
     let from = boundary_in pass workers k in
     let to = boundary_in pass workers (k + 1) in
-    let some : 0 < workers = c.requires.routes.some in
-    let next : from ≤ to = boundary_next (skipped_in pass) len workers k in
-    let within : to ≤ len = boundary_within (skipped_in pass) len workers (k + 1) (skipped_within pass.redo_lsn len) some (omega (arith, lt)) in
-    let route : IsRoute pass from to c.route-item.result = subst (IsRoute pass from to) (sym c.route-item.is) (c.requires.routes.each k c.route-item.result lt) in
     let notes = c.notes.result.now in
-    let noted : notes ≡ notes_at c.route-item.result.lists.items c.args.part = c.notes.ensures in
-    let lsns : map lsn_in notes ≡ lsns_where (on_part pass.parting.part_of c.args.part) from (history (take to pass.records)) = ap (map lsn_in) noted ∙ route.lsns c.args.part c.requires.part in
+    let walked = stretch pass c.args.routes.now c.args.part k c.route-item.result notes c.requires.routes c.requires.part c.loop-route-test.true c.route-item.is c.notes.ensures in
     let ps = map (resolved pass) c.loop-route.tallies.items in
     let lent : map (resolved pass) c.deref_mut.result.now ≡ ps = ap (map (resolved pass)) c.deref_mut.ensures.value in
-    let are : All (IsNote (history pass.records) pass.parting.place_of) notes = subst (All (IsNote (history pass.records) pass.parting.place_of)) (sym noted) (route.notes c.args.part c.requires.part) in
-    subst (λ (qs : List Progress). All (Stands (history pass.records) pass.parting.place_of (numbers_of qs)) notes) (sym lent)
-    (all_stand pass c.args.part numbered dealt fits from to ps notes within c.loop-route.invariant lsns are)
+    subst (λ (qs : List Progress). All (Stands (history pass.log) pass.parting.place_of (numbers_of qs)) notes) (sym lent)
+    (all_stand pass c.args.part known.numbered known.dealt known.fits from to ps notes walked.within c.loop-route.invariant walked.lsns walked.are)
 
 pub replay-requires-clause-room : goal.replay-requires-clause-room
 replay-requires-clause-room c =
     let pass = c.args.pass.now in
-    let images = ap (λ p. p.images) c.pass.view_is in
-    let numbered : AreNumbered pass.images = subst AreNumbered images c.pass.invariant.numbered in
-    let dealt : length pass.parting.part_of ≡ length pass.images = sym (ap (λ p. length p.parting.part_of) c.pass.view_is) ∙ (c.pass.invariant.dealt ∙ ap (λ (xs : List Page). length xs) images) in
-    let fits : length pass.records < 2 ^ 64 = (let count = c.len-len.ensures in let bound = c.len-len.type_inv in omega (arith, count, bound, ap (λ p. length p.records) c.pass.view_is)) in
+    let known = sound _ pass c.last-last.result c.pass.view_is c.pass.invariant c.last-last.ensures c.last-last.type_inv in
     let workers = length c.args.routes.now in
     let k = c.loop-route.route-index in
-    let lt : k < workers = c.loop-route-test.true in
-    let len = length pass.records in
     let from = boundary_in pass workers k in
     let to = boundary_in pass workers (k + 1) in
-    let some : 0 < workers = c.requires.routes.some in
-    let next : from ≤ to = boundary_next (skipped_in pass) len workers k in
-    let within : to ≤ len = boundary_within (skipped_in pass) len workers (k + 1) (skipped_within pass.redo_lsn len) some (omega (arith, lt)) in
-    let route : IsRoute pass from to c.route-item.result = subst (IsRoute pass from to) (sym c.route-item.is) (c.requires.routes.each k c.route-item.result lt) in
     let notes = c.notes.result.now in
-    let noted : notes ≡ notes_at c.route-item.result.lists.items c.args.part = c.notes.ensures in
-    let lsns : map lsn_in notes ≡ lsns_where (on_part pass.parting.part_of c.args.part) from (history (take to pass.records)) = ap (map lsn_in) noted ∙ route.lsns c.args.part c.requires.part in
+    let walked = stretch pass c.args.routes.now c.args.part k c.route-item.result notes c.requires.routes c.requires.part c.loop-route-test.true c.route-item.is c.notes.ensures in
     let ps = map (resolved pass) c.loop-route.tallies.items in
     let lent : map (resolved pass) c.deref_mut.result.now ≡ ps = ap (map (resolved pass)) c.deref_mut.ensures.value in
-    let count : length (lsns_where (on_part pass.parting.part_of c.args.part) from (history (take to pass.records))) ≡ length notes = sym (ap (λ (xs : List ℕ). length xs) lsns) ∙ length-map notes lsn_in in
+    let count : length (lsns_where (on_part pass.parting.part_of c.args.part) from (first to (history pass.log))) ≡ length notes = sym (ap (λ (xs : List ℕ). length xs) walked.lsns) ∙ length-map notes lsn_in in
     subst (All (λ p. p.applied + length notes < 2 ^ 64)) (sym lent)
     (subst (λ n. All (λ p. p.applied + n < 2 ^ 64) ps) count
-    (all_room pass c.args.part numbered dealt fits from to ps next within c.loop-route.invariant))
+    (all_room pass c.args.part known.numbered known.dealt known.fits from to ps walked.next walked.within c.loop-route.invariant))
 
 pub loop-route-preserved : goal.loop-route-preserved
 loop-route-preserved c =
     let pass = c.args.pass.now in
-    let images = ap (λ p. p.images) c.pass.view_is in
-    let numbered : AreNumbered pass.images = subst AreNumbered images c.pass.invariant.numbered in
-    let dealt : length pass.parting.part_of ≡ length pass.images = sym (ap (λ p. length p.parting.part_of) c.pass.view_is) ∙ (c.pass.invariant.dealt ∙ ap (λ (xs : List Page). length xs) images) in
-    let fits : length pass.records < 2 ^ 64 = (let count = c.len-len.ensures in let bound = c.len-len.type_inv in omega (arith, count, bound, ap (λ p. length p.records) c.pass.view_is)) in
+    let known = sound _ pass c.last-last.result c.pass.view_is c.pass.invariant c.last-last.ensures c.last-last.type_inv in
     let workers = length c.args.routes.now in
     let k = c.loop-route.route-index in
-    let lt : k < workers = c.loop-route-test.true in
-    let len = length pass.records in
     let from = boundary_in pass workers k in
     let to = boundary_in pass workers (k + 1) in
-    let some : 0 < workers = c.requires.routes.some in
-    let next : from ≤ to = boundary_next (skipped_in pass) len workers k in
-    let within : to ≤ len = boundary_within (skipped_in pass) len workers (k + 1) (skipped_within pass.redo_lsn len) some (omega (arith, lt)) in
-    let route : IsRoute pass from to c.route-item.result = subst (IsRoute pass from to) (sym c.route-item.is) (c.requires.routes.each k c.route-item.result lt) in
     let notes = c.notes.result.now in
-    let noted : notes ≡ notes_at c.route-item.result.lists.items c.args.part = c.notes.ensures in
-    let lsns : map lsn_in notes ≡ lsns_where (on_part pass.parting.part_of c.args.part) from (history (take to pass.records)) = ap (map lsn_in) noted ∙ route.lsns c.args.part c.requires.part in
+    let walked = stretch pass c.args.routes.now c.args.part k c.route-item.result notes c.requires.routes c.requires.part c.loop-route-test.true c.route-item.is c.notes.ensures in
     let ps = map (resolved pass) c.loop-route.tallies.items in
     let lent : map (resolved pass) c.deref_mut.result.now ≡ ps = ap (map (resolved pass)) c.deref_mut.ensures.value in
-    let log = history pass.records in
+    let log = (history pass.log) in
     let run : List ℕ → Progress → Progress = λ xs p. fold (step log pass.redo_lsn) p xs in
     let new = map (resolved pass) c.replay.new.tallies in
     let replayed : new ≡ map (run (map lsn_in notes)) (map (resolved pass) c.deref_mut.result.now) = c.replay.ensures in
-    let is : new ≡ map (run (lsns_where (on_part pass.parting.part_of c.args.part) from (history (take to pass.records)))) ps =
-    replayed ∙ (ap (λ (xs : List ℕ). map (run xs) (map (resolved pass) c.deref_mut.result.now)) lsns ∙ ap (map (run (lsns_where (on_part pass.parting.part_of c.args.part) from (history (take to pass.records))))) lent) in
+    let is : new ≡ map (run (lsns_where (on_part pass.parting.part_of c.args.part) from (first to (history pass.log)))) ps =
+    replayed ∙ (ap (λ (xs : List ℕ). map (run xs) (map (resolved pass) c.deref_mut.result.now)) walked.lsns ∙ ap (map (run (lsns_where (on_part pass.parting.part_of c.args.part) from (first to (history pass.log))))) lent) in
     let count : length c.replay.new.tallies ≡ c.loop-route.tallies.len = omega (arith, ap (λ (qs : List Progress). length qs) replayed, length-map (map (resolved pass) c.deref_mut.result.now) (run (map lsn_in notes)), length-map c.replay.new.tallies (resolved pass), length-map c.deref_mut.result.now (resolved pass), ap (λ (ts : List Tally). length ts) c.deref_mut.ensures.value, c.loop-route.tallies.ok.0) in
     subst (λ (ts : List Tally). IsUpTo pass c.args.part to (map (resolved pass) ts)) (sym (written_back c.loop-route.tallies.len c.loop-route.tallies.items c.replay.new.tallies count))
-    (further pass c.args.part numbered dealt fits from to ps new next within c.loop-route.invariant is)
+    (further pass c.args.part known.numbered known.dealt known.fits from to ps new walked.next walked.within c.loop-route.invariant is)
 
 pub returns-clause-done : goal.returns-clause-done
 returns-clause-done c =
     let pass = c.args.pass.now in
-    let images = ap (λ p. p.images) c.pass.view_is in
-    let numbered : AreNumbered pass.images = subst AreNumbered images c.pass.invariant.numbered in
-    let dealt : length pass.parting.part_of ≡ length pass.images = sym (ap (λ p. length p.parting.part_of) c.pass.view_is) ∙ (c.pass.invariant.dealt ∙ ap (λ (xs : List Page). length xs) images) in
-    let fits : length pass.records < 2 ^ 64 = (let count = c.len-len.ensures in let bound = c.len-len.type_inv in omega (arith, count, bound, ap (λ p. length p.records) c.pass.view_is)) in
+    let known = sound _ pass c.last-last.result c.pass.view_is c.pass.invariant c.last-last.ensures c.last-last.type_inv in
     let workers = length c.args.routes.now in
-    let last : boundary_in pass workers c.loop-route.route-index ≡ length pass.records =
+    let last : boundary_in pass workers c.loop-route.route-index ≡ last_lsn (history pass.log) =
     ap (boundary_in pass workers) (omega (arith, c.loop-route.auto.route-index-end, c.loop-route-test.false))
-    ∙ boundary_last (skipped_in pass) (length pass.records) workers (skipped_within pass.redo_lsn (length pass.records)) c.requires.routes.some in
+    ∙ boundary_last (skipped_in pass) (last_lsn (history pass.log)) workers (skipped_within pass.redo_lsn (last_lsn (history pass.log))) c.requires.routes.some in
     let ps = map (resolved pass) c.loop-route.tallies.items in
-    all_done pass c.args.part numbered dealt fits ps (subst (λ n. IsUpTo pass c.args.part n ps) last c.loop-route.invariant)
+    all_done pass c.args.part known.numbered known.dealt known.fits ps (subst (λ n. IsUpTo pass c.args.part n ps) last c.loop-route.invariant)
 
 pub returns-clause-all : goal.returns-clause-all
 returns-clause-all c =
     let pass = c.args.pass.now in
-    let images = ap (λ p. p.images) c.pass.view_is in
-    let numbered : AreNumbered pass.images = subst AreNumbered images c.pass.invariant.numbered in
-    let dealt : length pass.parting.part_of ≡ length pass.images = sym (ap (λ p. length p.parting.part_of) c.pass.view_is) ∙ (c.pass.invariant.dealt ∙ ap (λ (xs : List Page). length xs) images) in
-    let fits : length pass.records < 2 ^ 64 = (let count = c.len-len.ensures in let bound = c.len-len.type_inv in omega (arith, count, bound, ap (λ p. length p.records) c.pass.view_is)) in
+    let known = sound _ pass c.last-last.result c.pass.view_is c.pass.invariant c.last-last.ensures c.last-last.type_inv in
     let ps = map (resolved pass) c.loop-route.tallies.items in
-    all_there pass c.args.part numbered dealt fits (boundary_in pass (length c.args.routes.now) c.loop-route.route-index) ps c.loop-route.invariant
+    all_there pass c.args.part known.numbered known.dealt known.fits (boundary_in pass (length c.args.routes.now) c.loop-route.route-index) ps c.loop-route.invariant

@@ -25,4 +25,4 @@ count_at-requires-clause-room c = λ k d lt.
 pub returns : goal.returns
 returns c =
     counted_alone c.args.pass.now c.args.tallies.now c.count_at.new.tallies c.args.note c.requires.stands
-    (subst (λ r. (d : Tally) → c.count_at.new.tallies ≡ set c.args.tallies.now c.args.note.place (counted r c.args.note.lsn c.args.note.slot (get_or c.args.tallies.now c.args.note.place d))) (ap (λ p. p.redo_lsn) c.pass.view_is) c.count_at.ensures)
+    (subst (λ r. (d : Tally) → c.count_at.new.tallies ≡ set c.args.tallies.now c.args.note.place (counted r c.args.note.lsn c.args.note.slot (get_or c.args.tallies.now c.args.note.place d))) c.redo_lsn-redo_lsn.ensures c.count_at.ensures)

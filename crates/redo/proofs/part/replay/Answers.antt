@@ -11,7 +11,7 @@ use Rattle.redo.proofs.part.replay.Goals as goal
 pub loop-index-init : goal.loop-index-init
 loop-index-init c =
     let all : length c.args.notes.now ≡ length c.args.notes.now - 0 = omega arith in (
-      fold_none (history c.args.pass.now.records) c.args.pass.now.redo_lsn (map (resolved c.args.pass.now) c.args.tallies.now),
+      fold_none (history c.args.pass.now.log) c.args.pass.now.redo_lsn (map (resolved c.args.pass.now) c.args.tallies.now),
       refl,
       subst (λ n. All (λ p. p.applied + n < 2 ^ 64) (map (resolved c.args.pass.now) c.args.tallies.now)) all c.requires.room,
     )
@@ -19,7 +19,7 @@ loop-index-init c =
 pub loop-index-preserved : goal.loop-index-preserved
 loop-index-preserved c =
     let pass = c.args.pass.now in
-    let log = history pass.records in
+    let log = (history pass.log) in
     let redo_lsn = pass.redo_lsn in
     let lsns = map lsn_in c.args.notes.now in
     let i = c.loop-index.index in
@@ -41,4 +41,4 @@ returns c =
     let pass = c.args.pass.now in
     let lsns = map lsn_in c.args.notes.now in
     let end : length lsns ≤ c.loop-index.index = omega (arith, length-map c.args.notes.now lsn_in, c.loop-index-test.false, c.len-index-end.ensures) in
-    c.loop-index.invariant.0 ∙ ap (λ xs. map (λ p. fold (step (history pass.records) pass.redo_lsn) p xs) (map (resolved pass) c.args.tallies.now)) (take_all c.loop-index.index lsns end)
+    c.loop-index.invariant.0 ∙ ap (λ xs. map (λ p. fold (step (history pass.log) pass.redo_lsn) p xs) (map (resolved pass) c.args.tallies.now)) (take_all c.loop-index.index lsns end)

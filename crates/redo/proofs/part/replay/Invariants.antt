@@ -7,6 +7,6 @@ use Rattle.redo.proofs.part.replay.Given as goal
 
 abbrev pub invariant-loop-index : goal.invariant-loop-index
 invariant-loop-index l =
-    (map (resolved l.pass) l.tallies ≡ map (λ p. fold (step (history l.pass.records) l.pass.redo_lsn) p (take l.index (map lsn_in l.notes))) (map (resolved l.pass) l.fn.tallies))
+    (map (resolved l.pass) l.tallies ≡ map (λ p. fold (step (history l.pass.log) l.pass.redo_lsn) p (take l.index (map lsn_in l.notes))) (map (resolved l.pass) l.fn.tallies))
     × (numbers_of (map (resolved l.pass) l.tallies) ≡ numbers_of (map (resolved l.pass) l.fn.tallies))
     × All (λ p. p.applied + (length l.notes - l.index) < 2 ^ 64) (map (resolved l.pass) l.tallies)

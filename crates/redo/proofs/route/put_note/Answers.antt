@@ -1,7 +1,6 @@
 use Rattle.std.proofs.Common.{◌≡◌, ◌<◌, Some, length, refl, sym, ◌∙◌, subst, arith}
-use Rattle.std.proofs.lemmas.Option.{slice_get_within}
+use Rattle.std.proofs.lemmas.Option.{slice_get_within, same_Some}
 use Rattle.redo.specs.Changes.{page_named}
-use Rattle.redo.proofs.Reading.{some_same}
 use Rattle.redo.proofs.Replay.{page_of_cell}
 use Rattle.redo.proofs.Noting.{small_slot, notes_more, past_end, lsns_noted}
 use Rattle.redo.proofs.Notes.{noted}
@@ -19,7 +18,7 @@ place_of-place-requires c = omega (arith, slice_get_within c.args.parting.now.pa
 pub returns-clause-exists : goal.returns-clause-exists
 returns-clause-exists c = λ r seen page named.
     let own : page_named r ≡ Some c.in-Some.page = page_of_cell r c.in-Some.page c.in-Some.slot (sym (c.in-Some.ensures r seen)) in
-    let same : c.in-Some.page ≡ page = some_same (sym own ∙ named) in
+    let same : c.in-Some.page ≡ page = same_Some _ _ (sym own ∙ named) in
     subst (λ n. n < length c.args.parting.now.part_of) same (slice_get_within c.args.parting.now.part_of c.in-Some.page c.in-Some-part_at.part (sym c.in-Some-part_at.ensures.part))
 
 pub returns-clause-notes : goal.returns-clause-notes

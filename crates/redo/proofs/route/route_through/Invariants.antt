@@ -1,13 +1,13 @@
-use Rattle.std.proofs.Common.{◌≡◌, ℕ, ◌<◌, All, length, map, take}
-use Rattle.wal.specs.Records.{history}
+use Rattle.std.proofs.Common.{◌≡◌, ℕ, ◌<◌, All, length, map}
+use Rattle.wal.specs.Records.{history, first}
 use Rattle.redo.specs.Notes.{notes_at}
 use Rattle.redo.specs.Changes.{on_part, lsns_where, lsn_in, IsNote}
 use Rattle.redo.specs.Rounds.{ExistWithin}
 use Rattle.redo.proofs.route.route_through.Given as goal
 
-abbrev pub invariant-loop-index : goal.invariant-loop-index
-invariant-loop-index l =
+abbrev pub invariant-loop-lsn : goal.invariant-loop-lsn
+invariant-loop-lsn l =
     (length l.lists.items ≡ l.pass.parting.parts)
-    × ((part : ℕ) → part < l.pass.parting.parts → map lsn_in (notes_at l.lists.items part) ≡ lsns_where (on_part l.pass.parting.part_of part) l.from (history (take l.index l.pass.records)))
-    × ExistWithin l.pass.records (length l.pass.images) l.from l.index
-    × ((part : ℕ) → part < l.pass.parting.parts → All (IsNote (history l.pass.records) l.pass.parting.place_of) (notes_at l.lists.items part))
+    × ((part : ℕ) → part < l.pass.parting.parts → map lsn_in (notes_at l.lists.items part) ≡ lsns_where (on_part l.pass.parting.part_of part) l.from (first l.lsn (history l.pass.log)))
+    × ExistWithin l.pass.log (length l.pass.images) l.from l.lsn
+    × ((part : ℕ) → part < l.pass.parting.parts → All (IsNote (history l.pass.log) l.pass.parting.place_of) (notes_at l.lists.items part))
