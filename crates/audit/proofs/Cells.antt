@@ -1,14 +1,14 @@
 -- The last writer of a cell, and what it leaves there.
 use Rattle.std.proofs.Common.{◌≡◌, ◌≤◌, ◌&&◌, ℕ, suc, true, false, Some, refl, sym, ap, ◌∙◌, inl, inr, arith, eqb, eq-eqb}
 use Rattle.std.proofs.lemmas.Bool.{cases_Bool}
-use Rattle.wal.specs.Records.{LogRecord, Update, Compensation, Commit, Abort, End, CheckpointBegin, CheckpointEnd, History, start, ◌▸◌, size, record_at}
+use Rattle.wal.specs.Records.{LogRecord, Update, Compensation, Commit, End, History, start, ◌▸◌, last_lsn, record_at}
 use Rattle.wal.specs.Meaning.{replay, writes, is_of, touches, image_in}
 use Rattle.wal.specs.Tail.{tx_of}
 use Rattle.wal.proofs.Histories.{record_last, record_older, record_more}
 use Rattle.wal.proofs.Holders.{holder, release_keeps, found_has}
 use Rattle.audit.specs.Cells.{last_write}
 
-pub last_write_within : (page slot : ℕ) (log : History) → last_write page slot log ≤ size log
+pub last_write_within : (page slot : ℕ) (log : History) → last_write page slot log ≤ last_lsn log
 last_write_within page slot start = omega arith
 last_write_within page slot (log ▸ r) =
     elim (cases_Bool (writes page slot r)) [
@@ -20,7 +20,7 @@ pub image_in_last : (page slot : ℕ) (log : History) → image_in (record_at lo
 image_in_last page slot start = refl
 image_in_last page slot (log ▸ r) =
     elim (cases_Bool (writes page slot r)) [
-      | inl e ↦ rw (e, eq-eqb (suc (size log)) (suc (size log)) refl) refl
+      | inl e ↦ rw (e, eq-eqb (suc (last_lsn log)) (suc (last_lsn log)) refl) refl
       | inr e ↦ rw e (ap image_in (record_older log r (last_write page slot log) (last_write_within page slot log)) ∙ image_in_last page slot log)
     ]
 
@@ -30,7 +30,7 @@ last_writes page slot start r h = absurd (cc)
 last_writes page slot (log ▸ x) r h =
     elim (cases_Bool (writes page slot x)) [
       | inl e ↦
-          (let f : record_at (log ▸ x) (suc (size log)) ≡ Some r = rw e at h in
+          (let f : record_at (log ▸ x) (suc (last_lsn log)) ≡ Some r = rw e at h in
           let g : x ≡ r = let p = record_last log x in cc in
           ap (writes page slot) (sym g) ∙ e)
       | inr e ↦
@@ -68,7 +68,5 @@ holder_wrote page slot t (log ▸ Compensation c) h =
       | inr e ↦ later page slot t log (Compensation c) e (holder_wrote page slot t log (rw e at h))
     ]
 holder_wrote page slot t (log ▸ Commit s) h = later page slot t log (Commit s) refl (holder_wrote page slot t log (release_keeps s.tx t (holder page slot log) h).1)
-holder_wrote page slot t (log ▸ Abort s) h = later page slot t log (Abort s) refl (holder_wrote page slot t log h)
 holder_wrote page slot t (log ▸ End s) h = later page slot t log (End s) refl (holder_wrote page slot t log (release_keeps s.tx t (holder page slot log) h).1)
-holder_wrote page slot t (log ▸ CheckpointBegin) h = later page slot t log CheckpointBegin refl (holder_wrote page slot t log h)
-holder_wrote page slot t (log ▸ CheckpointEnd b ts d) h = later page slot t log (CheckpointEnd b ts d) refl (holder_wrote page slot t log h)
+holder_wrote page slot t (log ▸ r) h = later page slot t log r refl (holder_wrote page slot t log h)

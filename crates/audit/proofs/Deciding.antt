@@ -1,7 +1,7 @@
 -- What the state that is kept decides of the laws.
 use Rattle.std.proofs.Common.{◌≡◌, ◌<◌, ◌≤◌, ◌||◌, not, ℕ, Bool, true, false, List, [], ◌∷◌, length, Option, Some, None, refl, sym, ap, ap₂, subst, ◌∙◌, inl, inr, arith}
 use Rattle.std.proofs.lemmas.Bool.{cases_eq, both_ways}
-use Rattle.wal.specs.Records.{UpdateRecord, CompensationRecord, LogRecord, Update, Compensation, Commit, Abort, End, CheckpointBegin, CheckpointEnd, History, history, size, record_at}
+use Rattle.wal.specs.Records.{UpdateRecord, CompensationRecord, LogRecord, Update, History, history, last_lsn, record_at, LogContent}
 use Rattle.wal.specs.Meaning.{replay, pending, finished, aborted, ended, image_in}
 use Rattle.wal.specs.Laws.{IsLawful, Compensates, Strictness}
 use Rattle.wal.specs.Tail.{tx_of}
@@ -14,36 +14,31 @@ use Rattle.audit.specs.Passing.{Begins, Undoes, IsFreeFor}
 use Rattle.audit.proofs.Cells.{last_write_within, image_in_last, last_touches, holder_wrote}
 
 -- BEFORE IMAGES
-pub cell_value : (records : List LogRecord) (log : History) (page slot w : ℕ) → Begins log records → w ≡ last_write page slot log → image_in (record_at (history records) w) ≡ replay log page slot
-cell_value records log page slot w begins e =
-    ap (λ n. image_in (record_at (history records) n)) e
+pub cell_value : (content : LogContent) (log : History) (page slot w : ℕ) → Begins log content → w ≡ last_write page slot log → image_in (record_at (history content) w) ≡ replay log page slot
+cell_value content log page slot w begins e =
+    ap (λ n. image_in (record_at (history content) n)) e
     ∙ ap image_in (begins (last_write page slot log) (last_write_within page slot log))
     ∙ image_in_last page slot log
 
 -- COMPENSATION
-module _ (records : List LogRecord) (log : History) (links : List ℕ) (c : CompensationRecord) (s : Standing) (begins : Begins log records) (len : length links ≡ size log) (h : Stands links c.tx log s) where
+module _ (content : LogContent) (log : History) (links : List ℕ) (c : CompensationRecord) (s : Standing) (begins : Begins log content) (len : length links ≡ last_lsn log) (h : Stands links c.tx log s) where
   abbrev pub HasUndone : Type 0
-  HasUndone = (r : LogRecord) × (record_at (history records) s.newest ≡ Some r) × Undoes r c.page c.slot c.undo_next c.image
+  HasUndone = (r : LogRecord) × (record_at (history content) s.newest ≡ Some r) × Undoes r c.page c.slot c.undo_next c.image
 
   by_record : (r : LogRecord) (n : ℕ) (ns : List ℕ) → pending c.tx log ≡ n ∷ ns → record_at log n ≡ Some r → Undoes r c.page c.slot c.undo_next c.image → Compensates log c
   by_record (Update u) n ns p found h =
       record { lsn = n; below = ns; update = u; newest = p; found = found; page = h.0; slot = h.1; image = h.3; undo_next = h.2 }
-  by_record (Compensation c) n ns p found h = absurd h
-  by_record (Commit c) n ns p found h = absurd h
-  by_record (Abort c) n ns p found h = absurd h
-  by_record (End c) n ns p found h = absurd h
-  by_record CheckpointBegin n ns p found h = absurd h
-  by_record (CheckpointEnd b ts d) n ns p found h = absurd h
+  by_record r n ns p found h = absurd h
 
   by_stack : (stack : List ℕ) → pending c.tx log ≡ stack → Linked links stack s.newest → HasUndone → Compensates log c
   by_stack [] p l u =
-      (let none : record_at (history records) s.newest ≡ None = ap (record_at (history records)) l ∙ record_none (history records) 0 (inl refl) in
-      let some : record_at (history records) s.newest ≡ Some u.0 = u.1 in
+      (let none : record_at (history content) s.newest ≡ None = ap (record_at (history content)) l ∙ record_none (history content) 0 (inl refl) in
+      let some : record_at (history content) s.newest ≡ Some u.0 = u.1 in
       absurd (cc))
   by_stack (n ∷ ns) p l u =
       let e : s.newest ≡ n = l.0 in
       let room : n ≤ length links = l.2 in
-      let found : record_at log n ≡ Some u.0 = sym (begins n (omega arith)) ∙ ap (record_at (history records)) (sym e) ∙ u.1 in
+      let found : record_at log n ≡ Some u.0 = sym (begins n (omega arith)) ∙ ap (record_at (history content)) (sym e) ∙ u.1 in
       by_record u.0 n ns p found u.2
 
   pub undone_compensates : HasUndone → Compensates log c
@@ -53,7 +48,7 @@ module _ (records : List LogRecord) (log : History) (links : List ℕ) (c : Comp
   compensates_undone k =
       let l : Linked links (k.lsn ∷ k.below) s.newest = subst (λ x. Linked links x s.newest) k.newest h.pending in
       let room : k.lsn ≤ length links = l.2 in
-      let found : record_at (history records) s.newest ≡ Some (Update k.update) = ap (record_at (history records)) l.0 ∙ begins k.lsn (omega arith) ∙ k.found in
+      let found : record_at (history content) s.newest ≡ Some (Update k.update) = ap (record_at (history content)) l.0 ∙ begins k.lsn (omega arith) ∙ k.found in
       (Update k.update, found, (k.page, k.slot, k.undo_next, k.image))
 
 -- an end without a commit finds an empty stack

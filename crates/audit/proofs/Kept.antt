@@ -1,15 +1,15 @@
 -- A lawful input has no fault.
-use Rattle.std.proofs.Common.{◌≡◌, ◌<◌, ℕ, List, length, take, get_or, Option, Some, None, Result, Ok, Err, refl, sym, ap, subst, ◌∙◌, inl, inr, arith}
+use Rattle.std.proofs.Common.{◌+◌, ◌≡◌, ℕ, List, length, Option, Some, None, Result, Ok, Err, refl, sym, ap, subst, ◌∙◌, inl, inr, arith}
 use Rattle.std.specs.Prelude.{All, IfErr, slice_get}
 use Rattle.std.proofs.lemmas.Option.{slice_get_within, get_or_from_slice_get}
 use Rattle.page.specs.declared.fault.Fault.{Fault}
 use Rattle.page.specs.declared.fault.Fault.TheVariants.{NoResource, NoSuchPage, Chain, AfterFinish, WrongCompensation, BeforeImage, DirtyWrite, EndTooEarly, PageAheadOfLog, PageImage, BadMaster, TransactionTable, DirtyTable}
 use Rattle.page.specs.declared.page.Page.{Page}
 use Rattle.page.specs.Store.{StoreContent}
-use Rattle.wal.specs.Records.{TableEntry, LogRecord, History, history}
+use Rattle.wal.specs.Records.{TableEntry, LogRecord, History, history, LogContent, EachRecord, first, record_at}
 use Rattle.wal.specs.Laws.{Obeys, IsLawful}
 use Rattle.wal.specs.Store.{NamesPages, PageLaw, CheckpointLaw, Lawful, checkpoint_at}
-use Rattle.wal.proofs.Lists.{lawful_by_record}
+use Rattle.wal.proofs.Lists.{each_of_lawful}
 use Rattle.audit.specs.FirstFault.{BrokenAt, RecordFault, FirstBroken, BrokenPage, PagesFault, FirstBrokenPage, KeepsDirty, MasterFault, FirstFault, NoFaultOfTheLawful}
 
 pub not_broken : (count : ℕ) (log : History) (r : LogRecord) (e : Fault) → NamesPages count r → Obeys log r → BrokenAt count log r e → ⊥
@@ -22,17 +22,13 @@ not_broken count log r (DirtyWrite n) named o b = b.5 o.strict
 not_broken count log r (BeforeImage n) named o b = b.6 o.before
 not_broken count log r _ named o b = b
 
-pub none_broken : (count : ℕ) (xs : List LogRecord) (e : Fault) → IsLawful (history xs) → All (NamesPages count) xs → FirstBroken count xs e → ⊥
-none_broken count xs e lawful named f =
-    let within : f.place < length xs = slice_get_within xs f.place f.entry f.there in
-    let is : get_or xs f.place f.entry ≡ f.entry = get_or_from_slice_get xs f.place f.entry f.entry f.there in
-    not_broken count (history (take f.place xs)) f.entry e
-    (subst (NamesPages count) is (named f.place f.entry within))
-    (subst (Obeys (history (take f.place xs))) is ((lawful_by_record xs).0 lawful f.place f.entry within)) f.broken
+pub none_broken : (count : ℕ) (log : History) (e : Fault) → IsLawful log → EachRecord (NamesPages count) log → FirstBroken count log e → ⊥
+none_broken count log e lawful named f =
+    not_broken count (first f.lsn log) f.entry e (named (f.lsn + 1) f.entry f.there) (each_of_lawful log lawful f.lsn f.entry (ap (record_at log) (omega arith) ∙ f.there)) f.broken
 
-records_kept : (count : ℕ) (xs : List LogRecord) (e : Fault) → IsLawful (history xs) → All (NamesPages count) xs → RecordFault count xs e → e ≡ NoResource
-records_kept count xs NoResource lawful named f = refl
-records_kept count xs e lawful named f = absurd (none_broken count xs e lawful named f)
+records_kept : (count : ℕ) (log : History) (e : Fault) → IsLawful log → EachRecord (NamesPages count) log → RecordFault count log e → e ≡ NoResource
+records_kept count log NoResource lawful named f = refl
+records_kept count log e lawful named f = absurd (none_broken count log e lawful named f)
 
 pub page_not_broken : (log : History) (page : Page) (e : Fault) → PageLaw log page → BrokenPage log page e → ⊥
 page_not_broken log page (PageAheadOfLog n) law b = (let w = law.within in let a = b.1 in omega (arith, w, a))
@@ -91,16 +87,16 @@ master_kept log pages m (DirtyTable n) law f =
 master_kept log pages m _ law f = absurd f
 
 pub fault_kept : NoFaultOfTheLawful
-fault_kept records store lawful e f =
+fault_kept log store lawful e f =
     elim f [
-      | inl a ↦ records_kept (length store.pages) records e lawful.log lawful.names_pages a
+      | inl a ↦ records_kept (length store.pages) (history log) e lawful.log lawful.names_pages a
       | inr b ↦
           elim b [
-            | inl p ↦ pages_kept (history records) store.pages e lawful.pages p.1
-            | inr q ↦ master_kept (history records) store.pages store.master e lawful.checkpoint q.2
+            | inl p ↦ pages_kept (history log) store.pages e lawful.pages p.1
+            | inr q ↦ master_kept (history log) store.pages store.master e lawful.checkpoint q.2
           ]
     ]
 
-pub lawful_kept : (records : List LogRecord) (store : StoreContent) (r : Result (Unit {0}) Fault) → Lawful records store → IfErr r (FirstFault records store) → IfErr r (λ e. e ≡ NoResource)
-lawful_kept records store (Ok x) lawful f = tt
-lawful_kept records store (Err e) lawful f = fault_kept records store lawful e f
+pub lawful_kept : (log : LogContent) (store : StoreContent) (r : Result (Unit {0}) Fault) → Lawful log store → IfErr r (FirstFault log store) → IfErr r (λ e. e ≡ NoResource)
+lawful_kept log store (Ok x) lawful f = tt
+lawful_kept log store (Err e) lawful f = fault_kept log store lawful e f

@@ -1,32 +1,31 @@
 -- The first record that a page's image lacks.
-use Rattle.std.proofs.Common.{◌≡◌, ◌<◌, ◌≤◌, ◌+◌, ◌&&◌, ℕ, suc, Bool, true, false, cond, List, length, take, get_or, set, Option, Some, refl, sym, ap, subst, ◌∙◌, inl, inr, arith, eqb, eqb-true, eq-eqb, ne_eqb, ltb}
+use Rattle.std.proofs.Common.{◌≡◌, ◌<◌, ◌≤◌, ◌+◌, ◌&&◌, ℕ, suc, Bool, true, false, cond, List, length, get_or, set, Option, Some, refl, sym, ap, subst, ◌∙◌, inl, inr, arith, eqb, eqb-true, eq-eqb, ne_eqb, ltb}
 use Rattle.std.proofs.lemmas.Bool.{cases_Bool, cases_eq, cases_lt, and_parts, and_left, and_right, ltb-true, lt-ltb, eqb-false}
 use Rattle.std.proofs.lemmas.List.{get_or-set_same, get_or-set_other}
 use Rattle.std.proofs.Math.ListN.{length-set}
 use Rattle.page.specs.declared.page.Page.{Page}
-use Rattle.wal.specs.Records.{LogRecord, Update, Compensation, Commit, Abort, End, CheckpointBegin, CheckpointEnd, History, start, ◌▸◌, history, size, record_at}
+use Rattle.wal.specs.Records.{LogRecord, Update, Compensation, History, start, ◌▸◌, history, last_lsn, record_at, LogContent, first}
 use Rattle.wal.specs.Meaning.{is_on}
 use Rattle.wal.specs.Store.{NamesPages, DirtyLaw}
-use Rattle.wal.proofs.Histories.{record_last, record_more, size_of_beginning}
+use Rattle.wal.proofs.Histories.{record_last, record_more, record_in_first, size_of_first}
 use Rattle.audit.specs.Pages.{page_lsn}
 use Rattle.audit.specs.Dirty.{first_missing, KeepsMissing, noted_missing, IsInRange, IsCovered}
-use Rattle.audit.proofs.Passing.{begins_taken}
 
 -- ONE RECORD MORE
-module _ (pages : List Page) (log : History) (lsn p : ℕ) (r : LogRecord) (at : size log + 1 ≡ lsn) (on : (q : ℕ) → is_on q r ≡ eqb p q) (lt : p < length pages) (ms : List ℕ) (keeps : KeepsMissing pages log ms) where
+module _ (pages : List Page) (log : History) (lsn p : ℕ) (r : LogRecord) (at : last_lsn log + 1 ≡ lsn) (on : (q : ℕ) → is_on q r ≡ eqb p q) (lt : p < length pages) (ms : List ℕ) (keeps : KeepsMissing pages log ms) where
   test : Bool
   test = eqb (get_or ms p 0) 0 && ltb (page_lsn pages p) lsn
 
   abbrev Next : ℕ → ℕ
   Next q = first_missing q (page_lsn pages q) (log ▸ r)
 
-  n_is : lsn ≡ suc (size log)
+  n_is : lsn ≡ suc (last_lsn log)
   n_is = omega arith
 
   other : (q : ℕ) → (p ≡ q → ⊥) → Next q ≡ first_missing q (page_lsn pages q) log
   other q d =
       let e : is_on q r ≡ false = on q ∙ ne_eqb p q d in
-      let f : (eqb (first_missing q (page_lsn pages q) log) 0 && (is_on q r && ltb (page_lsn pages q) (suc (size log)))) ≡ false = and_right (eqb (first_missing q (page_lsn pages q) log) 0) (is_on q r && ltb (page_lsn pages q) (suc (size log))) (and_left (is_on q r) (ltb (page_lsn pages q) (suc (size log))) e) in
+      let f : (eqb (first_missing q (page_lsn pages q) log) 0 && (is_on q r && ltb (page_lsn pages q) (suc (last_lsn log)))) ≡ false = and_right (eqb (first_missing q (page_lsn pages q) log) 0) (is_on q r && ltb (page_lsn pages q) (suc (last_lsn log))) (and_left (is_on q r) (ltb (page_lsn pages q) (suc (last_lsn log))) e) in
       rw f refl
 
   there : Next p ≡ cond (eqb (get_or ms p 0) 0 && ltb (page_lsn pages p) lsn) lsn (first_missing p (page_lsn pages p) log)
@@ -71,24 +70,20 @@ idle pages log r ms off keeps =
       size_is = keeps.size_is;
       each = λ q l.
           keeps.each q l
-          ∙ (let f : (eqb (first_missing q (page_lsn pages q) log) 0 && (is_on q r && ltb (page_lsn pages q) (suc (size log)))) ≡ false = and_right (eqb (first_missing q (page_lsn pages q) log) 0) (is_on q r && ltb (page_lsn pages q) (suc (size log))) (and_left (is_on q r) (ltb (page_lsn pages q) (suc (size log))) (off q)) in
+          ∙ (let f : (eqb (first_missing q (page_lsn pages q) log) 0 && (is_on q r && ltb (page_lsn pages q) (suc (last_lsn log)))) ≡ false = and_right (eqb (first_missing q (page_lsn pages q) log) 0) (is_on q r && ltb (page_lsn pages q) (suc (last_lsn log))) (and_left (is_on q r) (ltb (page_lsn pages q) (suc (last_lsn log))) (off q)) in
           rw f refl);
     }
 
-pub missing_more : (pages : List Page) (log : History) (r : LogRecord) (ms : List ℕ) (lsn : ℕ) → size log + 1 ≡ lsn → NamesPages (length pages) r → KeepsMissing pages log ms → KeepsMissing pages (log ▸ r) (noted_missing (page_lsn pages) ms r lsn)
+pub missing_more : (pages : List Page) (log : History) (r : LogRecord) (ms : List ℕ) (lsn : ℕ) → last_lsn log + 1 ≡ lsn → NamesPages (length pages) r → KeepsMissing pages log ms → KeepsMissing pages (log ▸ r) (noted_missing (page_lsn pages) ms r lsn)
 missing_more pages log (Update u) ms lsn at named keeps = noted pages log lsn u.page (Update u) at (λ q. refl) named ms keeps
 missing_more pages log (Compensation u) ms lsn at named keeps = noted pages log lsn u.page (Compensation u) at (λ q. refl) named ms keeps
-missing_more pages log (Commit s) ms lsn at named keeps = idle pages log (Commit s) ms (λ q. refl) keeps
-missing_more pages log (Abort s) ms lsn at named keeps = idle pages log (Abort s) ms (λ q. refl) keeps
-missing_more pages log (End s) ms lsn at named keeps = idle pages log (End s) ms (λ q. refl) keeps
-missing_more pages log CheckpointBegin ms lsn at named keeps = idle pages log CheckpointBegin ms (λ q. refl) keeps
-missing_more pages log (CheckpointEnd b ts d) ms lsn at named keeps = idle pages log (CheckpointEnd b ts d) ms (λ q. refl) keeps
+missing_more pages log r ms lsn at named keeps = idle pages log r ms (λ q. refl) keeps
 
 -- WHAT IT IS
-pub missing_within : (p k : ℕ) (log : History) → first_missing p k log ≤ size log
+pub missing_within : (p k : ℕ) (log : History) → first_missing p k log ≤ last_lsn log
 missing_within p k start = omega arith
 missing_within p k (log ▸ r) =
-    elim (cases_Bool (eqb (first_missing p k log) 0 && (is_on p r && ltb k (suc (size log))))) [
+    elim (cases_Bool (eqb (first_missing p k log) 0 && (is_on p r && ltb k (suc (last_lsn log))))) [
       | inl e ↦ rw e (omega arith)
       | inr e ↦ rw e (omega (arith, missing_within p k log))
     ]
@@ -96,11 +91,11 @@ missing_within p k (log ▸ r) =
 pub missing_found : (p k : ℕ) (log : History) → 0 < first_missing p k log → (r : LogRecord) × (record_at log (first_missing p k log) ≡ Some r) × (is_on p r ≡ true) × (k < first_missing p k log)
 missing_found p k start h = absurd (omega (arith, h))
 missing_found p k (log ▸ r) h =
-    elim (cases_Bool (eqb (first_missing p k log) 0 && (is_on p r && ltb k (suc (size log))))) [
+    elim (cases_Bool (eqb (first_missing p k log) 0 && (is_on p r && ltb k (suc (last_lsn log))))) [
       | inl e ↦
-          (let (a, b) = and_parts (eqb (first_missing p k log) 0) (is_on p r && ltb k (suc (size log))) e in
-          let (on, lt) = and_parts (is_on p r) (ltb k (suc (size log))) b in
-          let l : k < suc (size log) = ltb-true k (suc (size log)) lt in
+          (let (a, b) = and_parts (eqb (first_missing p k log) 0) (is_on p r && ltb k (suc (last_lsn log))) e in
+          let (on, lt) = and_parts (is_on p r) (ltb k (suc (last_lsn log))) b in
+          let l : k < suc (last_lsn log) = ltb-true k (suc (last_lsn log)) lt in
           (r, rw e (record_last log r), on, rw e l))
       | inr e ↦
           (let h' : 0 < first_missing p k log = rw e at h in
@@ -114,13 +109,13 @@ missing_low p k (log ▸ r) lsn x at on lt =
     elim (cases_Bool (eqb (first_missing p k log) 0)) [
       | inl z ↦
           (let zero_is : first_missing p k log ≡ 0 = eqb-true (first_missing p k log) 0 z in
-          elim (cases_Bool (eqb lsn (suc (size log)))) [
+          elim (cases_Bool (eqb lsn (suc (last_lsn log)))) [
             | inl e ↦
-                (let n : lsn ≡ suc (size log) = eqb-true lsn (suc (size log)) e in
+                (let n : lsn ≡ suc (last_lsn log) = eqb-true lsn (suc (last_lsn log)) e in
                 let f : Some r ≡ Some x = rw e at at in
                 let same : r ≡ x = cc in
                 let on' : is_on p r ≡ true = ap (is_on p) same ∙ on in
-                let l : ltb k (suc (size log)) ≡ true = lt-ltb k (suc (size log)) (omega arith) in
+                let l : ltb k (suc (last_lsn log)) ≡ true = lt-ltb k (suc (last_lsn log)) (omega arith) in
                 rw (z, on', l) (omega arith, omega arith))
             | inr e ↦
                 (let f : record_at log lsn ≡ Some x = rw e at at in
@@ -128,11 +123,11 @@ missing_low p k (log ▸ r) lsn x at on lt =
                 absurd (omega (arith, low.0, zero_is)))
           ])
       | inr z ↦
-          (let e : (eqb (first_missing p k log) 0 && (is_on p r && ltb k (suc (size log)))) ≡ false = and_left (eqb (first_missing p k log) 0) (is_on p r && ltb k (suc (size log))) z in
+          (let e : (eqb (first_missing p k log) 0 && (is_on p r && ltb k (suc (last_lsn log)))) ≡ false = and_left (eqb (first_missing p k log) 0) (is_on p r && ltb k (suc (last_lsn log))) z in
           let some : 0 < first_missing p k log = (let d = eqb-false (first_missing p k log) 0 z in omega (arith, d)) in
-          elim (cases_Bool (eqb lsn (suc (size log)))) [
+          elim (cases_Bool (eqb lsn (suc (last_lsn log)))) [
             | inl i ↦
-                (let n : lsn ≡ suc (size log) = eqb-true lsn (suc (size log)) i in
+                (let n : lsn ≡ suc (last_lsn log) = eqb-true lsn (suc (last_lsn log)) i in
                 let w = missing_within p k log in
                 rw e (some, omega (arith, w)))
             | inr i ↦ (let f : record_at log lsn ≡ Some x = rw i at at in rw e (missing_low p k log lsn x f on lt))
@@ -140,32 +135,30 @@ missing_low p k (log ▸ r) lsn x at on lt =
     ]
 
 -- THE LAW
-module _ (xs : List LogRecord) (m p k : ℕ) (listed : Option ℕ) (le : m ≤ length xs) where
-  pub covered_law : IsInRange listed m → IsCovered listed (first_missing p k (history (take m xs))) → DirtyLaw (history xs) m p k listed
+module _ (log : LogContent) (m p k : ℕ) (listed : Option ℕ) (le : m ≤ last_lsn (history log)) where
+  pub covered_law : IsInRange listed m → IsCovered listed (first_missing p k (first m (history log))) → DirtyLaw (history log) m p k listed
   covered_law range covered =
       record {
         range = range;
         covers = λ lsn r low at on.
             elim (cases_lt k lsn) [
               | inl l ↦
-                  (let s = size_of_beginning xs m le in
-                  let here : record_at (history (take m xs)) lsn ≡ Some r = sym (begins_taken xs m lsn (omega (arith, s, low))) ∙ at in
-                  let x = missing_low p k (history (take m xs)) lsn r here on l in
+                  (let x = missing_low p k (first m (history log)) lsn r (record_in_first m (history log) lsn low ∙ at) on l in
                   let y = covered x.0 in
                   inr (y.0, y.1, (let a = y.2 in let b = x.1 in omega (arith, a, b))))
               | inr l ↦ inl l
             ];
       }
 
-  pub law_covered : DirtyLaw (history xs) m p k listed → IsInRange listed m × IsCovered listed (first_missing p k (history (take m xs)))
+  pub law_covered : DirtyLaw (history log) m p k listed → IsInRange listed m × IsCovered listed (first_missing p k (first m (history log)))
   law_covered law = (
     law.range,
     λ some.
-        let x = missing_found p k (history (take m xs)) some in
-        let s = size_of_beginning xs m le in
-        let w = missing_within p k (history (take m xs)) in
-        let here = begins_taken xs m (first_missing p k (history (take m xs))) w ∙ x.1 in
-        elim (law.covers (first_missing p k (history (take m xs))) x.0 (omega (arith, s, w)) here x.2) [
+        let missing = first_missing p k (first m (history log)) in
+        let x = missing_found p k (first m (history log)) some in
+        let within : missing ≤ m = omega (arith, missing_within p k (first m (history log)), size_of_first m (history log) le) in
+        let here = sym (record_in_first m (history log) missing within) ∙ x.1 in
+        elim (law.covers missing x.0 within here x.2) [
           | inl l ↦ absurd (let a = x.3 in omega (arith, a, l))
           | inr y ↦ y
         ],

@@ -1,14 +1,14 @@
 -- What is kept after one record more.
-use Rattle.std.proofs.Common.{◌≡◌, ◌<◌, ◌≤◌, ◌+◌, ◌*◌, ◌&&◌, ℕ, suc, true, false, cond, List, [], ◌∷◌, ◌++◌, length, get_or, set, Option, Some, unwrap_or, refl, sym, ap, subst, ◌∙◌, inl, inr, arith, eqb, eqb-true, eq-eqb, ne_eqb}
+use Rattle.std.proofs.Common.{◌≡◌, ◌<◌, ◌≤◌, ◌+◌, ◌*◌, ◌&&◌, ℕ, suc, true, false, cond, List, [], ◌∷◌, ◌++◌, length, get_or, set, Option, Some, None, unwrap_or, refl, sym, ap, subst, ◌∙◌, inl, inr, arith, eqb, eqb-true, eq-eqb, ne_eqb}
 use Rattle.std.proofs.lemmas.Bool.{cases_Bool, cases_eq, and_left, and_right}
 use Rattle.std.proofs.lemmas.List.{get_or-set_other}
 use Rattle.std.proofs.lemmas.Grind.{get_or-set_at}
 use Rattle.std.proofs.Math.ListN.{length-set}
-use Rattle.wal.specs.Records.{LogRecord, Update, Compensation, Commit, Abort, End, CheckpointBegin, CheckpointEnd, History, ◌▸◌, size}
-use Rattle.wal.specs.Meaning.{is_of, writes}
+use Rattle.wal.specs.Records.{LogRecord, Update, Compensation, History, ◌▸◌, last_lsn}
+use Rattle.wal.specs.Meaning.{owner, is_owned_by, is_of, writes}
 use Rattle.wal.specs.Store.{NamesPages}
 use Rattle.wal.specs.Spelling.{Fits}
-use Rattle.wal.specs.Tail.{tx_of}
+use Rattle.wal.specs.Tail.{number_or_0, tx_of}
 use Rattle.audit.specs.declared.standing.Standing.{Standing}
 use Rattle.audit.specs.Standings.{unknown, Linked, Stands}
 use Rattle.audit.specs.Cells.{last_write, KeepsCells, HasCell, written}
@@ -16,13 +16,11 @@ use Rattle.audit.proofs.Standings.{stands_other}
 
 -- STANDINGS
 of_another : (t : ℕ) (r : LogRecord) → eqb (tx_of r) t ≡ false → is_of t r ≡ false
-of_another t (Update u) e = e
-of_another t (Compensation c) e = e
-of_another t (Commit s) e = e
-of_another t (Abort s) e = e
-of_another t (End s) e = e
-of_another t CheckpointBegin e = refl
-of_another t (CheckpointEnd b ts d) e = refl
+of_another t r = other (owner r)
+  where
+    other : (o : Option ℕ) → eqb (number_or_0 o) t ≡ false → is_owned_by t o ≡ false
+    other None e = refl
+    other (Some x) e = e
 
 abbrev pub looked : (ℕ → Option Standing) → ℕ → Standing
 looked found t = unwrap_or (found t) unknown
@@ -56,11 +54,7 @@ top_within links (n ∷ ns) top l = (let e : top ≡ n = l.0 in let b : n ≤ le
 pub has_cell : (count cells : ℕ) (r : LogRecord) → cells ≡ 16 * count → NamesPages count r → Fits r → HasCell cells r
 has_cell count cells (Update u) e named fits = (let p : u.page < count = named in let s : u.slot ≤ 15 = fits.slot in omega arith)
 has_cell count cells (Compensation c) e named fits = (let p : c.page < count = named in let s : c.slot ≤ 15 = fits.slot in omega arith)
-has_cell count cells (Commit s) e named fits = tt
-has_cell count cells (Abort s) e named fits = tt
-has_cell count cells (End s) e named fits = tt
-has_cell count cells CheckpointBegin e named fits = tt
-has_cell count cells (CheckpointEnd b ts d) e named fits = tt
+has_cell count cells r e named fits = tt
 
 -- what the record makes of the last writers
 abbrev pub Follows : (before after : ℕ → History) → LogRecord → ℕ → Type 0
@@ -108,13 +102,9 @@ keeps_written count before after ws (Update u) lsn named fits follows keeps =
 keeps_written count before after ws (Compensation u) lsn named fits follows keeps =
     let s : u.slot ≤ 15 = fits.slot in
     put_there count before after ws u.page u.slot lsn named (omega arith) follows keeps
-keeps_written count before after ws (Commit s) lsn named fits follows keeps = left_there count before after ws follows keeps
-keeps_written count before after ws (Abort s) lsn named fits follows keeps = left_there count before after ws follows keeps
-keeps_written count before after ws (End s) lsn named fits follows keeps = left_there count before after ws follows keeps
-keeps_written count before after ws CheckpointBegin lsn named fits follows keeps = left_there count before after ws follows keeps
-keeps_written count before after ws (CheckpointEnd b ts d) lsn named fits follows keeps = left_there count before after ws follows keeps
+keeps_written count before after ws r lsn named fits follows keeps = left_there count before after ws follows keeps
 
-pub keeps_more : (count : ℕ) (log : History) (ws : List ℕ) (r : LogRecord) (lsn : ℕ) → size log + 1 ≡ lsn → NamesPages count r → Fits r → KeepsCells count (λ _. log) ws → KeepsCells count (λ _. log ▸ r) (written ws r lsn)
+pub keeps_more : (count : ℕ) (log : History) (ws : List ℕ) (r : LogRecord) (lsn : ℕ) → last_lsn log + 1 ≡ lsn → NamesPages count r → Fits r → KeepsCells count (λ _. log) ws → KeepsCells count (λ _. log ▸ r) (written ws r lsn)
 keeps_more count log ws r lsn at named fits keeps =
-    let n : suc (size log) ≡ lsn = omega arith in
+    let n : suc (last_lsn log) ≡ lsn = omega arith in
     keeps_written count (λ _. log) (λ _. log ▸ r) ws r lsn named fits (λ page slot. ap (λ k. cond (writes page slot r) k (last_write page slot log)) n) keeps

@@ -1,18 +1,19 @@
 -- An input that is not lawful has one first fault.
-use Rattle.std.proofs.Common.{◌≡◌, ◌⊎◌, ◌<◌, ℕ, suc, List, length, take, get_or, Some, cond, refl, sym, ap, subst, ◌∙◌, inl, inr, arith, None, Option}
+use Rattle.std.proofs.Common.{◌+◌, ◌≡◌, ◌⊎◌, ◌<◌, ℕ, suc, List, length, take, Some, cond, refl, sym, ap, subst, ◌∙◌, inl, inr, arith, None, Option}
 use Rattle.std.specs.Prelude.{All, slice_get}
-use Rattle.std.proofs.lemmas.List.{get_or-take, length-take, take-take}
-use Rattle.std.proofs.lemmas.Option.{slice_get_within, get_or_from_slice_get}
+use Rattle.std.proofs.lemmas.List.{get_or-take, length-take}
+use Rattle.std.proofs.lemmas.Option.{slice_get_within, get_or_from_slice_get, same_Some}
 use Rattle.page.specs.declared.fault.Fault.{Fault}
 use Rattle.page.specs.declared.fault.Fault.TheVariants.{NoResource, NoSuchPage, Chain, AfterFinish, WrongCompensation, BeforeImage, DirtyWrite, EndTooEarly, PageAheadOfLog, PageImage, BadMaster, TransactionTable, DirtyTable}
 use Rattle.page.specs.declared.page.Page.{Page}
 use Rattle.page.specs.Causes.{HasOneCause}
 use Rattle.page.specs.Store.{StoreContent}
-use Rattle.wal.specs.Records.{LogRecord, History, history, size, TableEntry}
+use Rattle.wal.specs.Records.{LogRecord, History, history, last_lsn, TableEntry, LogContent, record_at, first}
 use Rattle.wal.specs.Laws.{ChainLaw, FinishLaw, CompensationLaw, BeforeLaw, Strictness, Obeys}
 use Rattle.wal.specs.Tail.{is_end}
 use Rattle.wal.specs.Store.{NamesPages, PageLaw, checkpoint_at}
-use Rattle.wal.proofs.Lists.{lawful_by_record}
+use Rattle.wal.proofs.Histories.{record_in_first, first_first}
+use Rattle.wal.proofs.Lists.{each_of_lawful}
 use Rattle.audit.specs.FirstFault.{BrokenAt, AreSound, RecordFault, FirstBroken, BrokenPage, PagesFault, FirstBrokenPage, KeepsDirty, FirstUncovered, MasterFault, FirstFault, OneFirstFault}
 use Rattle.audit.proofs.Kept.{not_broken, none_broken, page_not_broken, none_broken_page, same_transactions, same_dirty}
 
@@ -53,7 +54,7 @@ compensation_fault r lsn = cond (is_end r) (EndTooEarly lsn) (WrongCompensation 
 -- the laws of a record in the order in which they are looked at
 abbrev RecordFaults : ℕ → History → LogRecord → Fault → Type 0
 RecordFaults count log r =
-    let lsn = suc (size log) in
+    let lsn = suc (last_lsn log) in
     Either (NamesPages count r) (NoSuchPage lsn)
     (Either (ChainLaw log r) (Chain lsn)
     (Either (FinishLaw log r) (AfterFinish lsn)
@@ -66,10 +67,10 @@ in_order count log r (NoSuchPage n) b = inl (b.1, ap (λ k. NoSuchPage k) b.0)
 in_order count log r (Chain n) b = inr (b.1, inl (b.2, ap (λ k. Chain k) b.0))
 in_order count log r (AfterFinish n) b = inr (b.1, inr (b.2, inl (b.3, ap (λ k. AfterFinish k) b.0)))
 in_order count log r (WrongCompensation n) b =
-    let is : compensation_fault r (suc (size log)) ≡ WrongCompensation (suc (size log)) = ap (λ x. cond x (EndTooEarly (suc (size log))) (WrongCompensation (suc (size log)))) b.4 in
+    let is : compensation_fault r (suc (last_lsn log)) ≡ WrongCompensation (suc (last_lsn log)) = ap (λ x. cond x (EndTooEarly (suc (last_lsn log))) (WrongCompensation (suc (last_lsn log)))) b.4 in
     inr (b.1, inr (b.2, inr (b.3, inl (b.5, ap (λ k. WrongCompensation k) b.0 ∙ sym is))))
 in_order count log r (EndTooEarly n) b =
-    let is : compensation_fault r (suc (size log)) ≡ EndTooEarly (suc (size log)) = ap (λ x. cond x (EndTooEarly (suc (size log))) (WrongCompensation (suc (size log)))) b.4 in
+    let is : compensation_fault r (suc (last_lsn log)) ≡ EndTooEarly (suc (last_lsn log)) = ap (λ x. cond x (EndTooEarly (suc (last_lsn log))) (WrongCompensation (suc (last_lsn log)))) b.4 in
     inr (b.1, inr (b.2, inr (b.3, inl (b.5, ap (λ k. EndTooEarly k) b.0 ∙ sym is))))
 in_order count log r (DirtyWrite n) b = inr (b.1, inr (b.2, inr (b.3, inr (b.4, inl (b.5, ap (λ k. DirtyWrite k) b.0)))))
 in_order count log r (BeforeImage n) b = inr (b.1, inr (b.2, inr (b.3, inr (b.4, inr (b.5, inl (b.6, ap (λ k. BeforeImage k) b.0))))))
@@ -77,7 +78,7 @@ in_order count log r _ b = absurd b
 
 one_broken : (count : ℕ) (log : History) (r : LogRecord) → IsOne (BrokenAt count log r)
 one_broken count log r d e x y =
-    let lsn = suc (size log) in
+    let lsn = suc (last_lsn log) in
     one_of (NamesPages count r) (NoSuchPage lsn) _
     (one_of (ChainLaw log r) (Chain lsn) _
     (one_of (FinishLaw log r) (AfterFinish lsn) _
@@ -87,24 +88,21 @@ one_broken count log r d e x y =
     d e (in_order count log r d x) (in_order count log r e y)
 
 -- what stands before a sound record is not broken
-not_sound : (count : ℕ) (xs : List LogRecord) (d e : Fault) (x : FirstBroken count xs d) (y : FirstBroken count xs e) → x.place < y.place → ⊥
-not_sound count xs d e x y lt =
-    let front = take y.place xs in
-    let within : x.place < length xs = slice_get_within xs x.place x.entry x.there in
-    let inside : x.place < length front = omega (arith, length-take y.place xs, within, lt) in
-    let is : get_or front x.place x.entry ≡ x.entry = get_or-take y.place xs x.place x.entry lt ∙ get_or_from_slice_get xs x.place x.entry x.entry x.there in
-    let obeys : Obeys (history (take x.place xs)) x.entry =
-    subst (λ (rs : List LogRecord). Obeys (history rs) x.entry) (take-take x.place y.place xs (omega (arith, lt)))
-    (subst (Obeys (history (take x.place front))) is ((lawful_by_record front).0 y.before.lawful x.place x.entry inside)) in
-    not_broken count (history (take x.place xs)) x.entry d (before (NamesPages count) xs x.place y.place x.entry x.there lt y.before.named) obeys x.broken
+not_sound : (count : ℕ) (log : History) (d e : Fault) (x : FirstBroken count log d) (y : FirstBroken count log e) → x.lsn < y.lsn → ⊥
+not_sound count log d e x y lt =
+    let there : record_at (first y.lsn log) (x.lsn + 1) ≡ Some x.entry = record_in_first y.lsn log (x.lsn + 1) (omega (arith, lt)) ∙ x.there in
+    let obeys : Obeys (first x.lsn log) x.entry =
+    subst (λ l. Obeys l x.entry) (first_first x.lsn y.lsn log (omega (arith, lt)))
+    (each_of_lawful (first y.lsn log) y.before.lawful x.lsn x.entry (ap (record_at (first y.lsn log)) (omega arith) ∙ there)) in
+    not_broken count (first x.lsn log) x.entry d (y.before.named (x.lsn + 1) x.entry there) obeys x.broken
 
-one_record_fault : (count : ℕ) (xs : List LogRecord) → IsOne (FirstBroken count xs)
-one_record_fault count xs d e x y =
-    let place : x.place ≡ y.place = omega (arith, not_sound count xs d e x y, not_sound count xs e d y x) in
-    let entry : x.entry ≡ y.entry = same_at xs x.place y.place x.entry y.entry x.there y.there place in
-    one_broken count (history (take y.place xs)) y.entry d e
-    (subst (λ (r : LogRecord). BrokenAt count (history (take y.place xs)) r d) entry
-    (subst (λ n. BrokenAt count (history (take n xs)) x.entry d) place x.broken))
+one_record_fault : (count : ℕ) (log : History) → IsOne (FirstBroken count log)
+one_record_fault count log d e x y =
+    let lsn : x.lsn ≡ y.lsn = omega (arith, not_sound count log d e x y, not_sound count log e d y x) in
+    let entry : x.entry ≡ y.entry = same_Some _ _ (sym x.there ∙ ap (λ n. record_at log (n + 1)) lsn ∙ y.there) in
+    one_broken count (first y.lsn log) y.entry d e
+    (subst (λ (r : LogRecord). BrokenAt count (first y.lsn log) r d) entry
+    (subst (λ n. BrokenAt count (first n log) x.entry d) lsn x.broken))
     y.broken
 
 -- PAGES
@@ -165,33 +163,33 @@ one_master_fault log pages m (DirtyTable a) _ some other x y = absurd y
 one_master_fault log pages m _ e some other x y = absurd x
 
 -- ALL THREE
-records_broken : (count : ℕ) (records : List LogRecord) (e : Fault) → (e ≡ NoResource → ⊥) → RecordFault count records e → FirstBroken count records e
-records_broken count records NoResource some x = absurd (some refl)
-records_broken count records e some x = x
+records_broken : (count : ℕ) (log : History) (e : Fault) → (e ≡ NoResource → ⊥) → RecordFault count log e → FirstBroken count log e
+records_broken count log NoResource some x = absurd (some refl)
+records_broken count log e some x = x
 
 pages_broken : (log : History) (pages : List Page) (e : Fault) → (e ≡ NoResource → ⊥) → PagesFault log pages e → FirstBrokenPage log pages e
 pages_broken log pages NoResource some x = absurd (some refl)
 pages_broken log pages e some x = x
 
-module _ (records : List LogRecord) (store : StoreContent) (d e : Fault) (some : d ≡ NoResource → ⊥) (other : e ≡ NoResource → ⊥) where
+module _ (content : LogContent) (store : StoreContent) (d e : Fault) (some : d ≡ NoResource → ⊥) (other : e ≡ NoResource → ⊥) where
   abbrev log : History
-  log = history records
+  log = history content
 
   abbrev count : ℕ
   count = length store.pages
 
-  sound_not_broken : (f : Fault) → (f ≡ NoResource → ⊥) → AreSound count records → RecordFault count records f → ⊥
-  sound_not_broken f is sound x = none_broken count records f sound.lawful sound.named (records_broken count records f is x)
+  sound_not_broken : (f : Fault) → (f ≡ NoResource → ⊥) → AreSound count log → RecordFault count log f → ⊥
+  sound_not_broken f is sound x = none_broken count log f sound.lawful sound.named (records_broken count log f is x)
 
   kept_not_broken : (f : Fault) → (f ≡ NoResource → ⊥) → All (PageLaw log) store.pages → PagesFault log store.pages f → ⊥
   kept_not_broken f is all x = none_broken_page log store.pages f all (pages_broken log store.pages f is x)
 
-  pub same_fault : FirstFault records store d → FirstFault records store e → d ≡ e
+  pub same_fault : FirstFault content store d → FirstFault content store e → d ≡ e
   same_fault x y =
       elim x [
         | inl a ↦
             elim y [
-              | inl b ↦ one_record_fault count records d e (records_broken count records d some a) (records_broken count records e other b)
+              | inl b ↦ one_record_fault count log d e (records_broken count log d some a) (records_broken count log e other b)
               | inr b ↦ elim b [ inl p ↦ absurd (sound_not_broken d some p.0 a) | inr q ↦ absurd (sound_not_broken d some q.0 a) ]
             ]
         | inr a ↦
@@ -218,4 +216,4 @@ module _ (records : List LogRecord) (store : StoreContent) (d e : Fault) (some :
       ]
 
 pub one_first_fault : OneFirstFault
-one_first_fault records store d e some other x y = same_fault records store d e some other x y
+one_first_fault content store d e some other x y = same_fault content store d e some other x y

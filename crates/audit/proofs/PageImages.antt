@@ -1,48 +1,29 @@
 -- The law of a page, decided by the last writers of its cells.
-use Rattle.std.proofs.Common.{◌≡◌, ◌<◌, ◌≤◌, ◌+◌, ◌*◌, ◌&&◌, ℕ, suc, true, false, cond, List, [], length, get_or, None, refl, sym, ap, ap₂, ◌∙◌, inl, inr, arith, eqb, eqb-true, ltb, leb}
-use Rattle.std.proofs.lemmas.Bool.{cases_Bool, ltb-true, ltb-false, lt-ltb, le-leb, lt-leb, and_parts}
+use Rattle.std.proofs.Common.{◌≡◌, ◌<◌, ◌≤◌, ◌+◌, ◌*◌, ◌&&◌, ℕ, suc, true, false, cond, List, [], length, get_or, Option, Some, None, refl, sym, ap, ap₂, ◌∙◌, inl, inr, arith, eqb, eqb-true, ltb, leb}
+use Rattle.std.proofs.lemmas.Bool.{cases_Bool, ltb-true, ltb-false, le-leb, lt-leb, and_parts}
 use Rattle.std.proofs.lemmas.List.FromFn.{get_or-map-range_with_len, length-map-range_with_len}
 use Rattle.std.proofs.lemmas.List.{ext_get_or, get_or_default}
+use Rattle.std.specs.Option.{option_map_or}
 use Rattle.page.specs.Image.{Image}
 use Rattle.page.specs.declared.page.Page.{Page}
-use Rattle.wal.specs.Records.{LogRecord, Update, Compensation, History, start, ◌▸◌, first, size, record_at}
-use Rattle.wal.specs.Meaning.{replay, writes, image_in}
+use Rattle.wal.specs.Records.{LogRecord, History, ◌▸◌, first, last_lsn, record_at}
+use Rattle.wal.specs.Meaning.{Change, change_of, is_in_cell, replay, writes, image_in}
 use Rattle.wal.specs.Redo.{slots_in}
 use Rattle.wal.specs.Store.{NamesPages}
 use Rattle.wal.specs.Spelling.{Fits}
-use Rattle.wal.proofs.Histories.{record_older}
 use Rattle.audit.specs.Cells.{last_write, KeepsCells, written}
 use Rattle.audit.specs.Pages.{page_lsn, log_at, counts_for, KeepsPage}
 use Rattle.audit.proofs.Cells.{last_write_within, image_in_last}
 use Rattle.audit.proofs.Noting.{Follows, keeps_written}
+use Rattle.wal.proofs.Histories.{first_all, size_of_first_le, record_in_first}
 
 -- BEGINNINGS
-pub first_all : (k : ℕ) (log : History) → size log ≤ k → first k log ≡ log
-first_all k start h = refl
-first_all k (log ▸ r) h = (let e : ltb (size log) k ≡ true = lt-ltb (size log) k (omega arith) in rw e refl)
-
-first_within : (k : ℕ) (log : History) → size (first k log) ≤ k
-first_within k start = omega arith
-first_within k (log ▸ r) =
-    elim (cases_Bool (ltb (size log) k)) [
-      | inl e ↦ (let l : size log < k = ltb-true (size log) k e in rw e (omega arith))
-      | inr e ↦ rw e (first_within k log)
-    ]
-
-pub first_record : (k n : ℕ) (log : History) → n ≤ k → record_at (first k log) n ≡ record_at log n
-first_record k n start h = refl
-first_record k n (log ▸ r) h =
-    elim (cases_Bool (ltb (size log) k)) [
-      | inl e ↦ rw e refl
-      | inr e ↦ (let l : k ≤ size log = ltb-false (size log) k e in rw e (first_record k n log h ∙ sym (record_older log r n (omega arith))))
-    ]
-
 -- one record more, for a page whose PageLSN is k
-step : (page slot k : ℕ) (log : History) (r : LogRecord) → last_write page slot (first k (log ▸ r)) ≡ cond (writes page slot r && ltb (size log) k) (suc (size log)) (last_write page slot (first k log))
+step : (page slot k : ℕ) (log : History) (r : LogRecord) → last_write page slot (first k (log ▸ r)) ≡ cond (writes page slot r && ltb (last_lsn log) k) (suc (last_lsn log)) (last_write page slot (first k log))
 step page slot k log r =
-    elim (cases_Bool (ltb (size log) k)) [
+    elim (cases_Bool (ltb (last_lsn log) k)) [
       | inl e ↦
-          (let l : size log < k = ltb-true (size log) k e in
+          (let l : last_lsn log < k = ltb-true (last_lsn log) k e in
           let f : first k log ≡ log = first_all k log (omega arith) in
           elim (cases_Bool (writes page slot r)) [
             | inl w ↦ rw (e, w) refl
@@ -59,23 +40,23 @@ le_is_lt : (n m k : ℕ) → n + 1 ≡ m → leb m k ≡ ltb n k
 le_is_lt n m k e = elim (cases_Bool (ltb n k)) [ inl h ↦ (let l : n < k = ltb-true n k h in le-leb m k (omega arith) ∙ sym h) | inr h ↦ (let l : k ≤ n = ltb-false n k h in lt-leb m k (omega arith) ∙ sym h) ]
 
 -- whether a record that writes there counts
-counts_there : (lsn_of : ℕ → ℕ) (log : History) (r : LogRecord) (lsn page slot : ℕ) → size log + 1 ≡ lsn → writes page slot r ≡ true → counts_for lsn_of r lsn ≡ ltb (size log) (lsn_of page)
-counts_there lsn_of log (Update u) lsn page slot at w =
-    let (p, s) = and_parts (eqb u.page page) (eqb u.slot slot) w in
-    le_is_lt (size log) lsn (lsn_of u.page) at ∙ ap (λ x. ltb (size log) (lsn_of x)) (eqb-true u.page page p)
-counts_there lsn_of log (Compensation u) lsn page slot at w =
-    let (p, s) = and_parts (eqb u.page page) (eqb u.slot slot) w in
-    le_is_lt (size log) lsn (lsn_of u.page) at ∙ ap (λ x. ltb (size log) (lsn_of x)) (eqb-true u.page page p)
-counts_there lsn_of log _ lsn page slot at w = absurd (cc)
+counts_there : (lsn_of : ℕ → ℕ) (log : History) (r : LogRecord) (lsn page slot : ℕ) → last_lsn log + 1 ≡ lsn → writes page slot r ≡ true → counts_for lsn_of r lsn ≡ ltb (last_lsn log) (lsn_of page)
+counts_there lsn_of log r lsn page slot at = by (change_of r)
+  where
+    by : (o : Option Change) → is_in_cell page slot o ≡ true → option_map_or (λ c. leb lsn (lsn_of c.page)) o false ≡ ltb (last_lsn log) (lsn_of page)
+    by None w = absurd (cc)
+    by (Some c) w =
+        let (p, s) = and_parts (eqb c.page page) (eqb c.slot slot) w in
+        le_is_lt (last_lsn log) lsn (lsn_of c.page) at ∙ ap (λ x. ltb (last_lsn log) (lsn_of x)) (eqb-true c.page page p)
 
-module _ (pages : List Page) (log : History) (r : LogRecord) (lsn : ℕ) (at : size log + 1 ≡ lsn) where
+module _ (pages : List Page) (log : History) (r : LogRecord) (lsn : ℕ) (at : last_lsn log + 1 ≡ lsn) where
   counted : counts_for (page_lsn pages) r lsn ≡ true → Follows (log_at pages log) (log_at pages (log ▸ r)) r lsn
   counted c page slot =
       step page slot (page_lsn pages page) log r
       ∙ elim (cases_Bool (writes page slot r)) [
         | inl w ↦
-            (let k : ltb (size log) (page_lsn pages page) ≡ true = sym (counts_there (page_lsn pages) log r lsn page slot at w) ∙ c in
-            let n : suc (size log) ≡ lsn = omega arith in
+            (let k : ltb (last_lsn log) (page_lsn pages page) ≡ true = sym (counts_there (page_lsn pages) log r lsn page slot at w) ∙ c in
+            let n : suc (last_lsn log) ≡ lsn = omega arith in
             rw (w, k) n)
         | inr w ↦ rw w refl
       ]
@@ -85,7 +66,7 @@ module _ (pages : List Page) (log : History) (r : LogRecord) (lsn : ℕ) (at : s
       sym (step page slot (page_lsn pages page) log r
       ∙ elim (cases_Bool (writes page slot r)) [
         | inl w ↦
-            (let k : ltb (size log) (page_lsn pages page) ≡ false = sym (counts_there (page_lsn pages) log r lsn page slot at w) ∙ c in
+            (let k : ltb (last_lsn log) (page_lsn pages page) ≡ false = sym (counts_there (page_lsn pages) log r lsn page slot at w) ∙ c in
             rw (w, k) refl)
         | inr w ↦ rw w refl
       ])
@@ -101,9 +82,9 @@ module _ (log : History) (ws : List ℕ) (page : Page) (keeps : KeepsPage log ws
   value_left : (k : ℕ) → k < 16 → image_in (record_at log (get_or ws (16 * page.number + k) 0)) ≡ replay (first page.lsn log) page.number k
   value_left k lt =
       let w : ℕ = last_write page.number k (first page.lsn log) in
-      let low : w ≤ page.lsn = (let a = last_write_within page.number k (first page.lsn log) in let b = first_within page.lsn log in omega (arith, a, b)) in
+      let low : w ≤ page.lsn = (let a = last_write_within page.number k (first page.lsn log) in let b = size_of_first_le page.lsn log in omega (arith, a, b)) in
       ap (λ n. image_in (record_at log n)) (keeps k lt)
-      ∙ ap image_in (sym (first_record page.lsn w log low))
+      ∙ ap image_in (sym (record_in_first page.lsn log w low))
       ∙ image_in_last page.number k (first page.lsn log)
 
   abbrev pub AreLeft : Type 0

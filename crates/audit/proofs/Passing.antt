@@ -1,42 +1,33 @@
--- The log so far, as a beginning of the records.
-use Rattle.std.proofs.Common.{◌≡◌, ◌<◌, ◌+◌, cond, refl, inl, inr, suc, ℕ, List, ◌++◌, length, take, drop, get_or, Some, sym, ap, subst, ◌∙◌, take-append-drop}
-use Rattle.std.specs.List.{slice_get}
-use Rattle.std.proofs.lemmas.Option.{slice_get_within, get_or_from_slice_get}
+-- The log so far, as a beginning of the log.
+use Rattle.std.proofs.Common.{◌≡◌, ◌+◌, cond, refl, inl, inr, suc, ℕ, List, ◌++◌, length, take, drop, sym, subst, ◌∙◌, arith}
 use Rattle.std.proofs.lemmas.List.{take_at}
-use Rattle.std.proofs.lemmas.List.Elements.{All-more}
 use Rattle.page.specs.declared.fault.Fault.{Fault}
 use Rattle.page.specs.declared.fault.Fault.TheVariants.{NoResource, EndTooEarly, WrongCompensation}
 use Rattle.std.proofs.lemmas.Bool.{cases_Bool}
-use Rattle.wal.specs.Records.{LogRecord, History, start, ◌▸◌, history, size, record_at}
-use Rattle.wal.specs.Laws.{IsLawful, Obeys, ChainLaw, FinishLaw, CompensationLaw}
+use Rattle.wal.specs.Records.{LogRecord, History, ◌▸◌, LogContent, history, last_lsn, first}
+use Rattle.wal.specs.Laws.{Obeys, ChainLaw, FinishLaw, CompensationLaw}
 use Rattle.wal.specs.Tail.{is_end}
 use Rattle.wal.specs.Store.{NamesPages}
-use Rattle.wal.proofs.Histories.{after-append, record_in_front}
+use Rattle.wal.proofs.Histories.{record_in_first, size_of_first_le}
+use Rattle.wal.proofs.Appended.{each_more}
 use Rattle.audit.specs.Passing.{Begins}
 use Rattle.audit.specs.FirstFault.{BrokenAt, AreSound, FirstBroken, RecordFault}
 
-pub begins_taken : (xs : List LogRecord) (i : ℕ) → Begins (history (take i xs)) xs
-begins_taken xs i n le =
-    ap (λ ys. record_at (history ys) n) (sym (take-append-drop i xs))
-    ∙ ap (λ h. record_at h n) (after-append start (take i xs) (drop i xs))
-    ∙ record_in_front (history (take i xs)) (drop i xs) n le
+pub begins_first : (log : LogContent) (lsn : ℕ) → Begins (first lsn (history log)) log
+begins_first log lsn n le = sym (record_in_first lsn (history log) n (omega (arith, le, size_of_first_le lsn (history log))))
 
-pub sound_more : (count : ℕ) (xs : List LogRecord) (i : ℕ) (r : LogRecord) → slice_get xs i ≡ Some r → history (take (i + 1) xs) ≡ history (take i xs) ▸ r
-    → AreSound count (take i xs) → NamesPages count r → Obeys (history (take i xs)) r → AreSound count (take (i + 1) xs)
-sound_more count xs i r at next sound named obeys =
-    let within : i < length xs = slice_get_within xs i r at in
-    let is : get_or xs i r ≡ r = get_or_from_slice_get xs i r r at in
-    record {
-      lawful = subst IsLawful (sym next) (sound.lawful, obeys);
-      named = All-more (NamesPages count) xs i r within sound.named (subst (NamesPages count) (sym is) named);
-    }
+-- one record more
+pub sound_more : (count : ℕ) (log : History) (lsn : ℕ) (r : LogRecord) → first (lsn + 1) log ≡ first lsn log ▸ r
+    → AreSound count (first lsn log) → NamesPages count r → Obeys (first lsn log) r → AreSound count (first (lsn + 1) log)
+sound_more count log lsn r next sound named obeys =
+    subst (AreSound count) (sym next) (record { lawful = (sound.lawful, obeys); named = each_more (NamesPages count) (first lsn log) r sound.named named })
 
-pub record_fault : (count : ℕ) (records : List LogRecord) (e : Fault) → FirstBroken count records e → RecordFault count records e
-record_fault count records NoResource h = tt
-record_fault count records e h = h
+pub record_fault : (count : ℕ) (log : History) (e : Fault) → FirstBroken count log e → RecordFault count log e
+record_fault count log NoResource h = tt
+record_fault count log e h = h
 
 -- the fault of a record that breaks the law of compensation
-pub wrong_end_or_clr : (count : ℕ) (log : History) (r : LogRecord) (lsn : ℕ) (e : Fault) → e ≡ cond (is_end r) (EndTooEarly lsn) (WrongCompensation lsn) → lsn ≡ suc (size log)
+pub wrong_end_or_clr : (count : ℕ) (log : History) (r : LogRecord) (lsn : ℕ) (e : Fault) → e ≡ cond (is_end r) (EndTooEarly lsn) (WrongCompensation lsn) → lsn ≡ suc (last_lsn log)
     → NamesPages count r → ChainLaw log r → FinishLaw log r → (CompensationLaw log r → ⊥) → BrokenAt count log r e
 wrong_end_or_clr count log r lsn e is at named chain finish broken =
     elim (cases_Bool (is_end r)) [

@@ -1,12 +1,12 @@
 -- How a transaction stands after one record more.
-use Rattle.std.proofs.Common.{◌≡◌, ◌+◌, ◌≤◌, ℕ, zero, suc, true, false, List, [], ◌∷◌, ◌++◌, length, get_or, drop, refl, sym, ap, subst, ◌∙◌, arith, eqb, eq-eqb, length-append}
+use Rattle.std.proofs.Common.{◌≡◌, ◌+◌, ◌≤◌, ℕ, zero, suc, true, false, cond, Option, Some, None, List, [], ◌∷◌, ◌++◌, length, get_or, drop, refl, sym, ap, subst, ◌∙◌, arith, eqb, eq-eqb, length-append}
 use Rattle.std.proofs.Math.Seq.{get_or-append_seam}
 use Rattle.std.proofs.lemmas.List.{get_or_append_left}
-use Rattle.wal.specs.Records.{LogRecord, Update, Compensation, Commit, Abort, End, CheckpointBegin, CheckpointEnd, History, ◌▸◌, size}
-use Rattle.wal.specs.Meaning.{is_of, pending}
-use Rattle.wal.specs.Tail.{tx_of}
+use Rattle.wal.specs.Records.{LogRecord, Update, Compensation, Commit, Abort, End, History, ◌▸◌, last_lsn}
+use Rattle.wal.specs.Meaning.{owner, is_owned_by, is_of, pending, last_of}
+use Rattle.wal.specs.Tail.{number_or_0, tx_of}
 use Rattle.audit.specs.declared.standing.Standing.{Standing}
-use Rattle.audit.specs.Standings.{under, Linked, Stands}
+use Rattle.audit.specs.Standings.{under, Linked, Stands, last_after, after}
 
 under_more : (links : List ℕ) (x n : ℕ) → n ≤ length links → under (links ++ x ∷ []) n ≡ under links n
 under_more links x zero h = refl
@@ -32,7 +32,10 @@ linked_push links ns top m e h =
     let room : suc m ≤ length (links ++ top ∷ []) = omega (arith, length-append links (top ∷ [])) in
     (refl, omega arith, room, subst (λ k. Linked (links ++ top ∷ []) ns k) (sym at) (linked_more links top ns top h))
 
--- a record of another transaction
+-- a record of another transaction is not the last of this one
+last_other : (t : ℕ) (log : History) (r : LogRecord) → is_of t r ≡ false → last_of t (log ▸ r) ≡ last_of t log
+last_other t log r e = rw e refl
+
 pub stands_other : (links : List ℕ) (x t : ℕ) (log : History) (r : LogRecord) (s : Standing) → is_of t r ≡ false → Stands links t log s → Stands (links ++ x ∷ []) t (log ▸ r) s
 stands_other links x t log (Update u) s e h =
     record { last = rw e h.last; undo_next = rw e h.undo_next; committed = h.committed; aborted = h.aborted; ended = h.ended; pending = rw e (linked_more links x (pending t log) s.newest h.pending) }
@@ -44,49 +47,40 @@ stands_other links x t log (Abort u) s e h =
     record { last = rw e h.last; undo_next = h.undo_next; committed = h.committed; aborted = rw e h.aborted; ended = h.ended; pending = linked_more links x (pending t log) s.newest h.pending }
 stands_other links x t log (End u) s e h =
     record { last = rw e h.last; undo_next = h.undo_next; committed = h.committed; aborted = h.aborted; ended = rw e h.ended; pending = linked_more links x (pending t log) s.newest h.pending }
-stands_other links x t log CheckpointBegin s e h =
-    record { last = h.last; undo_next = h.undo_next; committed = h.committed; aborted = h.aborted; ended = h.ended; pending = linked_more links x (pending t log) s.newest h.pending }
-stands_other links x t log (CheckpointEnd b ts d) s e h =
-    record { last = h.last; undo_next = h.undo_next; committed = h.committed; aborted = h.aborted; ended = h.ended; pending = linked_more links x (pending t log) s.newest h.pending }
+stands_other links x t log r s e h =
+    record { last = h.last ∙ sym (last_other t log r e); undo_next = h.undo_next; committed = h.committed; aborted = h.aborted; ended = h.ended; pending = linked_more links x (pending t log) s.newest h.pending }
 
--- how the transaction of a record stands after it
-abbrev pub after : LogRecord → (lsn below : ℕ) → Standing → Standing
-after (Update u) lsn below s = record { last = lsn; undo_next = lsn; newest = lsn; committed = s.committed; aborted = s.aborted; ended = s.ended }
-after (Compensation c) lsn below s = record { last = lsn; undo_next = c.undo_next; newest = below; committed = s.committed; aborted = s.aborted; ended = s.ended }
-after (Commit r) lsn below s = record { last = lsn; undo_next = s.undo_next; newest = s.newest; committed = true; aborted = s.aborted; ended = s.ended }
-after (Abort r) lsn below s = record { last = lsn; undo_next = s.undo_next; newest = s.newest; committed = s.committed; aborted = true; ended = s.ended }
-after (End r) lsn below s = record { last = lsn; undo_next = s.undo_next; newest = s.newest; committed = s.committed; aborted = s.aborted; ended = true }
-after _ lsn below s = s
+-- the last of the transaction of a record
+last_own : (log : History) (r : LogRecord) (old lsn : ℕ) → lsn ≡ suc (last_lsn log) → old ≡ last_of (tx_of r) log → last_after (owner r) lsn old ≡ last_of (tx_of r) (log ▸ r)
+last_own log r old lsn n h = by_owner (owner r) h
+  where
+    by_owner : (o : Option ℕ) → old ≡ last_of (number_or_0 o) log → last_after o lsn old ≡ cond (is_owned_by (number_or_0 o) o) (suc (last_lsn log)) (last_of (number_or_0 o) log)
+    by_owner None h = h
+    by_owner (Some t) h = rw (eq-eqb t t refl) n
 
-pub stands_own : (links : List ℕ) (log : History) (r : LogRecord) (s : Standing) (lsn below : ℕ) → size log + 1 ≡ lsn → length links ≡ size log → below ≡ under links s.newest
+pub stands_own : (links : List ℕ) (log : History) (r : LogRecord) (s : Standing) (lsn below : ℕ) → last_lsn log + 1 ≡ lsn → length links ≡ last_lsn log → below ≡ under links s.newest
     → Stands links (tx_of r) log s → Stands (links ++ s.newest ∷ []) (tx_of r) (log ▸ r) (after r lsn below s)
 stands_own links log (Update u) s lsn below at len b h =
-    let n : lsn ≡ suc (size log) = omega arith in
+    let n : lsn ≡ suc (last_lsn log) = omega arith in
     let e : eqb u.tx u.tx ≡ true = eq-eqb u.tx u.tx refl in
-    let p : Linked (links ++ s.newest ∷ []) (suc (size log) ∷ pending u.tx log) lsn = subst (λ k. Linked (links ++ s.newest ∷ []) (suc (size log) ∷ pending u.tx log) k) (sym n) (linked_push links (pending u.tx log) s.newest (size log) len h.pending) in
+    let p : Linked (links ++ s.newest ∷ []) (suc (last_lsn log) ∷ pending u.tx log) lsn = subst (λ k. Linked (links ++ s.newest ∷ []) (suc (last_lsn log) ∷ pending u.tx log) k) (sym n) (linked_push links (pending u.tx log) s.newest (last_lsn log) len h.pending) in
     record { last = rw e n; undo_next = rw e n; committed = h.committed; aborted = h.aborted; ended = h.ended; pending = rw e p }
 stands_own links log (Compensation c) s lsn below at len b h =
-    let n : lsn ≡ suc (size log) = omega arith in
+    let n : lsn ≡ suc (last_lsn log) = omega arith in
     let e : eqb c.tx c.tx ≡ true = eq-eqb c.tx c.tx refl in
     let p : Linked links (drop 1 (pending c.tx log)) below = subst (λ k. Linked links (drop 1 (pending c.tx log)) k) (sym b) (linked_drop links (pending c.tx log) s.newest h.pending) in
     record { last = rw e n; undo_next = rw e refl; committed = h.committed; aborted = h.aborted; ended = h.ended; pending = rw e (linked_more links s.newest (drop 1 (pending c.tx log)) below p) }
 stands_own links log (Commit c) s lsn below at len b h =
-    let n : lsn ≡ suc (size log) = omega arith in
+    let n : lsn ≡ suc (last_lsn log) = omega arith in
     let e : eqb c.tx c.tx ≡ true = eq-eqb c.tx c.tx refl in
     record { last = rw e n; undo_next = h.undo_next; committed = rw e refl; aborted = h.aborted; ended = h.ended; pending = linked_more links s.newest (pending c.tx log) s.newest h.pending }
 stands_own links log (Abort c) s lsn below at len b h =
-    let n : lsn ≡ suc (size log) = omega arith in
+    let n : lsn ≡ suc (last_lsn log) = omega arith in
     let e : eqb c.tx c.tx ≡ true = eq-eqb c.tx c.tx refl in
     record { last = rw e n; undo_next = h.undo_next; committed = h.committed; aborted = rw e refl; ended = h.ended; pending = linked_more links s.newest (pending c.tx log) s.newest h.pending }
 stands_own links log (End c) s lsn below at len b h =
-    let n : lsn ≡ suc (size log) = omega arith in
+    let n : lsn ≡ suc (last_lsn log) = omega arith in
     let e : eqb c.tx c.tx ≡ true = eq-eqb c.tx c.tx refl in
     record { last = rw e n; undo_next = h.undo_next; committed = h.committed; aborted = h.aborted; ended = rw e refl; pending = linked_more links s.newest (pending c.tx log) s.newest h.pending }
-stands_own links log CheckpointBegin s lsn below at len b h =
-    record { last = h.last; undo_next = h.undo_next; committed = h.committed; aborted = h.aborted; ended = h.ended; pending = linked_more links s.newest (pending 0 log) s.newest h.pending }
-stands_own links log (CheckpointEnd x ts d) s lsn below at len b h =
-    record { last = h.last; undo_next = h.undo_next; committed = h.committed; aborted = h.aborted; ended = h.ended; pending = linked_more links s.newest (pending 0 log) s.newest h.pending }
-
-pub stands_then : (links : List ℕ) (log : History) (r : LogRecord) (s s' : Standing) (lsn below : ℕ) → after r lsn below s ≡ s' → size log + 1 ≡ lsn → length links ≡ size log → below ≡ under links s.newest
-    → Stands links (tx_of r) log s → Stands (links ++ s.newest ∷ []) (tx_of r) (log ▸ r) s'
-stands_then links log r s s' lsn below e at len b h = subst (λ x. Stands (links ++ s.newest ∷ []) (tx_of r) (log ▸ r) x) e (stands_own links log r s lsn below at len b h)
+stands_own links log r s lsn below at len b h =
+    record { last = last_own log r s.last lsn (omega arith) h.last; undo_next = h.undo_next; committed = h.committed; aborted = h.aborted; ended = h.ended; pending = linked_more links s.newest (pending (tx_of r) log) s.newest h.pending }

@@ -5,7 +5,7 @@ use Rattle.std.specs.List.{slice_get}
 use Rattle.std.proofs.lemmas.Bool.{cases_Bool, cases_eq, or_left, or_right, or_cases, or_from, false≢true, both_ways}
 use Rattle.std.proofs.lemmas.Option.{slice_get_within, get_or_from_slice_get}
 use Rattle.wal.specs.Records.{TableEntry, tx_in, History}
-use Rattle.wal.specs.Meaning.{is_loser}
+use Rattle.wal.specs.Meaning.{is_unfinished}
 use Rattle.wal.specs.Tail.{is_among, numbers_from, above_all, losers_of}
 use Rattle.wal.specs.Store.{true_entry, true_table}
 use Rattle.wal.specs.Spelling.{IsRising}
@@ -71,27 +71,27 @@ entries_from f [] h = refl
 entries_from f (e ∷ es) h = ap₂ (λ (x : TableEntry) (xs : List TableEntry). x ∷ xs) (h zero e (omega arith)) (entries_from f es (λ k d lt. h (suc k) d (omega arith)))
 
 module _ (log : History) (ts : List TableEntry) where
-  listed_lost : All (IsTrueEntry log) ts → (t : ℕ) → Lists ts t → is_loser t log ≡ true
+  listed_lost : All (IsTrueEntry log) ts → (t : ℕ) → Lists ts t → is_unfinished t log ≡ true
   listed_lost all t l =
       let within = slice_get_within ts l.0 l.1 l.2 in
       let e : get_or ts l.0 l.1 ≡ l.1 = get_or_from_slice_get ts l.0 l.1 l.1 l.2 in
-      ap (λ n. is_loser n log) (sym l.3 ∙ sym (ap tx_in e)) ∙ (all l.0 l.1 within).0
+      ap (λ n. is_unfinished n log) (sym l.3 ∙ sym (ap tx_in e)) ∙ (all l.0 l.1 within).0
 
-  numbers_are : IsRising (map tx_in ts) → All (IsTrueEntry log) ts → ((t : ℕ) → is_loser t log ≡ true → Lists ts t) → losers_of log ≡ map tx_in ts
+  numbers_are : IsRising (map tx_in ts) → All (IsTrueEntry log) ts → ((t : ℕ) → is_unfinished t log ≡ true → Lists ts t) → losers_of log ≡ map tx_in ts
   numbers_are rising all each =
-      filtered (λ t. is_loser t log) (above_all log) 0 (map tx_in ts) (rising_from_0 (map tx_in ts) rising)
+      filtered (λ t. is_unfinished t log) (above_all log) 0 (map tx_in ts) (rising_from_0 (map tx_in ts) rising)
       (λ x le lt.
-      elim (cases_Bool (is_loser x log)) [
+      elim (cases_Bool (is_unfinished x log)) [
         | inl i ↦ (let l = each x i in i ∙ sym (listed_among ts x l.0 l.1 l.2 l.3))
         | inr i ↦
             elim (cases_Bool (is_among x (map tx_in ts))) [
-              | inl j ↦ absurd (both_ways (is_loser x log) i (listed_lost all x (among_listed ts x j)))
+              | inl j ↦ absurd (both_ways (is_unfinished x log) i (listed_lost all x (among_listed ts x j)))
               | inr j ↦ i ∙ sym j
             ]
       ])
       (λ x h. let lt = tx_below x log (loser_has x log (listed_lost all x (among_listed ts x h))) in omega (arith, lt))
 
-  pub table_is : IsRising (map tx_in ts) → All (IsTrueEntry log) ts → ((t : ℕ) → is_loser t log ≡ true → Lists ts t) → ts ≡ true_table log
+  pub table_is : IsRising (map tx_in ts) → All (IsTrueEntry log) ts → ((t : ℕ) → is_unfinished t log ≡ true → Lists ts t) → ts ≡ true_table log
   table_is rising all each =
       entries_from (true_entry log) ts (λ k d lt. (all k d lt).1) ∙ ap (map (true_entry log)) (sym (numbers_are rising all each))
 
@@ -108,7 +108,7 @@ passes p (x ∷ xs) k d lt =
       | inr i ↦ (let e : filter p (x ∷ xs) ≡ filter p xs = rw i refl in subst (λ ys. (n c : ℕ) → n < length ys → p (get_or ys n c) ≡ true) (sym e) (λ n c l. passes p xs n c l) k d lt)
     ]
 
-all_true : (log : History) (ls : List ℕ) → ((n c : ℕ) → n < length ls → is_loser (get_or ls n c) log ≡ true) → All (IsTrueEntry log) (map (true_entry log) ls)
+all_true : (log : History) (ls : List ℕ) → ((n c : ℕ) → n < length ls → is_unfinished (get_or ls n c) log ≡ true) → All (IsTrueEntry log) (map (true_entry log) ls)
 all_true log [] h k d lt = absurd (omega (arith, lt))
 all_true log (t ∷ ts) h zero d lt = (h zero t (omega arith), refl)
 all_true log (t ∷ ts) h (suc k) d lt = all_true log ts (λ n c l. h (suc n) c (omega arith)) k d (omega arith)
@@ -133,10 +133,10 @@ same_numbers log [] = refl
 same_numbers log (t ∷ ts) = ap (λ (xs : List ℕ). t ∷ xs) (same_numbers log ts)
 
 pub true_entries : (log : History) (ts : List TableEntry) → ts ≡ true_table log → All (IsTrueEntry log) ts
-true_entries log ts e = subst (λ (xs : List TableEntry). All (IsTrueEntry log) xs) (sym e) (all_true log (losers_of log) (λ n c l. passes (λ t. is_loser t log) (numbers_from 0 (above_all log)) n c l))
+true_entries log ts e = subst (λ (xs : List TableEntry). All (IsTrueEntry log) xs) (sym e) (all_true log (losers_of log) (λ n c l. passes (λ t. is_unfinished t log) (numbers_from 0 (above_all log)) n c l))
 
-pub true_lists : (log : History) (ts : List TableEntry) → ts ≡ true_table log → (t : ℕ) → is_loser t log ≡ true → Lists ts t
+pub true_lists : (log : History) (ts : List TableEntry) → ts ≡ true_table log → (t : ℕ) → is_unfinished t log ≡ true → Lists ts t
 true_lists log ts e t lost =
     let below = tx_below t log (loser_has t log lost) in
-    let among : is_among t (losers_of log) ≡ true = passes_among (λ x. is_loser x log) (above_all log) 0 t lost (omega arith) (omega (arith, below)) in
+    let among : is_among t (losers_of log) ≡ true = passes_among (λ x. is_unfinished x log) (above_all log) 0 t lost (omega arith) (omega (arith, below)) in
     subst (λ (xs : List TableEntry). Lists xs t) (sym e) (among_listed (true_table log) t (ap (is_among t) (same_numbers log (losers_of log)) ∙ among))

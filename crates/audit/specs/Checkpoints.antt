@@ -1,12 +1,12 @@
 -- What the checkpoint of a master says.
 use Rattle.std.specs.Prelude.{◌≡◌, ℕ, List, Some, true, slice_get}
 use Rattle.wal.specs.Records.{TableEntry, History}
-use Rattle.wal.specs.Meaning.{is_loser}
+use Rattle.wal.specs.Meaning.{is_unfinished}
 use Rattle.wal.specs.Store.{true_entry}
 
 -- the entry is of a loser, and what is true of it
 abbrev pub IsTrueEntry : History → TableEntry → Type 0
-IsTrueEntry log e = (is_loser e.tx log ≡ true) × (e ≡ true_entry log e.tx)
+IsTrueEntry log e = (is_unfinished e.tx log ≡ true) × (e ≡ true_entry log e.tx)
 
 -- an entry of the transaction t stands there
 abbrev pub Lists : List TableEntry → ℕ → Type 0

@@ -1,15 +1,16 @@
 -- Records that a page's image lacks, and whether a dirty page table covers them.
 use Rattle.std.specs.Prelude.{◌≡◌, ◌<◌, ◌≤◌, ℕ, suc, List, length, Option, Some, ◌==◌, ◌&&◌, nat_lt, if◌then◌else◌, slice_index, slice_set}
 use Rattle.page.specs.declared.page.Page.{Page}
-use Rattle.wal.specs.Records.{LogRecord, Update, Compensation, History, start, ◌▸◌, size}
-use Rattle.wal.specs.Meaning.{is_on}
+use Rattle.std.specs.Option.{option_map_or}
+use Rattle.wal.specs.Records.{LogRecord, History, start, ◌▸◌, last_lsn}
+use Rattle.wal.specs.Meaning.{change_of, is_on}
 use Rattle.audit.specs.Pages.{page_lsn}
 
 -- the LSN of the first record on the page above its PageLSN, or 0
 abbrev pub first_missing : (page page_lsn : ℕ) → History → ℕ
 first_missing page page_lsn start = 0
 first_missing page page_lsn (log ▸ r) =
-    if first_missing page page_lsn log == 0 && (is_on page r && nat_lt page_lsn (suc (size log))) then suc (size log) else first_missing page page_lsn log
+    if first_missing page page_lsn log == 0 && (is_on page r && nat_lt page_lsn (suc (last_lsn log))) then suc (last_lsn log) else first_missing page page_lsn log
 
 -- for each page its first missing record
 pub record KeepsMissing (pages : List Page) (log : History) (missing : List ℕ) : Type 0 where
@@ -18,9 +19,8 @@ pub record KeepsMissing (pages : List Page) (log : History) (missing : List ℕ)
 
 -- after the record at an LSN
 abbrev pub noted_missing : (ℕ → ℕ) → List ℕ → LogRecord → ℕ → List ℕ
-noted_missing lsn_of missing (Update u) lsn = if slice_index missing u.page == 0 && nat_lt (lsn_of u.page) lsn then slice_set missing u.page lsn else missing
-noted_missing lsn_of missing (Compensation c) lsn = if slice_index missing c.page == 0 && nat_lt (lsn_of c.page) lsn then slice_set missing c.page lsn else missing
-noted_missing lsn_of missing _ lsn = missing
+noted_missing lsn_of missing r lsn =
+    option_map_or (λ c. if slice_index missing c.page == 0 && nat_lt (lsn_of c.page) lsn then slice_set missing c.page lsn else missing) (change_of r) missing
 
 -- a listed RecLSN lies in 1 to the master
 abbrev pub IsInRange : Option ℕ → ℕ → Type 0

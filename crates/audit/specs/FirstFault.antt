@@ -1,9 +1,9 @@
 -- The first broken law, in the order: the records by LSN, the pages by number, the checkpoint.
-use Rattle.std.specs.Prelude.{◌≡◌, ◌<◌, ◌≤◌, ◌⊎◌, ℕ, suc, List, All, length, take, slice_get, Some, true, false, None}
+use Rattle.std.specs.Prelude.{◌≡◌, ◌<◌, ◌≤◌, ◌⊎◌, ◌+◌, ℕ, suc, List, All, length, take, slice_get, Some, true, false, None}
 use Rattle.page.specs.declared.fault.Fault.{Fault}
 use Rattle.page.specs.declared.fault.Fault.TheVariants.{NoResource, NoSuchPage, Chain, AfterFinish, WrongCompensation, BeforeImage, DirtyWrite, EndTooEarly, PageAheadOfLog, PageImage, BadMaster, TransactionTable, DirtyTable}
 use Rattle.page.specs.declared.page.Page.{Page}
-use Rattle.wal.specs.Records.{LogRecord, TableEntry, History, history, size, first}
+use Rattle.wal.specs.Records.{LogRecord, TableEntry, History, LogContent, history, last_lsn, record_at, first, EachRecord}
 use Rattle.wal.specs.Laws.{ChainLaw, FinishLaw, CompensationLaw, BeforeLaw, Strictness, IsLawful}
 use Rattle.wal.specs.Tail.{is_end}
 use Rattle.wal.specs.Store.{NamesPages, PageLaw, DirtyLaw, Lawful, checkpoint_at, true_table}
@@ -13,41 +13,41 @@ use Rattle.page.specs.Store.{StoreContent}
 
 -- the fault names the record behind this log and the first law that the record breaks there
 abbrev pub BrokenAt : (count : ℕ) → History → LogRecord → Fault → Type 0
-BrokenAt count log r (NoSuchPage lsn) = (lsn ≡ suc (size log)) × (NamesPages count r → ⊥)
-BrokenAt count log r (Chain lsn) = (lsn ≡ suc (size log)) × NamesPages count r × (ChainLaw log r → ⊥)
-BrokenAt count log r (AfterFinish lsn) = (lsn ≡ suc (size log)) × NamesPages count r × ChainLaw log r × (FinishLaw log r → ⊥)
+BrokenAt count log r (NoSuchPage lsn) = (lsn ≡ suc (last_lsn log)) × (NamesPages count r → ⊥)
+BrokenAt count log r (Chain lsn) = (lsn ≡ suc (last_lsn log)) × NamesPages count r × (ChainLaw log r → ⊥)
+BrokenAt count log r (AfterFinish lsn) = (lsn ≡ suc (last_lsn log)) × NamesPages count r × ChainLaw log r × (FinishLaw log r → ⊥)
 BrokenAt count log r (WrongCompensation lsn) =
-    (lsn ≡ suc (size log)) × NamesPages count r × ChainLaw log r × FinishLaw log r × (is_end r ≡ false) × (CompensationLaw log r → ⊥)
+    (lsn ≡ suc (last_lsn log)) × NamesPages count r × ChainLaw log r × FinishLaw log r × (is_end r ≡ false) × (CompensationLaw log r → ⊥)
 BrokenAt count log r (EndTooEarly lsn) =
-    (lsn ≡ suc (size log)) × NamesPages count r × ChainLaw log r × FinishLaw log r × (is_end r ≡ true) × (CompensationLaw log r → ⊥)
+    (lsn ≡ suc (last_lsn log)) × NamesPages count r × ChainLaw log r × FinishLaw log r × (is_end r ≡ true) × (CompensationLaw log r → ⊥)
 BrokenAt count log r (DirtyWrite lsn) =
-    (lsn ≡ suc (size log)) × NamesPages count r × ChainLaw log r × FinishLaw log r × CompensationLaw log r × (Strictness log r → ⊥)
+    (lsn ≡ suc (last_lsn log)) × NamesPages count r × ChainLaw log r × FinishLaw log r × CompensationLaw log r × (Strictness log r → ⊥)
 BrokenAt count log r (BeforeImage lsn) =
-    (lsn ≡ suc (size log)) × NamesPages count r × ChainLaw log r × FinishLaw log r × CompensationLaw log r × Strictness log r × (BeforeLaw log r → ⊥)
+    (lsn ≡ suc (last_lsn log)) × NamesPages count r × ChainLaw log r × FinishLaw log r × CompensationLaw log r × Strictness log r × (BeforeLaw log r → ⊥)
 BrokenAt count log r _ = ⊥
 
--- the records keep their laws, and name pages below the count
-pub record AreSound (count : ℕ) (records : List LogRecord) : Type 0 where
-  pub lawful : IsLawful (history records)
-  pub named : All (NamesPages count) records
+-- the records of the log keep their laws, and name pages below the count
+pub record AreSound (count : ℕ) (log : History) : Type 0 where
+  pub lawful : IsLawful log
+  pub named : EachRecord (NamesPages count) log
 
--- the fault is that of the first record that breaks a law
-pub record FirstBroken (count : ℕ) (records : List LogRecord) (e : Fault) : Type 0 where
-  pub place : ℕ
+-- the fault is that of the first record that breaks a law, behind this LSN
+pub record FirstBroken (count : ℕ) (log : History) (e : Fault) : Type 0 where
+  pub lsn : ℕ
   pub entry : LogRecord
-  pub there : slice_get records place ≡ Some entry
-  pub before : AreSound count (take place records)
-  pub broken : BrokenAt count (history (take place records)) entry e
+  pub there : record_at log (lsn + 1) ≡ Some entry
+  pub before : AreSound count (first lsn log)
+  pub broken : BrokenAt count (first lsn log) entry e
 
 -- why the records are refused, want of memory aside
-abbrev pub RecordFault : (count : ℕ) → List LogRecord → Fault → Type 0
-RecordFault count records NoResource = Unit {0}
-RecordFault count records e = FirstBroken count records e
+abbrev pub RecordFault : (count : ℕ) → History → Fault → Type 0
+RecordFault count log NoResource = Unit {0}
+RecordFault count log e = FirstBroken count log e
 
 -- the fault names the page and the first law that it breaks
 abbrev pub BrokenPage : History → Page → Fault → Type 0
-BrokenPage log page (PageAheadOfLog number) = (number ≡ page.number) × (size log < page.lsn)
-BrokenPage log page (PageImage number) = (number ≡ page.number) × (page.lsn ≤ size log) × (PageLaw log page → ⊥)
+BrokenPage log page (PageAheadOfLog number) = (number ≡ page.number) × (last_lsn log < page.lsn)
+BrokenPage log page (PageImage number) = (number ≡ page.number) × (page.lsn ≤ last_lsn log) × (PageLaw log page → ⊥)
 BrokenPage log page _ = ⊥
 
 -- the fault is that of the first page that breaks its law
@@ -94,16 +94,16 @@ MasterFault log pages m (DirtyTable number) =
 MasterFault log pages m _ = ⊥
 
 -- FIRST FAULT. The first broken law: of the records, else of the pages, else of the checkpoint; want of memory aside.
-abbrev pub FirstFault : List LogRecord → StoreContent → Fault → Type 0
-FirstFault records store e =
-    RecordFault (length store.pages) records e
-    ⊎ ((AreSound (length store.pages) records × PagesFault (history records) store.pages e)
-    ⊎ (AreSound (length store.pages) records × All (PageLaw (history records)) store.pages × MasterFault (history records) store.pages store.master e))
+abbrev pub FirstFault : LogContent → StoreContent → Fault → Type 0
+FirstFault log store e =
+    RecordFault (length store.pages) (history log) e
+    ⊎ ((AreSound (length store.pages) (history log) × PagesFault (history log) store.pages e)
+    ⊎ (AreSound (length store.pages) (history log) × All (PageLaw (history log)) store.pages × MasterFault (history log) store.pages store.master e))
 
 -- an input that is not lawful has one first fault
 abbrev pub OneFirstFault : Type 0
-OneFirstFault = (records : List LogRecord) (store : StoreContent) → HasOneCause (FirstFault records store)
+OneFirstFault = (log : LogContent) (store : StoreContent) → HasOneCause (FirstFault log store)
 
 -- and a lawful one has none
 abbrev pub NoFaultOfTheLawful : Type 0
-NoFaultOfTheLawful = (records : List LogRecord) (store : StoreContent) → Lawful records store → HasNoCause (FirstFault records store)
+NoFaultOfTheLawful = (log : LogContent) (store : StoreContent) → Lawful log store → HasNoCause (FirstFault log store)

@@ -1,8 +1,11 @@
 -- The records that a page's image is to have.
 use Rattle.std.specs.Prelude.{◌≡◌, ◌<◌, ◌+◌, ◌*◌, ℕ, List, [], Bool, false, nat_le, slice_index, slice_index_or}
 use Rattle.page.specs.declared.page.Page.{Page}
-use Rattle.wal.specs.Records.{LogRecord, Update, Compensation, History, first}
+use Rattle.std.specs.Option.{option_map_or}
+use Rattle.wal.specs.Records.{LogRecord, History, first}
+use Rattle.wal.specs.Meaning.{change_of}
 use Rattle.audit.specs.Cells.{last_write}
+use Rattle.page.specs.declared.sizes.TheConstants.{SLOTS}
 
 -- the PageLSN of the page at a place
 abbrev pub page_lsn : List Page → ℕ → ℕ
@@ -14,10 +17,8 @@ log_at pages log number = first (page_lsn pages number) log
 
 -- whether the record at an LSN is on a page, at or before its PageLSN
 abbrev pub counts_for : (ℕ → ℕ) → LogRecord → ℕ → Bool
-counts_for lsn_of (Update u) lsn = nat_le lsn (lsn_of u.page)
-counts_for lsn_of (Compensation c) lsn = nat_le lsn (lsn_of c.page)
-counts_for lsn_of _ lsn = false
+counts_for lsn_of r lsn = option_map_or (λ c. nat_le lsn (lsn_of c.page)) (change_of r) false
 
 -- the numbers tell who wrote each cell of the page last, up to its PageLSN
 abbrev pub KeepsPage : History → List ℕ → Page → Type 0
-KeepsPage log writers page = (slot : ℕ) → slot < 16 → slice_index writers (16 * page.number + slot) ≡ last_write page.number slot (first page.lsn log)
+KeepsPage log writers page = (slot : ℕ) → slot < SLOTS → slice_index writers (SLOTS * page.number + slot) ≡ last_write page.number slot (first page.lsn log)

@@ -1,7 +1,7 @@
 -- What is kept while the records are gone through.
-use Rattle.std.specs.Prelude.{◌≡◌, ◌≤◌, ◌⊎◌, ◌||◌, ℕ, List, length, Option, Some, None, true}
+use Rattle.std.specs.Prelude.{◌≡◌, ◌≤◌, ◌⊎◌, ◌||◌, ℕ, length, Option, Some, None, true}
 use Rattle.page.specs.Image.{Image}
-use Rattle.wal.specs.Records.{LogRecord, Update, History, history, size, record_at}
+use Rattle.wal.specs.Records.{LogRecord, Update, History, LogContent, history, last_lsn, record_at}
 use Rattle.wal.specs.Tail.{tx_of}
 use Rattle.audit.specs.declared.standing.Standing.{Standing}
 use Rattle.audit.specs.declared.running.Running.{Running}
@@ -10,13 +10,13 @@ use Rattle.audit.specs.Cells.{KeepsCells}
 
 -- it tells how each transaction stands and who wrote each cell last
 pub record Tells (count : ℕ) (log : History) (running : Running) : Type 0 where
-  pub links : length running.links.items ≡ size log
+  pub links : length running.links.items ≡ last_lsn log
   pub stands : (t : ℕ) → Stands running.links.items t log (standing_in running.table t)
   pub cells : KeepsCells count (λ _. log) running.writers.items
 
--- the log is a beginning of these records
-abbrev pub Begins : History → List LogRecord → Type 0
-Begins log records = (n : ℕ) → n ≤ size log → record_at (history records) n ≡ record_at log n
+-- it is a beginning of the log
+abbrev pub Begins : History → LogContent → Type 0
+Begins so_far log = (n : ℕ) → n ≤ last_lsn so_far → record_at (history log) n ≡ record_at so_far n
 
 -- the record is an update that a CLR with this cell, UndoNxtLSN and image undoes
 abbrev pub Undoes : LogRecord → (page slot undo_next : ℕ) → Image → Type 0

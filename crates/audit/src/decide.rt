@@ -2,38 +2,29 @@
 
 ghost use Rattle.std.specs.Prelude.{◌≡◌, ◌+◌, ◌*◌, ◌≤◌, ◌<◌, ◌⊎◌, ◌||◌, ◌↔◌, ℕ, List, All, IsTrue, Some, true, length, option_map, slice_index, slice_index_or};
 ghost use Rattle.page.specs.Image.{Image};
-ghost use Rattle.wal.specs.Records.{LogRecord, History, history, size, record_at};
+ghost use Rattle.wal.specs.Records.{LogRecord, History, history, last_lsn, record_at};
 ghost use Rattle.wal.specs.Meaning.{image_of, image_in};
 ghost use Rattle.wal.specs.Laws.{IsLawful, ChainLaw, FinishLaw, CompensationLaw, BeforeLaw, Strictness};
 ghost use Rattle.wal.specs.Store.{NamesPages};
 ghost use Rattle.wal.specs.Spelling.{Fits};
 ghost use Rattle.wal.specs.Tail.{tx_of};
-ghost use Rattle.wal.specs.Shown.{shown};
+ghost use Rattle.wal.specs.Content.{shown};
 ghost use Rattle.audit.specs.Standings.{Stands, standing_in};
 ghost use Rattle.audit.specs.Cells.{HasCell, KeepsCells};
 ghost use Rattle.audit.specs.Passing.{Begins, Undoes, IsFreeFor};
+ghost use Rattle.page.specs.declared.sizes.TheConstants.{SLOTS};
 
 use crate::standing::{Standing, standing_of, transaction_of};
+use page::SLOTS;
 use std::collections::HashMap;
 use wal::{DirtyTable, Log, RecordView};
-
-/// The page and its RecLSN at a place.
-pub fn dirty_page(dirty: &DirtyTable, place: usize) -> (u32, u64)
-    requires { place < length dirty.now }
-    ensures { (d : ℕ × ℕ) → slice_index_or dirty.now place d ≡ result }
-{
-    match dirty.get(place) {
-        Some(page) => page,
-        None => unreachable!(),
-    }
-}
 
 /// Whether each page of the table is below the count.
 fn are_below(dirty: &DirtyTable, count: usize) -> bool
     ensures { IsTrue result ↔ All (λ d. d.0 < count) dirty.now }
 {
     for place in 0..dirty.len() {
-        let (page, _) = dirty_page(dirty, place);
+        let (page, _) = dirty.entry(place);
         if page as usize >= count {
             return false;
         }
@@ -45,11 +36,17 @@ fn are_below(dirty: &DirtyTable, count: usize) -> bool
 pub fn names_pages(view: &RecordView, count: usize) -> bool
     ensures { IsTrue result ↔ NamesPages count (shown view.now) }
 {
+    if let Some(change) = view.change() {
+        return (change.page as usize) < count;
+    }
     match view {
-        RecordView::Update { page, .. } => (*page as usize) < count,
-        RecordView::Compensation { page, .. } => (*page as usize) < count,
         RecordView::CheckpointEnd { dirty, .. } => are_below(dirty, count),
-        _ => true,
+        RecordView::Update { .. }
+        | RecordView::Compensation { .. }
+        | RecordView::Commit { .. }
+        | RecordView::Abort { .. }
+        | RecordView::End { .. }
+        | RecordView::CheckpointBegin => true,
     }
 }
 
@@ -58,14 +55,9 @@ pub fn keeps_chain(view: &RecordView, standing: Standing) -> bool
     ensures { (log : History) (links : List ℕ) → Stands links (tx_of (shown view.now)) log standing
         → IsTrue result ↔ ChainLaw log (shown view.now) }
 {
-    match view {
-        RecordView::Update { prev, .. } => *prev == standing.last,
-        RecordView::Compensation { prev, .. } => *prev == standing.last,
-        RecordView::Commit { prev, .. } => *prev == standing.last,
-        RecordView::Abort { prev, .. } => *prev == standing.last,
-        RecordView::End { prev, .. } => *prev == standing.last,
-        RecordView::CheckpointBegin => true,
-        RecordView::CheckpointEnd { .. } => true,
+    match view.tx() {
+        Some(_) => view.prev() == standing.last,
+        None => true,
     }
 }
 
@@ -131,7 +123,7 @@ fn undoes_at(log: &Log, lsn: u64, cell: (u32, u8), undo_next: u64, image: Option
 
 /// Whether a CLR undoes the newest pending update, and an end without a commit finds none.
 pub fn keeps_compensation(log: &Log, view: &RecordView, standing: Standing) -> bool
-    ensures { (so_far : History) (links : List ℕ) → Begins so_far log.now → length links ≡ size so_far
+    ensures { (so_far : History) (links : List ℕ) → Begins so_far log.now → length links ≡ last_lsn so_far
         → Stands links (tx_of (shown view.now)) so_far standing
         → IsTrue result ↔ CompensationLaw so_far (shown view.now) }
 {
@@ -144,16 +136,20 @@ pub fn keeps_compensation(log: &Log, view: &RecordView, standing: Standing) -> b
             ..
         } => undoes_at(log, standing.newest, (*page, *slot), *undo_next, *image),
         RecordView::End { .. } => standing.committed || standing.newest == 0,
-        _ => true,
+        RecordView::Update { .. }
+        | RecordView::Commit { .. }
+        | RecordView::Abort { .. }
+        | RecordView::CheckpointBegin
+        | RecordView::CheckpointEnd { .. } => true,
     }
 }
 
 /// The LSN of the last writer of a cell.
 fn last_writer(writers: &[u64], page: u32, slot: u8) -> u64
-    requires { 16 * page + slot < length writers.now }
-    ensures { result ≡ slice_index writers.now (16 * page + slot) }
+    requires { SLOTS * page + slot < length writers.now }
+    ensures { result ≡ slice_index writers.now (SLOTS * page + slot) }
 {
-    writers[16 * page as usize + slot as usize]
+    writers[SLOTS * page as usize + slot as usize]
 }
 
 /// Whether no other transaction than this one wrote the record at an LSN, or it has finished.
@@ -189,7 +185,12 @@ pub fn keeps_strictness(
             last_writer(writers, *page, *slot),
             *tx,
         ),
-        _ => true,
+        RecordView::Compensation { .. }
+        | RecordView::Commit { .. }
+        | RecordView::Abort { .. }
+        | RecordView::End { .. }
+        | RecordView::CheckpointBegin
+        | RecordView::CheckpointEnd { .. } => true,
     }
 }
 
@@ -197,10 +198,9 @@ pub fn keeps_strictness(
 fn puts(view: &RecordView, image: Option<&[u8]>) -> bool
     ensures { IsTrue result ↔ option_map (λ s. s.now) image.entry ≡ image_of (shown view.now) }
 {
-    match view {
-        RecordView::Update { after, .. } => are_same(image, *after),
-        RecordView::Compensation { image: put, .. } => are_same(image, *put),
-        _ => image.is_none(),
+    match view.change() {
+        Some(change) => are_same(image, change.image),
+        None => image.is_none(),
     }
 }
 
@@ -228,6 +228,11 @@ pub fn keeps_before(log: &Log, writers: &[u64], view: &RecordView) -> bool
             before,
             ..
         } => leaves(log, last_writer(writers, *page, *slot), *before),
-        _ => true,
+        RecordView::Compensation { .. }
+        | RecordView::Commit { .. }
+        | RecordView::Abort { .. }
+        | RecordView::End { .. }
+        | RecordView::CheckpointBegin
+        | RecordView::CheckpointEnd { .. } => true,
     }
 }

@@ -3,15 +3,14 @@
 ghost use Rattle.std.specs.Prelude.{◌≡◌, ◌+◌, ◌≤◌, ◌<◌, ◌↔◌, ℕ, All, IsTrue, Some, length, take, IfOk, OnOk, IfErr};
 ghost use Rattle.page.specs.Store.{AreNumbered};
 ghost use Rattle.page.specs.declared.fault.Fault.TheVariants.{NoResource};
-ghost use Rattle.wal.specs.Records.{history};
+ghost use Rattle.wal.specs.Records.{history, first, last_lsn, EachRecord};
 ghost use Rattle.wal.specs.Redo.{rec_lsn_of};
 ghost use Rattle.wal.specs.Store.{NamesPages, DirtyLaw};
-ghost use Rattle.wal.specs.Shown.{shown};
+ghost use Rattle.wal.specs.Content.{shown};
 ghost use Rattle.audit.specs.Pages.{page_lsn};
 ghost use Rattle.audit.specs.Dirty.{KeepsMissing, noted_missing, IsInRange, IsCovered};
 ghost use Rattle.audit.specs.FirstFault.{KeepsDirty, DirtyFault};
 
-use crate::decide::dirty_page;
 use page::{Fault, Page};
 use std::alloc::Global;
 use wal::{DirtyTable, Log, RecordView};
@@ -22,33 +21,26 @@ fn note_missing(missing: &mut [u64], view: &RecordView, pages: &[Page], lsn: u64
     requires size { length missing.old ≡ length pages.now }
     ensures { missing.new ≡ noted_missing (page_lsn pages.now) missing.old (shown view.now) lsn }
 {
-    match view {
-        RecordView::Update { page, .. } => {
-            if missing[*page as usize] == 0 && pages[*page as usize].lsn < lsn {
-                missing[*page as usize] = lsn;
-            }
+    if let Some(change) = view.change() {
+        let number = change.page as usize;
+        if missing[number] == 0 && pages[number].lsn < lsn {
+            missing[number] = lsn;
         }
-        RecordView::Compensation { page, .. } => {
-            if missing[*page as usize] == 0 && pages[*page as usize].lsn < lsn {
-                missing[*page as usize] = lsn;
-            }
-        }
-        _ => {}
     }
 }
 
 /// For each page the LSN of the first of so many records that is on it and above its PageLSN, 0 for
 /// none. The only error is `NoResource`.
 fn missing_in(alloc: Global, log: &Log, count: u64, pages: &[Page]) -> Result<Vec<u64>, Fault>
-    requires count { count ≤ length log.now }
-    requires named { All (NamesPages (length pages.now)) log.now }
-    ensures ok { IfOk result (λ v. KeepsMissing pages.now (history (take count log.now)) v.items) }
+    requires count { count ≤ last_lsn (history log.now) }
+    requires named { EachRecord (NamesPages (length pages.now)) (history log.now) }
+    ensures ok { IfOk result (λ v. KeepsMissing pages.now (first count (history log.now)) v.items) }
     ensures err { IfErr result (λ e. e ≡ NoResource) }
 {
     let mut missing = vec![in alloc; 0; pages.len()]?;
-    let _len = log.len();
-    for index in 0..count {
-        note_missing(&mut missing, &log.nth(index), pages, index + 1);
+    let _last = log.last();
+    for lsn in 0..count {
+        note_missing(&mut missing, &log.after(lsn), pages, lsn + 1);
     }
     Ok(missing)
 }
@@ -58,7 +50,7 @@ fn rec_lsn_in(dirty: &DirtyTable, page: u32) -> Option<u64>
     ensures { result ≡ rec_lsn_of page dirty.now }
 {
     for place in 0..dirty.len() {
-        let (other, rec_lsn) = dirty_page(dirty, place);
+        let (other, rec_lsn) = dirty.entry(place);
         if other == page {
             return Some(rec_lsn);
         }
@@ -85,9 +77,9 @@ pub fn check_dirty(
     pages: &[Page],
     dirty: &DirtyTable,
 ) -> Result<(), Fault>
-    requires master { master ≤ length log.now }
+    requires master { master ≤ last_lsn (history log.now) }
     requires numbered { AreNumbered pages.now }
-    requires named { All (NamesPages (length pages.now)) log.now }
+    requires named { EachRecord (NamesPages (length pages.now)) (history log.now) }
     ensures ok { OnOk result (All (KeepsDirty (history log.now) master dirty.now) pages.now) }
     ensures err { IfErr result (DirtyFault (history log.now) master dirty.now pages.now) }
 {

@@ -3,18 +3,18 @@
 ghost use Rattle.std.specs.Prelude.{◌≡◌, ◌+◌, ◌*◌, ◌≤◌, ◌<◌, ◌⊎◌, ◌↔◌, ◌^◌, ℕ, List, All, IsTrue, Some, None, true, false, length, map, take, option_map, nat_eq, nat_le, ◌||◌, IfOk, OnOk, IfErr, IfSome, slice_index, slice_index_or};
 ghost use Rattle.std.specs.HashSet.{contains};
 ghost use Rattle.page.specs.declared.fault.Fault.TheVariants.{NoResource};
-ghost use Rattle.wal.specs.Records.{LogRecord, TableEntry, CheckpointBegin, tx_in, History, history, first, record_at, size};
-ghost use Rattle.wal.specs.Meaning.{is_loser, last_of};
+ghost use Rattle.wal.specs.Records.{LogRecord, TableEntry, CheckpointBegin, tx_in, History, history, first, record_at, last_lsn, EachRecord};
+ghost use Rattle.wal.specs.Meaning.{state_by, is_unfinished, last_of};
 ghost use Rattle.wal.specs.Tail.{is_among};
-ghost use Rattle.wal.specs.Store.{true_entry, true_table, state_of, NamesPages, CheckpointLaw};
+ghost use Rattle.wal.specs.Store.{true_entry, true_table, NamesPages, CheckpointLaw};
 ghost use Rattle.wal.specs.Spelling.{IsRising, Fits};
-ghost use Rattle.wal.specs.Content.{entry_of};
-ghost use Rattle.wal.specs.Shown.{shown};
+ghost use Rattle.wal.specs.Content.{entry_of, shown};
 ghost use Rattle.audit.specs.Standings.{Stands, standing_in};
 ghost use Rattle.page.specs.Store.{AreNumbered};
 ghost use Rattle.audit.specs.Passing.{Tells};
 ghost use Rattle.audit.specs.FirstFault.{MasterFault};
 ghost use Rattle.audit.specs.Checkpoints.{IsTrueEntry, Lists};
+ghost use Rattle.page.specs.declared.sizes.TheConstants.{PAGES};
 
 use crate::dirty::check_dirty;
 use crate::running::Running;
@@ -26,14 +26,14 @@ use wal::{Entry, Log, State, TransactionTable};
 
 /// Whether a transaction that stands so is a loser.
 fn is_lost(standing: Standing) -> bool
-    ensures { (t : ℕ) (log : History) (links : List ℕ) → Stands links t log standing → result ≡ is_loser t log }
+    ensures { (t : ℕ) (log : History) (links : List ℕ) → Stands links t log standing → result ≡ is_unfinished t log }
 {
     standing.last != 0 && !standing.is_finished()
 }
 
 /// Whether a state is that of a transaction that has or has not aborted.
 fn tells_abort(state: State, aborted: bool) -> bool
-    ensures { IsTrue result ↔ state ≡ state_of aborted }
+    ensures { IsTrue result ↔ state ≡ state_by aborted }
 {
     match state {
         State::Active => !aborted,
@@ -51,24 +51,13 @@ fn is_true_entry(standing: Standing, entry: Entry) -> bool
         && tells_abort(entry.state, standing.aborted)
 }
 
-/// The transaction and its entry at a place.
-fn entry_at(transactions: &TransactionTable, place: usize) -> (u32, Entry)
-    requires { place < length transactions.now }
-    ensures { (d : TableEntry) → slice_index_or transactions.now place d ≡ entry_of result }
-{
-    match transactions.get(place) {
-        Some(entry) => entry,
-        None => unreachable!(),
-    }
-}
-
 /// Whether each entry is of a loser, and true of it.
 fn entries_are_true(table: &HashMap<u32, Standing>, transactions: &TransactionTable) -> bool
     ensures { (log : History) (links : List ℕ) → ((t : ℕ) → Stands links t log (standing_in table.now t))
         → IsTrue result ↔ All (IsTrueEntry log) transactions.now }
 {
     for place in 0..transactions.len() {
-        let (tx, entry) = entry_at(transactions, place);
+        let (tx, entry) = transactions.entry(place);
         if !is_true_entry(standing_of(table, tx), entry) {
             return false;
         }
@@ -92,7 +81,7 @@ fn listed_in(alloc: Global, transactions: &TransactionTable) -> Result<HashSet<u
 {
     let mut listed = HashSet::new(alloc);
     for place in 0..transactions.len() {
-        let (tx, _) = entry_at(transactions, place);
+        let (tx, _) = transactions.entry(place);
         list(&mut listed, tx)?;
     }
     Ok(listed)
@@ -101,9 +90,9 @@ fn listed_in(alloc: Global, transactions: &TransactionTable) -> Result<HashSet<u
 /// Whether a transaction whose last record this is is a loser that is not listed.
 fn is_missing(listed: &HashSet<u32>, tx: u32, standing: Standing, lsn: u64) -> bool
     ensures missing { result ≡ true → (log : History) (links : List ℕ) → Stands links tx log standing
-        → (is_loser tx log ≡ true) × (contains nat_eq listed.now tx ≡ false) }
+        → (is_unfinished tx log ≡ true) × (contains nat_eq listed.now tx ≡ false) }
     ensures found { result ≡ false → (log : History) (links : List ℕ) → Stands links tx log standing
-        → last_of tx log ≡ lsn → is_loser tx log ≡ true → contains nat_eq listed.now tx ≡ true }
+        → last_of tx log ≡ lsn → is_unfinished tx log ≡ true → contains nat_eq listed.now tx ≡ true }
 {
     if standing.last != lsn || !is_lost(standing) {
         return false;
@@ -118,14 +107,14 @@ fn losers_are_listed(
     table: &HashMap<u32, Standing>,
     listed: &HashSet<u32>,
 ) -> bool
-    requires { count ≤ length log.now }
-    ensures { (links : List ℕ) → ((t : ℕ) → Stands links t (history (take count log.now)) (standing_in table.now t))
-        → IsTrue result ↔ ((t : ℕ) → is_loser t (history (take count log.now)) ≡ true → IsTrue (contains nat_eq listed.now t)) }
+    requires { count ≤ last_lsn (history log.now) }
+    ensures { (links : List ℕ) → ((t : ℕ) → Stands links t (first count (history log.now)) (standing_in table.now t))
+        → IsTrue result ↔ ((t : ℕ) → is_unfinished t (first count (history log.now)) ≡ true → IsTrue (contains nat_eq listed.now t)) }
 {
-    let _len = log.len();
-    for index in 0..count {
-        let tx = transaction_of(&log.nth(index));
-        if is_missing(listed, tx, standing_of(table, tx), index + 1) {
+    let _last = log.last();
+    for lsn in 0..count {
+        let tx = transaction_of(&log.after(lsn));
+        if is_missing(listed, tx, standing_of(table, tx), lsn + 1) {
             return false;
         }
     }
@@ -134,17 +123,17 @@ fn losers_are_listed(
 
 /// How each transaction stands after the first so many records. The only error is `NoResource`.
 fn running_at(alloc: Global, log: &Log, count: u64, pages: usize) -> Result<Running, Fault>
-    requires count { count ≤ length log.now }
-    requires few { pages ≤ 4096 }
-    requires named { All (NamesPages pages) log.now }
-    ensures ok { IfOk result (Tells pages (history (take count log.now))) }
+    requires count { count ≤ last_lsn (history log.now) }
+    requires few { pages ≤ PAGES }
+    requires named { EachRecord (NamesPages pages) (history log.now) }
+    ensures ok { IfOk result (Tells pages (first count (history log.now))) }
     ensures err { IfErr result (λ e. e ≡ NoResource) }
 {
     let mut running = Running::start(alloc, pages)?;
-    let _len = log.len();
-    for index in 0..count {
-        let view = log.nth(index);
-        running.note(&view, index + 1)?;
+    let _last = log.last();
+    for lsn in 0..count {
+        let view = log.after(lsn);
+        running.note(&view, lsn + 1)?;
     }
     Ok(running)
 }
@@ -158,9 +147,9 @@ fn is_true_table(
     pages: usize,
     transactions: &TransactionTable,
 ) -> Result<bool, Fault>
-    requires count { master ≤ length log.now }
-    requires few { pages ≤ 4096 }
-    requires named { All (NamesPages pages) log.now }
+    requires count { master ≤ last_lsn (history log.now) }
+    requires few { pages ≤ PAGES }
+    requires named { EachRecord (NamesPages pages) (history log.now) }
     requires rising { IsRising (map tx_in transactions.now) }
     ensures ok { IfOk result (λ yes. IsTrue yes ↔ transactions.now ≡ true_table (first master (history log.now))) }
     ensures err { IfErr result (λ e. e ≡ NoResource) }
@@ -177,7 +166,7 @@ fn is_true_table(
 /// refused, may come in its place.
 pub fn check_master(alloc: Global, log: &Log, master: u64, pages: &[Page]) -> Result<(), Fault>
     requires numbered { AreNumbered pages.now }
-    requires named { All (NamesPages (length pages.now)) log.now }
+    requires named { EachRecord (NamesPages (length pages.now)) (history log.now) }
     ensures ok { OnOk result (CheckpointLaw (history log.now) pages.now master) }
     ensures err { IfErr result (MasterFault (history log.now) pages.now master) }
 {

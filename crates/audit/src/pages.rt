@@ -3,17 +3,18 @@
 ghost use Rattle.std.specs.Prelude.{◌≡◌, ◌+◌, ◌*◌, ◌≤◌, ◌<◌, ◌⊎◌, ◌↔◌, ℕ, All, IsTrue, Some, None, true, length, IfOk, OnOk, IfErr, slice_index, slice_index_or};
 ghost use Rattle.page.specs.Store.{AreNumbered};
 ghost use Rattle.page.specs.declared.fault.Fault.TheVariants.{NoResource};
-ghost use Rattle.wal.specs.Records.{LogRecord, history, first, record_at};
+ghost use Rattle.wal.specs.Records.{LogRecord, history, first, record_at, EachRecord};
 ghost use Rattle.wal.specs.Meaning.{is_on, image_in};
 ghost use Rattle.wal.specs.Store.{NamesPages, PageLaw};
-ghost use Rattle.wal.specs.Shown.{shown};
+ghost use Rattle.wal.specs.Content.{shown};
 ghost use Rattle.audit.specs.Cells.{KeepsCells};
 ghost use Rattle.audit.specs.Pages.{page_lsn, counts_for, log_at, KeepsPage};
 ghost use Rattle.audit.specs.FirstFault.{BrokenPage, PagesFault};
+ghost use Rattle.page.specs.declared.sizes.TheConstants.{PAGES, SLOTS};
 
 use crate::decide::leaves;
 use crate::running::note_write;
-use page::{Fault, Page, Value};
+use page::{Fault, Page, SLOTS, Value};
 use std::alloc::Global;
 use wal::{Log, RecordView};
 
@@ -22,26 +23,25 @@ fn counts(view: &RecordView, pages: &[Page], lsn: u64) -> bool
     requires { NamesPages (length pages.now) (shown view.now) }
     ensures { result ≡ counts_for (page_lsn pages.now) (shown view.now) lsn }
 {
-    match view {
-        RecordView::Update { page, .. } => lsn <= pages[*page as usize].lsn,
-        RecordView::Compensation { page, .. } => lsn <= pages[*page as usize].lsn,
-        _ => false,
+    match view.change() {
+        Some(change) => lsn <= pages[change.page as usize].lsn,
+        None => false,
     }
 }
 
 /// For each cell the LSN of its last writer at or before its page's PageLSN, 0 for none. The only
 /// error is `NoResource`.
 fn writers_at(alloc: Global, log: &Log, pages: &[Page]) -> Result<Vec<u64>, Fault>
-    requires few { length pages.now ≤ 4096 }
-    requires named { All (NamesPages (length pages.now)) log.now }
+    requires few { length pages.now ≤ PAGES }
+    requires named { EachRecord (NamesPages (length pages.now)) (history log.now) }
     ensures ok { IfOk result (λ w. KeepsCells (length pages.now) (log_at pages.now (history log.now)) w.items) }
     ensures err { IfErr result (λ e. e ≡ NoResource) }
 {
-    let mut writers = vec![in alloc; 0; 16 * pages.len()]?;
-    for index in 0..log.len() {
-        let view = log.nth(index);
-        if counts(&view, pages, index + 1) {
-            note_write(&mut writers, &view, index + 1);
+    let mut writers = vec![in alloc; 0; SLOTS * pages.len()]?;
+    for lsn in 0..log.last() {
+        let view = log.after(lsn);
+        if counts(&view, pages, lsn + 1) {
+            note_write(&mut writers, &view, lsn + 1);
         }
     }
     Ok(writers)
@@ -51,10 +51,9 @@ fn writers_at(alloc: Global, log: &Log, pages: &[Page]) -> Result<Vec<u64>, Faul
 fn is_on_page(view: &RecordView, number: u32) -> bool
     ensures { result ≡ is_on number (shown view.now) }
 {
-    match view {
-        RecordView::Update { page, .. } => *page == number,
-        RecordView::Compensation { page, .. } => *page == number,
-        _ => false,
+    match view.change() {
+        Some(change) => change.page == number,
+        None => false,
     }
 }
 
@@ -82,13 +81,13 @@ fn leaves_value(log: &Log, writer: u64, value: Option<Value>) -> bool
 }
 
 /// Whether each slot of the page of this number holds what its last writer left.
-fn slots_are_left(log: &Log, writers: &[u64], number: u32, slots: &[Option<Value>; 16]) -> bool
-    requires { 16 * number + 16 ≤ length writers.now }
-    ensures all { IsTrue result ↔ ((k : ℕ) → k < 16 → slice_index_or slots.now k None ≡ image_in (record_at (history log.now) (slice_index writers.now (16 * number + k)))) }
-    ensures count { length slots.now ≡ 16 }
+fn slots_are_left(log: &Log, writers: &[u64], number: u32, slots: &[Option<Value>; SLOTS]) -> bool
+    requires { SLOTS * number + SLOTS ≤ length writers.now }
+    ensures all { IsTrue result ↔ ((k : ℕ) → k < SLOTS → slice_index_or slots.now k None ≡ image_in (record_at (history log.now) (slice_index writers.now (SLOTS * number + k)))) }
+    ensures count { length slots.now ≡ SLOTS }
 {
     for (slot, value) in slots.iter().enumerate() {
-        if !leaves_value(log, writers[16 * number as usize + slot], *value) {
+        if !leaves_value(log, writers[SLOTS * number as usize + slot], *value) {
             return false;
         }
     }
@@ -97,11 +96,11 @@ fn slots_are_left(log: &Log, writers: &[u64], number: u32, slots: &[Option<Value
 
 /// Refuses the page for the first law that it breaks.
 fn check_page(log: &Log, writers: &[u64], page: &Page) -> Result<(), Fault>
-    requires { 16 * page.now.number + 16 ≤ length writers.now }
+    requires { SLOTS * page.now.number + SLOTS ≤ length writers.now }
     ensures ok { OnOk result (KeepsPage (history log.now) writers.now page.now → PageLaw (history log.now) page.now) }
     ensures err { IfErr result (λ e. KeepsPage (history log.now) writers.now page.now → BrokenPage (history log.now) page.now e) }
 {
-    if page.lsn > log.len() {
+    if page.lsn > log.last() {
         return Err(Fault::PageAheadOfLog(page.number));
     }
     if !lsn_is_on(log, page) {
@@ -117,7 +116,7 @@ fn check_page(log: &Log, writers: &[u64], page: &Page) -> Result<(), Fault>
 /// memory is refused, may come in its place.
 pub fn check_pages(alloc: Global, log: &Log, pages: &[Page]) -> Result<(), Fault>
     requires numbered { AreNumbered pages.now }
-    requires named { All (NamesPages (length pages.now)) log.now }
+    requires named { EachRecord (NamesPages (length pages.now)) (history log.now) }
     ensures ok { OnOk result (All (PageLaw (history log.now)) pages.now) }
     ensures err { IfErr result (PagesFault (history log.now) pages.now) }
 {

@@ -2,14 +2,15 @@
 
 ghost use Rattle.std.specs.Prelude.{◌≡◌, ◌+◌, ◌*◌, ◌≤◌, length, OnOk, IfErr, if◌then◌else◌};
 ghost use Rattle.page.specs.declared.fault.Fault.TheVariants.{WrongCompensation, EndTooEarly};
-ghost use Rattle.wal.specs.Records.{History, size};
+ghost use Rattle.wal.specs.Records.{History, last_lsn, history};
 ghost use Rattle.wal.specs.Laws.{IsLawful, Obeys};
 ghost use Rattle.wal.specs.Tail.{is_end};
 ghost use Rattle.wal.specs.Store.{NamesPages};
 ghost use Rattle.wal.specs.Spelling.{Fits};
-ghost use Rattle.wal.specs.Shown.{shown};
+ghost use Rattle.wal.specs.Content.{shown};
 ghost use Rattle.audit.specs.Passing.{Tells, Begins};
 ghost use Rattle.audit.specs.FirstFault.{BrokenAt, AreSound, RecordFault};
+ghost use Rattle.page.specs.declared.sizes.TheConstants.{PAGES, SLOTS};
 
 use crate::decide::{
     keeps_before, keeps_chain, keeps_compensation, keeps_finish, keeps_strictness, names_pages,
@@ -38,11 +39,11 @@ fn check_record(
     view: &RecordView,
     lsn: u64,
 ) -> Result<(), Fault>
-    requires size { length running.now.writers.items ≡ 16 * count }
+    requires size { length running.now.writers.items ≡ SLOTS * count }
     requires fits { Fits (shown view.now) }
-    ensures ok { OnOk result ((so_far : History) → size so_far + 1 ≡ lsn → Begins so_far log.now → IsLawful so_far → Tells count so_far running.now
+    ensures ok { OnOk result ((so_far : History) → last_lsn so_far + 1 ≡ lsn → Begins so_far log.now → IsLawful so_far → Tells count so_far running.now
         → NamesPages count (shown view.now) × Obeys so_far (shown view.now)) }
-    ensures err { IfErr result (λ e. (so_far : History) → size so_far + 1 ≡ lsn → Begins so_far log.now → IsLawful so_far → Tells count so_far running.now
+    ensures err { IfErr result (λ e. (so_far : History) → last_lsn so_far + 1 ≡ lsn → Begins so_far log.now → IsLawful so_far → Tells count so_far running.now
         → BrokenAt count so_far (shown view.now) e) }
 {
     if !names_pages(view, count) {
@@ -70,17 +71,17 @@ fn check_record(
 /// Refuses the first record that breaks a law, and names the law. `NoResource`, where memory is
 /// refused, may come in its place.
 pub fn check_records(alloc: Global, log: &Log, count: usize) -> Result<(), Fault>
-    requires { count ≤ 4096 }
-    ensures ok { OnOk result (AreSound count log.now) }
-    ensures err { IfErr result (RecordFault count log.now) }
+    requires { count ≤ PAGES }
+    ensures ok { OnOk result (AreSound count (history log.now)) }
+    ensures err { IfErr result (RecordFault count (history log.now)) }
 {
     let mut running = Running::start(alloc, count)?;
-    for index in 0..log.len() {
-        let view = log.nth(index);
-        if let Err(fault) = check_record(log, &running, count, &view, index + 1) {
+    for lsn in 0..log.last() {
+        let view = log.after(lsn);
+        if let Err(fault) = check_record(log, &running, count, &view, lsn + 1) {
             return Err(fault);
         }
-        running.note(&view, index + 1)?;
+        running.note(&view, lsn + 1)?;
     }
     Ok(())
 }

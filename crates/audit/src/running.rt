@@ -2,16 +2,17 @@
 
 ghost use Rattle.std.specs.Prelude.{◌≡◌, ◌+◌, ◌≤◌, ℕ, length, IfOk, OnOk, IfErr};
 ghost use Rattle.page.specs.declared.fault.Fault.TheVariants.{NoResource};
-ghost use Rattle.wal.specs.Records.{History, start, ◌▸◌, size};
+ghost use Rattle.wal.specs.Records.{History, start, ◌▸◌, last_lsn};
 ghost use Rattle.wal.specs.Store.{NamesPages};
 ghost use Rattle.wal.specs.Spelling.{Fits};
-ghost use Rattle.wal.specs.Shown.{shown};
+ghost use Rattle.wal.specs.Content.{shown};
 ghost use Rattle.audit.specs.Standings.{standing_in};
 ghost use Rattle.audit.specs.Cells.{HasCell, written};
 ghost use Rattle.audit.specs.Passing.{Tells};
+ghost use Rattle.page.specs.declared.sizes.TheConstants.{PAGES};
 
 use crate::standing::{Standing, below_top, noted, standing_of, transaction_of};
-use page::Fault;
+use page::{Fault, SLOTS};
 use std::alloc::Global;
 use std::collections::HashMap;
 use wal::RecordView;
@@ -23,18 +24,18 @@ pub struct Running {
     pub table: HashMap<u32, Standing>,
     /// For each record what stood on top of its transaction's stack of pending updates before it.
     pub links: Vec<u64>,
-    /// For each cell the LSN of its last writer, 0 for none; 16 cells a page.
+    /// For each cell the LSN of its last writer, 0 for none; so many cells a page as it has slots.
     pub writers: Vec<u64>,
 }
 
 impl Running {
     /// Before the first record, for so many pages. The only error is `NoResource`.
     pub fn start(alloc: Global, count: usize) -> Result<Running, Fault>
-        requires { count ≤ 4096 }
+        requires { count ≤ PAGES }
         ensures ok { IfOk result (Tells count start) }
         ensures err { IfErr result (λ e. e ≡ NoResource) }
     {
-        let writers = vec![in alloc; 0; 16 * count]?;
+        let writers = vec![in alloc; 0; SLOTS * count]?;
         Ok(Running {
             table: HashMap::new(alloc),
             links: Vec::new(alloc),
@@ -46,7 +47,7 @@ impl Running {
     pub fn note(&mut self, view: &RecordView, lsn: u64) -> Result<(), Fault>
         requires cell { HasCell (length self.old.writers.items) (shown view.now) }
         requires tops { (t : ℕ) → (standing_in self.old.table t).newest ≤ length self.old.links.items }
-        ensures ok { OnOk result ((count : ℕ) (log : History) → size log + 1 ≡ lsn → NamesPages count (shown view.now) → Fits (shown view.now)
+        ensures ok { OnOk result ((count : ℕ) (log : History) → last_lsn log + 1 ≡ lsn → NamesPages count (shown view.now) → Fits (shown view.now)
             → Tells count log self.old → Tells count (log ▸ shown view.now) self.new) }
         ensures err { IfErr result (λ e. e ≡ NoResource) }
     {
@@ -65,13 +66,7 @@ pub fn note_write(writers: &mut [u64], view: &RecordView, lsn: u64)
     requires { HasCell (length writers.old) (shown view.now) }
     ensures { writers.new ≡ written writers.old (shown view.now) lsn }
 {
-    match view {
-        RecordView::Update { page, slot, .. } => {
-            writers[16 * *page as usize + *slot as usize] = lsn;
-        }
-        RecordView::Compensation { page, slot, .. } => {
-            writers[16 * *page as usize + *slot as usize] = lsn;
-        }
-        _ => {}
+    if let Some(change) = view.change() {
+        writers[SLOTS * change.page as usize + change.slot as usize] = lsn;
     }
 }

@@ -1,11 +1,10 @@
 //! How a transaction stands after the records so far.
 
-ghost use Rattle.std.specs.Prelude.{◌≡◌, ◌+◌, ◌≤◌, ◌++◌, ◌∷◌, [], ℕ, List, length, nat_eq, ◌||◌};
+ghost use Rattle.std.specs.Prelude.{◌≡◌, ◌≤◌, length, nat_eq, ◌||◌};
 ghost use Rattle.std.specs.HashMap.{get};
-ghost use Rattle.wal.specs.Records.{History, ◌▸◌, size};
 ghost use Rattle.wal.specs.Tail.{tx_of};
-ghost use Rattle.wal.specs.Shown.{shown};
-ghost use Rattle.audit.specs.Standings.{Stands, under, unknown, standing_in};
+ghost use Rattle.wal.specs.Content.{shown};
+ghost use Rattle.audit.specs.Standings.{under, unknown, standing_in, after};
 
 use std::collections::HashMap;
 use wal::RecordView;
@@ -61,13 +60,9 @@ pub fn standing_of(table: &HashMap<u32, Standing>, tx: u32) -> Standing
 pub fn transaction_of(view: &RecordView) -> u32
     ensures { result ≡ tx_of (shown view.now) }
 {
-    match view {
-        RecordView::Update { tx, .. } => *tx,
-        RecordView::Compensation { tx, .. } => *tx,
-        RecordView::Commit { tx, .. } => *tx,
-        RecordView::Abort { tx, .. } => *tx,
-        RecordView::End { tx, .. } => *tx,
-        RecordView::CheckpointBegin | RecordView::CheckpointEnd { .. } => 0,
+    match view.tx() {
+        Some(tx) => tx,
+        None => 0,
     }
 }
 
@@ -85,9 +80,7 @@ pub fn below_top(links: &[u64], top: u64) -> u64
 /// How the transaction of a record stands after it. `below` is what stands below its newest pending
 /// update.
 pub fn noted(standing: Standing, view: &RecordView, lsn: u64, below: u64) -> Standing
-    ensures { (log : History) (links : List ℕ) → size log + 1 ≡ lsn → length links ≡ size log → below ≡ under links standing.newest
-        → Stands links (tx_of (shown view.now)) log standing
-        → Stands (links ++ standing.newest ∷ []) (tx_of (shown view.now)) (log ▸ shown view.now) result }
+    ensures { result ≡ after (shown view.now) lsn below standing }
 {
     match view {
         RecordView::Update { .. } => Standing {

@@ -1,11 +1,11 @@
-use Rattle.std.proofs.Common.{◌≡◌, ◌<◌, ◌≤◌, ℕ, List, [], Option, Some, length, take, get_or, sym, ap, ap₂, subst, ◌∙◌, refl, arith}
+use Rattle.std.proofs.Common.{◌≡◌, ◌<◌, ◌≤◌, ℕ, List, [], Option, Some, length, get_or, sym, ap, ap₂, subst, ◌∙◌, refl, arith}
 use Rattle.std.specs.Prelude.{All, ◌↔◌}
 use Rattle.std.proofs.lemmas.Bool.{iff_false}
 use Rattle.std.proofs.lemmas.Option.{slice_get-get_or}
 use Rattle.std.proofs.lemmas.List.{take_all, get_or_default}
 use Rattle.std.proofs.lemmas.List.Elements.{All-more}
 use Rattle.page.specs.declared.page.Page.{Page}
-use Rattle.wal.specs.Records.{History, LogRecord, history}
+use Rattle.wal.specs.Records.{History, LogContent, history, last_lsn, first}
 use Rattle.wal.specs.Redo.{rec_lsn_of}
 use Rattle.audit.specs.Pages.{page_lsn}
 use Rattle.audit.specs.Dirty.{first_missing, KeepsMissing, IsInRange, IsCovered}
@@ -21,11 +21,11 @@ kept pages log ms i n x page is lt number keeps at xn =
     let room : i < length ms = (let z = keeps.size_is in omega (arith, z)) in
     at ∙ get_or_default ms i x 0 room ∙ keeps.each i lt ∙ ap₂ (λ q k. first_missing q k log) (sym number) lsn
 
-decided : (xs : List LogRecord) (m n : ℕ) (page : Page) (dirty : List (ℕ × ℕ)) (o : Option ℕ) → m ≤ length xs → o ≡ rec_lsn_of page.number dirty → n ≡ first_missing page.number page.lsn (history (take m xs))
-    → (IsInRange o m × IsCovered o n) ↔ KeepsDirty (history xs) m dirty page
-decided xs m n page dirty o le e f = (
-  λ h. covered_law xs m page.number page.lsn (rec_lsn_of page.number dirty) le (subst (λ z. IsInRange z m) e h.0) (subst (λ z. IsCovered (rec_lsn_of page.number dirty) z) f (subst (λ z. IsCovered z n) e h.1)),
-  λ law. let h = law_covered xs m page.number page.lsn (rec_lsn_of page.number dirty) le law in
+decided : (log : LogContent) (m n : ℕ) (page : Page) (dirty : List (ℕ × ℕ)) (o : Option ℕ) → m ≤ last_lsn (history log) → o ≡ rec_lsn_of page.number dirty → n ≡ first_missing page.number page.lsn (first m (history log))
+    → (IsInRange o m × IsCovered o n) ↔ KeepsDirty (history log) m dirty page
+decided log m n page dirty o le e f = (
+  λ h. covered_law log m page.number page.lsn (rec_lsn_of page.number dirty) le (subst (λ z. IsInRange z m) e h.0) (subst (λ z. IsCovered (rec_lsn_of page.number dirty) z) f (subst (λ z. IsCovered z n) e h.1)),
+  λ law. let h = law_covered log m page.number page.lsn (rec_lsn_of page.number dirty) le law in
       (subst (λ z. IsInRange z m) (sym e) h.0, subst (λ z. IsCovered z n) (sym e) (subst (λ z. IsCovered (rec_lsn_of page.number dirty) z) (sym f) h.1)),
 )
 
@@ -33,7 +33,7 @@ pub returns-then-not-is_covered-clause-err : goal.returns-then-not-is_covered-cl
 returns-then-not-is_covered-clause-err c =
     let i = c.loop-number.number in
     let page = c.index-pages-number.result in
-    let log : History = history (take c.args.master c.args.log.now) in
+    let log : History = first c.args.master (history c.args.log.now) in
     let number = ap (λ (p : Page). p.number) c.index-pages-number.is ∙ c.requires.numbered.at_place i page (omega arith) in
     let n = kept c.args.pages.now log c.in_ok-missing.missing.items i c.index.result.now c.index.result.now page c.index-pages-number.is (omega arith) number c.in_ok-missing.ensures.ok c.index.ensures refl in
     let d = decided c.args.log.now c.args.master c.index.result.now page c.args.dirty.now c.rec_lsn_in.result c.requires.master c.rec_lsn_in.ensures n in
@@ -50,7 +50,7 @@ pub loop-number-preserved : goal.loop-number-preserved
 loop-number-preserved c =
     let i = c.loop-number.number in
     let page = c.index-pages-number.result in
-    let log : History = history (take c.args.master c.args.log.now) in
+    let log : History = first c.args.master (history c.args.log.now) in
     let number = ap (λ (p : Page). p.number) c.index-pages-number.is ∙ c.requires.numbered.at_place i page (omega arith) in
     let n = kept c.args.pages.now log c.in_ok-missing.missing.items i c.index.result.now c.index.result.now page c.index-pages-number.is (omega arith) number c.in_ok-missing.ensures.ok c.index.ensures refl in
     let d = decided c.args.log.now c.args.master c.index.result.now page c.args.dirty.now c.rec_lsn_in.result c.requires.master c.rec_lsn_in.ensures n in

@@ -13,10 +13,10 @@ here xs i d lt e = let n : suc i ≡ i + 1 = omega arith in drop-cons xs i d lt 
 
 pub returns-then-other-page : goal.returns-then-other-page
 returns-then-other-page c =
-    sym (c.loop-place.invariant ∙ first_listed c.args.page (drop c.loop-place.place c.args.dirty.now) (drop (c.loop-place.place + 1) c.args.dirty.now) c.dirty_page-other.result
-    (here c.args.dirty.now c.loop-place.place c.dirty_page-other.result (omega arith) (c.dirty_page-other.ensures c.dirty_page-other.result)) c.if-other-page.true)
+    sym (c.loop-place.invariant ∙ first_listed c.args.page (drop c.loop-place.place c.args.dirty.now) (drop (c.loop-place.place + 1) c.args.dirty.now) c.entry-other.result
+    (here c.args.dirty.now c.loop-place.place c.entry-other.result (omega arith) (c.entry-other.ensures c.entry-other.result)) c.if-other-page.true)
 
 pub loop-place-preserved : goal.loop-place-preserved
 loop-place-preserved c =
-    c.loop-place.invariant ∙ not_first c.args.page (drop c.loop-place.place c.args.dirty.now) (drop (c.loop-place.place + 1) c.args.dirty.now) c.dirty_page-other.result
-    (here c.args.dirty.now c.loop-place.place c.dirty_page-other.result (omega arith) (c.dirty_page-other.ensures c.dirty_page-other.result)) c.if-other-page.false
+    c.loop-place.invariant ∙ not_first c.args.page (drop c.loop-place.place c.args.dirty.now) (drop (c.loop-place.place + 1) c.args.dirty.now) c.entry-other.result
+    (here c.args.dirty.now c.loop-place.place c.entry-other.result (omega arith) (c.entry-other.ensures c.entry-other.result)) c.if-other-page.false

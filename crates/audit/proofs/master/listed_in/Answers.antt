@@ -8,13 +8,13 @@ use Rattle.audit.proofs.master.listed_in.Goals as goal
 
 pub loop-place-preserved : goal.loop-place-preserved
 loop-place-preserved c =
-    let entry : TableEntry = entry_of c.entry_at-tx.result in
+    let entry : TableEntry = entry_of c.entry-tx.result in
     let had = contains eqb c.loop-place.listed in (
       λ t yes. elim (or_cases (eqb t entry.tx) (had t) (sym (c.in_ok-list.ensures.ok t) ∙ yes)) [
         | inl own ↦ (
           c.loop-place.place,
           entry,
-          slice_get-get_or c.args.transactions.now c.loop-place.place entry (omega arith) ∙ ap Some (c.entry_at-tx.ensures entry),
+          slice_get-get_or c.args.transactions.now c.loop-place.place entry (omega arith) ∙ ap Some (c.entry-tx.ensures entry),
           sym (eqb-true t entry.tx own),
         )
         | inr before ↦ c.loop-place.invariant.0 t before
@@ -25,7 +25,7 @@ loop-place-preserved c =
           ∙ elim (cases_eq k c.loop-place.place) [
             | inl is ↦
                 or_left (eqb t entry.tx) (had t)
-                (eq-eqb t entry.tx (ap (λ n. (get_or c.args.transactions.now n d).tx) is ∙ ap (λ (x : TableEntry). x.tx) (c.entry_at-tx.ensures d)))
+                (eq-eqb t entry.tx (ap (λ n. (get_or c.args.transactions.now n d).tx) is ∙ ap (λ (x : TableEntry). x.tx) (c.entry-tx.ensures d)))
             | inr other ↦ or_right (eqb t entry.tx) (had t) (c.loop-place.invariant.1 k d (omega (arith, below, other)))
           ],
     )

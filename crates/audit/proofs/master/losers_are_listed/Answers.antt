@@ -1,44 +1,44 @@
-use Rattle.std.proofs.Common.{◌≡◌, ◌+◌, ◌≤◌, ℕ, Some, take, sym, ap, subst, ◌∙◌, inl, inr, refl, true, eqb, arith}
+use Rattle.std.proofs.Common.{◌≡◌, ◌+◌, ◌≤◌, ℕ, Some, sym, ap, subst, ◌∙◌, inl, inr, refl, true, eqb, arith}
 use Rattle.std.proofs.lemmas.Bool.{cases_eq, false≢true}
 use Rattle.std.specs.HashSet.{contains}
-use Rattle.wal.specs.Records.{LogRecord, History, history, size, record_at}
-use Rattle.wal.specs.Meaning.{last_of, is_loser}
+use Rattle.wal.specs.Records.{LogRecord, History, history, last_lsn, record_at, first}
+use Rattle.wal.specs.Meaning.{last_of, is_unfinished}
 use Rattle.wal.specs.Tail.{tx_of}
-use Rattle.wal.specs.Shown.{shown}
-use Rattle.wal.proofs.Histories.{size_of_beginning, record_within, record_item}
+use Rattle.wal.specs.Content.{shown}
+use Rattle.wal.proofs.Histories.{record_within, size_of_first}
 use Rattle.wal.proofs.Steps.{loser_has}
 use Rattle.audit.specs.Standings.{Stands}
 use Rattle.audit.proofs.Losers.{last_found, last_within, has_none}
-use Rattle.audit.proofs.Passing.{begins_taken}
+use Rattle.audit.proofs.Passing.{begins_first}
 use Rattle.audit.proofs.master.losers_are_listed.Goals as goal
 
-pub loop-index-init : goal.loop-index-init
-loop-index-init c = λ links stands t le lost.
-    let log : History = history (take c.args.count c.args.log.now) in
+pub loop-lsn-init : goal.loop-lsn-init
+loop-lsn-init c = λ links stands t le lost.
+    let log : History = first c.args.count (history c.args.log.now) in
     absurd (false≢true (sym (has_none t log (omega arith)) ∙ loser_has t log lost))
 
-pub loop-index-preserved : goal.loop-index-preserved
-loop-index-preserved c = λ links stands t le lost.
-    let log : History = history (take c.args.count c.args.log.now) in
+pub loop-lsn-preserved : goal.loop-lsn-preserved
+loop-lsn-preserved c = λ links stands t le lost.
+    let log : History = first c.args.count (history c.args.log.now) in
     let s = subst (λ x. Stands links c.transaction_of-tx.result log x) (sym c.standing_of.ensures) (stands c.transaction_of-tx.result) in
-    elim (cases_eq (last_of t log) (c.loop-index.index + 1)) [
+    elim (cases_eq (last_of t log) (c.loop-lsn.lsn + 1)) [
       | inl e ↦
           (let p = last_found t log (loser_has t log lost) in
-          let lsn : ℕ = c.loop-index.index + 1 in
-          let r : LogRecord = shown c.nth.result in
+          let lsn : ℕ = c.loop-lsn.lsn + 1 in
+          let r : LogRecord = shown c.after.result in
           let there : record_at log lsn ≡ Some p.0 = ap (record_at log) (sym e) ∙ p.1 in
-          let within : lsn ≤ size log = record_within log lsn p.0 there in
+          let within : lsn ≤ last_lsn log = record_within log lsn p.0 there in
           let item : record_at (history c.args.log.now) lsn ≡ Some r =
-          record_item c.args.log.now c.loop-index.index r (omega arith) ∙ ap (λ x. Some x) c.nth.ensures.item in
-          let same : Some r ≡ Some p.0 = sym item ∙ begins_taken c.args.log.now c.args.count lsn within ∙ there in
+          c.after.ensures.there in
+          let same : Some r ≡ Some p.0 = sym item ∙ begins_first c.args.log.now c.args.count lsn within ∙ there in
           let is : r ≡ p.0 = cc in
           let own : c.transaction_of-tx.result ≡ t = c.transaction_of-tx.ensures ∙ ap tx_of is ∙ p.2 in
           subst (λ n. contains eqb c.args.listed.now n ≡ true) own
-          (c.is_missing.ensures.found c.if-is_missing.false log links s (ap (λ n. last_of n log) own ∙ e) (ap (λ n. is_loser n log) own ∙ lost)))
-      | inr n ↦ c.loop-index.invariant links stands t (omega arith) lost
+          (c.is_missing.ensures.found c.if-is_missing.false log links s (ap (λ n. last_of n log) own ∙ e) (ap (λ n. is_unfinished n log) own ∙ lost)))
+      | inr n ↦ c.loop-lsn.invariant links stands t (omega arith) lost
     ]
 
 pub returns : goal.returns
 returns c = λ links stands.
-    let log : History = history (take c.args.count c.args.log.now) in
-    (λ x t lost. c.loop-index.invariant links stands t (omega (arith, last_within t log (loser_has t log lost), size_of_beginning c.args.log.now c.args.count c.requires)) lost, λ l. refl)
+    let log : History = first c.args.count (history c.args.log.now) in
+    (λ x t lost. c.loop-lsn.invariant links stands t (omega (arith, last_within t log (loser_has t log lost), size_of_first c.args.count (history c.args.log.now) c.requires)) lost, λ l. refl)

@@ -1,7 +1,6 @@
-use Rattle.std.proofs.Common.{take}
-use Rattle.wal.specs.Records.{history}
+use Rattle.wal.specs.Records.{history, first}
 use Rattle.audit.specs.Passing.{Tells}
 use Rattle.audit.proofs.master.running_at.Given as goal
 
-abbrev pub invariant-loop-index : goal.invariant-loop-index
-invariant-loop-index l = Tells l.pages (history (take l.index l.log)) l.running
+abbrev pub invariant-loop-lsn : goal.invariant-loop-lsn
+invariant-loop-lsn l = Tells l.pages (first l.lsn (history l.log)) l.running

@@ -1,6 +1,6 @@
 use Rattle.std.proofs.Common.{sym, subst, arith}
 use Rattle.std.proofs.lemmas.Bool.{iff_false}
-use Rattle.wal.specs.Shown.{shown}
+use Rattle.wal.specs.Content.{shown}
 use Rattle.wal.specs.Tail.{tx_of}
 use Rattle.audit.specs.Standings.{standing_in}
 use Rattle.audit.specs.Cells.{KeepsCells}

@@ -1,47 +1,54 @@
-use Rattle.std.proofs.Common.{◌≡◌, ◌+◌, Some, length, take, slice_get, sym, ap, subst, ◌∙◌, arith}
-use Rattle.std.proofs.lemmas.Option.{slice_get-get_or}
-use Rattle.wal.specs.Records.{History, history, size}
+use Rattle.std.proofs.Common.{◌≡◌, ◌+◌, length, sym, subst, arith}
+use Rattle.wal.proofs.Histories.{size_of_first, first_none, first_all}
+use Rattle.wal.specs.Records.{History, history, last_lsn, first}
 use Rattle.wal.specs.Meaning.{pending}
-use Rattle.wal.specs.Shown.{shown}
-use Rattle.wal.proofs.Histories.{size_of_beginning}
+use Rattle.wal.specs.Content.{shown}
+use Rattle.audit.specs.FirstFault.{AreSound}
 use Rattle.audit.specs.Standings.{standing_in}
 use Rattle.audit.specs.Passing.{Tells}
 use Rattle.audit.proofs.Noting.{has_cell, top_within}
-use Rattle.audit.proofs.Passing.{begins_taken, sound_more, record_fault}
+use Rattle.audit.proofs.Passing.{begins_first, sound_more, record_fault}
 use Rattle.audit.proofs.records.check_records.Goals as goal
 
 pub returns-in-Err-clause-err : goal.returns-in-Err-clause-err
 returns-in-Err-clause-err c =
-    let so_far : History = history (take c.loop-index.index c.args.log.now) in
-    let at : size so_far + 1 ≡ c.loop-index.index + 1 = omega (arith, size_of_beginning c.args.log.now c.loop-index.index (omega arith)) in
-    record_fault c.args.count c.args.log.now c.in-Err.fault
+    let so_far : History = first c.loop-lsn.lsn (history c.args.log.now) in
+    let at : last_lsn so_far + 1 ≡ c.loop-lsn.lsn + 1 = omega (arith, size_of_first c.loop-lsn.lsn (history c.args.log.now) (omega arith)) in
+    record_fault c.args.count (history c.args.log.now) c.in-Err.fault
     (record {
-      place = c.loop-index.index;
-      entry = shown c.nth-view.result;
-      there = slice_get-get_or c.args.log.now c.loop-index.index (shown c.nth-view.result) (omega arith) ∙ ap (λ x. Some x) c.nth-view.ensures.item;
-      before = c.loop-index.invariant.0;
-      broken = c.in-Err.ensures.err so_far at (begins_taken c.args.log.now c.loop-index.index) c.loop-index.invariant.0.lawful c.loop-index.invariant.1;
+      lsn = c.loop-lsn.lsn;
+      entry = shown c.after-view.result;
+      there = c.after-view.ensures.there;
+      before = c.loop-lsn.invariant.0;
+      broken = c.in-Err.ensures.err so_far at (begins_first c.args.log.now c.loop-lsn.lsn) c.loop-lsn.invariant.0.lawful c.loop-lsn.invariant.1;
     })
 
 pub note-requires-clause-cell : goal.note-requires-clause-cell
 note-requires-clause-cell c =
-    let so_far : History = history (take c.loop-index.index c.args.log.now) in
-    let at : size so_far + 1 ≡ c.loop-index.index + 1 = omega (arith, size_of_beginning c.args.log.now c.loop-index.index (omega arith)) in
-    has_cell c.args.count (length c.loop-index.running.writers.items) (shown c.nth-view.result) c.loop-index.invariant.1.cells.size_is
-    (c.in_default.ensures.ok so_far at (begins_taken c.args.log.now c.loop-index.index) c.loop-index.invariant.0.lawful c.loop-index.invariant.1).0 c.nth-view.ensures.fits
+    let so_far : History = first c.loop-lsn.lsn (history c.args.log.now) in
+    let at : last_lsn so_far + 1 ≡ c.loop-lsn.lsn + 1 = omega (arith, size_of_first c.loop-lsn.lsn (history c.args.log.now) (omega arith)) in
+    has_cell c.args.count (length c.loop-lsn.running.writers.items) (shown c.after-view.result) c.loop-lsn.invariant.1.cells.size_is
+    (c.in_default.ensures.ok so_far at (begins_first c.args.log.now c.loop-lsn.lsn) c.loop-lsn.invariant.0.lawful c.loop-lsn.invariant.1).0 c.after-view.ensures.fits
 
 pub note-requires-clause-tops : goal.note-requires-clause-tops
 note-requires-clause-tops c = λ t.
-    top_within c.loop-index.running.links.items (pending t (history (take c.loop-index.index c.args.log.now))) (standing_in c.loop-index.running.table t).newest (c.loop-index.invariant.1.stands t).pending
+    top_within c.loop-lsn.running.links.items (pending t (first c.loop-lsn.lsn (history c.args.log.now))) (standing_in c.loop-lsn.running.table t).newest (c.loop-lsn.invariant.1.stands t).pending
 
-pub loop-index-preserved : goal.loop-index-preserved
-loop-index-preserved c =
-    let so_far : History = history (take c.loop-index.index c.args.log.now) in
-    let at : size so_far + 1 ≡ c.loop-index.index + 1 = omega (arith, size_of_beginning c.args.log.now c.loop-index.index (omega arith)) in
-    let there : slice_get c.args.log.now c.loop-index.index ≡ Some (shown c.nth-view.result) =
-    slice_get-get_or c.args.log.now c.loop-index.index (shown c.nth-view.result) (omega arith) ∙ ap (λ x. Some x) c.nth-view.ensures.item in
-    let kept = c.in_default.ensures.ok so_far at (begins_taken c.args.log.now c.loop-index.index) c.loop-index.invariant.0.lawful c.loop-index.invariant.1 in (
-      sound_more c.args.count c.args.log.now c.loop-index.index (shown c.nth-view.result) there c.nth-view.ensures.next c.loop-index.invariant.0 kept.0 kept.1,
-      subst (λ (h : History). Tells c.args.count h c.note.new.self) (sym c.nth-view.ensures.next)
-          (c.in_ok-note.ensures.ok c.args.count so_far at kept.0 c.nth-view.ensures.fits c.loop-index.invariant.1),
+pub loop-lsn-preserved : goal.loop-lsn-preserved
+loop-lsn-preserved c =
+    let so_far : History = first c.loop-lsn.lsn (history c.args.log.now) in
+    let at : last_lsn so_far + 1 ≡ c.loop-lsn.lsn + 1 = omega (arith, size_of_first c.loop-lsn.lsn (history c.args.log.now) (omega arith)) in
+    let kept = c.in_default.ensures.ok so_far at (begins_first c.args.log.now c.loop-lsn.lsn) c.loop-lsn.invariant.0.lawful c.loop-lsn.invariant.1 in (
+      sound_more c.args.count (history c.args.log.now) c.loop-lsn.lsn (shown c.after-view.result) c.after-view.ensures.next c.loop-lsn.invariant.0 kept.0 kept.1,
+      subst (λ (h : History). Tells c.args.count h c.note.new.self) (sym c.after-view.ensures.next)
+          (c.in_ok-note.ensures.ok c.args.count so_far at kept.0 c.after-view.ensures.fits c.loop-lsn.invariant.1),
     )
+
+pub loop-lsn-init : goal.loop-lsn-init
+loop-lsn-init c =
+    subst (λ (h : History). AreSound c.args.count h × Tells c.args.count h c.in_ok-running.running) (sym (first_none (history c.args.log.now)))
+    (record { lawful = tt; named = λ lsn r there. absurd cc }, c.in_ok-running.ensures.ok)
+
+pub returns-clause-ok : goal.returns-clause-ok
+returns-clause-ok c =
+    subst (AreSound c.args.count) (first_all c.loop-lsn.lsn (history c.args.log.now) (omega (arith, c.loop-lsn-test.false, c.last-lsn-end.ensures))) c.loop-lsn.invariant.0

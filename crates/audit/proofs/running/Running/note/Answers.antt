@@ -1,11 +1,12 @@
 use Rattle.std.proofs.Common.{◌≡◌, ℕ, List, [], ◌∷◌, ◌++◌, length, ap, sym, subst, ◌∙◌, arith, eqb, length-append}
 use Rattle.std.specs.HashMap.{get}
-use Rattle.wal.specs.Records.{LogRecord, ◌▸◌, size}
-use Rattle.wal.specs.Shown.{shown}
+use Rattle.wal.specs.Records.{LogRecord, ◌▸◌, last_lsn}
+use Rattle.wal.specs.Content.{shown}
 use Rattle.wal.specs.Tail.{tx_of}
 use Rattle.audit.specs.Standings.{standing_in, Stands, under}
 use Rattle.audit.specs.Cells.{KeepsCells, written}
 use Rattle.audit.proofs.Noting.{stands_all, at_transaction, keeps_more}
+use Rattle.audit.proofs.Standings.{stands_own}
 use Rattle.audit.proofs.Passing.{written_back}
 use Rattle.audit.proofs.running.Running.note.Goals as goal
 
@@ -13,12 +14,13 @@ pub returns-clause-ok : goal.returns-clause-ok
 returns-clause-ok c = λ count log at named fits tells.
     let r : LogRecord = shown c.args.view.now in
     let links : List ℕ = c.args.self.now.links.items in
-    let len : length links ≡ size log = tells.links in
+    let len : length links ≡ last_lsn log = tells.links in
     let pushed : c.push.new.self.items ≡ links ++ c.standing_of-standing.result.newest ∷ [] = c.in_ok-push.ensures.items in
     let below : c.below_top-below.result ≡ under links c.standing_of-standing.result.newest = c.below_top-below.ensures ∙ ap (λ xs. under xs c.standing_of-standing.result.newest) c.deref.ensures.value in
     let own : Stands (links ++ c.standing_of-standing.result.newest ∷ []) (tx_of r) (log ▸ r) c.noted.result =
-    c.noted.ensures log links at len below
-    (at_transaction links log (standing_in c.args.self.now.table) c.transaction_of-tx.result (tx_of r) c.standing_of-standing.result tells.stands c.transaction_of-tx.ensures c.standing_of-standing.ensures) in
+    subst (λ x. Stands (links ++ c.standing_of-standing.result.newest ∷ []) (tx_of r) (log ▸ r) x) (sym c.noted.ensures)
+    (stands_own links log r c.standing_of-standing.result c.args.lsn c.below_top-below.result at len below
+    (at_transaction links log (standing_in c.args.self.now.table) c.transaction_of-tx.result (tx_of r) c.standing_of-standing.result tells.stands c.transaction_of-tx.ensures c.standing_of-standing.ensures)) in
     let all : (t : ℕ) → Stands (links ++ c.standing_of-standing.result.newest ∷ []) t (log ▸ r) (standing_in c.insert.new.self t) =
     stands_all links log r (get eqb c.args.self.now.table) (get eqb c.insert.new.self) c.transaction_of-tx.result c.noted.result c.standing_of-standing.result.newest c.transaction_of-tx.ensures c.in_ok-insert.ensures.updates.0 own tells.stands in
     let wrote : c.note_write.new.writers ≡ written c.args.self.now.writers.items r c.args.lsn = c.note_write.ensures ∙ ap (λ xs. written xs r c.args.lsn) c.deref_mut.ensures.value in
