@@ -1,0 +1,54 @@
+-- How many records undo appends.
+use Rattle.std.proofs.Common.{ℕ, suc, ◌≡◌, ◌+◌, ◌*◌, ◌-◌, ◌<◌, ◌≤◌, ◌^◌, ◌++◌, List, [], ◌∷◌, length, map, Some, ap, arith, inl, inr}
+use Rattle.std.specs.Prelude.{All, filter}
+use Rattle.std.specs.Map.{lookup}
+use Rattle.std.specs.Ordering.{is_eq, nat_cmp}
+use Rattle.std.proofs.lemmas.Bool.{cases_Bool}
+use Rattle.std.proofs.lemmas.List.{length-append}
+use Rattle.wal.specs.Records.{TableEntry, tx_in, LogRecord, End, History, last_lsn}
+use Rattle.wal.proofs.Entries.{Rise}
+use Rattle.undo.specs.declared.losers.Loser.{Loser}
+use Rattle.undo.specs.Rollback.{Places, IsUpdateAt, Resolved, meets_nothing, end_of}
+use Rattle.undo.proofs.Placed.{height, height_least}
+use Rattle.undo.proofs.Rolling.{place_within}
+
+-- a list and one item more
+pub one_more : {X : Type 0} (old new : List X) (x : X) → new ≡ old ++ x ∷ [] → length new ≡ length old + 1
+one_more old new x e = omega (arith, ap length e, length-append old (x ∷ []))
+
+-- one end for each loser at most, of those that meet nothing
+pub ends_few : (log : History) (es : List TableEntry) → length (map end_of (filter (meets_nothing log) es)) ≤ length es
+ends_few log [] = omega arith
+ends_few log (e ∷ es) =
+    let few = ends_few log es in
+    elim (cases_Bool (meets_nothing log e)) [
+      | inl i ↦ rw i (omega (arith, few))
+      | inr i ↦ rw i (omega (arith, few))
+    ]
+
+-- transactions have numbers of 32 bits, each once
+risen_few : (low : ℕ) (es : List TableEntry) → Rise low es → All (λ n. n < 2 ^ 32) (map tx_in es) → low ≤ 2 ^ 32 → low + length es ≤ 2 ^ 32
+risen_few low [] rises below h = omega (arith, h)
+risen_few low (e ∷ es) rises below h =
+    let here : e.tx < 2 ^ 32 = below 0 0 (omega arith) in
+    let rest = risen_few (suc e.tx) es rises.1 (λ k d lt. below (suc k) d (omega (arith, lt))) (omega (arith, here)) in
+    omega (arith, rest, rises.0)
+
+pub numbers_few : (es : List TableEntry) → Rise 0 es → All (λ n. n < 2 ^ 32) (map tx_in es) → length es ≤ 2 ^ 32
+numbers_few es rises below = omega (arith, risen_few 0 es rises below (omega arith))
+
+-- a loser that is resolved again ends, or waits
+pub resolved_few : (log : History) (l : Loser) (from lsn : ℕ) (old new : Places) (before after : List LogRecord) → Resolved log l from lsn old new before after → length after ≤ length before + 1
+resolved_few log l from lsn old new before after r =
+    elim r [
+      | inl e ↦ omega (arith, one_more before after (End (record { tx = l.tx; prev = l.last })) e.appended)
+      | inr s ↦ omega (arith, ap length s.appended)
+    ]
+
+-- losers that wait stand at most so high
+pub height_within : (log : History) (entries : List (ℕ × Loser)) → ((n : ℕ) (l : Loser) → lookup (λ k. is_eq (nat_cmp n k)) entries ≡ Some l → IsUpdateAt log l.tx n) → height entries ≤ last_lsn log + 1
+height_within log entries updates = height_least (last_lsn log + 1) entries (λ n l e. omega (arith, place_within log l.tx n (updates n l e)))
+
+-- a turn appends two records at most, and all that wait behind it stand below its place
+pub turn_few : (place high low before after most : ℕ) → 0 < place → place < high → low ≤ place → after ≤ before + 2 → before + 2 * (high - 1) ≤ most → after + 2 * (low - 1) ≤ most
+turn_few place high low before after most some above below two few = omega (arith, some, above, below, two, few)

@@ -1,0 +1,11 @@
+pub mod Effects
+pub mod Walks
+pub mod UndonePages
+pub mod Meeting
+pub mod Lowest
+pub mod Placed
+pub mod Rolling
+pub mod Few
+pub mod Beginning
+pub mod LawfulUndo
+pub mod OneCause

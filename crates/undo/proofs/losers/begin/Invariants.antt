@@ -1,0 +1,19 @@
+use Rattle.std.proofs.Common.{◌<◌, ◌^◌, map}
+use Rattle.std.specs.Prelude.{All}
+use Rattle.std.specs.Ordering.{nat_cmp}
+use Rattle.std.specs.BTreeMap.{get}
+use Rattle.std.specs.Map.Iter.{deref_pair}
+use Rattle.wal.specs.Records.{tx_in, history}
+use Rattle.wal.specs.Content.{entry_of, content}
+use Rattle.analysis.specs.Tables.{losers_in}
+use Rattle.undo.specs.Undone.{AreCounted, AreSpelled}
+use Rattle.undo.specs.Rollback.{Begun}
+use Rattle.undo.proofs.losers.begin.Given as goal
+
+abbrev pub invariant-loop-tx : goal.invariant-loop-tx
+invariant-loop-tx l =
+    record {
+      begun : Begun (history l.log) (losers_in l.tables) (map entry_of (map deref_pair l.yielded)) (get nat_cmp l.places) (map content l.appended.items);
+      numbers : All (λ n. n < 2 ^ 32) (map tx_in (map entry_of (map deref_pair l.yielded)));
+      spelled : AreCounted l.tables → AreSpelled l.appended.items;
+    }

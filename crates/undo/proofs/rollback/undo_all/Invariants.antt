@@ -1,0 +1,28 @@
+use Rattle.std.proofs.Common.{◌≡◌, ◌+◌, ◌*◌, ◌-◌, ◌≤◌, List, All, length, map}
+use Rattle.std.specs.Ordering.{nat_cmp}
+use Rattle.std.specs.BTreeMap.{get}
+use Rattle.page.specs.declared.page.Page.{Page}
+use Rattle.page.specs.Store.{AreNumbered}
+use Rattle.wal.specs.Records.{TableEntry, history}
+use Rattle.wal.specs.Content.{content}
+use Rattle.wal.specs.Store.{NamesPages}
+use Rattle.undo.specs.Undone.{undone_page, AreSpelled}
+use Rattle.undo.specs.Rollback.{AreUpdates, Rolls}
+use Rattle.undo.proofs.Placed.{height}
+use Rattle.undo.proofs.rollback.undo_all.Given as goal
+
+abbrev pub invariant-loop-place : goal.invariant-loop-place
+invariant-loop-place l =
+    record {
+      updates : AreUpdates (history l.log) (get nat_cmp l.places);
+      rolls : (losers : List TableEntry) → Rolls (history l.log) losers (length l.fn.pages) (get nat_cmp l.fn.places) (map content l.fn.appended.items)
+          → Rolls (history l.log) losers (length l.fn.pages) (get nat_cmp l.places) (map content l.appended.items);
+      exist : All (NamesPages (length l.fn.pages)) (map content l.fn.appended.items) → All (NamesPages (length l.fn.pages)) (map content l.appended.items);
+      few : length l.appended.items + 2 * (height l.places.entries - 1) ≤ length l.fn.appended.items + 2 * length l.log.records;
+      spelled : AreSpelled l.fn.appended.items → AreSpelled l.appended.items;
+      pages_are : (given : List Page) → AreNumbered given → l.fn.pages ≡ map (undone_page (history l.log) (map content l.fn.appended.items)) given
+          → l.pages ≡ map (undone_page (history l.log) (map content l.appended.items)) given;
+    }
+
+abbrev pub decreases-loop-place : goal.decreases-loop-place
+decreases-loop-place l = height l.places.entries

@@ -1,0 +1,102 @@
+-- What undo makes of any log, tables and pages, and why it is refused. ARIES, section 6.3 (undo pass).
+use Rattle.std.specs.Prelude.{◌≡◌, ℕ, suc, ◌<◌, ◌≤◌, ◌⊎◌, min, [], ◌∷◌, List, All, Some, None, true, length, map, nat_lt}
+use Rattle.std.specs.List.{range_with_len}
+use Rattle.page.specs.Image.{Image}
+use Rattle.page.specs.declared.page.Page.{Page}
+use Rattle.page.specs.declared.fault.Fault.{Fault}
+use Rattle.page.specs.Causes.{HasOneCause, HasNoCause}
+use Rattle.page.specs.declared.fault.Fault.TheVariants.{NoResource, NoSuchPage, BrokenChain}
+use Rattle.wal.specs.Records.{TableEntry, UpdateRecord, LogRecord, Update, History, last_lsn, record_at, ◌▸▸◌}
+use Rattle.wal.specs.Meaning.{Cells, effects}
+use Rattle.wal.specs.Tail.{is_among}
+use Rattle.wal.specs.Redo.{held_by, last_where}
+use Rattle.wal.specs.Undo.{entry_for, walk_of}
+use Rattle.wal.specs.declared.record.Record.{Record}
+use Rattle.wal.specs.Spelling.{Fits}
+use Rattle.wal.specs.Content.{content}
+use Rattle.analysis.specs.Tables.{TablesContent, losers_in}
+
+-- no hop of a loser is bad: each walk comes to 0
+abbrev pub NoBadHop : History → List TableEntry → Type 0
+NoBadHop log losers = (t : ℕ) → (walk_of log (entry_for t losers)).ends ≡ 0
+
+-- the slots of an image in a state (there are 16)
+abbrev pub slots_of : Cells → Page → List Image
+slots_of state image = map (λ slot. state image.number slot) (range_with_len 0 (length image.slots))
+
+-- UNDONE PAGE. An image with the effects of the records behind the log, in order, and as PageLSN the last of them on the page,
+-- else the old one.
+abbrev pub undone_page : History → List LogRecord → Page → Page
+undone_page log appended image = record {
+  number = image.number;
+  lsn = last_where (λ lsn. nat_lt (last_lsn log) lsn) image.number image.lsn (log ▸▸ appended);
+  slots = slots_of (effects (λ lsn _. nat_lt (last_lsn log) lsn) (held_by image) (log ▸▸ appended)) image;
+}
+
+-- WHICH FAULT COMES FIRST. The losers begin to walk in rising number; then the updates that they have come to are undone, the
+-- newest of all losers first, each before its loser walks on from it.
+
+-- an update at this LSN, which the hops of a loser meet
+pub record IsMet (log : History) (losers : List TableEntry) (lsn : ℕ) (update : UpdateRecord) : Type 0 where
+  pub loser : ℕ
+  pub met : is_among lsn (walk_of log (entry_for loser losers)).met ≡ true
+  pub found : record_at log lsn ≡ Some (Update update)
+
+-- each update met at this LSN or behind it is on a page below the count
+abbrev pub MetExist : History → List TableEntry → (count from : ℕ) → Type 0
+MetExist log losers count from = (lsn : ℕ) (update : UpdateRecord) → from ≤ lsn → IsMet log losers lsn update → update.page < count
+
+-- the walk of t ends at a bad hop
+abbrev pub EndsBadly : History → List TableEntry → ℕ → Type 0
+EndsBadly log losers t = (walk_of log (entry_for t losers)).ends ≡ 0 → ⊥
+
+-- the lowest of these LSNs, and of the one behind the log
+abbrev pub lowest : ℕ → List ℕ → ℕ
+lowest behind [] = behind
+lowest behind (n ∷ ns) = min n (lowest behind ns)
+
+-- the last update that the walk of t meets, or the LSN behind the log where it meets none
+abbrev pub last_met : History → List TableEntry → ℕ → ℕ
+last_met log losers t = lowest (suc (last_lsn log)) (walk_of log (entry_for t losers)).met
+
+-- the update at this LSN is met, and on a page past the count; those met behind it are not, and no walk has ended badly before
+-- it is undone
+pub record MeetsMissing (log : History) (losers : List TableEntry) (count lsn : ℕ) : Type 0 where
+  pub update : UpdateRecord
+  pub is_met : IsMet log losers lsn update
+  pub missing : count ≤ update.page
+  pub behind : MetExist log losers count (suc lsn)
+  pub none_broken : (t : ℕ) → EndsBadly log losers t → last_met log losers t ≤ lsn
+
+-- the walk of a loser ends at a bad hop to this LSN; what is met before it is on pages below the count, and no other walk has
+-- ended badly before: of those that meet nothing the smallest number does so first
+pub record Breaks (log : History) (losers : List TableEntry) (count lsn : ℕ) : Type 0 where
+  pub loser : ℕ
+  pub ends : (walk_of log (entry_for loser losers)).ends ≡ lsn
+  pub bad : lsn ≡ 0 → ⊥
+  pub behind : MetExist log losers count (last_met log losers loser)
+  pub first : (t : ℕ) → EndsBadly log losers t
+      → (last_met log losers t < last_met log losers loser) ⊎ ((last_met log losers t ≡ last_met log losers loser) × (loser ≤ t))
+
+-- why undo is refused, memory aside
+abbrev pub UndoFault : History → List TableEntry → ℕ → Fault → Type 0
+UndoFault log losers count NoResource = Unit {0}
+UndoFault log losers count (NoSuchPage lsn) = MeetsMissing log losers count lsn
+UndoFault log losers count (BrokenChain lsn) = Breaks log losers count lsn
+UndoFault log losers count e = ⊥
+
+-- ONE CAUSE. No undo is refused for two, and none stands beside an answer.
+abbrev pub OneUndoFault : Type 0
+OneUndoFault = (log : History) (losers : List TableEntry) (count : ℕ) → HasOneCause (UndoFault log losers count)
+
+abbrev pub NoFaultOfUndo : Type 0
+NoFaultOfUndo = (log : History) (losers : List TableEntry) (count : ℕ) → NoBadHop log losers → MetExist log losers count 0 → HasNoCause (UndoFault log losers count)
+
+-- WHAT CAN BE WRITTEN
+-- no loser has the number 0, which is no transaction's (own)
+abbrev pub AreCounted : TablesContent → Type 0
+AreCounted tables = entry_for 0 (losers_in tables) ≡ None
+
+-- each of these records has a spelling
+abbrev pub AreSpelled : List Record → Type 0
+AreSpelled records = All (λ r. Fits (content r)) records

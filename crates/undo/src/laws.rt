@@ -1,0 +1,15 @@
+//! Laws of undo. Each function is its law: what it ensures holds of the definitions alone.
+
+ghost use Rattle.undo.specs.Undone.{OneUndoFault, NoFaultOfUndo};
+
+/// No undo is refused for two causes, want of memory aside: the fault is the first that is met, the
+/// losers resolved in rising number, then the newest update first, its page before the walk goes on
+/// from it.
+pub fn one_undo_fault()
+    ensures { OneUndoFault }
+{}
+
+/// Where undo answers, no cause of a refusal stands.
+pub fn no_fault_of_undo()
+    ensures { NoFaultOfUndo }
+{}

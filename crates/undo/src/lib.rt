@@ -1,0 +1,11 @@
+//! Undo: the updates of the transactions that have not finished are taken back, the newest first, under
+//! compensation records.
+#![tactic(auto)]
+
+mod laws;
+mod losers;
+mod rollback;
+mod walk;
+
+pub use laws::{no_fault_of_undo, one_undo_fault};
+pub use rollback::undo;

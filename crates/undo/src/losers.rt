@@ -1,0 +1,91 @@
+//! The losers of a rollback, each at the place of the update that it undoes next.
+
+ghost use Rattle.std.specs.Prelude.{◌≡◌, ◌≤◌, ◌<◌, ◌+◌, ◌^◌, ℕ, length, map, OnOk, IfOk, IfErr, IfSome, IfNone};
+ghost use Rattle.std.specs.Ordering.{nat_cmp};
+ghost use Rattle.std.specs.BTreeMap.{get};
+ghost use Rattle.wal.specs.Records.{history, last_lsn};
+ghost use Rattle.wal.specs.Content.{content};
+ghost use Rattle.analysis.specs.Tables.{losers_in};
+ghost use Rattle.undo.specs.Undone.{AreCounted, AreSpelled, UndoFault};
+ghost use Rattle.undo.specs.Rollback.{walk_from, WalkFault, Resolved, Taken, AreEnds, Rolls};
+
+use crate::walk::next_update;
+use analysis::Tables;
+use page::Fault;
+use std::alloc::Global;
+use std::collections::BTreeMap;
+use wal::{Log, Record};
+
+/// A transaction that is rolled back.
+#[derive(Clone, Copy, Debug, PartialEq, Eq)]
+pub struct Loser {
+    /// Its number.
+    pub tx: u32,
+    /// The LSN of its last record, 0 for none.
+    pub last: u64,
+}
+
+/// Resolves a loser that the record at the LSN `from` sends to `lsn`: it waits at the update that it
+/// undoes next; where nothing is left, its end is appended.
+pub fn resolve(
+    log: &Log,
+    loser: Loser,
+    from: u64,
+    lsn: u64,
+    places: &mut BTreeMap<u64, Loser>,
+    appended: &mut Vec<Record>,
+) -> Result<(), Fault>
+    requires positive { 0 < from }
+    requires within { from ≤ last_lsn (history log.now) + 1 }
+    ensures ok { OnOk result (Resolved (history log.now) loser from lsn
+        (get nat_cmp places.old) (get nat_cmp places.new) (map content appended.old.items) (map content appended.new.items)) }
+    ensures spelled { OnOk result (0 < loser.tx → AreSpelled appended.old.items → AreSpelled appended.new.items) }
+    ensures fault { IfErr result (WalkFault (walk_from (history log.now) loser.tx from lsn)) }
+{
+    match next_update(log, loser.tx, from, lsn)? {
+        Some(place) => {
+            places.insert(place, loser)?;
+        }
+        None => appended.push(Record::End {
+            tx: loser.tx,
+            prev: loser.last,
+        })?,
+    }
+    Ok(())
+}
+
+/// Takes the loser that waits at the largest place; None where nobody waits.
+#[tactic(auto, using(crate::proofs::Placed::last_taken, crate::proofs::Placed::nobody_waits))]
+pub fn take_newest(places: &mut BTreeMap<u64, Loser>) -> Option<(u64, Loser)>
+    ensures taken { IfSome result (λ x. Taken x.0 x.1 (get nat_cmp places.old) (get nat_cmp places.new)) }
+    ensures nobody { IfNone result ((n : ℕ) → get nat_cmp places.old n ≡ None) }
+{
+    places.pop_last()
+}
+
+/// Resolves the losers, in rising number, each from its UndoNxtLSN. Gives them by their places, and the
+/// ends of those that have nothing left.
+pub fn begin(
+    alloc: Global,
+    log: &Log,
+    tables: &Tables,
+) -> Result<(BTreeMap<u64, Loser>, Vec<Record>), Fault>
+    ensures ok { IfOk result (λ x. (count : ℕ) → Rolls (history log.now) (losers_in tables.now) count (get nat_cmp x.0) (map content x.1.items)) }
+    ensures ends { IfOk result (λ x. AreEnds (map content x.1.items)) }
+    ensures few { IfOk result (λ x. length x.1.items ≤ length (losers_in tables.now)) }
+    ensures numbers { OnOk result (length (losers_in tables.now) ≤ 2 ^ 32) }
+    ensures spelled { IfOk result (λ x. AreCounted tables.now → AreSpelled x.1.items) }
+    ensures fault { IfErr result (λ e. (count : ℕ) → UndoFault (history log.now) (losers_in tables.now) count e) }
+{
+    let mut places = BTreeMap::new(alloc);
+    let mut appended = Vec::new(alloc);
+    let end = log.next_lsn();
+    for (tx, entry) in &tables.transactions {
+        let loser = Loser {
+            tx: *tx,
+            last: entry.last,
+        };
+        resolve(log, loser, end, entry.undo_next, &mut places, &mut appended)?;
+    }
+    Ok((places, appended))
+}

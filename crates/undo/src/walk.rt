@@ -1,0 +1,64 @@
+//! The walk of a transaction through the log, by which it is undone.
+
+ghost use Rattle.std.specs.Prelude.{◌≡◌, ◌≤◌, ◌<◌, ◌+◌, length, MatchOption, IfOk, IfErr};
+ghost use Rattle.wal.specs.Records.{history, record_at, last_lsn};
+ghost use Rattle.undo.specs.Rollback.{hop_of, walk_from, Meets, MeetsNothing, WalkFault};
+
+use page::Fault;
+use wal::{Log, RecordView};
+
+/// What a record tells the walk that was sent to it.
+#[derive(Clone, Copy, Debug, PartialEq, Eq)]
+pub enum Hop {
+    /// It is an update of the transaction.
+    Update,
+    /// It is a CLR of the transaction: the walk goes on at its UndoNxtLSN, this one.
+    On(u64),
+}
+
+/// What the record at an LSN tells the walk of a transaction; None where it is no update or CLR of it,
+/// and at 0 and past the log's end.
+fn hop_at(log: &Log, tx: u32, lsn: u64) -> Option<Hop>
+    ensures { result ≡ hop_of tx (record_at (history log.now) lsn) }
+{
+    match log.get(lsn)? {
+        RecordView::Update { tx: owner, .. } => (owner == tx).then_some(Hop::Update),
+        RecordView::Compensation {
+            tx: owner,
+            undo_next,
+            ..
+        } => (owner == tx).then_some(Hop::On(undo_next)),
+        _ => None,
+    }
+}
+
+/// The first update that a transaction meets when the record at the LSN `from` sends it to `lsn`: at a
+/// CLR it goes on at the UndoNxtLSN at once. None where it comes to 0.
+///
+/// BrokenChain(n) where it is sent to an LSN n, not 0, at which no update or CLR of the transaction
+/// stands below the record that sends it.
+pub fn next_update(log: &Log, tx: u32, from: u64, lsn: u64) -> Result<Option<u64>, Fault>
+    requires positive { 0 < from }
+    requires within { from ≤ last_lsn (history log.now) + 1 }
+    ensures found { IfOk result (λ next. MatchOption next
+        (MeetsNothing (history log.now) tx from lsn)
+        (λ place. Meets (history log.now) tx from lsn place)) }
+    ensures fault { IfErr result (WalkFault (walk_from (history log.now) tx from lsn)) }
+{
+    let mut above = from;
+    let mut next = lsn;
+    while next != 0 {
+        if next >= above {
+            return Err(Fault::BrokenChain(next));
+        }
+        match hop_at(log, tx, next) {
+            Some(Hop::Update) => return Ok(Some(next)),
+            Some(Hop::On(undo_next)) => {
+                above = next;
+                next = undo_next;
+            }
+            None => return Err(Fault::BrokenChain(next)),
+        }
+    }
+    Ok(None)
+}
