@@ -1,0 +1,40 @@
+-- Why a restart is refused: the faults of its parts, in its own words.
+use Rattle.std.proofs.Common.{ℕ, length, inl, inr}
+use Rattle.page.specs.declared.fault.Fault.{Fault}
+use Rattle.page.specs.declared.fault.Fault.TheVariants.{NoResource, BadWorkers, BadParting, BadMaster, PageAheadOfLog, NoSuchPage, BrokenChain}
+use Rattle.page.specs.Store.{StoreContent}
+use Rattle.wal.specs.Records.{history, LogContent}
+use Rattle.analysis.specs.Tables.{TablesContent, losers_in, AreTablesOf, BaseFault}
+use Rattle.redo.specs.Parting.{PartingContent}
+use Rattle.redo.specs.Redone.{AreWorkers, AllExist, RedoFault}
+use Rattle.undo.specs.Undone.{UndoFault}
+use Rattle.restart.specs.Restart.{AreSettings, SettingsFault, NoneAhead, AheadFault, InputFault}
+
+-- settings that hold are not refused
+pub settings_hold : (pages : ℕ) (parting : PartingContent) (workers : ℕ) (e : Fault) → AreSettings pages parting workers → SettingsFault pages parting workers e → ⊥
+settings_hold pages parting workers BadWorkers fit h = h fit.fit
+settings_hold pages parting workers BadParting fit h = h.1 fit.dealt
+settings_hold pages parting workers e fit h = absurd h
+
+pub ahead_fault : (read : LogContent) (before : StoreContent) (e : Fault) → AheadFault read before.pages e → InputFault read before e
+ahead_fault read before (PageAheadOfLog number) h = h
+ahead_fault read before e h = absurd h
+
+module _ (read : LogContent) (before : StoreContent) (none_ahead : NoneAhead read before) where
+  pub base_fault : (e : Fault) → BaseFault before.master (history read) e → InputFault read before e
+  base_fault NoResource h = tt
+  base_fault BadMaster h = (none_ahead, h)
+  base_fault e h = absurd h
+
+  module _ (tables : TablesContent) (are : AreTablesOf read before.master tables) where
+    pub redo_fault : (workers : ℕ) (e : Fault) → AreWorkers workers → RedoFault read (length before.pages) tables.redo_lsn workers e → InputFault read before e
+    redo_fault workers NoResource fit h = tt
+    redo_fault workers BadWorkers fit h = absurd (h fit)
+    redo_fault workers (NoSuchPage lsn) fit h = (none_ahead, record { tables = tables; are = are; holds = inl h.1 })
+    redo_fault workers e fit h = absurd h
+
+    pub undo_fault : (e : Fault) → AllExist read (length before.pages) tables.redo_lsn → UndoFault (history read) (losers_in tables) (length before.pages) e → InputFault read before e
+    undo_fault NoResource exist h = tt
+    undo_fault (NoSuchPage lsn) exist h = (none_ahead, record { tables = tables; are = are; holds = inr (exist, h) })
+    undo_fault (BrokenChain lsn) exist h = (none_ahead, record { tables = tables; are = are; holds = (exist, h) })
+    undo_fault e exist h = absurd h

@@ -1,0 +1,4 @@
+pub mod Causes
+pub mod Restored
+pub mod OneAnswer
+pub mod OneCause

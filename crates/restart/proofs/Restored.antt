@@ -1,0 +1,184 @@
+-- A restart of a lawful log and its store.
+use Rattle.std.proofs.Common.{ℕ, suc, ◌≡◌, ◌<◌, ◌≤◌, true, cond, ◌&&◌, eqb, ltb, List, [], ◌∷◌, Some, None, Result, Ok, Err, length, get_or, map, refl, sym, ap, ap₂, ◌∙◌, subst, inl, inr, arith}
+use Rattle.std.specs.Prelude.{IfOk, MatchResult, sum}
+use Rattle.std.specs.List.{range_with_len}
+use Rattle.std.proofs.lemmas.Bool.{cases_Bool, cond_both, lt-ltb}
+use Rattle.std.proofs.lemmas.List.{length-map, get_or-map, ext_get_or}
+use Rattle.std.proofs.lemmas.List.FromFn.{length-map-range_with_len, get_or-map-range_with_len}
+use Rattle.std.proofs.lemmas.Option.{slice_get_within, get_or_from_slice_get, same_Some}
+use Rattle.page.specs.declared.page.Page.{Page}
+use Rattle.page.specs.declared.fault.Fault.{Fault}
+use Rattle.page.specs.declared.fault.Fault.TheVariants.{NoResource, BadWorkers, BadMaster, PageAheadOfLog, NoSuchPage}
+use Rattle.page.specs.Store.{StoreContent, AreNumbered}
+use Rattle.wal.specs.Records.{LogRecord, Update, Compensation, History, start, ◌▸◌, ◌▸▸◌, history, last_lsn, LogContent, ◌⧺◌}
+use Rattle.wal.specs.Meaning.{Cells, effects, replay, writes, image_of, is_on, last_on}
+use Rattle.wal.specs.Redo.{held_by, last_where, slots_in}
+use Rattle.wal.specs.Store.{Lawful, NamesPages, true_entry, store_out, page_out, checkpoint_at}
+use Rattle.wal.specs.Tail.{losers_of, tail_of, with_tail}
+use Rattle.wal.specs.Theorems.{replayed_page}
+use Rattle.wal.proofs.Histories.{after-append}
+use Rattle.wal.proofs.Lists.{replay_is_winners, tail_settles}
+use Rattle.wal.proofs.Pages.{same_slots, slot_held}
+use Rattle.wal.proofs.Redone.{redo_suffices}
+use Rattle.wal.proofs.Settled.{store_settles}
+use Rattle.wal.proofs.Ends.{losers_end}
+use Rattle.analysis.specs.Tables.{TablesContent, losers_in, AreTablesOf, base_of, BaseFault}
+use Rattle.analysis.specs.Lawful.{AreTrue}
+use Rattle.redo.specs.Changes.{NamesBelow}
+use Rattle.redo.specs.declared.redone.Redone.{Redone}
+use Rattle.redo.specs.Redone.{redone_page, IsFirstMissing, AreWorkers, RedoFault, applied_to}
+use Rattle.restart.specs.declared.outcome.Outcome.{Outcome}
+use Rattle.undo.specs.Undone.{undone_page}
+use Rattle.undo.proofs.UndonePages.{no_effects, no_last}
+use Rattle.restart.specs.Restart.{IsFirstAhead, AheadFault, appended_by, clrs_in, ends_in, RollsBack, IsSettled, Restores}
+
+some_none : {X : Type 0} {x : X} → Some x ≡ None → ⊥
+some_none e = cc
+
+-- A PAGE THAT A LOG MADE, UNDONE
+-- the effects of the records behind the first b, on what the log up to there replays to, are the replay
+effects_on : (b page slot : ℕ) (state : Cells) (log : History) (xs : List LogRecord) → b ≤ last_lsn log
+    → effects (λ lsn _. ltb b lsn) state log page slot ≡ replay log page slot → effects (λ lsn _. ltb b lsn) state (log ▸▸ xs) page slot ≡ replay (log ▸▸ xs) page slot
+effects_on b page slot state log [] le e = e
+effects_on b page slot state log (r ∷ xs) le e =
+    effects_on b page slot state (log ▸ r) xs (omega arith)
+    (ap₂ (λ chosen v. cond (writes page slot r && chosen) (image_of r) v) (lt-ltb b (suc (last_lsn log)) (omega arith)) e)
+
+-- and the last of them, else the last before, is the last of all
+last_after : (b page lsn : ℕ) (log : History) (xs : List LogRecord) → b ≤ last_lsn log
+    → last_where (λ n. ltb b n) page lsn log ≡ last_on page log → last_where (λ n. ltb b n) page lsn (log ▸▸ xs) ≡ last_on page (log ▸▸ xs)
+last_after b page lsn log [] le e = e
+last_after b page lsn log (r ∷ xs) le e = last_after b page lsn (log ▸ r) xs (omega arith) one_more
+  where
+    one_more : last_where (λ n. ltb b n) page lsn (log ▸ r) ≡ last_on page (log ▸ r)
+    one_more =
+        (let behind : ltb b (suc (last_lsn log)) ≡ true = lt-ltb b (suc (last_lsn log)) (omega arith) in
+        elim (cases_Bool (is_on page r)) [
+          | inl on ↦ rw (on, behind) refl
+          | inr off ↦ rw off e
+        ])
+
+-- what a log and the records behind it make of a page
+undone_replayed : (log : History) (xs : List LogRecord) (page : ℕ) → undone_page log xs (replayed_page log page) ≡ replayed_page (log ▸▸ xs) page
+undone_replayed log xs page =
+    let image : Page = replayed_page log page in
+    let undone : Cells = effects (λ lsn _. ltb (last_lsn log) lsn) (held_by image) (log ▸▸ xs) in
+    let held : (slot : ℕ) → slot < 16 → undone page slot ≡ replay (log ▸▸ xs) page slot =
+    λ slot lt. effects_on (last_lsn log) page slot (held_by image) log xs (omega arith)
+    (no_effects (last_lsn log) (held_by image) log page slot (omega arith) ∙ slot_held (replay log) page slot lt) in
+    let sixteen : length image.slots ≡ 16 = length-map-range_with_len (λ slot. replay log page slot) 0 16 in
+    ap₂ (λ l s. record { number = page; lsn = l; slots = s })
+    (last_after (last_lsn log) page image.lsn log xs (omega arith) (no_last (last_lsn log) page image.lsn log (omega arith)))
+    (ap (λ n. map (λ slot. undone page slot) (range_with_len 0 n)) sixteen ∙ same_slots undone (replay (log ▸▸ xs)) page held)
+
+module _ (read : LogContent) (before : StoreContent) (lawful : Lawful read before) where
+  -- THE PAGES
+  whole_is : history read ▸▸ tail_of read ≡ history (with_tail read)
+  whole_is = sym (after-append start read.records (tail_of read))
+
+  -- what the log and its tail make of a page is what the winners leave
+  page_is_out : (page : ℕ) → replayed_page (history read ▸▸ tail_of read) page ≡ page_out read page
+  page_is_out page =
+      ap (λ log. replayed_page log page) whole_is
+      ∙ ap (λ state. record { number = page; lsn = last_on page (history (with_tail read)); slots = slots_in state page }) (replay_is_winners read lawful.log)
+
+  module _ (numbered : AreNumbered before.pages) (tables : TablesContent) (are : AreTablesOf read before.master tables) (truth : AreTrue read before tables) where
+    -- redo by true tables, and then the tail, make the pages what the winners leave
+    pages_out : map (undone_page (history read) (tail_of read)) (map (redone_page read tables) before.pages) ≡ (store_out read before).pages
+    pages_out =
+        let images = before.pages in
+        let n = length images in
+        let redone : List Page = map (redone_page read tables) images in
+        let d = page_out read 0 in
+        let count : length redone ≡ n = length-map images (redone_page read tables) in
+        ext_get_or d (map (undone_page (history read) (tail_of read)) redone) (map (page_out read) (range_with_len 0 n))
+        (length-map redone (undone_page (history read) (tail_of read)) ∙ count ∙ sym (length-map-range_with_len (page_out read) 0 n))
+        (λ k lt.
+        let below : k < n = omega (arith, count, length-map redone (undone_page (history read) (tail_of read))) in
+        get_or-map (undone_page (history read) (tail_of read)) redone k d d (omega (arith, count))
+        ∙ ap (undone_page (history read) (tail_of read)) (get_or-map (redone_page read tables) images k d d below ∙ redo_suffices read before tables.dirty tables.redo_lsn lawful truth.reaches k d below)
+        ∙ undone_replayed (history read) (tail_of read) (get_or images k d).number
+        ∙ page_is_out (get_or images k d).number
+        ∙ ap (page_out read) (numbered.at_place k d below)
+        ∙ sym (get_or-map-range_with_len (page_out read) 0 n k k d below (omega arith)))
+
+    -- THE OUTCOME
+    losers_count : length (losers_in tables) ≡ length (losers_of (history read))
+    losers_count = ap length truth.unfinished ∙ length-map (losers_of (history read)) (true_entry (history read))
+
+    settles : IsSettled (with_tail read) (store_out read before)
+    settles =
+        let s = store_settles read before numbered lawful in
+        let end = tail_settles read lawful.log in
+        record { lawful = s.lawful; no_loser = end.no_loser; no_tail = end.no_tail; same_store = s.same_store }
+
+    restores : (redone : Redone) (x : Outcome) → redone.pages.items ≡ map (redone_page read tables) before.pages → redone.applied ≡ sum (map (applied_to read tables) before.pages) → RollsBack read before.master tables redone x
+        → appended_by x ≡ tail_of read → Restores read before x
+    restores redone x redone_is applied back tail =
+        let store : x.store ≡ store_out read before =
+        ap₂ (λ m (ps : List Page). record { master = m; pages = ps }) back.master_kept
+        (back.pages ∙ ap₂ (λ rs ps. map (undone_page (history read) rs) ps) tail redone_is ∙ pages_out) in
+        record {
+          appended = tail;
+          store = store;
+          settled = subst (λ s. IsSettled (read ⧺ appended_by x) s) (sym store) (subst (λ rs. IsSettled (read ⧺ rs) (store_out read before)) (sym tail) settles);
+          redoes = record { tables = tables; are = are; begins = back.redo_from; applies = back.applied ∙ applied };
+          losers = back.losers ∙ losers_count;
+          ended = back.ended ∙ ap ends_in tail ∙ losers_end read lawful.log;
+          compensated = back.compensated ∙ ap clrs_in tail;
+        }
+
+    pub outcome_restores : (redone : Redone) (r : Result Outcome Fault) → redone.pages.items ≡ map (redone_page read tables) before.pages → redone.applied ≡ sum (map (applied_to read tables) before.pages) → IfOk r (RollsBack read before.master tables redone)
+        → MatchResult r (λ x. appended_by x ≡ tail_of read) (λ e. e ≡ NoResource) → MatchResult r (Restores read before) (λ e. e ≡ NoResource)
+    outcome_restores redone (Ok x) redone_is applied back tail = restores redone x redone_is applied back tail
+    outcome_restores redone (Err e) redone_is applied back alone = alone
+
+  -- WHAT DOES NOT COME
+  none_ahead : (number : ℕ) → IsFirstAhead read before.pages number → ⊥
+  none_ahead number h =
+      let within = slice_get_within before.pages h.place h.page h.there in
+      let is = get_or_from_slice_get before.pages h.place h.page h.page h.there in
+      omega (arith, (lawful.pages h.place h.page within).within, ap (λ (p : Page). p.lsn) is, h.ahead)
+
+  based : base_of before.master (history read) ≡ None → ⊥
+  based none =
+      elim lawful.checkpoint [
+        | inl z ↦ absurd (some_none (sym (ap (λ m. base_of m (history read)) z) ∙ none))
+        | inr t ↦
+            cond_both (eqb before.master 0) (Some ([], [])) (checkpoint_at before.master (history read)) (λ o. o ≡ None → ⊥) (λ _ e. some_none e)
+            (λ _ e. some_none (sym t.named ∙ e)) none
+      ]
+
+  none_missing : (redo_lsn lsn : ℕ) → IsFirstMissing read (length before.pages) redo_lsn lsn → ⊥
+  none_missing redo_lsn lsn m = m.beyond (below m.entry (lawful.names_pages lsn m.entry m.there))
+    where
+      below : (r : LogRecord) → NamesPages (length before.pages) r → NamesBelow (length before.pages) r
+      below (Update u) h page e = subst (λ p. p < length before.pages) (same_Some _ _ e) h
+      below (Compensation c) h page e = subst (λ p. p < length before.pages) (same_Some _ _ e) h
+      below r h page e = absurd (cc)
+
+  -- so memory alone is refused
+  pub base_alone : (e : Fault) → BaseFault before.master (history read) e → e ≡ NoResource
+  base_alone NoResource cause = refl
+  base_alone BadMaster cause = absurd (based cause)
+  base_alone e cause = absurd cause
+
+  pub redo_alone : (redo_lsn workers : ℕ) (e : Fault) → AreWorkers workers → RedoFault read (length before.pages) redo_lsn workers e → e ≡ NoResource
+  redo_alone redo_lsn workers NoResource fit cause = refl
+  redo_alone redo_lsn workers BadWorkers fit cause = absurd (cause fit)
+  redo_alone redo_lsn workers (NoSuchPage lsn) fit cause = absurd (none_missing redo_lsn lsn cause.1)
+  redo_alone redo_lsn workers e fit cause = absurd cause
+
+  pub ahead_alone : (e : Fault) → AheadFault read before.pages e → e ≡ NoResource
+  ahead_alone (PageAheadOfLog number) cause = absurd (none_ahead number cause)
+  ahead_alone e cause = absurd cause
+
+-- pages of which each is changed, but for its number, stand at their numbers
+pub changed_numbered : (change : Page → Page) (pages : List Page) → ((page : Page) → (change page).number ≡ page.number) → AreNumbered pages → AreNumbered (map change pages)
+changed_numbered change pages same numbered =
+    let len = length-map pages change in
+    record {
+      some = omega (arith, len, numbered.some);
+      few = omega (arith, len, numbered.few);
+      at_place = λ i d lt. (let below : i < length pages = omega (arith, len) in ap (λ (p : Page). p.number) (get_or-map change pages i d d below) ∙ (same (get_or pages i d) ∙ numbered.at_place i d below));
+    }

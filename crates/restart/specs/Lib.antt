@@ -1,0 +1,2 @@
+pub mod Restart
+pub mod OneAnswer

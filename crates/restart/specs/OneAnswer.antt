@@ -1,0 +1,33 @@
+-- ONE ANSWER. A restart on one log and store answers one thing, whoever meets the clauses on every input: one outcome, or one
+-- cause of a refusal, want of memory aside (own).
+use Rattle.std.specs.Prelude.{◌≡◌, ℕ, length}
+use Rattle.page.specs.declared.fault.Fault.{Fault}
+use Rattle.page.specs.Causes.{HasOneCause, HasNoCause}
+use Rattle.page.specs.Store.{StoreContent}
+use Rattle.wal.specs.Records.{LogContent}
+use Rattle.redo.specs.Parting.{PartingContent}
+use Rattle.restart.specs.declared.outcome.Outcome.{Outcome}
+use Rattle.restart.specs.Restart.{appended_by, SettingsFault, Restarts, RestartFault}
+
+-- ONE OUTCOME
+-- the same records are appended, the same store is left, the same numbers are told
+pub record AreSame (x y : Outcome) : Type 0 where
+  pub appended : appended_by x ≡ appended_by y
+  pub store : x.store ≡ y.store
+  pub redo_from : x.redo_from ≡ y.redo_from
+  pub redone : x.redone ≡ y.redone
+  pub losers : x.losers ≡ y.losers
+  pub compensated : x.compensated ≡ y.compensated
+  pub ended : x.ended ≡ y.ended
+
+abbrev pub OneOutcome : Type 0
+OneOutcome = (log : LogContent) (before : StoreContent) (x y : Outcome) → Restarts log before x → Restarts log before y → AreSame x y
+
+-- ONE CAUSE
+abbrev pub OneRestartFault : Type 0
+OneRestartFault = (log : LogContent) (before : StoreContent) (parting : PartingContent) (workers : ℕ) → HasOneCause (RestartFault log before parting workers)
+
+-- NO CAUSE BESIDE AN ANSWER. Settings are refused wherever they can be: where there is an answer, they are not.
+abbrev pub NoFaultOfARestart : Type 0
+NoFaultOfARestart = (log : LogContent) (before : StoreContent) (parting : PartingContent) (workers : ℕ) (x : Outcome)
+    → ((e : Fault) → SettingsFault (length before.pages) parting workers e → ⊥) → Restarts log before x → HasNoCause (RestartFault log before parting workers)

@@ -1,0 +1,142 @@
+-- What a restart makes of a log and a store, and why it is refused. ARIES, section 6 (restart processing).
+use Rattle.std.specs.Prelude.{◌≡◌, ℕ, ◌<◌, ◌≤◌, ◌⊎◌, List, [], All, Some, None, false, length, map, filter, sum, slice_index_or}
+use Rattle.std.specs.List.{slice_get}
+use Rattle.page.specs.declared.fault.Fault.{Fault}
+use Rattle.page.specs.declared.fault.Fault.TheVariants.{NoResource, BadMaster, PageAheadOfLog, NoSuchPage, BrokenChain, BadParting, BadWorkers}
+use Rattle.page.specs.declared.page.Page.{Page}
+use Rattle.page.specs.Store.{StoreContent}
+use Rattle.wal.specs.Records.{LogRecord, LogContent, history, ◌⧺◌, last_lsn}
+use Rattle.wal.specs.Content.{content}
+use Rattle.wal.specs.Meaning.{is_loser}
+use Rattle.wal.specs.Tail.{is_clr, is_end, losers_of, tail_of}
+use Rattle.wal.specs.Undo.{undone_by}
+use Rattle.wal.specs.Store.{NamesPages, Lawful, store_out}
+use Rattle.analysis.specs.Tables.{TablesContent, losers_in, AreTablesOf, base_of}
+use Rattle.redo.specs.Parting.{PartingContent}
+use Rattle.redo.specs.declared.redone.Redone.{Redone}
+use Rattle.redo.specs.Redone.{redone_page, applied_to, AreWorkers, AllExist, IsFirstMissing}
+use Rattle.restart.specs.declared.outcome.Outcome.{Outcome}
+use Rattle.undo.specs.Undone.{NoBadHop, undone_page, MetExist, MeetsMissing, Breaks}
+
+-- SETTINGS
+abbrev pub IsPartingOf : ℕ → PartingContent → Type 0
+IsPartingOf pages parting = length parting.part_of ≡ pages
+
+-- workers that redo may have, and a parting of the store's pages
+pub record AreSettings (pages : ℕ) (parting : PartingContent) (workers : ℕ) : Type 0 where
+  pub fit : AreWorkers workers
+  pub dealt : IsPartingOf pages parting
+
+-- why they are refused
+abbrev pub SettingsFault : ℕ → PartingContent → ℕ → Fault → Type 0
+SettingsFault pages parting workers BadWorkers = AreWorkers workers → ⊥
+SettingsFault pages parting workers BadParting = AreWorkers workers × (IsPartingOf pages parting → ⊥)
+SettingsFault pages parting workers e = ⊥
+
+-- PAGES AHEAD OF THE LOG
+-- no page is
+abbrev pub NoneAhead : LogContent → StoreContent → Type 0
+NoneAhead log before = All (λ page. page.lsn ≤ last_lsn (history log)) before.pages
+
+-- the page of this number is the first that is
+pub record IsFirstAhead (log : LogContent) (pages : List Page) (number : ℕ) : Type 0 where
+  pub place : ℕ
+  pub page : Page
+  pub there : slice_get pages place ≡ Some page
+  pub numbered : number ≡ page.number
+  pub ahead : last_lsn (history log) < page.lsn
+  pub before : (k : ℕ) (d : Page) → k < place → (slice_index_or pages k d).lsn ≤ last_lsn (history log)
+
+-- why the pages are refused
+abbrev pub AheadFault : LogContent → List Page → Fault → Type 0
+AheadFault log pages (PageAheadOfLog number) = IsFirstAhead log pages number
+AheadFault log pages e = ⊥
+
+-- THE OUTCOME
+abbrev pub appended_by : Outcome → List LogRecord
+appended_by x = map content x.appended.items
+
+abbrev pub clrs_in : List LogRecord → ℕ
+clrs_in records = length (filter is_clr records)
+
+abbrev pub ends_in : List LogRecord → ℕ
+ends_in records = length (filter is_end records)
+
+-- the losers of the tables are rolled back on the pages that redo made; no hop of theirs is bad, and no page is missing
+pub record RollsBack (log : LogContent) (master : ℕ) (tables : TablesContent) (redone : Redone) (x : Outcome) : Type 0 where
+  pub appended : appended_by x ≡ undone_by (history log) (losers_in tables)
+  pub pages : x.store.pages ≡ map (undone_page (history log) (appended_by x)) redone.pages.items
+  pub no_bad_hop : NoBadHop (history log) (losers_in tables)
+  pub met_exist : MetExist (history log) (losers_in tables) (length redone.pages.items) 0
+  pub exist : All (NamesPages (length redone.pages.items)) (appended_by x)
+  pub master_kept : x.store.master ≡ master
+  pub redo_from : x.redo_from ≡ tables.redo_lsn
+  pub applied : x.redone ≡ redone.applied
+  pub losers : x.losers ≡ length (losers_in tables)
+  pub compensated : x.compensated ≡ clrs_in (appended_by x)
+  pub ended : x.ended ≡ ends_in (appended_by x)
+
+-- EVERY INPUT. By the tables that analysis finds, redo makes the pages, and their losers are rolled back; none of the causes
+-- of a refusal stands.
+pub record Restarts (log : LogContent) (before : StoreContent) (x : Outcome) : Type 0 where
+  pub tables : TablesContent
+  pub redone : Redone
+  pub are : AreTablesOf log before.master tables
+  pub none_ahead : NoneAhead log before
+  pub exist : AllExist log (length before.pages) tables.redo_lsn
+  pub redone_pages : redone.pages.items ≡ map (redone_page log tables) before.pages
+  pub applied : redone.applied ≡ sum (map (applied_to log tables) before.pages)
+  pub rolls_back : RollsBack log before.master tables redone x
+
+-- LAWFUL INPUT
+-- a lawful log and its store without a loser, on which a restart appends nothing and leaves the store as it is
+pub record IsSettled (log : LogContent) (store : StoreContent) : Type 0 where
+  pub lawful : Lawful log store
+  pub no_loser : (t : ℕ) → is_loser t (history log) ≡ false
+  pub no_tail : tail_of log ≡ []
+  pub same_store : store_out log store ≡ store
+
+-- where redo begins, and how many records it applies, by the tables that analysis finds, of which there are no two
+pub record Redoes (log : LogContent) (before : StoreContent) (redo_from redone : ℕ) : Type 0 where
+  pub tables : TablesContent
+  pub are : AreTablesOf log before.master tables
+  pub begins : redo_from ≡ tables.redo_lsn
+  pub applies : redone ≡ sum (map (applied_to log tables) before.pages)
+
+-- the log's tail is appended, the store is what the winners leave; both together are settled
+pub record Restores (log : LogContent) (before : StoreContent) (x : Outcome) : Type 0 where
+  pub appended : appended_by x ≡ tail_of log
+  pub store : x.store ≡ store_out log before
+  pub settled : IsSettled (log ⧺ appended_by x) x.store
+  pub redoes : Redoes log before x.redo_from x.redone
+  pub losers : x.losers ≡ length (losers_of (history log))
+  pub ended : x.ended ≡ length (losers_of (history log))
+  pub compensated : x.compensated ≡ clrs_in (tail_of log)
+
+-- REFUSALS
+-- analysis finds tables of which this holds
+pub record Finds (log : LogContent) (before : StoreContent) (Holds : TablesContent → Type 0) : Type 0 where
+  pub tables : TablesContent
+  pub are : AreTablesOf log before.master tables
+  pub holds : Holds tables
+
+-- why redo and undo by these tables are refused, memory aside; undo comes where redo finds all pages
+abbrev pub PassFault : LogContent → ℕ → Fault → TablesContent → Type 0
+PassFault log count (NoSuchPage lsn) tables =
+    IsFirstMissing log count tables.redo_lsn lsn
+    ⊎ (AllExist log count tables.redo_lsn × MeetsMissing (history log) (losers_in tables) count lsn)
+PassFault log count (BrokenChain lsn) tables =
+    AllExist log count tables.redo_lsn × Breaks (history log) (losers_in tables) count lsn
+PassFault log count e tables = ⊥
+
+-- why a log and a store are not restarted, in the order in which causes are looked for, memory aside
+abbrev pub InputFault : LogContent → StoreContent → Fault → Type 0
+InputFault log before NoResource = Unit {0}
+InputFault log before (PageAheadOfLog number) = IsFirstAhead log before.pages number
+InputFault log before BadMaster = NoneAhead log before × (base_of before.master (history log) ≡ None)
+InputFault log before e = NoneAhead log before × Finds log before (PassFault log (length before.pages) e)
+
+-- why a restart is refused: the settings, or where they hold the input
+abbrev pub RestartFault : LogContent → StoreContent → PartingContent → ℕ → Fault → Type 0
+RestartFault log before parting workers e =
+    SettingsFault (length before.pages) parting workers e ⊎ (AreSettings (length before.pages) parting workers × InputFault log before e)

@@ -1,0 +1,10 @@
+//! Restart on values: analysis, redo and undo, one behind the other.
+#![tactic(auto)]
+
+mod laws;
+mod outcome;
+mod passes;
+
+pub use laws::{no_fault_of_a_restart, one_outcome, one_restart_fault};
+pub use outcome::Outcome;
+pub use passes::{restart, restart_in_place};

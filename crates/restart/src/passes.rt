@@ -1,0 +1,186 @@
+//! Restart on values: analysis, redo and undo, one behind the other.
+
+ghost use Rattle.std.specs.Prelude.{◌≡◌, ◌≤◌, ◌+◌, ◌*◌, ◌^◌, All, Err, length, map, IfOk, OnOk, IfErr, MatchResult};
+ghost use Rattle.page.specs.declared.fault.Fault.{Fault};
+ghost use Rattle.page.specs.declared.fault.Fault.TheVariants.{NoResource};
+ghost use Rattle.page.specs.Store.{StoreContent, AreNumbered};
+ghost use Rattle.wal.specs.Records.{history, last_lsn};
+ghost use Rattle.wal.specs.Content.{content};
+ghost use Rattle.wal.specs.Store.{Lawful};
+ghost use Rattle.wal.specs.Tail.{tail_of};
+ghost use Rattle.analysis.specs.Lawful.{AreTrue};
+ghost use Rattle.analysis.specs.Tables.{losers_in};
+ghost use Rattle.undo.specs.Undone.{AreCounted, AreSpelled, UndoFault};
+ghost use Rattle.restart.specs.Restart.{AreSettings, SettingsFault, AheadFault, appended_by, clrs_in, ends_in, RollsBack, Restarts, Restores, RestartFault};
+
+use crate::Outcome;
+use analysis::{Tables, analyse};
+use page::{Fault, Page, Store};
+use redo::{Gate, Parting, Redone, are_workers, redo_in_place};
+use std::alloc::Global;
+use std::thread::Threads;
+use undo::undo;
+use wal::{Log, Record};
+
+/// Refuses a number of workers out of its range, then a parting of another number of pages.
+fn check_settings(store: &Store, parting: &Parting, workers: u32) -> Result<(), Fault>
+    ensures ok { OnOk result (AreSettings (length store.now.pages) parting.now workers) }
+    ensures refused { (e : Fault) → SettingsFault (length store.now.pages) parting.now workers e → result ≡ Err e }
+    ensures fault { IfErr result (SettingsFault (length store.now.pages) parting.now workers) }
+{
+    if !are_workers(workers) {
+        return Err(Fault::BadWorkers);
+    }
+    if parting.pages() as usize != store.pages.len() {
+        return Err(Fault::BadParting);
+    }
+    Ok(())
+}
+
+/// Refuses the first page whose PageLSN is above the log's length.
+fn check_lsns(log: &Log, pages: &[Page]) -> Result<(), Fault>
+    ensures ok { OnOk result (All (λ page. page.lsn ≤ last_lsn (history log.now)) pages.now) }
+    ensures fault { IfErr result (AheadFault log.now pages.now) }
+{
+    for page in pages {
+        if page.lsn > log.last() {
+            return Err(Fault::PageAheadOfLog(page.number));
+        }
+    }
+    Ok(())
+}
+
+/// How many CLRs there are among records, and how many ends.
+fn tally(records: &[Record]) -> (u64, u64)
+    ensures clrs { result.0 ≡ clrs_in (map content records.now) }
+    ensures ends { result.1 ≡ ends_in (map content records.now) }
+{
+    let mut clrs = 0;
+    let mut ends = 0;
+    for record in records {
+        match record {
+            Record::Compensation { .. } => clrs += 1,
+            Record::End { .. } => ends += 1,
+            _ => {}
+        }
+    }
+    (clrs, ends)
+}
+
+/// The store of these pages.
+fn store_of(master: u64, pages: Vec<Page>) -> Store
+    requires { AreNumbered pages.items }
+    ensures { result ≡ record { master = master; pages = pages.items } }
+{
+    Store { master, pages }
+}
+
+/// Rolls the losers back on pages that were redone.
+fn roll_back(
+    alloc: Global,
+    log: &Log,
+    master: u64,
+    tables: &Tables,
+    redone: Redone,
+) -> Result<Outcome, Fault>
+    requires { AreNumbered redone.pages.items }
+    ensures rolls_back { IfOk result (RollsBack log.now master tables.now redone) }
+    ensures spelled { IfOk result (λ x. AreCounted tables.now → AreSpelled x.appended.items) }
+    ensures few { IfOk result (λ x. length x.appended.items ≤ 2 * length log.now.records + 2 ^ 32) }
+    ensures fault { IfErr result (UndoFault (history log.now) (losers_in tables.now) (length redone.pages.items)) }
+    ensures lawful { (store : StoreContent) → Lawful log.now store → AreTrue log.now store tables.now → length redone.pages.items ≡ length store.pages
+        → MatchResult result (λ x. appended_by x ≡ tail_of log.now) (λ e. e ≡ NoResource) }
+{
+    let (pages, appended) = undo(alloc, log, tables, redone.pages)?;
+    let (compensated, ended) = tally(&appended);
+    Ok(Outcome {
+        store: store_of(master, pages),
+        appended,
+        redo_from: tables.redo_lsn,
+        redone: redone.applied,
+        losers: tables.transactions.len() as u64,
+        compensated,
+        ended,
+    })
+}
+
+/// [`restart`] on a store that is given away: its pages are changed in place and not copied. With an
+/// error they are gone.
+pub fn restart_in_place<G: Gate, R: Threads + Sync>(
+    rt: &R,
+    alloc: Global,
+    log: &Log,
+    store: Store,
+    parting: &Parting,
+    workers: u32,
+    gate: &G,
+) -> Result<Outcome, Fault>
+    // On a lawful log and its store: the log's tail and the store that the winners leave.
+    ensures lawful { Lawful log.now store → AreSettings (length store.pages) parting.now workers
+        → MatchResult result (Restores log.now store) (λ e. e ≡ NoResource) }
+
+    // Wherever it answers: what analysis, redo and undo make of log and store, and no cause of a refusal stands.
+    ensures restarts { IfOk result (Restarts log.now store) }
+    ensures settings { (e : Fault) → SettingsFault (length store.pages) parting.now workers e → result ≡ Err e }
+
+    // Each appended record has a spelling; they are so few that there are LSNs for them behind the log.
+    ensures spelled { IfOk result (λ x. AreSpelled x.appended.items) }
+    ensures few { IfOk result (λ x. length x.appended.items ≤ 2 * length log.now.records + 2 ^ 32) }
+
+    // A refusal has its cause in the input, memory aside.
+    ensures fault { IfErr result (RestartFault log.now store parting.now workers) }
+{
+    check_settings(&store, parting, workers)?;
+    check_lsns(log, &store.pages)?;
+    let tables = analyse(alloc, log, store.master)?;
+    let master = store.master;
+    let redone = redo_in_place(rt, alloc, log, store, &tables, parting, workers, gate)?;
+    roll_back(alloc, log, master, &tables, redone)
+}
+
+/// Restarts on a log and its store after a crash (ARIES, section 6): analysis from the last checkpoint
+/// on, redo by `workers` threads that draw the parts of the pages and call the gate for each, undo of
+/// the transactions that have not finished.
+///
+/// On a lawful log and its store each page has exactly what the committed transactions' updates and
+/// compensations, in LSN order, make of an empty page, and as PageLSN the LSN of its last record; the
+/// appended records are the log's tail. Log, store and outcome do not depend on workers, parting and
+/// gate. A restart on what was appended and the store after it appends nothing and leaves that store as
+/// it is.
+///
+/// Refuses, in this order, by [`Fault::BadWorkers`] where `workers` is outside 1 to 64;
+/// [`Fault::BadParting`] where the parting has another number of pages than the store;
+/// [`Fault::PageAheadOfLog`] with the number of the first page whose PageLSN is above the log's length;
+/// [`Fault::BadMaster`] for a master that no checkpoint has; by the faults of [`redo::redo`] and then
+/// those of [`undo`]. [`Fault::NoResource`], where memory or a thread was refused, may come in place of
+/// any answer; a lawful log and its store are refused by nothing else. After an error log and store are as
+/// they were.
+pub fn restart<G: Gate, R: Threads + Sync>(
+    rt: &R,
+    alloc: Global,
+    log: &Log,
+    store: &Store,
+    parting: &Parting,
+    workers: u32,
+    gate: &G,
+) -> Result<Outcome, Fault>
+    // On a lawful log and its store: the log's tail and the store that the winners leave.
+    ensures lawful { Lawful log.now store.now → AreSettings (length store.now.pages) parting.now workers
+        → MatchResult result (Restores log.now store.now) (λ e. e ≡ NoResource) }
+
+    // Wherever it answers: what analysis, redo and undo make of log and store, and no cause of a refusal stands.
+    ensures restarts { IfOk result (Restarts log.now store.now) }
+    ensures settings { (e : Fault) → SettingsFault (length store.now.pages) parting.now workers e → result ≡ Err e }
+
+    // Each appended record has a spelling; they are so few that there are LSNs for them behind the log.
+    ensures spelled { IfOk result (λ x. AreSpelled x.appended.items) }
+    ensures few { IfOk result (λ x. length x.appended.items ≤ 2 * length log.now.records + 2 ^ 32) }
+
+    // A refusal has its cause in the input, memory aside.
+    ensures fault { IfErr result (RestartFault log.now store.now parting.now workers) }
+{
+    check_settings(store, parting, workers)?;
+    let pages = Vec::from_slice(alloc, &store.pages)?;
+    let copy = store_of(store.master, pages);
+    restart_in_place(rt, alloc, log, copy, parting, workers, gate)
+}
