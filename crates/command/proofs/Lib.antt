@@ -1,0 +1,2 @@
+pub mod OptionFaults
+pub mod Lines

@@ -1,0 +1,15 @@
+use Rattle.std.proofs.Common.{◌∙◌, ◌≡◌, ap, codes}
+use Rattle.std.proofs.lemmas.Result.{IfOk-weaker}
+use Rattle.clap.specs.Simple.{app_of_fields}
+use Rattle.clap.specs.Words.{App, app_of, new_app}
+use Rattle.command.specs.Line.{audit_line}
+use Rattle.command.proofs.Lines.{option_added}
+use Rattle.command.proofs.job.audit_command.Goals as goal
+
+pub returns : goal.returns
+unfolding audit_line
+returns c =
+    let none : app_of c.about.result ≡ new_app (codes "audit") = ap app_of_fields c.about.ensures ∙ c.new.ensures.app in
+    let one = option_added _ _ _ _ _ c.in_ok-arg.ensures c.file_option.ensures.local none c.file_option.ensures.rule in
+    IfOk-weaker c.arg-2.result _ _ (λ command adds. ap (λ (a : App). a.top)
+    (option_added _ command _ _ _ adds c.file_option-2.ensures.local one c.file_option-2.ensures.rule)) c.arg-2.ensures

@@ -1,0 +1,55 @@
+-- What a command line may ask for.
+use Rattle.std.specs.Prelude.{◌≡◌, ℕ, ◌≤◌, List, [], Some, IsSomeAnd, codes, decimal, string_bytes}
+use Rattle.clap.specs.Words.{Row, Text, fault_of, first_of, one_of, subcommand_of}
+use Rattle.command.specs.declared.job.Job.{Job}
+use Rattle.command.specs.declared.job.Job.TheVariants.{Recover, Audit}
+use Rattle.command.specs.Line.{aries_line}
+use Rattle.command.specs.Options.{AreInRange}
+use Rattle.page.specs.declared.sizes.TheConstants.{PAGES}
+use Rattle.redo.specs.declared.rounds.TheConstants.{WORKERS}
+
+-- its numbers lie in their ranges
+abbrev pub HasRanges : Job → Type 0
+HasRanges (Recover log store out_log out_store options) = AreInRange options
+HasRanges (Audit log store) = Unit {0}
+
+-- the command is the job's, and the values of its options name the job's files
+abbrev pub NamesFiles : (command : Text) → (values : List Row) → Job → Type 0
+NamesFiles command values (Recover log store out_log out_store options) =
+    (command ≡ codes "recover")
+    × (first_of (codes "log") values ≡ Some (string_bytes log))
+    × (first_of (codes "store") values ≡ Some (string_bytes store))
+    × (first_of (codes "out-log") values ≡ Some (string_bytes out_log))
+    × (first_of (codes "out-store") values ≡ Some (string_bytes out_store))
+NamesFiles command values (Audit log store) =
+    (command ≡ codes "audit")
+    × (first_of (codes "log") values ≡ Some (string_bytes log))
+    × (first_of (codes "store") values ≡ Some (string_bytes store))
+
+-- the job has the command of the words, and the files that they name
+abbrev pub HasFiles : (words : List Text) → Job → Type 0
+HasFiles words job = IsSomeAnd (subcommand_of aries_line words) (λ found. NamesFiles found.0 found.1 job)
+
+-- by `clap`'s definition of a parse no word is wrong or missing, and none asks for help or the version
+abbrev pub IsFaultless : (words : List Text) → Type 0
+IsFaultless words = fault_of aries_line words ≡ []
+
+-- the words are faultless, and the job has their command and files
+abbrev pub AsksFor : (words : List Text) → Job → Type 0
+AsksFor words job = IsFaultless words × HasFiles words job
+
+-- where the option's value is a number of 1 to `most` in decimal digits, n is that number
+abbrev pub IsNumberOf : (values : List Row) → (option : Text) → (most : ℕ) → (n : ℕ) → Type 0
+IsNumberOf values option most n =
+    (given : ℕ) → 1 ≤ given → given ≤ most → one_of option values ≡ Some (decimal given) → n ≡ given
+
+-- the values of the options give the job's numbers
+abbrev pub GivesNumbers : (values : List Row) → Job → Type 0
+GivesNumbers values (Recover log store out_log out_store options) =
+    IsNumberOf values (codes "workers") WORKERS options.workers
+    × IsNumberOf values (codes "parts") PAGES options.parts
+GivesNumbers values (Audit log store) = Unit {0}
+
+-- the job has the numbers that the words give, or the defaults of the line
+abbrev pub HasNumbers : (words : List Text) → Job → Type 0
+HasNumbers words job = IsSomeAnd (subcommand_of aries_line words) (λ found. GivesNumbers found.1 job)

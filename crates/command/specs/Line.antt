@@ -1,0 +1,49 @@
+-- The command line of `aries`: its commands and their options.
+use Rattle.std.specs.Prelude.{ℕ, [], ◌∷◌, Some, codes, pos, true, false}
+use Rattle.clap.specs.Words.{App, Rule, Shape, Text, new_rule}
+use Rattle.clap.specs.Simple.{new_shape}
+use Rattle.clap.specs.declared.builder.value_parser.ValueParser.TheVariants.{Signed}
+use Rattle.page.specs.declared.sizes.TheConstants.{PAGES}
+use Rattle.redo.specs.declared.rounds.TheConstants.{WORKERS}
+
+-- `--name FILE`, which has to be given
+abbrev pub file_rule : Text → Rule
+file_rule name = record (new_rule name) { long = Some name; value_names = 1; required = true }
+
+-- `--name N` with a number of 1 to `most`, which may be left out
+abbrev pub number_rule : Text → (most : ℕ) → (default : Text) → Rule
+number_rule name most default = record (new_rule name) {
+  long = Some name;
+  value_names = 1;
+  parser = Some (Signed (pos 1) (pos most));
+  defaults = default ∷ [];
+}
+
+-- `aries recover`
+unfoldable pub recover_line : Shape
+recover_line = record (new_shape (codes "recover")) {
+  rules = file_rule (codes "log")
+      ∷ file_rule (codes "store")
+      ∷ file_rule (codes "out-log")
+      ∷ file_rule (codes "out-store")
+      ∷ number_rule (codes "workers") WORKERS (codes "4")
+      ∷ number_rule (codes "parts") PAGES (codes "16")
+      ∷ [];
+}
+
+-- `aries audit`
+unfoldable pub audit_line : Shape
+audit_line = record (new_shape (codes "audit")) {
+  rules = file_rule (codes "log") ∷ file_rule (codes "store") ∷ [];
+}
+
+-- the whole line: `aries --version`, or one of the two commands
+unfoldable pub aries_line : App
+aries_line = record {
+  top = record (new_shape (codes "aries")) {
+    has_version = true;
+    subcommand_required = true;
+    is_leaf = false;
+  };
+  subs = recover_line ∷ audit_line ∷ [];
+}

@@ -1,0 +1,252 @@
+//! The command line.
+
+ghost use Rattle.std.specs.Prelude.{◌≡◌, ◌≤◌, Some, IfErr, IfOk, codes, false, is_some, map};
+ghost use Rattle.std.specs.Prelude.{OnOk, string_bytes, true};
+ghost use Rattle.clap.specs.Words.{app_of, first_of, found_of, kind_of, rows_of, rule_of, shape_of};
+ghost use Rattle.clap.specs.declared.error.kind.ErrorKind.TheVariants.{OutOfMemory};
+ghost use Rattle.command.specs.Job.{AsksFor, GivesNumbers, HasFiles, HasNumbers, HasRanges};
+ghost use Rattle.command.specs.Job.{IsFaultless, IsNumberOf, NamesFiles};
+ghost use Rattle.command.specs.Line.{aries_line, audit_line, file_rule, number_rule, recover_line};
+ghost use Rattle.command.specs.declared.job.Job.{Job};
+ghost use Rattle.command.specs.declared.job.Refusal.TheVariants.{Memory};
+
+use crate::Options;
+use clap::error::ErrorKind;
+use clap::{Arg, ArgMatches, Command, value_parser};
+use page::PAGES;
+use redo::WORKERS;
+use std::alloc::{AllocError, Global};
+
+/// What a command line asks for.
+#[derive(Debug, Drop)]
+pub enum Job {
+    /// Recover the store `store` by the log `log`, into two files that are made anew.
+    Recover {
+        log: String,
+        store: String,
+        out_log: String,
+        out_store: String,
+        options: Options,
+    },
+    /// Say whether the log `log` and the store `store` are lawful.
+    Audit {
+        log: String,
+        store: String,
+    },
+}
+
+/// Why a command line was not taken.
+#[derive(Debug, Drop)]
+pub enum Refusal {
+    /// The line is wrong, or asks for help or the version: the text to print, and where.
+    Line(clap::Error),
+    /// Memory was refused.
+    Memory,
+}
+
+impl From<AllocError> for Refusal {
+    ghost from_gives = { λ _ refusal. refusal ≡ Memory };
+
+    fn from(_e: AllocError) -> Refusal {
+        Refusal::Memory
+    }
+}
+
+impl From<clap::Error> for Refusal {
+    ghost from_gives = { λ error refusal. kind_of error ≡ OutOfMemory → refusal ≡ Memory };
+
+    fn from(error: clap::Error) -> Refusal {
+        match error.kind() {
+            ErrorKind::OutOfMemory => Refusal::Memory,
+            _ => Refusal::Line(error),
+        }
+    }
+}
+
+/// An option that names a file.
+fn file_option<'a>(alloc: Global, name: &'a str, help: &'a str) -> Arg<'a>
+    ensures rule { rule_of result ≡ file_rule name.entry.now }
+    ensures local { result.global ≡ false }
+{
+    Arg::new(alloc, name)
+        .long(name)
+        .value_name("FILE")
+        .required(true)
+        .help(help)
+}
+
+/// An option with a number of 1 to `most`.
+fn number_option<'a>(
+    alloc: Global,
+    name: &'a str,
+    most: u32,
+    default: &'a str,
+    help: &'a str,
+) -> Arg<'a>
+    ensures rule { rule_of result ≡ number_rule name.entry.now most default.entry.now }
+    ensures local { result.global ≡ false }
+{
+    Arg::new(alloc, name)
+        .long(name)
+        .value_name("N")
+        .value_parser(value_parser!(u32).range(1..=i64::from(most)))
+        .default_value(default)
+        .help(help)
+}
+
+/// The command `recover`.
+fn recover_command<'a>(alloc: Global) -> Result<Command<'a>, AllocError>
+    ensures { IfOk result (λ c. shape_of c ≡ recover_line) }
+{
+    Command::new(alloc, "recover")
+        .about("Restart after a crash: read a log and a store, write both anew")
+        .arg(file_option(alloc, "log", "The log to restart by"))?
+        .arg(file_option(alloc, "store", "The store to recover"))?
+        .arg(file_option(
+            alloc,
+            "out-log",
+            "The new log, made anew; no file may stand there",
+        ))?
+        .arg(file_option(
+            alloc,
+            "out-store",
+            "The recovered store, made anew; no file may stand there",
+        ))?
+        .arg(number_option(
+            alloc,
+            "workers",
+            WORKERS,
+            "4",
+            "How many threads redo the pages, 1 to 64",
+        ))?
+        .arg(number_option(
+            alloc,
+            "parts",
+            PAGES as u32,
+            "16",
+            "Into how many parts the pages are dealt, 1 to 4096",
+        ))
+}
+
+/// The command `audit`.
+fn audit_command<'a>(alloc: Global) -> Result<Command<'a>, AllocError>
+    ensures { IfOk result (λ c. shape_of c ≡ audit_line) }
+{
+    Command::new(alloc, "audit")
+        .about("Say whether a log and its store are lawful, or the first law that is broken")
+        .arg(file_option(alloc, "log", "The log to look at"))?
+        .arg(file_option(alloc, "store", "The store to look at"))
+}
+
+/// The whole command line.
+fn aries_command<'a>(alloc: Global) -> Result<Command<'a>, AllocError>
+    ensures { IfOk result (λ c. app_of c ≡ aries_line) }
+{
+    Command::new(alloc, "aries")
+        .version("0.1.0")
+        .about("Crash recovery that is proved")
+        .subcommand_required(true)
+        .subcommand(recover_command(alloc)?)?
+        .subcommand(audit_command(alloc)?)
+}
+
+/// The name that an option gives a file. Such an option is required, so a line without it was refused.
+fn file_of(
+    alloc: Global,
+    command: &mut Command,
+    matches: &ArgMatches,
+    name: &str,
+) -> Result<String, Refusal>
+    ensures given { IfOk result (λ file.
+        first_of name.now (rows_of (found_of matches.now)) ≡ Some (string_bytes file)) }
+    ensures refused { IfErr result (λ refusal.
+        is_some (first_of name.now (rows_of (found_of matches.now))) ≡ true → refusal ≡ Memory) }
+{
+    match matches.get_str(name) {
+        Some(file) => Ok(String::from_str(alloc, file)?),
+        None => {
+            let error = command.error(ErrorKind::MissingRequiredArgument, "a file is needed")?;
+            Err(Refusal::Line(error))
+        }
+    }
+}
+
+/// The number that an option gives, or its default.
+fn number_of(matches: &ArgMatches, name: &str, most: u32, default: u32) -> u32
+    requires low { 1 ≤ default }
+    requires high { default ≤ most }
+    ensures low { 1 ≤ result }
+    ensures high { result ≤ most }
+    ensures given { IsNumberOf (rows_of (found_of matches.now)) name.now most result }
+{
+    matches
+        .get_one::<u32>(name)
+        .unwrap_or(default)
+        .clamp(1, most)
+}
+
+/// What the options of `recover` ask for.
+fn recover_job(alloc: Global, command: &mut Command, matches: &ArgMatches) -> Result<Job, Refusal>
+    ensures files { IfOk result (NamesFiles (codes "recover") (rows_of (found_of matches.now))) }
+    ensures numbers { IfOk result (GivesNumbers (rows_of (found_of matches.now))) }
+    ensures ranges { IfOk result HasRanges }
+    ensures refused { IfErr result (λ refusal. (job : Job)
+        → NamesFiles (codes "recover") (rows_of (found_of matches.now)) job → refusal ≡ Memory) }
+{
+    Ok(Job::Recover {
+        log: file_of(alloc, command, matches, "log")?,
+        store: file_of(alloc, command, matches, "store")?,
+        out_log: file_of(alloc, command, matches, "out-log")?,
+        out_store: file_of(alloc, command, matches, "out-store")?,
+        options: Options {
+            workers: number_of(matches, "workers", WORKERS, 4),
+            parts: number_of(matches, "parts", PAGES as u32, 16),
+        },
+    })
+}
+
+/// What the options of `audit` ask for.
+fn audit_job(alloc: Global, command: &mut Command, matches: &ArgMatches) -> Result<Job, Refusal>
+    ensures files { IfOk result (NamesFiles (codes "audit") (rows_of (found_of matches.now))) }
+    ensures numbers { IfOk result (GivesNumbers (rows_of (found_of matches.now))) }
+    ensures ranges { IfOk result HasRanges }
+    ensures refused { IfErr result (λ refusal. (job : Job)
+        → NamesFiles (codes "audit") (rows_of (found_of matches.now)) job → refusal ≡ Memory) }
+{
+    Ok(Job::Audit {
+        log: file_of(alloc, command, matches, "log")?,
+        store: file_of(alloc, command, matches, "store")?,
+    })
+}
+
+/// Why a line with neither command is refused. `clap` refuses such a line before this is asked.
+fn no_command(command: &mut Command) -> Refusal {
+    match command.error(ErrorKind::MissingSubcommand, "a command is needed") {
+        Ok(error) => Refusal::Line(error),
+        Err(error) => Refusal::from(error),
+    }
+}
+
+/// What a command line asks for; the first word is the program's name. Refuses a line that is wrong or
+/// asks for help or the version by [`Refusal::Line`], and by [`Refusal::Memory`] where memory was
+/// refused. A line that asks for a job, since `clap` finds no fault in it and its words give the job's
+/// command and files, is refused by [`Refusal::Memory`] alone.
+pub fn command_of<'a>(alloc: Global, words: &'a [&'a str]) -> Result<Job, Refusal>
+    ensures faultless { OnOk result (IsFaultless (map (λ w. w.now) words.now)) }
+    ensures files { IfOk result (HasFiles (map (λ w. w.now) words.now)) }
+    ensures numbers { IfOk result (HasNumbers (map (λ w. w.now) words.now)) }
+    ensures ranges { IfOk result HasRanges }
+    ensures refused { IfErr result (λ refusal. (job : Job)
+        → AsksFor (map (λ w. w.now) words.now) job → refusal ≡ Memory) }
+{
+    let mut command = aries_command(alloc)?;
+    let matches = command.try_get_matches_from_mut(words)?;
+    let Some((name, options)) = matches.subcommand() else {
+        return Err(no_command(&mut command));
+    };
+    match name {
+        "recover" => recover_job(alloc, &mut command, options),
+        "audit" => audit_job(alloc, &mut command, options),
+        _ => Err(no_command(&mut command)),
+    }
+}
