@@ -5,24 +5,21 @@ use Rattle.std.proofs.lemmas.List.FromFn.{length-map-range_with_len}
 use Rattle.page.specs.Store.{StoreContent}
 use Rattle.page.specs.declared.fault.Fault.{Fault}
 use Rattle.page.specs.declared.fault.Fault.TheVariants.{NoResource, BadWorkers, BadParting}
-use Rattle.wal.specs.Records.{LogRecord}
+use Rattle.wal.proofs.Histories.{size_of_log}
+use Rattle.wal.specs.Records.{LogRecord, LogContent, last_lsn, history, ◌⧺◌}
 use Rattle.wal.specs.Frames.{header, Gives}
 use Rattle.wal.specs.Reads.{Reads, spellings, log_text}
 use Rattle.wal.specs.Spelling.{frame}
 use Rattle.wal.specs.Store.{Lawful}
 use Rattle.wal.proofs.CutBytes.{spellings-append}
 use Rattle.redo.specs.Parting.{PartingContent, by_number}
-use Rattle.aries.specs.declared.recovery.Options.{Options}
-use Rattle.aries.specs.Restart.{AreSettings, InputFault, RestartFault}
-use Rattle.aries.specs.Recovery.{Are, AreLawful, AreInRange, OptionsFault, Cause}
-use Rattle.aries.proofs.Causes.{settings_hold}
+use Rattle.command.specs.declared.options.Options.{Options}
+use Rattle.restart.specs.Restart.{AreSettings, InputFault, RestartFault}
+use Rattle.aries.specs.Recovery.{Are, AreLawful, Cause}
+use Rattle.command.specs.Options.{AreInRange, OptionsFault}
+use Rattle.restart.proofs.Causes.{settings_hold}
 
 -- OPTIONS
-pub options_hold : (options : Options) (e : Fault) → AreInRange options → OptionsFault options e → ⊥
-options_hold options BadWorkers range h = h range.workers
-options_hold options BadParting range h = h.1 range.parts
-options_hold options e range h = absurd h
-
 pub options_cause : (log store : List ℕ) (options : Options) (e : Fault) → OptionsFault options e → Cause log store options e
 options_cause log store options BadWorkers h = h
 options_cause log store options BadParting h = h
@@ -30,18 +27,18 @@ options_cause log store options e h = absurd h
 
 -- WHAT WAS READ
 -- the log without its torn tail
-pub kept_text : (bytes : List ℕ) (records : List LogRecord) (torn : ℕ) → Reads bytes records torn → take (length bytes - torn) bytes ≡ log_text records
-kept_text bytes records torn reads =
-    let len : length bytes ≡ length (log_text records) + torn = ap length reads.text ∙ omega (arith, length-append (log_text records) reads.tail, reads.torn_count) in
-    let front : length bytes - torn ≡ length (log_text records) = omega (arith, len) in
-    ap₂ (λ n (b : List ℕ). take n b) front reads.text ∙ take_at (log_text records) reads.tail (length (log_text records)) refl
+pub kept_text : (bytes : List ℕ) (read : LogContent) (torn : ℕ) → Reads bytes read torn → take (length bytes - torn) bytes ≡ log_text read
+kept_text bytes read torn reads =
+    let len : length bytes ≡ length (log_text read) + torn = ap length reads.text ∙ omega (arith, length-append (log_text read) reads.tail, reads.torn_count) in
+    let front : length bytes - torn ≡ length (log_text read) = omega (arith, len) in
+    ap₂ (λ n (b : List ℕ). take n b) front reads.text ∙ take_at (log_text read) reads.tail (length (log_text read)) refl
 
-pub torn_within : (bytes : List ℕ) (records : List LogRecord) (torn : ℕ) → Reads bytes records torn → torn ≤ length bytes
-torn_within bytes records torn reads = omega (arith, ap length reads.text, length-append (log_text records) reads.tail, reads.torn_count)
+pub torn_within : (bytes : List ℕ) (read : LogContent) (torn : ℕ) → Reads bytes read torn → torn ≤ length bytes
+torn_within bytes read torn reads = omega (arith, ap length reads.text, length-append (log_text read) reads.tail, reads.torn_count)
 
 -- what was read of lawful bytes is lawful
-pub is_lawful : {log store : List ℕ} (bytes : AreLawful log store) (records : List LogRecord) (before : StoreContent) → records ≡ bytes.are.records → before ≡ bytes.are.before → Lawful records before
-is_lawful bytes records before e f = subst (λ rs. Lawful rs before) (sym e) (subst (Lawful bytes.are.records) (sym f) bytes.lawful)
+pub is_lawful : {log store : List ℕ} (bytes : AreLawful log store) (read : LogContent) (before : StoreContent) → read ≡ bytes.are.read → before ≡ bytes.are.before → Lawful read before
+is_lawful bytes read before e f = subst (λ l. Lawful l before) (sym e) (subst (Lawful bytes.are.read) (sym f) bytes.lawful)
 
 -- what stands there is read, unless memory is refused
 pub read_alone : {X Y : Type 0} (view : X → Y) (e : Fault) (y : Y) → Gives view (Err e) (Ok y) → e ≡ NoResource
@@ -59,11 +56,11 @@ spellings_push out new lsn next xs x at before after =
     ∙ sym (spellings-append lsn xs (x ∷ []) ∙ ap (λ (s : List ℕ). spellings lsn xs ++ s) (append-nil (frame x (lsn + length xs))))
 
 -- the text of a log, and behind it the frames of more records
-pub text_extended : (records more : List LogRecord) (kept frames : List ℕ) (lsn : ℕ) → kept ≡ log_text records → lsn ≡ length records + 1 → frames ≡ spellings lsn more → kept ++ frames ≡ log_text (records ++ more)
-text_extended records more kept frames lsn front at behind =
-    ap₂ (λ (k : List ℕ) (f : List ℕ). k ++ f) front (behind ∙ ap (λ n. spellings n more) (at ∙ omega arith))
-    ∙ append_assoc header (spellings 1 records) (spellings (1 + length records) more)
-    ∙ ap (λ (s : List ℕ). header ++ s) (sym (spellings-append 1 records more))
+pub text_extended : (log : LogContent) (more : List LogRecord) (kept frames : List ℕ) (lsn : ℕ) → kept ≡ log_text log → lsn ≡ last_lsn (history log) + 1 → frames ≡ spellings lsn more → kept ++ frames ≡ log_text (log ⧺ more)
+text_extended log more kept frames lsn front at behind =
+    ap₂ (λ (k : List ℕ) (f : List ℕ). k ++ f) front (behind ∙ ap (λ n. spellings n more) (at ∙ omega (arith, size_of_log log)))
+    ∙ append_assoc header (spellings 1 log.records) (spellings (1 + length log.records) more)
+    ∙ ap (λ (s : List ℕ). header ++ s) (sym (spellings-append 1 log.records more))
 
 -- the pages of a parting by number
 pub dealt_by_number : (pages parts : ℕ) (part_of : List ℕ) → part_of ≡ by_number pages parts → length part_of ≡ pages
@@ -72,11 +69,11 @@ dealt_by_number pages parts part_of is = ap length is ∙ length-map-range_with_
 -- WHY IT IS REFUSED
 -- a refusal of the restart is one of the recovery
 pub restart_cause : (log store : List ℕ) (options : Options) (parting : PartingContent) (e : Fault) → AreInRange options → (are : Are log store) → AreSettings (length are.before.pages) parting options.workers
-    → RestartFault are.records are.before parting options.workers e → Cause log store options e
+    → RestartFault are.read are.before parting options.workers e → Cause log store options e
 restart_cause log store options parting e range are fit (inl h) = absurd (settings_hold (length are.before.pages) parting options.workers e fit h)
 restart_cause log store options parting e range are fit (inr h) = by_input e h.1
   where
-    by_input : (e : Fault) → InputFault are.records are.before e → Cause log store options e
+    by_input : (e : Fault) → InputFault are.read are.before e → Cause log store options e
     by_input NoResource h = tt
     by_input BadWorkers h = absurd h.1.holds
     by_input BadParting h = absurd h.1.holds

@@ -10,25 +10,23 @@ use Rattle.wal.specs.Reads.{Reads, log_text}
 use Rattle.wal.specs.Theorems.{GoesOn}
 use Rattle.wal.proofs.CutBytes.{cuts_settle}
 use Rattle.device.specs.Whole.{TookBeginning}
-use Rattle.aries.specs.declared.recovery.Options.{Options}
-use Rattle.aries.specs.declared.report.Report.{Report}
+use Rattle.command.specs.declared.options.Options.{Options}
+use Rattle.aries.specs.Text.{ReportContent}
 use Rattle.aries.specs.Recovery.{Recovers, AreLawful, AreCut, Cause}
 use Rattle.aries.specs.Devices.{Gave, AreRead, Makes, Leaves, IsOut, DeviceCause, Delivers, Completes, IsResourceOrDevice}
-
-some_same : {X : Type 0} {x y : X} → Some x ≡ Some y → x ≡ y
-some_same e = cc
+use Rattle.std.proofs.lemmas.Option.{same_Some}
 
 -- where a source tells its bytes, they are what was read
 pub told : (left : Option (List ℕ)) (bytes known : List ℕ) → Gave left bytes → left ≡ Some known → bytes ≡ known
 told None bytes known gave e = absurd (cc)
-told (Some xs) bytes known gave e = gave ∙ some_same e
+told (Some xs) bytes known gave e = gave ∙ same_Some _ _ e
 
 -- what was read, the log as it is lent
 pub lent_read : (log_left store_left : Option (List ℕ)) (log lent_log store : List ℕ) → AreRead log_left store_left log store → lent_log ≡ log → AreRead log_left store_left lent_log store
 lent_read log_left store_left log lent_log store read e = record { log_read = subst (Gave log_left) (sym e) read.log_read; store_read = read.store_read }
 
 -- what is made of it, the log as it is lent
-abbrev pub lent_makes : {log_left store_left : Option (List ℕ)} (log lent_log store new_log new_store : List ℕ) (report : Report) → AreRead log_left store_left log store → lent_log ≡ log
+abbrev pub lent_makes : {log_left store_left : Option (List ℕ)} (log lent_log store new_log new_store : List ℕ) (report : ReportContent) → AreRead log_left store_left log store → lent_log ≡ log
     → Recovers lent_log store new_log new_store report → Makes log_left store_left
 lent_makes {log_left} {store_left} log lent_log store new_log new_store report read e recovers = record {
   log = lent_log;
@@ -45,10 +43,10 @@ abbrev pub lent_lawful : {log_left store_left : Option (List ℕ)} (log lent_log
     → log_left ≡ Some log_text → store_left ≡ Some store_text → AreLawful log_text store_text → AreLawful lent_log store
 lent_lawful {log_left} {store_left} log lent_log store log_text store_text read e tells_log tells_store bytes = record {
   are = record {
-    records = bytes.are.records;
+    read = bytes.are.read;
     torn = bytes.are.torn;
     before = bytes.are.before;
-    reads = subst (λ l. Reads l bytes.are.records bytes.are.torn) (sym (e ∙ told log_left log log_text read.log_read tells_log)) bytes.are.reads;
+    reads = subst (λ l. Reads l bytes.are.read bytes.are.torn) (sym (e ∙ told log_left log log_text read.log_read tells_log)) bytes.are.reads;
     spells = subst (λ s. SpellsStore s bytes.are.before) (sym (told store_left store store_text read.store_read tells_store)) bytes.are.spells;
   };
   lawful = bytes.lawful;
@@ -104,21 +102,21 @@ behind_front before between after front back out (count, within, taken) =
 
 -- AFTER AN INTERRUPTION
 module _ {log store : List ℕ} (bytes : AreCut log store) where
-  pub goes_on : GoesOn bytes.first.are.records bytes.first.are.before bytes.cut.whole bytes.left
+  pub goes_on : GoesOn bytes.first.are.read bytes.first.are.before bytes.cut.whole bytes.left
   goes_on =
-      cuts_settle bytes.first.are.records bytes.first.are.before bytes.first_log bytes.first.are.torn log bytes.left
+      cuts_settle bytes.first.are.read bytes.first.are.before bytes.first_log bytes.first.are.torn log bytes.left
       bytes.first.are.reads bytes.first.are.spells.fits.numbered bytes.spells.fits.numbered bytes.first.lawful bytes.cut
 
   -- what an interrupted restart leaves is lawful
   abbrev pub cut_lawful : AreLawful log store
   cut_lawful = record {
-    are = record { records = bytes.cut.whole; torn = bytes.cut.torn; before = bytes.left; reads = bytes.cut.reads; spells = bytes.spells };
+    are = record { read = bytes.cut.whole; torn = bytes.cut.torn; before = bytes.left; reads = bytes.cut.reads; spells = bytes.spells };
     lawful = goes_on.lawful;
   }
 
   -- and what a restart on it puts out is what the first would have
-  pub completed : (log_before log_after store_before store_after : Option (List ℕ)) (report : Report) → Delivers bytes.cut.whole bytes.left log_before log_after store_before store_after report
-      → Completes bytes.first.are.records bytes.first.are.before log_before log_after store_before store_after
+  pub completed : (log_before log_after store_before store_after : Option (List ℕ)) (report : ReportContent) → Delivers bytes.cut.whole bytes.left log_before log_after store_before store_after report
+      → Completes bytes.first.are.read bytes.first.are.before log_before log_after store_before store_after
   completed log_before log_after store_before store_after report out = record {
     log_out = subst (Appends log_before log_after) (out.recovered.log_is ∙ ap log_text goes_on.same_log) out.log_out;
     store_out = subst (Appends store_before store_after) (out.recovered.store_is ∙ ap store_text goes_on.same_store) out.store_out;

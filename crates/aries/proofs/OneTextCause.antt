@@ -6,40 +6,27 @@ use Rattle.page.specs.Causes.{HasOneCause, HasNoCause}
 use Rattle.page.specs.Laws.{OneStoreSpelling, OneStoreFault, NoFaultOfAStore}
 use Rattle.page.specs.File.{StoreFault}
 use Rattle.page.specs.Store.{StoreContent}
-use Rattle.wal.specs.Records.{LogRecord}
+use Rattle.wal.specs.Records.{LogContent}
 use Rattle.wal.specs.Reads.{OneReading, OneLogFault, NoFaultOfALog, Reads, Cause as LogFault}
-use Rattle.aries.specs.declared.outcome.Outcome.{Outcome}
-use Rattle.aries.specs.declared.recovery.Options.{Options}
-use Rattle.aries.specs.Restart.{Restarts, InputFault}
-use Rattle.aries.specs.Recovery.{Are, AreInRange, OptionsFault, Cause}
+use Rattle.restart.specs.declared.outcome.Outcome.{Outcome}
+use Rattle.command.specs.declared.options.Options.{Options}
+use Rattle.restart.specs.Restart.{Restarts, InputFault}
+use Rattle.command.specs.Options.{AreInRange, OptionsFault}
+use Rattle.command.proofs.OptionFaults.{options_hold, one_options_fault}
+use Rattle.aries.specs.Recovery.{Are, Cause}
 use Rattle.audit.specs.FirstFault.{FirstFault, OneFirstFault, NoFaultOfTheLawful}
 use Rattle.aries.specs.OneAnswer.{OneRecoveryFault, OneAuditFault, NoFaultOfARecovery, NoFaultOfLawfulTexts}
-
--- OPTIONS
-in_range : (options : Options) (e : Fault) → AreInRange options → OptionsFault options e → ⊥
-in_range options BadWorkers fit h = h fit.workers
-in_range options BadParting fit h = h.1 fit.parts
-in_range options _ fit h = absurd h
-
-one_options_fault : (options : Options) (d e : Fault) → OptionsFault options d → OptionsFault options e → d ≡ e
-one_options_fault options BadWorkers BadWorkers x y = refl
-one_options_fault options BadWorkers BadParting x y = absurd (x y.0)
-one_options_fault options BadWorkers _ x y = absurd y
-one_options_fault options BadParting BadWorkers x y = absurd (y x.0)
-one_options_fault options BadParting BadParting x y = refl
-one_options_fault options BadParting _ x y = absurd y
-one_options_fault options _ e x y = absurd x
 
 -- TEXTS
 -- the log's text is none, or it is and the store's is none
 abbrev OfTheStore : List ℕ → List ℕ → Fault → Type 0
-OfTheStore log store e = (records : List LogRecord) × (torn : ℕ) × Reads log records torn × StoreFault store e
+OfTheStore log store e = (read : LogContent) × (torn : ℕ) × Reads log read torn × StoreFault store e
 
 -- or both are, and what they say is refused
-abbrev OfTheInput : (List LogRecord → StoreContent → Fault → Type 0) → List ℕ → List ℕ → Fault → Type 0
-OfTheInput InputFault log store e = (are : Are log store) × InputFault are.records are.before e
+abbrev OfTheInput : (LogContent → StoreContent → Fault → Type 0) → List ℕ → List ℕ → Fault → Type 0
+OfTheInput InputFault log store e = (are : Are log store) × InputFault are.read are.before e
 
-abbrev TextFault : (List LogRecord → StoreContent → Fault → Type 0) → List ℕ → List ℕ → Fault → Type 0
+abbrev TextFault : (LogContent → StoreContent → Fault → Type 0) → List ℕ → List ℕ → Fault → Type 0
 TextFault InputFault log store e = LogFault log e ⊎ OfTheStore log store e ⊎ OfTheInput InputFault log store e
 
 options_first : (log store : List ℕ) (options : Options) (e : Fault) → (e ≡ NoResource → ⊥) → Cause log store options e
@@ -50,60 +37,60 @@ options_first log store options BadParting some h = inl h
 options_first log store options e some h = inr h
 
 module _ (log store : List ℕ) (no_log_fault : NoFaultOfALog) (reading : OneReading) (no_store_fault : NoFaultOfAStore) (spelling : OneStoreSpelling) where
-  log_is_read : (records : List LogRecord) (torn : ℕ) → Reads log records torn → (e : Fault) → (e ≡ NoResource → ⊥) → LogFault log e → ⊥
-  log_is_read records torn reads e some h = some (no_log_fault log records torn reads e h)
+  log_is_read : (read : LogContent) (torn : ℕ) → Reads log read torn → (e : Fault) → (e ≡ NoResource → ⊥) → LogFault log e → ⊥
+  log_is_read read torn reads e some h = some (no_log_fault log read torn reads e h)
 
   store_is_spelled : (are : Are log store) → (e : Fault) → (e ≡ NoResource → ⊥) → StoreFault store e → ⊥
   store_is_spelled are e some h = some (no_store_fault store are.before are.spells e h)
 
   -- two texts are read as one log and one store
-  as_read : (Holds : List LogRecord → StoreContent → Type 0) (a b : Are log store) → Holds a.records a.before → Holds b.records b.before
+  as_read : (Holds : LogContent → StoreContent → Type 0) (a b : Are log store) → Holds a.read a.before → Holds b.read b.before
   as_read Holds a b h =
-      let records : a.records ≡ b.records = (reading log a.records b.records a.torn b.torn a.reads b.reads).0 in
+      let read : a.read ≡ b.read = (reading log a.read b.read a.torn b.torn a.reads b.reads).0 in
       let before : a.before ≡ b.before = spelling store a.before b.before a.spells b.spells in
-      subst (Holds b.records) before (subst (λ rs. Holds rs a.before) records h)
+      subst (Holds b.read) before (subst (λ l. Holds l a.before) read h)
 
-  module _ (InputFault : List LogRecord → StoreContent → Fault → Type 0) where
-    pub one_text_fault : OneLogFault → OneStoreFault → ((records : List LogRecord) (before : StoreContent) → HasOneCause (InputFault records before)) → HasOneCause (TextFault InputFault log store)
+  module _ (InputFault : LogContent → StoreContent → Fault → Type 0) where
+    pub one_text_fault : OneLogFault → OneStoreFault → ((read : LogContent) (before : StoreContent) → HasOneCause (InputFault read before)) → HasOneCause (TextFault InputFault log store)
     one_text_fault one_log one_store one_input d e some other (inl x) (inl y) = one_log log d e some other x y
     one_text_fault one_log one_store one_input d e some other (inl x) (inr (inl y)) = absurd (log_is_read y.0 y.1 y.2 d some x)
-    one_text_fault one_log one_store one_input d e some other (inl x) (inr (inr y)) = absurd (log_is_read y.0.records y.0.torn y.0.reads d some x)
+    one_text_fault one_log one_store one_input d e some other (inl x) (inr (inr y)) = absurd (log_is_read y.0.read y.0.torn y.0.reads d some x)
     one_text_fault one_log one_store one_input d e some other (inr (inl x)) (inl y) = absurd (log_is_read x.0 x.1 x.2 e other y)
     one_text_fault one_log one_store one_input d e some other (inr (inl x)) (inr (inl y)) = one_store store d e some other x.3 y.3
     one_text_fault one_log one_store one_input d e some other (inr (inl x)) (inr (inr y)) = absurd (store_is_spelled y.0 d some x.3)
-    one_text_fault one_log one_store one_input d e some other (inr (inr x)) (inl y) = absurd (log_is_read x.0.records x.0.torn x.0.reads e other y)
+    one_text_fault one_log one_store one_input d e some other (inr (inr x)) (inl y) = absurd (log_is_read x.0.read x.0.torn x.0.reads e other y)
     one_text_fault one_log one_store one_input d e some other (inr (inr x)) (inr (inl y)) = absurd (store_is_spelled x.0 e other y.3)
     one_text_fault one_log one_store one_input d e some other (inr (inr x)) (inr (inr y)) =
-        one_input y.0.records y.0.before d e some other (as_read (λ rs before. InputFault rs before d) x.0 y.0 x.1) y.1
+        one_input y.0.read y.0.before d e some other (as_read (λ l before. InputFault l before d) x.0 y.0 x.1) y.1
 
-    pub no_text_fault : (are : Are log store) → HasNoCause (InputFault are.records are.before) → (e : Fault) → (e ≡ NoResource → ⊥) → TextFault InputFault log store e → ⊥
-    no_text_fault are none e some (inl h) = log_is_read are.records are.torn are.reads e some h
+    pub no_text_fault : (are : Are log store) → HasNoCause (InputFault are.read are.before) → (e : Fault) → (e ≡ NoResource → ⊥) → TextFault InputFault log store e → ⊥
+    no_text_fault are none e some (inl h) = log_is_read are.read are.torn are.reads e some h
     no_text_fault are none e some (inr (inl h)) = store_is_spelled are e some h.3
-    no_text_fault are none e some (inr (inr h)) = some (none e (as_read (λ rs before. InputFault rs before e) h.0 are h.1))
+    no_text_fault are none e some (inr (inr h)) = some (none e (as_read (λ l before. InputFault l before e) h.0 are h.1))
 
 pub one_recovery_fault : OneLogFault → NoFaultOfALog → OneReading → OneStoreFault → NoFaultOfAStore → OneStoreSpelling
-    → ((records : List LogRecord) (before : StoreContent) → HasOneCause (InputFault records before)) → OneRecoveryFault
+    → ((read : LogContent) (before : StoreContent) → HasOneCause (InputFault read before)) → OneRecoveryFault
 one_recovery_fault one_log no_log reading one_store no_store spelling one_input log store options d e some other x y =
     elim (options_first log store options d some x) [
       | inl a ↦
           elim (options_first log store options e other y) [
             | inl b ↦ one_options_fault options d e a b
-            | inr b ↦ absurd (in_range options d b.0 a)
+            | inr b ↦ absurd (options_hold options d b.0 a)
           ]
       | inr a ↦
           elim (options_first log store options e other y) [
-            | inl b ↦ absurd (in_range options e a.0 b)
+            | inl b ↦ absurd (options_hold options e a.0 b)
             | inr b ↦ one_text_fault log store no_log reading no_store spelling InputFault one_log one_store one_input d e some other a.1 b.1
           ]
     ]
 
 pub no_fault_of_a_recovery : NoFaultOfALog → OneReading → NoFaultOfAStore → OneStoreSpelling
-    → ((records : List LogRecord) (before : StoreContent) (x : Outcome) → Restarts records before x → (e : Fault) → InputFault records before e → e ≡ NoResource) → NoFaultOfARecovery
+    → ((read : LogContent) (before : StoreContent) (x : Outcome) → Restarts read before x → (e : Fault) → InputFault read before e → e ≡ NoResource) → NoFaultOfARecovery
 no_fault_of_a_recovery no_log reading no_store spelling no_input log store options new_log new_store report none r NoResource h = refl
 no_fault_of_a_recovery no_log reading no_store spelling no_input log store options new_log new_store report none r e h =
     elim (options_first log store options e (λ i. absurd cc) h) [
       | inl a ↦ absurd (none e a)
-      | inr a ↦ absurd (no_text_fault log store no_log reading no_store spelling InputFault r.are (no_input r.are.records r.are.before r.outcome r.restarts) e (λ i. absurd cc) a.1)
+      | inr a ↦ absurd (no_text_fault log store no_log reading no_store spelling InputFault r.are (no_input r.are.read r.are.before r.outcome r.restarts) e (λ i. absurd cc) a.1)
     ]
 
 -- THE AUDIT
@@ -114,4 +101,4 @@ one_audit_fault one_log no_log reading one_store no_store spelling one_first log
 pub no_fault_of_lawful_texts : NoFaultOfALog → OneReading → NoFaultOfAStore → OneStoreSpelling → NoFaultOfTheLawful → NoFaultOfLawfulTexts
 no_fault_of_lawful_texts no_log reading no_store spelling none log store bytes NoResource h = refl
 no_fault_of_lawful_texts no_log reading no_store spelling none log store bytes e h =
-    absurd (no_text_fault log store no_log reading no_store spelling FirstFault bytes.are (none bytes.are.records bytes.are.before bytes.lawful) e (λ i. absurd cc) h)
+    absurd (no_text_fault log store no_log reading no_store spelling FirstFault bytes.are (none bytes.are.read bytes.are.before bytes.lawful) e (λ i. absurd cc) h)

@@ -11,36 +11,36 @@ use Rattle.page.specs.declared.fault.Fault.TheVariants.{WriteLog, WriteStore}
 use Rattle.page.specs.declared.page.Page.{Page}
 use Rattle.page.specs.Store.{StoreContent}
 use Rattle.wal.specs.declared.record.Record.{Record}
-use Rattle.wal.specs.Records.{LogRecord, History, start, ◌▸▸◌, history, size}
+use Rattle.wal.specs.Records.{LogRecord, History, start, ◌▸▸◌, history, last_lsn, LogContent, ◌⧺◌}
 use Rattle.wal.specs.Content.{content}
 use Rattle.wal.specs.Meaning.{replay}
 use Rattle.wal.specs.Redo.{slots_in}
-use Rattle.wal.specs.Tail.{tail_of}
+use Rattle.wal.specs.Tail.{tail_of, with_tail}
 use Rattle.wal.specs.Frames.{length_of}
 use Rattle.wal.specs.Reads.{Reads, IsTorn, spellings, log_text}
 use Rattle.wal.specs.Spelling.{Fits, body, frame}
 use Rattle.wal.specs.Store.{Lawful, PageLaw, Cut}
 use Rattle.wal.proofs.Fields.{wide32}
-use Rattle.wal.proofs.Histories.{after-append, first_in_front, record_in_front, size_of_list}
+use Rattle.wal.proofs.Histories.{after-append, first_in_front, record_in_front, size_of_log}
 use Rattle.wal.proofs.Whole.{body_size}
 use Rattle.aries.specs.Devices.{AreCutOf, Leaves, LeavesCut}
 use Rattle.aries.specs.Recovery.{AreLawful}
-use Rattle.aries.specs.Undone.{AreSpelled}
+use Rattle.undo.specs.Undone.{AreSpelled}
 use Rattle.aries.proofs.Bytes.{text_extended}
 
 -- THE NEW LOG
 -- it is read whole, with nothing torn
-pub reads_extended : (bytes : List ℕ) (records : List LogRecord) (appended : List Record) → bytes ≡ log_text (records ++ map content appended) → AllByRecursion Fits records → AreSpelled appended
-    → length records < 2 ^ 63 → length appended < 2 ^ 63 → Reads bytes (records ++ map content appended) 0
-reads_extended bytes records appended text fits spelled few more =
-    let all = records ++ map content appended in
+pub reads_extended : (bytes : List ℕ) (read : LogContent) (appended : List Record) → bytes ≡ log_text (read ⧺ map content appended) → AllByRecursion Fits read.records → AreSpelled appended
+    → last_lsn (history read) < 2 ^ 63 → length appended < 2 ^ 63 → Reads bytes (read ⧺ map content appended) 0
+reads_extended bytes read appended text fits spelled few more =
+    let all = read ⧺ map content appended in
     record {
       tail = [];
       text = text ∙ sym (append-nil (log_text all));
       torn_tail = inl (omega arith);
       torn_count = refl;
-      each = recursion_from_All Fits all (All-append Fits records (map content appended) (All-from_recursion Fits records fits) (All-map Fits content appended spelled));
-      few = omega (arith, few, more, length-append records (map content appended), length-map appended content);
+      each = recursion_from_All Fits all.records (All-append Fits read.records (map content appended) (All-from_recursion Fits read.records fits) (All-map Fits content appended spelled));
+      few = omega (arith, few, more, size_of_log all, size_of_log read, length-append read.records (map content appended), length-map appended content);
     }
 
 -- A BEGINNING OF FRAMES
@@ -50,13 +50,13 @@ torn_frame y lsn front missing more fits e lt =
     elim (cases_lt (length front) 4) [
       | inl few ↦ inl few
       | inr some ↦
-          (let size = body_size y lsn fits in
+          (let bounds = body_size y lsn fits in
           let head : take 4 front ≡ to_be_bytes w32 (length (body y lsn)) =
           sym (take-append-le 4 front missing some) ∙ ap (take 4) (e ∙ append_assoc (to_be_bytes w32 (length (body y lsn))) (body y lsn) more)
           ∙ take_at (to_be_bytes w32 (length (body y lsn))) (body y lsn ++ more) 4 refl in
-          let told : length_of front ≡ length (body y lsn) = ap (from_be_bytes w32) head ∙ wide32.again (length (body y lsn)) (omega (arith, size.1)) in
+          let told : length_of front ≡ length (body y lsn) = ap (from_be_bytes w32) head ∙ wide32.again (length (body y lsn)) (omega (arith, bounds.1)) in
           let whole : length (frame y lsn) ≡ 4 + length (body y lsn) = length-append (to_be_bytes w32 (length (body y lsn))) (body y lsn) in
-          inr (some, omega (arith, told, size.0), omega (arith, told, size.1), omega (arith, told, whole, lt)))
+          inr (some, omega (arith, told, bounds.0), omega (arith, told, bounds.1), omega (arith, told, whole, lt)))
     ]
 
 -- of two ways in which a text goes on the longer has all of the shorter
@@ -106,76 +106,76 @@ each_behind P (x ∷ xs) ys h = each_behind P xs ys h.1
 
 -- THE PAGE LAW
 -- is kept when records come behind
-page_law_more : (records more : List LogRecord) (page : Page) → PageLaw (history records) page → PageLaw (history (records ++ more)) page
-page_law_more records more page law =
-    let split : history (records ++ more) ≡ history records ▸▸ more = after-append start records more in
+page_law_more : (read : LogContent) (more : List LogRecord) (page : Page) → PageLaw (history read) page → PageLaw (history (read ⧺ more)) page
+page_law_more read more page law =
+    let split : history (read ⧺ more) ≡ history read ▸▸ more = after-append start read.records more in
     subst (λ (log : History). PageLaw log page) (sym split)
     (record {
-      within = omega (arith, law.within, ap size (sym split), size_of_list (records ++ more), size_of_list records, length-append records more);
+      within = omega (arith, law.within, ap last_lsn (sym split), size_of_log (read ⧺ more), size_of_log read, length-append read.records more);
       on_page =
           elim law.on_page [
             | inl none ↦ inl none
-            | inr found ↦ inr (found.0, record_in_front (history records) more page.lsn law.within ∙ found.1, found.2)
+            | inr found ↦ inr (found.0, record_in_front (history read) more page.lsn law.within ∙ found.1, found.2)
           ];
-      slots_are = law.slots_are ∙ ap (λ (log : History). slots_in (replay log) page.number) (sym (first_in_front (history records) more page.lsn law.within));
+      slots_are = law.slots_are ∙ ap (λ (log : History). slots_in (replay log) page.number) (sym (first_in_front (history read) more page.lsn law.within));
     })
 
 -- THE CUT
 -- the text of a log, and behind it the frames of more records
-text_more : (records more : List LogRecord) → log_text records ++ spellings (length records + 1) more ≡ log_text (records ++ more)
-text_more records more = text_extended records more (log_text records) (spellings (length records + 1) more) (length records + 1) refl refl refl
+text_more : (read : LogContent) (more : List LogRecord) → log_text read ++ spellings (last_lsn (history read) + 1) more ≡ log_text (read ⧺ more)
+text_more read more = text_extended read more (log_text read) (spellings (last_lsn (history read) + 1) more) (last_lsn (history read) + 1) refl refl refl
 
 -- what is written behind the log is a beginning of the frames of its tail
-written_behind : (records tail : List LogRecord) (out written missing : List ℕ) → out ≡ log_text records ++ written → log_text (records ++ tail) ≡ out ++ missing
-    → spellings (length records + 1) tail ≡ written ++ missing
-written_behind records tail out written missing begins ends =
-    append_cancel_left (log_text records) (spellings (length records + 1) tail) (written ++ missing)
-    (text_more records tail ∙ ends ∙ ap (λ (l : List ℕ). l ++ missing) begins ∙ append_assoc (log_text records) written missing)
+written_behind : (read : LogContent) (tail : List LogRecord) (out written missing : List ℕ) → out ≡ log_text read ++ written → log_text (read ⧺ tail) ≡ out ++ missing
+    → spellings (last_lsn (history read) + 1) tail ≡ written ++ missing
+written_behind read tail out written missing begins ends =
+    append_cancel_left (log_text read) (spellings (last_lsn (history read) + 1) tail) (written ++ missing)
+    (text_more read tail ∙ ends ∙ ap (λ (l : List ℕ). l ++ missing) begins ∙ append_assoc (log_text read) written missing)
 
 -- the records of the log and of some frames behind it are read, and the rest is torn
-reads_cut : (records tail : List LogRecord) (out written : List ℕ) → AllByRecursion Fits (records ++ tail) → length (records ++ tail) < 2 ^ 64 → out ≡ log_text records ++ written
-    → (cut : Cuts (length records + 1) tail written) → Reads out (records ++ take cut.count tail) (length cut.tail)
-reads_cut records tail out written fits few begins cut =
+reads_cut : (read : LogContent) (tail : List LogRecord) (out written : List ℕ) → AllByRecursion Fits (read ⧺ tail).records → last_lsn (history (read ⧺ tail)) < 2 ^ 64 → out ≡ log_text read ++ written
+    → (cut : Cuts (last_lsn (history read) + 1) tail written) → Reads out (read ⧺ take cut.count tail) (length cut.tail)
+reads_cut read tail out written fits few begins cut =
     let kept = take cut.count tail in
     record {
       tail = cut.tail;
       text =
-          begins ∙ ap (λ (l : List ℕ). log_text records ++ l) cut.text ∙ sym (append_assoc (log_text records) (spellings (length records + 1) kept) cut.tail)
-          ∙ ap (λ (l : List ℕ). l ++ cut.tail) (text_more records kept);
+          begins ∙ ap (λ (l : List ℕ). log_text read ++ l) cut.text ∙ sym (append_assoc (log_text read) (spellings (last_lsn (history read) + 1) kept) cut.tail)
+          ∙ ap (λ (l : List ℕ). l ++ cut.tail) (text_more read kept);
       torn_tail = cut.torn;
       torn_count = refl;
-      each = subst (λ (xs : List LogRecord). AllByRecursion Fits xs) (take-append-add records tail cut.count) (each_front Fits (length records + cut.count) (records ++ tail) fits);
-      few = omega (arith, few, length-append records kept, length-append records tail, length-take cut.count tail);
+      each = subst (λ (xs : List LogRecord). AllByRecursion Fits xs) (take-append-add read.records tail cut.count) (each_front Fits (length read.records + cut.count) (read ⧺ tail).records fits);
+      few = omega (arith, few, size_of_log (read ⧺ kept), size_of_log (read ⧺ tail), length-append read.records kept, length-append read.records tail, length-take cut.count tail);
     }
 
-module _ (records : List LogRecord) (before : StoreContent) (lawful : Lawful records before) (new_log : List ℕ) (reads : Reads new_log (records ++ tail_of records) 0) where
-  new_log_is : new_log ≡ log_text (records ++ tail_of records)
-  new_log_is = reads.text ∙ ap (λ (l : List ℕ). log_text (records ++ tail_of records) ++ l) (nil_from_length reads.tail reads.torn_count) ∙ append-nil (log_text (records ++ tail_of records))
+module _ (read : LogContent) (before : StoreContent) (lawful : Lawful read before) (new_log : List ℕ) (reads : Reads new_log (with_tail read) 0) where
+  new_log_is : new_log ≡ log_text (with_tail read)
+  new_log_is = reads.text ∙ ap (λ (l : List ℕ). log_text (with_tail read) ++ l) (nil_from_length reads.tail reads.torn_count) ∙ append-nil (log_text (with_tail read))
 
   -- a beginning of the new log that has all of the old one
-  beside_old_store : (out written missing : List ℕ) → out ≡ log_text records ++ written → new_log ≡ out ++ missing → Cut records before out before
+  beside_old_store : (out written missing : List ℕ) → out ≡ log_text read ++ written → new_log ≡ out ++ missing → Cut read before out before
   beside_old_store out written missing begins goes_on =
-      let tail = tail_of records in
-      let ends : log_text (records ++ tail) ≡ out ++ missing = sym new_log_is ∙ goes_on in
-      let cut = frames_cut (length records + 1) tail written missing (each_behind Fits records tail reads.each) (written_behind records tail out written missing begins ends) in
+      let tail = tail_of read in
+      let ends : log_text (read ⧺ tail) ≡ out ++ missing = sym new_log_is ∙ goes_on in
+      let cut = frames_cut (last_lsn (history read) + 1) tail written missing (each_behind Fits read.records tail reads.each) (written_behind read tail out written missing begins ends) in
       let kept = take cut.count tail in
       record {
         written = written;
         missing = missing;
         begins = begins;
         ends = ends;
-        whole = records ++ kept;
+        whole = read ⧺ kept;
         torn = length cut.tail;
-        reads = reads_cut records tail out written reads.each reads.few begins cut;
+        reads = reads_cut read tail out written reads.each reads.few begins cut;
         master = refl;
         count = refl;
-        pages = λ i d lt. page_law_more records kept _ (lawful.pages i d lt);
+        pages = λ i d lt. page_law_more read kept _ (lawful.pages i d lt);
         not_older = λ i d lt. omega arith;
       }
 
 -- WHAT A FAULT OF A SINK LEAVES
-module _ {log store : List ℕ} (bytes : AreLawful log store) (new_log : List ℕ) (reads : Reads new_log (bytes.are.records ++ tail_of bytes.are.records) 0) where
-  cut_of : (out written missing : List ℕ) → out ≡ log_text bytes.are.records ++ written → new_log ≡ out ++ missing → AreCutOf bytes.are.records bytes.are.before out store
+module _ {log store : List ℕ} (bytes : AreLawful log store) (new_log : List ℕ) (reads : Reads new_log (with_tail bytes.are.read) 0) where
+  cut_of : (out written missing : List ℕ) → out ≡ log_text bytes.are.read ++ written → new_log ≡ out ++ missing → AreCutOf bytes.are.read bytes.are.before out store
   cut_of out written missing begins goes_on =
       record {
         cut = record {
@@ -184,19 +184,19 @@ module _ {log store : List ℕ} (bytes : AreLawful log store) (new_log : List �
           first = bytes;
           left = bytes.are.before;
           spells = bytes.are.spells;
-          cut = beside_old_store bytes.are.records bytes.are.before bytes.lawful new_log reads out written missing begins goes_on;
+          cut = beside_old_store bytes.are.read bytes.are.before bytes.lawful new_log reads out written missing begins goes_on;
         };
-        records_are = refl;
+        read_is = refl;
         store_is = refl;
       }
 
   pub leaves_cut : (new_store : List ℕ) (log_before log_after store_before store_after : Option (List ℕ)) (e : Fault) → Leaves new_log new_store log_before log_after store_before store_after e
-      → LeavesCut bytes.are.records bytes.are.before store log_before log_after e
+      → LeavesCut bytes.are.read bytes.are.before store log_before log_after e
   leaves_cut new_store log_before log_after store_before store_after WriteLog (took, kept) =
       let out = take took.0 new_log in
       (out, took.2, λ written begins. cut_of out written (drop took.0 new_log) begins (sym (take-append-drop took.0 new_log)))
   leaves_cut new_store log_before log_after store_before store_after WriteStore (out, took) =
-      let records = bytes.are.records in
-      let begins : new_log ≡ log_text records ++ spellings (length records + 1) (tail_of records) = new_log_is records bytes.are.before bytes.lawful new_log reads ∙ sym (text_more records (tail_of records)) in
-      (new_log, out, cut_of new_log (spellings (length records + 1) (tail_of records)) [] begins (sym (append-nil new_log)))
+      let read = bytes.are.read in
+      let begins : new_log ≡ log_text read ++ spellings (last_lsn (history read) + 1) (tail_of read) = new_log_is read bytes.are.before bytes.lawful new_log reads ∙ sym (text_more read (tail_of read)) in
+      (new_log, out, cut_of new_log (spellings (last_lsn (history read) + 1) (tail_of read)) [] begins (sym (append-nil new_log)))
   leaves_cut new_store log_before log_after store_before store_after e h = absurd h

@@ -5,14 +5,15 @@ use Rattle.page.specs.declared.fault.Fault.{Fault}
 use Rattle.page.specs.declared.fault.Fault.TheVariants.{NoResource, ReadLog, ReadStore, WriteLog, WriteStore, BadWorkers, BadParting}
 use Rattle.page.specs.Store.{StoreContent}
 use Rattle.page.specs.File.{store_text}
-use Rattle.wal.specs.Records.{LogRecord}
-use Rattle.wal.specs.Tail.{tail_of}
+use Rattle.wal.specs.Records.{LogContent}
+use Rattle.wal.specs.Tail.{with_tail}
 use Rattle.wal.specs.Reads.{log_text}
 use Rattle.wal.specs.Store.{store_out}
 use Rattle.device.specs.Whole.{TookBeginning, Flushes}
-use Rattle.aries.specs.declared.recovery.Options.{Options}
-use Rattle.aries.specs.declared.report.Report.{Report}
-use Rattle.aries.specs.Recovery.{Recovers, Recovered, AreCut, OptionsFault, Cause}
+use Rattle.command.specs.declared.options.Options.{Options}
+use Rattle.aries.specs.Text.{ReportContent}
+use Rattle.aries.specs.Recovery.{Recovers, Recovered, AreCut, Cause}
+use Rattle.command.specs.Options.{OptionsFault}
 
 -- the device that this fault blames has failed once where it is the answer, else not at all
 pub record Fails {T : Type 0} (own : Fault) (answer : Result T Fault) (before after : ℕ) : Type 0 where
@@ -38,12 +39,12 @@ pub record Makes (log_left store_left : Option (List ℕ)) : Type 0 where
   pub store : List ℕ
   pub new_log : List ℕ
   pub new_store : List ℕ
-  pub report : Report
+  pub report : ReportContent
   pub are_read : AreRead log_left store_left log store
   pub recovers : Recovers log store new_log new_store report
 
 -- an answer: the new log and the new store are out
-pub record Writes (log_left store_left log_before log_after store_before store_after : Option (List ℕ)) (report : Report) : Type 0 where
+pub record Writes (log_left store_left log_before log_after store_before store_after : Option (List ℕ)) (report : ReportContent) : Type 0 where
   pub made : Makes log_left store_left
   pub report_is : report ≡ made.report
   pub log_out : Appends log_before log_after made.new_log
@@ -92,32 +93,32 @@ DeviceCause log_left store_left options e = (log : List ℕ) × (store : List �
 
 -- LAWFUL INPUT
 -- the log and its tail, and the store that the winners leave, are out
-pub record Delivers (records : List LogRecord) (before : StoreContent) (log_before log_after store_before store_after : Option (List ℕ)) (report : Report) : Type 0 where
+pub record Delivers (read : LogContent) (before : StoreContent) (log_before log_after store_before store_after : Option (List ℕ)) (report : ReportContent) : Type 0 where
   pub new_log : List ℕ
   pub new_store : List ℕ
-  pub recovered : Recovered records before new_log new_store report
+  pub recovered : Recovered read before new_log new_store report
   pub log_out : Appends log_before log_after new_log
   pub store_out : Appends store_before store_after new_store
 
 -- AFTER AN INTERRUPTION
 -- what an uninterrupted restart of this log and its store writes is out
-pub record Completes (records : List LogRecord) (before : StoreContent) (log_before log_after store_before store_after : Option (List ℕ)) : Type 0 where
-  pub log_out : Appends log_before log_after (log_text (records ++ tail_of records))
-  pub store_out : Appends store_before store_after (store_text (store_out records before))
+pub record Completes (read : LogContent) (before : StoreContent) (log_before log_after store_before store_after : Option (List ℕ)) : Type 0 where
+  pub log_out : Appends log_before log_after (log_text (with_tail read))
+  pub store_out : Appends store_before store_after (store_text (store_out read before))
 
 -- bytes that a restart of this log and its store may have left, if it was interrupted
-pub record AreCutOf (records : List LogRecord) (before : StoreContent) (log store : List ℕ) : Type 0 where
+pub record AreCutOf (read : LogContent) (before : StoreContent) (log store : List ℕ) : Type 0 where
   pub cut : AreCut log store
-  pub records_are : cut.first.are.records ≡ records
+  pub read_is : cut.first.are.read ≡ read
   pub store_is : cut.first.are.before ≡ before
 
 -- what a fault of a sink leaves of the new log is such bytes beside the text of the store that was read: after the log's fault
 -- where it begins with all of the log read, after the store's in any case
-abbrev pub LeavesCut : (records : List LogRecord) (before : StoreContent) (store : List ℕ) (log_before log_after : Option (List ℕ)) → Fault → Type 0
-LeavesCut records before store log_before log_after WriteLog =
-    (out : List ℕ) × Appends log_before log_after out × ((written : List ℕ) → out ≡ log_text records ++ written → AreCutOf records before out store)
-LeavesCut records before store log_before log_after WriteStore = (out : List ℕ) × Appends log_before log_after out × AreCutOf records before out store
-LeavesCut records before store log_before log_after e = Unit {0}
+abbrev pub LeavesCut : (read : LogContent) (before : StoreContent) (store : List ℕ) (log_before log_after : Option (List ℕ)) → Fault → Type 0
+LeavesCut read before store log_before log_after WriteLog =
+    (out : List ℕ) × Appends log_before log_after out × ((written : List ℕ) → out ≡ log_text read ++ written → AreCutOf read before out store)
+LeavesCut read before store log_before log_after WriteStore = (out : List ℕ) × Appends log_before log_after out × AreCutOf read before out store
+LeavesCut read before store log_before log_after e = Unit {0}
 
 -- a refusal that is no fault of the input
 abbrev pub IsResourceOrDevice : Fault → Type 0

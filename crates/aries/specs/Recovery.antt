@@ -1,26 +1,27 @@
 -- What a recovery makes of the bytes of a log and a store, and why it is refused.
-use Rattle.std.specs.Prelude.{◌≡◌, ℕ, ◌≤◌, ◌⊎◌, List, ◌++◌, length}
+use Rattle.std.specs.Prelude.{◌≡◌, ℕ, ◌⊎◌, List, ◌++◌, length}
 use Rattle.page.specs.declared.fault.Fault.{Fault}
 use Rattle.page.specs.declared.fault.Fault.TheVariants.{NoResource, BadWorkers, BadParting}
 use Rattle.page.specs.Store.{StoreContent}
 use Rattle.page.specs.File.{store_text, SpellsStore, StoreFault}
-use Rattle.wal.specs.Records.{LogRecord, history}
-use Rattle.wal.specs.Tail.{losers_of, tail_of}
+use Rattle.wal.specs.Records.{LogContent, history, ◌⧺◌}
+use Rattle.wal.specs.Tail.{losers_of, tail_of, with_tail}
 use Rattle.wal.specs.Reads.{Reads, log_text, Cause as LogFault}
 use Rattle.wal.specs.Store.{Lawful, Cut, store_out}
 use Rattle.audit.specs.FirstFault.{FirstFault}
-use Rattle.aries.specs.declared.outcome.Outcome.{Outcome}
-use Rattle.aries.specs.Restart.{appended_by, clrs_in, Restarts, IsSettled, Redoes, InputFault}
-use Rattle.aries.specs.declared.recovery.Options.{Options}
+use Rattle.restart.specs.declared.outcome.Outcome.{Outcome}
+use Rattle.restart.specs.Restart.{appended_by, clrs_in, Restarts, IsSettled, Redoes, InputFault}
+use Rattle.command.specs.declared.options.Options.{Options}
 use Rattle.aries.specs.declared.recovery.Recovery.{Recovery}
-use Rattle.aries.specs.declared.report.Report.{Report}
+use Rattle.aries.specs.Text.{ReportContent}
+use Rattle.command.specs.Options.{AreInRange, OptionsFault}
 
 -- what the bytes of a log and of a store are
 pub record Are (log store : List ℕ) : Type 0 where
-  pub records : List LogRecord
+  pub read : LogContent
   pub torn : ℕ
   pub before : StoreContent
-  pub reads : Reads log records torn
+  pub reads : Reads log read torn
   pub spells : SpellsStore store before
 
 -- THE ANSWER
@@ -29,9 +30,9 @@ abbrev pub new_log : Recovery → List ℕ
 new_log x = x.kept.now ++ x.frames.items
 
 -- the numbers of a restart
-abbrev pub report_of : List LogRecord → (torn : ℕ) → Outcome → Report
-report_of records torn x = record {
-  records = length records;
+abbrev pub report_of : LogContent → (torn : ℕ) → Outcome → ReportContent
+report_of read torn x = record {
+  records = length read.records;
   torn = torn;
   redo_from = x.redo_from;
   redone = x.redone;
@@ -43,32 +44,32 @@ report_of records torn x = record {
 
 -- EVERY INPUT. The new log is the log without its torn tail and what a restart appends, and is read as such; the new store is
 -- that of the restart.
-pub record Recovers (log store new_log new_store : List ℕ) (report : Report) : Type 0 where
+pub record Recovers (log store new_log new_store : List ℕ) (report : ReportContent) : Type 0 where
   pub are : Are log store
   pub outcome : Outcome
-  pub restarts : Restarts are.records are.before outcome
-  pub log_is : new_log ≡ log_text (are.records ++ appended_by outcome)
-  pub reads : Reads new_log (are.records ++ appended_by outcome) 0
+  pub restarts : Restarts are.read are.before outcome
+  pub log_is : new_log ≡ log_text (are.read ⧺ appended_by outcome)
+  pub reads : Reads new_log (are.read ⧺ appended_by outcome) 0
   pub store_is : new_store ≡ store_text outcome.store
-  pub report_is : report ≡ report_of are.records are.torn outcome
+  pub report_is : report ≡ report_of are.read are.torn outcome
 
 -- LAWFUL INPUT
 -- the bytes of a lawful log and its store
 pub record AreLawful (log store : List ℕ) : Type 0 where
   pub are : Are log store
-  pub lawful : Lawful are.records are.before
+  pub lawful : Lawful are.read are.before
 
 -- the new log is the log and its tail, the new store what the winners leave; a restart on both appends nothing and leaves
 -- the store as it is
-pub record Recovered (records : List LogRecord) (before : StoreContent) (new_log new_store : List ℕ) (report : Report) : Type 0 where
-  pub log_is : new_log ≡ log_text (records ++ tail_of records)
-  pub reads : Reads new_log (records ++ tail_of records) 0
-  pub store_is : new_store ≡ store_text (store_out records before)
-  pub settled : IsSettled (records ++ tail_of records) (store_out records before)
-  pub redoes : Redoes records before report.redo_from report.redone
-  pub losers_are : report.losers ≡ length (losers_of (history records))
-  pub ended_are : report.ended ≡ length (losers_of (history records))
-  pub compensated_are : report.compensated ≡ clrs_in (tail_of records)
+pub record Recovered (read : LogContent) (before : StoreContent) (new_log new_store : List ℕ) (report : ReportContent) : Type 0 where
+  pub log_is : new_log ≡ log_text (with_tail read)
+  pub reads : Reads new_log (with_tail read) 0
+  pub store_is : new_store ≡ store_text (store_out read before)
+  pub settled : IsSettled (with_tail read) (store_out read before)
+  pub redoes : Redoes read before report.redo_from report.redone
+  pub losers_are : report.losers ≡ length (losers_of (history read))
+  pub ended_are : report.ended ≡ length (losers_of (history read))
+  pub compensated_are : report.compensated ≡ clrs_in (tail_of read)
 
 -- AFTER AN INTERRUPTION
 -- bytes that a restart on the bytes of a lawful log and its store may have left, if it was interrupted
@@ -78,23 +79,9 @@ pub record AreCut (log store : List ℕ) : Type 0 where
   pub first : AreLawful first_log first_store
   pub left : StoreContent
   pub spells : SpellsStore store left
-  pub cut : Cut first.are.records first.are.before log left
+  pub cut : Cut first.are.read first.are.before log left
 
 -- REFUSALS
-abbrev pub IsUpTo : ℕ → ℕ → Type 0
-IsUpTo most n = (1 ≤ n) × (n ≤ most)
-
--- the options lie in their ranges
-pub record AreInRange (options : Options) : Type 0 where
-  pub workers : IsUpTo 64 options.workers
-  pub parts : IsUpTo 4096 options.parts
-
--- why options are refused
-abbrev pub OptionsFault : Options → Fault → Type 0
-OptionsFault options BadWorkers = IsUpTo 64 options.workers → ⊥
-OptionsFault options BadParting = IsUpTo 64 options.workers × (IsUpTo 4096 options.parts → ⊥)
-OptionsFault options _ = ⊥
-
 -- why bytes are refused, in the order in which causes are looked for, memory aside
 abbrev pub Cause : List ℕ → List ℕ → Options → Fault → Type 0
 Cause log store options NoResource = Unit {0}
@@ -102,12 +89,12 @@ Cause log store options BadWorkers = OptionsFault options BadWorkers
 Cause log store options BadParting = OptionsFault options BadParting
 Cause log store options e =
     AreInRange options
-    × (LogFault log e ⊎ ((records : List LogRecord) × (torn : ℕ) × Reads log records torn × StoreFault store e)
-    ⊎ ((are : Are log store) × InputFault are.records are.before e))
+    × (LogFault log e ⊎ ((read : LogContent) × (torn : ℕ) × Reads log read torn × StoreFault store e)
+    ⊎ ((are : Are log store) × InputFault are.read are.before e))
 
 -- THE AUDIT
 -- why bytes are not those of a lawful log and its store, in the order in which causes are looked for, memory aside
 abbrev pub AuditFault : List ℕ → List ℕ → Fault → Type 0
 AuditFault log store e =
-    LogFault log e ⊎ ((records : List LogRecord) × (torn : ℕ) × Reads log records torn × StoreFault store e)
-    ⊎ ((are : Are log store) × FirstFault are.records are.before e)
+    LogFault log e ⊎ ((read : LogContent) × (torn : ℕ) × Reads log read torn × StoreFault store e)
+    ⊎ ((are : Are log store) × FirstFault are.read are.before e)

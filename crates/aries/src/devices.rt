@@ -7,11 +7,13 @@ ghost use Rattle.page.specs.declared.fault.Fault.{Fault};
 ghost use Rattle.page.specs.declared.fault.Fault.TheVariants.{NoResource, ReadLog, ReadStore, WriteLog, WriteStore};
 ghost use Rattle.device.specs.Failures.{Counts};
 ghost use Rattle.device.specs.Whole.{TookBeginning, Flushes};
-ghost use Rattle.aries.specs.Recovery.{new_log, AreLawful, AreCut, AreInRange, OptionsFault};
+ghost use Rattle.aries.specs.Recovery.{new_log, AreLawful, AreCut};
+ghost use Rattle.command.specs.Options.{AreInRange, OptionsFault};
 ghost use Rattle.aries.specs.Devices.{Fails, Gave, IsFaultOf, AreRead, Makes, Writes, AreOut, Leaves, IsOut, IsReadFault, DeviceCause, Delivers, Completes, LeavesCut, IsResourceOrDevice};
 
-use crate::recovery::{Recovery, check_options, recovery_of};
-use crate::{Options, Report};
+use crate::Report;
+use crate::recovery::{Recovery, recovery_of};
+use command::{Options, check_options};
 use device::{Failed, ReadFault, Sink, Source, read_all, write_all};
 use page::Fault;
 use redo::Gate;
@@ -134,17 +136,17 @@ pub fn recover<LR: Source, SR: Source, LW: Sink, SW: Sink, G: Gate, R: Threads +
     // On the bytes of a lawful log and its store: both are out, and a fault is want of memory or a device's.
     ensures lawful { (log_text store_text : List ℕ) → LR.left log.old ≡ Some log_text → SR.left store.old ≡ Some store_text → AreInRange options.now
         → (bytes : AreLawful log_text store_text)
-        → MatchResult result (Delivers bytes.are.records bytes.are.before (LW.taken out_log.old) (LW.taken out_log.new) (SW.taken out_store.old) (SW.taken out_store.new)) IsResourceOrDevice }
+        → MatchResult result (Delivers bytes.are.read bytes.are.before (LW.taken out_log.old) (LW.taken out_log.new) (SW.taken out_store.old) (SW.taken out_store.new)) IsResourceOrDevice }
 
     // On what a restart of them may leave that was interrupted: what it would have written is out.
     ensures interrupted { (log_text store_text : List ℕ) → LR.left log.old ≡ Some log_text → SR.left store.old ≡ Some store_text → AreInRange options.now
         → (bytes : AreCut log_text store_text)
-        → MatchResult result (λ _. Completes bytes.first.are.records bytes.first.are.before (LW.taken out_log.old) (LW.taken out_log.new) (SW.taken out_store.old) (SW.taken out_store.new)) IsResourceOrDevice }
+        → MatchResult result (λ _. Completes bytes.first.are.read bytes.first.are.before (LW.taken out_log.old) (LW.taken out_log.new) (SW.taken out_store.old) (SW.taken out_store.new)) IsResourceOrDevice }
 
     // After a fault of a sink what is out of the new log, beside the store that was read, is such bytes.
     ensures resumable { (log_text store_text : List ℕ) → LR.left log.old ≡ Some log_text → SR.left store.old ≡ Some store_text → AreInRange options.now
         → (bytes : AreLawful log_text store_text)
-        → IfErr result (LeavesCut bytes.are.records bytes.are.before store_text (LW.taken out_log.old) (LW.taken out_log.new)) }
+        → IfErr result (LeavesCut bytes.are.read bytes.are.before store_text (LW.taken out_log.old) (LW.taken out_log.new)) }
 
     // Wherever it answers.
     ensures answer { IfOk result (Writes (LR.left log.old) (SR.left store.old) (LW.taken out_log.old) (LW.taken out_log.new) (SW.taken out_store.old) (SW.taken out_store.new)) }

@@ -1,7 +1,8 @@
 //! Recovery from two files to two files, and the audit of two.
 
 use crate::devices::read_source;
-use crate::{Options, Report, audit_texts, recover};
+use crate::{Report, audit_texts, recover};
+use command::Options;
 use device::{FileSink, FileSource};
 use page::Fault;
 use redo::OpenGate;

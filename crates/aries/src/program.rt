@@ -1,7 +1,8 @@
 //! The program: from its words to its exit status.
 
 use crate::files::{Paths, audit_files, recover_files};
-use crate::{Job, Refusal, Report, command_of, report_text};
+use crate::{Report, report_text};
+use command::{Job, Refusal, command_of};
 use page::Fault;
 use std::alloc::Global;
 use std::io::{self, Write};

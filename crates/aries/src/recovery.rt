@@ -1,52 +1,29 @@
 //! Recovery in memory: from the bytes of a log and a store to the bytes of both after it.
 
-ghost use Rattle.std.specs.Prelude.{◌≡◌, ◌≤◌, ◌<◌, ◌^◌, Err, length, map, IfOk, OnOk, IfErr, MatchResult};
+ghost use Rattle.std.specs.Prelude.{◌≡◌, ◌<◌, ◌+◌, ◌^◌, length, map, IfOk, IfErr, MatchResult};
 ghost use Rattle.page.specs.declared.fault.Fault.{Fault};
 ghost use Rattle.page.specs.declared.fault.Fault.TheVariants.{NoResource};
 ghost use Rattle.wal.specs.Content.{content};
 ghost use Rattle.wal.specs.Reads.{spellings};
-ghost use Rattle.aries.specs.Undone.{AreSpelled};
-ghost use Rattle.aries.specs.Recovery.{report_of, new_log, Recovers, AreLawful, Recovered, AreInRange, OptionsFault, Cause};
+ghost use Rattle.undo.specs.Undone.{AreSpelled};
+ghost use Rattle.aries.specs.Recovery.{report_of, new_log, Recovers, AreLawful, Recovered, Cause};
+ghost use Rattle.command.specs.Options.{AreInRange};
 
-use crate::passes::restart_in_place;
-use crate::{Outcome, Report};
+use crate::Report;
+use command::Options;
 use page::{Fault, decode_store, encode_store_into};
 use redo::{Gate, Parting};
+use restart::{Outcome, restart_in_place};
 use std::alloc::Global;
 use std::thread::Threads;
 use wal::{Log, Record, read_log, write_frame};
-
-/// How a restart is to be run. What it writes does not depend on these.
-#[derive(Clone, Copy, Debug, PartialEq, Eq)]
-pub struct Options {
-    /// How many threads redo the pages, 1 to 64.
-    pub workers: u32,
-    /// Into how many parts the pages are dealt, 1 to 4,096: page p goes to part p modulo parts.
-    pub parts: u32,
-}
-
-/// Refuses options out of their ranges.
-pub fn check_options(options: &Options) -> Result<(), Fault>
-    ensures ok { OnOk result (AreInRange options.now) }
-    ensures fault { IfErr result (OptionsFault options.now) }
-    ensures refused { (e : Fault) → OptionsFault options.now e → result ≡ Err e }
-{
-    if !(1..=64).contains(&options.workers) {
-        return Err(Fault::BadWorkers);
-    }
-    if !(1..=4096).contains(&options.parts) {
-        return Err(Fault::BadParting);
-    }
-    Ok(())
-}
 
 /// The frames of records, the first of which has this LSN.
 fn frames_of(alloc: Global, records: &[Record], first: u64) -> Result<Vec<u8>, Fault>
     requires spelled { AreSpelled records.now }
     requires some { 0 < first }
-    requires room { first ≤ 2 ^ 63 }
+    requires room { first + length records.now < 2 ^ 64 }
     ensures frames { IfOk result (λ x. x.items ≡ spellings first (map content records.now)) }
-    ensures few { OnOk result (length records.now < 2 ^ 63) }
     ensures err { IfErr result (λ e. e ≡ NoResource) }
 {
     let mut frames = Vec::new(alloc);
@@ -104,7 +81,7 @@ pub fn recovery_of<'a, G: Gate, R: Threads + Sync>(
 
     // On the bytes of a lawful log and its store.
     ensures lawful { (bytes : AreLawful log.now store.items)
-        → MatchResult result (λ x. Recovered bytes.are.records bytes.are.before (new_log x) x.store.items x.report) (λ e. e ≡ NoResource) }
+        → MatchResult result (λ x. Recovered bytes.are.read bytes.are.before (new_log x) x.store.items x.report) (λ e. e ≡ NoResource) }
 
     // Wherever it answers.
     ensures answer { IfOk result (λ x. Recovers log.now store.items (new_log x) x.store.items x.report) }

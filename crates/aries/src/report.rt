@@ -7,8 +7,9 @@ ghost use Rattle.aries.specs.Text.{line, report_lines};
 use itoa::Buffer;
 use page::Fault;
 use std::alloc::{AllocError, Global};
+use std::marker::Model;
 
-/// What a restart found and did.
+/// What a restart found and did. Contracts see it as the record of these numbers.
 #[derive(Clone, Copy, Debug, PartialEq, Eq)]
 pub struct Report {
     /// Whole records of the log that was read.
@@ -27,6 +28,16 @@ pub struct Report {
     pub ended: u64,
     /// Pages of the store.
     pub pages: u64,
+}
+
+impl Model for Report {
+    ghost use Rattle.aries.specs.Text.{ReportContent};
+
+    ghost Value = { ReportContent };
+
+    ghost view = { λ r. record { records = r.records; torn = r.torn; redo_from = r.redo_from; redone = r.redone; losers = r.losers; compensated = r.compensated; ended = r.ended; pages = r.pages } };
+
+    ghost inverse = { λ r. record { records = r.records; torn = r.torn; redo_from = r.redo_from; redone = r.redone; losers = r.losers; compensated = r.compensated; ended = r.ended; pages = r.pages } };
 }
 
 /// Appends a line: a name, a blank and a decimal number.

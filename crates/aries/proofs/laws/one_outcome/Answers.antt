@@ -1,5 +1,0 @@
-use Rattle.aries.proofs.OneAnswer.{one_outcome}
-use Rattle.aries.proofs.laws.one_outcome.Goals as goal
-
-pub returns : goal.returns
-returns c = one_outcome c.one_tables.ensures

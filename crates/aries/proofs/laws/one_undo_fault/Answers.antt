@@ -1,5 +1,0 @@
-use Rattle.aries.proofs.OneCause.{one_undo_fault}
-use Rattle.aries.proofs.laws.one_undo_fault.Goals as goal
-
-pub returns : goal.returns
-returns c = one_undo_fault

@@ -1,6 +1,0 @@
-use Rattle.std.proofs.Common.{ℕ, ◌<◌, ◌≤◌, length, get_or}
-use Rattle.page.specs.declared.page.Page.{Page}
-use Rattle.aries.proofs.passes.check_lsns.Given as goal
-
-abbrev pub invariant-loop-page : goal.invariant-loop-page
-invariant-loop-page l = (k : ℕ) (d : Page) → k < l.page-index → (get_or l.pages k d).lsn ≤ length l.log
