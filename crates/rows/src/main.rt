@@ -110,3 +110,16 @@ fn main(rt: HostRuntime) -> Result<()> {
     let index = fs::read_to_string(&rt, "index")?;
     run_rows(&rt, index.as_str())
 }
+
+#[cfg(test)]
+mod device_tests;
+#[cfg(test)]
+mod gate_tests;
+#[cfg(test)]
+mod program_tests;
+#[cfg(test)]
+mod restart_tests;
+#[cfg(test)]
+mod undo_tests;
+#[cfg(test)]
+mod written;

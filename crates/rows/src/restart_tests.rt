@@ -1,0 +1,212 @@
+//! Rows worked by hand, restarted on values: what is appended, the pages, the numbers, the master, and
+//! the fault that comes first.
+
+use crate::written::{
+    Row, Text, checkpoint_loser, clr_points_past_zero, one_commit, one_loser, page_with,
+    partial_rollback_loser, rollback_interrupted, several_kinds_of_loser, store_of, two_losers,
+    undo_of_missing_page,
+};
+use aries::restart;
+use page::{Fault, Page, Value, decode_store, encode_store};
+use redo::{OpenGate, Parting};
+use std::alloc::Global;
+use std::test::Fail;
+use std::thread::Threads;
+use wal::{Record, read_log};
+
+/// What a restart makes of a log and a store of one page.
+#[derive(Drop)]
+struct Answer {
+    /// The log with what is appended.
+    log: Vec<u8>,
+    store: Vec<u8>,
+    /// `redo_from`, `redone`, `losers`, `compensated` and `ended`.
+    numbers: (u64, u64, u64, u64, u64),
+}
+
+/// How a restart is run: for a store of so many pages, by so many workers.
+#[derive(Clone, Copy)]
+struct Manner {
+    pages: u32,
+    workers: u32,
+}
+
+/// The manner of a restart that is answered.
+const GOOD: Manner = Manner {
+    pages: 1,
+    workers: 2,
+};
+
+/// Restarts on a log and the bytes of a store.
+fn restarted<R: Threads + Sync>(
+    rt: &R,
+    alloc: Global,
+    text: &Text,
+    store: &[u8],
+    manner: Manner,
+) -> Result<Answer, Fault> {
+    let (log, _) = read_log(alloc, &text.bytes)?;
+    let before = decode_store(alloc, store)?;
+    let parting = Parting::by_number(alloc, manner.pages, 3)?;
+    let outcome = restart(
+        rt,
+        alloc,
+        &log,
+        &before,
+        &parting,
+        manner.workers,
+        &OpenGate,
+    )?;
+    let mut whole = text.copied()?;
+    for entry in &outcome.appended {
+        whole.put(entry)?;
+    }
+    Ok(Answer {
+        log: whole.bytes,
+        store: encode_store(alloc, &outcome.store)?,
+        numbers: (
+            outcome.redo_from,
+            outcome.redone,
+            outcome.losers,
+            outcome.compensated,
+            outcome.ended,
+        ),
+    })
+}
+
+/// The numbers of a restart of a row on an empty page; None where it makes another log than the row's,
+/// or another store than one of this page under the same master.
+fn numbers_of<R: Threads + Sync>(
+    rt: &R,
+    alloc: Global,
+    row: &Row,
+    master: u64,
+    after: &Page,
+) -> Result<Option<(u64, u64, u64, u64, u64)>, Fault> {
+    let empty = store_of(alloc, master, &Page::empty(0))?;
+    let answer = restarted(rt, alloc, &row.given, &empty, GOOD)?;
+    let expected = store_of(alloc, master, after)?;
+    let is_same = answer.log.as_slice() == row.made.bytes.as_slice()
+        && answer.store.as_slice() == expected.as_slice();
+    Ok(is_same.then_some(answer.numbers))
+}
+
+#[test]
+fn rolls_back_losers(rt: HostRuntime) -> Result<(), Fail> {
+    let alloc = rt.alloc();
+    for (row, bytes, master, lsn, numbers) in [
+        (one_loser(alloc)?, 105, 0, 2, (1, 1, 1, 1, 1)),
+        (two_losers(alloc)?, 276, 0, 7, (1, 3, 2, 3, 2)),
+        (several_kinds_of_loser(alloc)?, 277, 0, 8, (1, 3, 3, 1, 3)),
+        (partial_rollback_loser(alloc)?, 253, 0, 6, (1, 4, 1, 2, 1)),
+        (rollback_interrupted(alloc)?, 204, 0, 5, (1, 3, 1, 1, 1)),
+        (checkpoint_loser(alloc)?, 180, 2, 4, (1, 1, 1, 1, 1)),
+    ] {
+        let after = page_with(lsn, None, None);
+        let answer = numbers_of(&rt, alloc, &row, master, &after)?;
+        assert_eq!(rt; answer, Some(numbers), "the row of {bytes} bytes");
+        assert_eq!(rt; row.made.bytes.len(), bytes);
+    }
+    Ok(())
+}
+
+#[test]
+fn keeps_a_slot_that_no_record_names(rt: HostRuntime) -> Result<(), Fail> {
+    let alloc = rt.alloc();
+    let text = one_commit(alloc, 0)?;
+    let mut before = Page::empty(0);
+    before.set(5, Value::new(b"q"), 0);
+    let mut after = page_with(1, Some(b'a'), None);
+    after.set(5, Value::new(b"q"), 1);
+    let store = store_of(alloc, 0, &before)?;
+    let answer = restarted(&rt, alloc, &text, &store, GOOD)?;
+    assert_eq!(rt; answer.log.as_slice(), text.bytes.as_slice());
+    assert_eq!(rt;
+        answer.store.as_slice(),
+        store_of(alloc, 0, &after)?.as_slice()
+    );
+    assert_eq!(rt; answer.numbers, (1, 1, 0, 0, 0));
+    Ok(())
+}
+
+/// The fault of a restart on an empty page with this PageLSN.
+fn refused<R: Threads + Sync>(
+    rt: &R,
+    alloc: Global,
+    text: &Text,
+    master: u64,
+    lsn: u64,
+    manner: Manner,
+) -> Option<Fault> {
+    let page = page_with(lsn, None, None);
+    match store_of(alloc, master, &page) {
+        Ok(store) => restarted(rt, alloc, text, &store, manner).err(),
+        Err(fault) => Some(fault),
+    }
+}
+
+/// The log of `empty-and-full-values`.
+fn empty_and_full_values(alloc: Global) -> Result<Text, Fault> {
+    let mut text = Text::new(alloc)?;
+    for (slot, after) in [(0, Value::new(b"")), (1, Value::new(&[b'z'; 48]))] {
+        text.put(&Record::Update {
+            tx: 1,
+            prev: slot as u64,
+            page: 0,
+            slot,
+            before: None,
+            after,
+        })?;
+    }
+    text.commit(1, 2)?;
+    Ok(text)
+}
+
+#[test]
+fn refuses_pages_ahead_of_the_log(rt: HostRuntime) -> Result<(), Fail> {
+    let alloc = rt.alloc();
+    let text = empty_and_full_values(alloc)?;
+    assert_eq!(rt; text.bytes.len(), 145);
+    let refusal = refused(&rt, alloc, &text, 0, 9, GOOD);
+    assert_eq!(rt; refusal, Some(Fault::PageAheadOfLog(0)));
+    let text = one_commit(alloc, 0)?;
+    let refusal = refused(&rt, alloc, &text, 0, u64::MAX, GOOD);
+    assert_eq!(rt; refusal, Some(Fault::PageAheadOfLog(0)));
+    Ok(())
+}
+
+#[test]
+fn refuses_what_the_log_and_the_store_spoil(rt: HostRuntime) -> Result<(), Fail> {
+    let alloc = rt.alloc();
+    for (text, master, fault) in [
+        (one_commit(alloc, 0)?, 2, Fault::BadMaster),
+        (one_commit(alloc, 1)?, 0, Fault::NoSuchPage(1)),
+        (clr_points_past_zero(alloc)?, 0, Fault::BrokenChain(2)),
+        (undo_of_missing_page(alloc)?, 2, Fault::NoSuchPage(1)),
+    ] {
+        assert_eq!(rt; refused(&rt, alloc, &text, master, 0, GOOD), Some(fault));
+    }
+    Ok(())
+}
+
+/// Each fault stands before the next ones: what causes these is there too.
+#[test]
+fn refuses_in_order(rt: HostRuntime) -> Result<(), Fail> {
+    let alloc = rt.alloc();
+    let mut text = Text::new(alloc)?;
+    text.clr(2, 0, 5, 0, None)?;
+    text.first_update(1)?;
+    for (workers, pages, lsn, master, fault) in [
+        (0, 2, 9, 7, Fault::BadWorkers),
+        (65, 2, 9, 7, Fault::BadWorkers),
+        (64, 2, 9, 7, Fault::BadParting),
+        (1, 1, 9, 7, Fault::PageAheadOfLog(0)),
+        (1, 1, 0, 7, Fault::BadMaster),
+        (1, 1, 0, 0, Fault::NoSuchPage(2)),
+    ] {
+        let manner = Manner { pages, workers };
+        let refusal = refused(&rt, alloc, &text, master, lsn, manner);
+        assert_eq!(rt; refusal, Some(fault), "{workers} workers, {pages} pages");
+    }
+    Ok(())
+}
