@@ -1,12 +1,12 @@
 -- The actions of a rollback: whose they are, and what is written of them.
 use Rattle.std.proofs.Common.{ℕ, suc, zero, ◌≡◌, ◌+◌, ◌<◌, ◌≤◌, Bool, true, cond, ◌||◌, List, [], ◌∷◌, ◌++◌, map, refl, sym, ap, ap₂, ◌∙◌, inl, inr, arith, eq-eqb, eqb-true, eqb}
 use Rattle.std.specs.Prelude.{filter, flat_map}
-use Rattle.std.proofs.lemmas.Bool.{cases_Bool, cases_eq, false≢true, or_cases, or_left, or_right, cond_both}
+use Rattle.std.proofs.lemmas.Bool.{cases_Bool, cases_eq, false≢true, or_cases, or_left, or_right, cond_both, both_ways, false_from_ne_true}
 use Rattle.wal.specs.Records.{UpdateRecord, Update, History, start, ◌▸◌, last_lsn}
-use Rattle.wal.specs.Meaning.{is_loser}
-use Rattle.wal.specs.Tail.{Action, Finish, Undo, tx_for, record_for, written, numbers_from, above_all, losers_of, left_of, updates_where, is_stacked, is_lowest, is_among, is_empty, undo_of, rollback, left_to_do}
+use Rattle.wal.specs.Meaning.{is_of, has, is_loser}
+use Rattle.wal.specs.Tail.{Action, Finish, Undo, tx_for, record_for, written, numbers_from, above_all, transactions_of, losers_of, left_of, updates_where, is_stacked, is_lowest, is_among, is_empty, undo_of, rollback, left_to_do}
 use Rattle.wal.proofs.Filters.{Each, tx_below}
-use Rattle.wal.proofs.Steps.{left_loser, loser_has}
+use Rattle.wal.proofs.Steps.{left_loser}
 
 -- MEMBERS
 among_filter : (p : ℕ → Bool) (t : ℕ) (xs : List ℕ) → is_among t (filter p xs) ≡ true → p t ≡ true
@@ -44,12 +44,19 @@ numbers_among n (suc k) t a b =
       | inr d ↦ or_right (eqb t n) (is_among t (numbers_from (suc n) k)) (numbers_among (suc n) k t (omega (arith, d)) (omega arith))
     ]
 
--- the losers are in the list of losers, and no others
-pub loser_among : (log : History) (t : ℕ) → is_loser t log ≡ true → is_among t (losers_of log) ≡ true
-loser_among log t h = filter_among (λ x. is_loser x log) t (numbers_from 0 (above_all log)) (numbers_among 0 (above_all log) t (omega arith) (omega (arith, tx_below t log (loser_has t log h)))) h
+-- where only transactions of the log are chosen, those are listed, and no others
+chosen_among : (p : ℕ → Bool) (log : History) (t : ℕ) → has (is_of t) log ≡ true → p t ≡ true → is_among t (transactions_of p log) ≡ true
+chosen_among p log t h e = filter_among p t (numbers_from 0 (above_all log)) (numbers_among 0 (above_all log) t (omega arith) (omega (arith, tx_below t log h))) e
 
-pub among_losers : (log : History) (t : ℕ) → is_among t (losers_of log) ≡ true → is_loser t log ≡ true
-among_losers log t h = among_filter (λ x. is_loser x log) t (numbers_from 0 (above_all log)) h
+pub among_chosen : (p : ℕ → Bool) (log : History) (t : ℕ) → is_among t (transactions_of p log) ≡ true → p t ≡ true
+among_chosen p log t h = among_filter p t (numbers_from 0 (above_all log)) h
+
+pub among_is : (p : ℕ → Bool) (log : History) → ((t : ℕ) → p t ≡ true → has (is_of t) log ≡ true) → (t : ℕ) → is_among t (transactions_of p log) ≡ p t
+among_is p log of_log t =
+    elim (cases_Bool (p t)) [
+      | inl l ↦ chosen_among p log t (of_log t l) l ∙ sym l
+      | inr l ↦ false_from_ne_true (is_among t (transactions_of p log)) (λ a. both_ways (p t) l (among_chosen p log t a)) ∙ sym l
+    ]
 
 -- ACTIONS
 -- each action is of such a transaction
@@ -108,4 +115,4 @@ module _ (P : ℕ → Type 0) (losers : List ℕ) (stack : ℕ → List ℕ) (ea
 -- what is left to do is of losers alone
 pub left_is_of_losers : (P : ℕ → Type 0) (log : History) → ((t : ℕ) → is_loser t log ≡ true → P t) → AllFor P (left_to_do log)
 left_is_of_losers P log h =
-    of_rollback P (losers_of log) (left_of log) (λ t i. h t (among_losers log t i)) (λ t n i. h t (left_loser log t n i)) log
+    of_rollback P (losers_of log) (left_of log) (λ t i. h t (among_chosen (λ x. is_loser x log) log t i)) (λ t n i. h t (left_loser log t n i)) log

@@ -3,9 +3,9 @@ use Rattle.std.proofs.Common.{◌≡◌, ℕ, ◌^◌, ◌<◌, ◌≤◌, eqb, 
 use Rattle.std.specs.Int.{w32, w64, to_be_bytes}
 use Rattle.std.proofs.lemmas.List.{append-nil, nil_from_length}
 use Rattle.std.proofs.lemmas.Option.{same_Some}
-use Rattle.wal.specs.Records.{tx_in, page_in, UpdateRecord, CompensationRecord, LogRecord, Update, Compensation, Commit, Abort, End, CheckpointBegin, CheckpointEnd}
+use Rattle.wal.specs.Records.{tx_in, page_in, UpdateRecord, CompensationRecord, PlainRecord, LogRecord, Update, Compensation, Commit, Abort, End, Prepare, CheckpointBegin, CheckpointEnd}
 use Rattle.wal.specs.Spelling.{image, plain, update, compensation, checkpoint, table, entry, dirty_page, kind_of, fields, body, FitsPlain, FitsTable, FitsEntry, FitsDirty, Fits}
-use Rattle.wal.specs.Reading.{number_at, slot_at, image_at, plain_at, update_at, compensation_at, commit_at, abort_at, end_at, transactions_at, dirties_at, checkpoint_at, fields_at, body_at}
+use Rattle.wal.specs.Reading.{◌>>=◌, number_at, slot_at, image_at, plain_at, update_at, compensation_at, commit_at, abort_at, end_at, prepare_at, transactions_at, dirties_at, checkpoint_at, fields_at, body_at}
 use Rattle.wal.proofs.Loop.{chosen}
 use Rattle.page.proofs.BigEndian.{AreBytes}
 use Rattle.wal.proofs.Fields.{AreBytes-rest, bind_some, guard_ended, Takes, Takes-then, first_of_all, field32, field64, slot_field, image_field, plain_field}
@@ -16,23 +16,13 @@ use Rattle.page.specs.Image.{FitsSlot}
 abbrev pub Read : ℕ → List ℕ → LogRecord × List ℕ → Type 0
 Read kind bytes x = Takes bytes (fields x.0) x.1 × Fits x.0 × (kind ≡ kind_of x.0)
 
-commit_takes : (bytes : List ℕ) (x : LogRecord × List ℕ) → AreBytes bytes → commit_at bytes ≡ Some x → Read 3 bytes x
-unfolding commit_at
-commit_takes bytes x fits e =
-    let a = first_of_all plain_at plain FitsPlain plain_field bytes (λ own. Some (Commit own.0, own.1)) x fits e in
-    subst (Read 3 bytes) (same_Some (Commit a.value, a.rest) x a.after) (a.takes, a.fits, refl)
-
-abort_takes : (bytes : List ℕ) (x : LogRecord × List ℕ) → AreBytes bytes → abort_at bytes ≡ Some x → Read 4 bytes x
-unfolding abort_at
-abort_takes bytes x fits e =
-    let a = first_of_all plain_at plain FitsPlain plain_field bytes (λ own. Some (Abort own.0, own.1)) x fits e in
-    subst (Read 4 bytes) (same_Some (Abort a.value, a.rest) x a.after) (a.takes, a.fits, refl)
-
-end_takes : (bytes : List ℕ) (x : LogRecord × List ℕ) → AreBytes bytes → end_at bytes ≡ Some x → Read 5 bytes x
-unfolding end_at
-end_takes bytes x fits e =
-    let a = first_of_all plain_at plain FitsPlain plain_field bytes (λ own. Some (End own.0, own.1)) x fits e in
-    subst (Read 5 bytes) (same_Some (End a.value, a.rest) x a.after) (a.takes, a.fits, refl)
+-- a record of just a transaction and its previous record
+plain_takes : (kind : ℕ) (make : PlainRecord → LogRecord) (bytes : List ℕ) (x : LogRecord × List ℕ)
+    → ((own : PlainRecord) (rest : List ℕ) → Takes bytes (plain own) rest → FitsPlain own → Read kind bytes (make own, rest))
+    → AreBytes bytes → (plain_at bytes >>= λ own. Some (make own.0, own.1)) ≡ Some x → Read kind bytes x
+plain_takes kind make bytes x read fits e =
+    let a = first_of_all plain_at plain FitsPlain plain_field bytes (λ own. Some (make own.0, own.1)) x fits e in
+    subst (Read kind bytes) (same_Some (make a.value, a.rest) x a.after) (read a.value a.rest a.takes a.fits)
 
 update_takes : (bytes : List ℕ) (x : LogRecord × List ℕ) → AreBytes bytes → update_at bytes ≡ Some x → Read 1 bytes x
 unfolding update_at
@@ -79,7 +69,7 @@ checkpoint_takes bytes x fits e =
 
 -- what is read by a kind has this kind
 pub fields_take : (kind : ℕ) (bytes : List ℕ) (x : LogRecord × List ℕ) → AreBytes bytes → fields_at kind bytes ≡ Some x → Read kind bytes x
-unfolding fields_at
+unfolding fields_at commit_at abort_at end_at prepare_at
 fields_take kind bytes x fits e =
     elim (chosen (eqb kind 1) _ _ _ e) [
       | inl p ↦ subst (λ k. Read k bytes x) (sym (eqb-true kind 1 p.0)) (update_takes bytes x fits p.1)
@@ -88,20 +78,24 @@ fields_take kind bytes x fits e =
             | inl q ↦ subst (λ k. Read k bytes x) (sym (eqb-true kind 2 q.0)) (compensation_takes bytes x fits q.1)
             | inr q ↦
                 elim (chosen (eqb kind 3) _ _ _ q.1) [
-                  | inl r ↦ subst (λ k. Read k bytes x) (sym (eqb-true kind 3 r.0)) (commit_takes bytes x fits r.1)
+                  | inl r ↦ subst (λ k. Read k bytes x) (sym (eqb-true kind 3 r.0)) (plain_takes 3 Commit bytes x (λ own rest t f. (t, f, refl)) fits r.1)
                   | inr r ↦
                       elim (chosen (eqb kind 4) _ _ _ r.1) [
-                        | inl s ↦ subst (λ k. Read k bytes x) (sym (eqb-true kind 4 s.0)) (abort_takes bytes x fits s.1)
+                        | inl s ↦ subst (λ k. Read k bytes x) (sym (eqb-true kind 4 s.0)) (plain_takes 4 Abort bytes x (λ own rest t f. (t, f, refl)) fits s.1)
                         | inr s ↦
                             elim (chosen (eqb kind 5) _ _ _ s.1) [
-                              | inl t ↦ subst (λ k. Read k bytes x) (sym (eqb-true kind 5 t.0)) (end_takes bytes x fits t.1)
+                              | inl t ↦ subst (λ k. Read k bytes x) (sym (eqb-true kind 5 t.0)) (plain_takes 5 End bytes x (λ own rest t f. (t, f, refl)) fits t.1)
                               | inr t ↦
                                   elim (chosen (eqb kind 6) _ _ _ t.1) [
                                     | inl u ↦ subst (λ k. Read k bytes x) (sym (eqb-true kind 6 u.0)) (subst (Read 6 bytes) (same_Some (CheckpointBegin, bytes) x u.1) (record { parts = refl; rest_fits = fits }, tt, refl))
                                     | inr u ↦
                                         elim (chosen (eqb kind 7) _ _ _ u.1) [
                                           | inl v ↦ subst (λ k. Read k bytes x) (sym (eqb-true kind 7 v.0)) (checkpoint_takes bytes x fits v.1)
-                                          | inr v ↦ absurd cc
+                                          | inr v ↦
+                                              elim (chosen (eqb kind 8) _ _ _ v.1) [
+                                                | inl w ↦ subst (λ k. Read k bytes x) (sym (eqb-true kind 8 w.0)) (plain_takes 8 Prepare bytes x (λ own rest t f. (t, f, refl)) fits w.1)
+                                                | inr w ↦ absurd cc
+                                              ]
                                         ]
                                   ]
                             ]
@@ -111,7 +105,7 @@ fields_take kind bytes x fits e =
     ]
 
 pub fields_again : (r : LogRecord) (rest : List ℕ) → Fits r → fields_at (kind_of r) (fields r ++ rest) ≡ Some (r, rest)
-unfolding fields_at update_at compensation_at commit_at abort_at end_at checkpoint_at
+unfolding fields_at update_at compensation_at commit_at abort_at end_at prepare_at checkpoint_at
 fields_again (Update u) rest fits =
     let before = image u.before in
     let after = image u.after in
@@ -128,6 +122,7 @@ fields_again (Compensation u) rest fits =
 fields_again (Commit r) rest fits = rw (plain_field.again r rest fits) refl
 fields_again (Abort r) rest fits = rw (plain_field.again r rest fits) refl
 fields_again (End r) rest fits = rw (plain_field.again r rest fits) refl
+fields_again (Prepare r) rest fits = rw (plain_field.again r rest fits) refl
 fields_again CheckpointBegin rest fits = refl
 fields_again (CheckpointEnd begin transactions dirty) rest fits =
     let first = table entry transactions in

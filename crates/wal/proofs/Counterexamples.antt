@@ -1,15 +1,17 @@
 -- What each law of records is for: a log that keeps the others alone, and fails.
-use Rattle.std.proofs.Common.{ℕ, ◌≡◌, ◌≢◌, ◌&&◌, ◌||◌, true, false, [], ◌∷◌, Option, Some, None, inl, inr, refl, sym, ◌∙◌, ap, eqb, length, arith, get_or}
+use Rattle.std.proofs.Common.{ℕ, ◌≡◌, ◌≢◌, ◌&&◌, ◌||◌, true, false, List, [], ◌∷◌, Option, Some, None, inl, inr, refl, sym, ◌∙◌, ap, eqb, ne_eqb, length, arith, get_or}
 use Rattle.std.proofs.lemmas.Bool.{false≢true, or_from, and_right}
 use Rattle.wal.specs.Records.{LogRecord, CheckpointBegin, CheckpointEnd, History, start, ◌▸◌, LogContent, history}
-use Rattle.wal.specs.Meaning.{replay, winners, pending, undo_next_of}
+use Rattle.wal.specs.Meaning.{touches, replay, winners, pending, undo_next_of}
 use Rattle.wal.specs.Laws.{ChainLaw, FinishLaw, CompensationLaw, BeforeLaw, Strictness, Obeys}
 use Rattle.wal.specs.Tail.{with_tail}
 use Rattle.wal.specs.Hops.{hops}
 use Rattle.wal.specs.Redo.{redo_of}
-use Rattle.wal.specs.Store.{DirtyLaw, PageLaw, store_out}
+use Rattle.wal.specs.Undo.{lost_in, doubtful_in, undone_by}
+use Rattle.wal.specs.Store.{DirtyLaw, PageLaw, true_table, store_out}
 use Rattle.wal.specs.Theorems.{replayed_page}
-use Rattle.wal.proofs.Rows.{L, a, b, U, C, K, E, holding, store_of, active}
+use Rattle.wal.proofs.Rows.{L, a, b, c, U, C, K, A, E, holding, store_of, active}
+use Rattle.wal.proofs.PreparedRows.{P, prepared}
 
 -- the laws of records
 data Law : Type 0 where
@@ -46,7 +48,7 @@ keeps law log r o TheStrictness n = o.strict
 
 -- the first record of a log, an update
 first_update : Obeys start (U 1 0 0 None a)
-first_update = record { chain = refl; finish = (refl, refl); compensation = tt; before = refl; strict = λ other n w. absurd (false≢true w) }
+first_update = record { chain = refl; finish = (refl, refl, refl); compensation = tt; before = refl; strict = λ other n w. absurd (false≢true w) }
 
 -- none of another transaction is in a cell that only this one could have touched
 nobody : (other : ℕ) → ((eqb 1 other && false) || false) ≡ true → ⊥
@@ -58,7 +60,7 @@ without_strictness = record { others = (((tt, keeps TheStrictness start (U 1 0 0
   where
     second : (other : Law) → other ≢ TheStrictness → says other (start ▸ U 1 0 0 None a) (U 2 0 0 a b)
     second TheChain n = refl
-    second TheFinish n = (refl, refl)
+    second TheFinish n = (refl, refl, refl)
     second TheCompensation n = tt
     second TheBefore n = refl
     second TheStrictness n = absurd (n refl)
@@ -86,7 +88,7 @@ without_compensation_of_ends = record { others = ((tt, keeps TheCompensation sta
   where
     second : (other : Law) → other ≢ TheCompensation → says other (start ▸ U 1 0 0 None a) (E 1 1)
     second TheChain n = refl
-    second TheFinish n = refl
+    second TheFinish n = (refl, refl)
     second TheCompensation n = absurd (n refl)
     second TheBefore n = tt
     second TheStrictness n = tt
@@ -97,7 +99,7 @@ without_compensation = record { others = ((tt, keeps TheCompensation start (U 1 
   where
     second : (other : Law) → other ≢ TheCompensation → says other (start ▸ U 1 0 0 None a) (C 1 1 0 0 b)
     second TheChain n = refl
-    second TheFinish n = refl
+    second TheFinish n = (refl, refl)
     second TheCompensation n = absurd (n refl)
     second TheBefore n = tt
     second TheStrictness n = tt
@@ -108,7 +110,7 @@ without_before = record { others = (tt, only); differs = λ e. (let f : b ≡ No
   where
     only : (other : Law) → other ≢ TheBefore → says other start (U 1 0 0 b a)
     only TheChain n = refl
-    only TheFinish n = (refl, refl)
+    only TheFinish n = (refl, refl, refl)
     only TheCompensation n = tt
     only TheBefore n = absurd (n refl)
     only TheStrictness n = λ other d w. absurd (false≢true w)
@@ -140,13 +142,119 @@ unchained_others = ((tt, keeps TheChain start (U 1 0 0 None a) first_update), se
   where
     second : (other : Law) → other ≢ TheChain → says other (start ▸ U 1 0 0 None a) (U 1 0 1 None b)
     second TheChain n = absurd (n refl)
-    second TheFinish n = (refl, refl)
+    second TheFinish n = (refl, refl, refl)
     second TheCompensation n = tt
     second TheBefore n = refl
     second TheStrictness n = λ other d w. absurd (nobody other w)
 
 without_chain : hops 1 (history unchained) (undo_next_of 1 (history unchained)) ≢ record { met = pending 1 (history unchained); ends = 0 }
 without_chain e = (let f : ◌≡◌ {A = ℕ} 1 2 = ap (λ w. length w.met) e in omega (arith, f))
+
+-- PREPARE. Of its transaction nothing stands behind a prepare but a commit or an abort
+no_update_behind : FinishLaw (history prepared) (U 1 2 0 a b) → ⊥
+no_update_behind law = false≢true (sym law.2)
+
+no_clr_behind : FinishLaw (history prepared) (C 1 2 0 0 None) → ⊥
+no_clr_behind law = false≢true (sym law.1)
+
+no_end_behind : FinishLaw (history prepared) (E 1 2) → ⊥
+no_end_behind law = false≢true (sym law.1)
+
+no_second_prepare : FinishLaw (history prepared) (P 1 2) → ⊥
+no_second_prepare law = false≢true (sym law.2)
+
+-- and it stands itself behind no abort, commit or end
+no_prepare_behind_abort : FinishLaw (history (L (U 1 0 0 None a ∷ A 1 1 ∷ []))) (P 1 2) → ⊥
+no_prepare_behind_abort law = false≢true (sym law.1)
+
+no_prepare_behind_commit : FinishLaw (history (L (U 1 0 0 None a ∷ K 1 1 ∷ []))) (P 1 2) → ⊥
+no_prepare_behind_commit law = false≢true (sym law.0)
+
+no_prepare_behind_end : FinishLaw (history (L (A 1 0 ∷ E 1 1 ∷ []))) (P 1 2) → ⊥
+no_prepare_behind_end law = false≢true (sym law.0)
+
+-- from an update behind one a hop would come to the prepare, and be bad, once the transaction is aborted
+abbrev worked_on : LogContent
+worked_on = L (U 1 0 0 None a ∷ P 1 1 ∷ U 1 2 0 a b ∷ A 1 3 ∷ [])
+
+worked_on_others : KeepsBut TheFinish (history worked_on)
+worked_on_others = ((((tt, keeps TheFinish start (U 1 0 0 None a) first_update), second), third), fourth)
+  where
+    nobody_else : (other : ℕ) → other ≢ 1 → touches other 0 0 (history prepared) ≡ true → ⊥
+    nobody_else other d w =
+        let e : eqb 1 other ≡ false = ne_eqb 1 other (λ i. d (sym i)) in
+        let f : false ≡ true = rw e at w in
+        false≢true f
+
+    second : (other : Law) → other ≢ TheFinish → says other (start ▸ U 1 0 0 None a) (P 1 1)
+    second TheChain n = refl
+    second TheFinish n = absurd (n refl)
+    second TheCompensation n = tt
+    second TheBefore n = tt
+    second TheStrictness n = tt
+
+    third : (other : Law) → other ≢ TheFinish → says other (history prepared) (U 1 2 0 a b)
+    third TheChain n = refl
+    third TheFinish n = absurd (n refl)
+    third TheCompensation n = tt
+    third TheBefore n = refl
+    third TheStrictness n = λ other d w. absurd (nobody_else other d w)
+
+    fourth : (other : Law) → other ≢ TheFinish → says other (history prepared ▸ U 1 2 0 a b) (A 1 3)
+    fourth TheChain n = refl
+    fourth TheFinish n = absurd (n refl)
+    fourth TheCompensation n = tt
+    fourth TheBefore n = tt
+    fourth TheStrictness n = tt
+
+worked_on_hops : hops 1 (history worked_on) (undo_next_of 1 (history worked_on)) ≢ record { met = pending 1 (history worked_on); ends = 0 }
+worked_on_hops e = (let f : ◌≡◌ {A = ℕ} 2 0 = ap (λ w. w.ends) e in omega (arith, f))
+
+-- STRICTNESS holds of one in doubt too: a prepare doesn't free its cells.
+no_write_over_prepared : Strictness (history prepared) (U 2 0 0 a c) → ⊥
+no_write_over_prepared law = false≢true (law 1 (λ e. omega (arith, e)) refl)
+
+-- Aborted later, it would take away what another committed there.
+without_strictness_of_prepared : Fails TheStrictness (L (U 1 0 0 None a ∷ P 1 1 ∷ U 2 0 0 a c ∷ K 2 3 ∷ A 1 2 ∷ []))
+without_strictness_of_prepared = record {
+  others = (((((tt, keeps TheStrictness start (U 1 0 0 None a) first_update), second), third), fourth), fifth);
+  differs = λ e. (let f : None ≡ c = e in cc);
+}
+  where
+    second : (other : Law) → other ≢ TheStrictness → says other (start ▸ U 1 0 0 None a) (P 1 1)
+    second TheChain n = refl
+    second TheFinish n = (refl, refl, refl)
+    second TheCompensation n = tt
+    second TheBefore n = tt
+    second TheStrictness n = tt
+
+    third : (other : Law) → other ≢ TheStrictness → says other (history prepared) (U 2 0 0 a c)
+    third TheChain n = refl
+    third TheFinish n = (refl, refl, refl)
+    third TheCompensation n = tt
+    third TheBefore n = refl
+    third TheStrictness n = absurd (n refl)
+
+    fourth : (other : Law) → other ≢ TheStrictness → says other (history prepared ▸ U 2 0 0 a c) (K 2 3)
+    fourth TheChain n = refl
+    fourth TheFinish n = (refl, refl)
+    fourth TheCompensation n = tt
+    fourth TheBefore n = tt
+    fourth TheStrictness n = tt
+
+    fifth : (other : Law) → other ≢ TheStrictness → says other ((history prepared ▸ U 2 0 0 a c) ▸ K 2 3) (A 1 2)
+    fifth TheChain n = refl
+    fifth TheFinish n = (refl, refl)
+    fifth TheCompensation n = tt
+    fifth TheBefore n = tt
+    fifth TheStrictness n = tt
+
+-- CHECKPOINT. A table that has one in doubt as active isn't true: undo would roll it back.
+prepared_as_active : active 1 2 1 ∷ [] ≢ true_table (history prepared)
+prepared_as_active e = (let f : ◌≡◌ {A = List ℕ} [] (1 ∷ []) = ap doubtful_in e in cc)
+
+prepared_as_active_undone : undone_by (history prepared) (lost_in (active 1 2 1 ∷ [])) ≡ C 1 2 0 0 None ∷ E 1 3 ∷ []
+prepared_as_active_undone = refl
 
 -- REDO. A page that the dirty page table leaves out, though its image lacks a record, stays as it was.
 redo_left_out : redo_of None 1 (history (L (U 1 0 0 None a ∷ []))) (holding 0 None) ≢ replayed_page (history (L (U 1 0 0 None a ∷ []))) 0

@@ -11,7 +11,7 @@ use Rattle.wal.specs.declared.record.Entry.{Entry}
 use Rattle.wal.specs.Content.{entry_of}
 use Rattle.wal.specs.Records.{TableEntry, tx_in, History}
 use Rattle.wal.specs.Tail.{is_among, numbers_from, above_all}
-use Rattle.wal.specs.Meaning.{is_loser}
+use Rattle.wal.specs.Meaning.{is_unfinished}
 use Rattle.wal.specs.Undo.{entry_for}
 use Rattle.wal.specs.Store.{true_entry, true_table}
 
@@ -139,4 +139,4 @@ rise_filtered log p n (suc k) =
     rise_more a b (e ∷ es) h r = (omega (arith, r.0), r.1)
 
 pub true_table_rises : (log : History) → Rise 0 (true_table log)
-true_table_rises log = rise_filtered log (λ t. is_loser t log) 0 (above_all log)
+true_table_rises log = rise_filtered log (λ t. is_unfinished t log) 0 (above_all log)

@@ -1,12 +1,13 @@
 -- A record that is read is seen at a glance.
-use Rattle.std.proofs.Common.{◌≡◌, ℕ, Bool, true, false, cond, eqb, List, [], ◌∷◌, length, Option, Some, None, refl, sym, ap, ◌∙◌}
+use Rattle.std.proofs.Common.{◌≡◌, ℕ, Bool, true, false, cond, eqb, eqb-true, List, [], ◌∷◌, length, Option, Some, None, refl, sym, ap, ◌∙◌}
 use Rattle.std.specs.Prelude.{option_map, is_some}
 use Rattle.std.specs.Int.{w32, w64}
 use Rattle.std.proofs.lemmas.Option.{same_Some}
+use Rattle.wal.specs.declared.glance.Glance.{Glance}
 use Rattle.wal.specs.declared.glance.Glance.TheVariants as seen
-use Rattle.wal.specs.Records.{LogRecord, CheckpointBegin}
-use Rattle.wal.specs.Reading.{◌>>=◌, number_at, slot_at, image_at, plain_at, transactions_at, dirties_at, update_at, compensation_at, commit_at, abort_at, end_at, checkpoint_at, fields_at, body_at}
-use Rattle.wal.specs.Glances.{glance_of, update_glance, compensation_glance, commit_glance, abort_glance, end_glance, fields_glance, body_glance}
+use Rattle.wal.specs.Records.{PlainRecord, LogRecord, Commit, Abort, End, Prepare, CheckpointBegin}
+use Rattle.wal.specs.Reading.{◌>>=◌, number_at, slot_at, image_at, plain_at, transactions_at, dirties_at, update_at, compensation_at, commit_at, abort_at, end_at, prepare_at, checkpoint_at, fields_at, body_at}
+use Rattle.wal.specs.Glances.{glance_of, update_glance, compensation_glance, commit_glance, abort_glance, end_glance, prepare_glance, fields_glance, body_glance}
 use Rattle.wal.proofs.Fields.{bind_some, guard_ended}
 
 -- what comes after a step that gave something
@@ -35,26 +36,13 @@ compensation_seen bytes x e =
     let is = same_Some _ x f.2 in
     rw (a.1, b.1, c.1, d.1) (ap (λ (y : LogRecord × List ℕ). Some (glance_of y.0)) is)
 
-commit_seen : (bytes : List ℕ) (x : LogRecord × List ℕ) → commit_at bytes ≡ Some x → commit_glance bytes ≡ Some (glance_of x.0)
-unfolding commit_at commit_glance
-commit_seen bytes x e =
+-- a record of just a transaction and its previous record
+plain_seen : (make : PlainRecord → LogRecord) (see : ℕ → Glance) (bytes : List ℕ) (x : LogRecord × List ℕ) → ((own : PlainRecord) → see own.tx ≡ glance_of (make own))
+    → (plain_at bytes >>= λ own. Some (make own.0, own.1)) ≡ Some x → (plain_at bytes >>= λ own. Some (see own.0.tx)) ≡ Some (glance_of x.0)
+plain_seen make see bytes x seen e =
     let a = bind_some (plain_at bytes) _ x e in
     let is = same_Some _ x a.2 in
-    rw a.1 (ap (λ (y : LogRecord × List ℕ). Some (glance_of y.0)) is)
-
-abort_seen : (bytes : List ℕ) (x : LogRecord × List ℕ) → abort_at bytes ≡ Some x → abort_glance bytes ≡ Some (glance_of x.0)
-unfolding abort_at abort_glance
-abort_seen bytes x e =
-    let a = bind_some (plain_at bytes) _ x e in
-    let is = same_Some _ x a.2 in
-    rw a.1 (ap (λ (y : LogRecord × List ℕ). Some (glance_of y.0)) is)
-
-end_seen : (bytes : List ℕ) (x : LogRecord × List ℕ) → end_at bytes ≡ Some x → end_glance bytes ≡ Some (glance_of x.0)
-unfolding end_at end_glance
-end_seen bytes x e =
-    let a = bind_some (plain_at bytes) _ x e in
-    let is = same_Some _ x a.2 in
-    rw a.1 (ap (λ (y : LogRecord × List ℕ). Some (glance_of y.0)) is)
+    rw a.1 (ap Some (seen a.0.0) ∙ ap (λ (y : LogRecord × List ℕ). Some (glance_of y.0)) is)
 
 checkpoint_seen : (bytes : List ℕ) (x : LogRecord × List ℕ) → checkpoint_at bytes ≡ Some x → Some seen.Checkpoint ≡ Some (glance_of x.0)
 unfolding checkpoint_at
@@ -71,20 +59,27 @@ either true p q s t x y f g e = f e
 either false p q s t x y f g e = g e
 
 fields_seen : (kind : ℕ) (bytes : List ℕ) (x : LogRecord × List ℕ) → fields_at kind bytes ≡ Some x → fields_glance kind bytes ≡ Some (glance_of x.0)
-unfolding fields_at fields_glance
+unfolding fields_at fields_glance commit_at abort_at end_at prepare_at commit_glance abort_glance end_glance prepare_glance
 fields_seen kind bytes x e =
     either (eqb kind 1) _ _ _ _ x (glance_of x.0) (update_seen bytes x)
     (either (eqb kind 2) _ _ _ _ x (glance_of x.0) (compensation_seen bytes x)
-    (either (eqb kind 3) _ _ _ _ x (glance_of x.0) (commit_seen bytes x)
-    (either (eqb kind 4) _ _ _ _ x (glance_of x.0) (abort_seen bytes x)
-    (either (eqb kind 5) _ _ _ _ x (glance_of x.0) (end_seen bytes x)
-    (λ last. others (eqb kind 6) (eqb kind 7) last)))))
+    (either (eqb kind 3) _ _ _ _ x (glance_of x.0) (plain_seen Commit seen.Commit bytes x (λ own. refl))
+    (either (eqb kind 4) _ _ _ _ x (glance_of x.0) (plain_seen Abort seen.Abort bytes x (λ own. refl))
+    (either (eqb kind 5) _ _ _ _ x (glance_of x.0) (plain_seen End seen.End bytes x (λ own. refl))
+    (λ last. others (eqb kind 6) (eqb kind 7) (eqb kind 8) only last)))))
     e
   where
-    others : (b c : Bool) → cond b (Some (CheckpointBegin, bytes)) (cond c (checkpoint_at bytes) None) ≡ Some x → Some seen.Checkpoint ≡ Some (glance_of x.0)
-    others true c e = ap (λ (y : LogRecord × List ℕ). Some (glance_of y.0)) (same_Some _ x e)
-    others false true e = checkpoint_seen bytes x e
-    others false false e = absurd cc
+    only : eqb kind 8 ≡ true → (eqb kind 6 ≡ false) × (eqb kind 7 ≡ false)
+    only is = rw (eqb-true kind 8 is) (refl, refl)
+
+    others : (b c d : Bool) → (d ≡ true → (b ≡ false) × (c ≡ false)) → cond b (Some (CheckpointBegin, bytes)) (cond c (checkpoint_at bytes) (cond d (prepare_at bytes) None)) ≡ Some x
+        → cond d (prepare_glance bytes) (Some seen.Checkpoint) ≡ Some (glance_of x.0)
+    others true c false alone e = ap (λ (y : LogRecord × List ℕ). Some (glance_of y.0)) (same_Some _ x e)
+    others true c true alone e = absurd (let not = (alone refl).0 in cc)
+    others false true false alone e = checkpoint_seen bytes x e
+    others false true true alone e = absurd (let not = (alone refl).1 in cc)
+    others false false true alone e = plain_seen Prepare seen.Prepare bytes x (λ own. refl) e
+    others false false false alone e = absurd cc
 
 pub body_seen : (bytes : List ℕ) (x : LogRecord × ℕ) → body_at bytes ≡ Some x → body_glance bytes ≡ Some (glance_of x.0)
 unfolding body_at body_glance

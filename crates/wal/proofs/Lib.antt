@@ -30,4 +30,5 @@ pub mod Checkpoints
 pub mod Settled
 pub mod CutBytes
 pub mod Rows
+pub mod PreparedRows
 pub mod Counterexamples

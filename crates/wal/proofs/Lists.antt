@@ -3,7 +3,7 @@ use mathlib.Core.Path.{fun_ext}
 use Rattle.std.proofs.Common.{ℕ, suc, ◌-◌, ◌≤◌, List, [], ◌∷◌, ◌++◌, length, take, drop, sym, ap, ap₂, ◌∙◌, subst, Some, ◌≡◌, inl, inr, arith, append_assoc, take-append-drop}
 use Rattle.std.proofs.Math.Seq.{take-append-add}
 use Rattle.wal.specs.Records.{LogRecord, History, start, ◌▸◌, ◌▸▸◌, LogContent, history, ◌⧺◌, up_to, last_lsn, record_at, first}
-use Rattle.wal.specs.Meaning.{replay, winners}
+use Rattle.wal.specs.Meaning.{in_doubt, replay, winners}
 use Rattle.wal.specs.Laws.{Obeys, IsLawful}
 use Rattle.wal.specs.Tail.{tail, tail_of, with_tail}
 use Rattle.wal.specs.Theorems.{LawfulByRecord, HopsMeetPending, ReplayIsWinners, TailSettles, CutsResume}
@@ -11,7 +11,7 @@ use Rattle.std.proofs.lemmas.Bool.{cases_eq}
 use Rattle.std.proofs.lemmas.Option.{same_Some}
 use Rattle.wal.proofs.Histories.{after-append, size_of_log, record_last, record_older, record_more, record_within, first_older, first_all}
 use Rattle.wal.proofs.Walks.{walk_meets_pending}
-use Rattle.wal.proofs.Cuts.{cut_of, whole_lawful, whole_tail, whole_winners, no_loser, replay_of_whole}
+use Rattle.wal.proofs.Cuts.{cut_of, whole_lawful, whole_tail, whole_doubt, whole_winners, no_loser, replay_of_whole}
 
 -- the log and its tail, in the order of time
 pub with_tail_is : (log : LogContent) → history (with_tail log) ≡ history log ▸▸ tail (history log)
@@ -31,6 +31,7 @@ tail_settles log h =
     record {
       lawful = subst IsLawful (sym e) (whole_lawful (history log) h);
       no_loser = no_loser (history (with_tail log)) t;
+      same_doubt = λ x. ap (in_doubt x) e ∙ whole_doubt (history log) h x;
       no_tail = t;
       same = ap winners e ∙ fun_ext (λ page. fun_ext (λ slot. whole_winners (history log) h page slot));
     }

@@ -1,14 +1,16 @@
--- In a lawful log, what undoing the holder's pending updates leaves in a cell is what the winners leave there.
-use Rattle.std.proofs.Common.{ℕ, suc, ◌≡◌, ◌≢◌, Bool, true, false, cond, ◌||◌, ◌&&◌, List, [], ◌∷◌, drop, Option, Some, None, refl, sym, ap, ap₂, ◌∙◌, subst, inl, inr, arith, eq-eqb, ne_eqb, eqb-true, eqb}
-use Rattle.std.proofs.lemmas.Bool.{cases_Bool, cases_eq, false≢true, eqb-false, or_cases, or_left, or_right, or_parts, both_ways, and_parts, and_from, and_left, and_right, false_from_ne_true, cond-true, cond-false}
+-- In a lawful log, what undoing the holder's pending updates leaves in a cell is what the committed transactions leave there.
+use mathlib.Core.Path.{fun_ext}
+use Rattle.std.proofs.Common.{ℕ, suc, ◌≡◌, ◌≢◌, Bool, true, false, cond, ◌||◌, ◌&&◌, not, List, [], ◌∷◌, drop, Option, Some, None, refl, sym, ap, ap₂, ◌∙◌, subst, inl, inr, arith, eq-eqb, ne_eqb, eqb-true, eqb}
+use Rattle.std.proofs.lemmas.Bool.{not_from_false, true_from_ne_false, cases_Bool, cases_eq, eqb-false, or_cases, or_left, or_right, or_parts, both_ways, and_parts, and_from, and_left, and_right, false_from_ne_true, cond-true, cond-false}
+use Rattle.std.proofs.Math.Bool.{or-false}
 use Rattle.page.specs.Image.{Image}
 use Rattle.wal.specs.Records.{UpdateRecord, CompensationRecord, PlainRecord, LogRecord, Update, Compensation, Commit, End, History, start, ◌▸◌, last_lsn, record_at}
-use Rattle.wal.specs.Meaning.{Cells, empty, pending, finished, committed, ended, is_of, is_commit_of, touches, writes, image_of, has, replay, effects, winners, is_of_committed}
+use Rattle.wal.specs.Meaning.{Cells, empty, pending, finished, committed, ended, is_of, is_commit_of, touches, writes, image_of, has, replay, effects, owner, is_owned_by, is_owned_among, effects_of, is_winner, winners, in_doubt, is_unfinished, is_loser, prepared, aborted}
 use Rattle.wal.specs.Laws.{Obeys, IsLawful, Compensates}
 use Rattle.wal.specs.Tail.{is_among}
 use Rattle.wal.proofs.Histories.{record_last, record_older, record_more}
 use Rattle.wal.proofs.Stacks.{pending_found, pending_falls, IsUpdateOf, Falls, Falls-more}
-use Rattle.wal.proofs.Holders.{holder, release, release_keeps, release_other, held, holds, found_has, compensated_touches}
+use Rattle.wal.proofs.Holders.{unfinished_open, holder, release, release_keeps, release_other, held, holds, found_has, compensated_touches}
 
 -- EFFECTS OF CHOSEN RECORDS
 -- one choice is as good as another that agrees on the records in the cell
@@ -21,28 +23,47 @@ effects_same f g state (log ▸ r) page slot h =
       | inr w ↦ rw (w, older)
     ]
 
--- where the holder's records are chosen, the newest of all is
-effects_of_holder : (f : LogRecord → Bool) (log : History) (page slot t : ℕ) → holder page slot log ≡ Some t → ((x : LogRecord) → is_of t x ≡ true → writes page slot x ≡ true → f x ≡ true) → effects (λ _ x. f x) empty log page slot ≡ replay log page slot
-effects_of_holder f start page slot t e h = absurd (cc)
-effects_of_holder f (log ▸ Update u) page slot t e h =
+-- which transactions count in a cell hangs on those that have touched it
+effects_touched : (f g : ℕ → Bool) (log : History) (page slot : ℕ) → ((t : ℕ) → touches t page slot log ≡ true → f t ≡ g t) → effects_of f empty log page slot ≡ effects_of g empty log page slot
+effects_touched f g log page slot h =
+    effects_same (λ _ x. is_owned_among f (owner x)) (λ _ x. is_owned_among g (owner x)) empty log page slot (λ n x e w. by_owner n x e w (owner x) refl)
+  where
+    by_owner : (n : ℕ) (x : LogRecord) → record_at log n ≡ Some x → writes page slot x ≡ true → (o : Option ℕ) → owner x ≡ o → is_owned_among f o ≡ is_owned_among g o
+    by_owner n x e w None i = refl
+    by_owner n x e w (Some t) i =
+        h t (found_has (λ r. is_of t r && writes page slot r) log n x e (and_from (is_of t x) (writes page slot x) (ap (is_owned_by t) i ∙ eq-eqb t t refl) w))
+
+-- where the holder counts, the newest of all records does
+effects_of_holder : (chosen : ℕ → Bool) (log : History) (page slot t : ℕ) → holder page slot log ≡ Some t → chosen t ≡ true → effects_of chosen empty log page slot ≡ replay log page slot
+effects_of_holder chosen start page slot t e h = absurd (cc)
+effects_of_holder chosen (log ▸ Update u) page slot t e h =
     elim (cases_Bool (eqb u.page page && eqb u.slot slot)) [
       | inl on ↦
           (let e' : Some u.tx ≡ Some t = rw on at e in
           let i : u.tx ≡ t = cc in
-          rw (on, h (Update u) (eq-eqb u.tx t i) on))
-      | inr on ↦ rw on (effects_of_holder f log page slot t (rw on at e) h)
+          let own : chosen u.tx ≡ true = ap chosen i ∙ h in
+          rw (on, own))
+      | inr on ↦ rw on (effects_of_holder chosen log page slot t (rw on at e) h)
     ]
-effects_of_holder f (log ▸ Compensation c) page slot t e h =
+effects_of_holder chosen (log ▸ Compensation c) page slot t e h =
     elim (cases_Bool (eqb c.page page && eqb c.slot slot)) [
       | inl on ↦
           (let e' : Some c.tx ≡ Some t = rw on at e in
           let i : c.tx ≡ t = cc in
-          rw (on, h (Compensation c) (eq-eqb c.tx t i) on))
-      | inr on ↦ rw on (effects_of_holder f log page slot t (rw on at e) h)
+          let own : chosen c.tx ≡ true = ap chosen i ∙ h in
+          rw (on, own))
+      | inr on ↦ rw on (effects_of_holder chosen log page slot t (rw on at e) h)
     ]
-effects_of_holder f (log ▸ Commit s) page slot t e h = effects_of_holder f log page slot t (release_keeps s.tx t (holder page slot log) e).1 h
-effects_of_holder f (log ▸ End s) page slot t e h = effects_of_holder f log page slot t (release_keeps s.tx t (holder page slot log) e).1 h
-effects_of_holder f (log ▸ r) page slot t e h = effects_of_holder f log page slot t e h
+effects_of_holder chosen (log ▸ Commit s) page slot t e h = effects_of_holder chosen log page slot t (release_keeps s.tx t (holder page slot log) e).1 h
+effects_of_holder chosen (log ▸ End s) page slot t e h = effects_of_holder chosen log page slot t (release_keeps s.tx t (holder page slot log) e).1 h
+effects_of_holder chosen (log ▸ r) page slot t e h = effects_of_holder chosen log page slot t e h
+
+-- a record that counts for nobody, where the same transactions count with it
+pub effects_more : (f g : ℕ → Bool) (log : History) (r : LogRecord) (page slot : ℕ) → ((t : ℕ) → f t ≡ g t) → (writes page slot r && is_owned_among g (owner r)) ≡ false
+    → effects_of f empty (log ▸ r) page slot ≡ effects_of g empty log page slot
+effects_more f g log r page slot same e =
+    ap (λ h. effects_of h empty (log ▸ r) page slot) (fun_ext same)
+    ∙ cond-false (writes page slot r && is_owned_among g (owner r)) (image_of r) (effects_of g empty log page slot) e
 
 -- UNDOING
 abbrev pub undo_at : Option LogRecord → ℕ → ℕ → Image → Image
@@ -82,22 +103,18 @@ restored_by (Some t) page slot log = undone log page slot (pending t log) (repla
 abbrev pub restored : ℕ → ℕ → History → Image
 restored page slot log = restored_by (holder page slot log) page slot log
 
--- THE WINNERS, ONE RECORD ON
-same_committed : (log : History) (r : LogRecord) → ((t : ℕ) → is_commit_of t r ≡ false) → (x : LogRecord) → is_of_committed (log ▸ r) x ≡ is_of_committed log x
-same_committed log r h (Update u) = ap (λ b. b || committed u.tx log) (h u.tx)
-same_committed log r h (Compensation c) = ap (λ b. b || committed c.tx log) (h c.tx)
-same_committed log r h _ = refl
+-- THE COMMITTED
+-- what the committed transactions alone leave in the cells
+abbrev pub kept : History → Cells
+kept log = effects_of (λ t. committed t log) empty log
 
 -- a record that is no commit and counts for nobody
-pub winners_more : (log : History) (r : LogRecord) (page slot : ℕ) → ((t : ℕ) → is_commit_of t r ≡ false) → (writes page slot r && is_of_committed log r) ≡ false → winners (log ▸ r) page slot ≡ winners log page slot
-winners_more log r page slot h e =
-    let e' : (writes page slot r && is_of_committed (log ▸ r) r) ≡ false = ap (λ b. writes page slot r && b) (same_committed log r h r) ∙ e in
-    cond-false (writes page slot r && is_of_committed (log ▸ r) r) (image_of r) (effects (λ _ x. is_of_committed (log ▸ r) x) empty log page slot) e'
-    ∙ effects_same (λ _ x. is_of_committed (log ▸ r) x) (λ _ x. is_of_committed log x) empty log page slot (λ n x _ _. same_committed log r h x)
+kept_more : (log : History) (r : LogRecord) (page slot : ℕ) → ((t : ℕ) → is_commit_of t r ≡ false) → (writes page slot r && is_owned_among (λ t. committed t log) (owner r)) ≡ false → kept (log ▸ r) page slot ≡ kept log page slot
+kept_more log r page slot h e = effects_more (λ t. committed t (log ▸ r)) (λ t. committed t log) log r page slot (λ t. ap (λ b. b || committed t log) (h t)) e
 
 -- what a transaction that may update the cell would restore in it
-module _ (log : History) (h : IsLawful log) (page slot : ℕ) (ih : restored page slot log ≡ winners log page slot) where
-  own_by : (t : ℕ) → finished t log ≡ false → ((other : ℕ) → other ≢ t → touches other page slot log ≡ true → finished other log ≡ true) → (o : Option ℕ) → holder page slot log ≡ o → undone log page slot (pending t log) (replay log page slot) ≡ winners log page slot
+module _ (log : History) (h : IsLawful log) (page slot : ℕ) (ih : restored page slot log ≡ kept log page slot) where
+  own_by : (t : ℕ) → finished t log ≡ false → ((other : ℕ) → other ≢ t → touches other page slot log ≡ true → finished other log ≡ true) → (o : Option ℕ) → holder page slot log ≡ o → undone log page slot (pending t log) (replay log page slot) ≡ kept log page slot
   own_by t f strict None e =
       undone_untouched log page slot t
       (false_from_ne_true (touches t page slot log) (λ w. (let e' : holder page slot log ≡ Some t = holds log h page slot t w f in cc)))
@@ -109,7 +126,7 @@ module _ (log : History) (h : IsLawful log) (page slot : ℕ) (ih : restored pag
         | inr n ↦ (let k = held log h page slot g e in absurd (both_ways (finished g log) k.0 (strict g n k.1)))
       ]
 
-  restored_update_on : (u : UpdateRecord) → Obeys log (Update u) → (eqb u.page page && eqb u.slot slot) ≡ true → restored page slot (log ▸ Update u) ≡ winners (log ▸ Update u) page slot
+  restored_update_on : (u : UpdateRecord) → Obeys log (Update u) → (eqb u.page page && eqb u.slot slot) ≡ true → restored page slot (log ▸ Update u) ≡ kept (log ▸ Update u) page slot
   restored_update_on u o on =
       let k = suc (last_lsn log) in
       let (p, s) = and_parts (eqb u.page page) (eqb u.slot slot) on in
@@ -124,14 +141,14 @@ module _ (log : History) (h : IsLawful log) (page slot : ℕ) (ih : restored pag
       ∙ undone_more log (Update u) page slot (pending u.tx log) u.before (pending_falls u.tx log)
       ∙ ap (undone log page slot (pending u.tx log)) (o.before ∙ at_cell (replay log))
       ∙ own_by u.tx o.finish.0 (λ other n w. o.strict other n (ap₂ (λ x y. touches other x y log) (eqb-true u.page page p) (eqb-true u.slot slot s) ∙ w)) (holder page slot log) refl
-      ∙ sym (winners_more log (Update u) page slot (λ _. refl) (and_right (eqb u.page page && eqb u.slot slot) (committed u.tx log) (or_parts (committed u.tx log) (ended u.tx log) o.finish.0).0))
+      ∙ sym (kept_more log (Update u) page slot (λ _. refl) (and_right (eqb u.page page && eqb u.slot slot) (committed u.tx log) (or_parts (committed u.tx log) (ended u.tx log) o.finish.0).0))
 
   -- a record that changes neither the holder nor the value
   restored_same : (r : LogRecord) → holder page slot (log ▸ r) ≡ holder page slot log → replay (log ▸ r) page slot ≡ replay log page slot
       → ((t : ℕ) → holder page slot log ≡ Some t → (v : Image) → undone (log ▸ r) page slot (pending t (log ▸ r)) v ≡ undone log page slot (pending t log) v)
-      → winners (log ▸ r) page slot ≡ winners log page slot → restored page slot (log ▸ r) ≡ winners (log ▸ r) page slot
-  restored_same r holder_is value_is undone_is winners_is =
-      ap (λ x. restored_by x page slot (log ▸ r)) holder_is ∙ by_holder (holder page slot log) refl ∙ ih ∙ sym winners_is
+      → kept (log ▸ r) page slot ≡ kept log page slot → restored page slot (log ▸ r) ≡ kept (log ▸ r) page slot
+  restored_same r holder_is value_is undone_is kept_is =
+      ap (λ x. restored_by x page slot (log ▸ r)) holder_is ∙ by_holder (holder page slot log) refl ∙ ih ∙ sym kept_is
     where
       by_holder : (o : Option ℕ) → holder page slot log ≡ o → restored_by o page slot (log ▸ r) ≡ restored_by o page slot log
       by_holder None e = value_is
@@ -140,7 +157,7 @@ module _ (log : History) (h : IsLawful log) (page slot : ℕ) (ih : restored pag
   undone_plain : (r : LogRecord) (t : ℕ) → pending t (log ▸ r) ≡ pending t log → (v : Image) → undone (log ▸ r) page slot (pending t (log ▸ r)) v ≡ undone log page slot (pending t log) v
   undone_plain r t e v = ap (λ ns. undone (log ▸ r) page slot ns v) e ∙ undone_more log r page slot (pending t log) v (pending_falls t log)
 
-  restored_update_off : (u : UpdateRecord) → Obeys log (Update u) → (eqb u.page page && eqb u.slot slot) ≡ false → restored page slot (log ▸ Update u) ≡ winners (log ▸ Update u) page slot
+  restored_update_off : (u : UpdateRecord) → Obeys log (Update u) → (eqb u.page page && eqb u.slot slot) ≡ false → restored page slot (log ▸ Update u) ≡ kept (log ▸ Update u) page slot
   restored_update_off u o off =
       restored_same (Update u) (rw off) (rw off)
       (λ t _ v. elim (cases_Bool (eqb u.tx t)) [
@@ -152,7 +169,7 @@ module _ (log : History) (h : IsLawful log) (page slot : ℕ) (ih : restored pag
             ∙ undone_more log (Update u) page slot (pending t log) v (pending_falls t log))
         | inr e ↦ undone_plain (Update u) t (rw e) v
       ])
-      (winners_more log (Update u) page slot (λ _. refl) (and_left (eqb u.page page && eqb u.slot slot) (committed u.tx log) off))
+      (kept_more log (Update u) page slot (λ _. refl) (and_left (eqb u.page page && eqb u.slot slot) (committed u.tx log) off))
 
   -- the update that a CLR undoes is in its cell
   same_cell : (c : CompensationRecord) (k : Compensates log c) → (eqb k.update.page page && eqb k.update.slot slot) ≡ (eqb c.page page && eqb c.slot slot)
@@ -173,12 +190,12 @@ module _ (log : History) (h : IsLawful log) (page slot : ℕ) (ih : restored pag
   undone_first c k v w e =
       ap (λ ns. undone log page slot ns v) k.newest ∙ ap (undone log page slot k.below) (ap (λ x. undo_at x page slot v) k.found ∙ e)
 
-  restored_compensation_on : (c : CompensationRecord) → Obeys log (Compensation c) → (eqb c.page page && eqb c.slot slot) ≡ true → restored page slot (log ▸ Compensation c) ≡ winners (log ▸ Compensation c) page slot
+  restored_compensation_on : (c : CompensationRecord) → Obeys log (Compensation c) → (eqb c.page page && eqb c.slot slot) ≡ true → restored page slot (log ▸ Compensation c) ≡ kept (log ▸ Compensation c) page slot
   restored_compensation_on c o on =
       let k = o.compensation in
       let (p, s) = and_parts (eqb c.page page) (eqb c.slot slot) on in
       let touched : touches c.tx page slot log ≡ true = sym (ap₂ (λ x y. touches c.tx x y log) (eqb-true c.page page p) (eqb-true c.slot slot s)) ∙ compensated_touches log c k in
-      let held_by : holder page slot log ≡ Some c.tx = holds log h page slot c.tx touched o.finish in
+      let held_by : holder page slot log ≡ Some c.tx = holds log h page slot c.tx touched o.finish.0 in
       let holder_is : holder page slot (log ▸ Compensation c) ≡ Some c.tx = rw on in
       let value_is : replay (log ▸ Compensation c) page slot ≡ c.image = rw on in
       let undo_is : undo_at (Some (Update k.update)) page slot (replay log page slot) ≡ c.image = cond-true (eqb k.update.page page && eqb k.update.slot slot) k.update.before (replay log page slot) (same_cell c k ∙ on) ∙ sym k.image in
@@ -188,9 +205,9 @@ module _ (log : History) (h : IsLawful log) (page slot : ℕ) (ih : restored pag
       ∙ sym (undone_first c k (replay log page slot) c.image undo_is)
       ∙ ap (λ x. restored_by x page slot log) (sym held_by)
       ∙ ih
-      ∙ sym (winners_more log (Compensation c) page slot (λ _. refl) (and_right (eqb c.page page && eqb c.slot slot) (committed c.tx log) (or_parts (committed c.tx log) (ended c.tx log) o.finish).0))
+      ∙ sym (kept_more log (Compensation c) page slot (λ _. refl) (and_right (eqb c.page page && eqb c.slot slot) (committed c.tx log) (or_parts (committed c.tx log) (ended c.tx log) o.finish.0).0))
 
-  restored_compensation_off : (c : CompensationRecord) → Obeys log (Compensation c) → (eqb c.page page && eqb c.slot slot) ≡ false → restored page slot (log ▸ Compensation c) ≡ winners (log ▸ Compensation c) page slot
+  restored_compensation_off : (c : CompensationRecord) → Obeys log (Compensation c) → (eqb c.page page && eqb c.slot slot) ≡ false → restored page slot (log ▸ Compensation c) ≡ kept (log ▸ Compensation c) page slot
   restored_compensation_off c o off =
       let k = o.compensation in
       restored_same (Compensation c) (rw off) (rw off)
@@ -202,33 +219,19 @@ module _ (log : History) (h : IsLawful log) (page slot : ℕ) (ih : restored pag
             ∙ sym (undone_first c k v v (cond-false (eqb k.update.page page && eqb k.update.slot slot) k.update.before v (same_cell c k ∙ off))))
         | inr e ↦ undone_plain (Compensation c) t (rw e) v
       ])
-      (winners_more log (Compensation c) page slot (λ _. refl) (and_left (eqb c.page page && eqb c.slot slot) (committed c.tx log) off))
+      (kept_more log (Compensation c) page slot (λ _. refl) (and_left (eqb c.page page && eqb c.slot slot) (committed c.tx log) off))
 
   -- a commit makes its transaction's records count: where it holds the cell the newest is its own, elsewhere there are none
-  restored_commit : (s : PlainRecord) → Obeys log (Commit s) → restored page slot (log ▸ Commit s) ≡ winners (log ▸ Commit s) page slot
+  restored_commit : (s : PlainRecord) → Obeys log (Commit s) → restored page slot (log ▸ Commit s) ≡ kept (log ▸ Commit s) page slot
   restored_commit s o = by_holder (holder page slot log) refl
     where
-      own_counts : (x : LogRecord) → is_of s.tx x ≡ true → writes page slot x ≡ true → is_of_committed (log ▸ Commit s) x ≡ true
-      own_counts (Update u) e w = or_left (eqb s.tx u.tx) (committed u.tx log) (eq-eqb s.tx u.tx (sym (eqb-true u.tx s.tx e)))
-      own_counts (Compensation c) e w = or_left (eqb s.tx c.tx) (committed c.tx log) (eq-eqb s.tx c.tx (sym (eqb-true c.tx s.tx e)))
-      own_counts r e w = absurd (false≢true w)
+      untouched : (holder page slot log ≡ Some s.tx → ⊥) → (t : ℕ) → touches t page slot log ≡ true → eqb s.tx t ≡ false
+      untouched n t w = ne_eqb s.tx t (λ i. n (holds log h page slot s.tx (ap (λ x. touches x page slot log) i ∙ w) o.finish.0))
 
-      untouched : (holder page slot log ≡ Some s.tx → ⊥) → touches s.tx page slot log ≡ false
-      untouched n = false_from_ne_true (touches s.tx page slot log) (λ w. n (holds log h page slot s.tx w o.finish.0))
+      unchanged : (holder page slot log ≡ Some s.tx → ⊥) → kept (log ▸ Commit s) page slot ≡ kept log page slot
+      unchanged n = effects_touched (λ t. committed t (log ▸ Commit s)) (λ t. committed t log) log page slot (λ t w. ap (λ b. b || committed t log) (untouched n t w))
 
-      others_count : touches s.tx page slot log ≡ false → (n : ℕ) (x : LogRecord) → record_at log n ≡ Some x → writes page slot x ≡ true → is_of_committed (log ▸ Commit s) x ≡ is_of_committed log x
-      others_count t n (Update u) e w =
-          ap (λ b. b || committed u.tx log) (ne_eqb s.tx u.tx (λ i. both_ways (touches s.tx page slot log) t
-          (found_has (λ r. is_of s.tx r && writes page slot r) log n (Update u) e (and_from (eqb u.tx s.tx) (writes page slot (Update u)) (eq-eqb u.tx s.tx (sym i)) w))))
-      others_count t n (Compensation c) e w =
-          ap (λ b. b || committed c.tx log) (ne_eqb s.tx c.tx (λ i. both_ways (touches s.tx page slot log) t
-          (found_has (λ r. is_of s.tx r && writes page slot r) log n (Compensation c) e (and_from (eqb c.tx s.tx) (writes page slot (Compensation c)) (eq-eqb c.tx s.tx (sym i)) w))))
-      others_count t n x e w = refl
-
-      unchanged : (holder page slot log ≡ Some s.tx → ⊥) → winners (log ▸ Commit s) page slot ≡ winners log page slot
-      unchanged n = effects_same (λ _ x. is_of_committed (log ▸ Commit s) x) (λ _ x. is_of_committed log x) empty log page slot (others_count (untouched n))
-
-      by_holder : (o : Option ℕ) → holder page slot log ≡ o → restored page slot (log ▸ Commit s) ≡ winners (log ▸ Commit s) page slot
+      by_holder : (o : Option ℕ) → holder page slot log ≡ o → restored page slot (log ▸ Commit s) ≡ kept (log ▸ Commit s) page slot
       by_holder None e =
           restored_same (Commit s) (ap (release s.tx) e ∙ sym e) refl (λ t _ v. undone_plain (Commit s) t refl v) (unchanged (λ e'. cc))
       by_holder (Some t) e =
@@ -236,19 +239,19 @@ module _ (log : History) (h : IsLawful log) (page slot : ℕ) (ih : restored pag
             | inl i ↦
                 (let holder_is : holder page slot (log ▸ Commit s) ≡ None = ap (release s.tx) e ∙ rw i in
                 let e' : holder page slot log ≡ Some s.tx = e ∙ ap Some (sym (eqb-true s.tx t i)) in
-                ap (λ x. restored_by x page slot (log ▸ Commit s)) holder_is ∙ sym (effects_of_holder (is_of_committed (log ▸ Commit s)) log page slot s.tx e' own_counts))
+                ap (λ x. restored_by x page slot (log ▸ Commit s)) holder_is ∙ sym (effects_of_holder (λ x. committed x (log ▸ Commit s)) log page slot s.tx e' (or_left (eqb s.tx s.tx) (committed s.tx log) (eq-eqb s.tx s.tx refl))))
             | inr i ↦
                 restored_same (Commit s) (release_other s.tx t (holder page slot log) i e ∙ sym e) refl (λ t _ v. undone_plain (Commit s) t refl v)
                 (unchanged (λ e'. (let j : t ≡ s.tx = cc in eqb-false s.tx t i (sym j))))
           ]
 
-  restored_end : (s : PlainRecord) → Obeys log (End s) → restored page slot (log ▸ End s) ≡ winners (log ▸ End s) page slot
+  restored_end : (s : PlainRecord) → Obeys log (End s) → restored page slot (log ▸ End s) ≡ kept (log ▸ End s) page slot
   restored_end s o = by_holder (holder page slot log) refl
     where
-      unchanged : winners (log ▸ End s) page slot ≡ winners log page slot
-      unchanged = winners_more log (End s) page slot (λ _. refl) refl
+      unchanged : kept (log ▸ End s) page slot ≡ kept log page slot
+      unchanged = kept_more log (End s) page slot (λ _. refl) refl
 
-      by_holder : (o : Option ℕ) → holder page slot log ≡ o → restored page slot (log ▸ End s) ≡ winners (log ▸ End s) page slot
+      by_holder : (o : Option ℕ) → holder page slot log ≡ o → restored page slot (log ▸ End s) ≡ kept (log ▸ End s) page slot
       by_holder None e = restored_same (End s) (ap (release s.tx) e ∙ sym e) refl (λ t _ v. undone_plain (End s) t refl v) unchanged
       by_holder (Some t) e =
           elim (cases_Bool (eqb s.tx t)) [
@@ -263,23 +266,23 @@ module _ (log : History) (h : IsLawful log) (page slot : ℕ) (ih : restored pag
             | inr i ↦ restored_same (End s) (release_other s.tx t (holder page slot log) i e ∙ sym e) refl (λ t _ v. undone_plain (End s) t refl v) unchanged
           ]
 
--- once the holder of a cell is rolled back, the cell has what the winners leave there
-pub restored_is_winners : (log : History) → IsLawful log → (page slot : ℕ) → restored page slot log ≡ winners log page slot
-restored_is_winners start h page slot = refl
-restored_is_winners (log ▸ Update u) h page slot =
+-- once the holder of a cell is rolled back, the cell has what the committed ones leave there
+pub restored_is_kept : (log : History) → IsLawful log → (page slot : ℕ) → restored page slot log ≡ kept log page slot
+restored_is_kept start h page slot = refl
+restored_is_kept (log ▸ Update u) h page slot =
     elim (cases_Bool (eqb u.page page && eqb u.slot slot)) [
-      | inl on ↦ restored_update_on log h.0 page slot (restored_is_winners log h.0 page slot) u h.1 on
-      | inr off ↦ restored_update_off log h.0 page slot (restored_is_winners log h.0 page slot) u h.1 off
+      | inl on ↦ restored_update_on log h.0 page slot (restored_is_kept log h.0 page slot) u h.1 on
+      | inr off ↦ restored_update_off log h.0 page slot (restored_is_kept log h.0 page slot) u h.1 off
     ]
-restored_is_winners (log ▸ Compensation c) h page slot =
+restored_is_kept (log ▸ Compensation c) h page slot =
     elim (cases_Bool (eqb c.page page && eqb c.slot slot)) [
-      | inl on ↦ restored_compensation_on log h.0 page slot (restored_is_winners log h.0 page slot) c h.1 on
-      | inr off ↦ restored_compensation_off log h.0 page slot (restored_is_winners log h.0 page slot) c h.1 off
+      | inl on ↦ restored_compensation_on log h.0 page slot (restored_is_kept log h.0 page slot) c h.1 on
+      | inr off ↦ restored_compensation_off log h.0 page slot (restored_is_kept log h.0 page slot) c h.1 off
     ]
-restored_is_winners (log ▸ Commit s) h page slot = restored_commit log h.0 page slot (restored_is_winners log h.0 page slot) s h.1
-restored_is_winners (log ▸ End s) h page slot = restored_end log h.0 page slot (restored_is_winners log h.0 page slot) s h.1
-restored_is_winners (log ▸ r) h page slot =
-    restored_same log h.0 page slot (restored_is_winners log h.0 page slot) r refl refl (λ t _ v. undone_plain log h.0 page slot (restored_is_winners log h.0 page slot) r t refl v) (winners_more log r page slot (λ _. refl) refl)
+restored_is_kept (log ▸ Commit s) h page slot = restored_commit log h.0 page slot (restored_is_kept log h.0 page slot) s h.1
+restored_is_kept (log ▸ End s) h page slot = restored_end log h.0 page slot (restored_is_kept log h.0 page slot) s h.1
+restored_is_kept (log ▸ r) h page slot =
+    restored_same log h.0 page slot (restored_is_kept log h.0 page slot) r refl refl (λ t _ v. undone_plain log h.0 page slot (restored_is_kept log h.0 page slot) r t refl v) (kept_more log r page slot (λ _. refl) refl)
 
 -- who touched a cell has a record
 touches_has : (t page slot : ℕ) (log : History) → touches t page slot log ≡ true → has (is_of t) log ≡ true
@@ -290,12 +293,31 @@ touches_has t page slot (log ▸ r) w =
       | inr i ↦ or_right (is_of t r) (has (is_of t) log) (touches_has t page slot log i)
     ]
 
--- so where no transaction is left unfinished, the cell has that
-pub replay_is_winners : (log : History) → IsLawful log → ((t : ℕ) → has (is_of t) log ≡ true → finished t log ≡ true) → (page slot : ℕ) → replay log page slot ≡ winners log page slot
-replay_is_winners log h all page slot = by_holder (holder page slot log) refl
+-- THE WINNERS
+-- who is in doubt has not finished
+doubt_open : (t : ℕ) (log : History) → in_doubt t log ≡ true → finished t log ≡ false
+doubt_open t log d = unfinished_open t log (and_parts (is_unfinished t log) (prepared t log && not (aborted t log)) d).0
+
+-- where no transaction in doubt has touched a cell, the committed ones are the winners there
+winners_kept : (log : History) (page slot : ℕ) → ((t : ℕ) → touches t page slot log ≡ true → in_doubt t log ≡ false) → winners log page slot ≡ kept log page slot
+winners_kept log page slot h =
+    effects_touched (is_winner log) (λ t. committed t log) log page slot (λ t w. ap (λ b. committed t log || b) (h t w) ∙ or-false (committed t log))
+
+-- where one in doubt holds it, the newest record there is a winner's
+winners_held : (log : History) (page slot t : ℕ) → holder page slot log ≡ Some t → in_doubt t log ≡ true → winners log page slot ≡ replay log page slot
+winners_held log page slot t e d = effects_of_holder (is_winner log) log page slot t e (or_right (committed t log) (in_doubt t log) d)
+
+-- so where no transaction is a loser, the cell has what the winners leave there
+pub replay_is_winners : (log : History) → IsLawful log → ((t : ℕ) → is_loser t log ≡ false) → (page slot : ℕ) → replay log page slot ≡ winners log page slot
+replay_is_winners log h none page slot = by_holder (holder page slot log) refl
   where
     by_holder : (o : Option ℕ) → holder page slot log ≡ o → replay log page slot ≡ winners log page slot
-    by_holder None e = ap (λ x. restored_by x page slot log) (sym e) ∙ restored_is_winners log h page slot
+    by_holder None e =
+        ap (λ x. restored_by x page slot log) (sym e) ∙ restored_is_kept log h page slot
+        ∙ sym (winners_kept log page slot (λ t w. false_from_ne_true (in_doubt t log) (λ d. (let e' : holder page slot log ≡ Some t = holds log h page slot t w (doubt_open t log d) in cc))))
     by_holder (Some t) e =
         (let k = held log h page slot t e in
-        absurd (both_ways (finished t log) k.0 (all t (touches_has t page slot log k.1))))
+        let unfinished : is_unfinished t log ≡ true = and_from (has (is_of t) log) (not (finished t log)) (touches_has t page slot log k.1) (not_from_false (finished t log) k.0) in
+        let doubt : in_doubt t log ≡ true =
+        true_from_ne_false (in_doubt t log) (λ d. both_ways (is_loser t log) (none t) (and_from (is_unfinished t log) (not (in_doubt t log)) unfinished (not_from_false (in_doubt t log) d))) in
+        sym (winners_held log page slot t e doubt))

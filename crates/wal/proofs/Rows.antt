@@ -1,6 +1,6 @@
 -- The definitions on worked examples.
 use Rattle.std.proofs.lemmas.Bool.{both_ways, false≢true, or_from, and_right}
-use Rattle.std.proofs.Common.{eqb, ne_eqb, sym, ◌∙◌, ◌&&◌, ◌||◌, true, false, inl, inr, ◌≢◌, ◌<◌, ℕ, zero, suc, ◌≡◌, ◌≤◌, [], ◌∷◌, ◌++◌, List, Option, Some, None, refl, arith}
+use Rattle.std.proofs.Common.{eqb, ne_eqb, sym, ◌∙◌, ◌&&◌, ◌||◌, true, false, inl, inr, ◌≢◌, ◌<◌, ℕ, zero, suc, ◌≡◌, ◌≤◌, [], ◌∷◌, ◌++◌, List, Some, None, refl, arith}
 use Rattle.std.specs.Prelude.{replicate, take, slice_index_or}
 use Rattle.std.proofs.lemmas.List.Elements.{All-from_recursion}
 use Rattle.std.proofs.lemmas.Option.{same_Some}
@@ -8,7 +8,7 @@ use Rattle.page.specs.Image.{Image}
 use Rattle.page.specs.declared.page.Page.{Page}
 use Rattle.page.specs.Store.{StoreContent, AreNumbered}
 use Rattle.wal.specs.declared.record.State.TheVariants.{Active}
-use Rattle.wal.specs.Records.{TableEntry, LogRecord, Update, Compensation, Commit, Abort, End, CheckpointBegin, CheckpointEnd, LogContent, history, ◌⧺◌, record_at}
+use Rattle.wal.specs.Records.{TableEntry, LogRecord, Update, Compensation, Commit, Abort, End, CheckpointBegin, CheckpointEnd, History, LogContent, history, ◌⧺◌, record_at}
 use Rattle.wal.specs.Meaning.{winners, touches}
 use Rattle.wal.specs.Laws.{IsLawful}
 use Rattle.wal.specs.Tail.{tail_of}
@@ -19,7 +19,7 @@ use Rattle.wal.specs.Store.{PageLaw, DirtyLaw, NamesPages, Lawful, Cut, first_en
 use Rattle.wal.specs.Reads.{log_text, Reads}
 use Rattle.wal.specs.Spelling.{frame, Fits}
 use Rattle.wal.specs.Theorems.{GoesOn}
-use Rattle.wal.proofs.Histories.{each_found}
+use Rattle.wal.proofs.Histories.{record_none, each_found}
 use Rattle.wal.proofs.CutBytes.{cuts_settle}
 
 abbrev pub a : Image
@@ -90,7 +90,7 @@ one_commit_lawful : IsLawful (history (L (U 1 0 0 None a ∷ K 1 1 ∷ [])))
 one_commit_lawful = (
   (
     tt,
-    record { chain = refl; finish = (refl, refl); compensation = tt; before = refl; strict = λ other n w. absurd (false≢true w) },
+    record { chain = refl; finish = (refl, refl, refl); compensation = tt; before = refl; strict = λ other n w. absurd (false≢true w) },
   ),
   record { chain = refl; finish = (refl, refl); compensation = tt; before = tt; strict = tt },
 )
@@ -106,11 +106,11 @@ two_losers_lawful = (
   (
     (
       tt,
-      record { chain = refl; finish = (refl, refl); compensation = tt; before = refl; strict = λ other n w. absurd (false≢true w) },
+      record { chain = refl; finish = (refl, refl, refl); compensation = tt; before = refl; strict = λ other n w. absurd (false≢true w) },
     ),
-    record { chain = refl; finish = (refl, refl); compensation = tt; before = refl; strict = λ other n w. absurd (false≢true (sym (or_from (eqb 1 other && false) false (and_right (eqb 1 other) false refl) refl) ∙ w)) },
+    record { chain = refl; finish = (refl, refl, refl); compensation = tt; before = refl; strict = λ other n w. absurd (false≢true (sym (or_from (eqb 1 other && false) false (and_right (eqb 1 other) false refl) refl) ∙ w)) },
   ),
-  record { chain = refl; finish = (refl, refl); compensation = tt; before = refl; strict = λ other n w. absurd (two_losers_strict other n w) },
+  record { chain = refl; finish = (refl, refl, refl); compensation = tt; before = refl; strict = λ other n w. absurd (two_losers_strict other n w) },
 )
 
 -- ---- text
@@ -185,21 +185,24 @@ first_end_counts = refl
 begin_not_named : first_end 2 (history (L (CheckpointBegin ∷ CheckpointBegin ∷ CheckpointEnd 1 [] [] ∷ []))) ≡ None
 begin_not_named = refl
 
-checkpoint_loser_covers : (lsn : ℕ) (r : LogRecord) → record_at (history checkpoint_loser) lsn ≡ Some r → 1 ≤ lsn
-checkpoint_loser_covers zero r e = absurd cc
-checkpoint_loser_covers (suc lsn) r e = omega arith
-
-checkpoint_loser_range : (rec_lsn : ℕ) → ◌≡◌ {A = Option ℕ} (Some 1) (Some rec_lsn) → (1 ≤ rec_lsn) × (rec_lsn ≤ 2)
-checkpoint_loser_range rec_lsn e =
-    let one : 1 ≡ rec_lsn = same_Some 1 rec_lsn e in
-    (omega (arith, one), omega (arith, one))
+-- a page that is listed from LSN 1 on keeps the dirty law
+pub dirty_from_1 : (log : History) (m page page_lsn : ℕ) → 1 ≤ m → DirtyLaw log m page page_lsn (Some 1)
+dirty_from_1 log m page page_lsn le =
+    record {
+      range = λ rec_lsn e. (let one : 1 ≡ rec_lsn = same_Some 1 rec_lsn e in (omega (arith, one), omega (arith, one)));
+      covers = λ lsn r up f on. inr (1, refl, above_0 lsn r f);
+    }
+  where
+    above_0 : (lsn : ℕ) (r : LogRecord) → record_at log lsn ≡ Some r → 1 ≤ lsn
+    above_0 zero r f = absurd (let e : record_at log 0 ≡ None = record_none log 0 (inl refl) in cc)
+    above_0 (suc lsn) r f = omega arith
 
 -- a log with a checkpoint and its store are lawful
 checkpoint_loser_lawful : Lawful checkpoint_loser (store_of 2 (holding 0 None))
 checkpoint_loser_lawful = record {
   log = (
     (
-      (tt, record { chain = refl; finish = (refl, refl); compensation = tt; before = refl; strict = λ other n w. absurd (false≢true w) }),
+      (tt, record { chain = refl; finish = (refl, refl, refl); compensation = tt; before = refl; strict = λ other n w. absurd (false≢true w) }),
       record { chain = tt; finish = tt; compensation = tt; before = tt; strict = tt },
     ),
     record { chain = tt; finish = tt; compensation = tt; before = tt; strict = tt },
@@ -212,7 +215,7 @@ checkpoint_loser_lawful = record {
     named = refl;
     transactions_are = refl;
     dirty_are = All-from_recursion (λ (page : Page). DirtyLaw (history checkpoint_loser) 2 page.number page.lsn (rec_lsn_of page.number ((0, 1) ∷ []))) (holding 0 None ∷ [])
-        (record { range = λ rec_lsn e. checkpoint_loser_range rec_lsn e; covers = λ lsn r le e on. inr (1, refl, checkpoint_loser_covers lsn r e) }, tt);
+        (dirty_from_1 (history checkpoint_loser) 2 0 0 (omega arith), tt);
   });
 }
 

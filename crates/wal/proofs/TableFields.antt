@@ -7,7 +7,7 @@ use Rattle.std.proofs.lemmas.List.{length-append}
 use Rattle.std.proofs.Math.Nat.{mul-suc}
 use Rattle.std.proofs.lemmas.Option.{same_Some}
 use Rattle.wal.specs.declared.record.State.{State}
-use Rattle.wal.specs.declared.record.State.TheVariants.{Active, Aborting}
+use Rattle.wal.specs.declared.record.State.TheVariants.{Active, Aborting, Prepared}
 use Rattle.wal.specs.Records.{TableEntry, tx_in, page_in}
 use Rattle.wal.specs.Spelling.{state, entry, dirty_page, table, FitsEntry, FitsDirty, FitsTable}
 use Rattle.wal.specs.Reading.{◌>>=◌, number_at, tx_at, state_at, entry_at, dirty_at, table_at, transactions_at, dirties_at}
@@ -18,27 +18,38 @@ use Rattle.wal.proofs.Fields.{AreBytes-rest, bind_some, Takes, Takes-then, IsFie
 
 -- ---- entries
 
+-- the byte of a state
+state_taken : (code : ℕ) (s : State) (rest : List ℕ) (x : State × List ℕ) → AreBytes (code ∷ rest) → code ∷ [] ≡ state s → Some (s, rest) ≡ Some x
+    → Takes (code ∷ rest) (state x.0) x.1 × Unit {0}
+state_taken code s rest x fits is e =
+    subst (λ (y : State × List ℕ). Takes (code ∷ rest) (state y.0) y.1 × Unit {0}) (same_Some (s, rest) x e)
+    (record { parts = ap (λ (front : List ℕ). front ++ rest) is; rest_fits = AreBytes-rest code rest fits }, tt)
+
 state_takes : (bytes : List ℕ) (x : State × List ℕ) → AreBytes bytes → state_at bytes ≡ Some x → Takes bytes (state x.0) x.1 × Unit {0}
 unfolding state_at
 state_takes [] x fits e = absurd cc
 state_takes (code ∷ rest) x fits e =
     elim (chosen (eqb code 0) _ _ _ e) [
-      | inl p ↦
-          subst (λ (y : State × List ℕ). Takes (code ∷ rest) (state y.0) y.1 × Unit {0}) (same_Some (Active, rest) x p.1)
-          (record { parts = ap (λ (c : ℕ). c ∷ rest) (eqb-true code 0 p.0); rest_fits = AreBytes-rest code rest fits }, tt)
+      | inl p ↦ state_taken code Active rest x fits (is 0 p.0) p.1
       | inr p ↦
           elim (chosen (eqb code 1) _ _ _ p.1) [
-            | inl q ↦
-                subst (λ (y : State × List ℕ). Takes (code ∷ rest) (state y.0) y.1 × Unit {0}) (same_Some (Aborting, rest) x q.1)
-                (record { parts = ap (λ (c : ℕ). c ∷ rest) (eqb-true code 1 q.0); rest_fits = AreBytes-rest code rest fits }, tt)
-            | inr q ↦ absurd cc
+            | inl q ↦ state_taken code Aborting rest x fits (is 1 q.0) q.1
+            | inr q ↦
+                elim (chosen (eqb code 2) _ _ _ q.1) [
+                  | inl r ↦ state_taken code Prepared rest x fits (is 2 r.0) r.1
+                  | inr r ↦ absurd cc
+                ]
           ]
     ]
+  where
+    is : (n : ℕ) → eqb code n ≡ true → ◌≡◌ {A = List ℕ} (code ∷ []) (n ∷ [])
+    is n same = ap (λ (c : ℕ). c ∷ []) (eqb-true code n same)
 
 state_again : (s : State) (rest : List ℕ) → Unit {0} → state_at (state s ++ rest) ≡ Some (s, rest)
 unfolding state_at
 state_again Active rest fits = refl
 state_again Aborting rest fits = refl
+state_again Prepared rest fits = refl
 
 state_field : IsField state_at state (λ s. Unit {0})
 state_field = record { takes = state_takes; again = state_again }

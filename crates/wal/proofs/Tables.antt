@@ -8,7 +8,7 @@ use Rattle.std.proofs.lemmas.Bool.{ltb-false, le-ltb, lt-ltb, cases_lt}
 use Rattle.std.proofs.lemmas.List.{append-nil, drop-drop, length-drop, take_more}
 use Rattle.std.proofs.lemmas.Option.{same_Some}
 use Rattle.wal.specs.declared.record.State.{State}
-use Rattle.wal.specs.declared.record.State.TheVariants.{Active, Aborting}
+use Rattle.wal.specs.declared.record.State.TheVariants.{Active, Aborting, Prepared}
 use Rattle.wal.specs.Records.{TableEntry}
 use Rattle.wal.specs.Reading.{◌>>=◌, number_at, tx_at, state_at, entry_at, dirty_at, table_at, entry_there, table_in, IsTable}
 use Rattle.wal.proofs.Loop.{chosen, unwrapped}
@@ -44,7 +44,11 @@ state_sized (code ∷ rest) x e =
       | inr p ↦
           elim (chosen (eqb code 1) _ _ _ p.1) [
             | inl q ↦ (omega arith, sym (ap (λ r. r.1) (same_Some (Aborting, rest) x q.1)))
-            | inr q ↦ absurd cc
+            | inr q ↦
+                elim (chosen (eqb code 2) _ _ _ q.1) [
+                  | inl r ↦ (omega arith, sym (ap (λ s. s.1) (same_Some (Prepared, rest) x r.1)))
+                  | inr r ↦ absurd cc
+                ]
           ]
     ]
 

@@ -2,8 +2,8 @@
 use Rattle.std.proofs.Common.{ℕ, suc, ◌≡◌, ◌≤◌, true, false, ◌||◌, List, [], ◌∷◌, drop, Option, Some, None, refl, sym, ap, ap₂, ◌∙◌, subst, inl, inr, arith, eq-eqb, ne_eqb, eqb-true, eqb}
 use Rattle.std.specs.Prelude.{option_map, unwrap_or}
 use Rattle.std.proofs.lemmas.Bool.{cases_Bool, or_parts, or_from}
-use Rattle.wal.specs.Records.{UpdateRecord, CompensationRecord, LogRecord, Update, Compensation, Commit, Abort, End, History, start, ◌▸◌, last_lsn, record_at}
-use Rattle.wal.specs.Meaning.{pending, undo_next_of, last_of, finished, aborted, committed, ended}
+use Rattle.wal.specs.Records.{UpdateRecord, CompensationRecord, LogRecord, Update, Compensation, Commit, Abort, End, Prepare, History, start, ◌▸◌, last_lsn, record_at}
+use Rattle.wal.specs.Meaning.{pending, undo_next_of, last_of, finished, aborted, committed, ended, prepared}
 use Rattle.wal.specs.Laws.{Obeys, IsLawful}
 use Rattle.wal.specs.Hops.{sent_on, hops, meet}
 use Rattle.wal.proofs.Histories.{record_last, record_more}
@@ -91,7 +91,7 @@ first_met t (log ▸ r) n m ms w =
 -- what is known of the walks of t in a lawful log
 pub record Leads (t : ℕ) (log : History) : Type 0 where
   pub undo_next : Walks t log (undo_next_of t log) (pending t log)
-  pub last : finished t log ≡ false → aborted t log ≡ false → Walks t log (last_of t log) (pending t log)
+  pub last : finished t log ≡ false → aborted t log ≡ false → prepared t log ≡ false → Walks t log (last_of t log) (pending t log)
 
 -- the same walk under other names
 walks_at : (t : ℕ) (log : History) (n m : ℕ) (ms ns : List ℕ) → n ≡ m → ms ≡ ns → Walks t log m ns → Walks t log n ms
@@ -101,14 +101,14 @@ walks_at t log n m ms ns e f w = ap (hops t log) e ∙ w ∙ ap (λ x. record { 
 leads_own_update : (log : History) (u : UpdateRecord) → Leads u.tx log → Obeys log (Update u) → Leads u.tx (log ▸ Update u)
 leads_own_update log u h o =
     let own : eqb u.tx u.tx ≡ true = eq-eqb u.tx u.tx refl in
-    let before : Walks u.tx log u.prev (pending u.tx log) = ap (hops u.tx log) o.chain ∙ h.last o.finish.0 o.finish.1 in
+    let before : Walks u.tx log u.prev (pending u.tx log) = ap (hops u.tx log) o.chain ∙ h.last o.finish.0 o.finish.1 o.finish.2 in
     let all : Walks u.tx (log ▸ Update u) (suc (last_lsn log)) (suc (last_lsn log) ∷ pending u.tx log) = walk_from_update u.tx log u own ∙ ap (meet (suc (last_lsn log))) before in
     let u_is : undo_next_of u.tx (log ▸ Update u) ≡ suc (last_lsn log) = rw own in
     let l_is : last_of u.tx (log ▸ Update u) ≡ suc (last_lsn log) = rw own in
     let p_is : pending u.tx (log ▸ Update u) ≡ suc (last_lsn log) ∷ pending u.tx log = rw own in
     record {
       undo_next = walks_at u.tx (log ▸ Update u) _ _ _ _ u_is p_is all;
-      last = λ _ _. walks_at u.tx (log ▸ Update u) _ _ _ _ l_is p_is all;
+      last = λ _ _ _. walks_at u.tx (log ▸ Update u) _ _ _ _ l_is p_is all;
     }
 
 -- a CLR of the transaction itself
@@ -127,49 +127,52 @@ leads_own_compensation log c h o =
     let p_is : pending c.tx (log ▸ Compensation c) ≡ drop 1 (pending c.tx log) = rw own in
     record {
       undo_next = walks_at c.tx (log ▸ Compensation c) _ _ _ _ u_is p_is (walk_more c.tx log (Compensation c) c.undo_next (drop 1 (pending c.tx log)) g);
-      last = λ _ _. walks_at c.tx (log ▸ Compensation c) _ _ _ _ l_is p_is (walk_from_compensation c.tx log c own ∙ g);
+      last = λ _ _ _. walks_at c.tx (log ▸ Compensation c) _ _ _ _ l_is p_is (walk_from_compensation c.tx log c own ∙ g);
     }
 
 -- a record that changes none of it
 leads_same : (t : ℕ) (log : History) (r : LogRecord) → undo_next_of t (log ▸ r) ≡ undo_next_of t log → pending t (log ▸ r) ≡ pending t log
-    → (finished t (log ▸ r) ≡ false → aborted t (log ▸ r) ≡ false → (finished t log ≡ false) × (aborted t log ≡ false) × (last_of t (log ▸ r) ≡ last_of t log))
+    → (finished t (log ▸ r) ≡ false → aborted t (log ▸ r) ≡ false → prepared t (log ▸ r) ≡ false
+    → (finished t log ≡ false) × (aborted t log ≡ false) × (prepared t log ≡ false) × (last_of t (log ▸ r) ≡ last_of t log))
     → Leads t log → Leads t (log ▸ r)
 leads_same t log r u p f h =
     record {
       undo_next = rw (u, p) (walk_more t log r (undo_next_of t log) (pending t log) h.undo_next);
-      last = λ x y. (let (a, b, l) = f x y in rw (l, p) (walk_more t log r (last_of t log) (pending t log) (h.last a b)));
+      last = λ x y z. (let (a, b, c, l) = f x y z in rw (l, p) (walk_more t log r (last_of t log) (pending t log) (h.last a b c)));
     }
 
 -- in a lawful log the walks lead to what is pending
 pub leads : (log : History) → IsLawful log → (t : ℕ) → Leads t log
-leads start h t = record { undo_next = refl; last = λ _ _. refl }
+leads start h t = record { undo_next = refl; last = λ _ _ _. refl }
 leads (log ▸ Update u) h t =
     elim (cases_Bool (eqb u.tx t)) [
       | inl e ↦ subst (λ x. Leads x (log ▸ Update u)) (eqb-true u.tx t e) (leads_own_update log u (leads log h.0 u.tx) h.1)
-      | inr e ↦ leads_same t log (Update u) (rw e) (rw e) (λ a b. (a, b, rw e)) (leads log h.0 t)
+      | inr e ↦ leads_same t log (Update u) (rw e) (rw e) (λ a b c. (a, b, c, rw e)) (leads log h.0 t)
     ]
 leads (log ▸ Compensation c) h t =
     elim (cases_Bool (eqb c.tx t)) [
       | inl e ↦ subst (λ x. Leads x (log ▸ Compensation c)) (eqb-true c.tx t e) (leads_own_compensation log c (leads log h.0 c.tx) h.1)
-      | inr e ↦ leads_same t log (Compensation c) (rw e) (rw e) (λ a b. (a, b, rw e)) (leads log h.0 t)
+      | inr e ↦ leads_same t log (Compensation c) (rw e) (rw e) (λ a b c. (a, b, c, rw e)) (leads log h.0 t)
     ]
 leads (log ▸ Commit s) h t =
     leads_same t log (Commit s) refl refl
-    (λ a b.
+    (λ a b c.
     let (x, y) = or_parts (eqb s.tx t || committed t log) (ended t log) a in
     let (v, w) = or_parts (eqb s.tx t) (committed t log) x in
-    (or_from (committed t log) (ended t log) w y, b, rw v))
+    (or_from (committed t log) (ended t log) w y, b, c, rw v))
     (leads log h.0 t)
 leads (log ▸ Abort s) h t =
-    leads_same t log (Abort s) refl refl (λ a b. let (x, y) = or_parts (eqb s.tx t) (aborted t log) b in (a, y, rw x)) (leads log h.0 t)
+    leads_same t log (Abort s) refl refl (λ a b c. let (x, y) = or_parts (eqb s.tx t) (aborted t log) b in (a, y, c, rw x)) (leads log h.0 t)
 leads (log ▸ End s) h t =
     leads_same t log (End s) refl refl
-    (λ a b.
+    (λ a b c.
     let (x, y) = or_parts (committed t log) (eqb s.tx t || ended t log) a in
     let (v, w) = or_parts (eqb s.tx t) (ended t log) y in
-    (or_from (committed t log) (ended t log) x w, b, rw v))
+    (or_from (committed t log) (ended t log) x w, b, c, rw v))
     (leads log h.0 t)
-leads (log ▸ r) h t = leads_same t log r refl refl (λ a b. (a, b, refl)) (leads log h.0 t)
+leads (log ▸ Prepare s) h t =
+    leads_same t log (Prepare s) refl refl (λ a b c. let (x, y) = or_parts (eqb s.tx t) (prepared t log) c in (a, b, y, rw x)) (leads log h.0 t)
+leads (log ▸ r) h t = leads_same t log r refl refl (λ a b c. (a, b, c, refl)) (leads log h.0 t)
 
 -- the updates that the hops of a transaction meet are its pending ones, and no hop is bad
 pub walk_meets_pending : (log : History) (t : ℕ) → IsLawful log → hops t log (undo_next_of t log) ≡ record { met = pending t log; ends = 0 }

@@ -10,7 +10,7 @@ use Rattle.std.proofs.lemmas.List.{take_at, drop_at, take-append-drop, length-ap
 use Rattle.page.specs.declared.fault.Fault.{Fault}
 use Rattle.page.specs.declared.fault.Fault.TheVariants.{NoResource, BadLogHeader, BadLength, BadRecord, BadLsn}
 use Rattle.wal.specs.declared.record.State.{State}
-use Rattle.wal.specs.declared.record.State.TheVariants.{Active, Aborting}
+use Rattle.wal.specs.declared.record.State.TheVariants.{Active, Aborting, Prepared}
 use Rattle.wal.specs.Records.{TableEntry, LogRecord, Update, Compensation, CheckpointEnd, LogContent}
 use Rattle.wal.specs.Spelling.{image, state, entry, dirty_page, table, body, frame, Fits}
 use Rattle.wal.specs.Reading.{body_at}
@@ -62,6 +62,7 @@ entry_length e = by_state e.state
     by_state : (s : State) → length (to_be_bytes w32 e.tx ++ (state s ++ (to_be_bytes w64 e.last ++ to_be_bytes w64 e.undo_next))) ≡ 21
     by_state Active = refl
     by_state Aborting = refl
+    by_state Prepared = refl
 
 -- how long a body is
 pub body_size : (r : LogRecord) (lsn : ℕ) → Fits r → (9 ≤ length (body r lsn)) × (length (body r lsn) ≤ 70681)

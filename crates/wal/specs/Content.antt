@@ -3,7 +3,7 @@ use Rattle.std.specs.Prelude.{◌≡◌, ℕ, List, ◌++◌, map, option_map}
 use Rattle.wal.specs.declared.record.Entry.{Entry}
 use Rattle.wal.specs.declared.record.Record.{Record}
 use Rattle.wal.specs.declared.record.Record.TheVariants as code
-use Rattle.wal.specs.Records.{TableEntry, LogRecord, Update, Compensation, Commit, Abort, End, CheckpointBegin, CheckpointEnd}
+use Rattle.wal.specs.Records.{TableEntry, LogRecord, Update, Compensation, Commit, Abort, End, Prepare, CheckpointBegin, CheckpointEnd}
 use Rattle.wal.specs.declared.change.Change as put
 use Rattle.wal.specs.declared.view.RecordView.{RecordView}
 use Rattle.wal.specs.declared.view.RecordView.TheVariants as view
@@ -20,6 +20,7 @@ content (code.Compensation tx prev page slot undo_next image) =
 content (code.Commit tx prev) = Commit (record { tx = tx; prev = prev })
 content (code.Abort tx prev) = Abort (record { tx = tx; prev = prev })
 content (code.End tx prev) = End (record { tx = tx; prev = prev })
+content (code.Prepare tx prev) = Prepare (record { tx = tx; prev = prev })
 content code.CheckpointBegin = CheckpointBegin
 content (code.CheckpointEnd begin transactions dirty) = CheckpointEnd begin (map entry_of transactions.items) dirty.items
 
@@ -32,6 +33,7 @@ shown (view.Compensation tx prev page slot undo_next image) =
 shown (view.Commit tx prev) = Commit (record { tx = tx; prev = prev })
 shown (view.Abort tx prev) = Abort (record { tx = tx; prev = prev })
 shown (view.End tx prev) = End (record { tx = tx; prev = prev })
+shown (view.Prepare tx prev) = Prepare (record { tx = tx; prev = prev })
 shown view.CheckpointBegin = CheckpointBegin
 shown (view.CheckpointEnd begin transactions dirty) = CheckpointEnd begin transactions dirty
 

@@ -3,7 +3,7 @@ use Rattle.std.specs.Prelude.{◌≡◌, ℕ, ◌+◌, List, [], ◌∷◌, Opti
 use Rattle.std.specs.Int.{w32, w64}
 use Rattle.wal.specs.declared.glance.Glance.{Glance}
 use Rattle.wal.specs.declared.glance.Glance.TheVariants as seen
-use Rattle.wal.specs.Records.{LogRecord, Update, Compensation, Commit, Abort, End, CheckpointBegin, CheckpointEnd, History, ◌▸◌, record_at, first}
+use Rattle.wal.specs.Records.{LogRecord, Update, Compensation, Commit, Abort, End, Prepare, CheckpointBegin, CheckpointEnd, History, ◌▸◌, record_at, first}
 use Rattle.wal.specs.Spelling.{Fits}
 use Rattle.wal.specs.Reading.{◌>>=◌, number_at, slot_at, plain_at}
 
@@ -14,6 +14,7 @@ glance_of (Compensation c) = seen.Compensation c.tx c.page c.slot c.undo_next
 glance_of (Commit s) = seen.Commit s.tx
 glance_of (Abort s) = seen.Abort s.tx
 glance_of (End s) = seen.End s.tx
+glance_of (Prepare s) = seen.Prepare s.tx
 glance_of CheckpointBegin = seen.Checkpoint
 glance_of (CheckpointEnd begin transactions dirty) = seen.Checkpoint
 
@@ -24,6 +25,7 @@ owner_seen (seen.Compensation tx page slot undo_next) = Some tx
 owner_seen (seen.Commit tx) = Some tx
 owner_seen (seen.Abort tx) = Some tx
 owner_seen (seen.End tx) = Some tx
+owner_seen (seen.Prepare tx) = Some tx
 owner_seen seen.Checkpoint = None
 
 -- what is seen behind an LSN: of the record whose LSN is one more, which has a spelling
@@ -65,6 +67,11 @@ end_glance bytes = do
   own ← plain_at bytes
   Some (seen.End own.0.tx)
 
+unfoldable pub prepare_glance : List ℕ → Option Glance
+prepare_glance bytes = do
+  own ← plain_at bytes
+  Some (seen.Prepare own.0.tx)
+
 unfoldable pub fields_glance : ℕ → List ℕ → Option Glance
 fields_glance kind bytes =
     if kind == 1 then update_glance bytes
@@ -72,6 +79,7 @@ fields_glance kind bytes =
     else if kind == 3 then commit_glance bytes
     else if kind == 4 then abort_glance bytes
     else if kind == 5 then end_glance bytes
+    else if kind == 8 then prepare_glance bytes
     else Some seen.Checkpoint
 
 unfoldable pub body_glance : List ℕ → Option Glance

@@ -1,20 +1,21 @@
 -- The laws that each record keeps after the log before it. They are those of ARIES in normal running.
 use Rattle.std.specs.Prelude.{◌≡◌, ◌≢◌, ℕ, List, [], ◌∷◌, Some, IfSome, true, false}
-use Rattle.wal.specs.Records.{UpdateRecord, CompensationRecord, LogRecord, Update, Compensation, Commit, Abort, End, CheckpointBegin, CheckpointEnd, History, start, ◌▸◌, record_at}
-use Rattle.wal.specs.Meaning.{owner, prev_of, committed, aborted, ended, finished, replay, touches, pending, last_of}
+use Rattle.wal.specs.Records.{UpdateRecord, CompensationRecord, LogRecord, Update, Compensation, Commit, Abort, End, Prepare, CheckpointBegin, CheckpointEnd, History, start, ◌▸◌, record_at}
+use Rattle.wal.specs.Meaning.{owner, prev_of, committed, aborted, ended, finished, prepared, in_doubt, replay, touches, pending, last_of}
 
 -- CHAIN. PrevLSN is the LSN of the transaction's last record before it, or 0. ARIES, section 4.1.
 abbrev pub ChainLaw : History → LogRecord → Type 0
 ChainLaw log r = IfSome (owner r) (λ t. prev_of r ≡ last_of t log)
 
--- FINISH. Nothing follows an end, only an end follows a commit, only CLRs and an end follow an abort. ARIES, sections 5.2 and
--- 5.3; the end behind a commit as optional is own.
+-- FINISH. Nothing follows an end, only an end follows a commit, only CLRs and an end follow an abort, only a commit or an abort
+-- follows a prepare. ARIES, sections 5.2 and 5.3; the end behind a commit as optional is own.
 abbrev pub FinishLaw : History → LogRecord → Type 0
-FinishLaw log (Update u) = (finished u.tx log ≡ false) × (aborted u.tx log ≡ false)
-FinishLaw log (Compensation c) = finished c.tx log ≡ false
+FinishLaw log (Update u) = (finished u.tx log ≡ false) × (aborted u.tx log ≡ false) × (prepared u.tx log ≡ false)
+FinishLaw log (Compensation c) = (finished c.tx log ≡ false) × (in_doubt c.tx log ≡ false)
 FinishLaw log (Commit s) = (finished s.tx log ≡ false) × (aborted s.tx log ≡ false)
 FinishLaw log (Abort s) = (finished s.tx log ≡ false) × (aborted s.tx log ≡ false)
-FinishLaw log (End s) = ended s.tx log ≡ false
+FinishLaw log (End s) = (ended s.tx log ≡ false) × (in_doubt s.tx log ≡ false)
+FinishLaw log (Prepare s) = (finished s.tx log ≡ false) × (aborted s.tx log ≡ false) × (prepared s.tx log ≡ false)
 FinishLaw log CheckpointBegin = Unit {0}
 FinishLaw log (CheckpointEnd begin transactions dirty) = Unit {0}
 

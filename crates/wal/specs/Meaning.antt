@@ -2,8 +2,8 @@
 use Rattle.std.specs.Prelude.{ℕ, suc, List, [], ◌∷◌, Option, Some, None, Bool, true, false, not, ◌&&◌, ◌||◌, ◌==◌, if◌then◌else◌, drop, option_map}
 use Rattle.page.specs.Image.{Image}
 use Rattle.wal.specs.declared.record.State.{State}
-use Rattle.wal.specs.declared.record.State.TheVariants.{Active, Aborting}
-use Rattle.wal.specs.Records.{LogRecord, Update, Compensation, Commit, Abort, End, CheckpointBegin, CheckpointEnd, History, start, ◌▸◌, last_lsn}
+use Rattle.wal.specs.declared.record.State.TheVariants.{Active, Prepared, Aborting}
+use Rattle.wal.specs.Records.{LogRecord, Update, Compensation, Commit, Abort, End, Prepare, CheckpointBegin, CheckpointEnd, History, start, ◌▸◌, last_lsn}
 
 -- OWNER. The transaction whose record it is; a checkpoint's has none. ARIES, section 4.1 (TransID).
 abbrev pub owner : LogRecord → Option ℕ
@@ -12,6 +12,7 @@ owner (Compensation c) = Some c.tx
 owner (Commit s) = Some s.tx
 owner (Abort s) = Some s.tx
 owner (End s) = Some s.tx
+owner (Prepare s) = Some s.tx
 owner CheckpointBegin = None
 owner (CheckpointEnd begin transactions dirty) = None
 
@@ -22,6 +23,7 @@ prev_of (Compensation c) = c.prev
 prev_of (Commit s) = s.prev
 prev_of (Abort s) = s.prev
 prev_of (End s) = s.prev
+prev_of (Prepare s) = s.prev
 prev_of CheckpointBegin = 0
 prev_of (CheckpointEnd begin transactions dirty) = 0
 
@@ -33,7 +35,7 @@ is_owned_by t (Some x) = x == t
 abbrev pub is_of : ℕ → LogRecord → Bool
 is_of t r = is_owned_by t (owner r)
 
--- whether it is the commit, the abort or the end of t
+-- whether it is the commit, the abort, the end or the prepare of t
 abbrev pub is_commit_of : ℕ → LogRecord → Bool
 is_commit_of t (Commit s) = s.tx == t
 is_commit_of t _ = false
@@ -46,13 +48,17 @@ abbrev pub is_end_of : ℕ → LogRecord → Bool
 is_end_of t (End s) = s.tx == t
 is_end_of t _ = false
 
+abbrev pub is_prepare_of : ℕ → LogRecord → Bool
+is_prepare_of t (Prepare s) = s.tx == t
+is_prepare_of t _ = false
+
 -- whether the log has such a record
 abbrev pub has : (LogRecord → Bool) → History → Bool
 has test start = false
 has test (log ▸ r) = test r || has test log
 
--- STATUS. Committed, aborted, ended, finished, unfinished, and what a loser is. ARIES, sections 5.2 and 5.3; that a commit
--- finishes a transaction is own.
+-- STATUS. Committed, aborted, ended, prepared, finished, unfinished, in doubt, and what a loser is. ARIES, sections 5.2, 5.3 and
+-- 6.1 (prepared transactions of a two-phase commit); that a commit finishes a transaction is own.
 abbrev pub committed : ℕ → History → Bool
 committed t log = has (is_commit_of t) log
 
@@ -62,6 +68,9 @@ aborted t log = has (is_abort_of t) log
 abbrev pub ended : ℕ → History → Bool
 ended t log = has (is_end_of t) log
 
+abbrev pub prepared : ℕ → History → Bool
+prepared t log = has (is_prepare_of t) log
+
 abbrev pub finished : ℕ → History → Bool
 finished t log = committed t log || ended t log
 
@@ -69,16 +78,20 @@ finished t log = committed t log || ended t log
 abbrev pub is_unfinished : ℕ → History → Bool
 is_unfinished t log = has (is_of t) log && not (finished t log)
 
--- a restart rolls the losers back: all unfinished ones
-abbrev pub is_loser : ℕ → History → Bool
-is_loser t log = is_unfinished t log
+-- in doubt: it has prepared to commit and not turned back, and whoever coordinates it has not settled it yet
+abbrev pub in_doubt : ℕ → History → Bool
+in_doubt t log = is_unfinished t log && (prepared t log && not (aborted t log))
 
--- the state of an unfinished one
-abbrev pub state_by : (aborts : Bool) → State
-state_by aborts = if aborts then Aborting else Active
+-- a restart rolls the losers back: the unfinished ones that are not in doubt
+abbrev pub is_loser : ℕ → History → Bool
+is_loser t log = is_unfinished t log && not (in_doubt t log)
+
+-- the state of an unfinished one: an abort outweighs a prepare
+abbrev pub state_by : (aborts prepares : Bool) → State
+state_by aborts prepares = if aborts then Aborting else if prepares then Prepared else Active
 
 abbrev pub state_at : ℕ → History → State
-state_at t log = state_by (aborted t log)
+state_at t log = state_by (aborted t log) (prepared t log)
 
 -- EFFECT. An update and a CLR put an image into a cell; other records change nothing. ARIES, section 4.1; a cell as a page and a
 -- slot is own.
@@ -93,6 +106,7 @@ change_of (Compensation c) = Some (record { page = c.page; slot = c.slot; image 
 change_of (Commit s) = None
 change_of (Abort s) = None
 change_of (End s) = None
+change_of (Prepare s) = None
 change_of CheckpointBegin = None
 change_of (CheckpointEnd begin transactions dirty) = None
 
@@ -145,16 +159,21 @@ replay_over cells log = effects (λ _ _. true) cells log
 abbrev pub replay : History → Cells
 replay log = replay_over empty log
 
--- whether its transaction commits in the log
-abbrev pub is_of_committed : History → LogRecord → Bool
-is_of_committed log (Update u) = committed u.tx log
-is_of_committed log (Compensation c) = committed c.tx log
-is_of_committed log _ = false
+-- the effects over given cells of the records of these transactions alone
+abbrev pub is_owned_among : (ℕ → Bool) → Option ℕ → Bool
+is_owned_among chosen None = false
+is_owned_among chosen (Some t) = chosen t
 
--- WINNERS. The effects over given cells of those records alone whose transaction commits in the log. ARIES, section 3 (what
--- recovery is for).
+abbrev pub effects_of : (ℕ → Bool) → Cells → History → Cells
+effects_of chosen cells log = effects (λ _ r. is_owned_among chosen (owner r)) cells log
+
+-- WINNERS. The effects over given cells of those records alone whose transaction is committed or in doubt in the log. ARIES,
+-- section 3 (what recovery is for).
+abbrev pub is_winner : History → ℕ → Bool
+is_winner log t = committed t log || in_doubt t log
+
 abbrev pub winners_over : Cells → History → Cells
-winners_over cells log = effects (λ _ r. is_of_committed log r) cells log
+winners_over cells log = effects_of (is_winner log) cells log
 
 -- over empty ones
 abbrev pub winners : History → Cells

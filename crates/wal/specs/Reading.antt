@@ -4,8 +4,8 @@ use Rattle.std.specs.List.{range_with_len}
 use Rattle.std.specs.Int.{Width, w32, w64, byte_len, from_be_bytes}
 use Rattle.page.specs.Image.{Image}
 use Rattle.wal.specs.declared.record.State.{State}
-use Rattle.wal.specs.declared.record.State.TheVariants.{Active, Aborting}
-use Rattle.wal.specs.Records.{PlainRecord, TableEntry, tx_in, page_in, LogRecord, Update, Compensation, Commit, Abort, End, CheckpointBegin, CheckpointEnd}
+use Rattle.wal.specs.declared.record.State.TheVariants.{Active, Aborting, Prepared}
+use Rattle.wal.specs.Records.{PlainRecord, TableEntry, tx_in, page_in, LogRecord, Update, Compensation, Commit, Abort, End, Prepare, CheckpointBegin, CheckpointEnd}
 use Rattle.page.specs.declared.sizes.TheConstants.{PAGES, VALUE_BYTES}
 use Rattle.wal.specs.declared.sizes.TheConstants.{DIRTY_BYTES, ENTRY_BYTES, TRANSACTIONS}
 
@@ -78,10 +78,19 @@ end_at bytes = do
   own ← plain_at bytes
   Some (End own.0, own.1)
 
--- 0 for active, 1 for aborting
+unfoldable pub prepare_at : List ℕ → Option (LogRecord × List ℕ)
+prepare_at bytes = do
+  own ← plain_at bytes
+  Some (Prepare own.0, own.1)
+
+-- 0 for active, 1 for aborting, 2 for prepared
 unfoldable pub state_at : List ℕ → Option (State × List ℕ)
 state_at [] = None
-state_at (code ∷ rest) = if code == 0 then Some (Active, rest) else if code == 1 then Some (Aborting, rest) else None
+state_at (code ∷ rest) =
+    if code == 0 then Some (Active, rest)
+    else if code == 1 then Some (Aborting, rest)
+    else if code == 2 then Some (Prepared, rest)
+    else None
 
 -- an entry of the transaction table
 unfoldable pub entry_at : List ℕ → Option (TableEntry × List ℕ)
@@ -137,6 +146,7 @@ fields_at kind bytes =
     else if kind == 5 then end_at bytes
     else if kind == 6 then Some (CheckpointBegin, bytes)
     else if kind == 7 then checkpoint_at bytes
+    else if kind == 8 then prepare_at bytes
     else None
 
 -- the kind, the LSN and the fields, and no byte behind them

@@ -51,6 +51,7 @@ pub data LogRecord : Type 0 where
   Commit : PlainRecord → LogRecord
   Abort : PlainRecord → LogRecord
   End : PlainRecord → LogRecord
+  Prepare : PlainRecord → LogRecord
   CheckpointBegin : LogRecord
   CheckpointEnd : (begin : ℕ) → (transactions : List TableEntry) → (dirty : List (ℕ × ℕ)) → LogRecord
 

@@ -4,8 +4,8 @@ use Rattle.std.specs.List.{AllByRecursion}
 use Rattle.std.specs.Int.{w32, w64, to_be_bytes}
 use Rattle.page.specs.Image.{Image, FitsSlot}
 use Rattle.wal.specs.declared.record.State.{State}
-use Rattle.wal.specs.declared.record.State.TheVariants.{Active, Aborting}
-use Rattle.wal.specs.Records.{TableEntry, tx_in, page_in, UpdateRecord, CompensationRecord, PlainRecord, LogRecord, Update, Compensation, Commit, Abort, End, CheckpointBegin, CheckpointEnd}
+use Rattle.wal.specs.declared.record.State.TheVariants.{Active, Aborting, Prepared}
+use Rattle.wal.specs.Records.{TableEntry, tx_in, page_in, UpdateRecord, CompensationRecord, PlainRecord, LogRecord, Update, Compensation, Commit, Abort, End, Prepare, CheckpointBegin, CheckpointEnd}
 use Rattle.page.specs.declared.sizes.TheConstants.{PAGES}
 use Rattle.wal.specs.declared.sizes.TheConstants.{TRANSACTIONS}
 
@@ -23,10 +23,11 @@ update u = (to_be_bytes w32 u.tx ++ to_be_bytes w64 u.prev) ++ to_be_bytes w32 u
 abbrev pub compensation : CompensationRecord → List ℕ
 compensation c = (to_be_bytes w32 c.tx ++ to_be_bytes w64 c.prev) ++ to_be_bytes w32 c.page ++ (c.slot ∷ []) ++ to_be_bytes w64 c.undo_next ++ image c.image
 
--- 0 for active, 1 for aborting
+-- 0 for active, 1 for aborting, 2 for prepared
 abbrev pub state : State → List ℕ
 state Active = 0 ∷ []
 state Aborting = 1 ∷ []
+state Prepared = 2 ∷ []
 
 abbrev pub entry : TableEntry → List ℕ
 entry e = to_be_bytes w32 e.tx ++ (state e.state ++ (to_be_bytes w64 e.last ++ to_be_bytes w64 e.undo_next))
@@ -49,6 +50,7 @@ kind_of (Abort r) = 4
 kind_of (End r) = 5
 kind_of CheckpointBegin = 6
 kind_of (CheckpointEnd begin transactions dirty) = 7
+kind_of (Prepare r) = 8
 
 -- the fields after the LSN
 abbrev pub fields : LogRecord → List ℕ
@@ -57,6 +59,7 @@ fields (Compensation c) = compensation c
 fields (Commit r) = plain r
 fields (Abort r) = plain r
 fields (End r) = plain r
+fields (Prepare r) = plain r
 fields CheckpointBegin = []
 fields (CheckpointEnd begin transactions dirty) = checkpoint begin transactions dirty
 
@@ -125,5 +128,6 @@ Fits (Compensation c) = FitsCompensation c
 Fits (Commit r) = FitsPlain r
 Fits (Abort r) = FitsPlain r
 Fits (End r) = FitsPlain r
+Fits (Prepare r) = FitsPlain r
 Fits CheckpointBegin = Unit {0}
 Fits (CheckpointEnd begin transactions dirty) = FitsCheckpoint begin transactions dirty

@@ -2,7 +2,7 @@
 -- rising number, and the LSNs by counting, are own.
 use Rattle.std.specs.Prelude.{ℕ, suc, zero, List, [], ◌∷◌, ◌++◌, Bool, true, false, ◌||◌, ◌==◌, if◌then◌else◌, map, filter, flat_map, max, Option, Some, None}
 use Rattle.wal.specs.Records.{UpdateRecord, LogRecord, Update, Compensation, End, History, start, ◌▸◌, LogContent, history, ◌⧺◌, last_lsn}
-use Rattle.wal.specs.Meaning.{owner, is_unfinished, is_loser, pending, last_of}
+use Rattle.wal.specs.Meaning.{owner, is_unfinished, in_doubt, is_loser, pending, last_of}
 
 -- WHAT IS WRITTEN
 -- the end of a transaction, or the CLR of an update
@@ -103,6 +103,9 @@ transactions_of chosen log = filter chosen (numbers_from 0 (above_all log))
 
 abbrev pub unfinished_of : History → List ℕ
 unfinished_of log = transactions_of (λ t. is_unfinished t log) log
+
+abbrev pub in_doubt_of : History → List ℕ
+in_doubt_of log = transactions_of (λ t. in_doubt t log) log
 
 abbrev pub losers_of : History → List ℕ
 losers_of log = transactions_of (λ t. is_loser t log) log

@@ -1,14 +1,14 @@
 -- What is proved of the definitions alone.
-use Rattle.std.specs.Prelude.{suc, ◌≡◌, ◌↔◌, ◌≤◌, ◌<◌, ℕ, List, [], length, slice_index_or, true, false, Option, Some, filter, All}
+use Rattle.std.specs.Prelude.{suc, ◌≡◌, ◌↔◌, ◌≤◌, ◌<◌, ℕ, List, [], length, slice_index_or, true, false, Option, Some, filter, map, All}
 use Rattle.page.specs.declared.page.Page.{Page}
 use Rattle.page.specs.Store.{StoreContent, AreNumbered}
-use Rattle.wal.specs.Records.{LogRecord, History, LogContent, history, up_to, last_lsn, record_at, first}
-use Rattle.wal.specs.Meaning.{is_loser, pending, undo_next_of, replay, winners, is_on, last_on}
+use Rattle.wal.specs.Records.{LogRecord, tx_in, History, LogContent, history, up_to, last_lsn, record_at, first}
+use Rattle.wal.specs.Meaning.{in_doubt, is_loser, pending, undo_next_of, replay, winners, is_on, last_on}
 use Rattle.wal.specs.Laws.{Obeys, IsLawful}
-use Rattle.wal.specs.Tail.{is_end, losers_of, tail, tail_of, with_tail}
+use Rattle.wal.specs.Tail.{is_end, in_doubt_of, losers_of, tail, tail_of, with_tail}
 use Rattle.wal.specs.Hops.{hops}
 use Rattle.wal.specs.Redo.{rec_lsn_of, is_redone, slots_in, redo_of}
-use Rattle.wal.specs.Undo.{entry_for, walk_of, undone_by}
+use Rattle.wal.specs.Undo.{entry_for, walk_of, lost_in, doubtful_in, undone_by}
 use Rattle.wal.specs.Store.{PageLaw, true_table, Lawful, store_out, Cut}
 use Rattle.wal.specs.Reads.{Reads}
 
@@ -27,10 +27,11 @@ abbrev pub ReplayIsWinners : Type 0
 ReplayIsWinners = (log : LogContent) → IsLawful (history log) →
     replay (history (with_tail log)) ≡ winners (history log)
 
--- The log and its tail are lawful, have no loser and no tail, and the same winners.
+-- The log and its tail are lawful, have no loser and no tail, the same transactions in doubt, and the same winners.
 pub record Settles (log : LogContent) : Type 0 where
   pub lawful : IsLawful (history (with_tail log))
   pub no_loser : (t : ℕ) → is_loser t (history (with_tail log)) ≡ false
+  pub same_doubt : (t : ℕ) → in_doubt t (history (with_tail log)) ≡ in_doubt t (history log)
   pub no_tail : tail_of (with_tail log) ≡ []
   pub same : winners (history (with_tail log)) ≡ winners (history log)
 
@@ -81,13 +82,21 @@ abbrev pub RedoSuffices : Type 0
 RedoSuffices = (log : LogContent) (store : StoreContent) (dirty : List (ℕ × ℕ)) (redo_lsn : ℕ) → Lawful log store → All (ReachesAll dirty redo_lsn (history log)) store.pages
     → All (λ page. redo_of (rec_lsn_of page.number dirty) redo_lsn (history log) page ≡ replayed_page (history log) page.number) store.pages
 
--- On a lawful log and the true table of its losers, undo appends the tail, and no hop is bad.
+-- On a lawful log and the losers of its true table, undo appends the tail, and no hop is bad.
 pub record UndoesAll (log : History) : Type 0 where
-  pub appended : undone_by log (true_table log) ≡ tail log
-  pub no_bad_hop : (t : ℕ) → (walk_of log (entry_for t (true_table log))).ends ≡ 0
+  pub appended : undone_by log (lost_in (true_table log)) ≡ tail log
+  pub no_bad_hop : (t : ℕ) → (walk_of log (entry_for t (lost_in (true_table log)))).ends ≡ 0
 
 abbrev pub UndoIsTail : Type 0
 UndoIsTail = (log : LogContent) → IsLawful (history log) → UndoesAll (history log)
+
+-- The true table of a log has as prepared those in doubt, and as lost the losers, in rising number.
+pub record TellsDoubt (log : History) : Type 0 where
+  pub doubtful : doubtful_in (true_table log) ≡ in_doubt_of log
+  pub lost : map tx_in (lost_in (true_table log)) ≡ losers_of log
+
+abbrev pub TableTellsDoubt : Type 0
+TableTellsDoubt = (log : LogContent) → TellsDoubt (history log)
 
 -- THE STORE
 -- A store that a restart may leave beside the log and its tail up to an LSN, not below the log's last: the count and the master

@@ -1,5 +1,7 @@
 -- UNDO. What undo appends, for any log and any table of losers. ARIES, section 6.3 (undo pass).
-use Rattle.std.specs.Prelude.{ℕ, suc, List, [], ◌∷◌, Option, Some, None, ◌==◌, if◌then◌else◌, map}
+use Rattle.std.specs.Prelude.{ℕ, suc, List, [], ◌∷◌, Option, Some, None, Bool, true, false, not, ◌==◌, if◌then◌else◌, map, filter}
+use Rattle.wal.specs.declared.record.State.{State}
+use Rattle.wal.specs.declared.record.State.TheVariants.{Active, Prepared, Aborting}
 use Rattle.wal.specs.Records.{TableEntry, tx_in, LogRecord, History, last_lsn}
 use Rattle.wal.specs.Hops.{Walk, hops}
 use Rattle.wal.specs.Tail.{written, rollback}
@@ -17,6 +19,22 @@ walk_of log (Some e) = hops e.tx log e.undo_next
 abbrev pub last_in : Option TableEntry → ℕ
 last_in None = 0
 last_in (Some e) = e.last
+
+-- THE LOSERS of a table of unfinished transactions: those that it does not have as prepared
+abbrev pub is_prepared : State → Bool
+is_prepared Active = false
+is_prepared Prepared = true
+is_prepared Aborting = false
+
+abbrev pub is_lost : TableEntry → Bool
+is_lost e = not (is_prepared e.state)
+
+abbrev pub lost_in : List TableEntry → List TableEntry
+lost_in entries = filter is_lost entries
+
+-- those in doubt: the numbers of the ones that it has as prepared
+abbrev pub doubtful_in : List TableEntry → List ℕ
+doubtful_in entries = map tx_in (filter (λ e. is_prepared e.state) entries)
 
 -- UNDONE. The transactions of the table are rolled back, each by the updates that its hops meet, and these records written.
 abbrev pub undone_by : History → List TableEntry → List LogRecord

@@ -29,6 +29,7 @@ impl<'a> RecordView<'a> {
             RecordView::Commit { tx, .. } => Some(*tx),
             RecordView::Abort { tx, .. } => Some(*tx),
             RecordView::End { tx, .. } => Some(*tx),
+            RecordView::Prepare { tx, .. } => Some(*tx),
             RecordView::CheckpointBegin => None,
             RecordView::CheckpointEnd { .. } => None,
         }
@@ -45,6 +46,7 @@ impl<'a> RecordView<'a> {
             RecordView::Commit { prev, .. } => *prev,
             RecordView::Abort { prev, .. } => *prev,
             RecordView::End { prev, .. } => *prev,
+            RecordView::Prepare { prev, .. } => *prev,
             RecordView::CheckpointBegin => 0,
             RecordView::CheckpointEnd { .. } => 0,
         }
@@ -80,6 +82,7 @@ impl<'a> RecordView<'a> {
             RecordView::Commit { .. } => None,
             RecordView::Abort { .. } => None,
             RecordView::End { .. } => None,
+            RecordView::Prepare { .. } => None,
             RecordView::CheckpointBegin => None,
             RecordView::CheckpointEnd { .. } => None,
         }

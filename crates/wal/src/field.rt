@@ -111,6 +111,7 @@ fn state_at(bytes: &[u8]) -> Option<(State, &[u8])>
         [code, rest @ ..] => match *code {
             0 => Some((State::Active, rest)),
             1 => Some((State::Aborting, rest)),
+            2 => Some((State::Prepared, rest)),
             _ => None,
         },
     }
@@ -200,6 +201,7 @@ fn put_state<A: Allocator>(out: &mut Vec<u8, A>, state: State) -> Result<(), All
     let code = match state {
         State::Active => 0,
         State::Aborting => 1,
+        State::Prepared => 2,
     };
     out.push(code)?;
     Ok(())

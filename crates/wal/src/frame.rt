@@ -4,7 +4,7 @@ ghost use Rattle.std.specs.Prelude.{◌≡◌, ◌++◌, ◌∷◌, [], ◌<◌,
 ghost use Rattle.page.specs.declared.fault.Fault.TheVariants.{NoResource};
 ghost use Rattle.std.specs.Int.{w32, w64, to_be_bytes};
 ghost use Rattle.wal.specs.Records.{CompensationRecord, PlainRecord, UpdateRecord};
-ghost use Rattle.wal.specs.Reading.{update_at, compensation_at, commit_at, abort_at, end_at, transactions_at, dirties_at, checkpoint_at, fields_at, body_at};
+ghost use Rattle.wal.specs.Reading.{update_at, compensation_at, commit_at, abort_at, end_at, prepare_at, transactions_at, dirties_at, checkpoint_at, fields_at, body_at};
 ghost use Rattle.wal.specs.Frames.{next_at, Gives};
 ghost use Rattle.wal.specs.Spelling.{image, plain, update, compensation, body, frame, checkpoint, table, entry, dirty_page, kind_of, fields, Fits, FitsCheckpoint, FitsTable};
 ghost use Rattle.wal.specs.Content.{content, Keeps, shown};
@@ -93,6 +93,15 @@ fn end_at(bytes: &[u8]) -> Option<(RecordView, &[u8])>
     Some((RecordView::End { tx, prev }, rest))
 }
 
+#[inline]
+#[tactic(auto, unfolding(crate::specs::Reading::prepare_at))]
+fn prepare_at(bytes: &[u8]) -> Option<(RecordView, &[u8])>
+    ensures { option_map (λ x. (shown x.0, x.1.now)) result ≡ prepare_at bytes.now }
+{
+    let (tx, prev, rest) = plain_at(bytes)?;
+    Some((RecordView::Prepare { tx, prev }, rest))
+}
+
 #[tactic(auto, unfolding(crate::specs::Reading::transactions_at))]
 fn transactions_at(bytes: &[u8]) -> Option<(TransactionTable, &[u8])>
     ensures { option_map (λ x. (x.0, x.1.now)) result ≡ transactions_at bytes.now }
@@ -143,6 +152,7 @@ fn fields_at(kind: u8, bytes: &[u8]) -> Option<(RecordView, &[u8])>
         5 => end_at(bytes),
         6 => Some((RecordView::CheckpointBegin, bytes)),
         7 => checkpoint_at(bytes),
+        8 => prepare_at(bytes),
         _ => None,
     }
 }
@@ -209,6 +219,7 @@ fn body_len(entry: &Record) -> u32
         Record::Commit { .. } => PLAIN_BODY as u32,
         Record::Abort { .. } => PLAIN_BODY as u32,
         Record::End { .. } => PLAIN_BODY as u32,
+        Record::Prepare { .. } => PLAIN_BODY as u32,
         Record::CheckpointBegin => SMALLEST_BODY as u32,
         Record::CheckpointEnd {
             transactions,
@@ -256,6 +267,7 @@ fn put_fields<A: Allocator>(out: &mut Vec<u8, A>, entry: &Record) -> Result<(), 
         Record::Commit { tx, prev } => put_plain(out, *tx, *prev)?,
         Record::Abort { tx, prev } => put_plain(out, *tx, *prev)?,
         Record::End { tx, prev } => put_plain(out, *tx, *prev)?,
+        Record::Prepare { tx, prev } => put_plain(out, *tx, *prev)?,
         Record::CheckpointBegin => {}
         Record::CheckpointEnd {
             begin,
@@ -281,6 +293,7 @@ fn kind_of(entry: &Record) -> u8
         Record::End { .. } => 5,
         Record::CheckpointBegin => 6,
         Record::CheckpointEnd { .. } => 7,
+        Record::Prepare { .. } => 8,
     }
 }
 

@@ -5,7 +5,7 @@ ghost use Rattle.wal.specs.Records.{LogRecord};
 ghost use Rattle.wal.specs.Meaning.{cell_of};
 ghost use Rattle.wal.specs.Spelling.{Fits};
 ghost use Rattle.wal.specs.Frames.{IsPlace, body_of, frame_at};
-ghost use Rattle.wal.specs.Glances.{glance_of, update_glance, compensation_glance, commit_glance, abort_glance, end_glance, fields_glance, body_glance};
+ghost use Rattle.wal.specs.Glances.{glance_of, update_glance, compensation_glance, commit_glance, abort_glance, end_glance, prepare_glance, fields_glance, body_glance};
 
 use crate::field::{plain_at, slot_at, u32_at, u64_at};
 
@@ -37,6 +37,10 @@ pub enum Glance {
     End {
         tx: u32,
     },
+    /// A transaction has prepared to commit.
+    Prepare {
+        tx: u32,
+    },
     /// A checkpoint began or ended.
     Checkpoint,
 }
@@ -54,6 +58,7 @@ impl Glance {
             Glance::Commit { .. } => None,
             Glance::Abort { .. } => None,
             Glance::End { .. } => None,
+            Glance::Prepare { .. } => None,
             Glance::Checkpoint => None,
         }
     }
@@ -115,6 +120,15 @@ fn end_glance(bytes: &[u8]) -> Option<Glance>
 }
 
 #[inline(always)]
+#[tactic(auto, unfolding(crate::specs::Glances::prepare_glance))]
+fn prepare_glance(bytes: &[u8]) -> Option<Glance>
+    ensures { result ≡ prepare_glance bytes.now }
+{
+    let (tx, _, _) = plain_at(bytes)?;
+    Some(Glance::Prepare { tx })
+}
+
+#[inline(always)]
 #[tactic(auto, unfolding(crate::specs::Glances::fields_glance))]
 fn fields_glance(kind: u8, bytes: &[u8]) -> Option<Glance>
     ensures { result ≡ fields_glance kind bytes.now }
@@ -125,6 +139,7 @@ fn fields_glance(kind: u8, bytes: &[u8]) -> Option<Glance>
         3 => commit_glance(bytes),
         4 => abort_glance(bytes),
         5 => end_glance(bytes),
+        8 => prepare_glance(bytes),
         _ => Some(Glance::Checkpoint),
     }
 }

@@ -1,7 +1,7 @@
 //! Laws of logs. Each function is its law: what it ensures holds of the definitions alone.
 
 ghost use Rattle.wal.specs.Reads.{OneReading, OneLogFault, NoFaultOfALog};
-ghost use Rattle.wal.specs.Theorems.{LawfulByRecord, HopsMeetPending, ReplayIsWinners, TailSettles, LosersEnd, CutsResume, RedoReplays, RedoSuffices, UndoIsTail, StoreSettles, RestartGoesOn, CutsSettle, CutsCompose};
+ghost use Rattle.wal.specs.Theorems.{LawfulByRecord, HopsMeetPending, ReplayIsWinners, TailSettles, LosersEnd, CutsResume, RedoReplays, RedoSuffices, UndoIsTail, TableTellsDoubt, StoreSettles, RestartGoesOn, CutsSettle, CutsCompose};
 
 /// No text is two logs.
 pub fn one_reading()
@@ -34,7 +34,8 @@ pub fn replay_is_winners()
     ensures { ReplayIsWinners }
 {}
 
-/// A lawful log and its tail are lawful, have no loser, no tail, and the same winners.
+/// A lawful log and its tail are lawful, have no loser, no tail, the same transactions in doubt, and the
+/// same winners.
 pub fn tail_settles()
     ensures { TailSettles }
 {}
@@ -60,9 +61,14 @@ pub fn redo_suffices()
     ensures { RedoSuffices }
 {}
 
-/// Undo by the true table of a lawful log's losers appends the tail, and no hop is bad.
+/// Undo by the losers of a lawful log's true table appends the tail, and no hop is bad.
 pub fn undo_is_tail()
     ensures { UndoIsTail }
+{}
+
+/// The true table of a log has as prepared the transactions in doubt, and as lost the losers.
+pub fn table_tells_doubt()
+    ensures { TableTellsDoubt }
 {}
 
 /// What a restart leaves is lawful, and a further restart leaves the store as it is.

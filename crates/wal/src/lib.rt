@@ -25,7 +25,7 @@ pub use glance::Glance;
 pub use laws::{
     cuts_compose, cuts_resume, cuts_settle, hops_meet_pending, lawful_by_record, losers_end,
     no_fault_of_a_log, one_log_fault, one_reading, redo_replays, redo_suffices, replay_is_winners,
-    restart_goes_on, store_settles, tail_settles, undo_is_tail,
+    restart_goes_on, store_settles, table_tells_doubt, tail_settles, undo_is_tail,
 };
 pub use log::{Log, read_log};
 pub use record::{Entry, Record, State};

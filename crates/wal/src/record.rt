@@ -18,6 +18,9 @@ pub enum State {
     Active,
     /// It has asked to be rolled back.
     Aborting,
+    /// It has prepared to commit, and waits to be told whether it does (two-phase commit). A restart
+    /// leaves it in doubt: its changes stay, and it is listed.
+    Prepared,
 }
 
 /// What a transaction table says of a transaction.
@@ -70,6 +73,12 @@ pub enum Record {
         tx: u32,
         prev: u64,
     },
+    /// A transaction has prepared to commit: it does no more work, and survives a crash in doubt
+    /// until a commit or an abort of it is logged.
+    Prepare {
+        tx: u32,
+        prev: u64,
+    },
     /// A checkpoint began.
     CheckpointBegin,
     /// The checkpoint that began at the LSN `begin`, with the transaction table and the dirty page
@@ -109,6 +118,7 @@ impl Record {
             Record::Commit { tx, prev } => is_plain(*tx, *prev),
             Record::Abort { tx, prev } => is_plain(*tx, *prev),
             Record::End { tx, prev } => is_plain(*tx, *prev),
+            Record::Prepare { tx, prev } => is_plain(*tx, *prev),
             Record::CheckpointBegin => true,
             Record::CheckpointEnd {
                 begin,

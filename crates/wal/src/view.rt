@@ -218,6 +218,11 @@ pub enum RecordView<'a> {
         tx: u32,
         prev: u64,
     },
+    /// A transaction has prepared to commit.
+    Prepare {
+        tx: u32,
+        prev: u64,
+    },
     /// A checkpoint began.
     CheckpointBegin,
     /// The checkpoint that began at this LSN, with the tables as they were at its begin.
@@ -276,6 +281,10 @@ impl<'a> RecordView<'a> {
                 prev: *prev,
             },
             RecordView::End { tx, prev } => Record::End {
+                tx: *tx,
+                prev: *prev,
+            },
+            RecordView::Prepare { tx, prev } => Record::Prepare {
                 tx: *tx,
                 prev: *prev,
             },

@@ -2,10 +2,10 @@
 
 use super::vectors::{
     CHECKPOINT_LOSER, EMPTY_AND_FULL_VALUES, ONE_COMMIT, ONE_LOSER_RESTARTED,
-    PARTIAL_ROLLBACK_COMMIT, ROLLBACK_INTERRUPTED,
+    PARTIAL_ROLLBACK_COMMIT, PREPARED, PREPARED_AT_CHECKPOINT, ROLLBACK_INTERRUPTED,
 };
 use super::{checkpoint_text, rewritten};
-use crate::{Entry, RecordView, State, read_log};
+use crate::{Entry, Glance, RecordView, State, read_log};
 use page::Fault;
 use std::test::Fail;
 
@@ -17,6 +17,8 @@ fn records_of_views_spell_the_log(rt: HostRuntime) -> Result<(), Fail> {
         CHECKPOINT_LOSER,
         PARTIAL_ROLLBACK_COMMIT,
         ROLLBACK_INTERRUPTED,
+        PREPARED,
+        PREPARED_AT_CHECKPOINT,
         EMPTY_AND_FULL_VALUES,
     ];
     for log in logs {
@@ -47,6 +49,41 @@ fn views_show_compensations(rt: HostRuntime) -> Result<(), Fail> {
     };
     assert_eq!(rt; (tx, prev, page, slot, undo_next), (1, 2, 0, 0, 1));
     assert_eq!(rt; image, Some(b"a".as_slice()));
+    Ok(())
+}
+
+#[test]
+fn views_show_prepares(rt: HostRuntime) -> Result<(), Fail> {
+    assert_eq!(rt; PREPARED.len(), 66);
+    let (log, torn) = read_log(rt.alloc(), PREPARED)?;
+    assert_eq!(rt; (log.len(), torn), (2, 0));
+    let Some(RecordView::Prepare { tx, prev }) = log.get(2) else {
+        return Err("no prepare".into());
+    };
+    assert_eq!(rt; (tx, prev), (1, 1));
+    assert!(rt; log.last() > 1);
+    let Glance::Prepare { tx } = log.glance_after(1) else {
+        return Err("no prepare at a glance".into());
+    };
+    assert_eq!(rt; tx, 1);
+    Ok(())
+}
+
+#[test]
+fn tables_show_prepared_transactions(rt: HostRuntime) -> Result<(), Fail> {
+    assert_eq!(rt; PREPARED_AT_CHECKPOINT.len(), 141);
+    let (log, torn) = read_log(rt.alloc(), PREPARED_AT_CHECKPOINT)?;
+    assert_eq!(rt; (log.len(), torn), (4, 0));
+    let Some(RecordView::CheckpointEnd { transactions, .. }) = log.get(4) else {
+        return Err("no checkpoint end".into());
+    };
+    let prepared = Entry {
+        state: State::Prepared,
+        last: 2,
+        undo_next: 1,
+    };
+    assert_eq!(rt; transactions.get(0), Some((1, prepared)));
+    assert_eq!(rt; transactions.get(1), None);
     Ok(())
 }
 
@@ -120,9 +157,9 @@ fn refuses_what_is_no_log(rt: HostRuntime) {
             Fault::BadRecord(8),
         ),
         (
-            "state 2",
+            "state 3",
             b"ARIESLG1\x00\x00\x00.\x07\x00\x00\x00\x00\x00\x00\x00\x01\x00\x00\x00\
-            \x00\x00\x00\x00\x01\x00\x00\x00\x01\x00\x00\x00\x01\x02\x00\x00\x00\x00\
+            \x00\x00\x00\x00\x01\x00\x00\x00\x01\x00\x00\x00\x01\x03\x00\x00\x00\x00\
             \x00\x00\x00\x00\x00\x00\x00\x00\x00\x00\x00\x00\x00\x00\x00\x00",
             Fault::BadRecord(8),
         ),
@@ -146,8 +183,8 @@ fn refuses_what_is_no_log(rt: HostRuntime) {
             Fault::BadRecord(8),
         ),
         (
-            "kind 8",
-            b"ARIESLG1\x00\x00\x00\x15\x08\x00\x00\x00\x00\x00\x00\x00\x01\x00\x00\x00\
+            "kind 9",
+            b"ARIESLG1\x00\x00\x00\x15\x09\x00\x00\x00\x00\x00\x00\x00\x01\x00\x00\x00\
             \x01\x00\x00\x00\x00\x00\x00\x00\x00",
             Fault::BadRecord(8),
         ),

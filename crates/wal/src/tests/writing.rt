@@ -2,7 +2,8 @@
 
 use super::put;
 use super::vectors::{
-    CHECKPOINT_LOSER, EMPTY_AND_FULL_VALUES, ONE_COMMIT, ONE_LOSER_RESTARTED, ROLLBACK_INTERRUPTED,
+    CHECKPOINT_LOSER, EMPTY_AND_FULL_VALUES, ONE_COMMIT, ONE_LOSER_RESTARTED, PREPARED,
+    PREPARED_AT_CHECKPOINT, ROLLBACK_INTERRUPTED,
 };
 use crate::{Entry, Record, State, write_frame};
 use linked_list_allocator::LocalHeap;
@@ -79,6 +80,33 @@ fn writes_compensations_aborts_and_ends(rt: HostRuntime) -> Result<(), Fail> {
 }
 
 #[test]
+fn writes_prepares(rt: HostRuntime) -> Result<(), Fail> {
+    let mut out = Vec::from_slice(rt.alloc(), b"ARIESLG1")?;
+    put(&rt, &mut out, 1, update(1, 0, 0, None, Value::new(b"a")))?;
+    put(&rt, &mut out, 2, Record::Prepare { tx: 1, prev: 1 })?;
+    assert_eq!(rt; out.as_slice(), PREPARED);
+
+    let prepared = Entry {
+        state: State::Prepared,
+        last: 2,
+        undo_next: 1,
+    };
+    let mut transactions = Vec::new(rt.alloc());
+    transactions.push((1, prepared))?;
+    let mut dirty = Vec::new(rt.alloc());
+    dirty.push((0, 1))?;
+    put(&rt, &mut out, 3, Record::CheckpointBegin)?;
+    let end = Record::CheckpointEnd {
+        begin: 3,
+        transactions,
+        dirty,
+    };
+    put(&rt, &mut out, 4, end)?;
+    assert_eq!(rt; out.as_slice(), PREPARED_AT_CHECKPOINT);
+    Ok(())
+}
+
+#[test]
 fn writes_checkpoints(rt: HostRuntime) -> Result<(), Fail> {
     let active = Entry {
         state: State::Active,
@@ -134,6 +162,7 @@ fn writes_the_largest_numbers(rt: HostRuntime) -> Result<(), Fail> {
         (3, Record::Commit { tx, prev }),
         (4, Record::Abort { tx, prev }),
         (5, Record::End { tx, prev }),
+        (8, Record::Prepare { tx, prev }),
     ];
     for (kind, record) in plain {
         let mut out = Vec::new(rt.alloc());
@@ -175,6 +204,10 @@ fn entries_are_told_apart(rt: HostRuntime) {
             state: State::Aborting,
             ..entry
         },
+        Entry {
+            state: State::Prepared,
+            ..entry
+        },
         Entry { last: 6, ..entry },
         Entry {
             undo_next: 0,
@@ -186,4 +219,5 @@ fn entries_are_told_apart(rt: HostRuntime) {
         assert!(rt; entry != other);
     }
     assert!(rt; State::Active != State::Aborting);
+    assert!(rt; State::Prepared != State::Aborting);
 }
