@@ -1,14 +1,15 @@
 -- Analysis of a lawful log: what is true at the checkpoint, and then record by record.
 use Rattle.std.proofs.Common.{ℕ, suc, ◌≡◌, ◌≤◌, Bool, true, false, cond, ◌||◌, not, List, [], ◌∷◌, Option, Some, None, refl, sym, ap, ap₂, ◌∙◌, subst, inl, inr, eqb-true, eqb, ltb}
-use Rattle.std.proofs.lemmas.Bool.{cases_Bool, or_parts, or_from, or_left, or_right, both_ways, and_right, and_left, ltb-false, and_from, not_from_false, not_from_true}
-use Rattle.wal.specs.declared.record.State.{State}
-use Rattle.wal.specs.declared.record.State.TheVariants.{Active, Aborting}
-use Rattle.wal.specs.Records.{TableEntry, LogRecord, Update, Compensation, Commit, Abort, End, History, start, ◌▸◌, last_lsn, first}
-use Rattle.wal.specs.Meaning.{state_by, is_of, has, aborted, committed, ended, finished, is_unfinished, last_of, undo_next_of}
+use Rattle.std.proofs.lemmas.Bool.{cases_Bool, or_parts, or_left, or_right, both_ways, and_right, and_left, ltb-false, and_from, not_from_false, not_from_true}
+use Rattle.wal.specs.declared.record.State.TheVariants.{Active}
+use Rattle.wal.specs.Records.{TableEntry, LogRecord, Update, Compensation, Commit, Abort, End, Prepare, History, start, ◌▸◌, last_lsn, first}
+use Rattle.wal.specs.Meaning.{state_by, state_at, is_of, is_abort_of, is_prepare_of, has, aborted, prepared, committed, ended, finished, is_unfinished, last_of, undo_next_of}
 use Rattle.wal.specs.Laws.{IsLawful, Obeys}
 use Rattle.wal.specs.Store.{true_entry}
-use Rattle.analysis.specs.Tables.{finishes, work_since, finished_since, undo_next_in, is_aborting, aborts_in, entry_by, base_since, analysed_entry}
+use Rattle.analysis.specs.Tables.{finishes, work_since, finished_since, undo_next_in, told_in, is_aborting, state_in_work, entry_by, base_since, analysed_entry}
 use Rattle.analysis.specs.Lawful.{unfinished_entry}
+use Rattle.analysis.proofs.Scanned.{state_by-state}
+use Rattle.wal.specs.Undo.{is_prepared}
 
 -- the last of the work, else the base's
 abbrev last_in_work : List (ℕ × LogRecord) → Option TableEntry → ℕ
@@ -25,7 +26,7 @@ is_listed (x ∷ work) base = true
 -- what is known of the work and the base so far
 pub record Known (t : ℕ) (log : History) (work : List (ℕ × LogRecord)) (base : Option TableEntry) : Type 0 where
   pub gone : finished t log ≡ true → (work ≡ []) × (base ≡ None)
-  pub aborts : finished t log ≡ false → aborts_in work base ≡ aborted t log
+  pub state : finished t log ≡ false → state_in_work t work base ≡ state_at t log
   pub undo_next : finished t log ≡ false → undo_next_in work base ≡ undo_next_of t log
   pub last : finished t log ≡ false → last_in_work work base ≡ last_of t log
   pub listed : finished t log ≡ false → is_listed work base ≡ has (is_of t) log
@@ -33,7 +34,7 @@ pub record Known (t : ℕ) (log : History) (work : List (ℕ × LogRecord)) (bas
 
 -- ABSENT TRANSACTIONS
 pub record Absent (t : ℕ) (log : History) : Type 0 where
-  pub aborts : aborted t log ≡ false
+  pub state : state_at t log ≡ Active
   pub undo_next : undo_next_of t log ≡ 0
   pub last : last_of t log ≡ 0
 
@@ -42,27 +43,39 @@ last_other : (t : ℕ) (log : History) (r : LogRecord) → is_of t r ≡ false �
 last_other t log r e = rw e refl
 
 absent : (t : ℕ) (log : History) → has (is_of t) log ≡ false → Absent t log
-absent t start h = record { aborts = refl; undo_next = refl; last = refl }
+absent t start h = record { state = refl; undo_next = refl; last = refl }
 absent t (log ▸ Update u) h =
     let (a, b) = or_parts (eqb u.tx t) (has (is_of t) log) h in
     let k = absent t log b in
-    record { aborts = k.aborts; undo_next = rw a k.undo_next; last = rw a k.last }
+    record { state = k.state; undo_next = rw a k.undo_next; last = rw a k.last }
 absent t (log ▸ Compensation c) h =
     let (a, b) = or_parts (eqb c.tx t) (has (is_of t) log) h in
     let k = absent t log b in
-    record { aborts = k.aborts; undo_next = rw a k.undo_next; last = rw a k.last }
+    record { state = k.state; undo_next = rw a k.undo_next; last = rw a k.last }
 absent t (log ▸ Abort s) h =
     let (a, b) = or_parts (eqb s.tx t) (has (is_of t) log) h in
     let k = absent t log b in
-    record { aborts = or_from (eqb s.tx t) (aborted t log) a k.aborts; undo_next = k.undo_next; last = rw a k.last }
+    record { state = rw a k.state; undo_next = k.undo_next; last = rw a k.last }
+absent t (log ▸ Prepare s) h =
+    let (a, b) = or_parts (eqb s.tx t) (has (is_of t) log) h in
+    let k = absent t log b in
+    record { state = rw a k.state; undo_next = k.undo_next; last = rw a k.last }
 absent t (log ▸ r) h =
     let (a, b) = or_parts (is_of t r) (has (is_of t) log) h in
     let k = absent t log b in
-    record { aborts = k.aborts; undo_next = k.undo_next; last = last_other t log r a ∙ k.last }
+    record { state = k.state; undo_next = k.undo_next; last = last_other t log r a ∙ k.last }
 
-aborting_is : (b : Bool) → is_aborting (state_by b) ≡ b
-aborting_is true = refl
-aborting_is false = refl
+-- THE STATE
+aborting_is : (aborts prepares : Bool) → is_aborting (state_by aborts prepares) ≡ aborts
+aborting_is true prepares = refl
+aborting_is false true = refl
+aborting_is false false = refl
+
+-- two that say the same state say the same behind one record more
+same_state : (a p b q aborts prepares : Bool) → state_by a p ≡ state_by b q → state_by (aborts || a) (prepares || p) ≡ state_by (aborts || b) (prepares || q)
+same_state a p b q true prepares e = refl
+same_state a p b q false true e = ap (λ x. state_by x true) (sym (aborting_is a p) ∙ ap is_aborting e ∙ aborting_is b q)
+same_state a p b q false false e = e
 
 -- AT THE CHECKPOINT
 unfinished_is : (t : ℕ) (log : History) → finished t log ≡ false → is_unfinished t log ≡ has (is_of t) log
@@ -88,7 +101,7 @@ at_checkpoint t log = by_has (has (is_of t) log) refl (finished t log) refl
         subst (λ o. Known t log [] o) (sym n)
         (record {
           gone = λ _. (refl, refl);
-          aborts = λ g. absurd (both_ways (finished t log) g f);
+          state = λ g. absurd (both_ways (finished t log) g f);
           undo_next = λ g. absurd (both_ways (finished t log) g f);
           last = λ g. absurd (both_ways (finished t log) g f);
           listed = λ g. absurd (both_ways (finished t log) g f);
@@ -99,7 +112,7 @@ at_checkpoint t log = by_has (has (is_of t) log) refl (finished t log) refl
         subst (λ o. Known t log [] o) (sym n)
         (record {
           gone = λ g. absurd (both_ways (finished t log) f g);
-          aborts = λ _. aborting_is (aborted t log);
+          state = λ _. state_by-state (state_at t log);
           undo_next = λ _. refl;
           last = λ _. refl;
           listed = λ _. sym e;
@@ -111,7 +124,7 @@ at_checkpoint t log = by_has (has (is_of t) log) refl (finished t log) refl
         subst (λ o. Known t log [] o) (sym n)
         (record {
           gone = λ g. absurd (both_ways (finished t log) f g);
-          aborts = λ _. sym k.aborts;
+          state = λ _. sym k.state;
           undo_next = λ _. sym k.undo_next;
           last = λ _. sym k.last;
           listed = λ _. sym e;
@@ -121,14 +134,14 @@ at_checkpoint t log = by_has (has (is_of t) log) refl (finished t log) refl
 -- ONE RECORD ON
 -- a record that is none of t's
 Known-other : (t : ℕ) (log : History) (r : LogRecord) (work : List (ℕ × LogRecord)) (base : Option TableEntry)
-    → finished t (log ▸ r) ≡ finished t log → aborted t (log ▸ r) ≡ aborted t log → undo_next_of t (log ▸ r) ≡ undo_next_of t log → is_of t r ≡ false
+    → finished t (log ▸ r) ≡ finished t log → state_at t (log ▸ r) ≡ state_at t log → undo_next_of t (log ▸ r) ≡ undo_next_of t log → is_of t r ≡ false
     → Known t log work base → Known t (log ▸ r) work base
-Known-other t log r work base f a u o k =
+Known-other t log r work base f s u o k =
     let l : last_of t (log ▸ r) ≡ last_of t log = rw o in
     let h : has (is_of t) (log ▸ r) ≡ has (is_of t) log = rw o in
     record {
       gone = λ g. k.gone (sym f ∙ g);
-      aborts = λ g. k.aborts (sym f ∙ g) ∙ sym a;
+      state = λ g. k.state (sym f ∙ g) ∙ sym s;
       undo_next = λ g. k.undo_next (sym f ∙ g) ∙ sym u;
       last = λ g. k.last (sym f ∙ g) ∙ sym l;
       listed = λ g. k.listed (sym f ∙ g) ∙ sym h;
@@ -140,7 +153,7 @@ Known-finished : (t : ℕ) (log : History) → finished t log ≡ true → Known
 Known-finished t log f =
     record {
       gone = λ _. (refl, refl);
-      aborts = λ g. absurd (both_ways (finished t log) g f);
+      state = λ g. absurd (both_ways (finished t log) g f);
       undo_next = λ g. absurd (both_ways (finished t log) g f);
       last = λ g. absurd (both_ways (finished t log) g f);
       listed = λ g. absurd (both_ways (finished t log) g f);
@@ -150,14 +163,14 @@ Known-finished t log f =
 -- one that goes on with the work of t
 Known-work : (t : ℕ) (log : History) (r : LogRecord) (work : List (ℕ × LogRecord)) (base : Option TableEntry)
     → finished t (log ▸ r) ≡ false → is_of t r ≡ true
-    → aborts_in ((suc (last_lsn log), r) ∷ work) base ≡ aborted t (log ▸ r)
+    → state_in_work t ((suc (last_lsn log), r) ∷ work) base ≡ state_at t (log ▸ r)
     → undo_next_in ((suc (last_lsn log), r) ∷ work) base ≡ undo_next_of t (log ▸ r)
     → ((e : TableEntry) → base ≡ Some e → e.tx ≡ t) → Known t (log ▸ r) ((suc (last_lsn log), r) ∷ work) base
-Known-work t log r work base f o a u own =
+Known-work t log r work base f o s u own =
     let l : last_of t (log ▸ r) ≡ suc (last_lsn log) = rw o in
     record {
       gone = λ g. absurd (both_ways (finished t (log ▸ r)) f g);
-      aborts = λ _. a;
+      state = λ _. s;
       undo_next = λ _. u;
       last = λ _. sym l;
       listed = λ _. sym (or_left (is_of t r) (has (is_of t) log) o);
@@ -170,21 +183,25 @@ KnownAt t m base log = Known t log (work_since t m log) (base_since t m base log
 
 module _ (t m : ℕ) (base : Option TableEntry) (log : History) (behind : ltb (last_lsn log) m ≡ false) (k : KnownAt t m base log) where
   -- a record of another, or of none
-  other_next : (r : LogRecord) → finished t (log ▸ r) ≡ finished t log → aborted t (log ▸ r) ≡ aborted t log → undo_next_of t (log ▸ r) ≡ undo_next_of t log → is_of t r ≡ false
+  other_next : (r : LogRecord) → finished t (log ▸ r) ≡ finished t log → state_at t (log ▸ r) ≡ state_at t log → undo_next_of t (log ▸ r) ≡ undo_next_of t log → is_of t r ≡ false
       → work_since t m (log ▸ r) ≡ work_since t m log → base_since t m base (log ▸ r) ≡ base_since t m base log → KnownAt t m base (log ▸ r)
-  other_next r f a u o w b =
+  other_next r f s u o w b =
       subst (λ x. Known t (log ▸ r) x (base_since t m base (log ▸ r))) (sym w)
-      (subst (λ x. Known t (log ▸ r) (work_since t m log) x) (sym b) (Known-other t log r (work_since t m log) (base_since t m base log) f a u o k))
+      (subst (λ x. Known t (log ▸ r) (work_since t m log) x) (sym b) (Known-other t log r (work_since t m log) (base_since t m base log) f s u o k))
 
   -- one that goes on with the work of t
   work_next : (r : LogRecord) → finished t (log ▸ r) ≡ false → is_of t r ≡ true
-      → aborts_in ((suc (last_lsn log), r) ∷ work_since t m log) (base_since t m base log) ≡ aborted t (log ▸ r)
+      → finished t log ≡ false
       → undo_next_of t (log ▸ r) ≡ undo_next_in ((suc (last_lsn log), r) ∷ work_since t m log) (base_since t m base log)
       → work_since t m (log ▸ r) ≡ (suc (last_lsn log), r) ∷ work_since t m log → base_since t m base (log ▸ r) ≡ base_since t m base log → KnownAt t m base (log ▸ r)
-  work_next r f o a u w b =
+  work_next r f o still u w b =
+      let work = work_since t m log in
+      let old = base_since t m base log in
+      let s : state_in_work t ((suc (last_lsn log), r) ∷ work) old ≡ state_at t (log ▸ r) =
+      same_state (told_in (is_abort_of t) is_aborting work old) (told_in (is_prepare_of t) is_prepared work old) (aborted t log) (prepared t log) (is_abort_of t r) (is_prepare_of t r) (k.state still) in
       subst (λ x. Known t (log ▸ r) x (base_since t m base (log ▸ r))) (sym w)
       (subst (λ x. Known t (log ▸ r) ((suc (last_lsn log), r) ∷ work_since t m log) x) (sym b)
-      (Known-work t log r (work_since t m log) (base_since t m base log) f o a (sym u) k.own))
+      (Known-work t log r work old f o s (sym u) k.own))
 
   -- one that finishes t
   finish_next : (r : LogRecord) → finished t (log ▸ r) ≡ true → work_since t m (log ▸ r) ≡ [] → base_since t m base (log ▸ r) ≡ None → KnownAt t m base (log ▸ r)
@@ -196,14 +213,14 @@ module _ (t m : ℕ) (base : Option TableEntry) (log : History) (behind : ltb (l
       elim (cases_Bool (eqb u.tx t)) [
         | inl e ↦
             (let open_still : finished t log ≡ false = ap (λ x. finished x log) (sym (eqb-true u.tx t e)) ∙ o.finish.0 in
-            work_next (Update u) open_still e (k.aborts open_still) (rw e) (rw (behind, e)) (rw behind))
+            work_next (Update u) open_still e open_still (rw e) (rw (behind, e)) (rw behind))
         | inr e ↦ other_next (Update u) refl refl (rw e) e (rw (behind, e)) (rw behind)
       ]
   next_known (Compensation c) o =
       elim (cases_Bool (eqb c.tx t)) [
         | inl e ↦
-            (let open_still : finished t log ≡ false = ap (λ x. finished x log) (sym (eqb-true c.tx t e)) ∙ o.finish in
-            work_next (Compensation c) open_still e (k.aborts open_still) (rw e) (rw (behind, e)) (rw behind))
+            (let open_still : finished t log ≡ false = ap (λ x. finished x log) (sym (eqb-true c.tx t e)) ∙ o.finish.0 in
+            work_next (Compensation c) open_still e open_still (rw e) (rw (behind, e)) (rw behind))
         | inr e ↦ other_next (Compensation c) refl refl (rw e) e (rw (behind, e)) (rw behind)
       ]
   next_known (Commit s) o =
@@ -215,8 +232,15 @@ module _ (t m : ℕ) (base : Option TableEntry) (log : History) (behind : ltb (l
       elim (cases_Bool (eqb s.tx t)) [
         | inl e ↦
             (let open_still : finished t log ≡ false = ap (λ x. finished x log) (sym (eqb-true s.tx t e)) ∙ o.finish.0 in
-            work_next (Abort s) open_still e (sym (or_left (eqb s.tx t) (aborted t log) e)) (sym (k.undo_next open_still)) (rw (behind, e)) (rw behind))
+            work_next (Abort s) open_still e open_still (sym (k.undo_next open_still)) (rw (behind, e)) (rw behind))
         | inr e ↦ other_next (Abort s) refl (rw e) refl e (rw (behind, e)) (rw behind)
+      ]
+  next_known (Prepare s) o =
+      elim (cases_Bool (eqb s.tx t)) [
+        | inl e ↦
+            (let open_still : finished t log ≡ false = ap (λ x. finished x log) (sym (eqb-true s.tx t e)) ∙ o.finish.0 in
+            work_next (Prepare s) open_still e open_still (sym (k.undo_next open_still)) (rw (behind, e)) (rw behind))
+        | inr e ↦ other_next (Prepare s) refl (rw e) refl e (rw (behind, e)) (rw behind)
       ]
   next_known (End s) o =
       elim (cases_Bool (eqb s.tx t)) [
@@ -243,28 +267,23 @@ known_after t m (log ▸ r) h l =
     ]
 
 -- WHAT IS KNOWN IS THE ENTRY
-state_is : (s : State) → s ≡ state_by (is_aborting s)
-state_is Active = refl
-state_is Aborting = refl
-
 entry_is : (t : ℕ) (log : History) (work : List (ℕ × LogRecord)) (base : Option TableEntry) → Known t log work base → entry_by t work base ≡ unfinished_entry log t
 entry_is t log work base k = by_finished (finished t log) refl
   where
     by_work : (w : List (ℕ × LogRecord)) (b : Option TableEntry) → Known t log w b → finished t log ≡ false → entry_by t w b ≡ unfinished_entry log t
     by_work [] None n f = sym (entry_if t log false (unfinished_is t log f ∙ sym (n.listed f)))
     by_work [] (Some e) n f =
-        (let a : is_aborting e.state ≡ aborted t log = n.aborts f in
-        let s : e.state ≡ state_by (aborted t log) = state_is e.state ∙ ap state_by a in
+        (let s : e.state ≡ state_at t log = sym (state_by-state e.state) ∙ n.state f in
         let o : e.tx ≡ t = n.own e refl in
         let u : e.undo_next ≡ undo_next_of t log = n.undo_next f in
         let l : e.last ≡ last_of t log = n.last f in
         let x : ◌≡◌ {A = TableEntry} (record { tx = e.tx; state = e.state; last = e.last; undo_next = e.undo_next }) (true_entry log t) = cc in
         ap (λ y. Some y) x ∙ sym (entry_if t log true (unfinished_is t log f ∙ sym (n.listed f))))
     by_work (x ∷ w) b n f =
-        (let a : state_by (aborts_in (x ∷ w) b) ≡ state_by (aborted t log) = ap state_by (n.aborts f) in
+        (let s : state_in_work t (x ∷ w) b ≡ state_at t log = n.state f in
         let u : undo_next_in (x ∷ w) b ≡ undo_next_of t log = n.undo_next f in
         let l : x.0 ≡ last_of t log = n.last f in
-        let y : ◌≡◌ {A = TableEntry} (record { tx = t; state = state_by (aborts_in (x ∷ w) b); last = x.0; undo_next = undo_next_in (x ∷ w) b }) (true_entry log t) = cc in
+        let y : ◌≡◌ {A = TableEntry} (record { tx = t; state = state_in_work t (x ∷ w) b; last = x.0; undo_next = undo_next_in (x ∷ w) b }) (true_entry log t) = cc in
         ap (λ z. Some z) y ∙ sym (entry_if t log true (unfinished_is t log f ∙ sym (n.listed f))))
 
     by_finished : (b : Bool) → finished t log ≡ b → entry_by t work base ≡ unfinished_entry log t

@@ -1,24 +1,26 @@
 -- One record more, looked at.
-use Rattle.std.proofs.Common.{ℕ, suc, ◌≡◌, ◌+◌, ◌≤◌, true, false, cond, ltb, leb, List, [], ◌∷◌, Option, Some, None, refl, sym, ap, ap₂, ◌∙◌, arith, inl, inr}
+use Rattle.std.proofs.Common.{ℕ, suc, ◌≡◌, ◌+◌, ◌≤◌, Bool, true, false, ◌||◌, cond, eqb, ltb, leb, List, [], ◌∷◌, Option, Some, None, refl, sym, ap, ap₂, ◌∙◌, arith, inl, inr}
 use Rattle.std.proofs.lemmas.Bool.{cases_Bool, le-ltb, lt-ltb, le-leb, lt-leb}
 use Rattle.wal.specs.declared.record.State.{State}
-use Rattle.wal.specs.declared.record.State.TheVariants.{Active, Aborting}
-use Rattle.wal.specs.Records.{TableEntry, LogRecord, Update, CheckpointBegin, CheckpointEnd, History, start, ◌▸◌, last_lsn}
-use Rattle.wal.specs.Meaning.{state_by, is_of, is_on}
+use Rattle.wal.specs.declared.record.State.TheVariants.{Active, Prepared, Aborting}
+use Rattle.wal.specs.Records.{TableEntry, LogRecord, Update, Abort, Prepare, CheckpointBegin, CheckpointEnd, History, start, ◌▸◌, last_lsn}
+use Rattle.wal.specs.Meaning.{state_by, is_of, is_abort_of, is_prepare_of, is_on}
+use Rattle.wal.specs.Undo.{is_prepared}
 use Rattle.wal.specs.Store.{or_else}
-use Rattle.analysis.specs.Tables.{work_since, finished_since, base_since, undo_next_in, aborts_in, is_aborting, entry_by, analysed_entry, first_behind, analysed_rec_lsn}
-use Rattle.analysis.specs.Steps.{state_in, undo_next_of_entry, entry_after, rec_lsn_after, entry_seen}
+use Rattle.analysis.specs.Tables.{work_since, finished_since, base_since, undo_next_in, told_in, is_aborting, state_in_work, entry_by, analysed_entry, first_behind, analysed_rec_lsn}
+use Rattle.analysis.specs.Steps.{prepared_from, state_in, undo_next_of_entry, entry_after, rec_lsn_after, entry_seen}
 use Rattle.wal.specs.declared.glance.Glance.{Glance}
 use Rattle.wal.specs.Glances.{glance_of}
 
 -- what the entry says of the state and the undo-next
-state_by-aborting : (s : State) → state_by (is_aborting s) ≡ s
-state_by-aborting Active = refl
-state_by-aborting Aborting = refl
+pub state_by-state : (s : State) → state_by (is_aborting s) (is_prepared s) ≡ s
+state_by-state Active = refl
+state_by-state Prepared = refl
+state_by-state Aborting = refl
 
-pub state_in-entry : (t : ℕ) (work : List (ℕ × LogRecord)) (base : Option TableEntry) → state_in (entry_by t work base) ≡ state_by (aborts_in work base)
+pub state_in-entry : (t : ℕ) (work : List (ℕ × LogRecord)) (base : Option TableEntry) → state_in (entry_by t work base) ≡ state_in_work t work base
 state_in-entry t [] None = refl
-state_in-entry t [] (Some e) = sym (state_by-aborting e.state)
+state_in-entry t [] (Some e) = sym (state_by-state e.state)
 state_in-entry t (x ∷ work) base = refl
 
 pub undo_next-entry : (t : ℕ) (work : List (ℕ × LogRecord)) (base : Option TableEntry) → undo_next_of_entry (entry_by t work base) ≡ undo_next_in work base
@@ -27,22 +29,52 @@ undo_next-entry t [] (Some e) = refl
 undo_next-entry t (x ∷ work) base = refl
 
 -- an entry that says this
-abbrev saying : ℕ → State → ℕ → Option TableEntry
-saying t s n = Some (record { tx = t; state = s; last = 0; undo_next = n })
+abbrev saying : ℕ → State → ℕ → ℕ → Option TableEntry
+saying t s lsn n = Some (record { tx = t; state = s; last = lsn; undo_next = n })
+
+-- behind a prepare
+prepared_by : (aborts prepares : Bool) → prepared_from (state_by aborts prepares) ≡ state_by aborts true
+prepared_by true prepares = refl
+prepared_by false true = refl
+prepared_by false false = refl
 
 -- ONE RECORD MORE, behind m
 pub entry_more : (t m : ℕ) (base : Option TableEntry) (log : History) (r : LogRecord) → m ≤ last_lsn log
     → analysed_entry t m base (log ▸ r) ≡ entry_after (suc (last_lsn log)) r t (analysed_entry t m base log)
 entry_more t m base log CheckpointBegin le = (let behind : ltb (last_lsn log) m ≡ false = le-ltb _ _ le in rw behind refl)
 entry_more t m base log (CheckpointEnd begin transactions dirty) le = (let behind : ltb (last_lsn log) m ≡ false = le-ltb _ _ le in rw behind refl)
+entry_more t m base log (Abort s) le =
+    let behind : ltb (last_lsn log) m ≡ false = le-ltb _ _ le in
+    let work = work_since t m log in
+    let b = base_since t m base log in
+    elim (cases_Bool (eqb s.tx t)) [
+      | inl e ↦
+          (let state : state_in_work t ((suc (last_lsn log), Abort s) ∷ work) b ≡ Aborting =
+          ap (λ a. state_by (a || told_in (is_abort_of t) is_aborting work b) (told_in (is_prepare_of t) is_prepared work b)) e in
+          rw (behind, e) (ap₂ (λ s n. saying t s (suc (last_lsn log)) n) state (sym (undo_next-entry t work b))))
+      | inr e ↦ rw (behind, e) refl
+    ]
+entry_more t m base log (Prepare s) le =
+    let behind : ltb (last_lsn log) m ≡ false = le-ltb _ _ le in
+    let work = work_since t m log in
+    let b = base_since t m base log in
+    let aborts = told_in (is_abort_of t) is_aborting work b in
+    let prepares = told_in (is_prepare_of t) is_prepared work b in
+    elim (cases_Bool (eqb s.tx t)) [
+      | inl e ↦
+          (let state : state_in_work t ((suc (last_lsn log), Prepare s) ∷ work) b ≡ prepared_from (state_in (entry_by t work b)) =
+          ap (λ p. state_by aborts (p || prepares)) e ∙ sym (prepared_by aborts prepares) ∙ ap prepared_from (sym (state_in-entry t work b)) in
+          rw (behind, e) (ap₂ (λ s n. saying t s (suc (last_lsn log)) n) state (sym (undo_next-entry t work b))))
+      | inr e ↦ rw (behind, e) refl
+    ]
 entry_more t m base log r le =
     let behind : ltb (last_lsn log) m ≡ false = le-ltb _ _ le in
     let work = work_since t m log in
     let b = base_since t m base log in
     elim (cases_Bool (is_of t r)) [
       | inl e ↦
-          (let same : entry_after (suc (last_lsn log)) r t (saying t (state_by (aborts_in work b)) (undo_next_in work b)) ≡ entry_after (suc (last_lsn log)) r t (saying t (state_in (entry_by t work b)) (undo_next_of_entry (entry_by t work b))) =
-          ap₂ (λ s n. entry_after (suc (last_lsn log)) r t (saying t s n)) (sym (state_in-entry t work b)) (sym (undo_next-entry t work b)) in
+          (let same : entry_after (suc (last_lsn log)) r t (saying t (state_in_work t work b) 0 (undo_next_in work b)) ≡ entry_after (suc (last_lsn log)) r t (saying t (state_in (entry_by t work b)) 0 (undo_next_of_entry (entry_by t work b))) =
+          ap₂ (λ s n. entry_after (suc (last_lsn log)) r t (saying t s 0 n)) (sym (state_in-entry t work b)) (sym (undo_next-entry t work b)) in
           rw (behind, e) (rw e at same))
       | inr e ↦ rw (behind, e) refl
     ]

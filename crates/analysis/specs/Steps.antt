@@ -1,8 +1,8 @@
 -- What one record more does to the tables (ARIES section 6.1, the analysis pass).
 use Rattle.std.specs.Prelude.{◌≡◌, ℕ, ◌%◌, nat_lt, ◌||◌, Bool, true, false, List, slice_index_or, Option, Some, None, is_some, ◌==◌, if◌then◌else◌}
 use Rattle.wal.specs.declared.record.State.{State}
-use Rattle.wal.specs.declared.record.State.TheVariants.{Active, Aborting}
-use Rattle.wal.specs.Records.{TableEntry, LogRecord, Update, Compensation, Commit, Abort, End}
+use Rattle.wal.specs.declared.record.State.TheVariants.{Active, Prepared, Aborting}
+use Rattle.wal.specs.Records.{TableEntry, LogRecord, Update, Compensation, Commit, Abort, End, Prepare}
 use Rattle.wal.specs.declared.glance.Glance.{Glance}
 use Rattle.wal.specs.declared.glance.Glance.TheVariants as seen
 use Rattle.wal.specs.Glances.{owner_seen}
@@ -23,6 +23,12 @@ abbrev pub undo_next_of_entry : Option TableEntry → ℕ
 undo_next_of_entry None = 0
 undo_next_of_entry (Some e) = e.undo_next
 
+-- a prepare makes prepared what is not aborting
+abbrev pub prepared_from : State → State
+prepared_from Active = Prepared
+prepared_from Prepared = Prepared
+prepared_from Aborting = Aborting
+
 -- the entry of t when the record with this LSN has been looked at; one that is no more than a record of t is its last
 abbrev pub entry_after : ℕ → LogRecord → ℕ → Option TableEntry → Option TableEntry
 entry_after lsn (Update u) t old =
@@ -33,6 +39,8 @@ entry_after lsn (Abort s) t old =
     if s.tx == t then Some (record { tx = t; state = Aborting; last = lsn; undo_next = undo_next_of_entry old }) else old
 entry_after lsn (Commit s) t old = if s.tx == t then None else old
 entry_after lsn (End s) t old = if s.tx == t then None else old
+entry_after lsn (Prepare s) t old =
+    if s.tx == t then Some (record { tx = t; state = prepared_from (state_in old); last = lsn; undo_next = undo_next_of_entry old }) else old
 entry_after lsn r t old =
     if is_of t r then Some (record { tx = t; state = state_in old; last = lsn; undo_next = undo_next_of_entry old }) else old
 
@@ -46,6 +54,8 @@ entry_seen lsn (seen.Abort tx) t old =
     if tx == t then Some (record { tx = t; state = Aborting; last = lsn; undo_next = undo_next_of_entry old }) else old
 entry_seen lsn (seen.Commit tx) t old = if tx == t then None else old
 entry_seen lsn (seen.End tx) t old = if tx == t then None else old
+entry_seen lsn (seen.Prepare tx) t old =
+    if tx == t then Some (record { tx = t; state = prepared_from (state_in old); last = lsn; undo_next = undo_next_of_entry old }) else old
 entry_seen lsn glance t old =
     if is_owned_by t (owner_seen glance)
     then Some (record { tx = t; state = state_in old; last = lsn; undo_next = undo_next_of_entry old })

@@ -4,12 +4,12 @@ use Rattle.page.specs.declared.fault.Fault.{Fault}
 use Rattle.page.specs.declared.fault.Fault.TheVariants.{NoResource, BadMaster}
 use Rattle.page.specs.Causes.{HasOneCause, HasNoCause}
 use Rattle.wal.specs.declared.record.State.{State}
-use Rattle.wal.specs.declared.record.State.TheVariants.{Active, Aborting}
+use Rattle.wal.specs.declared.record.State.TheVariants.{Active, Prepared, Aborting}
 use Rattle.wal.specs.declared.record.Entry.{Entry}
-use Rattle.wal.specs.Records.{TableEntry, LogRecord, Update, Compensation, Abort, History, start, ◌▸◌, LogContent, history, last_lsn, tx_in, page_in}
-use Rattle.wal.specs.Meaning.{state_by, is_of, is_commit_of, is_end_of, is_on}
+use Rattle.wal.specs.Records.{TableEntry, LogRecord, Update, Compensation, History, start, ◌▸◌, LogContent, history, last_lsn, tx_in, page_in}
+use Rattle.wal.specs.Meaning.{state_by, is_of, is_commit_of, is_abort_of, is_end_of, is_prepare_of, is_on}
 use Rattle.wal.specs.Redo.{rec_lsn_of}
-use Rattle.wal.specs.Undo.{entry_for}
+use Rattle.wal.specs.Undo.{entry_for, is_prepared, lost_in}
 use Rattle.wal.specs.Store.{or_else, checkpoint_at}
 use Rattle.wal.specs.Content.{entry_of}
 use Rattle.wal.specs.Spelling.{IsRising}
@@ -21,9 +21,9 @@ pub record TablesContent : Type 0 where
   pub dirty : List (ℕ × ℕ)
   pub redo_lsn : ℕ
 
--- the losers among the unfinished transactions, which undo rolls back: all of them
+-- the losers among the unfinished transactions, which undo rolls back: those that are not prepared
 abbrev pub losers_in : TablesContent → List TableEntry
-losers_in tables = tables.transactions
+losers_in tables = lost_in tables.transactions
 
 -- THE BASE. Empty where the master is 0, else the tables of its checkpoint.
 abbrev pub base_of : ℕ → History → Option (List TableEntry × List (ℕ × ℕ))
@@ -57,21 +57,25 @@ undo_next_in ((lsn, Update u) ∷ work) base = lsn
 undo_next_in ((lsn, Compensation c) ∷ work) base = c.undo_next
 undo_next_in ((lsn, _) ∷ work) base = undo_next_in work base
 
+-- whether such a record is among its work, or the base is in such a state
+abbrev pub told_in : (LogRecord → Bool) → (State → Bool) → List (ℕ × LogRecord) → Option TableEntry → Bool
+told_in such in_such [] None = false
+told_in such in_such [] (Some e) = in_such e.state
+told_in such in_such ((lsn, r) ∷ work) base = such r || told_in such in_such work base
+
 abbrev pub is_aborting : State → Bool
 is_aborting Active = false
+is_aborting Prepared = false
 is_aborting Aborting = true
 
--- whether an abort is among its work, or the base says so
-abbrev pub aborts_in : List (ℕ × LogRecord) → Option TableEntry → Bool
-aborts_in [] None = false
-aborts_in [] (Some e) = is_aborting e.state
-aborts_in ((lsn, Abort s) ∷ work) base = true
-aborts_in ((lsn, _) ∷ work) base = aborts_in work base
+-- aborting where an abort is among its work or the base says so, else prepared where a prepare is or the base says so, else active
+abbrev pub state_in_work : ℕ → List (ℕ × LogRecord) → Option TableEntry → State
+state_in_work t work base = state_by (told_in (is_abort_of t) is_aborting work base) (told_in (is_prepare_of t) is_prepared work base)
 
 -- an entry where there is work, or the base has one; LastLSN is the last of the work
 abbrev pub entry_by : ℕ → List (ℕ × LogRecord) → Option TableEntry → Option TableEntry
 entry_by t [] base = base
-entry_by t (x ∷ work) base = Some (record { tx = t; state = state_by (aborts_in (x ∷ work) base); last = x.0; undo_next = undo_next_in (x ∷ work) base })
+entry_by t (x ∷ work) base = Some (record { tx = t; state = state_in_work t (x ∷ work) base; last = x.0; undo_next = undo_next_in (x ∷ work) base })
 
 abbrev pub analysed_entry : ℕ → ℕ → Option TableEntry → History → Option TableEntry
 analysed_entry t m base log = entry_by t (work_since t m log) (base_since t m base log)

@@ -48,7 +48,7 @@ fn redo_lsn_of(dirty: &BTreeMap<u32, u64>) -> u64
 /// later checkpoint end names it; [`Fault::NoResource`] where memory was refused.
 pub fn analyse(alloc: Global, log: &Log, master: u64) -> Result<Tables, Fault>
     ensures tables { IfOk result (AreTablesOf log.now master) }
-    // On a lawful log and its store: exactly the losers, and no record that an image lacks is skipped.
+    // On a lawful log and its store: exactly the unfinished transactions, and no record that an image lacks is skipped.
     ensures lawful { (store : StoreContent) → Lawful log.now store → store.master ≡ master → IfOk result (AreTrue log.now store) }
     // No record and no checkpoint that was read names transaction 0: the grammar of logs forbids it.
     ensures numbered { IfOk result (λ tables. entry_for 0 tables.transactions ≡ None) }

@@ -8,12 +8,30 @@ ghost use Rattle.wal.specs.Glances.{glance_of};
 ghost use Rattle.wal.specs.Redo.{rec_lsn_of};
 ghost use Rattle.wal.specs.Store.{or_else};
 ghost use Rattle.analysis.specs.Tables.{entry_at, analysed_entry, analysed_rec_lsn};
-ghost use Rattle.analysis.specs.Steps.{entry_seen, rec_lsn_after, AreListed, held_entry, AreKept};
+ghost use Rattle.analysis.specs.Steps.{prepared_from, entry_seen, rec_lsn_after, AreListed, held_entry, AreKept};
 
 use crate::kept::{PLACES, entry_in, finish, keep, put_back};
 use page::{Fault, PAGES};
 use std::collections::BTreeMap;
 use wal::{Entry, Glance, Log, State};
+
+/// An entry behind a prepare with the LSN `own`: prepared, unless it is aborting.
+fn prepared(old: Entry, own: u64) -> Entry
+    ensures state { result.state ≡ prepared_from old.state }
+    ensures last { result.last ≡ own }
+    ensures undo_next { result.undo_next ≡ old.undo_next }
+{
+    let state = match old.state {
+        State::Active => State::Prepared,
+        State::Prepared => State::Prepared,
+        State::Aborting => State::Aborting,
+    };
+    Entry {
+        state,
+        last: own,
+        undo_next: old.undo_next,
+    }
+}
 
 /// What a record does to the transaction table.
 fn note_transaction(
@@ -57,6 +75,10 @@ fn note_transaction(
         }
         Glance::Commit { tx, .. } => finish(transactions, kept, tx),
         Glance::End { tx, .. } => finish(transactions, kept, tx),
+        Glance::Prepare { tx, .. } => {
+            let entry = prepared(entry_in(transactions, kept, tx), lsn);
+            keep(transactions, kept, tx, entry)?;
+        }
         Glance::Checkpoint => {}
     }
     Ok(())

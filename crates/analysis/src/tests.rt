@@ -2,8 +2,10 @@
 
 use crate::analyse;
 use page::Fault;
+use std::alloc::Global;
+use std::process::Abort;
 use std::test::Fail;
-use wal::{Record, State, read_log, write_frame};
+use wal::{Entry, Record, State, read_log, write_frame};
 
 /// An update; a checkpoint that lists its transaction and page.
 const CHECKPOINT: &[u8] =
@@ -110,6 +112,177 @@ fn finds_the_tables(rt: HostRuntime) -> Result<(), Fail> {
         assert!(rt; first == row.dirty && dirty.next().is_none(), "dirty pages");
         assert_eq!(rt; tables.redo_lsn, row.redo_lsn);
     }
+    Ok(())
+}
+
+/// The text of the log of these records.
+fn log_of(rt: &impl Abort, alloc: Global, records: &[Record]) -> Result<Vec<u8>, Fault> {
+    let mut bytes = Vec::from_slice(alloc, b"ARIESLG1")?;
+    let mut lsn = 0u64;
+    for record in records {
+        assert!(rt; lsn < 9 && record.is_writable());
+        lsn += 1;
+        write_frame(record, lsn, &mut bytes)?;
+    }
+    Ok(bytes)
+}
+
+fn update(prev: u64) -> Record {
+    Record::Update {
+        tx: 1,
+        prev,
+        page: 0,
+        slot: 0,
+        before: None,
+        after: None,
+    }
+}
+
+fn prepare(prev: u64) -> Record {
+    Record::Prepare { tx: 1, prev }
+}
+
+fn commit(prev: u64) -> Record {
+    Record::Commit { tx: 1, prev }
+}
+
+fn abort(prev: u64) -> Record {
+    Record::Abort { tx: 1, prev }
+}
+
+fn end(prev: u64) -> Record {
+    Record::End { tx: 1, prev }
+}
+
+/// The end of the checkpoint at `begin` that lists T1 in this state behind these LSNs, and page 0.
+fn checkpoint_end(
+    alloc: Global,
+    begin: u64,
+    state: State,
+    last: u64,
+    undo_next: u64,
+) -> Result<Record, Fault> {
+    let mut transactions = Vec::new(alloc);
+    let entry = Entry {
+        state,
+        last,
+        undo_next,
+    };
+    transactions.push((1, entry))?;
+    let mut dirty = Vec::new(alloc);
+    dirty.push((0, 1))?;
+    Ok(Record::CheckpointEnd {
+        begin,
+        transactions,
+        dirty,
+    })
+}
+
+/// The entry of T1 that analysis finds from this master on.
+fn entry_of(
+    rt: &impl Abort,
+    alloc: Global,
+    records: &[Record],
+    master: u64,
+) -> Result<Option<(State, u64, u64)>, Fault> {
+    let bytes = log_of(rt, alloc, records)?;
+    let (log, _) = read_log(alloc, &bytes)?;
+    let tables = analyse(alloc, &log, master)?;
+    Ok(
+        tables
+            .transactions
+            .get(&1)
+            .map(|e| (e.state, e.last, e.undo_next)),
+    )
+}
+
+#[test]
+fn finds_prepared_transactions(rt: HostRuntime) -> Result<(), Fail> {
+    let prepared = [update(0), prepare(1)];
+    let found = entry_of(&rt, rt.alloc(), &prepared, 0)?;
+    assert!(rt; found == Some((State::Prepared, 2, 1)), "prepared");
+
+    let found = entry_of(&rt, rt.alloc(), &[prepare(0)], 0)?;
+    assert!(rt; found == Some((State::Prepared, 1, 0)), "prepare alone");
+
+    let committed = [update(0), prepare(1), commit(2)];
+    let found = entry_of(&rt, rt.alloc(), &committed, 0)?;
+    assert!(rt; found.is_none(), "prepared-commit");
+
+    let aborted = [update(0), prepare(1), abort(2)];
+    let found = entry_of(&rt, rt.alloc(), &aborted, 0)?;
+    assert!(rt; found == Some((State::Aborting, 3, 1)), "prepared-abort");
+    Ok(())
+}
+
+#[test]
+fn finds_prepares_that_no_law_allows(rt: HostRuntime) -> Result<(), Fail> {
+    let worked = [update(0), prepare(1), update(2)];
+    let found = entry_of(&rt, rt.alloc(), &worked, 0)?;
+    assert!(rt;
+        found == Some((State::Prepared, 3, 3)),
+        "work-after-prepare"
+    );
+
+    let ended = [update(0), prepare(1), end(2)];
+    let found = entry_of(&rt, rt.alloc(), &ended, 0)?;
+    assert!(rt; found.is_none(), "an end in doubt");
+
+    let turned_back = [update(0), abort(1), prepare(2)];
+    let found = entry_of(&rt, rt.alloc(), &turned_back, 0)?;
+    assert!(rt;
+        found == Some((State::Aborting, 3, 1)),
+        "a prepare behind an abort"
+    );
+
+    let done = [update(0), commit(1), prepare(2)];
+    let found = entry_of(&rt, rt.alloc(), &done, 0)?;
+    assert!(rt;
+        found == Some((State::Prepared, 3, 0)),
+        "a prepare behind a commit"
+    );
+    Ok(())
+}
+
+#[test]
+fn finds_what_a_checkpoint_has_as_prepared(rt: HostRuntime) -> Result<(), Fail> {
+    let listed = checkpoint_end(rt.alloc(), 3, State::Prepared, 2, 1)?;
+    let at_checkpoint = [update(0), prepare(1), Record::CheckpointBegin, listed];
+    let found = entry_of(&rt, rt.alloc(), &at_checkpoint, 3)?;
+    assert!(rt;
+        found == Some((State::Prepared, 2, 1)),
+        "prepared-at-checkpoint"
+    );
+
+    let listed = checkpoint_end(rt.alloc(), 3, State::Prepared, 2, 1)?;
+    let aborted = [
+        update(0),
+        prepare(1),
+        Record::CheckpointBegin,
+        listed,
+        abort(2),
+    ];
+    let found = entry_of(&rt, rt.alloc(), &aborted, 3)?;
+    assert!(rt;
+        found == Some((State::Aborting, 5, 1)),
+        "an abort behind it"
+    );
+
+    let listed = checkpoint_end(rt.alloc(), 2, State::Active, 1, 1)?;
+    let between = [update(0), Record::CheckpointBegin, prepare(1), listed];
+    let found = entry_of(&rt, rt.alloc(), &between, 2)?;
+    assert!(rt;
+        found == Some((State::Prepared, 3, 1)),
+        "a prepare between begin and end"
+    );
+
+    let listed = checkpoint_end(rt.alloc(), 2, State::Aborting, 1, 1)?;
+    let behind = [update(0), Record::CheckpointBegin, listed, prepare(1)];
+    let found = entry_of(&rt, rt.alloc(), &behind, 2)?;
+    assert!(rt;
+        found == Some((State::Aborting, 4, 1)),
+        "a prepare of an aborting one"
+    );
     Ok(())
 }
 
