@@ -1,8 +1,8 @@
 -- What the state that is kept decides of the laws.
-use Rattle.std.proofs.Common.{◌≡◌, ◌<◌, ◌≤◌, ◌||◌, not, ℕ, Bool, true, false, List, [], ◌∷◌, length, Option, Some, None, refl, sym, ap, ap₂, subst, ◌∙◌, inl, inr, arith}
-use Rattle.std.proofs.lemmas.Bool.{cases_eq, both_ways}
+use Rattle.std.proofs.Common.{◌≡◌, ◌<◌, ◌≤◌, ◌&&◌, ◌||◌, not, ℕ, Bool, true, false, List, [], ◌∷◌, length, Option, Some, None, refl, sym, ap, ap₂, subst, ◌∙◌, inl, inr, arith}
+use Rattle.std.proofs.lemmas.Bool.{cases_eq, both_ways, and_parts, not-true}
 use Rattle.wal.specs.Records.{UpdateRecord, CompensationRecord, LogRecord, Update, History, history, last_lsn, record_at, LogContent}
-use Rattle.wal.specs.Meaning.{replay, pending, finished, aborted, ended, image_in}
+use Rattle.wal.specs.Meaning.{replay, is_of, has, pending, finished, aborted, prepared, in_doubt, image_in}
 use Rattle.wal.specs.Laws.{IsLawful, Compensates, Strictness}
 use Rattle.wal.specs.Tail.{tx_of}
 use Rattle.wal.proofs.Histories.{record_none}
@@ -11,6 +11,7 @@ use Rattle.audit.specs.declared.standing.Standing.{Standing}
 use Rattle.audit.specs.Standings.{Linked, Stands}
 use Rattle.audit.specs.Cells.{last_write}
 use Rattle.audit.specs.Passing.{Begins, Undoes, IsFreeFor}
+use Rattle.audit.proofs.Unfinished.{begun_already, prepared_has}
 use Rattle.audit.proofs.Cells.{last_write_within, image_in_last, last_touches, holder_wrote}
 
 -- BEFORE IMAGES
@@ -96,19 +97,29 @@ not_is true false e = absurd (cc)
 not_is false true e = absurd (cc)
 not_is false false e = (λ h. refl, λ h. refl)
 
+-- the first of two is not so: it is as the second says
+pub neither : (a b x y : Bool) → a ≡ x → b ≡ y → a ≡ false
+    → (not b ≡ true → (x ≡ false) × (y ≡ false)) × ((x ≡ false) × (y ≡ false) → not b ≡ true)
+neither a b x y e f n = (λ k. (sym e ∙ n, (not_is b y f).0 k), λ p. (not_is b y f).1 p.1)
+
 module _ (links : List ℕ) (t : ℕ) (log : History) (s : Standing) (h : Stands links t log s) where
-  stands_finished : (s.committed || s.ended) ≡ finished t log
+  pub stands_finished : (s.committed || s.ended) ≡ finished t log
   stands_finished = ap₂ (λ x y. x || y) h.committed h.ended
 
-  pub neither : (f : Bool) → f ≡ (s.committed || s.ended) → f ≡ false
-      → (not s.aborted ≡ true → (finished t log ≡ false) × (aborted t log ≡ false)) × ((finished t log ≡ false) × (aborted t log ≡ false) → not s.aborted ≡ true)
-  neither f e n = (
-    λ a. (sym stands_finished ∙ sym e ∙ n, (not_is s.aborted (aborted t log) h.aborted).0 a),
-    λ p. (not_is s.aborted (aborted t log) h.aborted).1 p.1,
-  )
+  pub stands_doubt : (not (s.committed || s.ended) && (s.prepared && not s.aborted)) ≡ in_doubt t log
+  stands_doubt =
+      ap₂ (λ x y. not x && y) stands_finished (ap₂ (λ x y. x && not y) h.prepared h.aborted)
+      ∙ begun_already (has (is_of t) log) (not (finished t log)) (prepared t log) (aborted t log) (prepared_has t log)
 
-  pub not_finished : (f : Bool) → f ≡ (s.committed || s.ended) → (not f ≡ true → finished t log ≡ false) × (finished t log ≡ false → not f ≡ true)
-  not_finished f e = not_is f (finished t log) (e ∙ stands_finished)
-
-  pub not_ended : (not s.ended ≡ true → ended t log ≡ false) × (ended t log ≡ false → not s.ended ≡ true)
-  not_ended = not_is s.ended (ended t log) h.ended
+  pub stands_active : (b : Bool) → b ≡ (not (s.committed || s.ended) && (not s.aborted && not s.prepared))
+      → (b ≡ true → (finished t log ≡ false) × (aborted t log ≡ false) × (prepared t log ≡ false))
+      × ((finished t log ≡ false) × (aborted t log ≡ false) × (prepared t log ≡ false) → b ≡ true)
+  stands_active b e =
+      let is : b ≡ (not (finished t log) && (not (aborted t log) && not (prepared t log))) =
+      e ∙ ap₂ (λ x y. not x && y) stands_finished (ap₂ (λ x y. not x && not y) h.aborted h.prepared) in (
+        λ k.
+            let p = and_parts (not (finished t log)) (not (aborted t log) && not (prepared t log)) (sym is ∙ k) in
+            let q = and_parts (not (aborted t log)) (not (prepared t log)) p.1 in
+            (not-true (finished t log) p.0, not-true (aborted t log) q.0, not-true (prepared t log) q.1),
+        λ p. is ∙ ap₂ (λ x y. not x && y) p.0 (ap₂ (λ x y. not x && not y) p.1 p.2),
+      )

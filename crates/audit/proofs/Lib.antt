@@ -4,7 +4,7 @@ pub mod Deciding
 pub mod Noting
 pub mod Passing
 pub mod PageImages
-pub mod Losers
+pub mod Unfinished
 pub mod TrueTable
 pub mod Missing
 pub mod Kept

@@ -2,7 +2,7 @@
 use Rattle.std.proofs.Common.{◌≡◌, ◌+◌, ◌≤◌, ℕ, zero, suc, true, false, cond, Option, Some, None, List, [], ◌∷◌, ◌++◌, length, get_or, drop, refl, sym, ap, subst, ◌∙◌, arith, eqb, eq-eqb, length-append}
 use Rattle.std.proofs.Math.Seq.{get_or-append_seam}
 use Rattle.std.proofs.lemmas.List.{get_or_append_left}
-use Rattle.wal.specs.Records.{LogRecord, Update, Compensation, Commit, Abort, End, History, ◌▸◌, last_lsn}
+use Rattle.wal.specs.Records.{LogRecord, Update, Compensation, Commit, Abort, End, Prepare, History, ◌▸◌, last_lsn}
 use Rattle.wal.specs.Meaning.{owner, is_owned_by, is_of, pending, last_of}
 use Rattle.wal.specs.Tail.{number_or_0, tx_of}
 use Rattle.audit.specs.declared.standing.Standing.{Standing}
@@ -38,17 +38,19 @@ last_other t log r e = rw e refl
 
 pub stands_other : (links : List ℕ) (x t : ℕ) (log : History) (r : LogRecord) (s : Standing) → is_of t r ≡ false → Stands links t log s → Stands (links ++ x ∷ []) t (log ▸ r) s
 stands_other links x t log (Update u) s e h =
-    record { last = rw e h.last; undo_next = rw e h.undo_next; committed = h.committed; aborted = h.aborted; ended = h.ended; pending = rw e (linked_more links x (pending t log) s.newest h.pending) }
+    record { last = rw e h.last; undo_next = rw e h.undo_next; committed = h.committed; aborted = h.aborted; ended = h.ended; prepared = h.prepared; pending = rw e (linked_more links x (pending t log) s.newest h.pending) }
 stands_other links x t log (Compensation u) s e h =
-    record { last = rw e h.last; undo_next = rw e h.undo_next; committed = h.committed; aborted = h.aborted; ended = h.ended; pending = rw e (linked_more links x (pending t log) s.newest h.pending) }
+    record { last = rw e h.last; undo_next = rw e h.undo_next; committed = h.committed; aborted = h.aborted; ended = h.ended; prepared = h.prepared; pending = rw e (linked_more links x (pending t log) s.newest h.pending) }
 stands_other links x t log (Commit u) s e h =
-    record { last = rw e h.last; undo_next = h.undo_next; committed = rw e h.committed; aborted = h.aborted; ended = h.ended; pending = linked_more links x (pending t log) s.newest h.pending }
+    record { last = rw e h.last; undo_next = h.undo_next; committed = rw e h.committed; aborted = h.aborted; ended = h.ended; prepared = h.prepared; pending = linked_more links x (pending t log) s.newest h.pending }
 stands_other links x t log (Abort u) s e h =
-    record { last = rw e h.last; undo_next = h.undo_next; committed = h.committed; aborted = rw e h.aborted; ended = h.ended; pending = linked_more links x (pending t log) s.newest h.pending }
+    record { last = rw e h.last; undo_next = h.undo_next; committed = h.committed; aborted = rw e h.aborted; ended = h.ended; prepared = h.prepared; pending = linked_more links x (pending t log) s.newest h.pending }
 stands_other links x t log (End u) s e h =
-    record { last = rw e h.last; undo_next = h.undo_next; committed = h.committed; aborted = h.aborted; ended = rw e h.ended; pending = linked_more links x (pending t log) s.newest h.pending }
+    record { last = rw e h.last; undo_next = h.undo_next; committed = h.committed; aborted = h.aborted; ended = rw e h.ended; prepared = h.prepared; pending = linked_more links x (pending t log) s.newest h.pending }
+stands_other links x t log (Prepare u) s e h =
+    record { last = rw e h.last; undo_next = h.undo_next; committed = h.committed; aborted = h.aborted; ended = h.ended; prepared = rw e h.prepared; pending = linked_more links x (pending t log) s.newest h.pending }
 stands_other links x t log r s e h =
-    record { last = h.last ∙ sym (last_other t log r e); undo_next = h.undo_next; committed = h.committed; aborted = h.aborted; ended = h.ended; pending = linked_more links x (pending t log) s.newest h.pending }
+    record { last = h.last ∙ sym (last_other t log r e); undo_next = h.undo_next; committed = h.committed; aborted = h.aborted; ended = h.ended; prepared = h.prepared; pending = linked_more links x (pending t log) s.newest h.pending }
 
 -- the last of the transaction of a record
 last_own : (log : History) (r : LogRecord) (old lsn : ℕ) → lsn ≡ suc (last_lsn log) → old ≡ last_of (tx_of r) log → last_after (owner r) lsn old ≡ last_of (tx_of r) (log ▸ r)
@@ -64,23 +66,27 @@ stands_own links log (Update u) s lsn below at len b h =
     let n : lsn ≡ suc (last_lsn log) = omega arith in
     let e : eqb u.tx u.tx ≡ true = eq-eqb u.tx u.tx refl in
     let p : Linked (links ++ s.newest ∷ []) (suc (last_lsn log) ∷ pending u.tx log) lsn = subst (λ k. Linked (links ++ s.newest ∷ []) (suc (last_lsn log) ∷ pending u.tx log) k) (sym n) (linked_push links (pending u.tx log) s.newest (last_lsn log) len h.pending) in
-    record { last = rw e n; undo_next = rw e n; committed = h.committed; aborted = h.aborted; ended = h.ended; pending = rw e p }
+    record { last = rw e n; undo_next = rw e n; committed = h.committed; aborted = h.aborted; ended = h.ended; prepared = h.prepared; pending = rw e p }
 stands_own links log (Compensation c) s lsn below at len b h =
     let n : lsn ≡ suc (last_lsn log) = omega arith in
     let e : eqb c.tx c.tx ≡ true = eq-eqb c.tx c.tx refl in
     let p : Linked links (drop 1 (pending c.tx log)) below = subst (λ k. Linked links (drop 1 (pending c.tx log)) k) (sym b) (linked_drop links (pending c.tx log) s.newest h.pending) in
-    record { last = rw e n; undo_next = rw e refl; committed = h.committed; aborted = h.aborted; ended = h.ended; pending = rw e (linked_more links s.newest (drop 1 (pending c.tx log)) below p) }
+    record { last = rw e n; undo_next = rw e refl; committed = h.committed; aborted = h.aborted; ended = h.ended; prepared = h.prepared; pending = rw e (linked_more links s.newest (drop 1 (pending c.tx log)) below p) }
 stands_own links log (Commit c) s lsn below at len b h =
     let n : lsn ≡ suc (last_lsn log) = omega arith in
     let e : eqb c.tx c.tx ≡ true = eq-eqb c.tx c.tx refl in
-    record { last = rw e n; undo_next = h.undo_next; committed = rw e refl; aborted = h.aborted; ended = h.ended; pending = linked_more links s.newest (pending c.tx log) s.newest h.pending }
+    record { last = rw e n; undo_next = h.undo_next; committed = rw e refl; aborted = h.aborted; ended = h.ended; prepared = h.prepared; pending = linked_more links s.newest (pending c.tx log) s.newest h.pending }
 stands_own links log (Abort c) s lsn below at len b h =
     let n : lsn ≡ suc (last_lsn log) = omega arith in
     let e : eqb c.tx c.tx ≡ true = eq-eqb c.tx c.tx refl in
-    record { last = rw e n; undo_next = h.undo_next; committed = h.committed; aborted = rw e refl; ended = h.ended; pending = linked_more links s.newest (pending c.tx log) s.newest h.pending }
+    record { last = rw e n; undo_next = h.undo_next; committed = h.committed; aborted = rw e refl; ended = h.ended; prepared = h.prepared; pending = linked_more links s.newest (pending c.tx log) s.newest h.pending }
 stands_own links log (End c) s lsn below at len b h =
     let n : lsn ≡ suc (last_lsn log) = omega arith in
     let e : eqb c.tx c.tx ≡ true = eq-eqb c.tx c.tx refl in
-    record { last = rw e n; undo_next = h.undo_next; committed = h.committed; aborted = h.aborted; ended = rw e refl; pending = linked_more links s.newest (pending c.tx log) s.newest h.pending }
+    record { last = rw e n; undo_next = h.undo_next; committed = h.committed; aborted = h.aborted; ended = rw e refl; prepared = h.prepared; pending = linked_more links s.newest (pending c.tx log) s.newest h.pending }
+stands_own links log (Prepare c) s lsn below at len b h =
+    let n : lsn ≡ suc (last_lsn log) = omega arith in
+    let e : eqb c.tx c.tx ≡ true = eq-eqb c.tx c.tx refl in
+    record { last = rw e n; undo_next = h.undo_next; committed = h.committed; aborted = h.aborted; ended = h.ended; prepared = rw e refl; pending = linked_more links s.newest (pending c.tx log) s.newest h.pending }
 stands_own links log r s lsn below at len b h =
-    record { last = last_own log r s.last lsn (omega arith) h.last; undo_next = h.undo_next; committed = h.committed; aborted = h.aborted; ended = h.ended; pending = linked_more links s.newest (pending (tx_of r) log) s.newest h.pending }
+    record { last = last_own log r s.last lsn (omega arith) h.last; undo_next = h.undo_next; committed = h.committed; aborted = h.aborted; ended = h.ended; prepared = h.prepared; pending = linked_more links s.newest (pending (tx_of r) log) s.newest h.pending }

@@ -1,4 +1,4 @@
--- A table of true entries that lists each loser is the true table.
+-- A table of true entries that lists each unfinished transaction is the true table.
 use Rattle.std.proofs.Common.{◌≡◌, ◌<◌, ◌≤◌, ◌+◌, ℕ, zero, suc, Bool, true, false, List, [], ◌∷◌, length, get_or, map, Some, refl, sym, ap, ap₂, subst, ◌∙◌, inl, inr, arith, eqb, eqb-true, eq-eqb, ne_eqb}
 use Rattle.std.specs.Prelude.{All, filter}
 use Rattle.std.specs.List.{slice_get}
@@ -6,12 +6,13 @@ use Rattle.std.proofs.lemmas.Bool.{cases_Bool, cases_eq, or_left, or_right, or_c
 use Rattle.std.proofs.lemmas.Option.{slice_get_within, get_or_from_slice_get}
 use Rattle.wal.specs.Records.{TableEntry, tx_in, History}
 use Rattle.wal.specs.Meaning.{is_unfinished}
-use Rattle.wal.specs.Tail.{is_among, numbers_from, above_all, losers_of}
+use Rattle.wal.specs.Tail.{is_among, numbers_from, above_all, unfinished_of}
 use Rattle.wal.specs.Store.{true_entry, true_table}
 use Rattle.wal.specs.Spelling.{IsRising}
 use Rattle.wal.proofs.Rising.{RisesFrom, rising_from_0}
 use Rattle.wal.proofs.Filters.{tx_below}
-use Rattle.wal.proofs.Steps.{loser_has}
+use Rattle.wal.proofs.Holders.{unfinished_has}
+use Rattle.wal.proofs.Actions.{among_is}
 use Rattle.audit.specs.Checkpoints.{IsTrueEntry, Lists}
 
 -- RISING NUMBERS
@@ -71,13 +72,13 @@ entries_from f [] h = refl
 entries_from f (e ∷ es) h = ap₂ (λ (x : TableEntry) (xs : List TableEntry). x ∷ xs) (h zero e (omega arith)) (entries_from f es (λ k d lt. h (suc k) d (omega arith)))
 
 module _ (log : History) (ts : List TableEntry) where
-  listed_lost : All (IsTrueEntry log) ts → (t : ℕ) → Lists ts t → is_unfinished t log ≡ true
-  listed_lost all t l =
+  listed_unfinished : All (IsTrueEntry log) ts → (t : ℕ) → Lists ts t → is_unfinished t log ≡ true
+  listed_unfinished all t l =
       let within = slice_get_within ts l.0 l.1 l.2 in
       let e : get_or ts l.0 l.1 ≡ l.1 = get_or_from_slice_get ts l.0 l.1 l.1 l.2 in
       ap (λ n. is_unfinished n log) (sym l.3 ∙ sym (ap tx_in e)) ∙ (all l.0 l.1 within).0
 
-  numbers_are : IsRising (map tx_in ts) → All (IsTrueEntry log) ts → ((t : ℕ) → is_unfinished t log ≡ true → Lists ts t) → losers_of log ≡ map tx_in ts
+  numbers_are : IsRising (map tx_in ts) → All (IsTrueEntry log) ts → ((t : ℕ) → is_unfinished t log ≡ true → Lists ts t) → unfinished_of log ≡ map tx_in ts
   numbers_are rising all each =
       filtered (λ t. is_unfinished t log) (above_all log) 0 (map tx_in ts) (rising_from_0 (map tx_in ts) rising)
       (λ x le lt.
@@ -85,11 +86,11 @@ module _ (log : History) (ts : List TableEntry) where
         | inl i ↦ (let l = each x i in i ∙ sym (listed_among ts x l.0 l.1 l.2 l.3))
         | inr i ↦
             elim (cases_Bool (is_among x (map tx_in ts))) [
-              | inl j ↦ absurd (both_ways (is_unfinished x log) i (listed_lost all x (among_listed ts x j)))
+              | inl j ↦ absurd (both_ways (is_unfinished x log) i (listed_unfinished all x (among_listed ts x j)))
               | inr j ↦ i ∙ sym j
             ]
       ])
-      (λ x h. let lt = tx_below x log (loser_has x log (listed_lost all x (among_listed ts x h))) in omega (arith, lt))
+      (λ x h. let lt = tx_below x log (unfinished_has x log (listed_unfinished all x (among_listed ts x h))) in omega (arith, lt))
 
   pub table_is : IsRising (map tx_in ts) → All (IsTrueEntry log) ts → ((t : ℕ) → is_unfinished t log ≡ true → Lists ts t) → ts ≡ true_table log
   table_is rising all each =
@@ -113,30 +114,14 @@ all_true log [] h k d lt = absurd (omega (arith, lt))
 all_true log (t ∷ ts) h zero d lt = (h zero t (omega arith), refl)
 all_true log (t ∷ ts) h (suc k) d lt = all_true log ts (λ n c l. h (suc n) c (omega arith)) k d (omega arith)
 
-passes_among : (p : ℕ → Bool) (k a t : ℕ) → p t ≡ true → a ≤ t → t < a + k → is_among t (filter p (numbers_from a k)) ≡ true
-passes_among p zero a t h le lt = absurd (omega (arith, le, lt))
-passes_among p (suc k) a t h le lt =
-    elim (cases_eq t a) [
-      | inl e ↦
-          (let yes : p a ≡ true = ap p (sym e) ∙ h in
-          rw yes (or_left (eqb t a) (is_among t (filter p (numbers_from (suc a) k))) (eq-eqb t a e)))
-      | inr d ↦
-          (let rest : is_among t (filter p (numbers_from (suc a) k)) ≡ true = passes_among p k (suc a) t h (omega arith) (omega arith) in
-          elim (cases_Bool (p a)) [
-            | inl i ↦ rw i (or_right (eqb t a) (is_among t (filter p (numbers_from (suc a) k))) rest)
-            | inr i ↦ rw i rest
-          ])
-    ]
-
 same_numbers : (log : History) (ls : List ℕ) → map tx_in (map (true_entry log) ls) ≡ ls
 same_numbers log [] = refl
 same_numbers log (t ∷ ts) = ap (λ (xs : List ℕ). t ∷ xs) (same_numbers log ts)
 
 pub true_entries : (log : History) (ts : List TableEntry) → ts ≡ true_table log → All (IsTrueEntry log) ts
-true_entries log ts e = subst (λ (xs : List TableEntry). All (IsTrueEntry log) xs) (sym e) (all_true log (losers_of log) (λ n c l. passes (λ t. is_unfinished t log) (numbers_from 0 (above_all log)) n c l))
+true_entries log ts e = subst (λ (xs : List TableEntry). All (IsTrueEntry log) xs) (sym e) (all_true log (unfinished_of log) (λ n c l. passes (λ t. is_unfinished t log) (numbers_from 0 (above_all log)) n c l))
 
 pub true_lists : (log : History) (ts : List TableEntry) → ts ≡ true_table log → (t : ℕ) → is_unfinished t log ≡ true → Lists ts t
-true_lists log ts e t lost =
-    let below = tx_below t log (loser_has t log lost) in
-    let among : is_among t (losers_of log) ≡ true = passes_among (λ x. is_unfinished x log) (above_all log) 0 t lost (omega arith) (omega (arith, below)) in
-    subst (λ (xs : List TableEntry). Lists xs t) (sym e) (among_listed (true_table log) t (ap (is_among t) (same_numbers log (losers_of log)) ∙ among))
+true_lists log ts e t live =
+    let among : is_among t (unfinished_of log) ≡ true = among_is (λ x. is_unfinished x log) log (λ x. unfinished_has x log) t ∙ live in
+    subst (λ (xs : List TableEntry). Lists xs t) (sym e) (among_listed (true_table log) t (ap (is_among t) (same_numbers log (unfinished_of log)) ∙ among))

@@ -4,7 +4,7 @@ use Rattle.wal.specs.Records.{TableEntry, History}
 use Rattle.wal.specs.Meaning.{is_unfinished}
 use Rattle.wal.specs.Store.{true_entry}
 
--- the entry is of a loser, and what is true of it
+-- the entry is of an unfinished transaction, and what is true of it
 abbrev pub IsTrueEntry : History → TableEntry → Type 0
 IsTrueEntry log e = (is_unfinished e.tx log ≡ true) × (e ≡ true_entry log e.tx)
 

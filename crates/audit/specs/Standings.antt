@@ -1,8 +1,8 @@
 -- What the records so far say of a transaction.
 use Rattle.std.specs.Prelude.{◌≡◌, ◌<◌, ◌≤◌, Option, Some, None, ℕ, zero, suc, List, [], ◌∷◌, length, true, false, slice_index, unwrap_or, nat_eq}
 use Rattle.std.specs.HashMap.{HashMap, get}
-use Rattle.wal.specs.Records.{LogRecord, Update, Compensation, Commit, Abort, End, History}
-use Rattle.wal.specs.Meaning.{owner, committed, aborted, ended, pending, last_of, undo_next_of}
+use Rattle.wal.specs.Records.{LogRecord, Update, Compensation, Commit, Abort, End, Prepare, History}
+use Rattle.wal.specs.Meaning.{owner, committed, aborted, ended, prepared, pending, last_of, undo_next_of}
 use Rattle.audit.specs.declared.standing.Standing.{Standing}
 
 -- what stands below a number on a stack: the n-th link says it of n, and 0 stands for nothing
@@ -22,11 +22,12 @@ pub record Stands (links : List ℕ) (t : ℕ) (log : History) (s : Standing) : 
   pub committed : s.committed ≡ committed t log
   pub aborted : s.aborted ≡ aborted t log
   pub ended : s.ended ≡ ended t log
+  pub prepared : s.prepared ≡ prepared t log
   pub pending : Linked links (pending t log) s.newest
 
 -- what is known of a transaction without records
 abbrev pub unknown : Standing
-unknown = record { last = 0; undo_next = 0; newest = 0; committed = false; aborted = false; ended = false }
+unknown = record { last = 0; undo_next = 0; newest = 0; committed = false; aborted = false; ended = false; prepared = false }
 
 -- what a table says of it
 abbrev pub standing_in : {S : Type 0} → HashMap ℕ Standing S → ℕ → Standing
@@ -39,10 +40,11 @@ last_after (Some t) lsn old = lsn
 
 -- how the transaction of a record stands after it; `below` is what stands below its newest pending update
 abbrev pub after : LogRecord → (lsn below : ℕ) → Standing → Standing
-after (Update u) lsn below s = record { last = lsn; undo_next = lsn; newest = lsn; committed = s.committed; aborted = s.aborted; ended = s.ended }
-after (Compensation c) lsn below s = record { last = lsn; undo_next = c.undo_next; newest = below; committed = s.committed; aborted = s.aborted; ended = s.ended }
-after (Commit r) lsn below s = record { last = lsn; undo_next = s.undo_next; newest = s.newest; committed = true; aborted = s.aborted; ended = s.ended }
-after (Abort r) lsn below s = record { last = lsn; undo_next = s.undo_next; newest = s.newest; committed = s.committed; aborted = true; ended = s.ended }
-after (End r) lsn below s = record { last = lsn; undo_next = s.undo_next; newest = s.newest; committed = s.committed; aborted = s.aborted; ended = true }
+after (Update u) lsn below s = record { last = lsn; undo_next = lsn; newest = lsn; committed = s.committed; aborted = s.aborted; ended = s.ended; prepared = s.prepared }
+after (Compensation c) lsn below s = record { last = lsn; undo_next = c.undo_next; newest = below; committed = s.committed; aborted = s.aborted; ended = s.ended; prepared = s.prepared }
+after (Commit r) lsn below s = record { last = lsn; undo_next = s.undo_next; newest = s.newest; committed = true; aborted = s.aborted; ended = s.ended; prepared = s.prepared }
+after (Abort r) lsn below s = record { last = lsn; undo_next = s.undo_next; newest = s.newest; committed = s.committed; aborted = true; ended = s.ended; prepared = s.prepared }
+after (End r) lsn below s = record { last = lsn; undo_next = s.undo_next; newest = s.newest; committed = s.committed; aborted = s.aborted; ended = true; prepared = s.prepared }
+after (Prepare r) lsn below s = record { last = lsn; undo_next = s.undo_next; newest = s.newest; committed = s.committed; aborted = s.aborted; ended = s.ended; prepared = true }
 after r lsn below s =
-    record { last = last_after (owner r) lsn s.last; undo_next = s.undo_next; newest = s.newest; committed = s.committed; aborted = s.aborted; ended = s.ended }
+    record { last = last_after (owner r) lsn s.last; undo_next = s.undo_next; newest = s.newest; committed = s.committed; aborted = s.aborted; ended = s.ended; prepared = s.prepared }

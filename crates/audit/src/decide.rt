@@ -46,6 +46,7 @@ pub fn names_pages(view: &RecordView, count: usize) -> bool
         | RecordView::Commit { .. }
         | RecordView::Abort { .. }
         | RecordView::End { .. }
+        | RecordView::Prepare { .. }
         | RecordView::CheckpointBegin => true,
     }
 }
@@ -61,17 +62,18 @@ pub fn keeps_chain(view: &RecordView, standing: Standing) -> bool
     }
 }
 
-/// Whether no commit, abort or end of its transaction forbids the record.
+/// Whether no commit, abort, end or prepare of its transaction forbids the record.
 pub fn keeps_finish(view: &RecordView, standing: Standing) -> bool
     ensures { (log : History) (links : List ℕ) → Stands links (tx_of (shown view.now)) log standing
         → IsTrue result ↔ FinishLaw log (shown view.now) }
 {
     match view {
-        RecordView::Update { .. } => !standing.is_finished() && !standing.aborted,
-        RecordView::Compensation { .. } => !standing.is_finished(),
+        RecordView::Update { .. } => standing.is_active(),
+        RecordView::Compensation { .. } => !standing.is_finished() && !standing.is_in_doubt(),
         RecordView::Commit { .. } => !standing.is_finished() && !standing.aborted,
         RecordView::Abort { .. } => !standing.is_finished() && !standing.aborted,
-        RecordView::End { .. } => !standing.ended,
+        RecordView::End { .. } => !standing.ended && !standing.is_in_doubt(),
+        RecordView::Prepare { .. } => standing.is_active(),
         RecordView::CheckpointBegin => true,
         RecordView::CheckpointEnd { .. } => true,
     }
@@ -139,6 +141,7 @@ pub fn keeps_compensation(log: &Log, view: &RecordView, standing: Standing) -> b
         RecordView::Update { .. }
         | RecordView::Commit { .. }
         | RecordView::Abort { .. }
+        | RecordView::Prepare { .. }
         | RecordView::CheckpointBegin
         | RecordView::CheckpointEnd { .. } => true,
     }
@@ -189,6 +192,7 @@ pub fn keeps_strictness(
         | RecordView::Commit { .. }
         | RecordView::Abort { .. }
         | RecordView::End { .. }
+        | RecordView::Prepare { .. }
         | RecordView::CheckpointBegin
         | RecordView::CheckpointEnd { .. } => true,
     }
@@ -232,6 +236,7 @@ pub fn keeps_before(log: &Log, writers: &[u64], view: &RecordView) -> bool
         | RecordView::Commit { .. }
         | RecordView::Abort { .. }
         | RecordView::End { .. }
+        | RecordView::Prepare { .. }
         | RecordView::CheckpointBegin
         | RecordView::CheckpointEnd { .. } => true,
     }

@@ -24,34 +24,35 @@ use std::alloc::Global;
 use std::collections::{HashMap, HashSet};
 use wal::{Entry, Log, State, TransactionTable};
 
-/// Whether a transaction that stands so is a loser.
-fn is_lost(standing: Standing) -> bool
+/// Whether a transaction that stands so has begun and has not finished.
+fn is_unfinished(standing: Standing) -> bool
     ensures { (t : ℕ) (log : History) (links : List ℕ) → Stands links t log standing → result ≡ is_unfinished t log }
 {
     standing.last != 0 && !standing.is_finished()
 }
 
-/// Whether a state is that of a transaction that has or has not aborted.
-fn tells_abort(state: State, aborted: bool) -> bool
-    ensures { IsTrue result ↔ state ≡ state_by aborted }
+/// Whether a state is that of a transaction that has or has not aborted, and has or has not prepared.
+fn tells_state(state: State, aborted: bool, prepared: bool) -> bool
+    ensures { IsTrue result ↔ state ≡ state_by aborted prepared }
 {
     match state {
-        State::Active => !aborted,
+        State::Active => !aborted && !prepared,
+        State::Prepared => !aborted && prepared,
         State::Aborting => aborted,
     }
 }
 
-/// Whether a transaction that stands so is a loser with this entry.
+/// Whether a transaction that stands so is unfinished, and has this entry.
 fn is_true_entry(standing: Standing, entry: Entry) -> bool
     ensures { (t : ℕ) (log : History) (links : List ℕ) → Stands links t log standing → IsTrue result ↔ IsTrueEntry log (entry_of (t, entry)) }
 {
-    is_lost(standing)
+    is_unfinished(standing)
         && entry.last == standing.last
         && entry.undo_next == standing.undo_next
-        && tells_abort(entry.state, standing.aborted)
+        && tells_state(entry.state, standing.aborted, standing.prepared)
 }
 
-/// Whether each entry is of a loser, and true of it.
+/// Whether each entry is of an unfinished transaction, and true of it.
 fn entries_are_true(table: &HashMap<u32, Standing>, transactions: &TransactionTable) -> bool
     ensures { (log : History) (links : List ℕ) → ((t : ℕ) → Stands links t log (standing_in table.now t))
         → IsTrue result ↔ All (IsTrueEntry log) transactions.now }
@@ -87,21 +88,21 @@ fn listed_in(alloc: Global, transactions: &TransactionTable) -> Result<HashSet<u
     Ok(listed)
 }
 
-/// Whether a transaction whose last record this is is a loser that is not listed.
+/// Whether a transaction whose last record this is is unfinished and not listed.
 fn is_missing(listed: &HashSet<u32>, tx: u32, standing: Standing, lsn: u64) -> bool
     ensures missing { result ≡ true → (log : History) (links : List ℕ) → Stands links tx log standing
         → (is_unfinished tx log ≡ true) × (contains nat_eq listed.now tx ≡ false) }
     ensures found { result ≡ false → (log : History) (links : List ℕ) → Stands links tx log standing
         → last_of tx log ≡ lsn → is_unfinished tx log ≡ true → contains nat_eq listed.now tx ≡ true }
 {
-    if standing.last != lsn || !is_lost(standing) {
+    if standing.last != lsn || !is_unfinished(standing) {
         return false;
     }
     !listed.contains(&tx)
 }
 
-/// Whether each loser among the first so many records is listed.
-fn losers_are_listed(
+/// Whether each transaction that is unfinished after the first so many records is listed.
+fn unfinished_are_listed(
     log: &Log,
     count: u64,
     table: &HashMap<u32, Standing>,
@@ -138,7 +139,7 @@ fn running_at(alloc: Global, log: &Log, count: u64, pages: usize) -> Result<Runn
     Ok(running)
 }
 
-/// Whether the table is exactly that of the losers at the begin `master`. The only error is
+/// Whether the table is exactly that of the unfinished transactions at the begin `master`. The only error is
 /// `NoResource`.
 fn is_true_table(
     alloc: Global,
@@ -159,7 +160,7 @@ fn is_true_table(
         return Ok(false);
     }
     let listed = listed_in(alloc, transactions)?;
-    Ok(losers_are_listed(log, master, &running.table, &listed))
+    Ok(unfinished_are_listed(log, master, &running.table, &listed))
 }
 
 /// Refuses the master for the first law that its checkpoint breaks. `NoResource`, where memory is

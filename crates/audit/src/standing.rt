@@ -1,6 +1,6 @@
 //! How a transaction stands after the records so far.
 
-ghost use Rattle.std.specs.Prelude.{◌≡◌, ◌≤◌, length, nat_eq, ◌||◌};
+ghost use Rattle.std.specs.Prelude.{◌≡◌, ◌≤◌, length, nat_eq, ◌||◌, ◌&&◌, not};
 ghost use Rattle.std.specs.HashMap.{get};
 ghost use Rattle.wal.specs.Tail.{tx_of};
 ghost use Rattle.wal.specs.Content.{shown};
@@ -21,6 +21,7 @@ pub struct Standing {
     pub committed: bool,
     pub aborted: bool,
     pub ended: bool,
+    pub prepared: bool,
 }
 
 impl Standing {
@@ -35,6 +36,7 @@ impl Standing {
             committed: false,
             aborted: false,
             ended: false,
+            prepared: false,
         }
     }
 
@@ -43,6 +45,20 @@ impl Standing {
         ensures { result ≡ (self.now.committed || self.now.ended) }
     {
         self.committed || self.ended
+    }
+
+    /// Whether it has neither finished nor aborted nor prepared.
+    pub fn is_active(&self) -> bool
+        ensures { result ≡ (not (self.now.committed || self.now.ended) && (not self.now.aborted && not self.now.prepared)) }
+    {
+        !self.is_finished() && !self.aborted && !self.prepared
+    }
+
+    /// Whether it has prepared to commit, and neither turned back nor finished.
+    pub fn is_in_doubt(&self) -> bool
+        ensures { result ≡ (not (self.now.committed || self.now.ended) && (self.now.prepared && not self.now.aborted)) }
+    {
+        !self.is_finished() && self.prepared && !self.aborted
     }
 }
 
@@ -108,6 +124,11 @@ pub fn noted(standing: Standing, view: &RecordView, lsn: u64, below: u64) -> Sta
         RecordView::End { .. } => Standing {
             last: lsn,
             ended: true,
+            ..standing
+        },
+        RecordView::Prepare { .. } => Standing {
+            last: lsn,
+            prepared: true,
             ..standing
         },
         RecordView::CheckpointBegin => standing,

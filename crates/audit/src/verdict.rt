@@ -33,7 +33,7 @@ fn first_fault(alloc: Global, log: &Log, store: &Store) -> Result<(), Fault>
 /// Errors, of which the first is given. First the records in LSN order, at each (with its LSN):
 /// - NoSuchPage: it, or its dirty page table, names a page that the store does not have.
 /// - Chain: its PrevLSN is not its transaction's last record.
-/// - AfterFinish: a commit, abort or end of its transaction forbids it.
+/// - AfterFinish: a commit, abort, end or prepare of its transaction forbids it.
 /// - WrongCompensation: it is a CLR and does not undo its transaction's newest pending update.
 /// - EndTooEarly: it is an end without a commit, and updates are pending.
 /// - DirtyWrite: it updates a cell in which another unfinished transaction has an update or a CLR.
@@ -45,7 +45,7 @@ fn first_fault(alloc: Global, log: &Log, store: &Store) -> Result<(), Fault>
 ///
 /// Then the checkpoint:
 /// - BadMaster: the master is not 0, and its record is no checkpoint begin or no later end names it.
-/// - TransactionTable: the table is not exactly that of the losers at the begin.
+/// - TransactionTable: the table is not exactly that of the unfinished transactions at the begin.
 /// - DirtyTable: the smallest page with a RecLSN outside 1 to the master, or of which a record at or
 ///   before the master is neither in the image nor listed.
 ///

@@ -17,6 +17,6 @@ returns-clause-ok c =
     let links = c.in_ok-running.running.links.items in
     let stands = c.in_ok-running.ensures.ok.stands in
     let entries = (c.entries_are_true.ensures log links stands).0 c.if-not-entries_are_true.false in (
-      λ yes. table_is log c.args.transactions.now c.requires.rising entries (λ t lost. (c.in_ok-listed.ensures.ok t).0 ((c.losers_are_listed.ensures links stands).0 yes t lost)),
-      λ e. (c.losers_are_listed.ensures links stands).1 (λ t lost. (c.in_ok-listed.ensures.ok t).1 (true_lists log c.args.transactions.now e t lost)),
+      λ yes. table_is log c.args.transactions.now c.requires.rising entries (λ t live. (c.in_ok-listed.ensures.ok t).0 ((c.unfinished_are_listed.ensures links stands).0 yes t live)),
+      λ e. (c.unfinished_are_listed.ensures links stands).1 (λ t live. (c.in_ok-listed.ensures.ok t).1 (true_lists log c.args.transactions.now e t live)),
     )

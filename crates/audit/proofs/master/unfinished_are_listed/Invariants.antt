@@ -3,7 +3,7 @@ use Rattle.wal.specs.Records.{history, first}
 use Rattle.wal.specs.Meaning.{is_unfinished, last_of}
 use Rattle.audit.specs.Standings.{Stands, standing_in}
 use Rattle.std.specs.HashSet.{contains}
-use Rattle.audit.proofs.master.losers_are_listed.Given as goal
+use Rattle.audit.proofs.master.unfinished_are_listed.Given as goal
 
 abbrev pub invariant-loop-lsn : goal.invariant-loop-lsn
 invariant-loop-lsn l =

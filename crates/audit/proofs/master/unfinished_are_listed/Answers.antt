@@ -6,24 +6,24 @@ use Rattle.wal.specs.Meaning.{last_of, is_unfinished}
 use Rattle.wal.specs.Tail.{tx_of}
 use Rattle.wal.specs.Content.{shown}
 use Rattle.wal.proofs.Histories.{record_within, size_of_first}
-use Rattle.wal.proofs.Steps.{loser_has}
+use Rattle.wal.proofs.Holders.{unfinished_has}
 use Rattle.audit.specs.Standings.{Stands}
-use Rattle.audit.proofs.Losers.{last_found, last_within, has_none}
+use Rattle.audit.proofs.Unfinished.{last_found, last_within, has_none}
 use Rattle.audit.proofs.Passing.{begins_first}
-use Rattle.audit.proofs.master.losers_are_listed.Goals as goal
+use Rattle.audit.proofs.master.unfinished_are_listed.Goals as goal
 
 pub loop-lsn-init : goal.loop-lsn-init
-loop-lsn-init c = λ links stands t le lost.
+loop-lsn-init c = λ links stands t le live.
     let log : History = first c.args.count (history c.args.log.now) in
-    absurd (false≢true (sym (has_none t log (omega arith)) ∙ loser_has t log lost))
+    absurd (false≢true (sym (has_none t log (omega arith)) ∙ unfinished_has t log live))
 
 pub loop-lsn-preserved : goal.loop-lsn-preserved
-loop-lsn-preserved c = λ links stands t le lost.
+loop-lsn-preserved c = λ links stands t le live.
     let log : History = first c.args.count (history c.args.log.now) in
     let s = subst (λ x. Stands links c.transaction_of-tx.result log x) (sym c.standing_of.ensures) (stands c.transaction_of-tx.result) in
     elim (cases_eq (last_of t log) (c.loop-lsn.lsn + 1)) [
       | inl e ↦
-          (let p = last_found t log (loser_has t log lost) in
+          (let p = last_found t log (unfinished_has t log live) in
           let lsn : ℕ = c.loop-lsn.lsn + 1 in
           let r : LogRecord = shown c.after.result in
           let there : record_at log lsn ≡ Some p.0 = ap (record_at log) (sym e) ∙ p.1 in
@@ -34,11 +34,11 @@ loop-lsn-preserved c = λ links stands t le lost.
           let is : r ≡ p.0 = cc in
           let own : c.transaction_of-tx.result ≡ t = c.transaction_of-tx.ensures ∙ ap tx_of is ∙ p.2 in
           subst (λ n. contains eqb c.args.listed.now n ≡ true) own
-          (c.is_missing.ensures.found c.if-is_missing.false log links s (ap (λ n. last_of n log) own ∙ e) (ap (λ n. is_unfinished n log) own ∙ lost)))
-      | inr n ↦ c.loop-lsn.invariant links stands t (omega arith) lost
+          (c.is_missing.ensures.found c.if-is_missing.false log links s (ap (λ n. last_of n log) own ∙ e) (ap (λ n. is_unfinished n log) own ∙ live)))
+      | inr n ↦ c.loop-lsn.invariant links stands t (omega arith) live
     ]
 
 pub returns : goal.returns
 returns c = λ links stands.
     let log : History = first c.args.count (history c.args.log.now) in
-    (λ x t lost. c.loop-lsn.invariant links stands t (omega (arith, last_within t log (loser_has t log lost), size_of_first c.args.count (history c.args.log.now) c.requires)) lost, λ l. refl)
+    (λ x t live. c.loop-lsn.invariant links stands t (omega (arith, last_within t log (unfinished_has t log live), size_of_first c.args.count (history c.args.log.now) c.requires)) live, λ l. refl)
