@@ -5,7 +5,7 @@ use Rattle.page.specs.declared.fault.Fault.TheVariants.{NoResource, NoSuchPage, 
 use Rattle.page.specs.Store.{StoreContent}
 use Rattle.wal.specs.Records.{Update, history, LogContent}
 use Rattle.wal.specs.Tail.{tail_of}
-use Rattle.wal.specs.Undo.{entry_for, walk_of, undone_by}
+use Rattle.wal.specs.Undo.{entry_for, walk_of, lost_in, undone_by}
 use Rattle.wal.specs.Store.{Lawful}
 use Rattle.wal.specs.Theorems.{UndoesAll}
 use Rattle.wal.proofs.Undone.{undo_is_tail}
@@ -18,7 +18,7 @@ module _ (read : LogContent) (store : StoreContent) (tables : TablesContent) (la
   undoes_all = undo_is_tail read lawful.log
 
   pub tail_is : undone_by (history read) (losers_in tables) ≡ tail_of read
-  tail_is = ap (undone_by (history read)) are_true.unfinished ∙ undoes_all.appended
+  tail_is = ap (λ es. undone_by (history read) (lost_in es)) are_true.unfinished ∙ undoes_all.appended
 
   pub memory_alone : (count : ℕ) (e : Fault) → count ≡ length store.pages → UndoFault (history read) (losers_in tables) count e → e ≡ NoResource
   memory_alone count NoResource len h = refl
@@ -26,5 +26,5 @@ module _ (read : LogContent) (store : StoreContent) (tables : TablesContent) (la
       absurd (let named : h.update.page < length store.pages = lawful.names_pages n (Update h.update) h.is_met.found in
       omega (arith, named, h.missing, len))
   memory_alone count (BrokenChain n) len h =
-      absurd (h.bad (sym h.ends ∙ ap (λ losers. (walk_of (history read) (entry_for h.loser losers)).ends) are_true.unfinished ∙ undoes_all.no_bad_hop h.loser))
+      absurd (h.bad (sym h.ends ∙ ap (λ es. (walk_of (history read) (entry_for h.loser (lost_in es))).ends) are_true.unfinished ∙ undoes_all.no_bad_hop h.loser))
   memory_alone count _ len h = absurd h

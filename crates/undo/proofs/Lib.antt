@@ -6,6 +6,7 @@ pub mod Lowest
 pub mod Placed
 pub mod Rolling
 pub mod Few
+pub mod Lost
 pub mod Beginning
 pub mod LawfulUndo
 pub mod OneCause

@@ -4,7 +4,8 @@ ghost use Rattle.std.specs.Prelude.{◌≡◌, ◌≤◌, ◌<◌, ◌+◌, ◌^
 ghost use Rattle.std.specs.Ordering.{nat_cmp};
 ghost use Rattle.std.specs.BTreeMap.{get};
 ghost use Rattle.wal.specs.Records.{history, last_lsn};
-ghost use Rattle.wal.specs.Content.{content};
+ghost use Rattle.wal.specs.Content.{entry_of, content};
+ghost use Rattle.wal.specs.Undo.{is_lost};
 ghost use Rattle.analysis.specs.Tables.{losers_in};
 ghost use Rattle.undo.specs.Undone.{AreCounted, AreSpelled, UndoFault};
 ghost use Rattle.undo.specs.Rollback.{walk_from, WalkFault, Resolved, Taken, AreEnds, Rolls};
@@ -14,7 +15,7 @@ use analysis::Tables;
 use page::Fault;
 use std::alloc::Global;
 use std::collections::BTreeMap;
-use wal::{Log, Record};
+use wal::{Entry, Log, Record, State};
 
 /// A transaction that is rolled back.
 #[derive(Clone, Copy, Debug, PartialEq, Eq)]
@@ -63,6 +64,17 @@ pub fn take_newest(places: &mut BTreeMap<u64, Loser>) -> Option<(u64, Loser)>
     places.pop_last()
 }
 
+/// Whether the transaction of an entry is rolled back: not where it is in doubt.
+fn is_lost(entry: Entry) -> bool
+    ensures { (tx : ℕ) → result ≡ is_lost (entry_of (tx, entry)) }
+{
+    match entry.state {
+        State::Active => true,
+        State::Aborting => true,
+        State::Prepared => false,
+    }
+}
+
 /// Resolves the losers, in rising number, each from its UndoNxtLSN. Gives them by their places, and the
 /// ends of those that have nothing left.
 pub fn begin(
@@ -81,11 +93,13 @@ pub fn begin(
     let mut appended = Vec::new(alloc);
     let end = log.next_lsn();
     for (tx, entry) in &tables.transactions {
-        let loser = Loser {
-            tx: *tx,
-            last: entry.last,
-        };
-        resolve(log, loser, end, entry.undo_next, &mut places, &mut appended)?;
+        if is_lost(*entry) {
+            let loser = Loser {
+                tx: *tx,
+                last: entry.last,
+            };
+            resolve(log, loser, end, entry.undo_next, &mut places, &mut appended)?;
+        }
     }
     Ok((places, appended))
 }

@@ -5,6 +5,7 @@ use Rattle.std.specs.BTreeMap.{get}
 use Rattle.std.specs.Map.Iter.{deref_pair}
 use Rattle.wal.specs.Records.{tx_in, history}
 use Rattle.wal.specs.Content.{entry_of, content}
+use Rattle.wal.specs.Undo.{lost_in}
 use Rattle.analysis.specs.Tables.{losers_in}
 use Rattle.undo.specs.Undone.{AreCounted, AreSpelled}
 use Rattle.undo.specs.Rollback.{Begun}
@@ -13,7 +14,7 @@ use Rattle.undo.proofs.losers.begin.Given as goal
 abbrev pub invariant-loop-tx : goal.invariant-loop-tx
 invariant-loop-tx l =
     record {
-      begun : Begun (history l.log) (losers_in l.tables) (map entry_of (map deref_pair l.yielded)) (get nat_cmp l.places) (map content l.appended.items);
-      numbers : All (λ n. n < 2 ^ 32) (map tx_in (map entry_of (map deref_pair l.yielded)));
+      begun : Begun (history l.log) (losers_in l.tables) (lost_in (map entry_of (map deref_pair l.yielded))) (get nat_cmp l.places) (map content l.appended.items);
+      numbers : All (λ n. n < 2 ^ 32) (map tx_in (lost_in (map entry_of (map deref_pair l.yielded))));
       spelled : AreCounted l.tables → AreSpelled l.appended.items;
     }
