@@ -3,7 +3,7 @@ use Rattle.std.proofs.Common.{◌≡◌, List, map, length, sym, ap, ap₂, ◌�
 use Rattle.std.specs.Prelude.{sum}
 use Rattle.page.specs.declared.page.Page.{Page}
 use Rattle.wal.specs.Records.{history}
-use Rattle.wal.specs.Undo.{undone_by}
+use Rattle.wal.specs.Undo.{doubtful_in, undone_by}
 use Rattle.analysis.specs.Tables.{TablesContent, losers_in, OneTables}
 use Rattle.redo.specs.Redone.{redone_page, applied_to}
 use Rattle.undo.specs.Undone.{undone_page}
@@ -24,6 +24,7 @@ one_outcome one_tables read before x y a b =
           (a.rolls_back.pages ∙ (ap₂ (λ rs ps. map (undone_page log rs) ps) appended pages ∙ sym b.rolls_back.pages));
       redo_from = a.rolls_back.redo_from ∙ (ap (λ (ts : TablesContent). ts.redo_lsn) tables ∙ sym b.rolls_back.redo_from);
       redone = a.rolls_back.applied ∙ (a.applied ∙ (ap (λ ts. sum (map (applied_to read ts) before.pages)) tables ∙ (sym b.applied ∙ sym b.rolls_back.applied)));
+      in_doubt = a.rolls_back.in_doubt_are ∙ (ap (λ (ts : TablesContent). doubtful_in ts.transactions) tables ∙ sym b.rolls_back.in_doubt_are);
       losers = a.rolls_back.losers ∙ (ap length losers ∙ sym b.rolls_back.losers);
       compensated = a.rolls_back.compensated ∙ (ap clrs_in appended ∙ sym b.rolls_back.compensated);
       ended = a.rolls_back.ended ∙ (ap ends_in appended ∙ sym b.rolls_back.ended);

@@ -10,18 +10,20 @@ use Rattle.page.specs.declared.page.Page.{Page}
 use Rattle.page.specs.declared.fault.Fault.{Fault}
 use Rattle.page.specs.declared.fault.Fault.TheVariants.{NoResource, BadWorkers, BadMaster, PageAheadOfLog, NoSuchPage}
 use Rattle.page.specs.Store.{StoreContent, AreNumbered}
-use Rattle.wal.specs.Records.{LogRecord, Update, Compensation, History, start, ◌▸◌, ◌▸▸◌, history, last_lsn, LogContent, ◌⧺◌}
-use Rattle.wal.specs.Meaning.{Cells, effects, replay, writes, image_of, is_on, last_on}
+use Rattle.wal.specs.Records.{LogRecord, tx_in, Update, Compensation, History, start, ◌▸◌, ◌▸▸◌, history, last_lsn, LogContent, ◌⧺◌}
+use Rattle.wal.specs.Meaning.{Cells, in_doubt, effects, replay, writes, image_of, is_on, last_on}
 use Rattle.wal.specs.Redo.{held_by, last_where, slots_in}
-use Rattle.wal.specs.Store.{Lawful, NamesPages, true_entry, store_out, page_out, checkpoint_at}
-use Rattle.wal.specs.Tail.{losers_of, tail_of, with_tail}
-use Rattle.wal.specs.Theorems.{replayed_page}
+use Rattle.wal.specs.Store.{Lawful, NamesPages, true_table, store_out, page_out, checkpoint_at}
+use Rattle.wal.specs.Tail.{in_doubt_of, losers_of, tail_of, with_tail}
+use Rattle.wal.specs.Undo.{lost_in, doubtful_in}
+use Rattle.wal.specs.Theorems.{replayed_page, TellsDoubt}
 use Rattle.wal.proofs.Histories.{after-append}
 use Rattle.wal.proofs.Lists.{replay_is_winners, tail_settles}
 use Rattle.wal.proofs.Pages.{same_slots, slot_held}
 use Rattle.wal.proofs.Redone.{redo_suffices}
 use Rattle.wal.proofs.Settled.{store_settles}
 use Rattle.wal.proofs.Ends.{losers_end}
+use Rattle.wal.proofs.Undone.{table_tells_doubt}
 use Rattle.analysis.specs.Tables.{TablesContent, losers_in, AreTablesOf, base_of, BaseFault}
 use Rattle.analysis.specs.Lawful.{AreTrue}
 use Rattle.redo.specs.Changes.{NamesBelow}
@@ -103,8 +105,14 @@ module _ (read : LogContent) (before : StoreContent) (lawful : Lawful read befor
         ∙ sym (get_or-map-range_with_len (page_out read) 0 n k k d below (omega arith)))
 
     -- THE OUTCOME
+    tells : TellsDoubt (history read)
+    tells = table_tells_doubt read
+
     losers_count : length (losers_in tables) ≡ length (losers_of (history read))
-    losers_count = ap length truth.unfinished ∙ length-map (losers_of (history read)) (true_entry (history read))
+    losers_count = ap (λ es. length (lost_in es)) truth.unfinished ∙ sym (length-map (lost_in (true_table (history read))) tx_in) ∙ ap length tells.lost
+
+    in_doubt_is : doubtful_in tables.transactions ≡ in_doubt_of (history read)
+    in_doubt_is = ap doubtful_in truth.unfinished ∙ tells.doubtful
 
     settles : IsSettled (with_tail read) (store_out read before)
     settles =
@@ -124,6 +132,8 @@ module _ (read : LogContent) (before : StoreContent) (lawful : Lawful read befor
           settled = subst (λ s. IsSettled (read ⧺ appended_by x) s) (sym store) (subst (λ rs. IsSettled (read ⧺ rs) (store_out read before)) (sym tail) settles);
           redoes = record { tables = tables; are = are; begins = back.redo_from; applies = back.applied ∙ applied };
           losers = back.losers ∙ losers_count;
+          in_doubt_are = back.in_doubt_are ∙ in_doubt_is;
+          still_in_doubt = λ t. ap (λ rs. in_doubt t (history (read ⧺ rs))) tail ∙ (tail_settles read lawful.log).same_doubt t;
           ended = back.ended ∙ ap ends_in tail ∙ losers_end read lawful.log;
           compensated = back.compensated ∙ ap clrs_in tail;
         }

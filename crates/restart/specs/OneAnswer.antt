@@ -17,6 +17,7 @@ pub record AreSame (x y : Outcome) : Type 0 where
   pub redo_from : x.redo_from ≡ y.redo_from
   pub redone : x.redone ≡ y.redone
   pub losers : x.losers ≡ y.losers
+  pub in_doubt : x.in_doubt.items ≡ y.in_doubt.items
   pub compensated : x.compensated ≡ y.compensated
   pub ended : x.ended ≡ y.ended
 

@@ -7,9 +7,9 @@ use Rattle.page.specs.declared.page.Page.{Page}
 use Rattle.page.specs.Store.{StoreContent}
 use Rattle.wal.specs.Records.{LogRecord, LogContent, history, ◌⧺◌, last_lsn}
 use Rattle.wal.specs.Content.{content}
-use Rattle.wal.specs.Meaning.{is_loser}
-use Rattle.wal.specs.Tail.{is_clr, is_end, losers_of, tail_of}
-use Rattle.wal.specs.Undo.{undone_by}
+use Rattle.wal.specs.Meaning.{in_doubt, is_loser}
+use Rattle.wal.specs.Tail.{is_clr, is_end, in_doubt_of, losers_of, tail_of}
+use Rattle.wal.specs.Undo.{doubtful_in, undone_by}
 use Rattle.wal.specs.Store.{NamesPages, Lawful, store_out}
 use Rattle.analysis.specs.Tables.{TablesContent, losers_in, AreTablesOf, base_of}
 use Rattle.redo.specs.Parting.{PartingContent}
@@ -73,6 +73,7 @@ pub record RollsBack (log : LogContent) (master : ℕ) (tables : TablesContent) 
   pub redo_from : x.redo_from ≡ tables.redo_lsn
   pub applied : x.redone ≡ redone.applied
   pub losers : x.losers ≡ length (losers_in tables)
+  pub in_doubt_are : x.in_doubt.items ≡ doubtful_in tables.transactions
   pub compensated : x.compensated ≡ clrs_in (appended_by x)
   pub ended : x.ended ≡ ends_in (appended_by x)
 
@@ -103,13 +104,15 @@ pub record Redoes (log : LogContent) (before : StoreContent) (redo_from redone :
   pub begins : redo_from ≡ tables.redo_lsn
   pub applies : redone ≡ sum (map (applied_to log tables) before.pages)
 
--- the log's tail is appended, the store is what the winners leave; both together are settled
+-- the log's tail is appended, the store is what the winners leave; both together are settled; those in doubt are told, and stay so
 pub record Restores (log : LogContent) (before : StoreContent) (x : Outcome) : Type 0 where
   pub appended : appended_by x ≡ tail_of log
   pub store : x.store ≡ store_out log before
   pub settled : IsSettled (log ⧺ appended_by x) x.store
   pub redoes : Redoes log before x.redo_from x.redone
   pub losers : x.losers ≡ length (losers_of (history log))
+  pub in_doubt_are : x.in_doubt.items ≡ in_doubt_of (history log)
+  pub still_in_doubt : (t : ℕ) → in_doubt t (history (log ⧺ appended_by x)) ≡ in_doubt t (history log)
   pub ended : x.ended ≡ length (losers_of (history log))
   pub compensated : x.compensated ≡ clrs_in (tail_of log)
 

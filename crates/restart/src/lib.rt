@@ -1,6 +1,7 @@
 //! Restart on values: analysis, redo and undo, one behind the other.
 #![tactic(auto)]
 
+mod doubt;
 mod laws;
 mod outcome;
 mod passes;

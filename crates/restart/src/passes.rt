@@ -14,6 +14,7 @@ ghost use Rattle.undo.specs.Undone.{AreCounted, AreSpelled, UndoFault};
 ghost use Rattle.restart.specs.Restart.{AreSettings, SettingsFault, AheadFault, appended_by, clrs_in, ends_in, RollsBack, Restarts, Restores, RestartFault};
 
 use crate::Outcome;
+use crate::doubt::in_doubt;
 use analysis::{Tables, analyse};
 use page::{Fault, Page, Store};
 use redo::{Gate, Parting, Redone, are_workers, redo_in_place};
@@ -91,14 +92,17 @@ fn roll_back(
     ensures lawful { (store : StoreContent) → Lawful log.now store → AreTrue log.now store tables.now → length redone.pages.items ≡ length store.pages
         → MatchResult result (λ x. appended_by x ≡ tail_of log.now) (λ e. e ≡ NoResource) }
 {
+    let in_doubt = in_doubt(alloc, tables)?;
     let (pages, appended) = undo(alloc, log, tables, redone.pages)?;
     let (compensated, ended) = tally(&appended);
+    let losers = tables.transactions.len() - in_doubt.len();
     Ok(Outcome {
         store: store_of(master, pages),
         appended,
         redo_from: tables.redo_lsn,
         redone: redone.applied,
-        losers: tables.transactions.len() as u64,
+        losers: losers as u64,
+        in_doubt,
         compensated,
         ended,
     })
@@ -140,13 +144,13 @@ pub fn restart_in_place<G: Gate, R: Threads + Sync>(
 
 /// Restarts on a log and its store after a crash (ARIES, section 6): analysis from the last checkpoint
 /// on, redo by `workers` threads that draw the parts of the pages and call the gate for each, undo of
-/// the transactions that have not finished.
+/// the transactions that have not finished and are not in doubt.
 ///
-/// On a lawful log and its store each page has exactly what the committed transactions' updates and
-/// compensations, in LSN order, make of an empty page, and as PageLSN the LSN of its last record; the
-/// appended records are the log's tail. Log, store and outcome do not depend on workers, parting and
-/// gate. A restart on what was appended and the store after it appends nothing and leaves that store as
-/// it is.
+/// On a lawful log and its store each page has exactly what the committed and in-doubt transactions'
+/// updates and compensations, in LSN order, make of an empty page, and as PageLSN the LSN of its last
+/// record; the appended records are the log's tail, and the transactions in doubt are told. Log, store
+/// and outcome do not depend on workers, parting and gate. A restart on what was appended and the store
+/// after it appends nothing, leaves that store as it is and tells the same transactions.
 ///
 /// Refuses, in this order, by [`Fault::BadWorkers`] where `workers` is outside 1 to 64;
 /// [`Fault::BadParting`] where the parting has another number of pages than the store;

@@ -8,6 +8,7 @@ use Rattle.wal.specs.Records.{history, last_lsn}
 use Rattle.analysis.specs.Tables.{losers_in, AreTablesOf}
 use Rattle.redo.specs.Redone.{redone_page}
 use Rattle.undo.specs.Undone.{UndoFault}
+use Rattle.undo.proofs.Lost.{lost_none}
 use Rattle.restart.specs.Restart.{AheadFault, NoneAhead, RollsBack}
 use Rattle.restart.proofs.Restored.{outcome_restores, redo_alone, ahead_alone, changed_numbered}
 use Rattle.restart.proofs.Causes.{redo_fault, undo_fault}
@@ -88,3 +89,7 @@ returns-clause-fault g c =
           (subst (λ n. UndoFault (history c.args.log.now) (losers_in tables) n e) count h),
     ))
     c.roll_back.ensures.fault
+
+pub returns-clause-spelled : goal.returns-clause-spelled
+returns-clause-spelled g c =
+    IfOk-weaker c.roll_back.result _ _ (λ x spelled. spelled (lost_none 0 c.in_ok-tables.tables.transactions c.in_ok-tables.ensures.numbered)) c.roll_back.ensures.spelled

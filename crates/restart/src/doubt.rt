@@ -1,0 +1,38 @@
+//! The transactions in doubt, which a restart leaves as they are and tells.
+
+ghost use Rattle.std.specs.Prelude.{◌≡◌, ◌+◌, length, IfOk, IfErr};
+ghost use Rattle.page.specs.declared.fault.Fault.TheVariants.{NoResource};
+ghost use Rattle.wal.specs.Undo.{is_prepared, doubtful_in};
+ghost use Rattle.analysis.specs.Tables.{losers_in};
+
+use analysis::Tables;
+use page::Fault;
+use std::alloc::Global;
+use wal::State;
+
+/// Whether a transaction in this state is in doubt.
+fn is_prepared(state: State) -> bool
+    ensures { result ≡ is_prepared state }
+{
+    match state {
+        State::Active => false,
+        State::Aborting => false,
+        State::Prepared => true,
+    }
+}
+
+/// The numbers of the transactions that the tables have as prepared, in rising order. The only error is
+/// [`Fault::NoResource`], where memory was refused.
+pub fn in_doubt(alloc: Global, tables: &Tables) -> Result<Vec<u32>, Fault>
+    ensures ok { IfOk result (λ x. x.items ≡ doubtful_in tables.now.transactions) }
+    ensures others { IfOk result (λ x. length x.items + length (losers_in tables.now) ≡ length tables.now.transactions) }
+    ensures err { IfErr result (λ e. e ≡ NoResource) }
+{
+    let mut numbers = Vec::new(alloc);
+    for (tx, entry) in &tables.transactions {
+        if is_prepared(entry.state) {
+            numbers.push(*tx)?;
+        }
+    }
+    Ok(numbers)
+}
