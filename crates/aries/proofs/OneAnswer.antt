@@ -1,12 +1,11 @@
 -- Two recoveries of the same bytes are the same: both read one log and one store, which have one outcome.
-use Rattle.std.proofs.Common.{◌≡◌, ℕ, List, length, sym, ap, ap₂, ◌∙◌, subst}
+use Rattle.std.proofs.Common.{◌≡◌, refl, List, length, sym, ap, ap₂, ◌∙◌, subst}
 use Rattle.page.specs.Store.{StoreContent}
 use Rattle.page.specs.File.{store_text}
 use Rattle.page.specs.Laws.{OneStoreSpelling}
 use Rattle.wal.specs.Reads.{OneReading, log_text}
 use Rattle.wal.specs.Records.{LogRecord, LogContent, ◌⧺◌}
 use Rattle.restart.specs.Restart.{Restarts}
-use Rattle.aries.specs.Text.{ReportContent}
 use Rattle.aries.specs.Recovery.{report_of}
 use Rattle.restart.specs.OneAnswer.{OneOutcome}
 use Rattle.aries.specs.OneAnswer.{OneRecovery}
@@ -19,19 +18,10 @@ one_recovery reading spelling outcome log store new_log other_log new_store othe
     let same = outcome a.are.read a.are.before a.outcome b.outcome a.restarts restarts in
     let x = a.outcome in
     let y = b.outcome in
-    let made : ℕ → ℕ → ℕ → ℕ → ℕ → ℕ → ℕ → ℕ → ReportContent =
-    λ records torn redo_from redone losers compensated ended pages. record { records = records; torn = torn; redo_from = redo_from; redone = redone; losers = losers; compensated = compensated; ended = ended; pages = pages } in
     let records : length a.are.read.records ≡ length b.are.read.records = ap (λ (l : LogContent). length l.records) read.0 in
     let pages : length x.store.pages ≡ length y.store.pages = ap (λ (s : StoreContent). length s.pages) same.store in
     let told : report_of a.are.read a.are.torn x ≡ report_of b.are.read b.are.torn y =
-    ap (λ n. made n a.are.torn x.redo_from x.redone x.losers x.compensated x.ended (length x.store.pages)) records
-    ∙ (ap (λ n. made (length b.are.read.records) n x.redo_from x.redone x.losers x.compensated x.ended (length x.store.pages)) read.1
-    ∙ (ap (λ n. made (length b.are.read.records) b.are.torn n x.redone x.losers x.compensated x.ended (length x.store.pages)) same.redo_from
-    ∙ (ap (λ n. made (length b.are.read.records) b.are.torn y.redo_from n x.losers x.compensated x.ended (length x.store.pages)) same.redone
-    ∙ (ap (λ n. made (length b.are.read.records) b.are.torn y.redo_from y.redone n x.compensated x.ended (length x.store.pages)) same.losers
-    ∙ (ap (λ n. made (length b.are.read.records) b.are.torn y.redo_from y.redone y.losers n x.ended (length x.store.pages)) same.compensated
-    ∙ (ap (λ n. made (length b.are.read.records) b.are.torn y.redo_from y.redone y.losers y.compensated n (length x.store.pages)) same.ended
-    ∙ ap (λ n. made (length b.are.read.records) b.are.torn y.redo_from y.redone y.losers y.compensated y.ended n) pages)))))) in
+    rw (records, read.1, same.redo_from, same.redone, same.losers, same.compensated, same.ended, pages, same.in_doubt) refl in
     record {
       log = a.log_is ∙ (ap₂ (λ (l : LogContent) (more : List LogRecord). log_text (l ⧺ more)) read.0 same.appended ∙ sym b.log_is);
       store = a.store_is ∙ (ap store_text same.store ∙ sym b.store_is);

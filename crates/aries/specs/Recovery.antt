@@ -5,7 +5,8 @@ use Rattle.page.specs.declared.fault.Fault.TheVariants.{NoResource, BadWorkers, 
 use Rattle.page.specs.Store.{StoreContent}
 use Rattle.page.specs.File.{store_text, SpellsStore, StoreFault}
 use Rattle.wal.specs.Records.{LogContent, history, ◌⧺◌}
-use Rattle.wal.specs.Tail.{losers_of, tail_of, with_tail}
+use Rattle.wal.specs.Meaning.{in_doubt}
+use Rattle.wal.specs.Tail.{in_doubt_of, losers_of, tail_of, with_tail}
 use Rattle.wal.specs.Reads.{Reads, log_text, Cause as LogFault}
 use Rattle.wal.specs.Store.{Lawful, Cut, store_out}
 use Rattle.audit.specs.FirstFault.{FirstFault}
@@ -40,6 +41,7 @@ report_of read torn x = record {
   compensated = x.compensated;
   ended = x.ended;
   pages = length x.store.pages;
+  in_doubt = x.in_doubt.items;
 }
 
 -- EVERY INPUT. The new log is the log without its torn tail and what a restart appends, and is read as such; the new store is
@@ -59,8 +61,8 @@ pub record AreLawful (log store : List ℕ) : Type 0 where
   pub are : Are log store
   pub lawful : Lawful are.read are.before
 
--- the new log is the log and its tail, the new store what the winners leave; a restart on both appends nothing and leaves
--- the store as it is
+-- the new log is the log and its tail, the new store what the winners leave; those in doubt are told, and stay so; a restart on
+-- both appends nothing and leaves the store as it is
 pub record Recovered (read : LogContent) (before : StoreContent) (new_log new_store : List ℕ) (report : ReportContent) : Type 0 where
   pub log_is : new_log ≡ log_text (with_tail read)
   pub reads : Reads new_log (with_tail read) 0
@@ -68,6 +70,8 @@ pub record Recovered (read : LogContent) (before : StoreContent) (new_log new_st
   pub settled : IsSettled (with_tail read) (store_out read before)
   pub redoes : Redoes read before report.redo_from report.redone
   pub losers_are : report.losers ≡ length (losers_of (history read))
+  pub in_doubt_are : report.in_doubt ≡ in_doubt_of (history read)
+  pub still_in_doubt : (t : ℕ) → in_doubt t (history (with_tail read)) ≡ in_doubt t (history read)
   pub ended_are : report.ended ≡ length (losers_of (history read))
   pub compensated_are : report.compensated ≡ clrs_in (tail_of read)
 

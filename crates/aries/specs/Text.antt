@@ -1,5 +1,6 @@
--- The report (own), as contracts see it and as it is printed: eight lines, a name and a decimal number each.
-use Rattle.std.specs.Prelude.{ℕ, List, ◌++◌, codes, decimal}
+-- The report (own), as contracts see it and as it is printed: eight lines, a name and a decimal number each, and behind them the
+-- transactions in doubt, where there are some.
+use Rattle.std.specs.Prelude.{ℕ, List, [], ◌++◌, length, flat_map, ◌==◌, if◌then◌else◌, codes, decimal}
 
 -- what a restart found and did
 pub record ReportContent : Type 0 where
@@ -11,13 +12,19 @@ pub record ReportContent : Type 0 where
   pub compensated : ℕ
   pub ended : ℕ
   pub pages : ℕ
+  pub in_doubt : List ℕ
 
 -- a name, a blank, a number and a line feed
 abbrev pub line : List ℕ → ℕ → List ℕ
 line name number = ((name ++ codes " ") ++ decimal number) ++ codes "\n"
 
-abbrev pub report_lines : ReportContent → List ℕ
-report_lines r =
+-- how many are in doubt, and which; no line where none is
+abbrev pub doubt_lines : List ℕ → List ℕ
+doubt_lines numbers =
+    if length numbers == 0 then [] else line (codes "in-doubt") (length numbers) ++ flat_map (λ n. line (codes "transaction") n) numbers
+
+abbrev pub number_lines : ReportContent → List ℕ
+number_lines r =
     line (codes "records") r.records
     ++ line (codes "torn") r.torn
     ++ line (codes "redo-from") r.redo_from
@@ -26,3 +33,6 @@ report_lines r =
     ++ line (codes "compensated") r.compensated
     ++ line (codes "ended") r.ended
     ++ line (codes "pages") r.pages
+
+abbrev pub report_lines : ReportContent → List ℕ
+report_lines r = number_lines r ++ doubt_lines r.in_doubt

@@ -36,8 +36,8 @@ fn frames_of(alloc: Global, records: &[Record], first: u64) -> Result<Vec<u8>, F
 }
 
 /// The report of a restart.
-fn report_of(log: &Log, torn: usize, outcome: &Outcome) -> Report
-    ensures { result ≡ report_of log.now torn outcome.now }
+fn report_of(log: &Log, torn: usize, outcome: Outcome) -> Report
+    ensures { result ≡ report_of log.now torn outcome }
 {
     Report {
         records: log.len(),
@@ -48,6 +48,7 @@ fn report_of(log: &Log, torn: usize, outcome: &Outcome) -> Report
         compensated: outcome.compensated,
         ended: outcome.ended,
         pages: outcome.store.pages.len() as u64,
+        in_doubt: outcome.in_doubt,
     }
 }
 
@@ -98,6 +99,6 @@ pub fn recovery_of<'a, G: Gate, R: Threads + Sync>(
         kept: &log[..log.len() - torn],
         frames: frames_of(alloc, &outcome.appended, records.next_lsn())?,
         store,
-        report: report_of(&records, torn, &outcome),
+        report: report_of(&records, torn, outcome),
     })
 }

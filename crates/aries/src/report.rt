@@ -2,7 +2,7 @@
 
 ghost use Rattle.std.specs.Prelude.{◌≡◌, ◌++◌, IfOk, OnOk, IfErr};
 ghost use Rattle.page.specs.declared.fault.Fault.TheVariants.{NoResource};
-ghost use Rattle.aries.specs.Text.{line, report_lines};
+ghost use Rattle.aries.specs.Text.{line, number_lines, doubt_lines, report_lines};
 
 use itoa::Buffer;
 use page::Fault;
@@ -10,7 +10,7 @@ use std::alloc::{AllocError, Global};
 use std::marker::Model;
 
 /// What a restart found and did. Contracts see it as the record of these numbers.
-#[derive(Clone, Copy, Debug, PartialEq, Eq)]
+#[derive(Debug, Drop)]
 pub struct Report {
     /// Whole records of the log that was read.
     pub records: u64,
@@ -20,7 +20,7 @@ pub struct Report {
     pub redo_from: u64,
     /// Records that redo applied.
     pub redone: u64,
-    /// Transactions that the log leaves unfinished.
+    /// Transactions that were rolled back: those that the log leaves unfinished, but for the ones in doubt.
     pub losers: u64,
     /// Compensation records (CLRs) appended.
     pub compensated: u64,
@@ -28,6 +28,8 @@ pub struct Report {
     pub ended: u64,
     /// Pages of the store.
     pub pages: u64,
+    /// The transactions in doubt, in rising order of number.
+    pub in_doubt: Vec<u32>,
 }
 
 impl Model for Report {
@@ -35,9 +37,7 @@ impl Model for Report {
 
     ghost Value = { ReportContent };
 
-    ghost view = { λ r. record { records = r.records; torn = r.torn; redo_from = r.redo_from; redone = r.redone; losers = r.losers; compensated = r.compensated; ended = r.ended; pages = r.pages } };
-
-    ghost inverse = { λ r. record { records = r.records; torn = r.torn; redo_from = r.redo_from; redone = r.redone; losers = r.losers; compensated = r.compensated; ended = r.ended; pages = r.pages } };
+    ghost view = { λ r. record { records = r.records; torn = r.torn; redo_from = r.redo_from; redone = r.redone; losers = r.losers; compensated = r.compensated; ended = r.ended; pages = r.pages; in_doubt = r.in_doubt.items } };
 }
 
 /// Appends a line: a name, a blank and a decimal number.
@@ -51,12 +51,23 @@ fn put_line(text: &mut Vec<u8>, name: &str, number: u64) -> Result<(), AllocErro
     Ok(())
 }
 
-/// The eight lines `name number` of a report, each ended by a line feed: records, torn, redo-from,
-/// redone, losers, compensated, ended, pages. The only error is [`Fault::NoResource`], where memory was
-/// refused.
-pub fn report_text(alloc: Global, report: &Report) -> Result<Vec<u8>, Fault>
-    ensures text { IfOk result (λ text. text.items ≡ report_lines report.now) }
-    ensures err { IfErr result (λ e. e ≡ NoResource) }
+/// Appends the transactions in doubt: how many, and a line for each. Where there are none, no line.
+fn put_in_doubt(text: &mut Vec<u8>, numbers: &[u32]) -> Result<(), AllocError>
+    ensures { OnOk result (text.new.items ≡ text.old.items ++ doubt_lines numbers.now) }
+{
+    if numbers.is_empty() {
+        return Ok(());
+    }
+    put_line(text, "in-doubt", numbers.len() as u64)?;
+    for number in numbers {
+        put_line(text, "transaction", *number as u64)?;
+    }
+    Ok(())
+}
+
+/// The eight lines of a report's numbers.
+fn numbers_text(alloc: Global, report: &Report) -> Result<Vec<u8>, AllocError>
+    ensures { IfOk result (λ text. text.items ≡ number_lines report.now) }
 {
     let mut text = Vec::new(alloc);
     put_line(&mut text, "records", report.records)?;
@@ -67,5 +78,18 @@ pub fn report_text(alloc: Global, report: &Report) -> Result<Vec<u8>, Fault>
     put_line(&mut text, "compensated", report.compensated)?;
     put_line(&mut text, "ended", report.ended)?;
     put_line(&mut text, "pages", report.pages)?;
+    Ok(text)
+}
+
+/// The eight lines `name number` of a report, each ended by a line feed: records, torn, redo-from,
+/// redone, losers, compensated, ended, pages. Where transactions are in doubt they are followed by a
+/// line `in-doubt` with their count and a line `transaction` with the number of each. The only error is
+/// [`Fault::NoResource`], where memory was refused.
+pub fn report_text(alloc: Global, report: &Report) -> Result<Vec<u8>, Fault>
+    ensures text { IfOk result (λ text. text.items ≡ report_lines report.now) }
+    ensures err { IfErr result (λ e. e ≡ NoResource) }
+{
+    let mut text = numbers_text(alloc, report)?;
+    put_in_doubt(&mut text, &report.in_doubt)?;
     Ok(text)
 }

@@ -99,7 +99,7 @@ fn recover_command<'a>(alloc: Global) -> Result<Command<'a>, AllocError>
     ensures { IfOk result (λ c. shape_of c ≡ recover_line) }
 {
     Command::new(alloc, "recover")
-        .about("Restart after a crash: read a log and a store, write both anew")
+        .about("Restart after a crash: write log and store anew, and list transactions in doubt")
         .arg(file_option(alloc, "log", "The log to restart by"))?
         .arg(file_option(alloc, "store", "The store to recover"))?
         .arg(file_option(

@@ -5,6 +5,7 @@ use Rattle.page.specs.File.{store_text, SpellsStore}
 use Rattle.wal.proofs.Histories.{size_of_log}
 use Rattle.wal.specs.Records.{LogRecord, ◌⧺◌, last_lsn, history}
 use Rattle.wal.specs.Content.{content}
+use Rattle.wal.specs.Meaning.{in_doubt}
 use Rattle.wal.specs.Tail.{with_tail}
 use Rattle.wal.specs.Reads.{Reads, spellings, log_text}
 use Rattle.aries.specs.Text.{ReportContent}
@@ -91,6 +92,8 @@ returns-clause-lawful g c = λ bytes.
       store_is = answer.store_is ∙ ap store_text restored.store;
       settled = subst (λ s. IsSettled (with_tail read) s) restored.store (subst (λ (rs : List LogRecord). IsSettled (read ⧺ rs) outcome.store) restored.appended restored.settled);
       losers_are = ap (λ (r : ReportContent). r.losers) c.report_of.ensures ∙ restored.losers;
+      in_doubt_are = ap (λ (r : ReportContent). r.in_doubt) c.report_of.ensures ∙ restored.in_doubt_are;
+      still_in_doubt = λ t. sym (ap (λ (rs : List LogRecord). in_doubt t (history (read ⧺ rs))) restored.appended) ∙ restored.still_in_doubt t;
       ended_are = ap (λ (r : ReportContent). r.ended) c.report_of.ensures ∙ restored.ended;
       redoes = record {
         tables = restored.redoes.tables;
