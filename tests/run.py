@@ -18,7 +18,7 @@ ARIES = os.path.join(TOP, "crates/aries_cli/out/aries_cli")
 ROW_RUNNER = os.path.join(TOP, "crates/rows/out/rows")
 LARGE_ROWS = os.path.join(TOP, "tests/rows")
 SMALL_ROWS = os.path.join(TOP, "crates/rows/data")
-REFUSED_ROWS = ["one-commit", "two-losers", "checkpoint-loser", "empty-and-full-values", "ten-pages"]
+REFUSED_ROWS = ["one-commit", "two-losers", "checkpoint-loser", "prepared-beside-loser", "empty-and-full-values", "ten-pages"]
 NO_RESOURCE = b"fault 1: no resource\n"
 
 
@@ -66,6 +66,11 @@ def run(words, **how):
     return subprocess.run(words, **{"capture_output": True, **how})
 
 
+def in_doubt(report):
+    """The lines of a report that list the transactions in doubt."""
+    return report.splitlines()[8:]
+
+
 def has_printed(ran, text):
     """Whether a run did its job and printed this text alone."""
     return ran.returncode == 0 and ran.stdout == text and not ran.stderr
@@ -92,7 +97,8 @@ def check_large_row(tally, name, row):
     tally.say(f"{name}, audit", has_printed(row.audit(), bytes_of(row.at("audited"))))
     tally.say(f"{name}, audit of its outcome", has_printed(row.audit("out-log", "out-store"), b"lawful\n"))
     again = row.recover("out-log", "out-store")
-    tally.say(f"{name}, its outcome again", again.returncode == 0 and row.is_recovered(), again.stderr)
+    is_well = again.returncode == 0 and row.is_recovered() and in_doubt(again.stdout) == in_doubt(bytes_of(row.at("printed")))
+    tally.say(f"{name}, its outcome again", is_well, again.stderr)
 
 
 def check_large_rows(tally, room):

@@ -24,11 +24,21 @@ pub struct Cuts<'a> {
     pub last: usize,
 }
 
-/// Whether an audit of the cut log and this store finds them lawful, and a restart on them makes the
-/// row's files.
+/// What does not change from cut to cut.
+#[derive(Drop)]
+struct Whole {
+    /// The row's new log.
+    log: Vec<u8>,
+    /// The lines that each report ends with: the pages, and what is in doubt.
+    last_lines: Vec<u8>,
+}
+
+/// Whether an audit of the cut log and this store finds them lawful, and a restart on them reports these
+/// last lines and makes the row's files.
 fn of_cut<R: Files + AllocGlobal + Threads + Sync>(
     rt: &R,
     row: &str,
+    last_lines: &[u8],
     store: &str,
 ) -> Result<Verdict> {
     let audited = audit(rt, CUT_LOG, store);
@@ -36,7 +46,7 @@ fn of_cut<R: Files + AllocGlobal + Threads + Sync>(
         return Ok(Verdict::AnotherAnswer);
     }
     let printed = recover(rt, CUT_LOG, store, "2", "2");
-    let verdict = if printed.status == 0 {
+    let verdict = if printed.status == 0 && printed.out.ends_with(last_lines) {
         of_new_files(rt, row)?
     } else {
         Verdict::AnotherAnswer
@@ -50,13 +60,13 @@ fn of_cut<R: Files + AllocGlobal + Threads + Sync>(
 fn of_sizes<R: Files + AllocGlobal + Threads + Sync>(
     rt: &R,
     cuts: &Cuts,
-    log: &[u8],
+    whole: &Whole,
     store: &str,
 ) -> Result<Verdict> {
     for size in cuts.first..=cuts.last {
-        let bytes = log.get(..size).context("a cut past the log's end")?;
+        let bytes = whole.log.get(..size).context("a cut past the log's end")?;
         fs::write(rt, CUT_LOG, bytes)?;
-        let verdict = of_cut(rt, cuts.row, store)?;
+        let verdict = of_cut(rt, cuts.row, &whole.last_lines, store)?;
         if verdict != Verdict::Same {
             return Ok(verdict);
         }
@@ -67,9 +77,12 @@ fn of_sizes<R: Files + AllocGlobal + Threads + Sync>(
 /// Whether all cuts of the row's new log lead to its files.
 pub fn of_cuts<R: Files + AllocGlobal + Threads + Sync>(rt: &R, cuts: &Cuts) -> Result<Verdict> {
     let Cuts { row, page, .. } = cuts;
-    let log = fs::read(rt, format!(in rt.alloc(); "{row}/out-log")?)?;
+    let whole = Whole {
+        log: fs::read(rt, format!(in rt.alloc(); "{row}/out-log")?)?,
+        last_lines: fs::read(rt, format!(in rt.alloc(); "{row}/last-lines")?)?,
+    };
     let store = format!(in rt.alloc(); "{row}/store-{page}")?;
-    let verdict = of_sizes(rt, cuts, &log, store.as_str())?;
+    let verdict = of_sizes(rt, cuts, &whole, store.as_str())?;
     fs::remove_file(rt, CUT_LOG)?;
     Ok(verdict)
 }

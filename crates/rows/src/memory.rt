@@ -54,7 +54,7 @@ impl Row {
         log: &[u8],
         store: &[u8],
     ) -> Result<Verdict> {
-        if answer == Err(Fault::NoResource) && log.is_empty() && store.is_empty() {
+        if matches!(answer, Err(Fault::NoResource)) && log.is_empty() && store.is_empty() {
             return Ok(Verdict::NoResource);
         }
         if printed_of(rt, answer)? != self.printed {

@@ -1,8 +1,8 @@
 //! What no clause says: that calls succeed, what the program prints, its statuses and its files.
 
 use crate::written::{
-    Row, checkpoint_loser, clr_points_past_zero, one_loser, page_with, recover_in_memory, store_of,
-    two_losers,
+    Row, checkpoint_loser, clr_points_past_zero, one_loser, page_with, prepared_beside_loser,
+    recover_in_memory, store_of, two_losers,
 };
 use aries::{Options, audit_texts, run};
 use page::{Fault, Page};
@@ -79,14 +79,16 @@ const TWO: Options = Options {
 #[test]
 fn restarts_what_a_restart_wrote(rt: HostRuntime) -> Result<(), Fail> {
     let alloc = rt.alloc();
-    for (row, master, lsn, records) in [
-        (one_loser(alloc)?, 0, 2, 3),
-        (two_losers(alloc)?, 0, 7, 8),
-        (checkpoint_loser(alloc)?, 2, 4, 5),
+    let a = Some(b'a');
+    for (row, master, lsn, letter, records, in_doubt) in [
+        (one_loser(alloc)?, 0, 2, None, 3, None),
+        (two_losers(alloc)?, 0, 7, None, 8, None),
+        (checkpoint_loser(alloc)?, 2, 4, None, 5, None),
+        (prepared_beside_loser(alloc)?, 0, 4, a, 5, Some(1)),
     ] {
         let Row { given, made } = row;
         let store = store_of(alloc, master, &Page::empty(0))?;
-        let after = store_of(alloc, master, &page_with(lsn, None, None))?;
+        let after = store_of(alloc, master, &page_with(lsn, letter, None))?;
         let (log, store, _) = recover_in_memory(&rt, alloc, &given.bytes, &store, &TWO, &OpenGate)?;
         assert_eq!(rt; log.as_slice(), made.bytes.as_slice());
         assert_eq!(rt; store.as_slice(), after.as_slice());
@@ -97,6 +99,7 @@ fn restarts_what_a_restart_wrote(rt: HostRuntime) -> Result<(), Fail> {
             (report.records, report.redone, report.losers, report.ended),
             (records, 0, 0, 0)
         );
+        assert_eq!(rt; report.in_doubt.first().copied(), in_doubt);
     }
     Ok(())
 }

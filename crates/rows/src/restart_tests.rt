@@ -3,8 +3,9 @@
 
 use crate::written::{
     Row, Text, checkpoint_loser, clr_points_past_zero, one_commit, one_loser, page_with,
-    partial_rollback_loser, rollback_interrupted, several_kinds_of_loser, store_of, two_losers,
-    undo_of_missing_page,
+    partial_rollback_loser, prepared, prepared_abort, prepared_beside_loser, prepared_commit,
+    prepared_idle, prepared_in_checkpoint, rollback_interrupted, several_kinds_of_loser, store_of,
+    two_losers, undo_of_missing_page,
 };
 use aries::restart;
 use page::{Fault, Page, Value, decode_store, encode_store};
@@ -14,14 +15,17 @@ use std::test::Fail;
 use std::thread::Threads;
 use wal::{Record, read_log};
 
+/// `redo_from`, `redone`, `losers`, `compensated` and `ended`.
+type Numbers = (u64, u64, u64, u64, u64);
+
 /// What a restart makes of a log and a store of one page.
 #[derive(Drop)]
 struct Answer {
     /// The log with what is appended.
     log: Vec<u8>,
     store: Vec<u8>,
-    /// `redo_from`, `redone`, `losers`, `compensated` and `ended`.
-    numbers: (u64, u64, u64, u64, u64),
+    numbers: Numbers,
+    in_doubt: Vec<u32>,
 }
 
 /// How a restart is run: for a store of so many pages, by so many workers.
@@ -71,24 +75,30 @@ fn restarted<R: Threads + Sync>(
             outcome.compensated,
             outcome.ended,
         ),
+        in_doubt: outcome.in_doubt,
     })
 }
 
-/// The numbers of a restart of a row on an empty page; None where it makes another log than the row's,
-/// or another store than one of this page under the same master.
-fn numbers_of<R: Threads + Sync>(
+/// The numbers of a restart of a row on an empty page, and those in doubt; None where it makes another
+/// log than the row's, or another store than one of this page under the same master.
+fn told_of<R: Threads + Sync>(
     rt: &R,
     alloc: Global,
     row: &Row,
     master: u64,
     after: &Page,
-) -> Result<Option<(u64, u64, u64, u64, u64)>, Fault> {
+) -> Result<Option<(Numbers, Vec<u32>)>, Fault> {
     let empty = store_of(alloc, master, &Page::empty(0))?;
     let answer = restarted(rt, alloc, &row.given, &empty, GOOD)?;
     let expected = store_of(alloc, master, after)?;
     let is_same = answer.log.as_slice() == row.made.bytes.as_slice()
         && answer.store.as_slice() == expected.as_slice();
-    Ok(is_same.then_some(answer.numbers))
+    Ok(is_same.then_some((answer.numbers, answer.in_doubt)))
+}
+
+/// A list of transactions.
+fn listed(alloc: Global, transactions: &[u32]) -> Result<Vec<u32>, Fault> {
+    Ok(Vec::from_slice(alloc, transactions)?)
 }
 
 #[test]
@@ -103,10 +113,106 @@ fn rolls_back_losers(rt: HostRuntime) -> Result<(), Fail> {
         (checkpoint_loser(alloc)?, 180, 2, 4, (1, 1, 1, 1, 1)),
     ] {
         let after = page_with(lsn, None, None);
-        let answer = numbers_of(&rt, alloc, &row, master, &after)?;
-        assert_eq!(rt; answer, Some(numbers), "the row of {bytes} bytes");
+        let answer = told_of(&rt, alloc, &row, master, &after)?;
+        assert_eq!(rt;
+            answer,
+            Some((numbers, listed(alloc, &[])?)),
+            "the row of {bytes} bytes"
+        );
         assert_eq!(rt; row.made.bytes.len(), bytes);
     }
+    Ok(())
+}
+
+/// What losers did is undone beside those in doubt, which are listed in rising number.
+#[test]
+fn rolls_back_losers_beside_those_in_doubt(rt: HostRuntime) -> Result<(), Fail> {
+    let alloc = rt.alloc();
+    let none: &[u32] = &[];
+    let one: &[u32] = &[1];
+    let two: &[u32] = &[3, 7];
+    let a = Some(b'a');
+    for (row, lsn, letter, numbers, in_doubt) in [
+        (prepared_abort(alloc)?, 4, None, (1, 1, 1, 1, 1), none),
+        (prepared_beside_loser(alloc)?, 4, a, (1, 2, 1, 1, 1), one),
+        (prepared_idle(alloc)?, 0, None, (0, 0, 1, 0, 1), two),
+    ] {
+        let after = page_with(lsn, letter, None);
+        let answer = told_of(&rt, alloc, &row, 0, &after)?;
+        assert_eq!(rt; answer, Some((numbers, listed(alloc, in_doubt)?)));
+    }
+    Ok(())
+}
+
+/// One update with a bad hop, and a prepare.
+fn broken_in_doubt(alloc: Global) -> Result<Text, Fault> {
+    let mut text = Text::new(alloc)?;
+    text.update(1, 9, 0, None, Some(b'a'))?;
+    text.prepare(1, 1)?;
+    Ok(text)
+}
+
+/// One update on a page that there is not, and a prepare. Its master is 2.
+fn missing_in_doubt(alloc: Global) -> Result<Text, Fault> {
+    let mut text = undo_of_missing_page(alloc)?;
+    text.prepare(1, 1)?;
+    Ok(text)
+}
+
+/// A commit, and a prepare behind it.
+fn prepared_after_commit(alloc: Global) -> Result<Text, Fault> {
+    let mut text = one_commit(alloc, 0)?;
+    text.prepare(1, 2)?;
+    Ok(text)
+}
+
+/// A prepare, and an end behind it.
+fn ended_in_doubt(alloc: Global) -> Result<Text, Fault> {
+    let mut text = prepared(alloc)?;
+    text.end(1, 2)?;
+    Ok(text)
+}
+
+/// Of those in doubt nothing is undone or looked at for it, and on each log the tables say who they are.
+#[test]
+fn leaves_those_in_doubt(rt: HostRuntime) -> Result<(), Fail> {
+    let alloc = rt.alloc();
+    let none: &[u32] = &[];
+    let one: &[u32] = &[1];
+    for (text, master, redone, in_doubt) in [
+        (prepared(alloc)?, 0, 1, one),
+        (prepared_commit(alloc)?, 0, 1, none),
+        (prepared_in_checkpoint(alloc)?, 2, 1, one),
+        (broken_in_doubt(alloc)?, 0, 1, one),
+        (missing_in_doubt(alloc)?, 2, 0, one),
+        (prepared_after_commit(alloc)?, 0, 1, one),
+        (ended_in_doubt(alloc)?, 0, 1, none),
+    ] {
+        let letter = (redone == 1).then_some(b'a');
+        let after = page_with(redone, letter, None);
+        let row = Row {
+            made: text.copied()?,
+            given: text,
+        };
+        let answer = told_of(&rt, alloc, &row, master, &after)?;
+        let numbers = (redone, redone, 0, 0, 0);
+        assert_eq!(rt; answer, Some((numbers, listed(alloc, in_doubt)?)));
+    }
+    Ok(())
+}
+
+/// An abort behind a prepare makes its transaction a loser.
+#[test]
+fn rolls_back_what_turned_back(rt: HostRuntime) -> Result<(), Fail> {
+    let alloc = rt.alloc();
+    let mut text = broken_in_doubt(alloc)?;
+    text.abort(1, 2)?;
+    let refusal = refused(&rt, alloc, &text, 0, 0, GOOD);
+    assert_eq!(rt; refusal, Some(Fault::BrokenChain(9)));
+    let mut text = missing_in_doubt(alloc)?;
+    text.abort(1, 4)?;
+    let refusal = refused(&rt, alloc, &text, 2, 0, GOOD);
+    assert_eq!(rt; refusal, Some(Fault::NoSuchPage(1)));
     Ok(())
 }
 

@@ -138,6 +138,10 @@ impl Text {
         self.put(&Record::End { tx, prev })
     }
 
+    pub fn prepare(&mut self, tx: u32, prev: u64) -> Result<(), Fault> {
+        self.put(&Record::Prepare { tx, prev })
+    }
+
     /// Appends a checkpoint whose transaction table has one active entry: number, LastLSN, UndoNxtLSN.
     pub fn checkpoint(
         &mut self,
@@ -145,9 +149,20 @@ impl Text {
         entry: (u32, u64, u64),
         dirty: &[(u32, u64)],
     ) -> Result<(), Fault> {
+        self.put(&Record::CheckpointBegin)?;
+        self.checkpoint_end(alloc, self.lsn, entry, dirty)
+    }
+
+    /// Appends the end of such a checkpoint that began at an LSN.
+    pub fn checkpoint_end(
+        &mut self,
+        alloc: Global,
+        begin: u64,
+        entry: (u32, u64, u64),
+        dirty: &[(u32, u64)],
+    ) -> Result<(), Fault> {
         let (tx, last, undo_next) = entry;
         let state = State::Active;
-        self.put(&Record::CheckpointBegin)?;
         let mut transactions = Vec::new(alloc);
         transactions.push((
             tx,
@@ -158,7 +173,7 @@ impl Text {
             },
         ))?;
         self.put(&Record::CheckpointEnd {
-            begin: self.lsn,
+            begin,
             transactions,
             dirty: Vec::from_slice(alloc, dirty)?,
         })
@@ -232,6 +247,60 @@ pub fn several_kinds_of_loser(alloc: Global) -> Result<Row, Fault> {
     made.end(3, 5)?;
     made.clr(2, 4, 0, 1, None)?;
     made.end(2, 8)?;
+    Ok(Row { given, made })
+}
+
+/// One update, and a prepare of its transaction.
+pub fn prepared(alloc: Global) -> Result<Text, Fault> {
+    let mut text = Text::new(alloc)?;
+    text.first_update(0)?;
+    text.prepare(1, 1)?;
+    Ok(text)
+}
+
+pub fn prepared_commit(alloc: Global) -> Result<Text, Fault> {
+    let mut text = prepared(alloc)?;
+    text.commit(1, 2)?;
+    Ok(text)
+}
+
+pub fn prepared_abort(alloc: Global) -> Result<Row, Fault> {
+    let mut given = prepared(alloc)?;
+    given.abort(1, 2)?;
+    let mut made = given.copied()?;
+    made.clr(1, 3, 0, 0, None)?;
+    made.end(1, 4)?;
+    Ok(Row { given, made })
+}
+
+pub fn prepared_beside_loser(alloc: Global) -> Result<Row, Fault> {
+    let mut given = prepared(alloc)?;
+    given.update(2, 0, 1, None, Some(b'b'))?;
+    let mut made = given.copied()?;
+    made.clr(2, 3, 0, 1, None)?;
+    made.end(2, 4)?;
+    Ok(Row { given, made })
+}
+
+/// Its master is 2: active in the table of the checkpoint, and prepared between its begin and its end.
+pub fn prepared_in_checkpoint(alloc: Global) -> Result<Text, Fault> {
+    let mut text = Text::new(alloc)?;
+    text.first_update(0)?;
+    text.put(&Record::CheckpointBegin)?;
+    text.prepare(1, 1)?;
+    text.checkpoint_end(alloc, 2, (1, 1, 1), &[(0, 1)])?;
+    Ok(text)
+}
+
+/// Transactions that prepared without updates; one of them turned back.
+pub fn prepared_idle(alloc: Global) -> Result<Row, Fault> {
+    let mut given = Text::new(alloc)?;
+    given.prepare(7, 0)?;
+    given.prepare(5, 0)?;
+    given.prepare(3, 0)?;
+    given.abort(5, 2)?;
+    let mut made = given.copied()?;
+    made.end(5, 4)?;
     Ok(Row { given, made })
 }
 
