@@ -11,6 +11,3 @@ mod tables;
 pub use laws::{no_fault_of_tables, one_base_fault, one_tables};
 pub use pass::analyse;
 pub use tables::Tables;
-
-#[cfg(test)]
-mod tests;

@@ -9,8 +9,6 @@ mod pages;
 mod records;
 mod running;
 mod standing;
-#[cfg(test)]
-mod tests;
 mod verdict;
 
 pub use laws::{no_fault_of_the_lawful, one_first_fault};

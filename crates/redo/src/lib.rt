@@ -22,6 +22,3 @@ pub use laws::{no_fault_of_redo, one_redo_fault};
 pub use parting::Parting;
 pub use redone::Redone;
 pub use rounds::{WORKERS, are_workers, redo, redo_in_place};
-
-#[cfg(test)]
-mod tests;

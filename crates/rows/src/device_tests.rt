@@ -1,10 +1,10 @@
 //! Recovery over devices that pass a few bytes a call, and fail.
 
-use crate::written::{
-    Row, clr_points_past_zero, one_commit, one_loser, page_with, recover_in_memory, store_of,
-    two_losers,
-};
+use crate::in_memory::recover_in_memory;
 use aries::{Options, recover};
+use core_rows::written::{
+    Row, clr_points_past_zero, one_commit, one_loser, page_with, store_of, two_losers,
+};
 use device::{MemorySink, MemorySource, Pace, SlowSink, SlowSource};
 use page::{Fault, Page};
 use redo::OpenGate;

@@ -116,10 +116,6 @@ mod device_tests;
 #[cfg(test)]
 mod gate_tests;
 #[cfg(test)]
+mod in_memory;
+#[cfg(test)]
 mod program_tests;
-#[cfg(test)]
-mod restart_tests;
-#[cfg(test)]
-mod undo_tests;
-#[cfg(test)]
-mod written;

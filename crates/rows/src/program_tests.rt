@@ -1,10 +1,11 @@
 //! What no clause says: that calls succeed, what the program prints, its statuses and its files.
 
-use crate::written::{
-    Row, checkpoint_loser, clr_points_past_zero, one_loser, page_with, prepared_beside_loser,
-    recover_in_memory, store_of, two_losers,
-};
+use crate::in_memory::recover_in_memory;
 use aries::{Options, audit_texts, run};
+use core_rows::written::{
+    Row, checkpoint_loser, clr_points_past_zero, one_loser, page_with, prepared_beside_loser,
+    store_of, two_losers,
+};
 use page::{Fault, Page};
 use redo::OpenGate;
 use std::alloc::Global;

@@ -15,8 +15,6 @@ mod log;
 mod offsets;
 mod record;
 mod sizes;
-#[cfg(test)]
-mod tests;
 mod view;
 
 pub use change::Change;

@@ -9,10 +9,10 @@ use crate::written::{
     undo_of_missing_page,
 };
 use analysis::analyse;
-use aries::undo;
 use page::{Fault, Page, encode_page};
 use std::alloc::Global;
 use std::test::Fail;
+use undo::undo;
 use wal::{Record, read_log};
 
 fn alone(alloc: Global, page: Page) -> Result<Vec<Page>, Fault>

@@ -7,9 +7,9 @@ use crate::written::{
     prepared_idle, prepared_in_checkpoint, rollback_interrupted, several_kinds_of_loser, store_of,
     two_losers, undo_of_missing_page,
 };
-use aries::restart;
 use page::{Fault, Page, Value, decode_store, encode_store};
 use redo::{OpenGate, Parting};
+use restart::restart;
 use std::alloc::Global;
 use std::test::Fail;
 use std::thread::Threads;

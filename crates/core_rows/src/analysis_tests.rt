@@ -1,6 +1,6 @@
 //! Worked rows: the tables of small logs.
 
-use crate::analyse;
+use analysis::analyse;
 use page::Fault;
 use std::alloc::Global;
 use std::process::Abort;

@@ -4,10 +4,10 @@ mod reading;
 mod vectors;
 mod writing;
 
-use crate::{Record, read_log, write_frame};
 use page::Fault;
 use std::alloc::Global;
 use std::process::Abort;
+use wal::{Record, read_log, write_frame};
 
 // Appends a frame, of a record that can be written.
 fn put(rt: &impl Abort, out: &mut Vec<u8>, lsn: u64, record: Record) -> Result<(), Fault> {

@@ -5,9 +5,9 @@ use super::vectors::{
     PARTIAL_ROLLBACK_COMMIT, PREPARED, PREPARED_AT_CHECKPOINT, ROLLBACK_INTERRUPTED,
 };
 use super::{checkpoint_text, rewritten};
-use crate::{Entry, Glance, RecordView, State, read_log};
 use page::Fault;
 use std::test::Fail;
+use wal::{Entry, Glance, RecordView, State, read_log};
 
 #[test]
 fn records_of_views_spell_the_log(rt: HostRuntime) -> Result<(), Fail> {

@@ -1,8 +1,9 @@
 //! Worked rows of redo.
 
-use crate::{Gate, OpenGate, Parting, Redone, redo};
+use crate::ten_pages::{HeldGate, are_all_changed, ten_pages, ten_updates};
 use analysis::analyse;
 use page::{Fault, Page, Store, Value, decode_store, encode_page};
+use redo::{Gate, OpenGate, Parting, Redone, redo};
 use std::alloc::Global;
 use std::sync::atomic::{AtomicU64, Ordering};
 use std::test::Fail;
@@ -172,52 +173,11 @@ fn what_an_image_lacks_is_applied(rt: HostRuntime) -> Result<(), Fail> {
     Ok(())
 }
 
-/// Ten pages, each changed once by one transaction, which commits.
-fn ten_updates(alloc: Global) -> Result<Vec<u8>, Fault> {
-    let mut log = Vec::from_slice(alloc, b"ARIESLG1")?;
-    for page in 0..10 {
-        let entry = Record::Update {
-            tx: 1,
-            prev: page as u64,
-            page,
-            slot: 0,
-            before: None,
-            after: Value::new(b"a"),
-        };
-        write_frame(&entry, page as u64 + 1, &mut log)?;
-    }
-    write_frame(&Record::Commit { tx: 1, prev: 10 }, 11, &mut log)?;
-    Ok(log)
-}
-
-/// The header of a store of ten pages.
-const TEN_PAGES: &[u8] =
-    b"ARIESPG1\x00\x00\x00\x0a\x00\x00\x00\x00\x00\x00\x00\x00\x00\x00\x00\x00";
-
-/// Ten empty pages.
-fn ten_pages(alloc: Global) -> Result<Store, Fault> {
-    let mut bytes = Vec::from_slice(alloc, TEN_PAGES)?;
-    for number in 0..10 {
-        bytes.extend_from_slice(&encode_page(&Page::empty(number)))?;
-    }
-    decode_store(alloc, &bytes)
-}
-
-/// Whether each of ten pages holds "a" in slot 0 by the record of its number.
-fn are_all_changed(pages: &[Page]) -> bool {
-    for (place, page) in pages.iter().enumerate() {
-        if page.lsn != place as u64 + 1 || !holds(page, 0, Some(b"a")) {
-            return false;
-        }
-    }
-    pages.len() == 10
-}
-
 #[test]
 fn any_workers_and_parting_give_the_same(rt: HostRuntime) -> Result<(), Fail> {
     let alloc = rt.alloc();
     let log = ten_updates(alloc)?;
-    let store = ten_pages(alloc)?;
+    let store = decode_store(alloc, &ten_pages(alloc)?)?;
     for workers in [1, 2, 64] {
         for parts in [1, 10, 4096] {
             let parting = Parting::by_number(alloc, 10, parts)?;
@@ -232,70 +192,17 @@ fn any_workers_and_parting_give_the_same(rt: HostRuntime) -> Result<(), Fail> {
     Ok(())
 }
 
-/// Holds four workers at ten parts: each at its first part until all four have come, and then all but
-/// worker 1, which so draws the other six. Who is held too long is late.
-#[derive(Drop)]
-struct HeldGate {
-    entered: AtomicU64,
-    late: AtomicU64,
-    /// Of each entry, in the order in which they came, 100 times the worker, and the part.
-    told: Vec<AtomicU64>,
-}
-
-impl HeldGate {
-    fn new(alloc: Global) -> Result<HeldGate, Fault> {
-        let mut told = Vec::new(alloc);
-        for _ in 0..10 {
-            told.push(AtomicU64::new(0))?;
-        }
-        Ok(HeldGate {
-            entered: AtomicU64::new(0),
-            late: AtomicU64::new(0),
-            told,
-        })
-    }
-
-    fn all_told(&self) -> [u64; 10] {
-        let mut all = [0; 10];
-        for (turn, told) in self.told.iter().enumerate() {
-            if turn < 10 {
-                all[turn] = told.load(Ordering::SeqCst);
-            }
-        }
-        all
-    }
-
-    fn hold(&self, entries: u64) {
-        for _ in 0..100_000_000 {
-            if self.entered.load(Ordering::SeqCst) >= entries {
-                return;
-            }
-        }
-        self.late.store(1, Ordering::SeqCst);
-    }
-}
-
-impl Gate for HeldGate {
-    fn enter(&self, worker: u32, part: u32) {
-        let turn = self.entered.fetch_add(1, Ordering::SeqCst);
-        if let Some(told) = self.told.get(turn as usize) {
-            told.store(100 * worker as u64 + part as u64, Ordering::SeqCst);
-        }
-        self.hold(if worker == 1 { 4 } else { 10 });
-    }
-}
-
 #[test]
 fn the_gate_hears_who_draws_what(rt: HostRuntime) -> Result<(), Fail> {
     let alloc = rt.alloc();
     let log = ten_updates(alloc)?;
-    let store = ten_pages(alloc)?;
+    let store = decode_store(alloc, &ten_pages(alloc)?)?;
     let parting = Parting::by_number(alloc, 10, 10)?;
-    let gate = HeldGate::new(alloc)?;
+    let gate = HeldGate::new(alloc, 4)?;
     let answer = redone(&rt, alloc, &log, &store, &parting, 4, &gate)?;
     assert!(rt; are_all_changed(&answer.pages), "pages");
-    assert_eq!(rt; gate.late.load(Ordering::SeqCst), 0);
-    assert_eq!(rt; gate.entered.load(Ordering::SeqCst), 10);
+    assert_eq!(rt; gate.late(), 0);
+    assert_eq!(rt; gate.entered(), 10);
     let told = gate.all_told();
     for first in [0, 102, 205, 307] {
         assert!(rt; told[..4].contains(&first), "no first part as {first}");

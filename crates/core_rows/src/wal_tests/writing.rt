@@ -5,10 +5,10 @@ use super::vectors::{
     CHECKPOINT_LOSER, EMPTY_AND_FULL_VALUES, ONE_COMMIT, ONE_LOSER_RESTARTED, PREPARED,
     PREPARED_AT_CHECKPOINT, ROLLBACK_INTERRUPTED,
 };
-use crate::{Entry, Record, State, write_frame};
 use linked_list_allocator::LocalHeap;
 use page::{Fault, Value};
 use std::test::Fail;
+use wal::{Entry, Record, State, write_frame};
 
 fn update(tx: u32, prev: u64, slot: u8, before: Option<Value>, after: Option<Value>) -> Record {
     Record::Update {
