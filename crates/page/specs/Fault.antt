@@ -1,7 +1,7 @@
 -- The numbers of the faults (own).
 use Rattle.std.specs.Prelude.{ℕ}
 use Rattle.page.specs.declared.fault.Fault.{Fault}
-use Rattle.page.specs.declared.fault.Fault.TheVariants.{NoResource, ReadLog, ReadStore, WriteLog, WriteStore, BadLogHeader, BadLength, BadRecord, BadLsn, BadStoreHeader, StoreSize, BadPage, BadMaster, NoSuchPage, PageAheadOfLog, BrokenChain, BadParting, BadWorkers, Chain, AfterFinish, WrongCompensation, BeforeImage, DirtyWrite, EndTooEarly, PageImage, TransactionTable, DirtyTable}
+use Rattle.page.specs.declared.fault.Fault.TheVariants.{NoResource, ReadLog, ReadStore, WriteLog, WriteStore, BadLogHeader, BadLength, BadRecord, BadLsn, BadStoreHeader, StoreSize, BadPage, BadMaster, NoSuchPage, PageAheadOfLog, BrokenChain, BadParting, BadWorkers, Chain, AfterFinish, WrongCompensation, BeforeImage, DirtyWrite, EndTooEarly, PageImage, TransactionTable, DirtyTable, BadBase}
 
 abbrev pub number_of : Fault → ℕ
 number_of NoResource = 1
@@ -31,3 +31,4 @@ number_of (EndTooEarly lsn) = 25
 number_of (PageImage number) = 26
 number_of TransactionTable = 27
 number_of (DirtyTable number) = 28
+number_of BadBase = 29

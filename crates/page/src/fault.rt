@@ -94,10 +94,14 @@ pub enum Fault {
     /// a RecLSN outside 1 to the master; the smallest such page.
     #[error("wrong dirty page table at page {0}")]
     DirtyTable(u32),
+    /// The base store has another page count than the store, or a page whose PageLSN is above the LSN
+    /// behind which the log begins.
+    #[error("bad base store")]
+    BadBase,
 }
 
 impl Fault {
-    /// Its number, 1 to 28 without 19, as the program prints it.
+    /// Its number, 1 to 29 without 19, as the program prints it.
     pub fn number(self) -> u8
         ensures { result ≡ number_of self }
     {
@@ -129,6 +133,7 @@ impl Fault {
             Fault::PageImage(_) => 26,
             Fault::TransactionTable => 27,
             Fault::DirtyTable(_) => 28,
+            Fault::BadBase => 29,
         }
     }
 }

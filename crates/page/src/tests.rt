@@ -200,7 +200,7 @@ fn largest_store(rt: HostRuntime) -> Result<(), Fail> {
 }
 
 /// Each fault, and its text.
-fn texts() -> [(Fault, &'static str); 27] {
+fn texts() -> [(Fault, &'static str); 28] {
     [
         (Fault::NoResource, "no resource"),
         (Fault::ReadLog, "reading the log failed"),
@@ -232,6 +232,7 @@ fn texts() -> [(Fault, &'static str); 27] {
         (Fault::PageImage(0), "wrong content of page 0"),
         (Fault::TransactionTable, "wrong transaction table"),
         (Fault::DirtyTable(0), "wrong dirty page table at page 0"),
+        (Fault::BadBase, "bad base store"),
     ]
 }
 
