@@ -5,7 +5,7 @@ use Rattle.std.specs.List.{AllByRecursion}
 use Rattle.std.proofs.lemmas.Bool.{cases_Bool, cond_both, false≢true, or_cases}
 use Rattle.std.proofs.lemmas.List.Elements.{All-from_recursion}
 use Rattle.wal.specs.Records.{LogRecord, Update, Compensation, End, CheckpointBegin, CheckpointEnd, History, start, ◌▸◌, ◌▸▸◌, LogContent, history, ◌⧺◌, last_lsn, EachRecord}
-use Rattle.wal.specs.Meaning.{is_of, has, is_loser, last_of}
+use Rattle.wal.specs.Meaning.{BasePages, is_of, has, is_loser, last_of}
 use Rattle.wal.specs.Laws.{Obeys, IsLawful}
 use Rattle.wal.specs.Tail.{Action, Finish, Undo, tx_for, record_for, written, tx_of, left_to_do, tail, tail_of}
 use Rattle.wal.specs.Spelling.{Fits}
@@ -51,17 +51,17 @@ each_more P log r h own n x f =
     ]
 
 -- what each CLR and end has of the records before it, those of a lawful log's tail have
-module _ (P : LogRecord → Type 0) (Q : ℕ → Type 0) (bound : ℕ) (next : (log : History) (r : LogRecord) → last_lsn log < bound → Obeys log r → EachRecord P log → IsRollback Q r → P r) where
-  taken_over : (log : History) (rs : List LogRecord) → last_lsn log + length rs ≤ bound → IsLawful (log ▸▸ rs) → EachRecord P log → AllByRecursion (IsRollback Q) rs → AllByRecursion P rs
+module _ (base : BasePages) (P : LogRecord → Type 0) (Q : ℕ → Type 0) (bound : ℕ) (next : (log : History) (r : LogRecord) → last_lsn log < bound → Obeys base log r → EachRecord P log → IsRollback Q r → P r) where
+  taken_over : (log : History) (rs : List LogRecord) → last_lsn log + length rs ≤ bound → IsLawful base (log ▸▸ rs) → EachRecord P log → AllByRecursion (IsRollback Q) rs → AllByRecursion P rs
   taken_over log [] le h p q = tt
   taken_over log (r ∷ rs) le h p q =
-      let own : P r = next log r (omega arith) (lawful_before (log ▸ r) rs h).1 p q.0 in
+      let own : P r = next log r (omega arith) (lawful_before base (log ▸ r) rs h).1 p q.0 in
       (own, taken_over (log ▸ r) rs (omega arith) h (each_more P log r p own) q.1)
 
-  pub tail_has : (log : LogContent) (k : ℕ) → length log.records + length (take k (tail_of log)) ≤ bound → IsLawful (history log) → ((t : ℕ) → is_loser t (history log) ≡ true → Q t)
+  pub tail_has : (log : LogContent) (k : ℕ) → length log.records + length (take k (tail_of log)) ≤ bound → IsLawful base (history log) → ((t : ℕ) → is_loser t (history log) ≡ true → Q t)
       → EachRecord P (history log) → AllByRecursion P (take k (tail_of log))
   tail_has log k le h q p =
-      taken_over (history log) (take k (tail_of log)) (omega (arith, le, size_of_log log)) (cut_of (history log) k h).lawful p
+      taken_over (history log) (take k (tail_of log)) (omega (arith, le, size_of_log log)) (cut_of base (history log) k h).lawful p
       (each_taken (IsRollback Q) k (tail_of log) (tail_rollback Q (history log) q))
 
 -- so it is of each record of the log and these
@@ -70,16 +70,16 @@ each_after P log [] p h = p
 each_after P log (r ∷ rs) p h = each_after P (log ▸ r) rs (each_more P log r p h.0) h.1
 
 -- PAGES
-names_next : (count : ℕ) (log : History) (r : LogRecord) → Obeys log r → EachRecord (NamesPages count) log → IsRollback (λ _. Unit {0}) r → NamesPages count r
-names_next count log (Compensation c) o p q = (let k = o.compensation in subst (λ page. page < count) (sym k.page) (p k.lsn (Update k.update) k.found))
-names_next count log (End s) o p q = tt
-names_next count log r o p q = absurd q
+names_next : (base : BasePages) (count : ℕ) (log : History) (r : LogRecord) → Obeys base log r → EachRecord (NamesPages count) log → IsRollback (λ _. Unit {0}) r → NamesPages count r
+names_next base count log (Compensation c) o p q = (let k = o.compensation in subst (λ page. page < count) (sym k.page) (p k.lsn (Update k.update) k.found))
+names_next base count log (End s) o p q = tt
+names_next base count log r o p q = absurd q
 
 -- a beginning of the tail names pages of the log
-pub tail_names : (count : ℕ) (log : LogContent) (k : ℕ) → IsLawful (history log) → EachRecord (NamesPages count) (history log) → EachRecord (NamesPages count) (history log ▸▸ take k (tail_of log))
-tail_names count log k h p =
+pub tail_names : (base : BasePages) (count : ℕ) (log : LogContent) (k : ℕ) → IsLawful base (history log) → EachRecord (NamesPages count) (history log) → EachRecord (NamesPages count) (history log ▸▸ take k (tail_of log))
+tail_names base count log k h p =
     each_after (NamesPages count) (history log) (take k (tail_of log)) p
-    (tail_has (NamesPages count) (λ _. Unit {0}) (length log.records + length (take k (tail_of log))) (λ log r _ o each q. names_next count log r o each q) log k (omega arith) h (λ t l. tt) p)
+    (tail_has base (NamesPages count) (λ _. Unit {0}) (length log.records + length (take k (tail_of log))) (λ log r _ o each q. names_next base count log r o each q) log k (omega arith) h (λ t l. tt) p)
 
 -- SPELLINGS
 abbrev FitsTx : ℕ → Type 0
@@ -106,8 +106,8 @@ last_of_within t (log ▸ r) =
     cond_both (is_of t r) (suc (last_lsn log)) (last_of t log) (λ n. n ≤ suc (last_lsn log)) (λ _. omega arith) (λ _. omega (arith, last_of_within t log))
 
 -- a CLR takes its numbers and its image from the update that it undoes, and its PrevLSN from the log
-fits_next : (log : History) (r : LogRecord) → last_lsn log < 2 ^ 64 → Obeys log r → EachRecord Fits log → IsRollback FitsTx r → Fits r
-fits_next log (Compensation c) few o p q =
+fits_next : (base : BasePages) (log : History) (r : LogRecord) → last_lsn log < 2 ^ 64 → Obeys base log r → EachRecord Fits log → IsRollback FitsTx r → Fits r
+fits_next base log (Compensation c) few o p q =
     let k = o.compensation in
     let u = p k.lsn (Update k.update) k.found in
     record {
@@ -119,18 +119,18 @@ fits_next log (Compensation c) few o p q =
       undo_next = omega (arith, u.prev, k.undo_next);
       image = subst FitsSlot (sym k.image) u.before;
     }
-fits_next log (End s) few o p q = record { some_tx = q.0; tx = q.1; prev = omega (arith, few, o.chain, last_of_within s.tx log) }
-fits_next log r few o p q = absurd q
+fits_next base log (End s) few o p q = record { some_tx = q.0; tx = q.1; prev = omega (arith, few, o.chain, last_of_within s.tx log) }
+fits_next base log r few o p q = absurd q
 
 -- where the records have spellings, and no LSN is too large, those of a beginning of the tail have too
-pub tail_fits : (log : LogContent) (k : ℕ) → length (log.records ++ take k (tail_of log)) < 2 ^ 64 → IsLawful (history log) → AllByRecursion Fits log.records
+pub tail_fits : (base : BasePages) (log : LogContent) (k : ℕ) → length (log.records ++ take k (tail_of log)) < 2 ^ 64 → IsLawful base (history log) → AllByRecursion Fits log.records
     → AllByRecursion Fits (log ⧺ take k (tail_of log)).records
-tail_fits log k few h fits =
+tail_fits base log k few h fits =
     let all : All Fits log.records = All-from_recursion Fits log.records fits in
     let less : length log.records + length (take k (tail_of log)) < 2 ^ 64 = omega (arith, few, length-append log.records (take k (tail_of log))) in
     let each = each_found Fits log all in
     AllByRecursion-append log.records (take k (tail_of log)) fits
-    (tail_has Fits FitsTx (length log.records + length (take k (tail_of log))) (λ log r l o p q. fits_next log r (omega (arith, less, l)) o p q) log k (omega arith) h
+    (tail_has base Fits FitsTx (length log.records + length (take k (tail_of log))) (λ log r l o p q. fits_next base log r (omega (arith, less, l)) o p q) log k (omega arith) h
     (λ t l. transaction_fits t (history log) each (loser_has t (history log) l)) each)
   where
     AllByRecursion-append : (xs ys : List LogRecord) → AllByRecursion Fits xs → AllByRecursion Fits ys → AllByRecursion Fits (xs ++ ys)

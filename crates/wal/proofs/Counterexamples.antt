@@ -2,7 +2,7 @@
 use Rattle.std.proofs.Common.{ℕ, ◌≡◌, ◌≢◌, ◌&&◌, ◌||◌, true, false, List, [], ◌∷◌, Option, Some, None, inl, inr, refl, sym, ◌∙◌, ap, eqb, ne_eqb, length, arith, get_or}
 use Rattle.std.proofs.lemmas.Bool.{false≢true, or_from, and_right}
 use Rattle.wal.specs.Records.{LogRecord, CheckpointBegin, CheckpointEnd, History, start, ◌▸◌, LogContent, history}
-use Rattle.wal.specs.Meaning.{touches, replay, winners, pending, undo_next_of}
+use Rattle.wal.specs.Meaning.{no_base, touches, replay, winners, pending, undo_next_of}
 use Rattle.wal.specs.Laws.{ChainLaw, FinishLaw, CompensationLaw, BeforeLaw, Strictness, Obeys}
 use Rattle.wal.specs.Tail.{with_tail}
 use Rattle.wal.specs.Hops.{hops}
@@ -25,7 +25,7 @@ abbrev says : Law → History → LogRecord → Type 0
 says TheChain = ChainLaw
 says TheFinish = FinishLaw
 says TheCompensation = CompensationLaw
-says TheBefore = BeforeLaw
+says TheBefore = BeforeLaw no_base
 says TheStrictness = Strictness
 
 -- each record keeps every law but this one
@@ -36,10 +36,10 @@ KeepsBut law (log ▸ r) = KeepsBut law log × ((other : Law) → other ≢ law 
 -- without this law, the log and its tail leave in the first cell something else than the winners do
 record Fails (law : Law) (log : LogContent) : Type 0 where
   others : KeepsBut law (history log)
-  differs : replay (history (with_tail log)) 0 0 ≢ winners (history log) 0 0
+  differs : replay no_base (history (with_tail log)) 0 0 ≢ winners no_base (history log) 0 0
 
 -- a record that obeys them all
-keeps : (law : Law) (log : History) (r : LogRecord) → Obeys log r → (other : Law) → other ≢ law → says other log r
+keeps : (law : Law) (log : History) (r : LogRecord) → Obeys no_base log r → (other : Law) → other ≢ law → says other log r
 keeps law log r o TheChain n = o.chain
 keeps law log r o TheFinish n = o.finish
 keeps law log r o TheCompensation n = o.compensation
@@ -47,7 +47,7 @@ keeps law log r o TheBefore n = o.before
 keeps law log r o TheStrictness n = o.strict
 
 -- the first record of a log, an update
-first_update : Obeys start (U 1 0 0 None a)
+first_update : Obeys no_base start (U 1 0 0 None a)
 first_update = record { chain = refl; finish = (refl, refl, refl); compensation = tt; before = refl; strict = λ other n w. absurd (false≢true w) }
 
 -- none of another transaction is in a cell that only this one could have touched
@@ -76,10 +76,10 @@ abbrev unstrict : LogContent
 unstrict = L (U 1 0 0 None a ∷ U 2 0 0 a b ∷ K 2 2 ∷ [])
 
 -- so the page after a restart would not keep the page law
-unstrict_out : store_out unstrict (store_of 0 (holding 0 None)) ≡ store_of 0 (holding 4 b)
+unstrict_out : store_out no_base unstrict (store_of 0 (holding 0 None)) ≡ store_of 0 (holding 4 b)
 unstrict_out = refl
 
-unstrict_page : PageLaw (history (with_tail unstrict)) (holding 4 b) → ⊥
+unstrict_page : PageLaw no_base (history (with_tail unstrict)) (holding 4 b) → ⊥
 unstrict_page law = (let f : b ≡ None = ap (λ slots. get_or slots 0 None) law.slots_are in cc)
 
 -- COMPENSATION. An end with an update left: nothing undoes it any more.
@@ -257,7 +257,7 @@ prepared_as_active_undone : undone_by (history prepared) (lost_in (active 1 2 1 
 prepared_as_active_undone = refl
 
 -- REDO. A page that the dirty page table leaves out, though its image lacks a record, stays as it was.
-redo_left_out : redo_of None 1 (history (L (U 1 0 0 None a ∷ []))) (holding 0 None) ≢ replayed_page (history (L (U 1 0 0 None a ∷ []))) 0
+redo_left_out : redo_of None 1 (history (L (U 1 0 0 None a ∷ []))) (holding 0 None) ≢ replayed_page no_base (history (L (U 1 0 0 None a ∷ []))) 0
 redo_left_out e = (let f : ◌≡◌ {A = ℕ} 0 1 = ap (λ page. page.lsn) e in omega (arith, f))
 
 -- INTERRUPTED. A page that is set back behind a checkpoint, whose dirty page table left it out, lacks a record that nobody names.

@@ -5,6 +5,7 @@ use Rattle.std.specs.List.{AllByRecursion}
 use Rattle.std.proofs.lemmas.List.{append_cancel_left, length-take}
 use Rattle.page.specs.declared.fault.Fault.{Fault}
 use Rattle.page.specs.Store.{StoreContent, AreNumbered}
+use Rattle.wal.specs.Meaning.{BasePages}
 use Rattle.wal.specs.Records.{LogRecord, LogContent, history, ◌⧺◌, up_to, last_lsn}
 use Rattle.wal.specs.Tail.{tail_of, with_tail}
 use Rattle.wal.specs.Spelling.{body, frame, Fits}
@@ -67,8 +68,8 @@ spellings-append lsn (x ∷ xs) ys =
     ∙ sym (append_assoc (frame x lsn) (spellings (lsn + 1) xs) (spellings (lsn + length (x ∷ xs)) ys))
 
 -- THE CUT
-module _ (log : LogContent) (store : StoreContent) (bytes : List ℕ) (left : StoreContent) (h : Lawful log store) (fits : AllByRecursion Fits log.records) (few : last_lsn (history log) < 2 ^ 64)
-    (c : Cut log store bytes left) where
+module _ (base : BasePages) (log : LogContent) (store : StoreContent) (bytes : List ℕ) (left : StoreContent) (h : Lawful base log store) (fits : AllByRecursion Fits log.records) (few : last_lsn (history log) < 2 ^ 64)
+    (c : Cut base log store bytes left) where
   -- the cut's bytes, and then what is missing, spell the log and its tail
   whole_first : spellings 1 (with_tail log).records ≡ spellings 1 c.whole.records ++ (c.reads.tail ++ c.missing)
   whole_first =
@@ -89,7 +90,7 @@ module _ (log : LogContent) (store : StoreContent) (bytes : List ℕ) (left : St
       let k : ℕ = length c.whole.records - length log.records in
       let e : take (length c.whole.records) (with_tail log).records ≡ log.records ++ take k (tail_of log) = take-append-ge (length c.whole.records) log.records (tail_of log) past in
       subst (λ xs. AllByRecursion Fits xs) (sym e)
-      (tail_fits log k (omega (arith, ap length e, length-take (length c.whole.records) (with_tail log).records, c.reads.few, size_of_log c.whole)) h.log fits)
+      (tail_fits base log k (omega (arith, ap length e, length-take (length c.whole.records) (with_tail log).records, c.reads.few, size_of_log c.whole)) h.log fits)
 
   whole_is : c.whole ≡ up_to (last_lsn (history c.whole)) (with_tail log)
   whole_is =
@@ -101,20 +102,20 @@ module _ (log : LogContent) (store : StoreContent) (bytes : List ℕ) (left : St
   past_log : last_lsn (history log) ≤ last_lsn (history c.whole)
   past_log = omega (arith, past, size_of_log log, size_of_log c.whole)
 
-  pub cut_interrupted : AreNumbered left.pages → Interrupted log store (last_lsn (history c.whole)) left
+  pub cut_interrupted : AreNumbered left.pages → Interrupted base log store (last_lsn (history c.whole)) left
   cut_interrupted numbered =
       record {
         past = past_log;
         numbered = numbered;
         master = c.master;
         count = c.count;
-        pages = subst (λ l. All (PageLaw (history l)) left.pages) whole_is c.pages;
+        pages = subst (λ l. All (PageLaw base (history l)) left.pages) whole_is c.pages;
         not_older = c.not_older;
       }
 
-  pub cut_goes_on : AreNumbered store.pages → AreNumbered left.pages → GoesOn log store c.whole left
+  pub cut_goes_on : AreNumbered store.pages → AreNumbered left.pages → GoesOn base log store c.whole left
   cut_goes_on numbered left_numbered =
-      subst (λ l. GoesOn log store l left) (sym whole_is) (restart_goes_on log store (last_lsn (history c.whole)) left numbered h (cut_interrupted left_numbered))
+      subst (λ l. GoesOn base log store l left) (sym whole_is) (restart_goes_on base log store (last_lsn (history c.whole)) left numbered h (cut_interrupted left_numbered))
 
   -- the text of the cut's records goes on from that of the log's
   text_goes_on : (rest : List ℕ) → log_text c.whole ++ rest ≡ log_text log ++ (spellings (1 + length log.records) (take (length c.whole.records - length log.records) (tail_of log)) ++ rest)
@@ -126,7 +127,7 @@ module _ (log : LogContent) (store : StoreContent) (bytes : List ℕ) (left : St
       ap log_text e ∙ ap (λ (x : List ℕ). header ++ x) (spellings-append 1 log.records (take k (tail_of log))) in
       ap (λ (x : List ℕ). x ++ rest) f ∙ simp append_assoc
 
-  pub cut_again : AreNumbered store.pages → AreNumbered left.pages → (later : List ℕ) (later_left : StoreContent) → Cut c.whole left later later_left → Cut log store later later_left
+  pub cut_again : AreNumbered store.pages → AreNumbered left.pages → (later : List ℕ) (later_left : StoreContent) → Cut base c.whole left later later_left → Cut base log store later later_left
   cut_again numbered left_numbered later later_left d =
       let g = cut_goes_on numbered left_numbered in
       record {
@@ -145,8 +146,8 @@ module _ (log : LogContent) (store : StoreContent) (bytes : List ℕ) (left : St
 
 -- what the cut leaves goes on, its records being a beginning
 pub cuts_settle : CutsSettle
-cuts_settle log store text torn bytes left read numbered left_numbered h c = cut_goes_on log store bytes left h read.each read.few c numbered left_numbered
+cuts_settle base log store text torn bytes left read numbered left_numbered h c = cut_goes_on base log store bytes left h read.each read.few c numbered left_numbered
 
 pub cuts_compose : CutsCompose
-cuts_compose log store text torn bytes left read numbered left_numbered h c later later_left d =
-    cut_again log store bytes left h read.each read.few c numbered left_numbered later later_left d
+cuts_compose base log store text torn bytes left read numbered left_numbered h c later later_left d =
+    cut_again base log store bytes left h read.each read.few c numbered left_numbered later later_left d

@@ -3,7 +3,7 @@ use Rattle.std.proofs.Common.{ℕ, suc, zero, ◌≡◌, ◌≢◌, ◌+◌, ◌
 use Rattle.std.specs.Prelude.{filter}
 use Rattle.std.proofs.lemmas.Bool.{cases_Bool, cases_eq}
 use Rattle.wal.specs.Records.{UpdateRecord, History, ◌▸◌, last_lsn, history}
-use Rattle.wal.specs.Meaning.{is_loser, last_of}
+use Rattle.wal.specs.Meaning.{no_base, is_loser, last_of}
 use Rattle.wal.specs.Tail.{Action, Finish, Undo, tx_for, written, is_end, numbers_from, above_all, losers_of, left_to_do, tail}
 use Rattle.wal.specs.Theorems.{LosersEnd}
 use Rattle.wal.proofs.Filters.{numbers_same, tx_below, above_all_same}
@@ -55,7 +55,7 @@ ends_by [] log e =
     ap (λ rs. length (filter is_end rs)) t ∙ sym (ap length (none_pass (λ x. is_loser x log) (numbers_from 0 (above_all log)) (no_loser log t)))
 ends_by (a ∷ actions) log e =
     let own : is_loser (tx_for a) log ≡ true = (subst (λ xs. AllFor (λ t. is_loser t log ≡ true) xs) e (left_is_of_losers (λ t. is_loser t log ≡ true) log (λ t h. h))).0 in
-    ap (λ rs. length (filter is_end rs)) (tail_first log a actions e) ∙ by_action a own (ends_by actions (log ▸ next_record log a) (next log a actions e).rest)
+    ap (λ rs. length (filter is_end rs)) (tail_first log a actions e) ∙ by_action a own (ends_by actions (log ▸ next_record log a) (next no_base log a actions e).rest)
   where
     by_action : (b : Action) → is_loser (tx_for b) log ≡ true → length (filter is_end (tail (log ▸ next_record log b))) ≡ length (losers_of (log ▸ next_record log b))
         → length (filter is_end (next_record log b ∷ tail (log ▸ next_record log b))) ≡ length (losers_of log)
@@ -63,4 +63,4 @@ ends_by (a ∷ actions) log e =
     by_action (Undo u) l rest = rest ∙ ap length (losers_with log u l)
 
 pub losers_end : LosersEnd
-losers_end log h = ends_by (left_to_do (history log)) (history log) refl
+losers_end base log h = ends_by (left_to_do (history log)) (history log) refl

@@ -4,7 +4,7 @@ use Rattle.std.proofs.lemmas.Option.{same_Some}
 use Rattle.std.proofs.Common.{ne_eqb, eq-eqb, eqb, ltb, eqb-true, false, inl, inr, ◌⊎◌, ℕ, suc, zero, ◌≡◌, ◌+◌, ◌-◌, ◌<◌, ◌≤◌, List, [], ◌∷◌, ◌++◌, Some, None, refl, subst, sym, ap₂, length, take, get_or, map, ap, ◌∙◌, arith}
 use Rattle.std.proofs.lemmas.List.{length-map, get_or-map}
 use Rattle.std.specs.Prelude.{All}
-use Rattle.wal.specs.Records.{LogRecord, History, start, ◌▸◌, ◌▸▸◌, LogContent, history, ◌⧺◌, up_to, last_lsn, record_at, first}
+use Rattle.wal.specs.Records.{LogRecord, History, start, ◌▸◌, ◌▸▸◌, LogContent, history, ◌⧺◌, up_to, last_lsn, base_lsn, record_at, first}
 
 -- ---- one record more
 
@@ -70,9 +70,22 @@ record_in_front log (x ∷ xs) n h = record_in_front (log ▸ x) xs n (omega ari
 pub first_older : (log : History) (r : LogRecord) (n : ℕ) → n ≤ last_lsn log → first n (log ▸ r) ≡ first n log
 first_older log r n h = (let e : ltb (last_lsn log) n ≡ false = le-ltb (last_lsn log) n h in rw e)
 
+-- the log begins at or below its last LSN, and records up to where it begins are none
+pub base_within : (log : History) → base_lsn log ≤ last_lsn log
+base_within start = omega arith
+base_within (log ▸ r) = omega (arith, base_within log)
+
+pub first_base : (log : History) (n : ℕ) → n ≤ base_lsn log → first n log ≡ start
+first_base start n h = refl
+first_base (log ▸ r) n h = (let l : ltb (last_lsn log) n ≡ false = le-ltb (last_lsn log) n (omega (arith, h, base_within log)) in rw l (first_base log n h))
+
 pub first_none : (log : History) → first 0 log ≡ start
-first_none start = refl
-first_none (log ▸ r) = (let l : ltb (last_lsn log) 0 ≡ false = le-ltb (last_lsn log) 0 (omega arith) in rw l (first_none log))
+first_none log = first_base log 0 (omega arith)
+
+-- more records leave where it begins
+pub base_after : (log : History) (xs : List LogRecord) → base_lsn (log ▸▸ xs) ≡ base_lsn log
+base_after log [] = refl
+base_after log (x ∷ xs) = base_after (log ▸ x) xs
 
 pub first_in_front : (log : History) (xs : List LogRecord) (n : ℕ) → n ≤ last_lsn log → first n (log ▸▸ xs) ≡ first n log
 first_in_front log [] n h = refl

@@ -6,7 +6,7 @@ use Rattle.std.proofs.lemmas.List.Elements.{All-from_recursion}
 use Rattle.page.specs.declared.page.Page.{Page}
 use Rattle.wal.specs.declared.record.State.TheVariants.{Prepared, Aborting}
 use Rattle.wal.specs.Records.{TableEntry, LogRecord, Prepare, CheckpointBegin, CheckpointEnd, LogContent, history}
-use Rattle.wal.specs.Meaning.{state_at}
+use Rattle.wal.specs.Meaning.{no_base, state_at}
 use Rattle.wal.specs.Laws.{IsLawful}
 use Rattle.wal.specs.Tail.{is_clr, is_end, in_doubt_of, losers_of, tail_of, with_tail}
 use Rattle.wal.specs.Undo.{lost_in, doubtful_in, undone_by}
@@ -33,7 +33,7 @@ numbers log =
 abbrev pub prepared : LogContent
 prepared = L (U 1 0 0 None a ∷ P 1 1 ∷ [])
 
-pub prepared_lawful : IsLawful (history prepared)
+pub prepared_lawful : IsLawful no_base (history prepared)
 prepared_lawful = (
   (tt, record { chain = refl; finish = (refl, refl, refl); compensation = tt; before = refl; strict = λ other n w. absurd (false≢true w) }),
   record { chain = refl; finish = (refl, refl, refl); compensation = tt; before = tt; strict = tt },
@@ -49,7 +49,7 @@ prepared_table : true_table (history prepared) ≡ prepared_entry 1 2 1 ∷ []
 prepared_table = refl
 
 -- what it did stays
-prepared_out : store_out prepared (store_of 0 (holding 0 None)) ≡ store_of 0 (holding 1 a)
+prepared_out : store_out no_base prepared (store_of 0 (holding 0 None)) ≡ store_of 0 (holding 1 a)
 prepared_out = refl
 
 prepared_numbers : numbers prepared ≡ 1 ∷ 0 ∷ 0 ∷ 0 ∷ []
@@ -67,7 +67,7 @@ prepared_text = refl
 abbrev prepared_commit : LogContent
 prepared_commit = L (U 1 0 0 None a ∷ P 1 1 ∷ K 1 2 ∷ [])
 
-prepared_commit_lawful : IsLawful (history prepared_commit)
+prepared_commit_lawful : IsLawful no_base (history prepared_commit)
 prepared_commit_lawful = (prepared_lawful, record { chain = refl; finish = (refl, refl); compensation = tt; before = tt; strict = tt })
 
 prepared_commit_tail : tail_of prepared_commit ≡ []
@@ -76,7 +76,7 @@ prepared_commit_tail = refl
 prepared_commit_doubt : in_doubt_of (history prepared_commit) ≡ []
 prepared_commit_doubt = refl
 
-prepared_commit_out : store_out prepared_commit (store_of 0 (holding 0 None)) ≡ store_of 0 (holding 1 a)
+prepared_commit_out : store_out no_base prepared_commit (store_of 0 (holding 0 None)) ≡ store_of 0 (holding 1 a)
 prepared_commit_out = refl
 
 prepared_commit_numbers : numbers prepared_commit ≡ 1 ∷ 0 ∷ 0 ∷ 0 ∷ []
@@ -87,7 +87,7 @@ prepared_commit_numbers = refl
 abbrev prepared_abort : LogContent
 prepared_abort = L (U 1 0 0 None a ∷ P 1 1 ∷ A 1 2 ∷ [])
 
-prepared_abort_lawful : IsLawful (history prepared_abort)
+prepared_abort_lawful : IsLawful no_base (history prepared_abort)
 prepared_abort_lawful = (prepared_lawful, record { chain = refl; finish = (refl, refl); compensation = tt; before = tt; strict = tt })
 
 prepared_abort_tail : tail_of prepared_abort ≡ C 1 3 0 0 None ∷ E 1 4 ∷ []
@@ -100,7 +100,7 @@ prepared_abort_doubt = refl
 prepared_abort_state : state_at 1 (history prepared_abort) ≡ Aborting
 prepared_abort_state = refl
 
-prepared_abort_out : store_out prepared_abort (store_of 0 (holding 0 None)) ≡ store_of 0 (holding 4 None)
+prepared_abort_out : store_out no_base prepared_abort (store_of 0 (holding 0 None)) ≡ store_of 0 (holding 4 None)
 prepared_abort_out = refl
 
 prepared_abort_numbers : numbers prepared_abort ≡ 1 ∷ 1 ∷ 1 ∷ 1 ∷ []
@@ -111,7 +111,7 @@ prepared_abort_numbers = refl
 abbrev only_prepared : LogContent
 only_prepared = L (P 1 0 ∷ [])
 
-only_prepared_lawful : IsLawful (history only_prepared)
+only_prepared_lawful : IsLawful no_base (history only_prepared)
 only_prepared_lawful = (tt, record { chain = refl; finish = (refl, refl, refl); compensation = tt; before = tt; strict = tt })
 
 only_prepared_doubt : in_doubt_of (history only_prepared) ≡ 1 ∷ []
@@ -126,7 +126,7 @@ only_prepared_abort_tail = refl
 abbrev beside_loser : LogContent
 beside_loser = L (U 1 0 0 None a ∷ P 1 1 ∷ U 2 0 1 None b ∷ [])
 
-beside_loser_lawful : IsLawful (history beside_loser)
+beside_loser_lawful : IsLawful no_base (history beside_loser)
 beside_loser_lawful = (
   prepared_lawful,
   record { chain = refl; finish = (refl, refl, refl); compensation = tt; before = refl; strict = λ other n w. absurd (false≢true (sym (nobody (eqb 1 other)) ∙ w)) },
@@ -159,7 +159,7 @@ beside_loser_doubtful = refl
 beside_loser_undone : undone_by (history beside_loser) (lost_in (prepared_entry 1 2 1 ∷ active 2 3 3 ∷ [])) ≡ C 2 3 0 1 None ∷ E 2 4 ∷ []
 beside_loser_undone = refl
 
-beside_loser_out : store_out beside_loser (store_of 0 (holding 0 None)) ≡ store_of 0 (holding 4 a)
+beside_loser_out : store_out no_base beside_loser (store_of 0 (holding 0 None)) ≡ store_of 0 (holding 4 a)
 beside_loser_out = refl
 
 beside_loser_numbers : numbers beside_loser ≡ 2 ∷ 1 ∷ 1 ∷ 1 ∷ []
@@ -171,15 +171,16 @@ beside_loser_numbers = refl
 abbrev at_checkpoint : LogContent
 at_checkpoint = L (U 1 0 0 None a ∷ P 1 1 ∷ CheckpointBegin ∷ CheckpointEnd 3 (prepared_entry 1 2 1 ∷ []) ((0, 1) ∷ []) ∷ [])
 
-at_checkpoint_lawful : Lawful at_checkpoint (store_of 3 (holding 0 None))
+at_checkpoint_lawful : Lawful no_base at_checkpoint (store_of 3 (holding 0 None))
 at_checkpoint_lawful = record {
+  based = λ page. omega arith;
   log = (
     (prepared_lawful, record { chain = tt; finish = tt; compensation = tt; before = tt; strict = tt }),
     record { chain = tt; finish = tt; compensation = tt; before = tt; strict = tt },
   );
   names_pages = each_found (NamesPages 1) at_checkpoint
       (All-from_recursion (NamesPages 1) at_checkpoint.records (omega arith, (tt, (tt, (All-from_recursion (λ (d : ℕ × ℕ). d.0 < 1) ((0, 1) ∷ []) (omega arith, tt), tt)))));
-  pages = All-from_recursion (PageLaw (history at_checkpoint)) (holding 0 None ∷ []) (record { within = omega arith; on_page = inl refl; slots_are = refl }, tt);
+  pages = All-from_recursion (PageLaw no_base (history at_checkpoint)) (holding 0 None ∷ []) (record { within = omega arith; on_page = inl refl; slots_are = refl }, tt);
   checkpoint = inr (record {
     transactions = prepared_entry 1 2 1 ∷ [];
     dirty = (0, 1) ∷ [];
@@ -193,7 +194,7 @@ at_checkpoint_lawful = record {
 at_checkpoint_tail : tail_of at_checkpoint ≡ []
 at_checkpoint_tail = refl
 
-at_checkpoint_out : store_out at_checkpoint (store_of 3 (holding 0 None)) ≡ store_of 3 (holding 1 a)
+at_checkpoint_out : store_out no_base at_checkpoint (store_of 3 (holding 0 None)) ≡ store_of 3 (holding 1 a)
 at_checkpoint_out = refl
 
 at_checkpoint_numbers : numbers at_checkpoint ≡ 1 ∷ 0 ∷ 0 ∷ 0 ∷ []
@@ -203,8 +204,9 @@ at_checkpoint_numbers = refl
 abbrev behind_begin : LogContent
 behind_begin = L (U 1 0 0 None a ∷ CheckpointBegin ∷ P 1 1 ∷ CheckpointEnd 2 (active 1 1 1 ∷ []) ((0, 1) ∷ []) ∷ [])
 
-behind_begin_lawful : Lawful behind_begin (store_of 2 (holding 0 None))
+behind_begin_lawful : Lawful no_base behind_begin (store_of 2 (holding 0 None))
 behind_begin_lawful = record {
+  based = λ page. omega arith;
   log = (
     (
       (prepared_lawful.0, record { chain = tt; finish = tt; compensation = tt; before = tt; strict = tt }),
@@ -214,7 +216,7 @@ behind_begin_lawful = record {
   );
   names_pages = each_found (NamesPages 1) behind_begin
       (All-from_recursion (NamesPages 1) behind_begin.records (omega arith, (tt, (tt, (All-from_recursion (λ (d : ℕ × ℕ). d.0 < 1) ((0, 1) ∷ []) (omega arith, tt), tt)))));
-  pages = All-from_recursion (PageLaw (history behind_begin)) (holding 0 None ∷ []) (record { within = omega arith; on_page = inl refl; slots_are = refl }, tt);
+  pages = All-from_recursion (PageLaw no_base (history behind_begin)) (holding 0 None ∷ []) (record { within = omega arith; on_page = inl refl; slots_are = refl }, tt);
   checkpoint = inr (record {
     transactions = active 1 1 1 ∷ [];
     dirty = (0, 1) ∷ [];

@@ -9,7 +9,7 @@ use Rattle.page.specs.declared.page.Page.{Page}
 use Rattle.page.specs.Store.{StoreContent, AreNumbered}
 use Rattle.wal.specs.declared.record.State.TheVariants.{Active}
 use Rattle.wal.specs.Records.{TableEntry, LogRecord, Update, Compensation, Commit, Abort, End, CheckpointBegin, CheckpointEnd, History, LogContent, history, ◌⧺◌, record_at}
-use Rattle.wal.specs.Meaning.{winners, touches}
+use Rattle.wal.specs.Meaning.{no_base, winners, touches}
 use Rattle.wal.specs.Laws.{IsLawful}
 use Rattle.wal.specs.Tail.{tail_of}
 use Rattle.wal.specs.Hops.{hops}
@@ -79,14 +79,14 @@ several_kinds_of_loser : tail_of (L (U 1 0 0 None a ∷ A 1 1 ∷ C 1 2 0 0 None
 several_kinds_of_loser = refl
 
 -- one that has rolled back a part and commits: the CLR counts
-partial_rollback_commit : winners (history (L (U 1 0 0 None a ∷ U 1 1 0 a b ∷ C 1 2 1 0 a ∷ K 1 3 ∷ []))) 0 0 ≡ a
+partial_rollback_commit : winners no_base (history (L (U 1 0 0 None a ∷ U 1 1 0 a b ∷ C 1 2 1 0 a ∷ K 1 3 ∷ []))) 0 0 ≡ a
 partial_rollback_commit = refl
 
-finished_rollback_commit : winners (history (L (U 1 0 0 None a ∷ A 1 1 ∷ C 1 2 0 0 None ∷ E 1 3 ∷ U 2 0 0 None b ∷ K 2 5 ∷ []))) 0 0 ≡ b
+finished_rollback_commit : winners no_base (history (L (U 1 0 0 None a ∷ A 1 1 ∷ C 1 2 0 0 None ∷ E 1 3 ∷ U 2 0 0 None b ∷ K 2 5 ∷ []))) 0 0 ≡ b
 finished_rollback_commit = refl
 
 -- the laws can be met
-one_commit_lawful : IsLawful (history (L (U 1 0 0 None a ∷ K 1 1 ∷ [])))
+one_commit_lawful : IsLawful no_base (history (L (U 1 0 0 None a ∷ K 1 1 ∷ [])))
 one_commit_lawful = (
   (
     tt,
@@ -101,7 +101,7 @@ two_losers_strict other n w =
     let w' : ((eqb 2 other && false) || false) ≡ true = rw e at w in
     both_ways ((eqb 2 other && false) || false) (or_from (eqb 2 other && false) false (and_right (eqb 2 other) false refl) refl) w'
 
-two_losers_lawful : IsLawful (history (L (U 1 0 0 None a ∷ U 2 0 1 None b ∷ U 1 1 0 a c ∷ [])))
+two_losers_lawful : IsLawful no_base (history (L (U 1 0 0 None a ∷ U 2 0 1 None b ∷ U 1 1 0 a c ∷ [])))
 two_losers_lawful = (
   (
     (
@@ -131,11 +131,11 @@ abbrev pub store_of : ℕ → Page → StoreContent
 store_of master page = record { master = master; pages = page ∷ [] }
 
 -- the winner's value, with its PageLSN
-one_commit_out : store_out (L (U 1 0 0 None a ∷ K 1 1 ∷ [])) (store_of 0 (holding 0 None)) ≡ store_of 0 (holding 1 a)
+one_commit_out : store_out no_base (L (U 1 0 0 None a ∷ K 1 1 ∷ [])) (store_of 0 (holding 0 None)) ≡ store_of 0 (holding 1 a)
 one_commit_out = refl
 
 -- the loser leaves its CLR's LSN
-one_loser_out : store_out (L (U 1 0 0 None a ∷ [])) (store_of 0 (holding 0 None)) ≡ store_of 0 (holding 2 None)
+one_loser_out : store_out no_base (L (U 1 0 0 None a ∷ [])) (store_of 0 (holding 0 None)) ≡ store_of 0 (holding 2 None)
 one_loser_out = refl
 
 -- a page that has the record already is not redone
@@ -198,8 +198,9 @@ dirty_from_1 log m page page_lsn le =
     above_0 (suc lsn) r f = omega arith
 
 -- a log with a checkpoint and its store are lawful
-checkpoint_loser_lawful : Lawful checkpoint_loser (store_of 2 (holding 0 None))
+checkpoint_loser_lawful : Lawful no_base checkpoint_loser (store_of 2 (holding 0 None))
 checkpoint_loser_lawful = record {
+  based = λ page. omega arith;
   log = (
     (
       (tt, record { chain = refl; finish = (refl, refl, refl); compensation = tt; before = refl; strict = λ other n w. absurd (false≢true w) }),
@@ -208,7 +209,7 @@ checkpoint_loser_lawful = record {
     record { chain = tt; finish = tt; compensation = tt; before = tt; strict = tt },
   );
   names_pages = each_found (NamesPages 1) checkpoint_loser (All-from_recursion (NamesPages 1) checkpoint_loser.records (omega arith, (tt, (All-from_recursion (λ (d : ℕ × ℕ). d.0 < 1) ((0, 1) ∷ []) (omega arith, tt), tt))));
-  pages = All-from_recursion (PageLaw (history checkpoint_loser)) (holding 0 None ∷ []) (record { within = omega arith; on_page = inl refl; slots_are = refl }, tt);
+  pages = All-from_recursion (PageLaw no_base (history checkpoint_loser)) (holding 0 None ∷ []) (record { within = omega arith; on_page = inl refl; slots_are = refl }, tt);
   checkpoint = inr (record {
     transactions = active 1 1 1 ∷ [];
     dirty = (0, 1) ∷ [];
@@ -241,7 +242,7 @@ checkpoint_loser_reads = record { tail = []; text = refl; torn_tail = inl (omega
 abbrev checkpoint_loser_undone : LogContent
 checkpoint_loser_undone = checkpoint_loser ⧺ C 1 1 0 0 None ∷ []
 
-checkpoint_loser_cut : Cut checkpoint_loser (store_of 2 (holding 0 None)) (log_text checkpoint_loser_undone) (store_of 2 (holding 4 None))
+checkpoint_loser_cut : Cut no_base checkpoint_loser (store_of 2 (holding 0 None)) (log_text checkpoint_loser_undone) (store_of 2 (holding 4 None))
 checkpoint_loser_cut = record {
   written = frame (C 1 1 0 0 None) 4;
   missing = frame (E 1 4) 5;
@@ -252,7 +253,7 @@ checkpoint_loser_cut = record {
   reads = record { tail = []; text = refl; torn_tail = inl (omega arith); torn_count = refl; each = (fits_update, (tt, (fits_tables, (fits_compensation, tt)))); few = omega arith };
   master = refl;
   count = refl;
-  pages = All-from_recursion (PageLaw (history checkpoint_loser_undone)) (holding 4 None ∷ []) (record { within = omega arith; on_page = inr (C 1 1 0 0 None, refl, refl); slots_are = refl }, tt);
+  pages = All-from_recursion (PageLaw no_base (history checkpoint_loser_undone)) (holding 4 None ∷ []) (record { within = omega arith; on_page = inr (C 1 1 0 0 None, refl, refl); slots_are = refl }, tt);
   not_older = not_older;
 }
   where
@@ -268,10 +269,10 @@ one_page_numbered page e = record { some = omega arith; few = omega arith; at_pl
     at_place (suc i) d lt = absurd (omega arith)
 
 -- it goes on to the end record alone
-checkpoint_loser_goes_on : GoesOn checkpoint_loser (store_of 2 (holding 0 None)) checkpoint_loser_undone (store_of 2 (holding 4 None))
+checkpoint_loser_goes_on : GoesOn no_base checkpoint_loser (store_of 2 (holding 0 None)) checkpoint_loser_undone (store_of 2 (holding 4 None))
 unfolding checkpoint_loser_cut
 checkpoint_loser_goes_on =
-    cuts_settle checkpoint_loser (store_of 2 (holding 0 None)) (log_text checkpoint_loser) 0 (log_text checkpoint_loser_undone) (store_of 2 (holding 4 None)) checkpoint_loser_reads
+    cuts_settle no_base checkpoint_loser (store_of 2 (holding 0 None)) (log_text checkpoint_loser) 0 (log_text checkpoint_loser_undone) (store_of 2 (holding 4 None)) checkpoint_loser_reads
     (one_page_numbered (holding 0 None) refl) (one_page_numbered (holding 4 None) refl) checkpoint_loser_lawful checkpoint_loser_cut
 
 checkpoint_loser_rest : tail_of checkpoint_loser_undone ≡ E 1 4 ∷ []

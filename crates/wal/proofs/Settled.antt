@@ -7,15 +7,15 @@ use Rattle.std.proofs.lemmas.List.FromFn.{length-map-range_with_len, get_or-map-
 use Rattle.page.specs.declared.page.Page.{Page}
 use Rattle.page.specs.Store.{StoreContent, AreNumbered}
 use Rattle.wal.specs.Records.{LogRecord, CheckpointBegin, History, ◌▸▸◌, start, LogContent, history, ◌⧺◌, up_to, last_lsn, record_at, EachRecord}
-use Rattle.wal.specs.Meaning.{Cells, replay, winners, last_on}
+use Rattle.wal.specs.Meaning.{BasePages, BaseLaw, Cells, replay, winners, last_on}
 use Rattle.wal.specs.Tail.{tail_of, with_tail}
 use Rattle.wal.specs.Redo.{slots_in, rec_lsn_of}
 use Rattle.wal.specs.Store.{PageLaw, DirtyLaw, CheckpointLaw, NamesPages, Lawful, true_table, page_out, store_out}
 use Rattle.wal.specs.Theorems.{replayed_page, Interrupted, GoesOn, RestartGoesOn, Settled, StoreSettles}
-use Rattle.wal.proofs.Histories.{record_in_front, record_within, first_in_front, after-append, size_of_log}
+use Rattle.wal.proofs.Histories.{base_after, record_in_front, record_within, first_in_front, after-append, size_of_log}
 use Rattle.wal.proofs.Checkpoints.{checkpoint_begins, checkpoint_ends, checkpoint_there, first_end_after}
 use Rattle.wal.proofs.Lists.{replay_is_winners, cuts_resume, with_tail_is, left_of_tail, up_to_in_tail}
-use Rattle.wal.proofs.Pages.{last_on_highest, replayed_page_law}
+use Rattle.wal.proofs.Pages.{base_within_last, last_on_highest, replayed_page_law}
 use Rattle.wal.proofs.Appended.{tail_names}
 
 -- THE CHECKPOINT
@@ -49,25 +49,31 @@ checkpoint_stays log xs old new m old_numbered new_numbered count not_older (inr
           (dirty_stays log xs m (get_or old i d).number (get_or old i d).lsn (get_or new i d).lsn (rec_lsn_of (get_or old i d).number t.dirty) le (not_older i d within) (t.dirty_are i d within)));
     })
 
+-- more records leave the base law
+base_stays : (base : BasePages) (log : History) (xs : List LogRecord) → BaseLaw base log → BaseLaw base (log ▸▸ xs)
+base_stays base log xs l page = omega (arith, l page, base_after log xs)
+
 -- INTERRUPTED
 -- the store that these make
-abbrev made : (master count : ℕ) → History → Cells → StoreContent
-made master count log state = record { master = master; pages = map (λ page. record { number = page; lsn = last_on page log; slots = slots_in state page }) (range_with_len 0 count) }
+abbrev made : (base : BasePages) (master count : ℕ) → History → Cells → StoreContent
+made base master count log state = record { master = master; pages = map (λ page. record { number = page; lsn = last_on base page log; slots = slots_in state page }) (range_with_len 0 count) }
 
 -- what is left beside a beginning of the whole goes on
 pub restart_goes_on : RestartGoesOn
-restart_goes_on log store lsn left numbered h l =
+restart_goes_on base log store lsn left numbered h l =
     let whole : LogContent = up_to lsn (with_tail log) in
-    let r = cuts_resume log lsn h.log l.past in
+    let r = cuts_resume base log lsn h.log l.past in
     let k : ℕ = left_of_tail lsn log in
     let whole_is : whole ≡ log ⧺ take k (tail_of log) = up_to_in_tail lsn log l.past in
     let log_is : history whole ≡ history log ▸▸ take k (tail_of log) = ap history whole_is ∙ after-append start log.records (take k (tail_of log)) in
-    let winners_same : winners (history whole) ≡ winners (history log) = sym (replay_is_winners whole r.lawful) ∙ ap (λ l. replay (history l)) r.whole ∙ replay_is_winners log h.log in
+    let winners_same : winners base (history whole) ≡ winners base (history log) = sym (replay_is_winners base whole r.lawful) ∙ ap (λ l. replay base (history l)) r.whole ∙ replay_is_winners base log h.log in
+    let base_is : BaseLaw base (history whole) = subst (BaseLaw base) (sym log_is) (base_stays base (history log) (take k (tail_of log)) h.based) in
     record {
       lawful = record {
+        based = base_is;
         log = r.lawful;
         names_pages = subst (λ count. EachRecord (NamesPages count) (history whole)) (sym l.count)
-            (subst (EachRecord (NamesPages (length store.pages))) (sym log_is) (tail_names (length store.pages) log k h.log h.names_pages));
+            (subst (EachRecord (NamesPages (length store.pages))) (sym log_is) (tail_names base (length store.pages) log k h.log h.names_pages));
         pages = l.pages;
         checkpoint = subst (λ log. CheckpointLaw log left.pages left.master) (sym log_is)
             (subst (CheckpointLaw (history log ▸▸ take k (tail_of log)) left.pages) (sym l.master)
@@ -75,31 +81,34 @@ restart_goes_on log store lsn left numbered h l =
       };
       same_log = r.whole;
       same_store =
-          ap₂ (λ master count. made master count (history (with_tail whole)) (winners (history whole))) l.master l.count
-          ∙ ap₂ (λ log state. made store.master (length store.pages) log state) (ap history r.whole) winners_same;
+          ap₂ (λ master count. made base master count (history (with_tail whole)) (winners base (history whole))) l.master l.count
+          ∙ ap₂ (λ log state. made base store.master (length store.pages) log state) (ap history r.whole) winners_same;
     }
 
 -- DONE
-module _ (log : LogContent) (store : StoreContent) (numbered : AreNumbered store.pages) (h : Lawful log store) where
+module _ (base : BasePages) (log : LogContent) (store : StoreContent) (numbered : AreNumbered store.pages) (h : Lawful base log store) where
   abbrev whole : LogContent
   whole = with_tail log
 
   abbrev pages : List Page
-  pages = (store_out log store).pages
+  pages = (store_out base log store).pages
 
   count_out : length pages ≡ length store.pages
-  count_out = length-map-range_with_len (page_out log) 0 (length store.pages)
+  count_out = length-map-range_with_len (page_out base log) 0 (length store.pages)
 
-  page_at : (i : ℕ) (d : Page) → i < length store.pages → get_or pages i d ≡ page_out log i
-  page_at i d lt = get_or-map-range_with_len (page_out log) 0 (length store.pages) i i d lt (omega arith)
+  page_at : (i : ℕ) (d : Page) → i < length store.pages → get_or pages i d ≡ page_out base log i
+  page_at i d lt = get_or-map-range_with_len (page_out base log) 0 (length store.pages) i i d lt (omega arith)
+
+  base_whole : BaseLaw base (history whole)
+  base_whole = subst (BaseLaw base) (sym (with_tail_is log)) (base_stays base (history log) (tail_of log) h.based)
 
   -- the page after a restart is what the log and its tail make
-  page_is : (page : ℕ) → replayed_page (history whole) page ≡ page_out log page
-  page_is page = ap (λ state. record { number = page; lsn = last_on page (history whole); slots = slots_in state page }) (replay_is_winners log h.log)
+  page_is : (page : ℕ) → replayed_page base (history whole) page ≡ page_out base log page
+  page_is page = ap (λ state. record { number = page; lsn = last_on base page (history whole); slots = slots_in state page }) (replay_is_winners base log h.log)
 
-  pages_out : All (PageLaw (history whole)) pages
+  pages_out : All (PageLaw base (history whole)) pages
   pages_out i d lt =
-      subst (PageLaw (history whole)) (page_is i ∙ sym (page_at i d (omega (arith, count_out, lt)))) (replayed_page_law (history whole) i)
+      subst (PageLaw base (history whole)) (page_is i ∙ sym (page_at i d (omega (arith, count_out, lt)))) (replayed_page_law base (history whole) i base_whole)
 
   numbered_out : AreNumbered pages
   numbered_out =
@@ -110,41 +119,41 @@ module _ (log : LogContent) (store : StoreContent) (numbered : AreNumbered store
       }
 
   -- the PageLSN of a page that keeps the page law is that of a record on it
-  within_last : (page : Page) → PageLaw (history log) page → page.lsn ≤ last_on page.number (history whole)
+  within_last : (page : Page) → PageLaw base (history log) page → page.lsn ≤ last_on base page.number (history whole)
   within_last page law =
       elim law.on_page [
-        | inl none ↦ omega (arith, none)
+        | inl none ↦ omega (arith, none, base_within_last base page.number (history whole) base_whole)
         | inr found ↦
-            last_on_highest page.number (history whole) page.lsn found.0
+            last_on_highest base page.number (history whole) page.lsn found.0
             (ap (λ l. record_at l page.lsn) (with_tail_is log) ∙ record_in_front (history log) (tail_of log) page.lsn law.within ∙ found.1) found.2
       ]
 
   not_older : (i : ℕ) (d : Page) → i < length store.pages → (slice_index_or store.pages i d).lsn ≤ (slice_index_or pages i d).lsn
   not_older i d lt =
       let own = within_last (get_or store.pages i d) (h.pages i d lt) in
-      let at : last_on (get_or store.pages i d).number (history whole) ≡ last_on i (history whole) = ap (λ page. last_on page (history whole)) (numbered.at_place i d lt) in
-      let lsn_is : (get_or pages i d).lsn ≡ last_on i (history whole) = ap (λ p. p.lsn) (page_at i d lt) in
+      let at : last_on base (get_or store.pages i d).number (history whole) ≡ last_on base i (history whole) = ap (λ page. last_on base page (history whole)) (numbered.at_place i d lt) in
+      let lsn_is : (get_or pages i d).lsn ≡ last_on base i (history whole) = ap (λ p. p.lsn) (page_at i d lt) in
       omega (arith, own, at, lsn_is)
 
   all_of : up_to (last_lsn (history whole)) whole ≡ whole
   all_of = ap (λ xs. record { records = xs }) (take_all (last_lsn (history whole)) whole.records (omega (arith, size_of_log whole)))
 
-  interrupted : Interrupted log store (last_lsn (history whole)) (store_out log store)
+  interrupted : Interrupted base log store (last_lsn (history whole)) (store_out base log store)
   interrupted =
       record {
         past = omega (arith, size_of_log log, size_of_log whole, length-append log.records (tail_of log));
         numbered = numbered_out;
         master = refl;
         count = count_out;
-        pages = subst (λ l. All (PageLaw (history l)) pages) (sym all_of) pages_out;
+        pages = subst (λ l. All (PageLaw base (history l)) pages) (sym all_of) pages_out;
         not_older = not_older;
       }
 
-  pub settled : Settled log store
+  pub settled : Settled base log store
   settled =
-      let g : GoesOn log store whole (store_out log store) =
-      subst (λ l. GoesOn log store l (store_out log store)) all_of (restart_goes_on log store (last_lsn (history whole)) (store_out log store) numbered h interrupted) in
+      let g : GoesOn base log store whole (store_out base log store) =
+      subst (λ l. GoesOn base log store l (store_out base log store)) all_of (restart_goes_on base log store (last_lsn (history whole)) (store_out base log store) numbered h interrupted) in
       record { lawful = g.lawful; same_store = g.same_store }
 
 pub store_settles : StoreSettles
-store_settles log store numbered h = settled log store numbered h
+store_settles base log store numbered h = settled base log store numbered h

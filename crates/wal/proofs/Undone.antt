@@ -4,7 +4,7 @@ use Rattle.std.proofs.Common.{ℕ, suc, ◌≡◌, Bool, true, false, cond, ◌&
 use Rattle.std.specs.Prelude.{filter}
 use Rattle.std.proofs.lemmas.Bool.{cases_Bool, cases_eq}
 use Rattle.wal.specs.Records.{TableEntry, tx_in, History, last_lsn, history}
-use Rattle.wal.specs.Meaning.{is_of, has, is_unfinished, in_doubt, is_loser, aborted, prepared, state_by, pending, last_of}
+use Rattle.wal.specs.Meaning.{BasePages, is_of, has, is_unfinished, in_doubt, is_loser, aborted, prepared, state_by, pending, last_of}
 use Rattle.wal.specs.Laws.{IsLawful}
 use Rattle.wal.specs.Tail.{written, numbers_from, above_all, transactions_of, in_doubt_of, losers_of, left_of, is_among, rollback, left_to_do, tail}
 use Rattle.wal.specs.Store.{true_entry, true_table}
@@ -81,7 +81,7 @@ table_tells_doubt log =
     }
 
 -- UNDO BY ITS LOSERS
-module _ (log : History) (h : IsLawful log) where
+module _ (base : BasePages) (log : History) (h : IsLawful base log) where
   abbrev lost : List TableEntry
   lost = lost_in (true_table log)
 
@@ -94,7 +94,7 @@ module _ (log : History) (h : IsLawful log) where
   walk_is t = ap (walk_of log) (lost_entry_for t) ∙ by_test (is_loser t log)
     where
       by_test : (b : Bool) → walk_of log (cond b (Some (true_entry log t)) None) ≡ record { met = cond b (pending t log) []; ends = 0 }
-      by_test true = walk_meets_pending log t h
+      by_test true = walk_meets_pending base log t h
       by_test false = refl
 
   last_is : (t : ℕ) → is_loser t log ≡ true → last_in (entry_for t lost) ≡ last_of t log
@@ -108,4 +108,4 @@ module _ (log : History) (h : IsLawful log) where
       (left_is_of_losers (λ t. last_in (entry_for t lost) ≡ last_of t log) log last_is)
 
 pub undo_is_tail : UndoIsTail
-undo_is_tail log h = record { appended = undone_is_tail (history log) h; no_bad_hop = λ t. ap (λ w. w.ends) (walk_is (history log) h t) }
+undo_is_tail base log h = record { appended = undone_is_tail base (history log) h; no_bad_hop = λ t. ap (λ w. w.ends) (walk_is base (history log) h t) }

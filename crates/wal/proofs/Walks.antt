@@ -3,7 +3,7 @@ use Rattle.std.proofs.Common.{ℕ, suc, ◌≡◌, ◌≤◌, true, false, ◌||
 use Rattle.std.specs.Prelude.{option_map, unwrap_or}
 use Rattle.std.proofs.lemmas.Bool.{cases_Bool, or_parts, or_from}
 use Rattle.wal.specs.Records.{UpdateRecord, CompensationRecord, LogRecord, Update, Compensation, Commit, Abort, End, Prepare, History, start, ◌▸◌, last_lsn, record_at}
-use Rattle.wal.specs.Meaning.{pending, undo_next_of, last_of, finished, aborted, committed, ended, prepared}
+use Rattle.wal.specs.Meaning.{BasePages, pending, undo_next_of, last_of, finished, aborted, committed, ended, prepared}
 use Rattle.wal.specs.Laws.{Obeys, IsLawful}
 use Rattle.wal.specs.Hops.{sent_on, hops, meet}
 use Rattle.wal.proofs.Histories.{record_last, record_more}
@@ -98,8 +98,8 @@ walks_at : (t : ℕ) (log : History) (n m : ℕ) (ms ns : List ℕ) → n ≡ m 
 walks_at t log n m ms ns e f w = ap (hops t log) e ∙ w ∙ ap (λ x. record { met = x; ends = 0 }) (sym f)
 
 -- an update of the transaction itself
-leads_own_update : (log : History) (u : UpdateRecord) → Leads u.tx log → Obeys log (Update u) → Leads u.tx (log ▸ Update u)
-leads_own_update log u h o =
+leads_own_update : (base : BasePages) (log : History) (u : UpdateRecord) → Leads u.tx log → Obeys base log (Update u) → Leads u.tx (log ▸ Update u)
+leads_own_update base log u h o =
     let own : eqb u.tx u.tx ≡ true = eq-eqb u.tx u.tx refl in
     let before : Walks u.tx log u.prev (pending u.tx log) = ap (hops u.tx log) o.chain ∙ h.last o.finish.0 o.finish.1 o.finish.2 in
     let all : Walks u.tx (log ▸ Update u) (suc (last_lsn log)) (suc (last_lsn log) ∷ pending u.tx log) = walk_from_update u.tx log u own ∙ ap (meet (suc (last_lsn log))) before in
@@ -112,8 +112,8 @@ leads_own_update log u h o =
     }
 
 -- a CLR of the transaction itself
-leads_own_compensation : (log : History) (c : CompensationRecord) → Leads c.tx log → Obeys log (Compensation c) → Leads c.tx (log ▸ Compensation c)
-leads_own_compensation log c h o =
+leads_own_compensation : (base : BasePages) (log : History) (c : CompensationRecord) → Leads c.tx log → Obeys base log (Compensation c) → Leads c.tx (log ▸ Compensation c)
+leads_own_compensation base log c h o =
     let own : eqb c.tx c.tx ≡ true = eq-eqb c.tx c.tx refl in
     let k = o.compensation in
     let w : Walks c.tx log (undo_next_of c.tx log) (k.lsn ∷ k.below) = h.undo_next ∙ ap (λ ms. record { met = ms; ends = 0 }) k.newest in
@@ -142,38 +142,38 @@ leads_same t log r u p f h =
     }
 
 -- in a lawful log the walks lead to what is pending
-pub leads : (log : History) → IsLawful log → (t : ℕ) → Leads t log
-leads start h t = record { undo_next = refl; last = λ _ _ _. refl }
-leads (log ▸ Update u) h t =
+pub leads : (base : BasePages) (log : History) → IsLawful base log → (t : ℕ) → Leads t log
+leads base start h t = record { undo_next = refl; last = λ _ _ _. refl }
+leads base (log ▸ Update u) h t =
     elim (cases_Bool (eqb u.tx t)) [
-      | inl e ↦ subst (λ x. Leads x (log ▸ Update u)) (eqb-true u.tx t e) (leads_own_update log u (leads log h.0 u.tx) h.1)
-      | inr e ↦ leads_same t log (Update u) (rw e) (rw e) (λ a b c. (a, b, c, rw e)) (leads log h.0 t)
+      | inl e ↦ subst (λ x. Leads x (log ▸ Update u)) (eqb-true u.tx t e) (leads_own_update base log u (leads base log h.0 u.tx) h.1)
+      | inr e ↦ leads_same t log (Update u) (rw e) (rw e) (λ a b c. (a, b, c, rw e)) (leads base log h.0 t)
     ]
-leads (log ▸ Compensation c) h t =
+leads base (log ▸ Compensation c) h t =
     elim (cases_Bool (eqb c.tx t)) [
-      | inl e ↦ subst (λ x. Leads x (log ▸ Compensation c)) (eqb-true c.tx t e) (leads_own_compensation log c (leads log h.0 c.tx) h.1)
-      | inr e ↦ leads_same t log (Compensation c) (rw e) (rw e) (λ a b c. (a, b, c, rw e)) (leads log h.0 t)
+      | inl e ↦ subst (λ x. Leads x (log ▸ Compensation c)) (eqb-true c.tx t e) (leads_own_compensation base log c (leads base log h.0 c.tx) h.1)
+      | inr e ↦ leads_same t log (Compensation c) (rw e) (rw e) (λ a b c. (a, b, c, rw e)) (leads base log h.0 t)
     ]
-leads (log ▸ Commit s) h t =
+leads base (log ▸ Commit s) h t =
     leads_same t log (Commit s) refl refl
     (λ a b c.
     let (x, y) = or_parts (eqb s.tx t || committed t log) (ended t log) a in
     let (v, w) = or_parts (eqb s.tx t) (committed t log) x in
     (or_from (committed t log) (ended t log) w y, b, c, rw v))
-    (leads log h.0 t)
-leads (log ▸ Abort s) h t =
-    leads_same t log (Abort s) refl refl (λ a b c. let (x, y) = or_parts (eqb s.tx t) (aborted t log) b in (a, y, c, rw x)) (leads log h.0 t)
-leads (log ▸ End s) h t =
+    (leads base log h.0 t)
+leads base (log ▸ Abort s) h t =
+    leads_same t log (Abort s) refl refl (λ a b c. let (x, y) = or_parts (eqb s.tx t) (aborted t log) b in (a, y, c, rw x)) (leads base log h.0 t)
+leads base (log ▸ End s) h t =
     leads_same t log (End s) refl refl
     (λ a b c.
     let (x, y) = or_parts (committed t log) (eqb s.tx t || ended t log) a in
     let (v, w) = or_parts (eqb s.tx t) (ended t log) y in
     (or_from (committed t log) (ended t log) x w, b, c, rw v))
-    (leads log h.0 t)
-leads (log ▸ Prepare s) h t =
-    leads_same t log (Prepare s) refl refl (λ a b c. let (x, y) = or_parts (eqb s.tx t) (prepared t log) c in (a, b, y, rw x)) (leads log h.0 t)
-leads (log ▸ r) h t = leads_same t log r refl refl (λ a b c. (a, b, c, refl)) (leads log h.0 t)
+    (leads base log h.0 t)
+leads base (log ▸ Prepare s) h t =
+    leads_same t log (Prepare s) refl refl (λ a b c. let (x, y) = or_parts (eqb s.tx t) (prepared t log) c in (a, b, y, rw x)) (leads base log h.0 t)
+leads base (log ▸ r) h t = leads_same t log r refl refl (λ a b c. (a, b, c, refl)) (leads base log h.0 t)
 
 -- the updates that the hops of a transaction meet are its pending ones, and no hop is bad
-pub walk_meets_pending : (log : History) (t : ℕ) → IsLawful log → hops t log (undo_next_of t log) ≡ record { met = pending t log; ends = 0 }
-walk_meets_pending log t h = (leads log h t).undo_next
+pub walk_meets_pending : (base : BasePages) (log : History) (t : ℕ) → IsLawful base log → hops t log (undo_next_of t log) ≡ record { met = pending t log; ends = 0 }
+walk_meets_pending base log t h = (leads base log h t).undo_next

@@ -1,7 +1,7 @@
 -- The laws that each record keeps after the log before it. They are those of ARIES in normal running.
 use Rattle.std.specs.Prelude.{◌≡◌, ◌≢◌, ℕ, List, [], ◌∷◌, Some, IfSome, true, false}
 use Rattle.wal.specs.Records.{UpdateRecord, CompensationRecord, LogRecord, Update, Compensation, Commit, Abort, End, Prepare, CheckpointBegin, CheckpointEnd, History, start, ◌▸◌, record_at}
-use Rattle.wal.specs.Meaning.{owner, prev_of, committed, aborted, ended, finished, prepared, in_doubt, replay, touches, pending, last_of}
+use Rattle.wal.specs.Meaning.{BasePages, owner, prev_of, committed, aborted, ended, finished, prepared, in_doubt, replay, touches, pending, last_of}
 
 -- CHAIN. PrevLSN is the LSN of the transaction's last record before it, or 0. ARIES, section 4.1.
 abbrev pub ChainLaw : History → LogRecord → Type 0
@@ -38,10 +38,10 @@ CompensationLaw log (Compensation c) = Compensates log c
 CompensationLaw log (End s) = committed s.tx log ≡ false → pending s.tx log ≡ []
 CompensationLaw log _ = Unit {0}
 
--- BEFORE. A before image is what the log so far leaves in the cell. ARIES, section 4.1 (undo information).
-abbrev pub BeforeLaw : History → LogRecord → Type 0
-BeforeLaw log (Update u) = u.before ≡ replay log u.page u.slot
-BeforeLaw log _ = Unit {0}
+-- BEFORE. A before image is what the log so far leaves in the cell, over the base pages. ARIES, section 4.1 (undo information).
+abbrev pub BeforeLaw : BasePages → History → LogRecord → Type 0
+BeforeLaw base log (Update u) = u.before ≡ replay base log u.page u.slot
+BeforeLaw base log _ = Unit {0}
 
 -- STRICTNESS. Nobody updates a cell in which another transaction that has not finished has an update or a CLR. ARIES,
 -- section 1.2 (locks held to the end), here as a law of the log: own.
@@ -49,14 +49,14 @@ abbrev pub Strictness : History → LogRecord → Type 0
 Strictness log (Update u) = (other : ℕ) → other ≢ u.tx → touches other u.page u.slot log ≡ true → finished other log ≡ true
 Strictness log _ = Unit {0}
 
-pub record Obeys (log : History) (r : LogRecord) : Type 0 where
+pub record Obeys (base : BasePages) (log : History) (r : LogRecord) : Type 0 where
   pub chain : ChainLaw log r
   pub finish : FinishLaw log r
   pub compensation : CompensationLaw log r
-  pub before : BeforeLaw log r
+  pub before : BeforeLaw base log r
   pub strict : Strictness log r
 
--- LAWFUL LOG. Each record obeys them after the log before it.
-abbrev pub IsLawful : History → Type 0
-IsLawful start = Unit {0}
-IsLawful (log ▸ r) = IsLawful log × Obeys log r
+-- LAWFUL LOG over base pages. Each record obeys them after the log before it.
+abbrev pub IsLawful : BasePages → History → Type 0
+IsLawful base start = Unit {0}
+IsLawful base (log ▸ r) = IsLawful base log × Obeys base log r

@@ -1,9 +1,9 @@
 -- What a log means: who has finished, what it leaves in the cells, what is pending.
-use Rattle.std.specs.Prelude.{ℕ, suc, List, [], ◌∷◌, Option, Some, None, Bool, true, false, not, ◌&&◌, ◌||◌, ◌==◌, if◌then◌else◌, drop, option_map}
+use Rattle.std.specs.Prelude.{ℕ, suc, List, [], ◌∷◌, Option, Some, None, Bool, true, false, not, ◌&&◌, ◌||◌, ◌==◌, ◌≤◌, if◌then◌else◌, drop, option_map}
 use Rattle.page.specs.Image.{Image}
 use Rattle.wal.specs.declared.record.State.{State}
 use Rattle.wal.specs.declared.record.State.TheVariants.{Active, Prepared, Aborting}
-use Rattle.wal.specs.Records.{LogRecord, Update, Compensation, Commit, Abort, End, Prepare, CheckpointBegin, CheckpointEnd, History, start, ◌▸◌, last_lsn}
+use Rattle.wal.specs.Records.{LogRecord, Update, Compensation, Commit, Abort, End, Prepare, CheckpointBegin, CheckpointEnd, History, start, ◌▸◌, last_lsn, base_lsn}
 
 -- OWNER. The transaction whose record it is; a checkpoint's has none. ARIES, section 4.1 (TransID).
 abbrev pub owner : LogRecord → Option ℕ
@@ -145,19 +145,28 @@ Cells = ℕ → ℕ → Image
 abbrev pub empty : Cells
 empty page slot = None
 
+-- BASE PAGES. What the cells hold before the first record of a log, and the PageLSN of each page there. Own.
+pub record BasePages : Type 0 where
+  pub cells : Cells
+  pub page_lsn : ℕ → ℕ
+
+-- where the log begins over empty pages
+abbrev pub no_base : BasePages
+no_base = record { cells = empty; page_lsn = λ page. 0 }
+
+-- BASE LAW. The base pages are of records before the log. Own.
+abbrev pub BaseLaw : BasePages → History → Type 0
+BaseLaw base log = (page : ℕ) → base.page_lsn page ≤ base_lsn log
+
 -- what cells become by the effects of the chosen records, in order: a record is chosen by its LSN and itself
 abbrev pub effects : (ℕ → LogRecord → Bool) → Cells → History → Cells
 effects chosen cells start page slot = cells page slot
 effects chosen cells (log ▸ r) page slot =
     if writes page slot r && chosen (suc (last_lsn log)) r then image_of r else effects chosen cells log page slot
 
--- REPLAY. All effects, in order, over given cells (repeating history). ARIES, section 6.2.
-abbrev pub replay_over : Cells → History → Cells
-replay_over cells log = effects (λ _ _. true) cells log
-
--- over empty ones
-abbrev pub replay : History → Cells
-replay log = replay_over empty log
+-- REPLAY. All effects, in order, over the base pages (repeating history). ARIES, section 6.2.
+abbrev pub replay : BasePages → History → Cells
+replay base log = effects (λ _ _. true) base.cells log
 
 -- the effects over given cells of the records of these transactions alone
 abbrev pub is_owned_among : (ℕ → Bool) → Option ℕ → Bool
@@ -167,17 +176,13 @@ is_owned_among chosen (Some t) = chosen t
 abbrev pub effects_of : (ℕ → Bool) → Cells → History → Cells
 effects_of chosen cells log = effects (λ _ r. is_owned_among chosen (owner r)) cells log
 
--- WINNERS. The effects over given cells of those records alone whose transaction is committed or in doubt in the log. ARIES,
+-- WINNERS. The effects over the base pages of those records alone whose transaction is committed or in doubt in the log. ARIES,
 -- section 3 (what recovery is for).
 abbrev pub is_winner : History → ℕ → Bool
 is_winner log t = committed t log || in_doubt t log
 
-abbrev pub winners_over : Cells → History → Cells
-winners_over cells log = effects_of (is_winner log) cells log
-
--- over empty ones
-abbrev pub winners : History → Cells
-winners log = winners_over empty log
+abbrev pub winners : BasePages → History → Cells
+winners base log = effects_of (is_winner log) base.cells log
 
 -- whether t has an update or a CLR in this cell
 abbrev pub touches : ℕ → ℕ → ℕ → History → Bool
@@ -207,11 +212,11 @@ undo_next_of t (log ▸ _) = undo_next_of t log
 abbrev pub is_on : ℕ → LogRecord → Bool
 is_on page r = is_on_page page (change_of r)
 
--- LAST-ON. The LSN of the last update or CLR on the page, or where there is none the one given. ARIES, section 4.2 (PageLSN).
+-- LAST-ON. The LSN of the last update or CLR on the page, or where there is none the PageLSN given. ARIES, section 4.2 (PageLSN).
 abbrev pub last_on_from : (page page_lsn : ℕ) → History → ℕ
 last_on_from page page_lsn start = page_lsn
 last_on_from page page_lsn (log ▸ r) = if is_on page r then suc (last_lsn log) else last_on_from page page_lsn log
 
--- of a page that had none before the log
-abbrev pub last_on : ℕ → History → ℕ
-last_on page log = last_on_from page 0 log
+-- over the base pages
+abbrev pub last_on : BasePages → ℕ → History → ℕ
+last_on base page log = last_on_from page (base.page_lsn page) log

@@ -87,6 +87,11 @@ abbrev pub last_lsn : History → ℕ
 last_lsn start = 0
 last_lsn (log ▸ r) = suc (last_lsn log)
 
+-- the LSN below that of its first record
+abbrev pub base_lsn : History → ℕ
+base_lsn start = 0
+base_lsn (log ▸ r) = base_lsn log
+
 -- the record at an LSN
 abbrev pub record_at : History → ℕ → Option LogRecord
 record_at start lsn = None

@@ -1,21 +1,34 @@
 -- What a store has to do with a log: the laws of pages and of the checkpoint, and the store after a restart.
 use Rattle.std.specs.Prelude.{◌≡◌, ◌≤◌, ◌<◌, ◌⊎◌, ℕ, List, ◌++◌, length, map, Option, Some, None, Bool, true, ◌&&◌, ◌==◌, nat_le, if◌then◌else◌, All, slice_index_or, false}
-use Rattle.std.specs.List.{range_with_len}
+use Rattle.std.specs.List.{range_with_len, slice_get}
 use Rattle.page.specs.declared.page.Page.{Page}
+use Rattle.page.specs.Image.{Image}
 use Rattle.page.specs.Store.{StoreContent}
 use Rattle.wal.specs.Records.{TableEntry, LogRecord, Update, Compensation, CheckpointBegin, CheckpointEnd, History, start, ◌▸◌, LogContent, history, last_lsn, record_at, first, EachRecord}
-use Rattle.wal.specs.Meaning.{state_at, replay, winners, last_of, undo_next_of, is_on, last_on}
+use Rattle.wal.specs.Meaning.{BasePages, BaseLaw, state_at, replay, winners, last_of, undo_next_of, is_on, last_on}
 use Rattle.wal.specs.Laws.{IsLawful}
 use Rattle.wal.specs.Tail.{unfinished_of, with_tail}
 use Rattle.wal.specs.Redo.{rec_lsn_of, slots_in}
 use Rattle.wal.specs.Reads.{log_text, Reads}
 
--- PAGE LAW. PageLSN is 0 or the LSN of a record on the page, and the slots are what the log up to PageLSN makes of them.
--- ARIES, section 4.2 (PageLSN), and write-ahead logging, section 1.1.
-pub record PageLaw (log : History) (page : Page) : Type 0 where
+-- the base pages that the pages of a store are, each at the place of its number
+abbrev pub held_in : Option Page → ℕ → Image
+held_in None slot = None
+held_in (Some page) slot = slice_index_or page.slots slot None
+
+abbrev pub lsn_of : Option Page → ℕ
+lsn_of None = 0
+lsn_of (Some page) = page.lsn
+
+abbrev pub base_pages : List Page → BasePages
+base_pages pages = record { cells = λ page slot. held_in (slice_get pages page) slot; page_lsn = λ page. lsn_of (slice_get pages page) }
+
+-- PAGE LAW. PageLSN is that of the base page or the LSN of a record on the page, and the slots are what the log up to PageLSN
+-- makes of the base page's. ARIES, section 4.2 (PageLSN), and write-ahead logging, section 1.1.
+pub record PageLaw (base : BasePages) (log : History) (page : Page) : Type 0 where
   pub within : page.lsn ≤ last_lsn log
-  pub on_page : (page.lsn ≡ 0) ⊎ ((r : LogRecord) × (record_at log page.lsn ≡ Some r) × (is_on page.number r ≡ true))
-  pub slots_are : page.slots ≡ slots_in (replay (first page.lsn log)) page.number
+  pub on_page : (page.lsn ≡ base.page_lsn page.number) ⊎ ((r : LogRecord) × (record_at log page.lsn ≡ Some r) × (is_on page.number r ≡ true))
+  pub slots_are : page.slots ≡ slots_in (replay base (first page.lsn log)) page.number
 
 -- THE CHECKPOINT. ARIES, section 5.4 (fuzzy checkpoints); that the tables describe the moment of the begin, and that the
 -- first end which names it counts, are own.
@@ -72,25 +85,26 @@ NamesPages count (Compensation c) = c.page < count
 NamesPages count (CheckpointEnd begin transactions dirty) = All (λ d. d.0 < count) dirty
 NamesPages count _ = Unit {0}
 
--- LAWFUL. A log and a store that an ARIES system can leave behind.
-pub record Lawful (content : LogContent) (store : StoreContent) : Type 0 where
-  pub log : IsLawful (history content)
+-- LAWFUL. A log and a store that an ARIES system can leave behind that began over these base pages.
+pub record Lawful (base : BasePages) (content : LogContent) (store : StoreContent) : Type 0 where
+  pub based : BaseLaw base (history content)
+  pub log : IsLawful base (history content)
   pub names_pages : EachRecord (NamesPages (length store.pages)) (history content)
-  pub pages : All (PageLaw (history content)) store.pages
+  pub pages : All (PageLaw base (history content)) store.pages
   pub checkpoint : CheckpointLaw (history content) store.pages store.master
 
 -- STORE-OUT. The count and the master stay; each page has what the winners leave, and as PageLSN the last record on it in the
 -- log and its tail. ARIES, section 3.
-abbrev pub page_out : LogContent → ℕ → Page
-page_out log page = record { number = page; lsn = last_on page (history (with_tail log)); slots = slots_in (winners (history log)) page }
+abbrev pub page_out : BasePages → LogContent → ℕ → Page
+page_out base log page = record { number = page; lsn = last_on base page (history (with_tail log)); slots = slots_in (winners base (history log)) page }
 
-abbrev pub store_out : LogContent → StoreContent → StoreContent
-store_out log store = record { master = store.master; pages = map (page_out log) (range_with_len 0 (length store.pages)) }
+abbrev pub store_out : BasePages → LogContent → StoreContent → StoreContent
+store_out base log store = record { master = store.master; pages = map (page_out base log) (range_with_len 0 (length store.pages)) }
 
 -- CUT (own). What a restart of (L, S) that was interrupted may leave: L's log text and a beginning of its tail's, with the
 -- whole records L' in it; and a store of the same count and master whose pages keep the page law over L', none of them older
 -- than in S.
-pub record Cut (log : LogContent) (store : StoreContent) (bytes : List ℕ) (left : StoreContent) : Type 0 where
+pub record Cut (base : BasePages) (log : LogContent) (store : StoreContent) (bytes : List ℕ) (left : StoreContent) : Type 0 where
   pub written : List ℕ
   pub missing : List ℕ
   pub begins : bytes ≡ log_text log ++ written
@@ -100,5 +114,5 @@ pub record Cut (log : LogContent) (store : StoreContent) (bytes : List ℕ) (lef
   pub reads : Reads bytes whole torn
   pub master : left.master ≡ store.master
   pub count : length left.pages ≡ length store.pages
-  pub pages : All (PageLaw (history whole)) left.pages
+  pub pages : All (PageLaw base (history whole)) left.pages
   pub not_older : (i : ℕ) (d : Page) → i < length store.pages → (slice_index_or store.pages i d).lsn ≤ (slice_index_or left.pages i d).lsn

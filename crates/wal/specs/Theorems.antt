@@ -3,7 +3,7 @@ use Rattle.std.specs.Prelude.{suc, ◌≡◌, ◌↔◌, ◌≤◌, ◌<◌, ℕ
 use Rattle.page.specs.declared.page.Page.{Page}
 use Rattle.page.specs.Store.{StoreContent, AreNumbered}
 use Rattle.wal.specs.Records.{LogRecord, tx_in, History, LogContent, history, up_to, last_lsn, record_at, first}
-use Rattle.wal.specs.Meaning.{in_doubt, is_loser, pending, undo_next_of, replay, winners, is_on, last_on}
+use Rattle.wal.specs.Meaning.{BasePages, BaseLaw, in_doubt, is_loser, pending, undo_next_of, replay, winners, is_on, last_on}
 use Rattle.wal.specs.Laws.{Obeys, IsLawful}
 use Rattle.wal.specs.Tail.{is_end, in_doubt_of, losers_of, tail, tail_of, with_tail}
 use Rattle.wal.specs.Hops.{hops}
@@ -14,41 +14,41 @@ use Rattle.wal.specs.Reads.{Reads}
 
 -- A log is lawful where each record obeys the laws after those before it.
 abbrev pub LawfulByRecord : Type 0
-LawfulByRecord = (log : LogContent) →
-    IsLawful (history log) ↔ ((lsn : ℕ) (r : LogRecord) → record_at (history log) (suc lsn) ≡ Some r → Obeys (first lsn (history log)) r)
+LawfulByRecord = (base : BasePages) (log : LogContent) →
+    IsLawful base (history log) ↔ ((lsn : ℕ) (r : LogRecord) → record_at (history log) (suc lsn) ≡ Some r → Obeys base (first lsn (history log)) r)
 
 -- The hops of a transaction from its undo-next meet its pending updates, the newest first, and none is bad.
 abbrev pub HopsMeetPending : Type 0
-HopsMeetPending = (log : LogContent) (t : ℕ) → IsLawful (history log) →
+HopsMeetPending = (base : BasePages) (log : LogContent) (t : ℕ) → IsLawful base (history log) →
     hops t (history log) (undo_next_of t (history log)) ≡ record { met = pending t (history log); ends = 0 }
 
 -- The log and its tail, replayed, leave in each cell what the winners leave there.
 abbrev pub ReplayIsWinners : Type 0
-ReplayIsWinners = (log : LogContent) → IsLawful (history log) →
-    replay (history (with_tail log)) ≡ winners (history log)
+ReplayIsWinners = (base : BasePages) (log : LogContent) → IsLawful base (history log) →
+    replay base (history (with_tail log)) ≡ winners base (history log)
 
 -- The log and its tail are lawful, have no loser and no tail, the same transactions in doubt, and the same winners.
-pub record Settles (log : LogContent) : Type 0 where
-  pub lawful : IsLawful (history (with_tail log))
+pub record Settles (base : BasePages) (log : LogContent) : Type 0 where
+  pub lawful : IsLawful base (history (with_tail log))
   pub no_loser : (t : ℕ) → is_loser t (history (with_tail log)) ≡ false
   pub same_doubt : (t : ℕ) → in_doubt t (history (with_tail log)) ≡ in_doubt t (history log)
   pub no_tail : tail_of (with_tail log) ≡ []
-  pub same : winners (history (with_tail log)) ≡ winners (history log)
+  pub same : winners base (history (with_tail log)) ≡ winners base (history log)
 
 abbrev pub TailSettles : Type 0
-TailSettles = (log : LogContent) → IsLawful (history log) → Settles log
+TailSettles = (base : BasePages) (log : LogContent) → IsLawful base (history log) → Settles base log
 
 -- In the tail of a lawful log as many transactions end as there are losers: each loser once.
 abbrev pub LosersEnd : Type 0
-LosersEnd = (log : LogContent) → IsLawful (history log) → length (filter is_end (tail_of log)) ≡ length (losers_of (history log))
+LosersEnd = (base : BasePages) (log : LogContent) → IsLawful base (history log) → length (filter is_end (tail_of log)) ≡ length (losers_of (history log))
 
 -- A log that was cut within its tail is lawful, and its own tail completes it to the same whole.
-pub record Resumes (log : LogContent) (lsn : ℕ) : Type 0 where
-  pub lawful : IsLawful (history (up_to lsn (with_tail log)))
+pub record Resumes (base : BasePages) (log : LogContent) (lsn : ℕ) : Type 0 where
+  pub lawful : IsLawful base (history (up_to lsn (with_tail log)))
   pub whole : with_tail (up_to lsn (with_tail log)) ≡ with_tail log
 
 abbrev pub CutsResume : Type 0
-CutsResume = (log : LogContent) (lsn : ℕ) → IsLawful (history log) → last_lsn (history log) ≤ lsn → Resumes log lsn
+CutsResume = (base : BasePages) (log : LogContent) (lsn : ℕ) → IsLawful base (history log) → last_lsn (history log) ≤ lsn → Resumes base log lsn
 
 -- no record on the page that the image lacks is left out by redo
 abbrev pub SkipsNothing : (listed : Option ℕ) (redo_lsn page page_lsn : ℕ) → History → Type 0
@@ -56,13 +56,14 @@ SkipsNothing listed redo_lsn page page_lsn log =
     (lsn : ℕ) (r : LogRecord) → record_at log lsn ≡ Some r → is_on page r ≡ true → page_lsn < lsn → is_redone listed redo_lsn page_lsn lsn ≡ true
 
 -- the page that a log makes
-abbrev pub replayed_page : History → ℕ → Page
-replayed_page log page = record { number = page; lsn = last_on page log; slots = slots_in (replay log) page }
+abbrev pub replayed_page : BasePages → History → ℕ → Page
+replayed_page base log page = record { number = page; lsn = last_on base page log; slots = slots_in (replay base log) page }
 
 -- Redo of a page that keeps the page law, and skips nothing, makes it what the log makes of it.
 abbrev pub RedoReplays : Type 0
-RedoReplays = (listed : Option ℕ) (redo_lsn : ℕ) (log : History) (image : Page)
-    → PageLaw log image → SkipsNothing listed redo_lsn image.number image.lsn log → redo_of listed redo_lsn log image ≡ replayed_page log image.number
+RedoReplays = (base : BasePages) (listed : Option ℕ) (redo_lsn : ℕ) (log : History) (image : Page)
+    → BaseLaw base log → PageLaw base log image → SkipsNothing listed redo_lsn image.number image.lsn log
+    → redo_of listed redo_lsn log image ≡ replayed_page base log image.number
 
 -- redo reaches an LSN of a page: the page is listed from there or before, and redo_lsn lies in 1 to that LSN
 pub record IsReached (listed : Option ℕ) (redo_lsn lsn : ℕ) : Type 0 where
@@ -79,8 +80,9 @@ ReachesAll dirty redo_lsn log page =
 
 -- By any dirty page table and redo_lsn that reach all that the images lack, redo makes each page what the log makes of it.
 abbrev pub RedoSuffices : Type 0
-RedoSuffices = (log : LogContent) (store : StoreContent) (dirty : List (ℕ × ℕ)) (redo_lsn : ℕ) → Lawful log store → All (ReachesAll dirty redo_lsn (history log)) store.pages
-    → All (λ page. redo_of (rec_lsn_of page.number dirty) redo_lsn (history log) page ≡ replayed_page (history log) page.number) store.pages
+RedoSuffices = (base : BasePages) (log : LogContent) (store : StoreContent) (dirty : List (ℕ × ℕ)) (redo_lsn : ℕ)
+    → Lawful base log store → All (ReachesAll dirty redo_lsn (history log)) store.pages
+    → All (λ page. redo_of (rec_lsn_of page.number dirty) redo_lsn (history log) page ≡ replayed_page base (history log) page.number) store.pages
 
 -- On a lawful log and the losers of its true table, undo appends the tail, and no hop is bad.
 pub record UndoesAll (log : History) : Type 0 where
@@ -88,7 +90,7 @@ pub record UndoesAll (log : History) : Type 0 where
   pub no_bad_hop : (t : ℕ) → (walk_of log (entry_for t (lost_in (true_table log)))).ends ≡ 0
 
 abbrev pub UndoIsTail : Type 0
-UndoIsTail = (log : LogContent) → IsLawful (history log) → UndoesAll (history log)
+UndoIsTail = (base : BasePages) (log : LogContent) → IsLawful base (history log) → UndoesAll (history log)
 
 -- The true table of a log has as prepared those in doubt, and as lost the losers, in rising number.
 pub record TellsDoubt (log : History) : Type 0 where
@@ -101,40 +103,42 @@ TableTellsDoubt = (log : LogContent) → TellsDoubt (history log)
 -- THE STORE
 -- A store that a restart may leave beside the log and its tail up to an LSN, not below the log's last: the count and the master
 -- stay, the pages keep the page law over these records, and none is older.
-pub record Interrupted (log : LogContent) (store : StoreContent) (lsn : ℕ) (left : StoreContent) : Type 0 where
+pub record Interrupted (base : BasePages) (log : LogContent) (store : StoreContent) (lsn : ℕ) (left : StoreContent) : Type 0 where
   pub past : last_lsn (history log) ≤ lsn
   pub numbered : AreNumbered left.pages
   pub master : left.master ≡ store.master
   pub count : length left.pages ≡ length store.pages
-  pub pages : All (PageLaw (history (up_to lsn (with_tail log)))) left.pages
+  pub pages : All (PageLaw base (history (up_to lsn (with_tail log)))) left.pages
   pub not_older : (i : ℕ) (d : Page) → i < length store.pages → (slice_index_or store.pages i d).lsn ≤ (slice_index_or left.pages i d).lsn
 
 -- A log and a store from which a restart goes on to the same log and the same store.
-pub record GoesOn (log : LogContent) (store : StoreContent) (whole : LogContent) (left : StoreContent) : Type 0 where
-  pub lawful : Lawful whole left
+pub record GoesOn (base : BasePages) (log : LogContent) (store : StoreContent) (whole : LogContent) (left : StoreContent) : Type 0 where
+  pub lawful : Lawful base whole left
   pub same_log : with_tail whole ≡ with_tail log
-  pub same_store : store_out whole left ≡ store_out log store
+  pub same_store : store_out base whole left ≡ store_out base log store
 
 -- A restart that was interrupted is lawful, and a further one goes on to the same end.
 abbrev pub RestartGoesOn : Type 0
-RestartGoesOn = (log : LogContent) (store : StoreContent) (lsn : ℕ) (left : StoreContent)
-    → AreNumbered store.pages → Lawful log store → Interrupted log store lsn left → GoesOn log store (up_to lsn (with_tail log)) left
+RestartGoesOn = (base : BasePages) (log : LogContent) (store : StoreContent) (lsn : ℕ) (left : StoreContent)
+    → AreNumbered store.pages → Lawful base log store → Interrupted base log store lsn left → GoesOn base log store (up_to lsn (with_tail log)) left
 
 -- The log and its tail with the store after a restart are lawful, and a further restart leaves that store as it is.
-pub record Settled (log : LogContent) (store : StoreContent) : Type 0 where
-  pub lawful : Lawful (with_tail log) (store_out log store)
-  pub same_store : store_out (with_tail log) (store_out log store) ≡ store_out log store
+pub record Settled (base : BasePages) (log : LogContent) (store : StoreContent) : Type 0 where
+  pub lawful : Lawful base (with_tail log) (store_out base log store)
+  pub same_store : store_out base (with_tail log) (store_out base log store) ≡ store_out base log store
 
 abbrev pub StoreSettles : Type 0
-StoreSettles = (log : LogContent) (store : StoreContent) → AreNumbered store.pages → Lawful log store → Settled log store
+StoreSettles = (base : BasePages) (log : LogContent) (store : StoreContent) → AreNumbered store.pages → Lawful base log store → Settled base log store
 
 -- Of a log that was read and its store: the whole records of a cut and its store are lawful, and a restart goes on from them to
 -- the same log and the same store.
 abbrev pub CutsSettle : Type 0
-CutsSettle = (log : LogContent) (store : StoreContent) (text : List ℕ) (torn : ℕ) (bytes : List ℕ) (left : StoreContent) → Reads text log torn → AreNumbered store.pages → AreNumbered left.pages
-    → Lawful log store → (c : Cut log store bytes left) → GoesOn log store c.whole left
+CutsSettle = (base : BasePages) (log : LogContent) (store : StoreContent) (text : List ℕ) (torn : ℕ) (bytes : List ℕ) (left : StoreContent)
+    → Reads text log torn → AreNumbered store.pages → AreNumbered left.pages
+    → Lawful base log store → (c : Cut base log store bytes left) → GoesOn base log store c.whole left
 
 -- So a restart may be interrupted again and again: a cut of what a cut goes on to is a cut of the first log and store.
 abbrev pub CutsCompose : Type 0
-CutsCompose = (log : LogContent) (store : StoreContent) (text : List ℕ) (torn : ℕ) (bytes : List ℕ) (left : StoreContent) → Reads text log torn → AreNumbered store.pages → AreNumbered left.pages
-    → Lawful log store → (c : Cut log store bytes left) → (later : List ℕ) (later_left : StoreContent) → Cut c.whole left later later_left → Cut log store later later_left
+CutsCompose = (base : BasePages) (log : LogContent) (store : StoreContent) (text : List ℕ) (torn : ℕ) (bytes : List ℕ) (left : StoreContent)
+    → Reads text log torn → AreNumbered store.pages → AreNumbered left.pages → Lawful base log store → (c : Cut base log store bytes left)
+    → (later : List ℕ) (later_left : StoreContent) → Cut base c.whole left later later_left → Cut base log store later later_left

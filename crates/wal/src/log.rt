@@ -3,7 +3,7 @@
 ghost use Rattle.std.specs.Prelude.{◌≡◌, ◌+◌, ◌<◌, ◌≤◌, ◌^◌, ℕ, All, length, map, drop, Some, option_map, IfErr, IfOk, IfSome, Ok, ◌*◌};
 ghost use Rattle.wal.specs.Glances.{IsGlanceBehind};
 ghost use Rattle.wal.specs.Meaning.{image_in};
-ghost use Rattle.wal.specs.Records.{LogContent, start, ◌▸◌, ◌▸▸◌, history, last_lsn, record_at, first};
+ghost use Rattle.wal.specs.Records.{LogContent, start, ◌▸◌, ◌▸▸◌, history, last_lsn, base_lsn, record_at, first};
 ghost use Rattle.wal.specs.Frames.{IsPlace, ArePlaces, record_of, length_of, frame_at, next_at, frames_at, log_at, Gives};
 ghost use Rattle.wal.specs.Reads.{Cause, Reads};
 ghost use Rattle.wal.specs.Spelling.{Fits};
@@ -49,6 +49,13 @@ impl<'a> Log<'a> {
         ensures { result ≡ last_lsn (history self.now) }
     {
         self.offsets.len() as u64
+    }
+
+    /// The LSN behind which it begins: its first record has the next one.
+    pub fn base(&self) -> u64
+        ensures { result ≡ base_lsn (history self.now) }
+    {
+        0
     }
 
     /// The LSN of a record that is to come behind the last one. The log's bytes are fewer than 2^63 and
