@@ -3,7 +3,7 @@ use Rattle.std.proofs.Common.{ℕ, suc, ◌≡◌, ◌≤◌, Bool, true, false,
 use Rattle.std.proofs.lemmas.Bool.{cases_Bool, or_parts, or_left, or_right, both_ways, and_right, and_left, ltb-false, and_from, not_from_false, not_from_true}
 use Rattle.wal.specs.declared.record.State.TheVariants.{Active}
 use Rattle.wal.specs.Records.{TableEntry, LogRecord, Update, Compensation, Commit, Abort, End, Prepare, History, start, ◌▸◌, last_lsn, first}
-use Rattle.wal.specs.Meaning.{state_by, state_at, is_of, is_abort_of, is_prepare_of, has, aborted, prepared, committed, ended, finished, is_unfinished, last_of, undo_next_of}
+use Rattle.wal.specs.Meaning.{BasePages, state_by, state_at, is_of, is_abort_of, is_prepare_of, has, aborted, prepared, committed, ended, finished, is_unfinished, last_of, undo_next_of}
 use Rattle.wal.specs.Laws.{IsLawful, Obeys}
 use Rattle.wal.specs.Store.{true_entry}
 use Rattle.analysis.specs.Tables.{finishes, work_since, finished_since, undo_next_in, told_in, is_aborting, state_in_work, entry_by, base_since, analysed_entry}
@@ -181,7 +181,7 @@ Known-work t log r work base f o s u own =
 abbrev KnownAt : ℕ → ℕ → Option TableEntry → History → Type 0
 KnownAt t m base log = Known t log (work_since t m log) (base_since t m base log)
 
-module _ (t m : ℕ) (base : Option TableEntry) (log : History) (behind : ltb (last_lsn log) m ≡ false) (k : KnownAt t m base log) where
+module _ (over : BasePages) (t m : ℕ) (base : Option TableEntry) (log : History) (behind : ltb (last_lsn log) m ≡ false) (k : KnownAt t m base log) where
   -- a record of another, or of none
   other_next : (r : LogRecord) → finished t (log ▸ r) ≡ finished t log → state_at t (log ▸ r) ≡ state_at t log → undo_next_of t (log ▸ r) ≡ undo_next_of t log → is_of t r ≡ false
       → work_since t m (log ▸ r) ≡ work_since t m log → base_since t m base (log ▸ r) ≡ base_since t m base log → KnownAt t m base (log ▸ r)
@@ -208,7 +208,7 @@ module _ (t m : ℕ) (base : Option TableEntry) (log : History) (behind : ltb (l
   finish_next r f w b =
       subst (λ x. Known t (log ▸ r) x (base_since t m base (log ▸ r))) (sym w) (subst (λ x. Known t (log ▸ r) [] x) (sym b) (Known-finished t (log ▸ r) f))
 
-  pub next_known : (r : LogRecord) → Obeys log r → KnownAt t m base (log ▸ r)
+  pub next_known : (r : LogRecord) → Obeys over log r → KnownAt t m base (log ▸ r)
   next_known (Update u) o =
       elim (cases_Bool (eqb u.tx t)) [
         | inl e ↦
@@ -249,9 +249,9 @@ module _ (t m : ℕ) (base : Option TableEntry) (log : History) (behind : ltb (l
       ]
   next_known r o = other_next r refl refl refl refl (rw behind) (rw behind)
 
-known_after : (t m : ℕ) (log : History) → IsLawful log → m ≤ last_lsn log → KnownAt t m (unfinished_entry (first m log) t) log
-known_after t m start h l = at_checkpoint t start
-known_after t m (log ▸ r) h l =
+known_after : (over : BasePages) (t m : ℕ) (log : History) → IsLawful over log → m ≤ last_lsn log → KnownAt t m (unfinished_entry (first m log) t) log
+known_after over t m start h l = at_checkpoint t start
+known_after over t m (log ▸ r) h l =
     elim (cases_Bool (ltb (last_lsn log) m)) [
       | inl i ↦
           (let w : work_since t m (log ▸ r) ≡ [] = ap (λ b. cond (b || (finishes t r)) [] (cond (is_of t r) ((suc (last_lsn log), r) ∷ work_since t m log) (work_since t m log))) i in
@@ -263,7 +263,7 @@ known_after t m (log ▸ r) h l =
       | inr i ↦
           (let f : first m (log ▸ r) ≡ first m log = ap (λ b. cond b (log ▸ r) (first m log)) i in
           subst (λ x. KnownAt t m (unfinished_entry x t) (log ▸ r)) (sym f)
-          (next_known t m (unfinished_entry (first m log) t) log i (known_after t m log h.0 (ltb-false (last_lsn log) m i)) r h.1))
+          (next_known over t m (unfinished_entry (first m log) t) log i (known_after over t m log h.0 (ltb-false (last_lsn log) m i)) r h.1))
     ]
 
 -- WHAT IS KNOWN IS THE ENTRY
@@ -291,5 +291,5 @@ entry_is t log work base k = by_finished (finished t log) refl
     by_finished false f = by_work work base k f
 
 -- From what is true at m, analysis finds what is true at the end.
-pub analysis_is_true : (log : History) (t m : ℕ) → IsLawful log → m ≤ last_lsn log → analysed_entry t m (unfinished_entry (first m log) t) log ≡ unfinished_entry log t
-analysis_is_true log t m h l = entry_is t log (work_since t m log) (base_since t m (unfinished_entry (first m log) t) log) (known_after t m log h l)
+pub analysis_is_true : (over : BasePages) (log : History) (t m : ℕ) → IsLawful over log → m ≤ last_lsn log → analysed_entry t m (unfinished_entry (first m log) t) log ≡ unfinished_entry log t
+analysis_is_true over log t m h l = entry_is t log (work_since t m log) (base_since t m (unfinished_entry (first m log) t) log) (known_after over t m log h l)

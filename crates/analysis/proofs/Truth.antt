@@ -4,6 +4,7 @@ use Rattle.std.specs.Prelude.{All}
 use Rattle.std.proofs.lemmas.Bool.{cases_eq}
 use Rattle.page.specs.declared.page.Page.{Page}
 use Rattle.page.specs.Store.{StoreContent}
+use Rattle.wal.specs.Meaning.{BasePages}
 use Rattle.wal.specs.Records.{TableEntry, LogRecord, History, LogContent, history, last_lsn, record_at, first}
 use Rattle.wal.specs.Redo.{rec_lsn_of}
 use Rattle.wal.specs.Store.{checkpoint_at, true_table, DirtyLaw, CheckpointLaw, Lawful}
@@ -68,13 +69,13 @@ true_base log pages m transactions dirty law e =
           ]
     ]
 
-pub tables_true : (log : LogContent) (store : StoreContent) (tables : TablesContent) → Lawful log store → AreTablesOf log store.master tables → AreTrue log store tables
-tables_true content store tables lawful are =
+pub tables_true : (over : BasePages) (log : LogContent) (store : StoreContent) (tables : TablesContent) → Lawful over log store → AreTablesOf log store.master tables → AreTrue log store tables
+tables_true over content store tables lawful are =
     let log = history content in
     let base = true_base log store.pages store.master are.transactions are.dirty lawful.checkpoint are.base in
     record {
       unfinished = same_table 0 tables.transactions (true_table log) (rise_from_0 tables.transactions are.entries_rise) (true_table_rises log)
-          (λ t. are.entries t ∙ ap (λ o. analysed_entry t store.master o log) (base.entries t) ∙ analysis_is_true log t store.master lawful.log base.within
+          (λ t. are.entries t ∙ ap (λ o. analysed_entry t store.master o log) (base.entries t) ∙ analysis_is_true over log t store.master lawful.log base.within
           ∙ sym (true_entry_for log t));
       reaches = λ i d lt lsn r found on later.
           let image = get_or store.pages i d in

@@ -3,6 +3,7 @@
 ghost use Rattle.std.specs.Prelude.{◌≡◌, max, None, IfOk, IfErr};
 ghost use Rattle.page.specs.Store.{StoreContent};
 ghost use Rattle.wal.specs.Records.{history};
+ghost use Rattle.wal.specs.Meaning.{BasePages};
 ghost use Rattle.wal.specs.Store.{Lawful};
 ghost use Rattle.analysis.specs.Lawful.{AreTrue};
 ghost use Rattle.wal.specs.Undo.{entry_for};
@@ -49,7 +50,7 @@ fn redo_lsn_of(dirty: &BTreeMap<u32, u64>) -> u64
 pub fn analyse(alloc: Global, log: &Log, master: u64) -> Result<Tables, Fault>
     ensures tables { IfOk result (AreTablesOf log.now master) }
     // On a lawful log and its store: exactly the unfinished transactions, and no record that an image lacks is skipped.
-    ensures lawful { (store : StoreContent) → Lawful log.now store → store.master ≡ master → IfOk result (AreTrue log.now store) }
+    ensures lawful { (over : BasePages) (store : StoreContent) → Lawful over log.now store → store.master ≡ master → IfOk result (AreTrue log.now store) }
     // No record and no checkpoint that was read names transaction 0: the grammar of logs forbids it.
     ensures numbered { IfOk result (λ tables. entry_for 0 tables.transactions ≡ None) }
     ensures fault { IfErr result (BaseFault master (history log.now)) }

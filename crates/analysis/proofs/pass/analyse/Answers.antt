@@ -21,9 +21,9 @@ returns-clause-tables c =
     }
 
 pub returns-clause-lawful : goal.returns-clause-lawful
-returns-clause-lawful c = λ store lawful own.
+returns-clause-lawful c = λ over store lawful own.
     let made : TablesContent = record { transactions = map entry_of c.scan.new.transactions.entries; dirty = c.scan.new.dirty.entries; redo_lsn = c.redo_lsn_of-redo_lsn.result } in
-    tables_true c.args.log.now store made lawful (subst (λ m. AreTablesOf c.args.log.now m made) (sym own) (returns-clause-tables c))
+    tables_true over c.args.log.now store made lawful (subst (λ m. AreTablesOf c.args.log.now m made) (sym own) (returns-clause-tables c))
 
 pub returns-clause-numbered : goal.returns-clause-numbered
 returns-clause-numbered c = c.in_ok-scan.ensures.numbered c.in_ok-transactions.ensures.numbered
