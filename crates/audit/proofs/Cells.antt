@@ -2,11 +2,11 @@
 use Rattle.std.proofs.Common.{◌≡◌, ◌≤◌, ◌&&◌, ℕ, suc, true, false, Some, refl, sym, ap, ◌∙◌, inl, inr, arith, eqb, eq-eqb}
 use Rattle.std.proofs.lemmas.Bool.{cases_Bool}
 use Rattle.wal.specs.Records.{LogRecord, Update, Compensation, Commit, End, History, start, ◌▸◌, last_lsn, record_at}
-use Rattle.wal.specs.Meaning.{replay, writes, is_of, touches, image_in}
+use Rattle.wal.specs.Meaning.{BasePages, replay, writes, is_of, touches}
 use Rattle.wal.specs.Tail.{tx_of}
 use Rattle.wal.proofs.Histories.{record_last, record_older, record_more}
 use Rattle.wal.proofs.Holders.{holder, release_keeps, found_has}
-use Rattle.audit.specs.Cells.{last_write}
+use Rattle.audit.specs.Cells.{image_or, last_write}
 
 pub last_write_within : (page slot : ℕ) (log : History) → last_write page slot log ≤ last_lsn log
 last_write_within page slot start = omega arith
@@ -16,12 +16,12 @@ last_write_within page slot (log ▸ r) =
       | inr e ↦ rw e (omega (arith, last_write_within page slot log))
     ]
 
-pub image_in_last : (page slot : ℕ) (log : History) → image_in (record_at log (last_write page slot log)) ≡ replay log page slot
-image_in_last page slot start = refl
-image_in_last page slot (log ▸ r) =
+pub image_in_last : (base : BasePages) (page slot : ℕ) (log : History) → image_or (base.cells page slot) (record_at log (last_write page slot log)) ≡ replay base log page slot
+image_in_last base page slot start = refl
+image_in_last base page slot (log ▸ r) =
     elim (cases_Bool (writes page slot r)) [
       | inl e ↦ rw (e, eq-eqb (suc (last_lsn log)) (suc (last_lsn log)) refl) refl
-      | inr e ↦ rw e (ap image_in (record_older log r (last_write page slot log) (last_write_within page slot log)) ∙ image_in_last page slot log)
+      | inr e ↦ rw e (ap (image_or (base.cells page slot)) (record_older log r (last_write page slot log) (last_write_within page slot log)) ∙ image_in_last base page slot log)
     ]
 
 -- the last writer writes there

@@ -2,24 +2,24 @@
 use Rattle.std.proofs.Common.{◌≡◌, ◌<◌, ◌≤◌, ◌&&◌, ◌||◌, not, ℕ, Bool, true, false, List, [], ◌∷◌, length, Option, Some, None, refl, sym, ap, ap₂, subst, ◌∙◌, inl, inr, arith}
 use Rattle.std.proofs.lemmas.Bool.{cases_eq, both_ways, and_parts, not-true}
 use Rattle.wal.specs.Records.{UpdateRecord, CompensationRecord, LogRecord, Update, History, history, last_lsn, record_at, LogContent}
-use Rattle.wal.specs.Meaning.{replay, is_of, has, pending, finished, aborted, prepared, in_doubt, image_in}
+use Rattle.wal.specs.Meaning.{BasePages, replay, is_of, has, pending, finished, aborted, prepared, in_doubt}
 use Rattle.wal.specs.Laws.{IsLawful, Compensates, Strictness}
 use Rattle.wal.specs.Tail.{tx_of}
 use Rattle.wal.proofs.Histories.{record_none}
 use Rattle.wal.proofs.Holders.{held, strict_from_holder}
 use Rattle.audit.specs.declared.standing.Standing.{Standing}
 use Rattle.audit.specs.Standings.{Linked, Stands}
-use Rattle.audit.specs.Cells.{last_write}
+use Rattle.audit.specs.Cells.{image_or, last_write}
 use Rattle.audit.specs.Passing.{Begins, Undoes, IsFreeFor}
 use Rattle.audit.proofs.Unfinished.{begun_already, prepared_has}
 use Rattle.audit.proofs.Cells.{last_write_within, image_in_last, last_touches, holder_wrote}
 
 -- BEFORE IMAGES
-pub cell_value : (content : LogContent) (log : History) (page slot w : ℕ) → Begins log content → w ≡ last_write page slot log → image_in (record_at (history content) w) ≡ replay log page slot
-cell_value content log page slot w begins e =
-    ap (λ n. image_in (record_at (history content) n)) e
-    ∙ ap image_in (begins (last_write page slot log) (last_write_within page slot log))
-    ∙ image_in_last page slot log
+pub cell_value : (base : BasePages) (content : LogContent) (log : History) (page slot w : ℕ) → Begins log content → w ≡ last_write page slot log → image_or (base.cells page slot) (record_at (history content) w) ≡ replay base log page slot
+cell_value base content log page slot w begins e =
+    ap (λ n. image_or (base.cells page slot) (record_at (history content) n)) e
+    ∙ ap (image_or (base.cells page slot)) (begins (last_write page slot log) (last_write_within page slot log))
+    ∙ image_in_last base page slot log
 
 -- COMPENSATION
 module _ (content : LogContent) (log : History) (links : List ℕ) (c : CompensationRecord) (s : Standing) (begins : Begins log content) (len : length links ≡ last_lsn log) (h : Stands links c.tx log s) where
@@ -64,14 +64,14 @@ pub end_needs : (links : List ℕ) (t : ℕ) (log : History) (s : Standing) → 
 end_needs links t log s h e = (let l : Linked links [] s.newest = subst (λ x. Linked links x s.newest) e h.pending in l)
 
 -- STRICTNESS
-module _ (log : History) (lawful : IsLawful log) (links : List ℕ) (standing : ℕ → Standing) (stands : (t : ℕ) → Stands links t log (standing t)) (u : UpdateRecord) where
+module _ (base : BasePages) (log : History) (lawful : IsLawful base log) (links : List ℕ) (standing : ℕ → Standing) (stands : (t : ℕ) → Stands links t log (standing t)) (u : UpdateRecord) where
   finished_is : (t : ℕ) → ((standing t).committed || (standing t).ended) ≡ finished t log
   finished_is t = ap₂ (λ x y. x || y) (stands t).committed (stands t).ended
 
   pub free_strict : (o : Option LogRecord) → record_at log (last_write u.page u.slot log) ≡ o → IsFreeFor standing o u.tx → Strictness log (Update u)
-  free_strict None e f = strict_from_holder log lawful u (λ t held_by. let p = holder_wrote u.page u.slot t log held_by in let q : record_at log (last_write u.page u.slot log) ≡ Some p.0 = p.1 in absurd (cc))
+  free_strict None e f = strict_from_holder base log lawful u (λ t held_by. let p = holder_wrote u.page u.slot t log held_by in let q : record_at log (last_write u.page u.slot log) ≡ Some p.0 = p.1 in absurd (cc))
   free_strict (Some r) e f =
-      strict_from_holder log lawful u
+      strict_from_holder base log lawful u
       (λ t held_by.
       let p = holder_wrote u.page u.slot t log held_by in
       let q : record_at log (last_write u.page u.slot log) ≡ Some p.0 = p.1 in
@@ -79,7 +79,7 @@ module _ (log : History) (lawful : IsLawful log) (links : List ℕ) (standing : 
       let own : tx_of r ≡ t = ap tx_of same ∙ p.2 in
       elim f [
         | inl i ↦ sym own ∙ i
-        | inr i ↦ absurd (both_ways (finished t log) (held log lawful u.page u.slot t held_by).0 (ap (λ x. finished x log) (sym own) ∙ sym (finished_is (tx_of r)) ∙ i))
+        | inr i ↦ absurd (both_ways (finished t log) (held base log lawful u.page u.slot t held_by).0 (ap (λ x. finished x log) (sym own) ∙ sym (finished_is (tx_of r)) ∙ i))
       ])
 
   pub strict_free : (o : Option LogRecord) → record_at log (last_write u.page u.slot log) ≡ o → Strictness log (Update u) → IsFreeFor standing o u.tx

@@ -6,44 +6,45 @@ use Rattle.page.specs.declared.fault.Fault.{Fault}
 use Rattle.page.specs.declared.fault.Fault.TheVariants.{NoResource, NoSuchPage, Chain, AfterFinish, WrongCompensation, BeforeImage, DirtyWrite, EndTooEarly, PageAheadOfLog, PageImage, BadMaster, TransactionTable, DirtyTable}
 use Rattle.page.specs.declared.page.Page.{Page}
 use Rattle.page.specs.Store.{StoreContent}
+use Rattle.wal.specs.Meaning.{BasePages}
 use Rattle.wal.specs.Records.{TableEntry, LogRecord, History, history, LogContent, EachRecord, first, record_at}
 use Rattle.wal.specs.Laws.{Obeys, IsLawful}
 use Rattle.wal.specs.Store.{NamesPages, PageLaw, CheckpointLaw, Lawful, checkpoint_at}
 use Rattle.wal.proofs.Lists.{each_of_lawful}
 use Rattle.audit.specs.FirstFault.{BrokenAt, RecordFault, FirstBroken, BrokenPage, PagesFault, FirstBrokenPage, KeepsDirty, MasterFault, FirstFault, NoFaultOfTheLawful}
 
-pub not_broken : (count : ℕ) (log : History) (r : LogRecord) (e : Fault) → NamesPages count r → Obeys log r → BrokenAt count log r e → ⊥
-not_broken count log r (NoSuchPage n) named o b = b.1 named
-not_broken count log r (Chain n) named o b = b.2 o.chain
-not_broken count log r (AfterFinish n) named o b = b.3 o.finish
-not_broken count log r (WrongCompensation n) named o b = b.5 o.compensation
-not_broken count log r (EndTooEarly n) named o b = b.5 o.compensation
-not_broken count log r (DirtyWrite n) named o b = b.5 o.strict
-not_broken count log r (BeforeImage n) named o b = b.6 o.before
-not_broken count log r _ named o b = b
+pub not_broken : (base : BasePages) (count : ℕ) (log : History) (r : LogRecord) (e : Fault) → NamesPages count r → Obeys base log r → BrokenAt base count log r e → ⊥
+not_broken base count log r (NoSuchPage n) named o b = b.1 named
+not_broken base count log r (Chain n) named o b = b.2 o.chain
+not_broken base count log r (AfterFinish n) named o b = b.3 o.finish
+not_broken base count log r (WrongCompensation n) named o b = b.5 o.compensation
+not_broken base count log r (EndTooEarly n) named o b = b.5 o.compensation
+not_broken base count log r (DirtyWrite n) named o b = b.5 o.strict
+not_broken base count log r (BeforeImage n) named o b = b.6 o.before
+not_broken base count log r _ named o b = b
 
-pub none_broken : (count : ℕ) (log : History) (e : Fault) → IsLawful log → EachRecord (NamesPages count) log → FirstBroken count log e → ⊥
-none_broken count log e lawful named f =
-    not_broken count (first f.lsn log) f.entry e (named (f.lsn + 1) f.entry f.there) (each_of_lawful log lawful f.lsn f.entry (ap (record_at log) (omega arith) ∙ f.there)) f.broken
+pub none_broken : (base : BasePages) (count : ℕ) (log : History) (e : Fault) → IsLawful base log → EachRecord (NamesPages count) log → FirstBroken base count log e → ⊥
+none_broken base count log e lawful named f =
+    not_broken base count (first f.lsn log) f.entry e (named (f.lsn + 1) f.entry f.there) (each_of_lawful base log lawful f.lsn f.entry (ap (record_at log) (omega arith) ∙ f.there)) f.broken
 
-records_kept : (count : ℕ) (log : History) (e : Fault) → IsLawful log → EachRecord (NamesPages count) log → RecordFault count log e → e ≡ NoResource
-records_kept count log NoResource lawful named f = refl
-records_kept count log e lawful named f = absurd (none_broken count log e lawful named f)
+records_kept : (base : BasePages) (count : ℕ) (log : History) (e : Fault) → IsLawful base log → EachRecord (NamesPages count) log → RecordFault base count log e → e ≡ NoResource
+records_kept base count log NoResource lawful named f = refl
+records_kept base count log e lawful named f = absurd (none_broken base count log e lawful named f)
 
-pub page_not_broken : (log : History) (page : Page) (e : Fault) → PageLaw log page → BrokenPage log page e → ⊥
-page_not_broken log page (PageAheadOfLog n) law b = (let w = law.within in let a = b.1 in omega (arith, w, a))
-page_not_broken log page (PageImage n) law b = b.2 law
-page_not_broken log page _ law b = b
+pub page_not_broken : (base : BasePages) (log : History) (page : Page) (e : Fault) → PageLaw base log page → BrokenPage base log page e → ⊥
+page_not_broken base log page (PageAheadOfLog n) law b = (let w = law.within in let a = b.1 in omega (arith, w, a))
+page_not_broken base log page (PageImage n) law b = b.2 law
+page_not_broken base log page _ law b = b
 
 at_place : (P : Page → Type 0) (pages : List Page) (place : ℕ) (page : Page) → slice_get pages place ≡ Some page → All P pages → P page
 at_place P pages place page there all = subst P (get_or_from_slice_get pages place page page there) (all place page (slice_get_within pages place page there))
 
-pub none_broken_page : (log : History) (pages : List Page) (e : Fault) → All (PageLaw log) pages → FirstBrokenPage log pages e → ⊥
-none_broken_page log pages e all f = page_not_broken log f.page e (at_place (PageLaw log) pages f.place f.page f.there all) f.broken
+pub none_broken_page : (base : BasePages) (log : History) (pages : List Page) (e : Fault) → All (PageLaw base log) pages → FirstBrokenPage base log pages e → ⊥
+none_broken_page base log pages e all f = page_not_broken base log f.page e (at_place (PageLaw base log) pages f.place f.page f.there all) f.broken
 
-pages_kept : (log : History) (pages : List Page) (e : Fault) → All (PageLaw log) pages → PagesFault log pages e → e ≡ NoResource
-pages_kept log pages NoResource all f = refl
-pages_kept log pages e all f = absurd (none_broken_page log pages e all f)
+pages_kept : (base : BasePages) (log : History) (pages : List Page) (e : Fault) → All (PageLaw base log) pages → PagesFault base log pages e → e ≡ NoResource
+pages_kept base log pages NoResource all f = refl
+pages_kept base log pages e all f = absurd (none_broken_page base log pages e all f)
 
 -- there are no other tables
 abbrev transactions_or : List TableEntry → Option (List TableEntry × List (ℕ × ℕ)) → List TableEntry
@@ -87,16 +88,16 @@ master_kept log pages m (DirtyTable n) law f =
 master_kept log pages m _ law f = absurd f
 
 pub fault_kept : NoFaultOfTheLawful
-fault_kept log store lawful e f =
+fault_kept base log store lawful e f =
     elim f [
-      | inl a ↦ records_kept (length store.pages) (history log) e lawful.log lawful.names_pages a
+      | inl a ↦ records_kept base (length store.pages) (history log) e lawful.log lawful.names_pages a
       | inr b ↦
           elim b [
-            | inl p ↦ pages_kept (history log) store.pages e lawful.pages p.1
+            | inl p ↦ pages_kept base (history log) store.pages e lawful.pages p.1
             | inr q ↦ master_kept (history log) store.pages store.master e lawful.checkpoint q.2
           ]
     ]
 
-pub lawful_kept : (log : LogContent) (store : StoreContent) (r : Result (Unit {0}) Fault) → Lawful log store → IfErr r (FirstFault log store) → IfErr r (λ e. e ≡ NoResource)
-lawful_kept log store (Ok x) lawful f = tt
-lawful_kept log store (Err e) lawful f = fault_kept log store lawful e f
+pub lawful_kept : (base : BasePages) (log : LogContent) (store : StoreContent) (r : Result (Unit {0}) Fault) → Lawful base log store → IfErr r (FirstFault base log store) → IfErr r (λ e. e ≡ NoResource)
+lawful_kept base log store (Ok x) lawful f = tt
+lawful_kept base log store (Err e) lawful f = fault_kept base log store lawful e f

@@ -9,3 +9,4 @@ pub mod TrueTable
 pub mod Missing
 pub mod Kept
 pub mod OneFault
+pub mod Over

@@ -8,6 +8,7 @@ use Rattle.page.specs.declared.fault.Fault.TheVariants.{NoResource, NoSuchPage, 
 use Rattle.page.specs.declared.page.Page.{Page}
 use Rattle.page.specs.Causes.{HasOneCause}
 use Rattle.page.specs.Store.{StoreContent}
+use Rattle.wal.specs.Meaning.{BasePages}
 use Rattle.wal.specs.Records.{LogRecord, History, history, last_lsn, TableEntry, LogContent, record_at, first}
 use Rattle.wal.specs.Laws.{ChainLaw, FinishLaw, CompensationLaw, BeforeLaw, Strictness, Obeys}
 use Rattle.wal.specs.Tail.{is_end}
@@ -52,77 +53,77 @@ abbrev compensation_fault : LogRecord → ℕ → Fault
 compensation_fault r lsn = cond (is_end r) (EndTooEarly lsn) (WrongCompensation lsn)
 
 -- the laws of a record in the order in which they are looked at
-abbrev RecordFaults : ℕ → History → LogRecord → Fault → Type 0
-RecordFaults count log r =
+abbrev RecordFaults : (base : BasePages) → ℕ → History → LogRecord → Fault → Type 0
+RecordFaults base count log r =
     let lsn = suc (last_lsn log) in
     Either (NamesPages count r) (NoSuchPage lsn)
     (Either (ChainLaw log r) (Chain lsn)
     (Either (FinishLaw log r) (AfterFinish lsn)
     (Either (CompensationLaw log r) (compensation_fault r lsn)
     (Either (Strictness log r) (DirtyWrite lsn)
-    (Either (BeforeLaw log r) (BeforeImage lsn) NoOther)))))
+    (Either (BeforeLaw base log r) (BeforeImage lsn) NoOther)))))
 
-in_order : (count : ℕ) (log : History) (r : LogRecord) (e : Fault) → BrokenAt count log r e → RecordFaults count log r e
-in_order count log r (NoSuchPage n) b = inl (b.1, ap (λ k. NoSuchPage k) b.0)
-in_order count log r (Chain n) b = inr (b.1, inl (b.2, ap (λ k. Chain k) b.0))
-in_order count log r (AfterFinish n) b = inr (b.1, inr (b.2, inl (b.3, ap (λ k. AfterFinish k) b.0)))
-in_order count log r (WrongCompensation n) b =
+in_order : (base : BasePages) (count : ℕ) (log : History) (r : LogRecord) (e : Fault) → BrokenAt base count log r e → RecordFaults base count log r e
+in_order base count log r (NoSuchPage n) b = inl (b.1, ap (λ k. NoSuchPage k) b.0)
+in_order base count log r (Chain n) b = inr (b.1, inl (b.2, ap (λ k. Chain k) b.0))
+in_order base count log r (AfterFinish n) b = inr (b.1, inr (b.2, inl (b.3, ap (λ k. AfterFinish k) b.0)))
+in_order base count log r (WrongCompensation n) b =
     let is : compensation_fault r (suc (last_lsn log)) ≡ WrongCompensation (suc (last_lsn log)) = ap (λ x. cond x (EndTooEarly (suc (last_lsn log))) (WrongCompensation (suc (last_lsn log)))) b.4 in
     inr (b.1, inr (b.2, inr (b.3, inl (b.5, ap (λ k. WrongCompensation k) b.0 ∙ sym is))))
-in_order count log r (EndTooEarly n) b =
+in_order base count log r (EndTooEarly n) b =
     let is : compensation_fault r (suc (last_lsn log)) ≡ EndTooEarly (suc (last_lsn log)) = ap (λ x. cond x (EndTooEarly (suc (last_lsn log))) (WrongCompensation (suc (last_lsn log)))) b.4 in
     inr (b.1, inr (b.2, inr (b.3, inl (b.5, ap (λ k. EndTooEarly k) b.0 ∙ sym is))))
-in_order count log r (DirtyWrite n) b = inr (b.1, inr (b.2, inr (b.3, inr (b.4, inl (b.5, ap (λ k. DirtyWrite k) b.0)))))
-in_order count log r (BeforeImage n) b = inr (b.1, inr (b.2, inr (b.3, inr (b.4, inr (b.5, inl (b.6, ap (λ k. BeforeImage k) b.0))))))
-in_order count log r _ b = absurd b
+in_order base count log r (DirtyWrite n) b = inr (b.1, inr (b.2, inr (b.3, inr (b.4, inl (b.5, ap (λ k. DirtyWrite k) b.0)))))
+in_order base count log r (BeforeImage n) b = inr (b.1, inr (b.2, inr (b.3, inr (b.4, inr (b.5, inl (b.6, ap (λ k. BeforeImage k) b.0))))))
+in_order base count log r _ b = absurd b
 
-one_broken : (count : ℕ) (log : History) (r : LogRecord) → IsOne (BrokenAt count log r)
-one_broken count log r d e x y =
+one_broken : (base : BasePages) (count : ℕ) (log : History) (r : LogRecord) → IsOne (BrokenAt base count log r)
+one_broken base count log r d e x y =
     let lsn = suc (last_lsn log) in
     one_of (NamesPages count r) (NoSuchPage lsn) _
     (one_of (ChainLaw log r) (Chain lsn) _
     (one_of (FinishLaw log r) (AfterFinish lsn) _
     (one_of (CompensationLaw log r) (compensation_fault r lsn) _
     (one_of (Strictness log r) (DirtyWrite lsn) _
-    (one_of (BeforeLaw log r) (BeforeImage lsn) _ no_other)))))
-    d e (in_order count log r d x) (in_order count log r e y)
+    (one_of (BeforeLaw base log r) (BeforeImage lsn) _ no_other)))))
+    d e (in_order base count log r d x) (in_order base count log r e y)
 
 -- what stands before a sound record is not broken
-not_sound : (count : ℕ) (log : History) (d e : Fault) (x : FirstBroken count log d) (y : FirstBroken count log e) → x.lsn < y.lsn → ⊥
-not_sound count log d e x y lt =
+not_sound : (base : BasePages) (count : ℕ) (log : History) (d e : Fault) (x : FirstBroken base count log d) (y : FirstBroken base count log e) → x.lsn < y.lsn → ⊥
+not_sound base count log d e x y lt =
     let there : record_at (first y.lsn log) (x.lsn + 1) ≡ Some x.entry = record_in_first y.lsn log (x.lsn + 1) (omega (arith, lt)) ∙ x.there in
-    let obeys : Obeys (first x.lsn log) x.entry =
-    subst (λ l. Obeys l x.entry) (first_first x.lsn y.lsn log (omega (arith, lt)))
-    (each_of_lawful (first y.lsn log) y.before.lawful x.lsn x.entry (ap (record_at (first y.lsn log)) (omega arith) ∙ there)) in
-    not_broken count (first x.lsn log) x.entry d (y.before.named (x.lsn + 1) x.entry there) obeys x.broken
+    let obeys : Obeys base (first x.lsn log) x.entry =
+    subst (λ l. Obeys base l x.entry) (first_first x.lsn y.lsn log (omega (arith, lt)))
+    (each_of_lawful base (first y.lsn log) y.before.lawful x.lsn x.entry (ap (record_at (first y.lsn log)) (omega arith) ∙ there)) in
+    not_broken base count (first x.lsn log) x.entry d (y.before.named (x.lsn + 1) x.entry there) obeys x.broken
 
-one_record_fault : (count : ℕ) (log : History) → IsOne (FirstBroken count log)
-one_record_fault count log d e x y =
-    let lsn : x.lsn ≡ y.lsn = omega (arith, not_sound count log d e x y, not_sound count log e d y x) in
+one_record_fault : (base : BasePages) (count : ℕ) (log : History) → IsOne (FirstBroken base count log)
+one_record_fault base count log d e x y =
+    let lsn : x.lsn ≡ y.lsn = omega (arith, not_sound base count log d e x y, not_sound base count log e d y x) in
     let entry : x.entry ≡ y.entry = same_Some _ _ (sym x.there ∙ ap (λ n. record_at log (n + 1)) lsn ∙ y.there) in
-    one_broken count (first y.lsn log) y.entry d e
-    (subst (λ (r : LogRecord). BrokenAt count (first y.lsn log) r d) entry
-    (subst (λ n. BrokenAt count (first n log) x.entry d) lsn x.broken))
+    one_broken base count (first y.lsn log) y.entry d e
+    (subst (λ (r : LogRecord). BrokenAt base count (first y.lsn log) r d) entry
+    (subst (λ n. BrokenAt base count (first n log) x.entry d) lsn x.broken))
     y.broken
 
 -- PAGES
-one_broken_page : (log : History) (page : Page) → IsOne (BrokenPage log page)
-one_broken_page log page (PageAheadOfLog n) (PageAheadOfLog m) x y = ap (λ k. PageAheadOfLog k) (x.0 ∙ sym y.0)
-one_broken_page log page (PageAheadOfLog n) (PageImage m) x y = absurd (omega (arith, x.1, y.1))
-one_broken_page log page (PageAheadOfLog n) _ x y = absurd y
-one_broken_page log page (PageImage n) (PageAheadOfLog m) x y = absurd (omega (arith, x.1, y.1))
-one_broken_page log page (PageImage n) (PageImage m) x y = ap (λ k. PageImage k) (x.0 ∙ sym y.0)
-one_broken_page log page (PageImage n) _ x y = absurd y
-one_broken_page log page _ e x y = absurd x
+one_broken_page : (base : BasePages) (log : History) (page : Page) → IsOne (BrokenPage base log page)
+one_broken_page base log page (PageAheadOfLog n) (PageAheadOfLog m) x y = ap (λ k. PageAheadOfLog k) (x.0 ∙ sym y.0)
+one_broken_page base log page (PageAheadOfLog n) (PageImage m) x y = absurd (omega (arith, x.1, y.1))
+one_broken_page base log page (PageAheadOfLog n) _ x y = absurd y
+one_broken_page base log page (PageImage n) (PageAheadOfLog m) x y = absurd (omega (arith, x.1, y.1))
+one_broken_page base log page (PageImage n) (PageImage m) x y = ap (λ k. PageImage k) (x.0 ∙ sym y.0)
+one_broken_page base log page (PageImage n) _ x y = absurd y
+one_broken_page base log page _ e x y = absurd x
 
-not_kept : (log : History) (pages : List Page) (d e : Fault) (x : FirstBrokenPage log pages d) (y : FirstBrokenPage log pages e) → x.place < y.place → ⊥
-not_kept log pages d e x y lt = page_not_broken log x.page d (before (PageLaw log) pages x.place y.place x.page x.there lt y.before) x.broken
+not_kept : (base : BasePages) (log : History) (pages : List Page) (d e : Fault) (x : FirstBrokenPage base log pages d) (y : FirstBrokenPage base log pages e) → x.place < y.place → ⊥
+not_kept base log pages d e x y lt = page_not_broken base log x.page d (before (PageLaw base log) pages x.place y.place x.page x.there lt y.before) x.broken
 
-one_page_fault : (log : History) (pages : List Page) → IsOne (FirstBrokenPage log pages)
-one_page_fault log pages d e x y =
-    let place : x.place ≡ y.place = omega (arith, not_kept log pages d e x y, not_kept log pages e d y x) in
+one_page_fault : (base : BasePages) (log : History) (pages : List Page) → IsOne (FirstBrokenPage base log pages)
+one_page_fault base log pages d e x y =
+    let place : x.place ≡ y.place = omega (arith, not_kept base log pages d e x y, not_kept base log pages e d y x) in
     let page : x.page ≡ y.page = same_at pages x.place y.place x.page y.page x.there y.there place in
-    one_broken_page log y.page d e (subst (λ (p : Page). BrokenPage log p d) page x.broken) y.broken
+    one_broken_page base log y.page d e (subst (λ (p : Page). BrokenPage base log p d) page x.broken) y.broken
 
 -- THE CHECKPOINT
 not_covered : (log : History) (m : ℕ) (dirty : List (ℕ × ℕ)) (pages : List Page) (d e : Fault) (x : FirstUncovered log m dirty pages d) (y : FirstUncovered log m dirty pages e)
@@ -163,33 +164,33 @@ one_master_fault log pages m (DirtyTable a) _ some other x y = absurd y
 one_master_fault log pages m _ e some other x y = absurd x
 
 -- ALL THREE
-records_broken : (count : ℕ) (log : History) (e : Fault) → (e ≡ NoResource → ⊥) → RecordFault count log e → FirstBroken count log e
-records_broken count log NoResource some x = absurd (some refl)
-records_broken count log e some x = x
+records_broken : (base : BasePages) (count : ℕ) (log : History) (e : Fault) → (e ≡ NoResource → ⊥) → RecordFault base count log e → FirstBroken base count log e
+records_broken base count log NoResource some x = absurd (some refl)
+records_broken base count log e some x = x
 
-pages_broken : (log : History) (pages : List Page) (e : Fault) → (e ≡ NoResource → ⊥) → PagesFault log pages e → FirstBrokenPage log pages e
-pages_broken log pages NoResource some x = absurd (some refl)
-pages_broken log pages e some x = x
+pages_broken : (base : BasePages) (log : History) (pages : List Page) (e : Fault) → (e ≡ NoResource → ⊥) → PagesFault base log pages e → FirstBrokenPage base log pages e
+pages_broken base log pages NoResource some x = absurd (some refl)
+pages_broken base log pages e some x = x
 
-module _ (content : LogContent) (store : StoreContent) (d e : Fault) (some : d ≡ NoResource → ⊥) (other : e ≡ NoResource → ⊥) where
+module _ (base : BasePages) (content : LogContent) (store : StoreContent) (d e : Fault) (some : d ≡ NoResource → ⊥) (other : e ≡ NoResource → ⊥) where
   abbrev log : History
   log = history content
 
   abbrev count : ℕ
   count = length store.pages
 
-  sound_not_broken : (f : Fault) → (f ≡ NoResource → ⊥) → AreSound count log → RecordFault count log f → ⊥
-  sound_not_broken f is sound x = none_broken count log f sound.lawful sound.named (records_broken count log f is x)
+  sound_not_broken : (f : Fault) → (f ≡ NoResource → ⊥) → AreSound base count log → RecordFault base count log f → ⊥
+  sound_not_broken f is sound x = none_broken base count log f sound.lawful sound.named (records_broken base count log f is x)
 
-  kept_not_broken : (f : Fault) → (f ≡ NoResource → ⊥) → All (PageLaw log) store.pages → PagesFault log store.pages f → ⊥
-  kept_not_broken f is all x = none_broken_page log store.pages f all (pages_broken log store.pages f is x)
+  kept_not_broken : (f : Fault) → (f ≡ NoResource → ⊥) → All (PageLaw base log) store.pages → PagesFault base log store.pages f → ⊥
+  kept_not_broken f is all x = none_broken_page base log store.pages f all (pages_broken base log store.pages f is x)
 
-  pub same_fault : FirstFault content store d → FirstFault content store e → d ≡ e
+  pub same_fault : FirstFault base content store d → FirstFault base content store e → d ≡ e
   same_fault x y =
       elim x [
         | inl a ↦
             elim y [
-              | inl b ↦ one_record_fault count log d e (records_broken count log d some a) (records_broken count log e other b)
+              | inl b ↦ one_record_fault base count log d e (records_broken base count log d some a) (records_broken base count log e other b)
               | inr b ↦ elim b [ inl p ↦ absurd (sound_not_broken d some p.0 a) | inr q ↦ absurd (sound_not_broken d some q.0 a) ]
             ]
         | inr a ↦
@@ -199,7 +200,7 @@ module _ (content : LogContent) (store : StoreContent) (d e : Fault) (some : d �
                     | inl b ↦ absurd (sound_not_broken e other o.0 b)
                     | inr b ↦
                         elim b [
-                          | inl p ↦ one_page_fault log store.pages d e (pages_broken log store.pages d some o.1) (pages_broken log store.pages e other p.1)
+                          | inl p ↦ one_page_fault base log store.pages d e (pages_broken base log store.pages d some o.1) (pages_broken base log store.pages e other p.1)
                           | inr q ↦ absurd (kept_not_broken d some q.1 o.1)
                         ]
                   ]
@@ -216,4 +217,4 @@ module _ (content : LogContent) (store : StoreContent) (d e : Fault) (some : d �
       ]
 
 pub one_first_fault : OneFirstFault
-one_first_fault content store d e some other x y = same_fault content store d e some other x y
+one_first_fault base content store d e some other x y = same_fault base content store d e some other x y

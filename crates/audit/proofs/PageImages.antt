@@ -7,11 +7,11 @@ use Rattle.std.specs.Option.{option_map_or}
 use Rattle.page.specs.Image.{Image}
 use Rattle.page.specs.declared.page.Page.{Page}
 use Rattle.wal.specs.Records.{LogRecord, History, ◌▸◌, first, last_lsn, record_at}
-use Rattle.wal.specs.Meaning.{Change, change_of, is_in_cell, replay, writes, image_in}
+use Rattle.wal.specs.Meaning.{BasePages, Change, change_of, is_in_cell, replay, writes}
 use Rattle.wal.specs.Redo.{slots_in}
 use Rattle.wal.specs.Store.{NamesPages}
 use Rattle.wal.specs.Spelling.{Fits}
-use Rattle.audit.specs.Cells.{last_write, KeepsCells, written}
+use Rattle.audit.specs.Cells.{image_or, last_write, KeepsCells, written}
 use Rattle.audit.specs.Pages.{page_lsn, log_at, counts_for, KeepsPage}
 use Rattle.audit.proofs.Cells.{last_write_within, image_in_last}
 use Rattle.audit.proofs.Noting.{Follows, keeps_written}
@@ -78,27 +78,27 @@ module _ (pages : List Page) (log : History) (r : LogRecord) (lsn : ℕ) (at : l
   cells_skipped ws c keeps = record { size_is = keeps.size_is; each = λ page slot lt lt'. keeps.each page slot lt lt' ∙ skipped c page slot }
 
 -- SLOTS
-module _ (log : History) (ws : List ℕ) (page : Page) (keeps : KeepsPage log ws page) where
-  value_left : (k : ℕ) → k < 16 → image_in (record_at log (get_or ws (16 * page.number + k) 0)) ≡ replay (first page.lsn log) page.number k
+module _ (base : BasePages) (log : History) (ws : List ℕ) (page : Page) (keeps : KeepsPage log ws page) where
+  value_left : (k : ℕ) → k < 16 → image_or (base.cells page.number k) (record_at log (get_or ws (16 * page.number + k) 0)) ≡ replay base (first page.lsn log) page.number k
   value_left k lt =
       let w : ℕ = last_write page.number k (first page.lsn log) in
       let low : w ≤ page.lsn = (let a = last_write_within page.number k (first page.lsn log) in let b = size_of_first_le page.lsn log in omega (arith, a, b)) in
-      ap (λ n. image_in (record_at log n)) (keeps k lt)
-      ∙ ap image_in (sym (record_in_first page.lsn log w low))
-      ∙ image_in_last page.number k (first page.lsn log)
+      ap (λ n. image_or (base.cells page.number k) (record_at log n)) (keeps k lt)
+      ∙ ap (image_or (base.cells page.number k)) (sym (record_in_first page.lsn log w low))
+      ∙ image_in_last base page.number k (first page.lsn log)
 
   abbrev pub AreLeft : Type 0
-  AreLeft = (k : ℕ) → k < 16 → get_or page.slots k None ≡ image_in (record_at log (get_or ws (16 * page.number + k) 0))
+  AreLeft = (k : ℕ) → k < 16 → get_or page.slots k None ≡ image_or (base.cells page.number k) (record_at log (get_or ws (16 * page.number + k) 0))
 
-  slot_is : (k : ℕ) → k < 16 → get_or (slots_in (replay (first page.lsn log)) page.number) k None ≡ replay (first page.lsn log) page.number k
-  slot_is k lt = get_or-map-range_with_len (replay (first page.lsn log) page.number) 0 16 k k None lt (omega arith)
+  slot_is : (k : ℕ) → k < 16 → get_or (slots_in (replay base (first page.lsn log)) page.number) k None ≡ replay base (first page.lsn log) page.number k
+  slot_is k lt = get_or-map-range_with_len (replay base (first page.lsn log) page.number) 0 16 k k None lt (omega arith)
 
-  pub left_slots : length page.slots ≡ 16 → AreLeft → page.slots ≡ slots_in (replay (first page.lsn log)) page.number
+  pub left_slots : length page.slots ≡ 16 → AreLeft → page.slots ≡ slots_in (replay base (first page.lsn log)) page.number
   left_slots len left =
-      ext_get_or None page.slots (slots_in (replay (first page.lsn log)) page.number) (len ∙ sym (length-map-range_with_len (replay (first page.lsn log) page.number) 0 16))
+      ext_get_or None page.slots (slots_in (replay base (first page.lsn log)) page.number) (len ∙ sym (length-map-range_with_len (replay base (first page.lsn log) page.number) 0 16))
       (λ k lt. let lt' : k < 16 = omega arith in left k lt' ∙ value_left k lt' ∙ sym (slot_is k lt'))
 
-  pub slots_left : page.slots ≡ slots_in (replay (first page.lsn log)) page.number → AreLeft
+  pub slots_left : page.slots ≡ slots_in (replay base (first page.lsn log)) page.number → AreLeft
   slots_left e k lt = ap (λ (xs : List Image). get_or xs k None) e ∙ slot_is k lt ∙ sym (value_left k lt)
 
 -- the cells of a page at its place

@@ -4,6 +4,7 @@ use Rattle.std.proofs.lemmas.List.{take_at}
 use Rattle.page.specs.declared.fault.Fault.{Fault}
 use Rattle.page.specs.declared.fault.Fault.TheVariants.{NoResource, EndTooEarly, WrongCompensation}
 use Rattle.std.proofs.lemmas.Bool.{cases_Bool}
+use Rattle.wal.specs.Meaning.{BasePages}
 use Rattle.wal.specs.Records.{LogRecord, History, ◌▸◌, LogContent, history, last_lsn, first}
 use Rattle.wal.specs.Laws.{Obeys, ChainLaw, FinishLaw, CompensationLaw}
 use Rattle.wal.specs.Tail.{is_end}
@@ -17,26 +18,26 @@ pub begins_first : (log : LogContent) (lsn : ℕ) → Begins (first lsn (history
 begins_first log lsn n le = sym (record_in_first lsn (history log) n (omega (arith, le, size_of_first_le lsn (history log))))
 
 -- one record more
-pub sound_more : (count : ℕ) (log : History) (lsn : ℕ) (r : LogRecord) → first (lsn + 1) log ≡ first lsn log ▸ r
-    → AreSound count (first lsn log) → NamesPages count r → Obeys (first lsn log) r → AreSound count (first (lsn + 1) log)
-sound_more count log lsn r next sound named obeys =
-    subst (AreSound count) (sym next) (record { lawful = (sound.lawful, obeys); named = each_more (NamesPages count) (first lsn log) r sound.named named })
+pub sound_more : (base : BasePages) (count : ℕ) (log : History) (lsn : ℕ) (r : LogRecord) → first (lsn + 1) log ≡ first lsn log ▸ r
+    → AreSound base count (first lsn log) → NamesPages count r → Obeys base (first lsn log) r → AreSound base count (first (lsn + 1) log)
+sound_more base count log lsn r next sound named obeys =
+    subst (AreSound base count) (sym next) (record { lawful = (sound.lawful, obeys); named = each_more (NamesPages count) (first lsn log) r sound.named named })
 
-pub record_fault : (count : ℕ) (log : History) (e : Fault) → FirstBroken count log e → RecordFault count log e
-record_fault count log NoResource h = tt
-record_fault count log e h = h
+pub record_fault : (base : BasePages) (count : ℕ) (log : History) (e : Fault) → FirstBroken base count log e → RecordFault base count log e
+record_fault base count log NoResource h = tt
+record_fault base count log e h = h
 
 -- the fault of a record that breaks the law of compensation
-pub wrong_end_or_clr : (count : ℕ) (log : History) (r : LogRecord) (lsn : ℕ) (e : Fault) → e ≡ cond (is_end r) (EndTooEarly lsn) (WrongCompensation lsn) → lsn ≡ suc (last_lsn log)
-    → NamesPages count r → ChainLaw log r → FinishLaw log r → (CompensationLaw log r → ⊥) → BrokenAt count log r e
-wrong_end_or_clr count log r lsn e is at named chain finish broken =
+pub wrong_end_or_clr : (base : BasePages) (count : ℕ) (log : History) (r : LogRecord) (lsn : ℕ) (e : Fault) → e ≡ cond (is_end r) (EndTooEarly lsn) (WrongCompensation lsn) → lsn ≡ suc (last_lsn log)
+    → NamesPages count r → ChainLaw log r → FinishLaw log r → (CompensationLaw log r → ⊥) → BrokenAt base count log r e
+wrong_end_or_clr base count log r lsn e is at named chain finish broken =
     elim (cases_Bool (is_end r)) [
       | inl i ↦
           (let f : e ≡ EndTooEarly lsn = is ∙ rw i refl in
-          subst (BrokenAt count log r) (sym f) (at, named, chain, finish, i, broken))
+          subst (BrokenAt base count log r) (sym f) (at, named, chain, finish, i, broken))
       | inr i ↦
           (let f : e ≡ WrongCompensation lsn = is ∙ rw i refl in
-          subst (BrokenAt count log r) (sym f) (at, named, chain, finish, i, broken))
+          subst (BrokenAt base count log r) (sym f) (at, named, chain, finish, i, broken))
     ]
 
 -- what a vector holds whose elements were lent and written

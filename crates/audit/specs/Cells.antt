@@ -1,14 +1,20 @@
 -- Which record wrote a cell last.
-use Rattle.std.specs.Prelude.{◌≡◌, ◌<◌, ◌+◌, ◌*◌, ℕ, suc, List, length, IfSome, if◌then◌else◌, slice_index, slice_set}
+use Rattle.page.specs.Image.{Image}
+use Rattle.std.specs.Prelude.{Option, Some, None, ◌≡◌, ◌<◌, ◌+◌, ◌*◌, ℕ, suc, List, length, IfSome, if◌then◌else◌, slice_index, slice_set}
 use Rattle.std.specs.Option.{option_map_or}
 use Rattle.wal.specs.Records.{LogRecord, History, start, ◌▸◌, last_lsn}
-use Rattle.wal.specs.Meaning.{change_of, writes}
+use Rattle.wal.specs.Meaning.{change_of, image_of, writes}
 use Rattle.page.specs.declared.sizes.TheConstants.{SLOTS}
 
 -- the LSN of the last update or CLR in the cell, or 0
 abbrev pub last_write : ℕ → ℕ → History → ℕ
 last_write page slot start = 0
 last_write page slot (log ▸ r) = if writes page slot r then suc (last_lsn log) else last_write page slot log
+
+-- what the record at an LSN left in a cell, or where there is none what was there before
+abbrev pub image_or : Image → Option LogRecord → Image
+image_or before None = before
+image_or before (Some r) = image_of r
 
 -- for each cell of the pages its last writer, in the log that counts for the page
 pub record KeepsCells (count : ℕ) (counts : ℕ → History) (writers : List ℕ) : Type 0 where

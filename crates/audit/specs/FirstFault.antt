@@ -1,9 +1,10 @@
--- The first broken law, in the order: the records by LSN, the pages by number, the checkpoint.
+-- The first law that a log and a store over base pages break, in the order: the records by LSN, the pages by number, the checkpoint.
 use Rattle.std.specs.Prelude.{◌≡◌, ◌<◌, ◌≤◌, ◌⊎◌, ◌+◌, ℕ, suc, List, All, length, take, slice_get, Some, true, false, None}
 use Rattle.page.specs.declared.fault.Fault.{Fault}
 use Rattle.page.specs.declared.fault.Fault.TheVariants.{NoResource, NoSuchPage, Chain, AfterFinish, WrongCompensation, BeforeImage, DirtyWrite, EndTooEarly, PageAheadOfLog, PageImage, BadMaster, TransactionTable, DirtyTable}
 use Rattle.page.specs.declared.page.Page.{Page}
 use Rattle.wal.specs.Records.{LogRecord, TableEntry, History, LogContent, history, last_lsn, record_at, first, EachRecord}
+use Rattle.wal.specs.Meaning.{BasePages}
 use Rattle.wal.specs.Laws.{ChainLaw, FinishLaw, CompensationLaw, BeforeLaw, Strictness, IsLawful}
 use Rattle.wal.specs.Tail.{is_end}
 use Rattle.wal.specs.Store.{NamesPages, PageLaw, DirtyLaw, Lawful, checkpoint_at, true_table}
@@ -12,56 +13,56 @@ use Rattle.page.specs.Causes.{HasOneCause, HasNoCause}
 use Rattle.page.specs.Store.{StoreContent}
 
 -- the fault names the record behind this log and the first law that the record breaks there
-abbrev pub BrokenAt : (count : ℕ) → History → LogRecord → Fault → Type 0
-BrokenAt count log r (NoSuchPage lsn) = (lsn ≡ suc (last_lsn log)) × (NamesPages count r → ⊥)
-BrokenAt count log r (Chain lsn) = (lsn ≡ suc (last_lsn log)) × NamesPages count r × (ChainLaw log r → ⊥)
-BrokenAt count log r (AfterFinish lsn) = (lsn ≡ suc (last_lsn log)) × NamesPages count r × ChainLaw log r × (FinishLaw log r → ⊥)
-BrokenAt count log r (WrongCompensation lsn) =
+abbrev pub BrokenAt : BasePages → (count : ℕ) → History → LogRecord → Fault → Type 0
+BrokenAt base count log r (NoSuchPage lsn) = (lsn ≡ suc (last_lsn log)) × (NamesPages count r → ⊥)
+BrokenAt base count log r (Chain lsn) = (lsn ≡ suc (last_lsn log)) × NamesPages count r × (ChainLaw log r → ⊥)
+BrokenAt base count log r (AfterFinish lsn) = (lsn ≡ suc (last_lsn log)) × NamesPages count r × ChainLaw log r × (FinishLaw log r → ⊥)
+BrokenAt base count log r (WrongCompensation lsn) =
     (lsn ≡ suc (last_lsn log)) × NamesPages count r × ChainLaw log r × FinishLaw log r × (is_end r ≡ false) × (CompensationLaw log r → ⊥)
-BrokenAt count log r (EndTooEarly lsn) =
+BrokenAt base count log r (EndTooEarly lsn) =
     (lsn ≡ suc (last_lsn log)) × NamesPages count r × ChainLaw log r × FinishLaw log r × (is_end r ≡ true) × (CompensationLaw log r → ⊥)
-BrokenAt count log r (DirtyWrite lsn) =
+BrokenAt base count log r (DirtyWrite lsn) =
     (lsn ≡ suc (last_lsn log)) × NamesPages count r × ChainLaw log r × FinishLaw log r × CompensationLaw log r × (Strictness log r → ⊥)
-BrokenAt count log r (BeforeImage lsn) =
-    (lsn ≡ suc (last_lsn log)) × NamesPages count r × ChainLaw log r × FinishLaw log r × CompensationLaw log r × Strictness log r × (BeforeLaw log r → ⊥)
-BrokenAt count log r _ = ⊥
+BrokenAt base count log r (BeforeImage lsn) =
+    (lsn ≡ suc (last_lsn log)) × NamesPages count r × ChainLaw log r × FinishLaw log r × CompensationLaw log r × Strictness log r × (BeforeLaw base log r → ⊥)
+BrokenAt base count log r _ = ⊥
 
 -- the records of the log keep their laws, and name pages below the count
-pub record AreSound (count : ℕ) (log : History) : Type 0 where
-  pub lawful : IsLawful log
+pub record AreSound (base : BasePages) (count : ℕ) (log : History) : Type 0 where
+  pub lawful : IsLawful base log
   pub named : EachRecord (NamesPages count) log
 
 -- the fault is that of the first record that breaks a law, behind this LSN
-pub record FirstBroken (count : ℕ) (log : History) (e : Fault) : Type 0 where
+pub record FirstBroken (base : BasePages) (count : ℕ) (log : History) (e : Fault) : Type 0 where
   pub lsn : ℕ
   pub entry : LogRecord
   pub there : record_at log (lsn + 1) ≡ Some entry
-  pub before : AreSound count (first lsn log)
-  pub broken : BrokenAt count (first lsn log) entry e
+  pub before : AreSound base count (first lsn log)
+  pub broken : BrokenAt base count (first lsn log) entry e
 
 -- why the records are refused, want of memory aside
-abbrev pub RecordFault : (count : ℕ) → History → Fault → Type 0
-RecordFault count log NoResource = Unit {0}
-RecordFault count log e = FirstBroken count log e
+abbrev pub RecordFault : BasePages → (count : ℕ) → History → Fault → Type 0
+RecordFault base count log NoResource = Unit {0}
+RecordFault base count log e = FirstBroken base count log e
 
 -- the fault names the page and the first law that it breaks
-abbrev pub BrokenPage : History → Page → Fault → Type 0
-BrokenPage log page (PageAheadOfLog number) = (number ≡ page.number) × (last_lsn log < page.lsn)
-BrokenPage log page (PageImage number) = (number ≡ page.number) × (page.lsn ≤ last_lsn log) × (PageLaw log page → ⊥)
-BrokenPage log page _ = ⊥
+abbrev pub BrokenPage : BasePages → History → Page → Fault → Type 0
+BrokenPage base log page (PageAheadOfLog number) = (number ≡ page.number) × (last_lsn log < page.lsn)
+BrokenPage base log page (PageImage number) = (number ≡ page.number) × (page.lsn ≤ last_lsn log) × (PageLaw base log page → ⊥)
+BrokenPage base log page _ = ⊥
 
 -- the fault is that of the first page that breaks its law
-pub record FirstBrokenPage (log : History) (pages : List Page) (e : Fault) : Type 0 where
+pub record FirstBrokenPage (base : BasePages) (log : History) (pages : List Page) (e : Fault) : Type 0 where
   pub place : ℕ
   pub page : Page
   pub there : slice_get pages place ≡ Some page
-  pub before : All (PageLaw log) (take place pages)
-  pub broken : BrokenPage log page e
+  pub before : All (PageLaw base log) (take place pages)
+  pub broken : BrokenPage base log page e
 
 -- why the pages are refused, want of memory aside
-abbrev pub PagesFault : History → List Page → Fault → Type 0
-PagesFault log pages NoResource = Unit {0}
-PagesFault log pages e = FirstBrokenPage log pages e
+abbrev pub PagesFault : BasePages → History → List Page → Fault → Type 0
+PagesFault base log pages NoResource = Unit {0}
+PagesFault base log pages e = FirstBrokenPage base log pages e
 
 -- the dirty page table of the begin at m is true of the page
 abbrev pub KeepsDirty : History → ℕ → List (ℕ × ℕ) → Page → Type 0
@@ -94,16 +95,16 @@ MasterFault log pages m (DirtyTable number) =
 MasterFault log pages m _ = ⊥
 
 -- FIRST FAULT. The first broken law: of the records, else of the pages, else of the checkpoint; want of memory aside.
-abbrev pub FirstFault : LogContent → StoreContent → Fault → Type 0
-FirstFault log store e =
-    RecordFault (length store.pages) (history log) e
-    ⊎ ((AreSound (length store.pages) (history log) × PagesFault (history log) store.pages e)
-    ⊎ (AreSound (length store.pages) (history log) × All (PageLaw (history log)) store.pages × MasterFault (history log) store.pages store.master e))
+abbrev pub FirstFault : BasePages → LogContent → StoreContent → Fault → Type 0
+FirstFault base log store e =
+    RecordFault base (length store.pages) (history log) e
+    ⊎ ((AreSound base (length store.pages) (history log) × PagesFault base (history log) store.pages e)
+    ⊎ (AreSound base (length store.pages) (history log) × All (PageLaw base (history log)) store.pages × MasterFault (history log) store.pages store.master e))
 
 -- an input that is not lawful has one first fault
 abbrev pub OneFirstFault : Type 0
-OneFirstFault = (log : LogContent) (store : StoreContent) → HasOneCause (FirstFault log store)
+OneFirstFault = (base : BasePages) (log : LogContent) (store : StoreContent) → HasOneCause (FirstFault base log store)
 
 -- and a lawful one has none
 abbrev pub NoFaultOfTheLawful : Type 0
-NoFaultOfTheLawful = (log : LogContent) (store : StoreContent) → Lawful log store → HasNoCause (FirstFault log store)
+NoFaultOfTheLawful = (base : BasePages) (log : LogContent) (store : StoreContent) → Lawful base log store → HasNoCause (FirstFault base log store)

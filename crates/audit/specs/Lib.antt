@@ -1,6 +1,7 @@
 pub mod Standings
 pub mod Cells
 pub mod FirstFault
+pub mod Base
 pub mod Passing
 pub mod Pages
 pub mod Checkpoints

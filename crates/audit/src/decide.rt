@@ -3,19 +3,20 @@
 ghost use Rattle.std.specs.Prelude.{◌≡◌, ◌+◌, ◌*◌, ◌≤◌, ◌<◌, ◌⊎◌, ◌||◌, ◌↔◌, ℕ, List, All, IsTrue, Some, true, length, option_map, slice_index, slice_index_or};
 ghost use Rattle.page.specs.Image.{Image};
 ghost use Rattle.wal.specs.Records.{LogRecord, History, history, last_lsn, record_at};
-ghost use Rattle.wal.specs.Meaning.{image_of, image_in};
+ghost use Rattle.wal.specs.Meaning.{BasePages, image_of};
 ghost use Rattle.wal.specs.Laws.{IsLawful, ChainLaw, FinishLaw, CompensationLaw, BeforeLaw, Strictness};
-ghost use Rattle.wal.specs.Store.{NamesPages};
+ghost use Rattle.wal.specs.Store.{NamesPages, base_pages};
 ghost use Rattle.wal.specs.Spelling.{Fits};
 ghost use Rattle.wal.specs.Tail.{tx_of};
 ghost use Rattle.wal.specs.Content.{shown};
 ghost use Rattle.audit.specs.Standings.{Stands, standing_in};
-ghost use Rattle.audit.specs.Cells.{HasCell, KeepsCells};
+ghost use Rattle.audit.specs.Cells.{HasCell, KeepsCells, image_or};
 ghost use Rattle.audit.specs.Passing.{Begins, Undoes, IsFreeFor};
 ghost use Rattle.page.specs.declared.sizes.TheConstants.{SLOTS};
 
+use crate::base::base_value;
 use crate::standing::{Standing, standing_of, transaction_of};
-use page::SLOTS;
+use page::{Page, SLOTS, Value};
 use std::collections::HashMap;
 use wal::{DirtyTable, Log, RecordView};
 
@@ -176,7 +177,7 @@ pub fn keeps_strictness(
     view: &RecordView,
 ) -> bool
     requires { HasCell (length writers.now) (shown view.now) }
-    ensures { (so_far : History) (links : List ℕ) (count : ℕ) → Begins so_far log.now → IsLawful so_far
+    ensures { (base : BasePages) (so_far : History) (links : List ℕ) (count : ℕ) → Begins so_far log.now → IsLawful base so_far
         → ((t : ℕ) → Stands links t so_far (standing_in table.now t))
         → KeepsCells count (λ _. so_far) writers.now → NamesPages count (shown view.now) → Fits (shown view.now)
         → IsTrue result ↔ Strictness so_far (shown view.now) }
@@ -198,6 +199,16 @@ pub fn keeps_strictness(
     }
 }
 
+/// Whether an image is this value.
+fn is_value(image: Option<&[u8]>, value: Option<Value>) -> bool
+    ensures { IsTrue result ↔ option_map (λ s. s.now) image.entry ≡ value }
+{
+    match value {
+        Some(value) => are_same(image, Some(value.as_slice())),
+        None => image.is_none(),
+    }
+}
+
 /// Whether a record puts this image into its cell.
 fn puts(view: &RecordView, image: Option<&[u8]>) -> bool
     ensures { IsTrue result ↔ option_map (λ s. s.now) image.entry ≡ image_of (shown view.now) }
@@ -208,22 +219,22 @@ fn puts(view: &RecordView, image: Option<&[u8]>) -> bool
     }
 }
 
-/// Whether the record at an LSN leaves this image, which is None where no record is.
-pub fn leaves(log: &Log, writer: u64, image: Option<&[u8]>) -> bool
-    ensures { IsTrue result ↔ option_map (λ s. s.now) image.entry ≡ image_in (record_at (history log.now) writer) }
+/// Whether the record at an LSN leaves this image or, where none is, what was there before.
+pub fn leaves(log: &Log, writer: u64, before: Option<Value>, image: Option<&[u8]>) -> bool
+    ensures { IsTrue result ↔ option_map (λ s. s.now) image.entry ≡ image_or before (record_at (history log.now) writer) }
 {
     match log.get(writer) {
-        None => image.is_none(),
+        None => is_value(image, before),
         Some(view) => puts(&view, image),
     }
 }
 
-/// Whether the before image of an update is its cell's value.
-pub fn keeps_before(log: &Log, writers: &[u64], view: &RecordView) -> bool
+/// Whether the before image of an update is its cell's value, over these base pages.
+pub fn keeps_before(log: &Log, base: &[Page], writers: &[u64], view: &RecordView) -> bool
     requires { HasCell (length writers.now) (shown view.now) }
     ensures { (so_far : History) (count : ℕ) → Begins so_far log.now
         → KeepsCells count (λ _. so_far) writers.now → NamesPages count (shown view.now) → Fits (shown view.now)
-        → IsTrue result ↔ BeforeLaw so_far (shown view.now) }
+        → IsTrue result ↔ BeforeLaw (base_pages base.now) so_far (shown view.now) }
 {
     match view {
         RecordView::Update {
@@ -231,7 +242,12 @@ pub fn keeps_before(log: &Log, writers: &[u64], view: &RecordView) -> bool
             slot,
             before,
             ..
-        } => leaves(log, last_writer(writers, *page, *slot), *before),
+        } => leaves(
+            log,
+            last_writer(writers, *page, *slot),
+            base_value(base, *page, *slot as usize),
+            *before,
+        ),
         RecordView::Compensation { .. }
         | RecordView::Commit { .. }
         | RecordView::Abort { .. }

@@ -1,6 +1,7 @@
 //! Whether a log and a store are lawful: the laws of a log, of pages and of a checkpoint, decided.
 #![tactic(auto)]
 
+mod base;
 mod decide;
 mod dirty;
 mod laws;
@@ -11,5 +12,7 @@ mod running;
 mod standing;
 mod verdict;
 
-pub use laws::{no_fault_of_the_lawful, one_first_fault};
-pub use verdict::audit;
+pub use laws::{
+    no_fault_of_the_lawful, no_fault_of_the_lawful_over, one_first_fault, one_first_fault_over,
+};
+pub use verdict::{audit, audit_from};

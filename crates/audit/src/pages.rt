@@ -4,14 +4,15 @@ ghost use Rattle.std.specs.Prelude.{◌≡◌, ◌+◌, ◌*◌, ◌≤◌, ◌<
 ghost use Rattle.page.specs.Store.{AreNumbered};
 ghost use Rattle.page.specs.declared.fault.Fault.TheVariants.{NoResource};
 ghost use Rattle.wal.specs.Records.{LogRecord, history, first, record_at, EachRecord};
-ghost use Rattle.wal.specs.Meaning.{is_on, image_in};
-ghost use Rattle.wal.specs.Store.{NamesPages, PageLaw};
+ghost use Rattle.wal.specs.Meaning.{is_on};
+ghost use Rattle.wal.specs.Store.{NamesPages, PageLaw, base_pages};
 ghost use Rattle.wal.specs.Content.{shown};
-ghost use Rattle.audit.specs.Cells.{KeepsCells};
+ghost use Rattle.audit.specs.Cells.{KeepsCells, image_or};
 ghost use Rattle.audit.specs.Pages.{page_lsn, counts_for, log_at, KeepsPage};
 ghost use Rattle.audit.specs.FirstFault.{BrokenPage, PagesFault};
 ghost use Rattle.page.specs.declared.sizes.TheConstants.{PAGES, SLOTS};
 
+use crate::base::{base_page_lsn, base_value};
 use crate::decide::leaves;
 use crate::running::note_write;
 use page::{Fault, Page, SLOTS, Value};
@@ -57,11 +58,11 @@ fn is_on_page(view: &RecordView, number: u32) -> bool
     }
 }
 
-/// Whether PageLSN is 0 or the LSN of a record on the page.
-fn lsn_is_on(log: &Log, page: &Page) -> bool
-    ensures { IsTrue result ↔ (page.now.lsn ≡ 0) ⊎ ((r : LogRecord) × (record_at (history log.now) page.now.lsn ≡ Some r) × (is_on page.now.number r ≡ true)) }
+/// Whether PageLSN is that of the base page or the LSN of a record on the page.
+fn lsn_is_on(log: &Log, base: &[Page], page: &Page) -> bool
+    ensures { IsTrue result ↔ (page.now.lsn ≡ (base_pages base.now).page_lsn page.now.number) ⊎ ((r : LogRecord) × (record_at (history log.now) page.now.lsn ≡ Some r) × (is_on page.now.number r ≡ true)) }
 {
-    if page.lsn == 0 {
+    if page.lsn == base_page_lsn(base, page.number) {
         return true;
     }
     match log.get(page.lsn) {
@@ -70,24 +71,31 @@ fn lsn_is_on(log: &Log, page: &Page) -> bool
     }
 }
 
-/// Whether the record at an LSN leaves this value.
-fn leaves_value(log: &Log, writer: u64, value: Option<Value>) -> bool
-    ensures { IsTrue result ↔ value ≡ image_in (record_at (history log.now) writer) }
+/// Whether the record at an LSN leaves this value or, where none is, what was there before.
+fn leaves_value(log: &Log, writer: u64, before: Option<Value>, value: Option<Value>) -> bool
+    ensures { IsTrue result ↔ value ≡ image_or before (record_at (history log.now) writer) }
 {
     match value {
-        None => leaves(log, writer, None),
-        Some(value) => leaves(log, writer, Some(value.as_slice())),
+        None => leaves(log, writer, before, None),
+        Some(value) => leaves(log, writer, before, Some(value.as_slice())),
     }
 }
 
-/// Whether each slot of the page of this number holds what its last writer left.
-fn slots_are_left(log: &Log, writers: &[u64], number: u32, slots: &[Option<Value>; SLOTS]) -> bool
+/// Whether each slot of the page of this number holds what its last writer left, or the base page.
+fn slots_are_left(
+    log: &Log,
+    base: &[Page],
+    writers: &[u64],
+    number: u32,
+    slots: &[Option<Value>; SLOTS],
+) -> bool
     requires { SLOTS * number + SLOTS ≤ length writers.now }
-    ensures all { IsTrue result ↔ ((k : ℕ) → k < SLOTS → slice_index_or slots.now k None ≡ image_in (record_at (history log.now) (slice_index writers.now (SLOTS * number + k)))) }
+    ensures all { IsTrue result ↔ ((k : ℕ) → k < SLOTS → slice_index_or slots.now k None ≡ image_or ((base_pages base.now).cells number k) (record_at (history log.now) (slice_index writers.now (SLOTS * number + k)))) }
     ensures count { length slots.now ≡ SLOTS }
 {
     for (slot, value) in slots.iter().enumerate() {
-        if !leaves_value(log, writers[SLOTS * number as usize + slot], *value) {
+        let writer = writers[SLOTS * number as usize + slot];
+        if !leaves_value(log, writer, base_value(base, number, slot), *value) {
             return false;
         }
     }
@@ -95,34 +103,34 @@ fn slots_are_left(log: &Log, writers: &[u64], number: u32, slots: &[Option<Value
 }
 
 /// Refuses the page for the first law that it breaks.
-fn check_page(log: &Log, writers: &[u64], page: &Page) -> Result<(), Fault>
+fn check_page(log: &Log, base: &[Page], writers: &[u64], page: &Page) -> Result<(), Fault>
     requires { SLOTS * page.now.number + SLOTS ≤ length writers.now }
-    ensures ok { OnOk result (KeepsPage (history log.now) writers.now page.now → PageLaw (history log.now) page.now) }
-    ensures err { IfErr result (λ e. KeepsPage (history log.now) writers.now page.now → BrokenPage (history log.now) page.now e) }
+    ensures ok { OnOk result (KeepsPage (history log.now) writers.now page.now → PageLaw (base_pages base.now) (history log.now) page.now) }
+    ensures err { IfErr result (λ e. KeepsPage (history log.now) writers.now page.now → BrokenPage (base_pages base.now) (history log.now) page.now e) }
 {
     if page.lsn > log.last() {
         return Err(Fault::PageAheadOfLog(page.number));
     }
-    if !lsn_is_on(log, page) {
+    if !lsn_is_on(log, base, page) {
         return Err(Fault::PageImage(page.number));
     }
-    if !slots_are_left(log, writers, page.number, &page.slots) {
+    if !slots_are_left(log, base, writers, page.number, &page.slots) {
         return Err(Fault::PageImage(page.number));
     }
     Ok(())
 }
 
-/// Refuses the first page that is not what the log up to its PageLSN makes of it. `NoResource`, where
-/// memory is refused, may come in its place.
-pub fn check_pages(alloc: Global, log: &Log, pages: &[Page]) -> Result<(), Fault>
+/// Refuses the first page that is not what the log up to its PageLSN makes of the base page. `NoResource`,
+/// where memory is refused, may come in its place.
+pub fn check_pages(alloc: Global, log: &Log, base: &[Page], pages: &[Page]) -> Result<(), Fault>
     requires numbered { AreNumbered pages.now }
     requires named { EachRecord (NamesPages (length pages.now)) (history log.now) }
-    ensures ok { OnOk result (All (PageLaw (history log.now)) pages.now) }
-    ensures err { IfErr result (PagesFault (history log.now) pages.now) }
+    ensures ok { OnOk result (All (PageLaw (base_pages base.now) (history log.now)) pages.now) }
+    ensures err { IfErr result (PagesFault (base_pages base.now) (history log.now) pages.now) }
 {
     let writers = writers_at(alloc, log, pages)?;
     for page in pages {
-        if let Err(fault) = check_page(log, &writers, page) {
+        if let Err(fault) = check_page(log, base, &writers, page) {
             return Err(fault);
         }
     }

@@ -5,7 +5,7 @@ ghost use Rattle.page.specs.declared.fault.Fault.TheVariants.{WrongCompensation,
 ghost use Rattle.wal.specs.Records.{History, last_lsn, history};
 ghost use Rattle.wal.specs.Laws.{IsLawful, Obeys};
 ghost use Rattle.wal.specs.Tail.{is_end};
-ghost use Rattle.wal.specs.Store.{NamesPages};
+ghost use Rattle.wal.specs.Store.{NamesPages, base_pages};
 ghost use Rattle.wal.specs.Spelling.{Fits};
 ghost use Rattle.wal.specs.Content.{shown};
 ghost use Rattle.audit.specs.Passing.{Tells, Begins};
@@ -17,7 +17,7 @@ use crate::decide::{
 };
 use crate::running::Running;
 use crate::standing::{standing_of, transaction_of};
-use page::Fault;
+use page::{Fault, Page};
 use std::alloc::Global;
 use wal::{Log, RecordView};
 
@@ -34,6 +34,7 @@ fn wrong_compensation(view: &RecordView, lsn: u64) -> Fault
 /// Refuses the record at an LSN for the first law that it breaks after the log before it.
 fn check_record(
     log: &Log,
+    base: &[Page],
     running: &Running,
     count: usize,
     view: &RecordView,
@@ -41,10 +42,10 @@ fn check_record(
 ) -> Result<(), Fault>
     requires size { length running.now.writers.items ≡ SLOTS * count }
     requires fits { Fits (shown view.now) }
-    ensures ok { OnOk result ((so_far : History) → last_lsn so_far + 1 ≡ lsn → Begins so_far log.now → IsLawful so_far → Tells count so_far running.now
-        → NamesPages count (shown view.now) × Obeys so_far (shown view.now)) }
-    ensures err { IfErr result (λ e. (so_far : History) → last_lsn so_far + 1 ≡ lsn → Begins so_far log.now → IsLawful so_far → Tells count so_far running.now
-        → BrokenAt count so_far (shown view.now) e) }
+    ensures ok { OnOk result ((so_far : History) → last_lsn so_far + 1 ≡ lsn → Begins so_far log.now → IsLawful (base_pages base.now) so_far → Tells count so_far running.now
+        → NamesPages count (shown view.now) × Obeys (base_pages base.now) so_far (shown view.now)) }
+    ensures err { IfErr result (λ e. (so_far : History) → last_lsn so_far + 1 ≡ lsn → Begins so_far log.now → IsLawful (base_pages base.now) so_far → Tells count so_far running.now
+        → BrokenAt (base_pages base.now) count so_far (shown view.now) e) }
 {
     if !names_pages(view, count) {
         return Err(Fault::NoSuchPage(lsn));
@@ -62,23 +63,23 @@ fn check_record(
     if !keeps_strictness(log, &running.table, &running.writers, view) {
         return Err(Fault::DirtyWrite(lsn));
     }
-    if !keeps_before(log, &running.writers, view) {
+    if !keeps_before(log, base, &running.writers, view) {
         return Err(Fault::BeforeImage(lsn));
     }
     Ok(())
 }
 
-/// Refuses the first record that breaks a law, and names the law. `NoResource`, where memory is
+/// Refuses the first record that breaks a law over these base pages, and names the law. `NoResource`, where memory is
 /// refused, may come in its place.
-pub fn check_records(alloc: Global, log: &Log, count: usize) -> Result<(), Fault>
+pub fn check_records(alloc: Global, log: &Log, base: &[Page], count: usize) -> Result<(), Fault>
     requires { count ≤ PAGES }
-    ensures ok { OnOk result (AreSound count (history log.now)) }
-    ensures err { IfErr result (RecordFault count (history log.now)) }
+    ensures ok { OnOk result (AreSound (base_pages base.now) count (history log.now)) }
+    ensures err { IfErr result (RecordFault (base_pages base.now) count (history log.now)) }
 {
     let mut running = Running::start(alloc, count)?;
     for lsn in 0..log.last() {
         let view = log.after(lsn);
-        if let Err(fault) = check_record(log, &running, count, &view, lsn + 1) {
+        if let Err(fault) = check_record(log, base, &running, count, &view, lsn + 1) {
             return Err(fault);
         }
         running.note(&view, lsn + 1)?;

@@ -1,33 +1,38 @@
-//! The audit: records, pages and the checkpoint in turn.
+//! The audit: the base store, records, pages and the checkpoint in turn.
 
 ghost use Rattle.std.specs.Prelude.{◌≡◌, OnOk, IfErr};
 ghost use Rattle.page.specs.declared.fault.Fault.TheVariants.{NoResource};
-ghost use Rattle.wal.specs.Store.{Lawful};
+ghost use Rattle.wal.specs.Meaning.{BaseLaw, no_base};
+ghost use Rattle.wal.specs.Records.{history};
+ghost use Rattle.wal.specs.Store.{Lawful, base_pages};
 ghost use Rattle.audit.specs.FirstFault.{FirstFault};
+ghost use Rattle.audit.specs.Base.{LawfulOver, FirstFaultOver};
 
+use crate::base::is_base_of;
 use crate::master::check_master;
 use crate::pages::check_pages;
 use crate::records::check_records;
-use page::{Fault, Store};
+use page::{Fault, Page, Store};
 use std::alloc::Global;
 use wal::Log;
 
-/// Refuses the first broken law.
-fn first_fault(alloc: Global, log: &Log, store: &Store) -> Result<(), Fault>
-    ensures ok { OnOk result (Lawful log.now store.now) }
-    ensures fault { IfErr result (FirstFault log.now store.now) }
+/// Refuses the first broken law over these base pages.
+fn first_fault(alloc: Global, log: &Log, base: &[Page], store: &Store) -> Result<(), Fault>
+    requires { BaseLaw (base_pages base.now) (history log.now) }
+    ensures ok { OnOk result (Lawful (base_pages base.now) log.now store.now) }
+    ensures fault { IfErr result (FirstFault (base_pages base.now) log.now store.now) }
 {
-    if let Err(fault) = check_records(alloc, log, store.pages.len()) {
+    if let Err(fault) = check_records(alloc, log, base, store.pages.len()) {
         return Err(fault);
     }
-    if let Err(fault) = check_pages(alloc, log, &store.pages) {
+    if let Err(fault) = check_pages(alloc, log, base, &store.pages) {
         return Err(fault);
     }
     check_master(alloc, log, store.master, &store.pages)
 }
 
-/// Whether a log and a store are lawful: what an ARIES system can leave behind. Ok exactly where they
-/// are, want of memory aside. Neither is changed. Time is near linear in both, memory 8 bytes a record
+/// Whether a log and a store are lawful over empty pages: what an ARIES system can leave behind that began
+/// with them. Ok exactly where they are, want of memory aside. Neither is changed. Time is near linear in both, memory 8 bytes a record
 /// and a cell.
 ///
 /// Errors, of which the first is given. First the records in LSN order, at each (with its LSN):
@@ -51,10 +56,31 @@ fn first_fault(alloc: Global, log: &Log, store: &Store) -> Result<(), Fault>
 ///
 /// NoResource, where memory is refused, may come in place of any answer.
 pub fn audit(alloc: Global, log: &Log, store: &Store) -> Result<(), Fault>
-    ensures ok { OnOk result (Lawful log.now store.now) }
-    ensures fault { IfErr result (FirstFault log.now store.now) }
+    ensures ok { OnOk result (Lawful no_base log.now store.now) }
+    ensures fault { IfErr result (FirstFault no_base log.now store.now) }
     // A lawful input is refused for want of memory alone.
-    ensures lawful { Lawful log.now store.now → IfErr result (λ e. e ≡ NoResource) }
+    ensures lawful { Lawful no_base log.now store.now → IfErr result (λ e. e ≡ NoResource) }
 {
-    first_fault(alloc, log, store)
+    let none: [Page; 0] = [];
+    first_fault(alloc, log, &none, store)
+}
+
+/// Whether a log and a store are lawful over the pages of a base store: what an ARIES system can leave
+/// behind that began with them and this log, at a moment when no transaction was unfinished. Ok exactly
+/// where they are, want of memory aside. The master of the base store is not looked at. Nothing is
+/// changed.
+///
+/// Errors: BadBase, before all others, where the base store has another page count than the store, or
+/// a page with a PageLSN above [`Log::base`]; then those of [`audit`], where a page's PageLSN may be
+/// that of its base page, and a cell holds what the base page has there until a record is in it.
+pub fn audit_from(alloc: Global, log: &Log, store: &Store, base: &Store) -> Result<(), Fault>
+    ensures ok { OnOk result (LawfulOver log.now store.now base.now) }
+    ensures fault { IfErr result (FirstFaultOver log.now store.now base.now) }
+    // A lawful input is refused for want of memory alone.
+    ensures lawful { LawfulOver log.now store.now base.now → IfErr result (λ e. e ≡ NoResource) }
+{
+    if !is_base_of(log, store, base) {
+        return Err(Fault::BadBase);
+    }
+    first_fault(alloc, log, &base.pages, store)
 }

@@ -1,6 +1,7 @@
 use Rattle.std.proofs.Common.{sym, subst, arith}
 use Rattle.std.proofs.lemmas.Bool.{iff_false}
 use Rattle.wal.specs.Content.{shown}
+use Rattle.wal.specs.Store.{base_pages}
 use Rattle.wal.specs.Tail.{tx_of}
 use Rattle.audit.specs.Standings.{standing_in}
 use Rattle.audit.specs.Cells.{KeepsCells}
@@ -21,7 +22,7 @@ returns-then-not-keeps_finish-clause-err c = λ so_far at begins lawful tells.
 pub returns-then-not-keeps_compensation-clause-err : goal.returns-then-not-keeps_compensation-clause-err
 returns-then-not-keeps_compensation-clause-err c = λ so_far at begins lawful tells.
     let s = at_transaction c.args.running.now.links.items so_far (standing_in c.args.running.now.table) c.transaction_of.result (tx_of (shown c.args.view.now)) c.standing_of-standing.result tells.stands c.transaction_of.ensures c.standing_of-standing.ensures in
-    wrong_end_or_clr c.args.count so_far (shown c.args.view.now) c.args.lsn c.wrong_compensation.result c.wrong_compensation.ensures (omega arith) (c.names_pages.ensures.0 c.if-not-names_pages.false) ((c.keeps_chain.ensures so_far _ s).0 c.if-not-keeps_chain.false) ((c.keeps_finish.ensures so_far _ s).0 c.if-not-keeps_finish.false)
+    wrong_end_or_clr (base_pages c.args.base.now) c.args.count so_far (shown c.args.view.now) c.args.lsn c.wrong_compensation.result c.wrong_compensation.ensures (omega arith) (c.names_pages.ensures.0 c.if-not-names_pages.false) ((c.keeps_chain.ensures so_far _ s).0 c.if-not-keeps_chain.false) ((c.keeps_finish.ensures so_far _ s).0 c.if-not-keeps_finish.false)
     (iff_false (c.keeps_compensation.ensures so_far _ begins tells.links s) c.if-not-keeps_compensation.true)
 
 pub returns-then-not-keeps_strictness-clause-err : goal.returns-then-not-keeps_strictness-clause-err
@@ -29,7 +30,7 @@ returns-then-not-keeps_strictness-clause-err c = λ so_far at begins lawful tell
     let s = at_transaction c.args.running.now.links.items so_far (standing_in c.args.running.now.table) c.transaction_of.result (tx_of (shown c.args.view.now)) c.standing_of-standing.result tells.stands c.transaction_of.ensures c.standing_of-standing.ensures in
     let named = c.names_pages.ensures.0 c.if-not-names_pages.false in
     let cells = subst (λ ws. KeepsCells c.args.count (λ _. so_far) ws) (sym c.deref.ensures.value) tells.cells in
-    (omega arith, named, (c.keeps_chain.ensures so_far _ s).0 c.if-not-keeps_chain.false, (c.keeps_finish.ensures so_far _ s).0 c.if-not-keeps_finish.false, (c.keeps_compensation.ensures so_far _ begins tells.links s).0 c.if-not-keeps_compensation.false, iff_false (c.keeps_strictness.ensures so_far _ c.args.count begins lawful tells.stands cells named c.requires.fits) c.if-not-keeps_strictness.true)
+    (omega arith, named, (c.keeps_chain.ensures so_far _ s).0 c.if-not-keeps_chain.false, (c.keeps_finish.ensures so_far _ s).0 c.if-not-keeps_finish.false, (c.keeps_compensation.ensures so_far _ begins tells.links s).0 c.if-not-keeps_compensation.false, iff_false (c.keeps_strictness.ensures (base_pages c.args.base.now) so_far _ c.args.count begins lawful tells.stands cells named c.requires.fits) c.if-not-keeps_strictness.true)
 
 pub returns-then-not-keeps_before-clause-err : goal.returns-then-not-keeps_before-clause-err
 returns-then-not-keeps_before-clause-err c = λ so_far at begins lawful tells.
@@ -37,7 +38,7 @@ returns-then-not-keeps_before-clause-err c = λ so_far at begins lawful tells.
     let named = c.names_pages.ensures.0 c.if-not-names_pages.false in
     let cells = subst (λ ws. KeepsCells c.args.count (λ _. so_far) ws) (sym c.deref.ensures.value) tells.cells in
     let cells' = subst (λ ws. KeepsCells c.args.count (λ _. so_far) ws) (sym c.deref-2.ensures.value) tells.cells in
-    (omega arith, named, (c.keeps_chain.ensures so_far _ s).0 c.if-not-keeps_chain.false, (c.keeps_finish.ensures so_far _ s).0 c.if-not-keeps_finish.false, (c.keeps_compensation.ensures so_far _ begins tells.links s).0 c.if-not-keeps_compensation.false, (c.keeps_strictness.ensures so_far _ c.args.count begins lawful tells.stands cells named c.requires.fits).0 c.if-not-keeps_strictness.false, iff_false (c.keeps_before.ensures so_far c.args.count begins cells' named c.requires.fits) c.if-not-keeps_before.true)
+    (omega arith, named, (c.keeps_chain.ensures so_far _ s).0 c.if-not-keeps_chain.false, (c.keeps_finish.ensures so_far _ s).0 c.if-not-keeps_finish.false, (c.keeps_compensation.ensures so_far _ begins tells.links s).0 c.if-not-keeps_compensation.false, (c.keeps_strictness.ensures (base_pages c.args.base.now) so_far _ c.args.count begins lawful tells.stands cells named c.requires.fits).0 c.if-not-keeps_strictness.false, iff_false (c.keeps_before.ensures so_far c.args.count begins cells' named c.requires.fits) c.if-not-keeps_before.true)
 
 pub returns-clause-ok : goal.returns-clause-ok
 returns-clause-ok c = λ so_far at begins lawful tells.
@@ -50,7 +51,7 @@ returns-clause-ok c = λ so_far at begins lawful tells.
         chain = (c.keeps_chain.ensures so_far _ s).0 c.if-not-keeps_chain.false;
         finish = (c.keeps_finish.ensures so_far _ s).0 c.if-not-keeps_finish.false;
         compensation = (c.keeps_compensation.ensures so_far _ begins tells.links s).0 c.if-not-keeps_compensation.false;
-        strict = (c.keeps_strictness.ensures so_far _ c.args.count begins lawful tells.stands cells named c.requires.fits).0 c.if-not-keeps_strictness.false;
+        strict = (c.keeps_strictness.ensures (base_pages c.args.base.now) so_far _ c.args.count begins lawful tells.stands cells named c.requires.fits).0 c.if-not-keeps_strictness.false;
         before = (c.keeps_before.ensures so_far c.args.count begins cells' named c.requires.fits).0 c.if-not-keeps_before.false;
       },
     )

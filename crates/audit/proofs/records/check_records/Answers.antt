@@ -3,6 +3,7 @@ use Rattle.wal.proofs.Histories.{size_of_first, first_none, first_all}
 use Rattle.wal.specs.Records.{History, history, last_lsn, first}
 use Rattle.wal.specs.Meaning.{pending}
 use Rattle.wal.specs.Content.{shown}
+use Rattle.wal.specs.Store.{base_pages}
 use Rattle.audit.specs.FirstFault.{AreSound}
 use Rattle.audit.specs.Standings.{standing_in}
 use Rattle.audit.specs.Passing.{Tells}
@@ -14,7 +15,7 @@ pub returns-in-Err-clause-err : goal.returns-in-Err-clause-err
 returns-in-Err-clause-err c =
     let so_far : History = first c.loop-lsn.lsn (history c.args.log.now) in
     let at : last_lsn so_far + 1 ≡ c.loop-lsn.lsn + 1 = omega (arith, size_of_first c.loop-lsn.lsn (history c.args.log.now) (omega arith)) in
-    record_fault c.args.count (history c.args.log.now) c.in-Err.fault
+    record_fault (base_pages c.args.base.now) c.args.count (history c.args.log.now) c.in-Err.fault
     (record {
       lsn = c.loop-lsn.lsn;
       entry = shown c.after-view.result;
@@ -39,16 +40,16 @@ loop-lsn-preserved c =
     let so_far : History = first c.loop-lsn.lsn (history c.args.log.now) in
     let at : last_lsn so_far + 1 ≡ c.loop-lsn.lsn + 1 = omega (arith, size_of_first c.loop-lsn.lsn (history c.args.log.now) (omega arith)) in
     let kept = c.in_default.ensures.ok so_far at (begins_first c.args.log.now c.loop-lsn.lsn) c.loop-lsn.invariant.0.lawful c.loop-lsn.invariant.1 in (
-      sound_more c.args.count (history c.args.log.now) c.loop-lsn.lsn (shown c.after-view.result) c.after-view.ensures.next c.loop-lsn.invariant.0 kept.0 kept.1,
+      sound_more (base_pages c.args.base.now) c.args.count (history c.args.log.now) c.loop-lsn.lsn (shown c.after-view.result) c.after-view.ensures.next c.loop-lsn.invariant.0 kept.0 kept.1,
       subst (λ (h : History). Tells c.args.count h c.note.new.self) (sym c.after-view.ensures.next)
           (c.in_ok-note.ensures.ok c.args.count so_far at kept.0 c.after-view.ensures.fits c.loop-lsn.invariant.1),
     )
 
 pub loop-lsn-init : goal.loop-lsn-init
 loop-lsn-init c =
-    subst (λ (h : History). AreSound c.args.count h × Tells c.args.count h c.in_ok-running.running) (sym (first_none (history c.args.log.now)))
+    subst (λ (h : History). AreSound (base_pages c.args.base.now) c.args.count h × Tells c.args.count h c.in_ok-running.running) (sym (first_none (history c.args.log.now)))
     (record { lawful = tt; named = λ lsn r there. absurd cc }, c.in_ok-running.ensures.ok)
 
 pub returns-clause-ok : goal.returns-clause-ok
 returns-clause-ok c =
-    subst (AreSound c.args.count) (first_all c.loop-lsn.lsn (history c.args.log.now) (omega (arith, c.loop-lsn-test.false, c.last-lsn-end.ensures))) c.loop-lsn.invariant.0
+    subst (AreSound (base_pages c.args.base.now) c.args.count) (first_all c.loop-lsn.lsn (history c.args.log.now) (omega (arith, c.loop-lsn-test.false, c.last-lsn-end.ensures))) c.loop-lsn.invariant.0
