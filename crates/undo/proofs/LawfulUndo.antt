@@ -3,6 +3,7 @@ use Rattle.std.proofs.Common.{ℕ, ◌≡◌, ◌<◌, length, refl, sym, ap, �
 use Rattle.page.specs.declared.fault.Fault.{Fault}
 use Rattle.page.specs.declared.fault.Fault.TheVariants.{NoResource, NoSuchPage, BrokenChain}
 use Rattle.page.specs.Store.{StoreContent}
+use Rattle.wal.specs.Meaning.{BasePages}
 use Rattle.wal.specs.Records.{Update, history, LogContent}
 use Rattle.wal.specs.Tail.{tail_of}
 use Rattle.wal.specs.Undo.{entry_for, walk_of, lost_in, undone_by}
@@ -13,9 +14,9 @@ use Rattle.analysis.specs.Lawful.{AreTrue}
 use Rattle.analysis.specs.Tables.{TablesContent, losers_in}
 use Rattle.undo.specs.Undone.{UndoFault}
 
-module _ (read : LogContent) (store : StoreContent) (tables : TablesContent) (lawful : Lawful read store) (are_true : AreTrue read store tables) where
+module _ (base : BasePages) (read : LogContent) (store : StoreContent) (tables : TablesContent) (lawful : Lawful base read store) (are_true : AreTrue read store tables) where
   undoes_all : UndoesAll (history read)
-  undoes_all = undo_is_tail read lawful.log
+  undoes_all = undo_is_tail base read lawful.log
 
   pub tail_is : undone_by (history read) (losers_in tables) ≡ tail_of read
   tail_is = ap (λ es. undone_by (history read) (lost_in es)) are_true.unfinished ∙ undoes_all.appended

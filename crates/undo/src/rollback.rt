@@ -7,6 +7,7 @@ ghost use Rattle.page.specs.declared.page.Page.{Page};
 ghost use Rattle.page.specs.declared.fault.Fault.TheVariants.{NoResource};
 ghost use Rattle.page.specs.Store.{StoreContent, AreNumbered};
 ghost use Rattle.wal.specs.Records.{TableEntry, UpdateRecord, Update, history, record_at, last_lsn};
+ghost use Rattle.wal.specs.Meaning.{BasePages};
 ghost use Rattle.wal.specs.Content.{content};
 ghost use Rattle.wal.specs.Tail.{tail_of};
 ghost use Rattle.wal.specs.Undo.{undone_by};
@@ -179,7 +180,7 @@ pub fn undo(
     ensures fault { IfErr result (UndoFault (history log.now) (losers_in tables.now) (length pages.items)) }
 
     // On a lawful log and its store, with true tables: the log's tail, unless memory runs out.
-    ensures lawful { (store : StoreContent) → Lawful log.now store → AreTrue log.now store tables.now → length pages.items ≡ length store.pages
+    ensures lawful { (base : BasePages) (store : StoreContent) → Lawful base log.now store → AreTrue log.now store tables.now → length pages.items ≡ length store.pages
         → MatchResult result (λ x. map content x.1.items ≡ tail_of log.now) (λ e. e ≡ NoResource) }
 {
     let (mut places, mut appended) = begin(alloc, log, tables)?;

@@ -19,10 +19,10 @@ returns-in_err-places-clause-fault c =
     rw (p.1, p.2) (c.in_err-places.ensures.fault (length c.args.pages.items))
 
 pub returns-in_err-places-clause-lawful : goal.returns-in_err-places-clause-lawful
-returns-in_err-places-clause-lawful c = λ store lawful are_true len.
+returns-in_err-places-clause-lawful c = λ base store lawful are_true len.
     let p = err_from_is_err_and c.from_residual.result c.from_residual.ensures.1 in
     rw (p.1, p.2)
-    (memory_alone c.args.log.now store c.args.tables.now lawful are_true (length c.args.pages.items) c.in_err-places.field-0.0 len
+    (memory_alone base c.args.log.now store c.args.tables.now lawful are_true (length c.args.pages.items) c.in_err-places.field-0.0 len
     (c.in_err-places.ensures.fault (length c.args.pages.items)))
 
 pub undo_all-requires-clause-room : goal.undo_all-requires-clause-room
@@ -32,10 +32,10 @@ pub undo_all-requires-clause-updates : goal.undo_all-requires-clause-updates
 undo_all-requires-clause-updates c = λ n l e. ((c.in_ok-places.ensures.ok 0).waits n l e).at_place
 
 pub returns-in_err-undo_all-clause-lawful : goal.returns-in_err-undo_all-clause-lawful
-returns-in_err-undo_all-clause-lawful c = λ store lawful are_true len.
+returns-in_err-undo_all-clause-lawful c = λ base store lawful are_true len.
     let p = err_from_is_err_and c.from_residual-in_err-undo_all.result c.from_residual-in_err-undo_all.ensures.1 in
     rw (p.1, p.2)
-    (memory_alone c.args.log.now store c.args.tables.now lawful are_true (length c.deref_mut.result.now) c.in_err-undo_all.field-0.0 (ap length c.deref_mut.ensures.value ∙ len)
+    (memory_alone base c.args.log.now store c.args.tables.now lawful are_true (length c.deref_mut.result.now) c.in_err-undo_all.field-0.0 (ap length c.deref_mut.ensures.value ∙ len)
     (c.in_err-undo_all.ensures.fault (losers_in c.args.tables.now) (c.in_ok-places.ensures.ok (length c.deref_mut.result.now))))
 
 pub returns-in_err-undo_all-clause-fault : goal.returns-in_err-undo_all-clause-fault
@@ -67,9 +67,9 @@ returns-clause-exist c =
     (c.in_ok-undo_all.ensures.exist (ends_name_no_page (length c.deref_mut.result.now) (map content c.in_ok-places.appended.items) c.in_ok-places.ensures.ends))
 
 pub returns-clause-lawful : goal.returns-clause-lawful
-returns-clause-lawful c = λ store lawful are_true len.
+returns-clause-lawful c = λ base store lawful are_true len.
     c.in_ok-undo_all.ensures.appended (losers_in c.args.tables.now) (c.in_ok-places.ensures.ok (length c.deref_mut.result.now))
-    ∙ tail_is c.args.log.now store c.args.tables.now lawful are_true
+    ∙ tail_is base c.args.log.now store c.args.tables.now lawful are_true
 
 pub returns-clause-few : goal.returns-clause-few
 returns-clause-few c = omega (arith, c.in_ok-undo_all.ensures.few, c.in_ok-places.ensures.few)
