@@ -1,3 +1,4 @@
+pub mod OptionFaults
 pub mod Causes
 pub mod Restored
 pub mod OneAnswer

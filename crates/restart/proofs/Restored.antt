@@ -11,7 +11,7 @@ use Rattle.page.specs.declared.fault.Fault.{Fault}
 use Rattle.page.specs.declared.fault.Fault.TheVariants.{NoResource, BadWorkers, BadMaster, PageAheadOfLog, NoSuchPage}
 use Rattle.page.specs.Store.{StoreContent, AreNumbered}
 use Rattle.wal.specs.Records.{LogRecord, tx_in, Update, Compensation, History, start, ◌▸◌, ◌▸▸◌, history, last_lsn, LogContent, ◌⧺◌}
-use Rattle.wal.specs.Meaning.{Cells, in_doubt, effects, replay, writes, image_of, is_on, last_on}
+use Rattle.wal.specs.Meaning.{BasePages, Cells, in_doubt, effects, replay, writes, image_of, is_on, last_on}
 use Rattle.wal.specs.Redo.{held_by, last_where, slots_in}
 use Rattle.wal.specs.Store.{Lawful, NamesPages, true_table, store_out, page_out, checkpoint_at}
 use Rattle.wal.specs.Tail.{in_doubt_of, losers_of, tail_of, with_tail}
@@ -39,20 +39,20 @@ some_none e = cc
 
 -- A PAGE THAT A LOG MADE, UNDONE
 -- the effects of the records behind the first b, on what the log up to there replays to, are the replay
-effects_on : (b page slot : ℕ) (state : Cells) (log : History) (xs : List LogRecord) → b ≤ last_lsn log
-    → effects (λ lsn _. ltb b lsn) state log page slot ≡ replay log page slot → effects (λ lsn _. ltb b lsn) state (log ▸▸ xs) page slot ≡ replay (log ▸▸ xs) page slot
-effects_on b page slot state log [] le e = e
-effects_on b page slot state log (r ∷ xs) le e =
-    effects_on b page slot state (log ▸ r) xs (omega arith)
+effects_on : (base : BasePages) (b page slot : ℕ) (state : Cells) (log : History) (xs : List LogRecord) → b ≤ last_lsn log
+    → effects (λ lsn _. ltb b lsn) state log page slot ≡ replay base log page slot → effects (λ lsn _. ltb b lsn) state (log ▸▸ xs) page slot ≡ replay base (log ▸▸ xs) page slot
+effects_on base b page slot state log [] le e = e
+effects_on base b page slot state log (r ∷ xs) le e =
+    effects_on base b page slot state (log ▸ r) xs (omega arith)
     (ap₂ (λ chosen v. cond (writes page slot r && chosen) (image_of r) v) (lt-ltb b (suc (last_lsn log)) (omega arith)) e)
 
 -- and the last of them, else the last before, is the last of all
-last_after : (b page lsn : ℕ) (log : History) (xs : List LogRecord) → b ≤ last_lsn log
-    → last_where (λ n. ltb b n) page lsn log ≡ last_on page log → last_where (λ n. ltb b n) page lsn (log ▸▸ xs) ≡ last_on page (log ▸▸ xs)
-last_after b page lsn log [] le e = e
-last_after b page lsn log (r ∷ xs) le e = last_after b page lsn (log ▸ r) xs (omega arith) one_more
+last_after : (base : BasePages) (b page lsn : ℕ) (log : History) (xs : List LogRecord) → b ≤ last_lsn log
+    → last_where (λ n. ltb b n) page lsn log ≡ last_on base page log → last_where (λ n. ltb b n) page lsn (log ▸▸ xs) ≡ last_on base page (log ▸▸ xs)
+last_after base b page lsn log [] le e = e
+last_after base b page lsn log (r ∷ xs) le e = last_after base b page lsn (log ▸ r) xs (omega arith) one_more
   where
-    one_more : last_where (λ n. ltb b n) page lsn (log ▸ r) ≡ last_on page (log ▸ r)
+    one_more : last_where (λ n. ltb b n) page lsn (log ▸ r) ≡ last_on base page (log ▸ r)
     one_more =
         (let behind : ltb b (suc (last_lsn log)) ≡ true = lt-ltb b (suc (last_lsn log)) (omega arith) in
         elim (cases_Bool (is_on page r)) [
@@ -61,48 +61,48 @@ last_after b page lsn log (r ∷ xs) le e = last_after b page lsn (log ▸ r) xs
         ])
 
 -- what a log and the records behind it make of a page
-undone_replayed : (log : History) (xs : List LogRecord) (page : ℕ) → undone_page log xs (replayed_page log page) ≡ replayed_page (log ▸▸ xs) page
-undone_replayed log xs page =
-    let image : Page = replayed_page log page in
+undone_replayed : (base : BasePages) (log : History) (xs : List LogRecord) (page : ℕ) → undone_page log xs (replayed_page base log page) ≡ replayed_page base (log ▸▸ xs) page
+undone_replayed base log xs page =
+    let image : Page = replayed_page base log page in
     let undone : Cells = effects (λ lsn _. ltb (last_lsn log) lsn) (held_by image) (log ▸▸ xs) in
-    let held : (slot : ℕ) → slot < 16 → undone page slot ≡ replay (log ▸▸ xs) page slot =
-    λ slot lt. effects_on (last_lsn log) page slot (held_by image) log xs (omega arith)
-    (no_effects (last_lsn log) (held_by image) log page slot (omega arith) ∙ slot_held (replay log) page slot lt) in
-    let sixteen : length image.slots ≡ 16 = length-map-range_with_len (λ slot. replay log page slot) 0 16 in
+    let held : (slot : ℕ) → slot < 16 → undone page slot ≡ replay base (log ▸▸ xs) page slot =
+    λ slot lt. effects_on base (last_lsn log) page slot (held_by image) log xs (omega arith)
+    (no_effects (last_lsn log) (held_by image) log page slot (omega arith) ∙ slot_held (replay base log) page slot lt) in
+    let sixteen : length image.slots ≡ 16 = length-map-range_with_len (λ slot. replay base log page slot) 0 16 in
     ap₂ (λ l s. record { number = page; lsn = l; slots = s })
-    (last_after (last_lsn log) page image.lsn log xs (omega arith) (no_last (last_lsn log) page image.lsn log (omega arith)))
-    (ap (λ n. map (λ slot. undone page slot) (range_with_len 0 n)) sixteen ∙ same_slots undone (replay (log ▸▸ xs)) page held)
+    (last_after base (last_lsn log) page image.lsn log xs (omega arith) (no_last (last_lsn log) page image.lsn log (omega arith)))
+    (ap (λ n. map (λ slot. undone page slot) (range_with_len 0 n)) sixteen ∙ same_slots undone (replay base (log ▸▸ xs)) page held)
 
-module _ (read : LogContent) (before : StoreContent) (lawful : Lawful read before) where
+module _ (base : BasePages) (read : LogContent) (before : StoreContent) (lawful : Lawful base read before) where
   -- THE PAGES
   whole_is : history read ▸▸ tail_of read ≡ history (with_tail read)
   whole_is = sym (after-append start read.records (tail_of read))
 
   -- what the log and its tail make of a page is what the winners leave
-  page_is_out : (page : ℕ) → replayed_page (history read ▸▸ tail_of read) page ≡ page_out read page
+  page_is_out : (page : ℕ) → replayed_page base (history read ▸▸ tail_of read) page ≡ page_out base read page
   page_is_out page =
-      ap (λ log. replayed_page log page) whole_is
-      ∙ ap (λ state. record { number = page; lsn = last_on page (history (with_tail read)); slots = slots_in state page }) (replay_is_winners read lawful.log)
+      ap (λ log. replayed_page base log page) whole_is
+      ∙ ap (λ state. record { number = page; lsn = last_on base page (history (with_tail read)); slots = slots_in state page }) (replay_is_winners base read lawful.log)
 
   module _ (numbered : AreNumbered before.pages) (tables : TablesContent) (are : AreTablesOf read before.master tables) (truth : AreTrue read before tables) where
     -- redo by true tables, and then the tail, make the pages what the winners leave
-    pages_out : map (undone_page (history read) (tail_of read)) (map (redone_page read tables) before.pages) ≡ (store_out read before).pages
+    pages_out : map (undone_page (history read) (tail_of read)) (map (redone_page read tables) before.pages) ≡ (store_out base read before).pages
     pages_out =
         let images = before.pages in
         let n = length images in
         let redone : List Page = map (redone_page read tables) images in
-        let d = page_out read 0 in
+        let d = page_out base read 0 in
         let count : length redone ≡ n = length-map images (redone_page read tables) in
-        ext_get_or d (map (undone_page (history read) (tail_of read)) redone) (map (page_out read) (range_with_len 0 n))
-        (length-map redone (undone_page (history read) (tail_of read)) ∙ count ∙ sym (length-map-range_with_len (page_out read) 0 n))
+        ext_get_or d (map (undone_page (history read) (tail_of read)) redone) (map (page_out base read) (range_with_len 0 n))
+        (length-map redone (undone_page (history read) (tail_of read)) ∙ count ∙ sym (length-map-range_with_len (page_out base read) 0 n))
         (λ k lt.
         let below : k < n = omega (arith, count, length-map redone (undone_page (history read) (tail_of read))) in
         get_or-map (undone_page (history read) (tail_of read)) redone k d d (omega (arith, count))
-        ∙ ap (undone_page (history read) (tail_of read)) (get_or-map (redone_page read tables) images k d d below ∙ redo_suffices read before tables.dirty tables.redo_lsn lawful truth.reaches k d below)
-        ∙ undone_replayed (history read) (tail_of read) (get_or images k d).number
+        ∙ ap (undone_page (history read) (tail_of read)) (get_or-map (redone_page read tables) images k d d below ∙ redo_suffices base read before tables.dirty tables.redo_lsn lawful truth.reaches k d below)
+        ∙ undone_replayed base (history read) (tail_of read) (get_or images k d).number
         ∙ page_is_out (get_or images k d).number
-        ∙ ap (page_out read) (numbered.at_place k d below)
-        ∙ sym (get_or-map-range_with_len (page_out read) 0 n k k d below (omega arith)))
+        ∙ ap (page_out base read) (numbered.at_place k d below)
+        ∙ sym (get_or-map-range_with_len (page_out base read) 0 n k k d below (omega arith)))
 
     -- THE OUTCOME
     tells : TellsDoubt (history read)
@@ -114,32 +114,32 @@ module _ (read : LogContent) (before : StoreContent) (lawful : Lawful read befor
     in_doubt_is : doubtful_in tables.transactions ≡ in_doubt_of (history read)
     in_doubt_is = ap doubtful_in truth.unfinished ∙ tells.doubtful
 
-    settles : IsSettled (with_tail read) (store_out read before)
+    settles : IsSettled base (with_tail read) (store_out base read before)
     settles =
-        let s = store_settles read before numbered lawful in
-        let end = tail_settles read lawful.log in
+        let s = store_settles base read before numbered lawful in
+        let end = tail_settles base read lawful.log in
         record { lawful = s.lawful; no_loser = end.no_loser; no_tail = end.no_tail; same_store = s.same_store }
 
     restores : (redone : Redone) (x : Outcome) → redone.pages.items ≡ map (redone_page read tables) before.pages → redone.applied ≡ sum (map (applied_to read tables) before.pages) → RollsBack read before.master tables redone x
-        → appended_by x ≡ tail_of read → Restores read before x
+        → appended_by x ≡ tail_of read → Restores base read before x
     restores redone x redone_is applied back tail =
-        let store : x.store ≡ store_out read before =
+        let store : x.store ≡ store_out base read before =
         ap₂ (λ m (ps : List Page). record { master = m; pages = ps }) back.master_kept
         (back.pages ∙ ap₂ (λ rs ps. map (undone_page (history read) rs) ps) tail redone_is ∙ pages_out) in
         record {
           appended = tail;
           store = store;
-          settled = subst (λ s. IsSettled (read ⧺ appended_by x) s) (sym store) (subst (λ rs. IsSettled (read ⧺ rs) (store_out read before)) (sym tail) settles);
+          settled = subst (λ s. IsSettled base (read ⧺ appended_by x) s) (sym store) (subst (λ rs. IsSettled base (read ⧺ rs) (store_out base read before)) (sym tail) settles);
           redoes = record { tables = tables; are = are; begins = back.redo_from; applies = back.applied ∙ applied };
           losers = back.losers ∙ losers_count;
           in_doubt_are = back.in_doubt_are ∙ in_doubt_is;
-          still_in_doubt = λ t. ap (λ rs. in_doubt t (history (read ⧺ rs))) tail ∙ (tail_settles read lawful.log).same_doubt t;
-          ended = back.ended ∙ ap ends_in tail ∙ losers_end read lawful.log;
+          still_in_doubt = λ t. ap (λ rs. in_doubt t (history (read ⧺ rs))) tail ∙ (tail_settles base read lawful.log).same_doubt t;
+          ended = back.ended ∙ ap ends_in tail ∙ losers_end base read lawful.log;
           compensated = back.compensated ∙ ap clrs_in tail;
         }
 
     pub outcome_restores : (redone : Redone) (r : Result Outcome Fault) → redone.pages.items ≡ map (redone_page read tables) before.pages → redone.applied ≡ sum (map (applied_to read tables) before.pages) → IfOk r (RollsBack read before.master tables redone)
-        → MatchResult r (λ x. appended_by x ≡ tail_of read) (λ e. e ≡ NoResource) → MatchResult r (Restores read before) (λ e. e ≡ NoResource)
+        → MatchResult r (λ x. appended_by x ≡ tail_of read) (λ e. e ≡ NoResource) → MatchResult r (Restores base read before) (λ e. e ≡ NoResource)
     outcome_restores redone (Ok x) redone_is applied back tail = restores redone x redone_is applied back tail
     outcome_restores redone (Err e) redone_is applied back alone = alone
 

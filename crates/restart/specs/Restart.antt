@@ -7,7 +7,7 @@ use Rattle.page.specs.declared.page.Page.{Page}
 use Rattle.page.specs.Store.{StoreContent}
 use Rattle.wal.specs.Records.{LogRecord, LogContent, history, ◌⧺◌, last_lsn}
 use Rattle.wal.specs.Content.{content}
-use Rattle.wal.specs.Meaning.{in_doubt, is_loser}
+use Rattle.wal.specs.Meaning.{BasePages, in_doubt, is_loser}
 use Rattle.wal.specs.Tail.{is_clr, is_end, in_doubt_of, losers_of, tail_of}
 use Rattle.wal.specs.Undo.{doubtful_in, undone_by}
 use Rattle.wal.specs.Store.{NamesPages, Lawful, store_out}
@@ -89,13 +89,13 @@ pub record Restarts (log : LogContent) (before : StoreContent) (x : Outcome) : T
   pub applied : redone.applied ≡ sum (map (applied_to log tables) before.pages)
   pub rolls_back : RollsBack log before.master tables redone x
 
--- LAWFUL INPUT
+-- LAWFUL INPUT over base pages
 -- a lawful log and its store without a loser, on which a restart appends nothing and leaves the store as it is
-pub record IsSettled (log : LogContent) (store : StoreContent) : Type 0 where
-  pub lawful : Lawful log store
+pub record IsSettled (base : BasePages) (log : LogContent) (store : StoreContent) : Type 0 where
+  pub lawful : Lawful base log store
   pub no_loser : (t : ℕ) → is_loser t (history log) ≡ false
   pub no_tail : tail_of log ≡ []
-  pub same_store : store_out log store ≡ store
+  pub same_store : store_out base log store ≡ store
 
 -- where redo begins, and how many records it applies, by the tables that analysis finds, of which there are no two
 pub record Redoes (log : LogContent) (before : StoreContent) (redo_from redone : ℕ) : Type 0 where
@@ -105,10 +105,10 @@ pub record Redoes (log : LogContent) (before : StoreContent) (redo_from redone :
   pub applies : redone ≡ sum (map (applied_to log tables) before.pages)
 
 -- the log's tail is appended, the store is what the winners leave; both together are settled; those in doubt are told, and stay so
-pub record Restores (log : LogContent) (before : StoreContent) (x : Outcome) : Type 0 where
+pub record Restores (base : BasePages) (log : LogContent) (before : StoreContent) (x : Outcome) : Type 0 where
   pub appended : appended_by x ≡ tail_of log
-  pub store : x.store ≡ store_out log before
-  pub settled : IsSettled (log ⧺ appended_by x) x.store
+  pub store : x.store ≡ store_out base log before
+  pub settled : IsSettled base (log ⧺ appended_by x) x.store
   pub redoes : Redoes log before x.redo_from x.redone
   pub losers : x.losers ≡ length (losers_of (history log))
   pub in_doubt_are : x.in_doubt.items ≡ in_doubt_of (history log)

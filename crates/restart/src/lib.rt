@@ -1,11 +1,13 @@
-//! Restart on values: analysis, redo and undo, one behind the other.
+//! Restart on values: analysis, redo and undo, one behind the other; and how a restart is to be run.
 #![tactic(auto)]
 
 mod doubt;
 mod laws;
+mod options;
 mod outcome;
 mod passes;
 
 pub use laws::{no_fault_of_a_restart, one_outcome, one_restart_fault};
+pub use options::{Options, check_options};
 pub use outcome::Outcome;
 pub use passes::{restart, restart_in_place};

@@ -5,6 +5,7 @@ ghost use Rattle.page.specs.declared.fault.Fault.{Fault};
 ghost use Rattle.page.specs.declared.fault.Fault.TheVariants.{NoResource};
 ghost use Rattle.page.specs.Store.{StoreContent, AreNumbered};
 ghost use Rattle.wal.specs.Records.{history, last_lsn};
+ghost use Rattle.wal.specs.Meaning.{BasePages};
 ghost use Rattle.wal.specs.Content.{content};
 ghost use Rattle.wal.specs.Store.{Lawful};
 ghost use Rattle.wal.specs.Tail.{tail_of};
@@ -89,7 +90,7 @@ fn roll_back(
     ensures spelled { IfOk result (λ x. AreCounted tables.now → AreSpelled x.appended.items) }
     ensures few { IfOk result (λ x. length x.appended.items ≤ 2 * length log.now.records + 2 ^ 32) }
     ensures fault { IfErr result (UndoFault (history log.now) (losers_in tables.now) (length redone.pages.items)) }
-    ensures lawful { (store : StoreContent) → Lawful log.now store → AreTrue log.now store tables.now → length redone.pages.items ≡ length store.pages
+    ensures lawful { (base : BasePages) (store : StoreContent) → Lawful base log.now store → AreTrue log.now store tables.now → length redone.pages.items ≡ length store.pages
         → MatchResult result (λ x. appended_by x ≡ tail_of log.now) (λ e. e ≡ NoResource) }
 {
     let in_doubt = in_doubt(alloc, tables)?;
@@ -119,9 +120,9 @@ pub fn restart_in_place<G: Gate, R: Threads + Sync>(
     workers: u32,
     gate: &G,
 ) -> Result<Outcome, Fault>
-    // On a lawful log and its store: the log's tail and the store that the winners leave.
-    ensures lawful { Lawful log.now store → AreSettings (length store.pages) parting.now workers
-        → MatchResult result (Restores log.now store) (λ e. e ≡ NoResource) }
+    // On a lawful log and its store, over any base pages: the log's tail and the store that the winners leave.
+    ensures lawful { (base : BasePages) → Lawful base log.now store → AreSettings (length store.pages) parting.now workers
+        → MatchResult result (Restores base log.now store) (λ e. e ≡ NoResource) }
 
     // Wherever it answers: what analysis, redo and undo make of log and store, and no cause of a refusal stands.
     ensures restarts { IfOk result (Restarts log.now store) }
@@ -168,9 +169,9 @@ pub fn restart<G: Gate, R: Threads + Sync>(
     workers: u32,
     gate: &G,
 ) -> Result<Outcome, Fault>
-    // On a lawful log and its store: the log's tail and the store that the winners leave.
-    ensures lawful { Lawful log.now store.now → AreSettings (length store.now.pages) parting.now workers
-        → MatchResult result (Restores log.now store.now) (λ e. e ≡ NoResource) }
+    // On a lawful log and its store, over any base pages: the log's tail and the store that the winners leave.
+    ensures lawful { (base : BasePages) → Lawful base log.now store.now → AreSettings (length store.now.pages) parting.now workers
+        → MatchResult result (Restores base log.now store.now) (λ e. e ≡ NoResource) }
 
     // Wherever it answers: what analysis, redo and undo make of log and store, and no cause of a refusal stands.
     ensures restarts { IfOk result (Restarts log.now store.now) }

@@ -15,18 +15,18 @@ use Rattle.restart.proofs.Causes.{redo_fault, undo_fault}
 use Rattle.restart.proofs.passes.restart_in_place.Goals as goal
 
 pub returns-in_err-check_lsns-clause-lawful : goal.returns-in_err-check_lsns-clause-lawful
-returns-in_err-check_lsns-clause-lawful g c = λ lawful fit.
+returns-in_err-check_lsns-clause-lawful g c = λ base lawful fit.
     let exit = err_from_is_err_and c.from_residual-in_err-check_lsns.result c.from_residual-in_err-check_lsns.ensures.1 in
     let stored : c.deref.result.now ≡ c.args.store.pages = c.deref.ensures.value ∙ ap (λ (s : StoreContent). s.pages) c.store.view_is in
     let fault = c.in_err-check_lsns.field-0.0 in
     rw (exit.1, exit.2)
-    (ahead_alone c.args.log.now c.args.store lawful fault (subst (λ (ps : List Page). AheadFault c.args.log.now ps fault) stored c.in_err-check_lsns.ensures.fault))
+    (ahead_alone base c.args.log.now c.args.store lawful fault (subst (λ (ps : List Page). AheadFault c.args.log.now ps fault) stored c.in_err-check_lsns.ensures.fault))
 
 pub returns-in_err-redone-clause-lawful : goal.returns-in_err-redone-clause-lawful
-returns-in_err-redone-clause-lawful g c = λ lawful fit.
+returns-in_err-redone-clause-lawful g c = λ base lawful fit.
     let exit = err_from_is_err_and c.from_residual-in_err-redone.result c.from_residual-in_err-redone.ensures.1 in
     rw (exit.1, exit.2)
-    (redo_alone c.args.log.now c.args.store lawful c.in_ok-tables.tables.redo_lsn c.args.workers c.in_err-redone.field-0.0 fit.fit c.in_err-redone.ensures.fault)
+    (redo_alone base c.args.log.now c.args.store lawful c.in_ok-tables.tables.redo_lsn c.args.workers c.in_err-redone.field-0.0 fit.fit c.in_err-redone.ensures.fault)
 
 pub returns-in_err-redone-clause-fault : goal.returns-in_err-redone-clause-fault
 returns-in_err-redone-clause-fault g c =
@@ -44,17 +44,17 @@ roll_back-requires g c =
     subst AreNumbered (sym c.in_ok-redone.ensures.pages) (changed_numbered (redone_page c.args.log.now c.in_ok-tables.tables) c.args.store.pages (λ page. refl) numbered)
 
 pub returns-clause-lawful : goal.returns-clause-lawful
-returns-clause-lawful g c = λ lawful fit.
+returns-clause-lawful g c = λ base lawful fit.
     let tables = c.in_ok-tables.tables in
     let redone = c.in_ok-redone.redone in
     let kept : c.store.inside.master ≡ c.args.store.master = ap (λ (s : StoreContent). s.master) c.store.view_is in
     let numbered : AreNumbered c.args.store.pages = subst AreNumbered (ap (λ (s : StoreContent). s.pages) c.store.view_is) c.store.invariant in
-    let truth = c.in_ok-tables.ensures.lawful c.args.store lawful (sym kept) in
+    let truth = c.in_ok-tables.ensures.lawful base c.args.store lawful (sym kept) in
     let count : length redone.pages.items ≡ length c.args.store.pages = ap length c.in_ok-redone.ensures.pages ∙ length-map c.args.store.pages (redone_page c.args.log.now tables) in
     let are : AreTablesOf c.args.log.now c.args.store.master tables = subst (λ m. AreTablesOf c.args.log.now m tables) kept c.in_ok-tables.ensures.tables in
-    outcome_restores c.args.log.now c.args.store lawful numbered tables are truth redone c.roll_back.result c.in_ok-redone.ensures.pages c.in_ok-redone.ensures.applied
+    outcome_restores base c.args.log.now c.args.store lawful numbered tables are truth redone c.roll_back.result c.in_ok-redone.ensures.pages c.in_ok-redone.ensures.applied
     (subst (λ m. IfOk c.roll_back.result (RollsBack c.args.log.now m tables redone)) kept c.roll_back.ensures.rolls_back)
-    (c.roll_back.ensures.lawful c.args.store lawful truth count)
+    (c.roll_back.ensures.lawful base c.args.store lawful truth count)
 
 pub returns-clause-restarts : goal.returns-clause-restarts
 returns-clause-restarts g c =
