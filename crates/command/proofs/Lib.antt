@@ -1,2 +1,1 @@
-pub mod OptionFaults
 pub mod Lines

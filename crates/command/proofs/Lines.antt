@@ -68,7 +68,7 @@ command_is : {B : Type 0} (o : Option B) (found : B → Text × List Row) (job :
     → IsSomeAnd (option_map (λ b. (found b).0) o) IsCommand
 command_is None found job names = absurd names
 command_is (Some b) found (Recover log store out_log out_store options) names = inl names.0
-command_is (Some b) found (Audit log store) names = inr names.0
+command_is (Some b) found (Audit log store base) names = inr names.0
 
 -- so a parse of words that give a job its files entered `recover` or `audit`
 pub job_command : (matches : ArgMatches) (words : List Text) (line : App) (job : Job) (name : Option Text) → line ≡ aries_line → HasMatchesOf line words matches

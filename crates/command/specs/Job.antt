@@ -1,17 +1,17 @@
 -- What a command line may ask for.
-use Rattle.std.specs.Prelude.{◌≡◌, ℕ, ◌≤◌, List, [], Some, IsSomeAnd, codes, decimal, string_bytes}
+use Rattle.std.specs.Prelude.{◌≡◌, ℕ, ◌≤◌, List, [], Some, IsSomeAnd, codes, decimal, option_map, string_bytes}
 use Rattle.clap.specs.Words.{Row, Text, fault_of, first_of, one_of, subcommand_of}
 use Rattle.command.specs.declared.job.Job.{Job}
 use Rattle.command.specs.declared.job.Job.TheVariants.{Recover, Audit}
 use Rattle.command.specs.Line.{aries_line}
-use Rattle.command.specs.Options.{AreInRange}
+use Rattle.restart.specs.Options.{AreInRange}
 use Rattle.page.specs.declared.sizes.TheConstants.{PAGES}
 use Rattle.redo.specs.declared.rounds.TheConstants.{WORKERS}
 
 -- its numbers lie in their ranges
 abbrev pub HasRanges : Job → Type 0
 HasRanges (Recover log store out_log out_store options) = AreInRange options
-HasRanges (Audit log store) = Unit {0}
+HasRanges (Audit log store base) = Unit {0}
 
 -- the command is the job's, and the values of its options name the job's files
 abbrev pub NamesFiles : (command : Text) → (values : List Row) → Job → Type 0
@@ -21,10 +21,11 @@ NamesFiles command values (Recover log store out_log out_store options) =
     × (first_of (codes "store") values ≡ Some (string_bytes store))
     × (first_of (codes "out-log") values ≡ Some (string_bytes out_log))
     × (first_of (codes "out-store") values ≡ Some (string_bytes out_store))
-NamesFiles command values (Audit log store) =
+NamesFiles command values (Audit log store base) =
     (command ≡ codes "audit")
     × (first_of (codes "log") values ≡ Some (string_bytes log))
     × (first_of (codes "store") values ≡ Some (string_bytes store))
+    × (first_of (codes "base") values ≡ option_map string_bytes base)
 
 -- the job has the command of the words, and the files that they name
 abbrev pub HasFiles : (words : List Text) → Job → Type 0
@@ -48,7 +49,7 @@ abbrev pub GivesNumbers : (values : List Row) → Job → Type 0
 GivesNumbers values (Recover log store out_log out_store options) =
     IsNumberOf values (codes "workers") WORKERS options.workers
     × IsNumberOf values (codes "parts") PAGES options.parts
-GivesNumbers values (Audit log store) = Unit {0}
+GivesNumbers values (Audit log store base) = Unit {0}
 
 -- the job has the numbers that the words give, or the defaults of the line
 abbrev pub HasNumbers : (words : List Text) → Job → Type 0

@@ -10,6 +10,10 @@ use Rattle.redo.specs.declared.rounds.TheConstants.{WORKERS}
 abbrev pub file_rule : Text → Rule
 file_rule name = record (new_rule name) { long = Some name; value_names = 1; required = true }
 
+-- `--name FILE`, which may be left out
+abbrev pub free_file_rule : Text → Rule
+free_file_rule name = record (new_rule name) { long = Some name; value_names = 1 }
+
 -- `--name N` with a number of 1 to `most`, which may be left out
 abbrev pub number_rule : Text → (most : ℕ) → (default : Text) → Rule
 number_rule name most default = record (new_rule name) {
@@ -34,7 +38,7 @@ recover_line = record (new_shape (codes "recover")) {
 -- `aries audit`
 unfoldable pub audit_line : Shape
 audit_line = record (new_shape (codes "audit")) {
-  rules = file_rule (codes "log") ∷ file_rule (codes "store") ∷ [];
+  rules = file_rule (codes "log") ∷ file_rule (codes "store") ∷ free_file_rule (codes "base") ∷ [];
 }
 
 -- the whole line: `aries --version`, or one of the two commands

@@ -1,20 +1,20 @@
 //! The command line.
 
-ghost use Rattle.std.specs.Prelude.{◌≡◌, ◌≤◌, Some, IfErr, IfOk, codes, false, is_some, map};
+ghost use Rattle.std.specs.Prelude.{◌≡◌, ◌≤◌, Some, IfErr, IfOk, codes, false, is_some, map, option_map};
 ghost use Rattle.std.specs.Prelude.{OnOk, string_bytes, true};
 ghost use Rattle.clap.specs.Words.{app_of, first_of, found_of, kind_of, rows_of, rule_of, shape_of};
 ghost use Rattle.clap.specs.declared.error.kind.ErrorKind.TheVariants.{OutOfMemory};
 ghost use Rattle.command.specs.Job.{AsksFor, GivesNumbers, HasFiles, HasNumbers, HasRanges};
 ghost use Rattle.command.specs.Job.{IsFaultless, IsNumberOf, NamesFiles};
-ghost use Rattle.command.specs.Line.{aries_line, audit_line, file_rule, number_rule, recover_line};
+ghost use Rattle.command.specs.Line.{aries_line, audit_line, file_rule, free_file_rule, number_rule, recover_line};
 ghost use Rattle.command.specs.declared.job.Job.{Job};
 ghost use Rattle.command.specs.declared.job.Refusal.TheVariants.{Memory};
 
-use crate::Options;
 use clap::error::ErrorKind;
 use clap::{Arg, ArgMatches, Command, value_parser};
 use page::PAGES;
 use redo::WORKERS;
+use restart::Options;
 use std::alloc::{AllocError, Global};
 
 /// What a command line asks for.
@@ -28,10 +28,12 @@ pub enum Job {
         out_store: String,
         options: Options,
     },
-    /// Say whether the log `log` and the store `store` are lawful.
+    /// Say whether the log `log` and the store `store` are lawful, over the pages of the base store `base`
+    /// where it is given, else over empty ones.
     Audit {
         log: String,
         store: String,
+        base: Option<String>,
     },
 }
 
@@ -72,6 +74,17 @@ fn file_option<'a>(alloc: Global, name: &'a str, help: &'a str) -> Arg<'a>
         .long(name)
         .value_name("FILE")
         .required(true)
+        .help(help)
+}
+
+/// An option that names a file and may be left out.
+fn free_file_option<'a>(alloc: Global, name: &'a str, help: &'a str) -> Arg<'a>
+    ensures rule { rule_of result ≡ free_file_rule name.entry.now }
+    ensures local { result.global ≡ false }
+{
+    Arg::new(alloc, name)
+        .long(name)
+        .value_name("FILE")
         .help(help)
 }
 
@@ -135,7 +148,12 @@ fn audit_command<'a>(alloc: Global) -> Result<Command<'a>, AllocError>
     Command::new(alloc, "audit")
         .about("Say whether a log and its store are lawful, or the first law that is broken")
         .arg(file_option(alloc, "log", "The log to look at"))?
-        .arg(file_option(alloc, "store", "The store to look at"))
+        .arg(file_option(alloc, "store", "The store to look at"))?
+        .arg(free_file_option(
+            alloc,
+            "base",
+            "The store as the log found it; without it all pages were empty",
+        ))
 }
 
 /// The whole command line.
@@ -168,6 +186,18 @@ fn file_of(
             let error = command.error(ErrorKind::MissingRequiredArgument, "a file is needed")?;
             Err(Refusal::Line(error))
         }
+    }
+}
+
+/// The name that an option gives a file, if it is there.
+fn given_file(alloc: Global, matches: &ArgMatches, name: &str) -> Result<Option<String>, Refusal>
+    ensures given { IfOk result (λ file.
+        first_of name.now (rows_of (found_of matches.now)) ≡ option_map string_bytes file) }
+    ensures refused { IfErr result (λ refusal. refusal ≡ Memory) }
+{
+    match matches.get_str(name) {
+        Some(file) => Ok(Some(String::from_str(alloc, file)?)),
+        None => Ok(None),
     }
 }
 
@@ -216,6 +246,7 @@ fn audit_job(alloc: Global, command: &mut Command, matches: &ArgMatches) -> Resu
     Ok(Job::Audit {
         log: file_of(alloc, command, matches, "log")?,
         store: file_of(alloc, command, matches, "store")?,
+        base: given_file(alloc, matches, "base")?,
     })
 }
 

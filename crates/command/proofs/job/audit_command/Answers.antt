@@ -11,5 +11,6 @@ unfolding audit_line
 returns c =
     let none : app_of c.about.result ≡ new_app (codes "audit") = ap app_of_fields c.about.ensures ∙ c.new.ensures.app in
     let one = option_added _ _ _ _ _ c.in_ok-arg.ensures c.file_option.ensures.local none c.file_option.ensures.rule in
-    IfOk-weaker c.arg-2.result _ _ (λ command adds. ap (λ (a : App). a.top)
-    (option_added _ command _ _ _ adds c.file_option-2.ensures.local one c.file_option-2.ensures.rule)) c.arg-2.ensures
+    let two = option_added _ _ _ _ _ c.in_ok-arg-2.ensures c.file_option-2.ensures.local one c.file_option-2.ensures.rule in
+    IfOk-weaker c.arg-3.result _ _ (λ command adds. ap (λ (a : App). a.top)
+    (option_added _ command _ _ _ adds c.free_file_option.ensures.local two c.free_file_option.ensures.rule)) c.arg-3.ensures
