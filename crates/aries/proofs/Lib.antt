@@ -1,5 +1,0 @@
-pub mod Bytes
-pub mod Delivered
-pub mod Resuming
-pub mod OneAnswer
-pub mod OneTextCause

@@ -1,4 +1,0 @@
-pub mod Text
-pub mod Recovery
-pub mod Devices
-pub mod OneAnswer

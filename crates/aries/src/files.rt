@@ -1,11 +1,13 @@
-//! Recovery from two files to two files, and the audit of two.
+//! Recovery from two files to two files, and the audit of two, or of two over a third.
 
-use crate::devices::read_source;
-use crate::{Report, audit_texts, recover};
-use command::Options;
+ghost use Rattle.std.specs.Prelude.{◌≢◌};
+ghost use Rattle.page.specs.declared.fault.Fault.TheVariants.{NoResource};
+
 use device::{FileSink, FileSource};
 use page::Fault;
+use recovery::{Report, audit_texts, audit_texts_over, read_source, recover};
 use redo::OpenGate;
+use restart::Options;
 use std::alloc::Global;
 use std::fs::File;
 use std::io::{self, ErrorKind};
@@ -57,12 +59,31 @@ pub fn recover_files<R: Files + Threads + Sync>(
     )
 }
 
-/// Whether the log and the store in two files are lawful. Both are read to their ends, the log first,
-/// before either is decoded.
-pub fn audit_files<R: Files>(rt: &R, alloc: Global, log: &str, store: &str) -> Result<(), Fault> {
-    let log = File::open(rt, log).map_err(|e| fault_of(e, Fault::ReadLog))?;
-    let log = read_source(alloc, &mut FileSource::new(log), Fault::ReadLog)?;
-    let store = File::open(rt, store).map_err(|e| fault_of(e, Fault::ReadStore))?;
-    let store = read_source(alloc, &mut FileSource::new(store), Fault::ReadStore)?;
-    audit_texts(alloc, &log, &store)
+/// The bytes of a file; `fault` where it cannot be opened or read to its end.
+fn read_file<R: Files>(rt: &R, alloc: Global, path: &str, fault: Fault) -> Result<Vec<u8>, Fault>
+    requires { fault ≢ NoResource }
+{
+    let file = File::open(rt, path).map_err(|e| fault_of(e, fault))?;
+    read_source(alloc, &mut FileSource::new(file), fault)
+}
+
+/// Whether the log and the store in two files are lawful, over the pages of the base store in a third
+/// where there is one, else over empty pages. All are read to their ends, in this order, before the
+/// first is decoded.
+pub fn audit_files<R: Files>(
+    rt: &R,
+    alloc: Global,
+    log: &str,
+    store: &str,
+    base: Option<&str>,
+) -> Result<(), Fault> {
+    let log = read_file(rt, alloc, log, Fault::ReadLog)?;
+    let store = read_file(rt, alloc, store, Fault::ReadStore)?;
+    match base {
+        Some(base) => {
+            let base = read_file(rt, alloc, base, Fault::ReadStore)?;
+            audit_texts_over(alloc, &log, &store, &base)
+        }
+        None => audit_texts(alloc, &log, &store),
+    }
 }

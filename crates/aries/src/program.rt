@@ -1,9 +1,9 @@
 //! The program: from its words to its exit status.
 
 use crate::files::{Paths, audit_files, recover_files};
-use crate::{Report, report_text};
 use command::{Job, Refusal, command_of};
 use page::Fault;
+use recovery::{Report, report_text};
 use std::alloc::Global;
 use std::io::{self, Write};
 use std::rt::Files;
@@ -69,10 +69,16 @@ fn run_job<R: Files + Threads + Sync, O: Write, E: Write>(
                 Err(fault) => refuse(fault, err),
             }
         }
-        Job::Audit { log, store } => match audit_files(rt, alloc, log.as_str(), store.as_str()) {
-            Ok(()) => status_of(writeln!(out, "lawful")),
-            Err(fault) => refuse(fault, err),
-        },
+        Job::Audit { log, store, base } => {
+            let base = match base {
+                Some(base) => Some(base.as_str()),
+                None => None,
+            };
+            match audit_files(rt, alloc, log.as_str(), store.as_str(), base) {
+                Ok(()) => status_of(writeln!(out, "lawful")),
+                Err(fault) => refuse(fault, err),
+            }
+        }
     }
 }
 

@@ -1,0 +1,81 @@
+-- A recovery of bytes: what was read, what is written, and why it is refused.
+use Rattle.std.proofs.Common.{ℕ, ◌≡◌, ◌+◌, ◌-◌, ◌≤◌, List, [], ◌∷◌, ◌++◌, length, take, Ok, Err, refl, sym, subst, ap, ap₂, ◌∙◌, arith, inl, inr, append_assoc, append-nil, ◌%◌}
+use Rattle.std.proofs.lemmas.List.{take_at, length-append}
+use Rattle.std.proofs.lemmas.List.FromFn.{length-map-range_with_len}
+use Rattle.page.specs.Store.{StoreContent}
+use Rattle.page.specs.declared.fault.Fault.{Fault}
+use Rattle.page.specs.declared.fault.Fault.TheVariants.{NoResource, BadWorkers, BadParting}
+use Rattle.wal.proofs.Histories.{size_of_log}
+use Rattle.wal.specs.Records.{LogRecord, LogContent, last_lsn, history, ◌⧺◌}
+use Rattle.wal.specs.Frames.{header, Gives}
+use Rattle.wal.specs.Reads.{Reads, spellings, log_text}
+use Rattle.wal.specs.Spelling.{frame}
+use Rattle.wal.specs.Meaning.{BasePages}
+use Rattle.wal.specs.Store.{Lawful}
+use Rattle.wal.proofs.CutBytes.{spellings-append}
+use Rattle.redo.specs.Parting.{PartingContent, by_number}
+use Rattle.restart.specs.declared.options.Options.{Options}
+use Rattle.restart.specs.Restart.{AreSettings, InputFault, RestartFault}
+use Rattle.recovery.specs.Recovery.{Are, AreLawful, Cause}
+use Rattle.restart.specs.Options.{AreInRange, OptionsFault}
+use Rattle.restart.proofs.Causes.{settings_hold}
+
+-- OPTIONS
+pub options_cause : (log store : List ℕ) (options : Options) (e : Fault) → OptionsFault options e → Cause log store options e
+options_cause log store options BadWorkers h = h
+options_cause log store options BadParting h = h
+options_cause log store options e h = absurd h
+
+-- WHAT WAS READ
+-- the log without its torn tail
+pub kept_text : (bytes : List ℕ) (read : LogContent) (torn : ℕ) → Reads bytes read torn → take (length bytes - torn) bytes ≡ log_text read
+kept_text bytes read torn reads =
+    let len : length bytes ≡ length (log_text read) + torn = ap length reads.text ∙ omega (arith, length-append (log_text read) reads.tail, reads.torn_count) in
+    let front : length bytes - torn ≡ length (log_text read) = omega (arith, len) in
+    ap₂ (λ n (b : List ℕ). take n b) front reads.text ∙ take_at (log_text read) reads.tail (length (log_text read)) refl
+
+pub torn_within : (bytes : List ℕ) (read : LogContent) (torn : ℕ) → Reads bytes read torn → torn ≤ length bytes
+torn_within bytes read torn reads = omega (arith, ap length reads.text, length-append (log_text read) reads.tail, reads.torn_count)
+
+-- what was read of lawful bytes is lawful
+pub is_lawful : {base : BasePages} {log store : List ℕ} (bytes : AreLawful base log store) (read : LogContent) (before : StoreContent) → read ≡ bytes.are.read → before ≡ bytes.are.before → Lawful base read before
+is_lawful {base} bytes read before e f = subst (λ l. Lawful base l before) (sym e) (subst (Lawful base bytes.are.read) (sym f) bytes.lawful)
+
+-- what stands there is read, unless memory is refused
+pub read_alone : {X Y : Type 0} (view : X → Y) (e : Fault) (y : Y) → Gives view (Err e) (Ok y) → e ≡ NoResource
+read_alone view NoResource y gives = refl
+read_alone view e y gives = absurd (cc)
+
+pub read_same : {X : Type 0} (x y : X) → Gives (λ (z : X). z) (Ok x) (Ok y) → x ≡ y
+read_same x y gives = cc
+
+-- WHAT IS WRITTEN
+-- one frame more
+pub spellings_push : (out new : List ℕ) (lsn next : ℕ) (xs : List LogRecord) (x : LogRecord) → next ≡ lsn + length xs → out ≡ spellings lsn xs → new ≡ out ++ frame x next → new ≡ spellings lsn (xs ++ x ∷ [])
+spellings_push out new lsn next xs x at before after =
+    after ∙ ap₂ (λ (o : List ℕ) n. o ++ frame x n) before at
+    ∙ sym (spellings-append lsn xs (x ∷ []) ∙ ap (λ (s : List ℕ). spellings lsn xs ++ s) (append-nil (frame x (lsn + length xs))))
+
+-- the text of a log, and behind it the frames of more records
+pub text_extended : (log : LogContent) (more : List LogRecord) (kept frames : List ℕ) (lsn : ℕ) → kept ≡ log_text log → lsn ≡ last_lsn (history log) + 1 → frames ≡ spellings lsn more → kept ++ frames ≡ log_text (log ⧺ more)
+text_extended log more kept frames lsn front at behind =
+    ap₂ (λ (k : List ℕ) (f : List ℕ). k ++ f) front (behind ∙ ap (λ n. spellings n more) (at ∙ omega (arith, size_of_log log)))
+    ∙ append_assoc header (spellings 1 log.records) (spellings (1 + length log.records) more)
+    ∙ ap (λ (s : List ℕ). header ++ s) (sym (spellings-append 1 log.records more))
+
+-- the pages of a parting by number
+pub dealt_by_number : (pages parts : ℕ) (part_of : List ℕ) → part_of ≡ by_number pages parts → length part_of ≡ pages
+dealt_by_number pages parts part_of is = ap length is ∙ length-map-range_with_len (λ page. page % parts) 0 pages
+
+-- WHY IT IS REFUSED
+-- a refusal of the restart is one of the recovery
+pub restart_cause : (log store : List ℕ) (options : Options) (parting : PartingContent) (e : Fault) → AreInRange options → (are : Are log store) → AreSettings (length are.before.pages) parting options.workers
+    → RestartFault are.read are.before parting options.workers e → Cause log store options e
+restart_cause log store options parting e range are fit (inl h) = absurd (settings_hold (length are.before.pages) parting options.workers e fit h)
+restart_cause log store options parting e range are fit (inr h) = by_input e h.1
+  where
+    by_input : (e : Fault) → InputFault are.read are.before e → Cause log store options e
+    by_input NoResource h = tt
+    by_input BadWorkers h = absurd h.1.holds
+    by_input BadParting h = absurd h.1.holds
+    by_input e h = (range, inr (inr (are, h)))

@@ -1,0 +1,124 @@
+-- A recovery over devices: what was read, what is out, and why it is refused.
+use Rattle.std.proofs.Common.{ℕ, ◌≡◌, ◌+◌, List, ◌++◌, length, take, Option, Some, None, sym, subst, ap, ◌∙◌, arith, inl, inr, length-append}
+use Rattle.std.proofs.Math.Seq.{take-append-add}
+use Rattle.std.proofs.KnownBytes.{Appends-trans, Keeps-refl}
+use Rattle.std.specs.Io.KnownBytes.{Appends}
+use Rattle.page.specs.declared.fault.Fault.{Fault}
+use Rattle.page.specs.declared.fault.Fault.TheVariants.{NoResource, ReadLog, ReadStore, WriteLog, WriteStore, BadWorkers, BadParting}
+use Rattle.page.specs.File.{SpellsStore, store_text}
+use Rattle.wal.specs.Reads.{Reads, log_text}
+use Rattle.wal.specs.Meaning.{BasePages}
+use Rattle.wal.specs.Theorems.{GoesOn}
+use Rattle.wal.proofs.CutBytes.{cuts_settle}
+use Rattle.device.specs.Whole.{TookBeginning}
+use Rattle.restart.specs.declared.options.Options.{Options}
+use Rattle.recovery.specs.Text.{ReportContent}
+use Rattle.recovery.specs.Recovery.{Recovers, AreLawful, AreCut, Cause}
+use Rattle.recovery.specs.Devices.{Gave, AreRead, Makes, Leaves, IsOut, DeviceCause, Delivers, Completes, IsResourceOrDevice}
+use Rattle.std.proofs.lemmas.Option.{same_Some}
+
+-- where a source tells its bytes, they are what was read
+pub told : (left : Option (List ℕ)) (bytes known : List ℕ) → Gave left bytes → left ≡ Some known → bytes ≡ known
+told None bytes known gave e = absurd (cc)
+told (Some xs) bytes known gave e = gave ∙ same_Some _ _ e
+
+-- what was read, the log as it is lent
+pub lent_read : (log_left store_left : Option (List ℕ)) (log lent_log store : List ℕ) → AreRead log_left store_left log store → lent_log ≡ log → AreRead log_left store_left lent_log store
+lent_read log_left store_left log lent_log store read e = record { log_read = subst (Gave log_left) (sym e) read.log_read; store_read = read.store_read }
+
+-- what is made of it, the log as it is lent
+abbrev pub lent_makes : {log_left store_left : Option (List ℕ)} (log lent_log store new_log new_store : List ℕ) (report : ReportContent) → AreRead log_left store_left log store → lent_log ≡ log
+    → Recovers lent_log store new_log new_store report → Makes log_left store_left
+lent_makes {log_left} {store_left} log lent_log store new_log new_store report read e recovers = record {
+  log = lent_log;
+  store = store;
+  new_log = new_log;
+  new_store = new_store;
+  report = report;
+  are_read = lent_read log_left store_left log lent_log store read e;
+  recovers = recovers;
+}
+
+-- and where the sources tell lawful bytes, it is lawful
+abbrev pub lent_lawful : {base : BasePages} {log_left store_left : Option (List ℕ)} (log lent_log store log_text store_text : List ℕ) → AreRead log_left store_left log store → lent_log ≡ log
+    → log_left ≡ Some log_text → store_left ≡ Some store_text → AreLawful base log_text store_text → AreLawful base lent_log store
+lent_lawful {base} {log_left} {store_left} log lent_log store log_text store_text read e tells_log tells_store bytes = record {
+  are = record {
+    read = bytes.are.read;
+    torn = bytes.are.torn;
+    before = bytes.are.before;
+    reads = subst (λ l. Reads l bytes.are.read bytes.are.torn) (sym (e ∙ told log_left log log_text read.log_read tells_log)) bytes.are.reads;
+    spells = subst (λ s. SpellsStore s bytes.are.before) (sym (told store_left store store_text read.store_read tells_store)) bytes.are.spells;
+  };
+  lawful = bytes.lawful;
+}
+
+-- a refusal of the texts is one over the devices
+pub device_cause : (log_left store_left : Option (List ℕ)) (options : Options) (log store : List ℕ) (e : Fault) → AreRead log_left store_left log store → Cause log store options e → DeviceCause log_left store_left options e
+device_cause log_left store_left options log store NoResource read h = tt
+device_cause log_left store_left options log store ReadLog read h = tt
+device_cause log_left store_left options log store ReadStore read h = tt
+device_cause log_left store_left options log store WriteLog read h = tt
+device_cause log_left store_left options log store WriteStore read h = tt
+device_cause log_left store_left options log store BadWorkers read h = h
+device_cause log_left store_left options log store BadParting read h = h
+device_cause log_left store_left options log store e read h = (log, store, read, h)
+
+-- and none of a sink, so nothing is out
+never_sink : (log store : List ℕ) (options : Options) → (Cause log store options WriteLog → ⊥) × (Cause log store options WriteStore → ⊥)
+never_sink log store options = (
+  λ h.
+      elim h.1 [
+        | inl i ↦ i.1.fault
+        | inr i ↦ elim i [ inl j ↦ j.3 | inr j ↦ j.1.1.holds ]
+      ],
+  λ h.
+      elim h.1 [
+        | inl i ↦ i.1.fault
+        | inr i ↦ elim i [ inl j ↦ j.3 | inr j ↦ j.1.1.holds ]
+      ],
+)
+
+pub nothing_out : (log_left store_left log_taken store_taken : Option (List ℕ)) (log store : List ℕ) (options : Options) (e : Fault) → Cause log store options e
+    → IsOut log_left store_left log_taken log_taken store_taken store_taken e
+nothing_out log_left store_left log_taken store_taken log store options WriteLog h = absurd ((never_sink log store options).0 h)
+nothing_out log_left store_left log_taken store_taken log store options WriteStore h = absurd ((never_sink log store options).1 h)
+nothing_out log_left store_left log_taken store_taken log store options e h = (Keeps-refl log_taken, Keeps-refl store_taken)
+
+pub is_resource : (e : Fault) → e ≡ NoResource → IsResourceOrDevice e
+is_resource e alone = subst IsResourceOrDevice (sym alone) tt
+
+-- what a fault of a sink leaves is out
+pub left_out : (log_left store_left log_before log_after store_before store_after : Option (List ℕ)) (made : Makes log_left store_left) (e : Fault)
+    → Leaves made.new_log made.new_store log_before log_after store_before store_after e → IsOut log_left store_left log_before log_after store_before store_after e
+left_out log_left store_left log_before log_after store_before store_after made WriteLog h = (made, h)
+left_out log_left store_left log_before log_after store_before store_after made WriteStore h = (made, h)
+left_out log_left store_left log_before log_after store_before store_after made e h = absurd h
+
+-- A LOG IN TWO PIECES
+-- the first piece with a beginning of the second is a beginning of both
+pub behind_front : (before between after : Option (List ℕ)) (front back : List ℕ) → Appends before between front → TookBeginning between after back → TookBeginning before after (front ++ back)
+behind_front before between after front back out (count, within, taken) =
+    (length front + count, omega (arith, within, length-append front back), subst (Appends before after) (sym (take-append-add front back count)) (Appends-trans before between after front (take count back) out taken))
+
+-- AFTER AN INTERRUPTION
+module _ {base : BasePages} {log store : List ℕ} (bytes : AreCut base log store) where
+  pub goes_on : GoesOn base bytes.first.are.read bytes.first.are.before bytes.cut.whole bytes.left
+  goes_on =
+      cuts_settle base bytes.first.are.read bytes.first.are.before bytes.first_log bytes.first.are.torn log bytes.left
+      bytes.first.are.reads bytes.first.are.spells.fits.numbered bytes.spells.fits.numbered bytes.first.lawful bytes.cut
+
+  -- what an interrupted restart leaves is lawful
+  abbrev pub cut_lawful : AreLawful base log store
+  cut_lawful = record {
+    are = record { read = bytes.cut.whole; torn = bytes.cut.torn; before = bytes.left; reads = bytes.cut.reads; spells = bytes.spells };
+    lawful = goes_on.lawful;
+  }
+
+  -- and what a restart on it puts out is what the first would have
+  pub completed : (log_before log_after store_before store_after : Option (List ℕ)) (report : ReportContent) → Delivers base bytes.cut.whole bytes.left log_before log_after store_before store_after report
+      → Completes base bytes.first.are.read bytes.first.are.before log_before log_after store_before store_after
+  completed log_before log_after store_before store_after report out = record {
+    log_out = subst (Appends log_before log_after) (out.recovered.log_is ∙ ap log_text goes_on.same_log) out.log_out;
+    store_out = subst (Appends store_before store_after) (out.recovered.store_is ∙ ap store_text goes_on.same_store) out.store_out;
+  }

@@ -1,0 +1,5 @@
+pub mod Bytes
+pub mod Delivered
+pub mod Resuming
+pub mod OneAnswer
+pub mod OneTextCause

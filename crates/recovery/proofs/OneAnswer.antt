@@ -1,0 +1,29 @@
+-- Two recoveries of the same bytes are the same: both read one log and one store, which have one outcome.
+use Rattle.std.proofs.Common.{◌≡◌, refl, List, length, sym, ap, ap₂, ◌∙◌, subst}
+use Rattle.page.specs.Store.{StoreContent}
+use Rattle.page.specs.File.{store_text}
+use Rattle.page.specs.Laws.{OneStoreSpelling}
+use Rattle.wal.specs.Reads.{OneReading, log_text}
+use Rattle.wal.specs.Records.{LogRecord, LogContent, ◌⧺◌}
+use Rattle.restart.specs.Restart.{Restarts}
+use Rattle.recovery.specs.Recovery.{report_of}
+use Rattle.restart.specs.OneAnswer.{OneOutcome}
+use Rattle.recovery.specs.OneAnswer.{OneRecovery}
+
+pub one_recovery : OneReading → OneStoreSpelling → OneOutcome → OneRecovery
+one_recovery reading spelling outcome log store new_log other_log new_store other_store report other a b =
+    let read = reading log a.are.read b.are.read a.are.torn b.are.torn a.are.reads b.are.reads in
+    let before : a.are.before ≡ b.are.before = spelling store a.are.before b.are.before a.are.spells b.are.spells in
+    let restarts = subst (λ rs. Restarts rs a.are.before b.outcome) (sym read.0) (subst (λ s. Restarts b.are.read s b.outcome) (sym before) b.restarts) in
+    let same = outcome a.are.read a.are.before a.outcome b.outcome a.restarts restarts in
+    let x = a.outcome in
+    let y = b.outcome in
+    let records : length a.are.read.records ≡ length b.are.read.records = ap (λ (l : LogContent). length l.records) read.0 in
+    let pages : length x.store.pages ≡ length y.store.pages = ap (λ (s : StoreContent). length s.pages) same.store in
+    let told : report_of a.are.read a.are.torn x ≡ report_of b.are.read b.are.torn y =
+    rw (records, read.1, same.redo_from, same.redone, same.losers, same.compensated, same.ended, pages, same.in_doubt) refl in
+    record {
+      log = a.log_is ∙ (ap₂ (λ (l : LogContent) (more : List LogRecord). log_text (l ⧺ more)) read.0 same.appended ∙ sym b.log_is);
+      store = a.store_is ∙ (ap store_text same.store ∙ sym b.store_is);
+      told = a.report_is ∙ (told ∙ sym b.report_is);
+    }

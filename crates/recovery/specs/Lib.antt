@@ -1,0 +1,5 @@
+pub mod Text
+pub mod Recovery
+pub mod Audit
+pub mod Devices
+pub mod OneAnswer

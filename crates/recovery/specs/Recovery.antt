@@ -1,0 +1,96 @@
+-- What a recovery makes of the bytes of a log and a store, and why it is refused.
+use Rattle.std.specs.Prelude.{◌≡◌, ℕ, ◌⊎◌, List, ◌++◌, length}
+use Rattle.page.specs.declared.fault.Fault.{Fault}
+use Rattle.page.specs.declared.fault.Fault.TheVariants.{NoResource, BadWorkers, BadParting}
+use Rattle.page.specs.Store.{StoreContent}
+use Rattle.page.specs.File.{store_text, SpellsStore, StoreFault}
+use Rattle.wal.specs.Records.{LogContent, history, ◌⧺◌}
+use Rattle.wal.specs.Meaning.{BasePages, in_doubt}
+use Rattle.wal.specs.Tail.{in_doubt_of, losers_of, tail_of, with_tail}
+use Rattle.wal.specs.Reads.{Reads, log_text, Cause as LogFault}
+use Rattle.wal.specs.Store.{Lawful, Cut, store_out}
+use Rattle.restart.specs.declared.outcome.Outcome.{Outcome}
+use Rattle.restart.specs.Restart.{appended_by, clrs_in, Restarts, IsSettled, Redoes, InputFault}
+use Rattle.restart.specs.declared.options.Options.{Options}
+use Rattle.recovery.specs.declared.recovery.Recovery.{Recovery}
+use Rattle.recovery.specs.Text.{ReportContent}
+use Rattle.restart.specs.Options.{AreInRange, OptionsFault}
+
+-- what the bytes of a log and of a store are
+pub record Are (log store : List ℕ) : Type 0 where
+  pub read : LogContent
+  pub torn : ℕ
+  pub before : StoreContent
+  pub reads : Reads log read torn
+  pub spells : SpellsStore store before
+
+-- THE ANSWER
+-- what stays of the log, and behind it the frames of what is appended
+abbrev pub new_log : Recovery → List ℕ
+new_log x = x.kept.now ++ x.frames.items
+
+-- the numbers of a restart
+abbrev pub report_of : LogContent → (torn : ℕ) → Outcome → ReportContent
+report_of read torn x = record {
+  records = length read.records;
+  torn = torn;
+  redo_from = x.redo_from;
+  redone = x.redone;
+  losers = x.losers;
+  compensated = x.compensated;
+  ended = x.ended;
+  pages = length x.store.pages;
+  in_doubt = x.in_doubt.items;
+}
+
+-- EVERY INPUT. The new log is the log without its torn tail and what a restart appends, and is read as such; the new store is
+-- that of the restart.
+pub record Recovers (log store new_log new_store : List ℕ) (report : ReportContent) : Type 0 where
+  pub are : Are log store
+  pub outcome : Outcome
+  pub restarts : Restarts are.read are.before outcome
+  pub log_is : new_log ≡ log_text (are.read ⧺ appended_by outcome)
+  pub reads : Reads new_log (are.read ⧺ appended_by outcome) 0
+  pub store_is : new_store ≡ store_text outcome.store
+  pub report_is : report ≡ report_of are.read are.torn outcome
+
+-- LAWFUL INPUT
+-- the bytes of a log and its store that are lawful over these base pages
+pub record AreLawful (base : BasePages) (log store : List ℕ) : Type 0 where
+  pub are : Are log store
+  pub lawful : Lawful base are.read are.before
+
+-- the new log is the log and its tail, the new store what the winners leave; those in doubt are told, and stay so; a restart on
+-- both appends nothing and leaves the store as it is
+pub record Recovered (base : BasePages) (read : LogContent) (before : StoreContent) (new_log new_store : List ℕ) (report : ReportContent) : Type 0 where
+  pub log_is : new_log ≡ log_text (with_tail read)
+  pub reads : Reads new_log (with_tail read) 0
+  pub store_is : new_store ≡ store_text (store_out base read before)
+  pub settled : IsSettled base (with_tail read) (store_out base read before)
+  pub redoes : Redoes read before report.redo_from report.redone
+  pub losers_are : report.losers ≡ length (losers_of (history read))
+  pub in_doubt_are : report.in_doubt ≡ in_doubt_of (history read)
+  pub still_in_doubt : (t : ℕ) → in_doubt t (history (with_tail read)) ≡ in_doubt t (history read)
+  pub ended_are : report.ended ≡ length (losers_of (history read))
+  pub compensated_are : report.compensated ≡ clrs_in (tail_of read)
+
+-- AFTER AN INTERRUPTION
+-- bytes that a restart on the bytes of a lawful log and its store may have left, if it was interrupted
+pub record AreCut (base : BasePages) (log store : List ℕ) : Type 0 where
+  pub first_log : List ℕ
+  pub first_store : List ℕ
+  pub first : AreLawful base first_log first_store
+  pub left : StoreContent
+  pub spells : SpellsStore store left
+  pub cut : Cut base first.are.read first.are.before log left
+
+-- REFUSALS
+-- why bytes are refused, in the order in which causes are looked for, memory aside
+abbrev pub Cause : List ℕ → List ℕ → Options → Fault → Type 0
+Cause log store options NoResource = Unit {0}
+Cause log store options BadWorkers = OptionsFault options BadWorkers
+Cause log store options BadParting = OptionsFault options BadParting
+Cause log store options e =
+    AreInRange options
+    × (LogFault log e ⊎ ((read : LogContent) × (torn : ℕ) × Reads log read torn × StoreFault store e)
+    ⊎ ((are : Are log store) × InputFault are.read are.before e))

@@ -1,0 +1,184 @@
+//! Recovery over devices: the log and the store are read to their ends, the new ones made in memory,
+//! and then written, the log first.
+
+ghost use Rattle.std.specs.Prelude.{◌≡◌, ◌≢◌, ◌⊎◌, ℕ, List, ◌++◌, Some, IfOk, IfErr, IfSome, OnOk, OnErr, Err, MatchResult};
+ghost use Rattle.std.specs.Io.KnownBytes.{IsAtEnd};
+ghost use Rattle.page.specs.declared.fault.Fault.{Fault};
+ghost use Rattle.page.specs.declared.fault.Fault.TheVariants.{NoResource, ReadLog, ReadStore, WriteLog, WriteStore};
+ghost use Rattle.device.specs.Failures.{Counts};
+ghost use Rattle.device.specs.Whole.{TookBeginning, Flushes};
+ghost use Rattle.wal.specs.Meaning.{BasePages};
+ghost use Rattle.recovery.specs.Recovery.{new_log, AreLawful, AreCut};
+ghost use Rattle.restart.specs.Options.{AreInRange, OptionsFault};
+ghost use Rattle.recovery.specs.Devices.{Fails, Gave, IsFaultOf, AreRead, Makes, Writes, AreOut, Leaves, IsOut, IsReadFault, DeviceCause, Delivers, Completes, LeavesCut, IsResourceOrDevice};
+
+use crate::Report;
+use crate::recovery::{Recovery, recovery_of};
+use device::{Failed, ReadFault, Sink, Source, read_all, write_all};
+use page::Fault;
+use redo::Gate;
+use restart::{Options, check_options};
+use std::alloc::Global;
+use std::thread::Threads;
+
+/// All bytes that a source has left. Where it fails the fault is `failed`.
+pub fn read_source<S: Source>(
+    alloc: Global,
+    source: &mut S,
+    failed: Fault,
+) -> Result<Vec<u8>, Fault>
+    requires { failed ≢ NoResource }
+    ensures gave { IfOk result (λ bytes. Gave (S.left source.old) bytes.items) }
+    ensures end { OnOk result (IsAtEnd (S.left source.new)) }
+    ensures fault { IfErr result (IsFaultOf failed) }
+    ensures cause { Fails failed result (S.failures source.old) (S.failures source.new) }
+{
+    match read_all(alloc, source) {
+        Ok(bytes) => Ok(bytes),
+        Err(ReadFault::Failed) => Err(failed),
+        Err(ReadFault::NoMemory) => Err(Fault::NoResource),
+    }
+}
+
+/// All bytes that two sources have left, those of the log read first.
+fn read_both<L: Source, S: Source>(
+    alloc: Global,
+    log: &mut L,
+    store: &mut S,
+) -> Result<(Vec<u8>, Vec<u8>), Fault>
+    ensures read { IfOk result (λ x. AreRead (L.left log.old) (S.left store.old) x.0.items x.1.items) }
+    ensures ends { OnOk result (IsAtEnd (L.left log.new) × IsAtEnd (S.left store.new)) }
+    ensures log_first { (store.new ≡ store.old) ⊎ IsAtEnd (L.left log.new) }
+    ensures log_failed { result ≡ Err ReadLog → store.new ≡ store.old }
+    ensures fault { IfErr result IsReadFault }
+    ensures log_source { Fails ReadLog result (L.failures log.old) (L.failures log.new) }
+    ensures store_source { Fails ReadStore result (S.failures store.old) (S.failures store.new) }
+{
+    let log_text = read_source(alloc, log, Fault::ReadLog)?;
+    let store_text = read_source(alloc, store, Fault::ReadStore)?;
+    Ok((log_text, store_text))
+}
+
+/// Writes bytes to a sink and flushes it.
+fn write_whole<S: Sink>(sink: &mut S, bytes: &[u8]) -> Result<(), Failed>
+    ensures all { OnOk result (AreOut bytes.now (S.taken sink.old) (S.taken sink.new) (S.flushed sink.old) (S.flushed sink.new)) }
+    ensures beginning { OnErr result (TookBeginning (S.taken sink.old) (S.taken sink.new) bytes.now) }
+    ensures cause { Counts (S.failures sink.old) (S.failures sink.new) result }
+{
+    write_all(sink, bytes)?;
+    sink.flush()
+}
+
+/// Writes a log in two pieces and flushes it: what is kept of the log read, and behind it the frames
+/// appended.
+fn write_log<S: Sink>(sink: &mut S, kept: &[u8], frames: &[u8]) -> Result<(), Failed>
+    ensures all { OnOk result (AreOut (kept.now ++ frames.now) (S.taken sink.old) (S.taken sink.new) (S.flushed sink.old) (S.flushed sink.new)) }
+    ensures beginning { OnErr result (TookBeginning (S.taken sink.old) (S.taken sink.new) (kept.now ++ frames.now)) }
+    ensures cause { Counts (S.failures sink.old) (S.failures sink.new) result }
+{
+    write_all(sink, kept)?;
+    write_whole(sink, frames)
+}
+
+/// Writes the new log, and then the new store, each whole and flushed before the next thing is done.
+fn write_both<L: Sink, S: Sink>(
+    log: &mut L,
+    store: &mut S,
+    recovery: &Recovery,
+) -> Result<(), Fault>
+    ensures log_out { OnOk result (AreOut (new_log recovery.now) (L.taken log.old) (L.taken log.new) (L.flushed log.old) (L.flushed log.new)) }
+    ensures store_out { OnOk result (AreOut recovery.now.store.items (S.taken store.old) (S.taken store.new) (S.flushed store.old) (S.flushed store.new)) }
+    ensures log_first { (store.new ≡ store.old) ⊎ AreOut (new_log recovery.now) (L.taken log.old) (L.taken log.new) (L.flushed log.old) (L.flushed log.new) }
+    ensures fault { IfErr result (Leaves (new_log recovery.now) recovery.now.store.items (L.taken log.old) (L.taken log.new) (S.taken store.old) (S.taken store.new)) }
+    ensures log_sink { Fails WriteLog result (L.failures log.old) (L.failures log.new) }
+    ensures store_sink { Fails WriteStore result (S.failures store.old) (S.failures store.new) }
+{
+    match write_log(log, recovery.kept, &recovery.frames) {
+        Ok(()) => match write_whole(store, &recovery.store) {
+            Ok(()) => Ok(()),
+            Err(Failed) => Err(Fault::WriteStore),
+        },
+        Err(Failed) => Err(Fault::WriteLog),
+    }
+}
+
+/// Recovers the store in a device by the log in another: both are read to their ends, what is to be
+/// written is made in memory by [`restart`](restart::restart) on what they spell, the pages parted by
+/// number; and then the new log is written and flushed, and only then the new store.
+///
+/// The new log is the log read without its torn tail, and behind it the records that the restart
+/// appends. What is written does not depend on the options or the gate. On a lawful log and its store
+/// the new log is the log and its tail, each page of the new store has what the committed transactions'
+/// updates and compensations, in LSN order, make of an empty page, and a recovery of these bytes writes
+/// them again. On what an interrupted recovery leaves, a beginning of the new log beside pages of which
+/// some are new, it writes what the first would have written. Answers the report.
+///
+/// Refuses, in this order: [`Fault::BadWorkers`] and [`Fault::BadParting`] for options out of their
+/// ranges; [`Fault::ReadLog`] and [`Fault::ReadStore`] where a source failed; the faults of
+/// [`wal::read_log`] for the log, of [`page::decode_store`] for the store, and of
+/// [`restart`](restart::restart); [`Fault::WriteLog`] and [`Fault::WriteStore`] where a sink failed, at a
+/// write or its flush. [`Fault::NoResource`], where memory or a thread was refused, may come in place of
+/// any of these up to the first write.
+///
+/// After `WriteLog` a beginning of the new log is out and nothing of the store; after `WriteStore` the
+/// new log, flushed, and a beginning of the new store; after any other fault nothing. Of a lawful log
+/// and its store the log that is out can be recovered with the old store, to the same end, where it
+/// begins with all that was read but the torn tail.
+pub fn recover<LR: Source, SR: Source, LW: Sink, SW: Sink, G: Gate, R: Threads + Sync>(
+    rt: &R,
+    alloc: Global,
+    log: &mut LR,
+    store: &mut SR,
+    out_log: &mut LW,
+    out_store: &mut SW,
+    options: &Options,
+    gate: &G,
+) -> Result<Report, Fault>
+    // On the bytes of a log and its store that are lawful over any base pages: both are out, and a fault is want of memory or a device's.
+    ensures lawful { (base : BasePages) (log_text store_text : List ℕ) → LR.left log.old ≡ Some log_text → SR.left store.old ≡ Some store_text → AreInRange options.now
+        → (bytes : AreLawful base log_text store_text)
+        → MatchResult result (Delivers base bytes.are.read bytes.are.before (LW.taken out_log.old) (LW.taken out_log.new) (SW.taken out_store.old) (SW.taken out_store.new)) IsResourceOrDevice }
+
+    // On what a restart of them may leave that was interrupted: what it would have written is out.
+    ensures interrupted { (base : BasePages) (log_text store_text : List ℕ) → LR.left log.old ≡ Some log_text → SR.left store.old ≡ Some store_text → AreInRange options.now
+        → (bytes : AreCut base log_text store_text)
+        → MatchResult result (λ _. Completes base bytes.first.are.read bytes.first.are.before (LW.taken out_log.old) (LW.taken out_log.new) (SW.taken out_store.old) (SW.taken out_store.new)) IsResourceOrDevice }
+
+    // After a fault of a sink what is out of the new log, beside the store that was read, is such bytes.
+    ensures resumable { (base : BasePages) (log_text store_text : List ℕ) → LR.left log.old ≡ Some log_text → SR.left store.old ≡ Some store_text → AreInRange options.now
+        → (bytes : AreLawful base log_text store_text)
+        → IfErr result (LeavesCut base bytes.are.read bytes.are.before store_text (LW.taken out_log.old) (LW.taken out_log.new)) }
+
+    // Wherever it answers.
+    ensures answer { IfOk result (Writes (LR.left log.old) (SR.left store.old) (LW.taken out_log.old) (LW.taken out_log.new) (SW.taken out_store.old) (SW.taken out_store.new)) }
+    ensures options { (e : Fault) → OptionsFault options.now e → result ≡ Err e }
+
+    // A refusal has its cause, and what is out after it.
+    ensures cause { IfErr result (DeviceCause (LR.left log.old) (SR.left store.old) options.now) }
+    ensures out { IfErr result (IsOut (LR.left log.old) (SR.left store.old) (LW.taken out_log.old) (LW.taken out_log.new) (SW.taken out_store.old) (SW.taken out_store.new)) }
+
+    // An answer means that both are flushed.
+    ensures log_flushed { OnOk result (Flushes (LW.flushed out_log.old) (LW.flushed out_log.new) (LW.taken out_log.new)) }
+    ensures store_flushed { OnOk result (Flushes (SW.flushed out_store.old) (SW.flushed out_store.new) (SW.taken out_store.new)) }
+
+    // The log is at its end before the store's source is touched, both are before a sink is, and the new
+    // log is out and flushed before the store's sink is.
+    ensures log_read_first { (store.new ≡ store.old) ⊎ IsAtEnd (LR.left log.new) }
+    ensures log_unread { result ≡ Err ReadLog → store.new ≡ store.old }
+    ensures read_first { ((out_log.new ≡ out_log.old) × (out_store.new ≡ out_store.old)) ⊎ (IsAtEnd (LR.left log.new) × IsAtEnd (SR.left store.new)) }
+    ensures log_out_first { (out_store.new ≡ out_store.old)
+        ⊎ ((made : Makes (LR.left log.old) (SR.left store.old))
+        × AreOut made.new_log (LW.taken out_log.old) (LW.taken out_log.new) (LW.flushed out_log.old) (LW.flushed out_log.new)) }
+
+    // A device is blamed where it failed, and nowhere else.
+    ensures log_source { Fails ReadLog result (LR.failures log.old) (LR.failures log.new) }
+    ensures store_source { Fails ReadStore result (SR.failures store.old) (SR.failures store.new) }
+    ensures log_sink { Fails WriteLog result (LW.failures out_log.old) (LW.failures out_log.new) }
+    ensures store_sink { Fails WriteStore result (SW.failures out_store.old) (SW.failures out_store.new) }
+{
+    check_options(options)?;
+    let (log_text, store_text) = read_both(alloc, log, store)?;
+    let recovery = recovery_of(rt, alloc, &log_text, store_text, options, gate)?;
+    write_both(out_log, out_store, &recovery)?;
+    Ok(recovery.report)
+}

@@ -1,0 +1,17 @@
+//! Recovery over devices: from the bytes of a log and a store to a new log, a recovered store and a report;
+//! and the audit of such bytes.
+#![tactic(auto)]
+
+mod devices;
+mod laws;
+mod recovery;
+mod report;
+mod texts;
+
+pub use devices::{read_source, recover};
+pub use laws::{
+    no_fault_of_a_recovery, no_fault_of_lawful_texts, no_fault_of_lawful_texts_over,
+    one_audit_fault, one_audit_fault_over, one_recovery, one_recovery_fault,
+};
+pub use report::{Report, report_text};
+pub use texts::{audit_texts, audit_texts_over};

@@ -1,0 +1,104 @@
+//! Recovery in memory: from the bytes of a log and a store to the bytes of both after it.
+
+ghost use Rattle.std.specs.Prelude.{◌≡◌, ◌<◌, ◌+◌, ◌^◌, length, map, IfOk, IfErr, MatchResult};
+ghost use Rattle.page.specs.declared.fault.Fault.{Fault};
+ghost use Rattle.page.specs.declared.fault.Fault.TheVariants.{NoResource};
+ghost use Rattle.wal.specs.Content.{content};
+ghost use Rattle.wal.specs.Reads.{spellings};
+ghost use Rattle.undo.specs.Undone.{AreSpelled};
+ghost use Rattle.wal.specs.Meaning.{BasePages};
+ghost use Rattle.recovery.specs.Recovery.{report_of, new_log, Recovers, AreLawful, Recovered, Cause};
+ghost use Rattle.restart.specs.Options.{AreInRange};
+
+use crate::Report;
+use page::{Fault, decode_store, encode_store_into};
+use redo::{Gate, Parting};
+use restart::{Options, Outcome, restart_in_place};
+use std::alloc::Global;
+use std::thread::Threads;
+use wal::{Log, Record, read_log, write_frame};
+
+/// The frames of records, the first of which has this LSN.
+fn frames_of(alloc: Global, records: &[Record], first: u64) -> Result<Vec<u8>, Fault>
+    requires spelled { AreSpelled records.now }
+    requires some { 0 < first }
+    requires room { first + length records.now < 2 ^ 64 }
+    ensures frames { IfOk result (λ x. x.items ≡ spellings first (map content records.now)) }
+    ensures err { IfErr result (λ e. e ≡ NoResource) }
+{
+    let mut frames = Vec::new(alloc);
+    let mut lsn = first;
+    for record in records {
+        write_frame(record, lsn, &mut frames)?;
+        lsn += 1;
+    }
+    Ok(frames)
+}
+
+/// The report of a restart.
+fn report_of(log: &Log, torn: usize, outcome: Outcome) -> Report
+    ensures { result ≡ report_of log.now torn outcome }
+{
+    Report {
+        records: log.len(),
+        torn: torn as u64,
+        redo_from: outcome.redo_from,
+        redone: outcome.redone,
+        losers: outcome.losers,
+        compensated: outcome.compensated,
+        ended: outcome.ended,
+        pages: outcome.store.pages.len() as u64,
+        in_doubt: outcome.in_doubt,
+    }
+}
+
+/// What is made of a log and a store before any of it is written.
+#[derive(Drop)]
+pub struct Recovery<'a> {
+    /// The log without its torn tail: the beginning of the new log.
+    pub kept: &'a [u8],
+    /// The frames of the records appended: the rest of the new log.
+    pub frames: Vec<u8>,
+    /// The new store.
+    pub store: Vec<u8>,
+    pub report: Report,
+}
+
+/// Recovers a store by its log, both read: [`restart`](restart::restart) on what their bytes spell, with
+/// the pages parted by number. The new store is made in the room of the bytes read.
+///
+/// Refuses, in this order: the faults of [`wal::read_log`] for the log; those of [`page::decode_store`]
+/// for the store; those of [`restart`](restart::restart). [`Fault::NoResource`], where memory or a thread
+/// was refused, may come in place of any answer.
+pub fn recovery_of<'a, G: Gate, R: Threads + Sync>(
+    rt: &R,
+    alloc: Global,
+    log: &'a [u8],
+    mut store: Vec<u8>,
+    options: &Options,
+    gate: &G,
+) -> Result<Recovery<'a>, Fault>
+    requires { AreInRange options.now }
+
+    // On the bytes of a log and its store that are lawful over any base pages.
+    ensures lawful { (base : BasePages) (bytes : AreLawful base log.now store.items)
+        → MatchResult result (λ x. Recovered base bytes.are.read bytes.are.before (new_log x) x.store.items x.report) (λ e. e ≡ NoResource) }
+
+    // Wherever it answers.
+    ensures answer { IfOk result (λ x. Recovers log.now store.items (new_log x) x.store.items x.report) }
+
+    // A refusal has its cause in the input, memory aside.
+    ensures cause { IfErr result (Cause log.now store.items options.now) }
+{
+    let (records, torn) = read_log(alloc, log)?;
+    let before = decode_store(alloc, &store)?;
+    let parting = Parting::by_number(alloc, before.pages.len() as u32, options.parts)?;
+    let outcome = restart_in_place(rt, alloc, &records, before, &parting, options.workers, gate)?;
+    encode_store_into(&outcome.store, &mut store)?;
+    Ok(Recovery {
+        kept: &log[..log.len() - torn],
+        frames: frames_of(alloc, &outcome.appended, records.next_lsn())?,
+        store,
+        report: report_of(&records, torn, outcome),
+    })
+}
