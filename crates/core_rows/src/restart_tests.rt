@@ -101,29 +101,6 @@ fn listed(alloc: Global, transactions: &[u32]) -> Result<Vec<u32>, Fault> {
     Ok(Vec::from_slice(alloc, transactions)?)
 }
 
-#[test]
-fn rolls_back_losers(rt: HostRuntime) -> Result<(), Fail> {
-    let alloc = rt.alloc();
-    for (row, bytes, master, lsn, numbers) in [
-        (one_loser(alloc)?, 105, 0, 2, (1, 1, 1, 1, 1)),
-        (two_losers(alloc)?, 276, 0, 7, (1, 3, 2, 3, 2)),
-        (several_kinds_of_loser(alloc)?, 277, 0, 8, (1, 3, 3, 1, 3)),
-        (partial_rollback_loser(alloc)?, 253, 0, 6, (1, 4, 1, 2, 1)),
-        (rollback_interrupted(alloc)?, 204, 0, 5, (1, 3, 1, 1, 1)),
-        (checkpoint_loser(alloc)?, 180, 2, 4, (1, 1, 1, 1, 1)),
-    ] {
-        let after = page_with(lsn, None, None);
-        let answer = told_of(&rt, alloc, &row, master, &after)?;
-        assert_eq!(rt;
-            answer,
-            Some((numbers, listed(alloc, &[])?)),
-            "the row of {bytes} bytes"
-        );
-        assert_eq!(rt; row.made.bytes.len(), bytes);
-    }
-    Ok(())
-}
-
 /// What losers did is undone beside those in doubt, which are listed in rising number.
 #[test]
 fn rolls_back_losers_beside_those_in_doubt(rt: HostRuntime) -> Result<(), Fail> {
@@ -216,25 +193,6 @@ fn rolls_back_what_turned_back(rt: HostRuntime) -> Result<(), Fail> {
     Ok(())
 }
 
-#[test]
-fn keeps_a_slot_that_no_record_names(rt: HostRuntime) -> Result<(), Fail> {
-    let alloc = rt.alloc();
-    let text = one_commit(alloc, 0)?;
-    let mut before = Page::empty(0);
-    before.set(5, Value::new(b"q"), 0);
-    let mut after = page_with(1, Some(b'a'), None);
-    after.set(5, Value::new(b"q"), 1);
-    let store = store_of(alloc, 0, &before)?;
-    let answer = restarted(&rt, alloc, &text, &store, GOOD)?;
-    assert_eq!(rt; answer.log.as_slice(), text.bytes.as_slice());
-    assert_eq!(rt;
-        answer.store.as_slice(),
-        store_of(alloc, 0, &after)?.as_slice()
-    );
-    assert_eq!(rt; answer.numbers, (1, 1, 0, 0, 0));
-    Ok(())
-}
-
 /// The fault of a restart on an empty page with this PageLSN.
 fn refused<R: Threads + Sync>(
     rt: &R,
@@ -249,50 +207,6 @@ fn refused<R: Threads + Sync>(
         Ok(store) => restarted(rt, alloc, text, &store, manner).err(),
         Err(fault) => Some(fault),
     }
-}
-
-/// The log of `empty-and-full-values`.
-fn empty_and_full_values(alloc: Global) -> Result<Text, Fault> {
-    let mut text = Text::new(alloc)?;
-    for (slot, after) in [(0, Value::new(b"")), (1, Value::new(&[b'z'; 48]))] {
-        text.put(&Record::Update {
-            tx: 1,
-            prev: slot as u64,
-            page: 0,
-            slot,
-            before: None,
-            after,
-        })?;
-    }
-    text.commit(1, 2)?;
-    Ok(text)
-}
-
-#[test]
-fn refuses_pages_ahead_of_the_log(rt: HostRuntime) -> Result<(), Fail> {
-    let alloc = rt.alloc();
-    let text = empty_and_full_values(alloc)?;
-    assert_eq!(rt; text.bytes.len(), 145);
-    let refusal = refused(&rt, alloc, &text, 0, 9, GOOD);
-    assert_eq!(rt; refusal, Some(Fault::PageAheadOfLog(0)));
-    let text = one_commit(alloc, 0)?;
-    let refusal = refused(&rt, alloc, &text, 0, u64::MAX, GOOD);
-    assert_eq!(rt; refusal, Some(Fault::PageAheadOfLog(0)));
-    Ok(())
-}
-
-#[test]
-fn refuses_what_the_log_and_the_store_spoil(rt: HostRuntime) -> Result<(), Fail> {
-    let alloc = rt.alloc();
-    for (text, master, fault) in [
-        (one_commit(alloc, 0)?, 2, Fault::BadMaster),
-        (one_commit(alloc, 1)?, 0, Fault::NoSuchPage(1)),
-        (clr_points_past_zero(alloc)?, 0, Fault::BrokenChain(2)),
-        (undo_of_missing_page(alloc)?, 2, Fault::NoSuchPage(1)),
-    ] {
-        assert_eq!(rt; refused(&rt, alloc, &text, master, 0, GOOD), Some(fault));
-    }
-    Ok(())
 }
 
 /// Each fault stands before the next ones: what causes these is there too.

@@ -81,66 +81,9 @@ fn undoes_rows(rt: HostRuntime) -> Result<(), Fail> {
     Ok(())
 }
 
-/// One update, and behind it a checkpoint whose transaction table has this entry alone.
-fn with_entry(alloc: Global, entry: (u32, u64, u64)) -> Result<Text, Fault> {
-    let mut text = Text::new(alloc)?;
-    text.first_update(0)?;
-    text.checkpoint(alloc, entry, &[(0, 1)])?;
-    Ok(text)
-}
-
-#[test]
-fn table_names_empty_stranger(rt: HostRuntime) -> Result<(), Fail> {
-    let mut text = with_entry(rt.alloc(), (7, 0, 0))?;
-    let (bytes, image) = undone(rt.alloc(), &text, 2, page_with(1, Some(b'a'), None))?;
-    text.end(7, 0)?;
-    assert_eq!(rt; bytes.as_slice(), text.bytes.as_slice());
-    assert!(rt; image == encode_page(&page_with(1, Some(b'a'), None)));
-    Ok(())
-}
-
 /// The fault of a log on a page.
 fn refused(alloc: Global, text: &Text, master: u64) -> Option<Fault> {
     undone(alloc, text, master, page_with(1, Some(b'a'), None)).err()
-}
-
-#[test]
-fn bad_hops(rt: HostRuntime) -> Result<(), Fail> {
-    // hop-to-itself, hop-past-log, hop-to-largest
-    for prev in [1, 2, u64::MAX] {
-        let mut text = Text::new(rt.alloc())?;
-        text.update(1, prev, 0, None, Some(b'a'))?;
-        assert_eq!(rt;
-            refused(rt.alloc(), &text, 0),
-            Some(Fault::BrokenChain(prev))
-        );
-    }
-    // hop-to-other-transaction
-    let mut text = Text::new(rt.alloc())?;
-    text.update(2, 0, 1, None, Some(b'b'))?;
-    text.update(1, 1, 0, None, Some(b'a'))?;
-    assert_eq!(rt; refused(rt.alloc(), &text, 0), Some(Fault::BrokenChain(1)));
-    // two-bad-hops
-    let mut text = Text::new(rt.alloc())?;
-    text.update(1, 9, 0, None, Some(b'a'))?;
-    text.update(2, 8, 1, None, Some(b'b'))?;
-    assert_eq!(rt; refused(rt.alloc(), &text, 0), Some(Fault::BrokenChain(8)));
-    let text = clr_points_past_zero(rt.alloc())?;
-    assert_eq!(rt; refused(rt.alloc(), &text, 0), Some(Fault::BrokenChain(2)));
-    Ok(())
-}
-
-#[test]
-fn bad_tables(rt: HostRuntime) -> Result<(), Fail> {
-    // table-names-stranger
-    let text = with_entry(rt.alloc(), (7, 1, 1))?;
-    assert_eq!(rt; refused(rt.alloc(), &text, 2), Some(Fault::BrokenChain(1)));
-    // table-hop-to-checkpoint
-    let text = with_entry(rt.alloc(), (1, 1, 3))?;
-    assert_eq!(rt; refused(rt.alloc(), &text, 2), Some(Fault::BrokenChain(3)));
-    let text = undo_of_missing_page(rt.alloc())?;
-    assert_eq!(rt; refused(rt.alloc(), &text, 2), Some(Fault::NoSuchPage(1)));
-    Ok(())
 }
 
 /// Appends an update of transaction `tx` on a page that the tests do not give.

@@ -23,6 +23,16 @@ fn run_audit<R: Files + Print + AllocGlobal + Threads + Sync>(rt: &R, row: &str)
     Ok(())
 }
 
+/// Prints whether the audit of a row over its base store is as the row says.
+fn run_audit_over<R: Files + Print + AllocGlobal + Threads + Sync>(
+    rt: &R,
+    row: &str,
+) -> Result<()> {
+    let verdict = verdict::of_audit_over(rt, row).context(format_args!("audit of {row}"))?;
+    println!(rt; "{row}, audit over its base: {verdict}")?;
+    Ok(())
+}
+
 /// Prints whether a restart of a row is as the row says, over files and over memory.
 fn run_restart<R: Files + Print + AllocGlobal + Threads + Sync>(
     rt: &R,
@@ -79,7 +89,7 @@ fn run_cuts<R: Files + Print + AllocGlobal + Threads + Sync>(
     Ok(())
 }
 
-/// Runs what a line says of a row: the folder, and then `audit`; or `slow`; or `cuts`, the PageLSN of the
+/// Runs what a line says of a row: the folder, and then `audit`; or `audit-over`; or `slow`; or `cuts`, the PageLSN of the
 /// page and the sizes of the shortest and the longest log; or the workers and the parts of a restart.
 fn run_line<R: Files + Print + AllocGlobal + Threads + Sync>(rt: &R, line: &str) -> Result<()> {
     let mut words = line.split_whitespace();
@@ -87,6 +97,9 @@ fn run_line<R: Files + Print + AllocGlobal + Threads + Sync>(rt: &R, line: &str)
     let command = words.next().context("a row without a command")?;
     if command == "audit" {
         return run_audit(rt, row);
+    }
+    if command == "audit-over" {
+        return run_audit_over(rt, row);
     }
     if command == "slow" {
         return run_slow(rt, row);
@@ -118,4 +131,4 @@ mod gate_tests;
 #[cfg(test)]
 mod in_memory;
 #[cfg(test)]
-mod program_tests;
+mod recovery_tests;

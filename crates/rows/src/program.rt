@@ -65,3 +65,16 @@ pub fn remove_new_files<R: Files>(rt: &R) -> Result<()> {
 pub fn audit<R: Files + AllocGlobal + Threads + Sync>(rt: &R, log: &str, store: &str) -> Printed {
     run(rt, &["aries", "audit", "--log", log, "--store", store])
 }
+
+/// Audits a log and a store over a base store.
+pub fn audit_over<R: Files + AllocGlobal + Threads + Sync>(
+    rt: &R,
+    log: &str,
+    store: &str,
+    base: &str,
+) -> Printed {
+    let words = [
+        "aries", "audit", "--log", log, "--store", store, "--base", base,
+    ];
+    run(rt, &words)
+}

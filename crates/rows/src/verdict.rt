@@ -1,6 +1,6 @@
 //! Whether a run of the program does what its row says.
 
-use crate::program::{NEW_LOG, NEW_STORE, Printed, audit, recover, remove_new_files};
+use crate::program::{NEW_LOG, NEW_STORE, Printed, audit, audit_over, recover, remove_new_files};
 use anyhow::{Context, Result};
 use std::rt::Files;
 use std::thread::Threads;
@@ -91,15 +91,34 @@ pub fn of_restart<R: Files + AllocGlobal + Threads + Sync>(
     Ok(verdict)
 }
 
-/// Whether an audit of the row's log and store prints what the row says.
-pub fn of_audit<R: Files + AllocGlobal + Threads + Sync>(rt: &R, row: &str) -> Result<Verdict> {
-    let log = format!(in rt.alloc(); "{row}/log")?;
-    let store = format!(in rt.alloc(); "{row}/store")?;
+/// Whether an audit printed what the row says.
+fn of_audited<R: Files + AllocGlobal>(rt: &R, row: &str, printed: &Printed) -> Result<Verdict> {
     let expected = fs::read(rt, format!(in rt.alloc(); "{row}/audited")?)?;
-    let printed = audit(rt, log.as_str(), store.as_str());
-    Ok(if has_printed(&printed, &expected) {
+    Ok(if has_printed(printed, &expected) {
         Verdict::Same
     } else {
         Verdict::AnotherAnswer
     })
+}
+
+/// Whether an audit of the row's log and store prints what the row says.
+pub fn of_audit<R: Files + AllocGlobal + Threads + Sync>(rt: &R, row: &str) -> Result<Verdict> {
+    let log = format!(in rt.alloc(); "{row}/log")?;
+    let store = format!(in rt.alloc(); "{row}/store")?;
+    of_audited(rt, row, &audit(rt, log.as_str(), store.as_str()))
+}
+
+/// Whether an audit of them over the row's base store does.
+pub fn of_audit_over<R: Files + AllocGlobal + Threads + Sync>(
+    rt: &R,
+    row: &str,
+) -> Result<Verdict> {
+    let log = format!(in rt.alloc(); "{row}/log")?;
+    let store = format!(in rt.alloc(); "{row}/store")?;
+    let base = format!(in rt.alloc(); "{row}/base")?;
+    of_audited(
+        rt,
+        row,
+        &audit_over(rt, log.as_str(), store.as_str(), base.as_str()),
+    )
 }
