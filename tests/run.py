@@ -1,6 +1,6 @@
 #!/usr/bin/env python3
-"""Runs the proved programs as they are: on rows of real size, with threads counted, with prints that fail, and with each
-growth of memory refused in turn.
+"""Runs the proved programs as they are: on rows of real size, with threads counted, with files that are missing or stand
+already, with wrong lines, with prints that fail, and with each growth of memory refused in turn.
 
 usage: tests/run.py        at the top of the repository, behind `rt ci`, which builds the programs
 
@@ -51,8 +51,8 @@ class Row:
         words += ["--out-log", self.new_at("log"), "--out-store", self.new_at("store")]
         return run([ARIES, *words, "--workers", str(workers), "--parts", str(parts)], **how)
 
-    def audit(self, log="log", store="store", **how):
-        return run([ARIES, "audit", "--log", self.at(log), "--store", self.at(store)], **how)
+    def audit(self, log="log", store="store", more=(), **how):
+        return run([ARIES, "audit", "--log", self.at(log), "--store", self.at(store), *more], **how)
 
     def is_recovered(self):
         """Whether the new files are those of the row."""
@@ -107,6 +107,67 @@ def check_large_rows(tally, room):
         with tarfile.open(os.path.join(LARGE_ROWS, archive)) as files:
             files.extractall(room)
         check_large_row(tally, name, Row(os.path.join(room, name), room))
+
+
+# Files and words: what the program prints, its status, and which files it makes.
+
+def has_refused(ran, line):
+    """Whether a run refused by this line alone."""
+    return ran.returncode == 1 and ran.stderr == line and not ran.stdout
+
+
+def check_files(tally, room):
+    row = Row(os.path.join(SMALL_ROWS, "one-commit"), room)
+    ran = row.recover()
+    tally.say("a recovery", has_printed(ran, bytes_of(row.at("printed"))) and row.is_recovered(), ran.stderr)
+    words = ["recover", "--log", row.at("log"), "--store", row.at("store"), "--out-log"]
+    for stands, line in (("log", b"fault 4: writing the log failed\n"), ("store", b"fault 5: writing the store failed\n")):
+        folder = os.path.join(room, f"{stands}-stands")
+        os.mkdir(folder)
+        with open(os.path.join(folder, stands), "w") as mine:
+            mine.write("mine")
+        ran = run([ARIES, *words, os.path.join(folder, "log"), "--out-store", os.path.join(folder, "store")])
+        tally.say(f"a {stands} stands there", has_refused(ran, line) and bytes_of(os.path.join(folder, stands)) == b"mine", ran.stderr)
+    both = os.path.join(room, "both")
+    ran = run([ARIES, *words, both, "--out-store", both])
+    tally.say("one path for both", has_refused(ran, b"fault 5: writing the store failed\n") and bytes_of(both) == b"", ran.stderr)
+
+
+def check_missing_files(tally, room):
+    row = Row(os.path.join(SMALL_ROWS, "one-commit"), room)
+    for log, store, line in (
+        ("none", "none", b"fault 2: reading the log failed\n"),
+        ("log", "none", b"fault 3: reading the store failed\n"),
+    ):
+        ran = row.recover(log, store)
+        is_none_made = not os.path.exists(row.new_at("log")) and not os.path.exists(row.new_at("store"))
+        tally.say(f"recovery of {log}, {store}", has_refused(ran, line) and is_none_made, ran.stderr)
+        tally.say(f"audit of {log}, {store}", has_refused(row.audit(log, store), line))
+    tally.say("a store for a log", has_refused(row.audit("store", "log"), b"fault 6: bad log header\n"))
+    # The base store is read behind the store, and decoded behind it.
+    base = ["--base", row.at("none")]
+    tally.say("no base store", has_refused(row.audit(more=base), b"fault 3: reading the store failed\n"))
+    tally.say("a bad log before a base store", has_refused(row.audit("store", "store", more=["--base", row.at("log")]), b"fault 6: bad log header\n"))
+    tally.say("a log for a base store", has_refused(row.audit(more=["--base", row.at("log")]), b"fault 10: bad store header\n"))
+
+
+def check_words(tally, room):
+    row = Row(os.path.join(SMALL_ROWS, "one-commit"), room)
+    ran = run([ARIES, "--help"])
+    tally.say("help", ran.returncode == 0 and b"recover" in ran.stdout and not ran.stderr)
+    files = ["--log", row.at("log"), "--store", row.at("store")]
+    made = [os.path.join(room, name) for name in ("made-log", "made-store")]
+    recover = ["recover", *files, "--out-log", made[0], "--out-store", made[1]]
+    for what, words in (
+        ("no command", []),
+        ("no store", ["audit", *files[:2]]),
+        ("no workers", [*recover, "--workers", "0"]),
+        ("too many parts", [*recover, "--parts", "4097"]),
+        ("a base store for a recovery", [*recover, "--base", row.at("store")]),
+    ):
+        ran = run([ARIES, *words])
+        is_none_made = not any(os.path.exists(file) for file in made)
+        tally.say(f"a wrong line: {what}", ran.returncode == 2 and not ran.stdout and ran.stderr and is_none_made)
 
 
 # Prints that fail: nobody can write to /dev/full.
@@ -231,6 +292,9 @@ def main():
     with tempfile.TemporaryDirectory(prefix="aries-tests-") as room:
         check_large_rows(tally, room)
         check_threads(tally, room)
+        check_files(tally, room)
+        check_missing_files(tally, room)
+        check_words(tally, room)
         check_prints(tally, room)
         check_refusals(tally, room)
     print(f"{tally.passed} passed, {tally.failed} failed")
