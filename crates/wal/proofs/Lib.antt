@@ -7,6 +7,7 @@ pub mod Tables
 pub mod TableFields
 pub mod Bodies
 pub mod Glances
+pub mod Images
 pub mod Whole
 pub mod Causes
 pub mod Keeping

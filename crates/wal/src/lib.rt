@@ -10,6 +10,7 @@ mod checkpoint;
 mod field;
 mod frame;
 mod glance;
+mod image;
 mod laws;
 mod log;
 mod offsets;

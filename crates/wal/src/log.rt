@@ -12,9 +12,10 @@ ghost use Rattle.wal.specs.declared.sizes.TheConstants.{HEADER_BYTES, SMALLEST_F
 
 use crate::frame::{body_at, next_at};
 use crate::glance::{Glance, body_here, glance_here};
+use crate::image::image_here;
 use crate::offsets::Offsets;
 use crate::sizes::HEADER_BYTES;
-use crate::view::{RecordView, value_of};
+use crate::view::RecordView;
 use page::{Fault, Value};
 use std::alloc::Global;
 use std::marker::Model;
@@ -78,11 +79,15 @@ impl<'a> Log<'a> {
     }
 
     /// The image that the record at an LSN put into its cell: None where that was no value, for a record
-    /// that is in no cell, and for 0 and past the end.
+    /// that is in no cell, and for 0 and past the end. No more of the record is decoded than that.
     pub fn image(&self, lsn: u64) -> Option<Value>
         ensures { result ≡ image_in (record_at (history self.now) lsn) }
     {
-        value_of(self.get(lsn)?.change()?.image)
+        if lsn == 0 || lsn > self.last() {
+            return None;
+        }
+        let offset = self.offsets.get((lsn - 1) as usize);
+        image_here(self.bytes, offset)
     }
 
     /// The record behind an LSN, which is below the last one: the record whose LSN is one more.

@@ -1,0 +1,74 @@
+//! The image that a record put into its cell, without the rest of the record.
+
+ghost use Rattle.std.specs.Prelude.{◌≡◌, true, drop, is_some, option_map};
+ghost use Rattle.wal.specs.Frames.{IsPlace, frame_at};
+ghost use Rattle.wal.specs.Meaning.{image_in};
+ghost use Rattle.wal.specs.Reading.{update_at, compensation_at, fields_at, body_at};
+
+use crate::field::{image_at, plain_at, slot_at, u32_at, u64_at};
+use crate::glance::body_here;
+use crate::view::value_of;
+use page::Value;
+
+#[inline(always)]
+#[tactic(auto, unfolding(crate::specs::Reading::update_at))]
+fn update_image(bytes: &[u8]) -> Option<&[u8]>
+    ensures { option_map (λ s. s.now) result ≡ image_in (option_map (λ x. x.0) (update_at bytes.now)) }
+{
+    let (_, _, rest) = plain_at(bytes)?;
+    let (_, rest) = u32_at(rest)?;
+    let (_, rest) = slot_at(rest)?;
+    let (_, rest) = image_at(rest)?;
+    let (after, _) = image_at(rest)?;
+    after
+}
+
+#[inline(always)]
+#[tactic(auto, unfolding(crate::specs::Reading::compensation_at))]
+fn compensation_image(bytes: &[u8]) -> Option<&[u8]>
+    ensures { option_map (λ s. s.now) result ≡ image_in (option_map (λ x. x.0) (compensation_at bytes.now)) }
+{
+    let (_, _, rest) = plain_at(bytes)?;
+    let (_, rest) = u32_at(rest)?;
+    let (_, rest) = slot_at(rest)?;
+    let (_, rest) = u64_at(rest)?;
+    let (image, _) = image_at(rest)?;
+    image
+}
+
+#[inline(always)]
+#[tactic(auto, using(crate::proofs::Images::others_put), unfolding(crate::specs::Reading::fields_at))]
+fn fields_image(kind: u8, bytes: &[u8]) -> Option<&[u8]>
+    ensures { option_map (λ s. s.now) result ≡ image_in (option_map (λ x. x.0) (fields_at kind bytes.now)) }
+{
+    match kind {
+        1 => update_image(bytes),
+        2 => compensation_image(bytes),
+        _ => None,
+    }
+}
+
+#[inline(always)]
+#[tactic(auto, unfolding(crate::specs::Reading::body_at))]
+fn body_image(bytes: &[u8]) -> Option<&[u8]>
+    requires { is_some (body_at bytes.now) ≡ true }
+    ensures { option_map (λ s. s.now) result ≡ image_in (option_map (λ x. x.0) (body_at bytes.now)) }
+{
+    match bytes {
+        [] => None,
+        [kind, rest @ ..] => {
+            let (_, rest) = u64_at(rest)?;
+            fields_image(*kind, rest)
+        }
+    }
+}
+
+/// The image that the record of the frame at an offset put into its cell: None where that was no
+/// value, and for a record that is in no cell.
+#[inline(always)]
+pub fn image_here(bytes: &[u8], offset: usize) -> Option<Value>
+    requires { IsPlace bytes.now offset }
+    ensures { result ≡ image_in (option_map (λ x. x.0) (frame_at (drop offset bytes.now))) }
+{
+    value_of(body_image(body_here(bytes, offset)))
+}
