@@ -65,7 +65,8 @@ fn pages_of(alloc: Global, table: &DirtyTable) -> Result<BTreeMap<u32, u64>, Fau
 }
 
 /// The tables that analysis begins from: empty ones where `master` is 0, else those of the first
-/// checkpoint end behind the begin at `master` that names it. Answers `BadMaster` where there is none.
+/// checkpoint end behind the begin at `master` that names it. Answers `BadMaster` where there is
+/// none.
 pub fn base(
     alloc: Global,
     log: &Log,

@@ -1,5 +1,5 @@
-//! The transaction table during the scan: of 256 transactions the entries are kept aside, each at the
-//! place of its transaction's number modulo 256, where it is found at once.
+//! The transaction table during the scan: of 256 transactions the entries are kept aside, each at
+//! the place of its transaction's number modulo 256, where it is found at once.
 
 ghost use Rattle.std.specs.Prelude.{◌≡◌, ℕ, List, OnOk, IfErr, if◌then◌else◌, ◌==◌, Some, None};
 ghost use Rattle.page.specs.declared.fault.Fault.TheVariants.{NoResource};

@@ -2,8 +2,8 @@
 
 ghost use Rattle.analysis.specs.Tables.{OneTables, OneBaseFault, NoFaultOfTables};
 
-/// What a log says behind an LSN is one transaction table and one dirty page table, entry for entry, and
-/// one LSN to redo from.
+/// What a log says behind an LSN is one transaction table and one dirty page table, entry for
+/// entry, and one LSN to redo from.
 pub fn one_tables()
     ensures { OneTables }
 {}

@@ -18,7 +18,8 @@ use std::alloc::Global;
 use std::collections::BTreeMap;
 use wal::Log;
 
-/// The smaller of the smallest RecLSN so far, 0 for none, and another, which counts as 1 where it is 0.
+/// The smaller of the smallest RecLSN so far, 0 for none, and another, which counts as 1 where it
+/// is 0.
 fn lower(smallest: u64, rec_lsn: u64) -> u64
     ensures { result ≡ lower smallest (max 1 rec_lsn) }
 {
@@ -30,8 +31,8 @@ fn lower(smallest: u64, rec_lsn: u64) -> u64
     }
 }
 
-/// The LSN from which redo looks at records: the smallest RecLSN, 0 counting as 1; 0 where no page is
-/// listed.
+/// The LSN from which redo looks at records: the smallest RecLSN, 0 counting as 1; 0 where no page
+/// is listed.
 fn redo_lsn_of(dirty: &BTreeMap<u32, u64>) -> u64
     ensures { result ≡ redo_lsn_of dirty.now.entries }
 {
@@ -42,8 +43,8 @@ fn redo_lsn_of(dirty: &BTreeMap<u32, u64>) -> u64
     smallest
 }
 
-/// The tables of a crash: from the checkpoint whose begin record has the LSN `master`, 0 for none, on
-/// to the log's end. They are what last and first records say, for every log, lawful or not.
+/// The tables of a crash: from the checkpoint whose begin record has the LSN `master`, 0 for none,
+/// on to the log's end. They are what last and first records say, for every log, lawful or not.
 ///
 /// Answers [`Fault::BadMaster`] where `master` is not 0 and no checkpoint begin stands at it or no
 /// later checkpoint end names it; [`Fault::NoResource`] where memory was refused.

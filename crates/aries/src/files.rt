@@ -31,9 +31,10 @@ fn fault_of(error: io::Error, fault: Fault) -> Fault {
     }
 }
 
-/// Recovers the store in a file by the log in another, into two files that are made anew. All four are
-/// opened, in the order of the paths, before the first is read; the new store is written when the new
-/// log is whole and synced. After a fault, new files made so far stay: empty, or a beginning.
+/// Recovers the store in a file by the log in another, into two files that are made anew. All four
+/// are opened, in the order of the paths, before the first is read; the new store is written when
+/// the new log is whole and synced. After a fault, new files made so far stay: empty, or a
+/// beginning.
 pub fn recover_files<R: Files + Threads + Sync>(
     rt: &R,
     alloc: Global,
@@ -67,9 +68,9 @@ fn read_file<R: Files>(rt: &R, alloc: Global, path: &str, fault: Fault) -> Resul
     read_source(alloc, &mut FileSource::new(file), fault)
 }
 
-/// Whether the log and the store in two files are lawful, over the pages of the base store in a third
-/// where there is one, else over empty pages. All are read to their ends, in this order, before the
-/// first is decoded.
+/// Whether the log and the store in two files are lawful, over the pages of the base store in a
+/// third where there is one, else over empty pages. All are read to their ends, in this order,
+/// before the first is decoded.
 pub fn audit_files<R: Files>(
     rt: &R,
     alloc: Global,

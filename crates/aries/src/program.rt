@@ -23,8 +23,8 @@ fn refuse<E: Write>(fault: Fault, err: &mut E) -> u8 {
     1
 }
 
-/// Prints what clap says of a line, and gives the status: 2 for a mistake, 0 where help or the version
-/// was asked for, 1 where the print failed.
+/// Prints what clap says of a line, and gives the status: 2 for a mistake, 0 where help or the
+/// version was asked for, 1 where the print failed.
 fn explain<O: Write, E: Write>(error: clap::Error, out: &mut O, err: &mut E) -> u8 {
     let (printed, status) = if error.use_stderr() {
         (write!(err, "{error}"), 2)
@@ -82,10 +82,10 @@ fn run_job<R: Files + Threads + Sync, O: Write, E: Write>(
     }
 }
 
-/// Runs the program `aries`: `words` are its words, the first of which is its name; `out` stands for
-/// standard output and `err` for standard error. Answers the exit status: 0 where the job was done or
-/// help was asked for, 1 for a fault, printed to `err` as `fault N: text`, or a failed print, 2 for a
-/// line that is wrong.
+/// Runs the program `aries`: `words` are its words, the first of which is its name; `out` stands
+/// for standard output and `err` for standard error. Answers the exit status: 0 where the job was
+/// done or help was asked for, 1 for a fault, printed to `err` as `fault N: text`, or a failed
+/// print, 2 for a line that is wrong.
 pub fn run<R: Files + Threads + Sync, O: Write, E: Write>(
     rt: &R,
     alloc: Global,

@@ -43,8 +43,8 @@ fn are_up_to(pages: &[Page], lsn: u64) -> bool
     true
 }
 
-/// Whether a store can be what the log's records were made over: as many pages as the store beside the
-/// log, none of them changed by a record of the log.
+/// Whether a store can be what the log's records were made over: as many pages as the store beside
+/// the log, none of them changed by a record of the log.
 pub fn is_base_of(log: &Log, store: &Store, base: &Store) -> bool
     ensures { IsTrue result ↔ IsBaseOf log.now store.now base.now }
 {

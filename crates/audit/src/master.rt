@@ -31,7 +31,8 @@ fn is_unfinished(standing: Standing) -> bool
     standing.last != 0 && !standing.is_finished()
 }
 
-/// Whether a state is that of a transaction that has or has not aborted, and has or has not prepared.
+/// Whether a state is that of a transaction that has or has not aborted, and has or has not
+/// prepared.
 fn tells_state(state: State, aborted: bool, prepared: bool) -> bool
     ensures { IsTrue result ↔ state ≡ state_by aborted prepared }
 {
@@ -139,8 +140,8 @@ fn running_at(alloc: Global, log: &Log, count: u64, pages: usize) -> Result<Runn
     Ok(running)
 }
 
-/// Whether the table is exactly that of the unfinished transactions at the begin `master`. The only error is
-/// `NoResource`.
+/// Whether the table is exactly that of the unfinished transactions at the begin `master`. The only
+/// error is `NoResource`.
 fn is_true_table(
     alloc: Global,
     log: &Log,

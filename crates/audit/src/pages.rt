@@ -120,8 +120,8 @@ fn check_page(log: &Log, base: &[Page], writers: &[u64], page: &Page) -> Result<
     Ok(())
 }
 
-/// Refuses the first page that is not what the log up to its PageLSN makes of the base page. `NoResource`,
-/// where memory is refused, may come in its place.
+/// Refuses the first page that is not what the log up to its PageLSN makes of the base page.
+/// `NoResource`, where memory is refused, may come in its place.
 pub fn check_pages(alloc: Global, log: &Log, base: &[Page], pages: &[Page]) -> Result<(), Fault>
     requires numbered { AreNumbered pages.now }
     requires named { EachRecord (NamesPages (length pages.now)) (history log.now) }

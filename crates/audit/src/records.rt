@@ -69,8 +69,8 @@ fn check_record(
     Ok(())
 }
 
-/// Refuses the first record that breaks a law over these base pages, and names the law. `NoResource`, where memory is
-/// refused, may come in its place.
+/// Refuses the first record that breaks a law over these base pages, and names the law.
+/// `NoResource`, where memory is refused, may come in its place.
 pub fn check_records(alloc: Global, log: &Log, base: &[Page], count: usize) -> Result<(), Fault>
     requires { count ≤ PAGES }
     ensures ok { OnOk result (AreSound (base_pages base.now) count (history log.now)) }

@@ -31,9 +31,9 @@ fn first_fault(alloc: Global, log: &Log, base: &[Page], store: &Store) -> Result
     check_master(alloc, log, store.master, &store.pages)
 }
 
-/// Whether a log and a store are lawful over empty pages: what an ARIES system can leave behind that began
-/// with them. Ok exactly where they are, want of memory aside. Neither is changed. Time is near linear in both, memory 8 bytes a record
-/// and a cell.
+/// Whether a log and a store are lawful over empty pages: what an ARIES system can leave behind
+/// that began with them. Ok exactly where they are, want of memory aside. Neither is changed. Time
+/// is near linear in both, memory 8 bytes a record and a cell.
 ///
 /// Errors, of which the first is given. First the records in LSN order, at each (with its LSN):
 /// - NoSuchPage: it, or its dirty page table, names a page that the store does not have.
@@ -49,10 +49,11 @@ fn first_fault(alloc: Global, log: &Log, base: &[Page], store: &Store) -> Result
 /// - PageImage: it is not what the log up to its PageLSN makes of it.
 ///
 /// Then the checkpoint:
-/// - BadMaster: the master is not 0, and its record is no checkpoint begin or no later end names it.
+/// - BadMaster: the master is not 0, and its record is no checkpoint begin or no later end names
+///   it.
 /// - TransactionTable: the table is not exactly that of the unfinished transactions at the begin.
-/// - DirtyTable: the smallest page with a RecLSN outside 1 to the master, or of which a record at or
-///   before the master is neither in the image nor listed.
+/// - DirtyTable: the smallest page with a RecLSN outside 1 to the master, or of which a record at
+///   or before the master is neither in the image nor listed.
 ///
 /// NoResource, where memory is refused, may come in place of any answer.
 pub fn audit(alloc: Global, log: &Log, store: &Store) -> Result<(), Fault>
@@ -65,14 +66,15 @@ pub fn audit(alloc: Global, log: &Log, store: &Store) -> Result<(), Fault>
     first_fault(alloc, log, &none, store)
 }
 
-/// Whether a log and a store are lawful over the pages of a base store: what an ARIES system can leave
-/// behind that began with them and this log, at a moment when no transaction was unfinished. Ok exactly
-/// where they are, want of memory aside. The master of the base store is not looked at. Nothing is
-/// changed.
+/// Whether a log and a store are lawful over the pages of a base store: what an ARIES system can
+/// leave behind that began with them and this log, at a moment when no transaction was unfinished.
+/// Ok exactly where they are, want of memory aside. The master of the base store is not looked at.
+/// Nothing is changed.
 ///
-/// Errors: BadBase, before all others, where the base store has another page count than the store, or
-/// a page with a PageLSN above [`Log::base`]; then those of [`audit`], where a page's PageLSN may be
-/// that of its base page, and a cell holds what the base page has there until a record is in it.
+/// Errors: BadBase, before all others, where the base store has another page count than the store,
+/// or a page with a PageLSN above [`Log::base`]; then those of [`audit`], where a page's PageLSN
+/// may be that of its base page, and a cell holds what the base page has there until a record is in
+/// it.
 pub fn audit_from(alloc: Global, log: &Log, store: &Store, base: &Store) -> Result<(), Fault>
     ensures ok { OnOk result (LawfulOver log.now store.now base.now) }
     ensures fault { IfErr result (FirstFaultOver log.now store.now base.now) }

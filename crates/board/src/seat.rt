@@ -6,13 +6,13 @@ use crate::view::View;
 use atomic_table::Seat as Token;
 use std::marker::Model;
 
-/// The right to draw from one board, in one thread at a time. It has at least one place, and can be cut
-/// into as many seats as it has places. It holds no list: the numbers that it drew are seen by contracts
-/// alone.
+/// The right to draw from one board, in one thread at a time. It has at least one place, and can be
+/// cut into as many seats as it has places. It holds no list: the numbers that it drew are seen by
+/// contracts alone.
 ///
-/// Contracts see it as its board, its places, the list of the numbers drawn, in order, the list of the
-/// ranges that it knows as ended, and its two notes: whether it stopped the board, and whether it was
-/// told that some seat had (`SeatState`).
+/// Contracts see it as its board, its places, the list of the numbers drawn, in order, the list of
+/// the ranges that it knows as ended, and its two notes: whether it stopped the board, and whether
+/// it was told that some seat had (`SeatState`).
 #[derive(Drop)]
 pub struct Seat {
     pub(crate) token: Token<(), View>,

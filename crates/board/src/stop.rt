@@ -10,8 +10,8 @@ use crate::rule::{SeeStop, SetStop};
 use crate::seat::Seat;
 
 impl Board {
-    /// Stops the board, which the seat notes: from now on `draw_or_stop` gives no number to any seat.
-    /// The seat's numbers and ended ranges stay. A board stopped twice is stopped.
+    /// Stops the board, which the seat notes: from now on `draw_or_stop` gives no number to any
+    /// seat. The seat's numbers and ended ranges stay. A board stopped twice is stopped.
     pub fn stop(&self, seat: &mut Seat)
         requires board { seat.old.board ≡ self.now }
         ensures seat { KeepsPlaces seat.old seat.new }
@@ -36,10 +36,10 @@ impl Board {
         self.table.shared.load::<SeeStop>(&mut seat.token, word) != 0
     }
 
-    /// Draws as `draw` does, as long as no seat has stopped the board: `Part` for a number, `Finished`
-    /// where all ranges have ended. Else `Stopped`: the seat's numbers and ended ranges stay, and it
-    /// notes that it was told. A seat that has stopped the board or was told once is always answered
-    /// `Stopped`.
+    /// Draws as `draw` does, as long as no seat has stopped the board: `Part` for a number,
+    /// `Finished` where all ranges have ended. Else `Stopped`: the seat's numbers and ended ranges
+    /// stay, and it notes that it was told. A seat that has stopped the board or was told once is
+    /// always answered `Stopped`.
     pub fn draw_or_stop(&self, seat: &mut Seat, home: u32) -> Draw
         requires board { seat.old.board ≡ self.now }
         requires home { home < self.now.ranges }

@@ -7,8 +7,8 @@ use atomic_table::Closed;
 use std::alloc::Global;
 use std::marker::Model;
 
-/// How many steps a closed board has seen on each range, and whether it was stopped. Contracts see it as
-/// these counts and that answer (`TallyState`).
+/// How many steps a closed board has seen on each range, and whether it was stopped. Contracts see
+/// it as these counts and that answer (`TallyState`).
 #[derive(Drop)]
 pub struct Tally {
     pub(crate) words: [u64; 64],
@@ -28,8 +28,8 @@ impl Model for Tally {
 }
 
 impl Tally {
-    /// How many steps all seats together made on this range, which is below the count of ranges: those
-    /// that gave its numbers, and those that met its end.
+    /// How many steps all seats together made on this range, which is below the count of ranges:
+    /// those that gave its numbers, and those that met its end.
     pub fn word(&self, range: u32) -> u64
         requires { range < length self.now.words }
         ensures { result ≡ slice_index self.now.words range }
@@ -37,8 +37,8 @@ impl Tally {
         self.words[range as usize]
     }
 
-    /// Whether the closing seat had stopped the board: by its own call of `Board::stop`, or by the note
-    /// of a seat that was joined into it.
+    /// Whether the closing seat had stopped the board: by its own call of `Board::stop`, or by the
+    /// note of a seat that was joined into it.
     pub fn stopped(&self) -> bool
         ensures { result ≡ self.now.stopped }
     {

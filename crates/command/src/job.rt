@@ -28,8 +28,8 @@ pub enum Job {
         out_store: String,
         options: Options,
     },
-    /// Say whether the log `log` and the store `store` are lawful, over the pages of the base store `base`
-    /// where it is given, else over empty ones.
+    /// Say whether the log `log` and the store `store` are lawful, over the pages of the base store
+    /// `base` where it is given, else over empty ones.
     Audit {
         log: String,
         store: String,
@@ -168,7 +168,8 @@ fn aries_command<'a>(alloc: Global) -> Result<Command<'a>, AllocError>
         .subcommand(audit_command(alloc)?)
 }
 
-/// The name that an option gives a file. Such an option is required, so a line without it was refused.
+/// The name that an option gives a file. Such an option is required, so a line without it was
+/// refused.
 fn file_of(
     alloc: Global,
     command: &mut Command,
@@ -258,10 +259,10 @@ fn no_command(command: &mut Command) -> Refusal {
     }
 }
 
-/// What a command line asks for; the first word is the program's name. Refuses a line that is wrong or
-/// asks for help or the version by [`Refusal::Line`], and by [`Refusal::Memory`] where memory was
-/// refused. A line that asks for a job, since `clap` finds no fault in it and its words give the job's
-/// command and files, is refused by [`Refusal::Memory`] alone.
+/// What a command line asks for; the first word is the program's name. Refuses a line that is wrong
+/// or asks for help or the version by [`Refusal::Line`], and by [`Refusal::Memory`] where memory
+/// was refused. A line that asks for a job, since `clap` finds no fault in it and its words give
+/// the job's command and files, is refused by [`Refusal::Memory`] alone.
 pub fn command_of<'a>(alloc: Global, words: &'a [&'a str]) -> Result<Job, Refusal>
     ensures faultless { OnOk result (IsFaultless (map (λ w. w.now) words.now)) }
     ensures files { IfOk result (HasFiles (map (λ w. w.now) words.now)) }

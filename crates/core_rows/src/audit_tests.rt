@@ -6,7 +6,8 @@ use std::alloc::Global;
 use std::process::Abort;
 use wal::{Entry, Record, State, read_log, write_frame};
 
-/// The audit of a log's bytes and of a store of one page, in whose text only these bytes are not zero.
+/// The audit of a log's bytes and of a store of one page, in whose text only these bytes are not
+/// zero.
 fn judge(alloc: Global, log: &[u8], bytes: &[(usize, u8)]) -> Result<(), Fault> {
     let mut store = Vec::from_slice(alloc, b"ARIESPG1\0\0\0\x01")?;
     store.resize(1048, 0)?;

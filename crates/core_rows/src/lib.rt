@@ -1,5 +1,6 @@
-//! Worked rows for tests: logs written record by record, and ten pages whose workers a gate holds; with the
-//! tests of the crates below `aries`, which need no device, no file and no line of arguments.
+//! Worked rows for tests: logs written record by record, and ten pages whose workers a gate holds;
+//! with the tests of the crates below `aries`, which need no device, no file and no line of
+//! arguments.
 #![tactic(auto)]
 
 #[cfg(test)]

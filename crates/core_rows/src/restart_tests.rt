@@ -1,5 +1,5 @@
-//! Rows worked by hand, restarted on values: what is appended, the pages, the numbers, the master, and
-//! the fault that comes first.
+//! Rows worked by hand, restarted on values: what is appended, the pages, the numbers, the master,
+//! and the fault that comes first.
 
 use crate::written::{
     Row, Text, checkpoint_loser, clr_points_past_zero, one_commit, one_loser, page_with,
@@ -79,8 +79,8 @@ fn restarted<R: Threads + Sync>(
     })
 }
 
-/// The numbers of a restart of a row on an empty page, and those in doubt; None where it makes another
-/// log than the row's, or another store than one of this page under the same master.
+/// The numbers of a restart of a row on an empty page, and those in doubt; None where it makes
+/// another log than the row's, or another store than one of this page under the same master.
 fn told_of<R: Threads + Sync>(
     rt: &R,
     alloc: Global,
@@ -150,7 +150,8 @@ fn ended_in_doubt(alloc: Global) -> Result<Text, Fault> {
     Ok(text)
 }
 
-/// Of those in doubt nothing is undone or looked at for it, and on each log the tables say who they are.
+/// Of those in doubt nothing is undone or looked at for it, and on each log the tables say who they
+/// are.
 #[test]
 fn leaves_those_in_doubt(rt: HostRuntime) -> Result<(), Fail> {
     let alloc = rt.alloc();

@@ -1,5 +1,5 @@
-//! Ten pages, each changed once, and a gate that holds those who redo them, so that who draws which part
-//! is known.
+//! Ten pages, each changed once, and a gate that holds those who redo them, so that who draws which
+//! part is known.
 
 use page::{Fault, Page, Value, encode_page};
 use redo::Gate;
@@ -7,8 +7,8 @@ use std::alloc::Global;
 use std::sync::atomic::{AtomicU64, Ordering};
 use wal::{Record, write_frame};
 
-/// The bytes of a log: page p set to "a" in slot 0 by LSN p + 1, for p from 0 to 9, by one transaction,
-/// which commits.
+/// The bytes of a log: page p set to "a" in slot 0 by LSN p + 1, for p from 0 to 9, by one
+/// transaction, which commits.
 pub fn ten_updates(alloc: Global) -> Result<Vec<u8>, Fault> {
     let mut log = Vec::from_slice(alloc, b"ARIESLG1")?;
     for page in 0..10 {
@@ -52,8 +52,8 @@ pub fn are_all_changed(pages: &[Page]) -> bool {
     pages.len() == 10
 }
 
-/// Holds workers at ten parts: each at its first part until all have come, and then all but worker 1, so
-/// that worker 1 draws the others. Who is held too long is late.
+/// Holds workers at ten parts: each at its first part until all have come, and then all but worker
+/// 1, so that worker 1 draws the others. Who is held too long is late.
 #[derive(Drop)]
 pub struct HeldGate {
     workers: u64,

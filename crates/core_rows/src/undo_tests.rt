@@ -44,8 +44,8 @@ fn undone(
     Ok((whole.bytes, image))
 }
 
-/// Whether undo makes of the row's log, with this master and page, the row's new log, and of the page
-/// this one.
+/// Whether undo makes of the row's log, with this master and page, the row's new log, and of the
+/// page this one.
 fn is_undone(
     alloc: Global,
     row: &Row,

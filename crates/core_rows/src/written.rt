@@ -111,7 +111,8 @@ impl Text {
         self.put(&Record::Prepare { tx, prev })
     }
 
-    /// Appends a checkpoint whose transaction table has one active entry: number, LastLSN, UndoNxtLSN.
+    /// Appends a checkpoint whose transaction table has one active entry: number, LastLSN,
+    /// UndoNxtLSN.
     pub fn checkpoint(
         &mut self,
         alloc: Global,
@@ -251,7 +252,8 @@ pub fn prepared_beside_loser(alloc: Global) -> Result<Row, Fault> {
     Ok(Row { given, made })
 }
 
-/// Its master is 2: active in the table of the checkpoint, and prepared between its begin and its end.
+/// Its master is 2: active in the table of the checkpoint, and prepared between its begin and its
+/// end.
 pub fn prepared_in_checkpoint(alloc: Global) -> Result<Text, Fault> {
     let mut text = Text::new(alloc)?;
     text.first_update(0)?;

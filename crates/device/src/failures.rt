@@ -5,8 +5,8 @@ ghost use Rattle.std.specs.Borrow.{ftrue};
 
 use std::marker::Model;
 
-/// How often a device has failed, as `count` in clauses. It takes no memory, and its calls do nothing
-/// when the program runs; so it has no greatest number either.
+/// How often a device has failed, as `count` in clauses. It takes no memory, and its calls do
+/// nothing when the program runs; so it has no greatest number either.
 #[derive(Drop)]
 pub struct Failures {
     pub ghost count: { ℕ },

@@ -1,6 +1,6 @@
-//! Devices over files. They tell what the file tells: a file of the system tells no bytes; a reader or
-//! a writer that does, as one over memory, shows that none is lost, doubled or made up here. What is
-//! flushed they do not tell, since no file does.
+//! Devices over files. They tell what the file tells: a file of the system tells no bytes; a reader
+//! or a writer that does, as one over memory, shows that none is lost, doubled or made up here.
+//! What is flushed they do not tell, since no file does.
 
 ghost use Rattle.std.specs.Prelude.{◌≡◌, IfOk, ◌<◌, length};
 ghost use Rattle.std.specs.Io.{ReadsAtMost, WritesAtMost};

@@ -21,8 +21,8 @@ enum Turn {
     Unflushed,
 }
 
-/// A file that has these turns before it, and then passes no byte. It is not synced where it is about
-/// to fail, and not before it was asked to flush what was written.
+/// A file that has these turns before it, and then passes no byte. It is not synced where it is
+/// about to fail, and not before it was asked to flush what was written.
 #[derive(Drop)]
 struct Fake<'a> {
     turns: &'a [Turn],

@@ -1,6 +1,6 @@
-//! Devices that bytes are read from and written to, each of which may fail at any call: over memory,
-//! over files, and what reads and writes all of one; and devices that fail when they are told to, for
-//! tests.
+//! Devices that bytes are read from and written to, each of which may fail at any call: over
+//! memory, over files, and what reads and writes all of one; and devices that fail when they are
+//! told to, for tests.
 #![tactic(auto)]
 
 mod failures;

@@ -104,7 +104,8 @@ pub struct SlowSink {
 }
 
 impl SlowSink {
-    /// A sink that has taken nothing, with room for so many bytes. `AllocError` where that was refused.
+    /// A sink that has taken nothing, with room for so many bytes. `AllocError` where that was
+    /// refused.
     pub fn new(alloc: Global, room: usize, pace: Pace) -> Result<SlowSink, AllocError>
         ensures taken { IfOk result (λ sink. bytes_taken sink ≡ []) }
         ensures flushed { IfOk result (λ sink. bytes_flushed sink ≡ []) }

@@ -20,11 +20,12 @@ pub trait Source {
     /// The bytes left to be read, or `None` where the device does not tell them.
     ghost left: { Self → Option (List ℕ) } = { λ _. None };
 
-    /// Puts a beginning of the bytes that are left to the front of the buffer, and gives its length: 0
-    /// only at the end or where the buffer is empty. What stands behind it in the buffer is not told.
+    /// Puts a beginning of the bytes that are left to the front of the buffer, and gives its
+    /// length: 0 only at the end or where the buffer is empty. What stands behind it in the buffer
+    /// is not told.
     ///
-    /// `Failed` where the device failed. Its count of failures has then risen by one, nothing was read,
-    /// and what the buffer holds is not told.
+    /// `Failed` where the device failed. Its count of failures has then risen by one, nothing was
+    /// read, and what the buffer holds is not told.
     fn read(&mut self, buffer: &mut [u8]) -> Result<usize, Failed>
         ensures bound { ReadsAtMost result buffer.new }
         ensures bytes { ReadConsumes (left self.old) (left self.new) result buffer.new }
@@ -40,15 +41,15 @@ pub trait Sink {
     /// The bytes taken so far, or `None` where the device does not tell them.
     ghost taken: { Self → Option (List ℕ) } = { λ _. None };
 
-    /// The bytes that had been taken when a flush was last answered, or `None` where the device does
-    /// not tell them.
+    /// The bytes that had been taken when a flush was last answered, or `None` where the device
+    /// does not tell them.
     ghost flushed: { Self → Option (List ℕ) } = { λ _. None };
 
     /// Takes a beginning of the bytes behind those taken so far, and gives its length: 0 only where
     /// there are no bytes.
     ///
-    /// `Failed` where the device failed. Its count of failures has then risen by one, and nothing was
-    /// taken.
+    /// `Failed` where the device failed. Its count of failures has then risen by one, and nothing
+    /// was taken.
     fn write(&mut self, bytes: &[u8]) -> Result<usize, Failed>
         ensures bound { WritesAtMost result bytes.now }
         ensures progress { IfOk result (λ count. 0 < length bytes.now → 0 < count) }
@@ -56,11 +57,11 @@ pub trait Sink {
         ensures unflushed { Keeps (flushed self.old) (flushed self.new) }
         ensures cause { Counts (failures self.old) (failures self.new) result };
 
-    /// Asks that the bytes taken so far reach the place where they stay: on an answer all of them are
-    /// flushed. None is taken by it.
+    /// Asks that the bytes taken so far reach the place where they stay: on an answer all of them
+    /// are flushed. None is taken by it.
     ///
-    /// `Failed` where the device failed. Its count of failures has then risen by one, and which of the
-    /// bytes are flushed is not told.
+    /// `Failed` where the device failed. Its count of failures has then risen by one, and which of
+    /// the bytes are flushed is not told.
     fn flush(&mut self) -> Result<(), Failed>
         ensures bytes { Keeps (taken self.old) (taken self.new) }
         ensures all { OnOk result (Flushes (flushed self.old) (flushed self.new) (taken self.new)) }

@@ -50,9 +50,9 @@ fn read_behind<S: Source>(source: &mut S, bytes: &mut [u8], filled: usize) -> Re
 /// All bytes that a source has left, by reads of up to 64 KiB. A source without end ends in want of
 /// memory.
 ///
-/// `Failed` where the source failed; its count of failures has risen by one. `NoMemory` where memory
-/// for the bytes was refused; no failure is counted. After either a beginning of the bytes that were
-/// left has been read, and is dropped.
+/// `Failed` where the source failed; its count of failures has risen by one. `NoMemory` where
+/// memory for the bytes was refused; no failure is counted. After either a beginning of the bytes
+/// that were left has been read, and is dropped.
 pub fn read_all<S: Source>(alloc: Global, source: &mut S) -> Result<Vec<u8>, ReadFault>
     ensures all { IfOk result (λ bytes. IfSome (S.left source.old) (λ left. bytes.items ≡ left)) }
     ensures read { IfOk result (λ bytes. Consumes (S.left source.old) (S.left source.new) bytes.items) }

@@ -6,8 +6,8 @@ ghost use Rattle.page.specs.Fault.{number_of};
 use std::alloc::{AllocError, AllocFailed};
 use thiserror::Error;
 
-/// Why a call was refused. What a variant carries is the place of its cause: an offset in bytes of a
-/// frame's length field in the log file, an LSN, or a page number.
+/// Why a call was refused. What a variant carries is the place of its cause: an offset in bytes of
+/// a frame's length field in the log file, an LSN, or a page number.
 #[derive(Clone, Copy, Debug, PartialEq, Eq, Error)]
 pub enum Fault {
     /// Memory or a thread was refused in the call.
@@ -60,7 +60,8 @@ pub enum Fault {
     /// record that it came from.
     #[error("broken chain at LSN {0}")]
     BrokenChain(u64),
-    /// Pages or parts outside 1 to 4,096, or a parting that does not give each page one of its parts.
+    /// Pages or parts outside 1 to 4,096, or a parting that does not give each page one of its
+    /// parts.
     #[error("bad parting")]
     BadParting,
     /// Workers outside 1 to 64.
@@ -87,15 +88,16 @@ pub enum Fault {
     /// The image of this page is not the log's page at its PageLSN.
     #[error("wrong content of page {0}")]
     PageImage(u32),
-    /// The checkpoint's transaction table is not exactly the unfinished transactions before its begin.
+    /// The checkpoint's transaction table is not exactly the unfinished transactions before its
+    /// begin.
     #[error("wrong transaction table")]
     TransactionTable,
     /// The checkpoint's dirty page table leaves out a record that this page's image lacks, or lists
     /// a RecLSN outside 1 to the master; the smallest such page.
     #[error("wrong dirty page table at page {0}")]
     DirtyTable(u32),
-    /// The base store has another page count than the store, or a page whose PageLSN is above the LSN
-    /// behind which the log begins.
+    /// The base store has another page count than the store, or a page whose PageLSN is above the
+    /// LSN behind which the log begins.
     #[error("bad base store")]
     BadBase,
 }

@@ -25,10 +25,10 @@ fn header(count: u32, master: u64) -> [u8; STORE_HEADER_BYTES]
     header
 }
 
-/// The one spelling of a store, in place of what the vector holds: `ARIESPG1`, page count, four zeros,
-/// master; then the images of the pages in order: 24 + 1,024 x count bytes, all numbers big endian. The
-/// vector's room is used, and takes memory only where it is too small. The only error is `NoResource`,
-/// where memory is refused; then a beginning of the spelling stands there.
+/// The one spelling of a store, in place of what the vector holds: `ARIESPG1`, page count, four
+/// zeros, master; then the images of the pages in order: 24 + 1,024 x count bytes, all numbers big
+/// endian. The vector's room is used, and takes memory only where it is too small. The only error
+/// is `NoResource`, where memory is refused; then a beginning of the spelling stands there.
 pub fn encode_store_into(store: &Store, bytes: &mut Vec<u8>) -> Result<(), Fault>
     ensures ok { OnOk result (bytes.new.items ≡ store_text store.now) }
     ensures fits { OnOk result (FitsStore store.now) }
@@ -98,8 +98,8 @@ fn pages_at(alloc: Global, images: &[u8], count: u32) -> Result<Vec<Page>, Fault
 }
 
 /// The store that the bytes spell. Else the first of `BadStoreHeader`, `StoreSize` and `BadPage` of
-/// the smallest page whose image is not the spelling of a page of its number; or `NoResource`, where
-/// memory is refused.
+/// the smallest page whose image is not the spelling of a page of its number; or `NoResource`,
+/// where memory is refused.
 pub fn decode_store(alloc: Global, bytes: &[u8]) -> Result<Store, Fault>
     ensures found { IfOk result (SpellsStore bytes.now) }
     ensures only { (store : StoreContent) → SpellsStore bytes.now store

@@ -1,5 +1,5 @@
-//! Recovery over devices: the log and the store are read to their ends, the new ones made in memory,
-//! and then written, the log first.
+//! Recovery over devices: the log and the store are read to their ends, the new ones made in
+//! memory, and then written, the log first.
 
 ghost use Rattle.std.specs.Prelude.{◌≡◌, ◌≢◌, ◌⊎◌, ℕ, List, ◌++◌, Some, IfOk, IfErr, IfSome, OnOk, OnErr, Err, MatchResult};
 ghost use Rattle.std.specs.Io.KnownBytes.{IsAtEnd};
@@ -69,8 +69,8 @@ fn write_whole<S: Sink>(sink: &mut S, bytes: &[u8]) -> Result<(), Failed>
     sink.flush()
 }
 
-/// Writes a log in two pieces and flushes it: what is kept of the log read, and behind it the frames
-/// appended.
+/// Writes a log in two pieces and flushes it: what is kept of the log read, and behind it the
+/// frames appended.
 fn write_log<S: Sink>(sink: &mut S, kept: &[u8], frames: &[u8]) -> Result<(), Failed>
     ensures all { OnOk result (AreOut (kept.now ++ frames.now) (S.taken sink.old) (S.taken sink.new) (S.flushed sink.old) (S.flushed sink.new)) }
     ensures beginning { OnErr result (TookBeginning (S.taken sink.old) (S.taken sink.new) (kept.now ++ frames.now)) }
@@ -80,7 +80,8 @@ fn write_log<S: Sink>(sink: &mut S, kept: &[u8], frames: &[u8]) -> Result<(), Fa
     write_whole(sink, frames)
 }
 
-/// Writes the new log, and then the new store, each whole and flushed before the next thing is done.
+/// Writes the new log, and then the new store, each whole and flushed before the next thing is
+/// done.
 fn write_both<L: Sink, S: Sink>(
     log: &mut L,
     store: &mut S,
@@ -103,27 +104,28 @@ fn write_both<L: Sink, S: Sink>(
 }
 
 /// Recovers the store in a device by the log in another: both are read to their ends, what is to be
-/// written is made in memory by [`restart`](restart::restart) on what they spell, the pages parted by
-/// number; and then the new log is written and flushed, and only then the new store.
+/// written is made in memory by [`restart`](restart::restart) on what they spell, the pages parted
+/// by number; and then the new log is written and flushed, and only then the new store.
 ///
 /// The new log is the log read without its torn tail, and behind it the records that the restart
-/// appends. What is written does not depend on the options or the gate. On a lawful log and its store
-/// the new log is the log and its tail, each page of the new store has what the committed transactions'
-/// updates and compensations, in LSN order, make of an empty page, and a recovery of these bytes writes
-/// them again. On what an interrupted recovery leaves, a beginning of the new log beside pages of which
-/// some are new, it writes what the first would have written. Answers the report.
+/// appends. What is written does not depend on the options or the gate. On a lawful log and its
+/// store the new log is the log and its tail, each page of the new store has what the committed
+/// transactions' updates and compensations, in LSN order, make of an empty page, and a recovery of
+/// these bytes writes them again. On what an interrupted recovery leaves, a beginning of the new
+/// log beside pages of which some are new, it writes what the first would have written. Answers the
+/// report.
 ///
 /// Refuses, in this order: [`Fault::BadWorkers`] and [`Fault::BadParting`] for options out of their
 /// ranges; [`Fault::ReadLog`] and [`Fault::ReadStore`] where a source failed; the faults of
 /// [`wal::read_log`] for the log, of [`page::decode_store`] for the store, and of
-/// [`restart`](restart::restart); [`Fault::WriteLog`] and [`Fault::WriteStore`] where a sink failed, at a
-/// write or its flush. [`Fault::NoResource`], where memory or a thread was refused, may come in place of
-/// any of these up to the first write.
+/// [`restart`](restart::restart); [`Fault::WriteLog`] and [`Fault::WriteStore`] where a sink
+/// failed, at a write or its flush. [`Fault::NoResource`], where memory or a thread was refused,
+/// may come in place of any of these up to the first write.
 ///
-/// After `WriteLog` a beginning of the new log is out and nothing of the store; after `WriteStore` the
-/// new log, flushed, and a beginning of the new store; after any other fault nothing. Of a lawful log
-/// and its store the log that is out can be recovered with the old store, to the same end, where it
-/// begins with all that was read but the torn tail.
+/// After `WriteLog` a beginning of the new log is out and nothing of the store; after `WriteStore`
+/// the new log, flushed, and a beginning of the new store; after any other fault nothing. Of a
+/// lawful log and its store the log that is out can be recovered with the old store, to the same
+/// end, where it begins with all that was read but the torn tail.
 pub fn recover<LR: Source, SR: Source, LW: Sink, SW: Sink, G: Gate, R: Threads + Sync>(
     rt: &R,
     alloc: Global,

@@ -1,4 +1,5 @@
-//! Laws of recoveries and audits of bytes. Each function is its law: what it ensures holds of the definitions alone.
+//! Laws of recoveries and audits of bytes. Each function is its law: what it ensures holds of the
+//! definitions alone.
 
 ghost use Rattle.recovery.specs.OneAnswer.{OneRecovery, OneRecoveryFault, OneAuditFault, OneAuditFaultOver, NoFaultOfARecovery, NoFaultOfLawfulTexts, NoFaultOfLawfulTextsOver};
 
@@ -71,8 +72,8 @@ pub fn no_fault_of_lawful_texts()
     no_fault_of_the_lawful();
 }
 
-/// No bytes of a log and of a store are refused over those of a base store for two causes, want of memory
-/// aside.
+/// No bytes of a log and of a store are refused over those of a base store for two causes, want of
+/// memory aside.
 pub fn one_audit_fault_over()
     ensures { OneAuditFaultOver }
 {
@@ -85,8 +86,8 @@ pub fn one_audit_fault_over()
     one_first_fault_over();
 }
 
-/// No bytes of a log and its store that are lawful over those of a base store are refused over it, want of
-/// memory aside.
+/// No bytes of a log and its store that are lawful over those of a base store are refused over it,
+/// want of memory aside.
 pub fn no_fault_of_lawful_texts_over()
     ensures { NoFaultOfLawfulTextsOver }
 {

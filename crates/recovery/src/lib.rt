@@ -1,5 +1,5 @@
-//! Recovery over devices: from the bytes of a log and a store to a new log, a recovered store and a report;
-//! and the audit of such bytes.
+//! Recovery over devices: from the bytes of a log and a store to a new log, a recovered store and a
+//! report; and the audit of such bytes.
 #![tactic(auto)]
 
 mod devices;

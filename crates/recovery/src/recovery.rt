@@ -64,12 +64,12 @@ pub struct Recovery<'a> {
     pub report: Report,
 }
 
-/// Recovers a store by its log, both read: [`restart`](restart::restart) on what their bytes spell, with
-/// the pages parted by number. The new store is made in the room of the bytes read.
+/// Recovers a store by its log, both read: [`restart`](restart::restart) on what their bytes spell,
+/// with the pages parted by number. The new store is made in the room of the bytes read.
 ///
-/// Refuses, in this order: the faults of [`wal::read_log`] for the log; those of [`page::decode_store`]
-/// for the store; those of [`restart`](restart::restart). [`Fault::NoResource`], where memory or a thread
-/// was refused, may come in place of any answer.
+/// Refuses, in this order: the faults of [`wal::read_log`] for the log; those of
+/// [`page::decode_store`] for the store; those of [`restart`](restart::restart).
+/// [`Fault::NoResource`], where memory or a thread was refused, may come in place of any answer.
 pub fn recovery_of<'a, G: Gate, R: Threads + Sync>(
     rt: &R,
     alloc: Global,

@@ -20,7 +20,8 @@ pub struct Report {
     pub redo_from: u64,
     /// Records that redo applied.
     pub redone: u64,
-    /// Transactions that were rolled back: those that the log leaves unfinished, but for the ones in doubt.
+    /// Transactions that were rolled back: those that the log leaves unfinished, but for the ones
+    /// in doubt.
     pub losers: u64,
     /// Compensation records (CLRs) appended.
     pub compensated: u64,
@@ -82,9 +83,9 @@ fn numbers_text(alloc: Global, report: &Report) -> Result<Vec<u8>, AllocError>
 }
 
 /// The eight lines `name number` of a report, each ended by a line feed: records, torn, redo-from,
-/// redone, losers, compensated, ended, pages. Where transactions are in doubt they are followed by a
-/// line `in-doubt` with their count and a line `transaction` with the number of each. The only error is
-/// [`Fault::NoResource`], where memory was refused.
+/// redone, losers, compensated, ended, pages. Where transactions are in doubt they are followed by
+/// a line `in-doubt` with their count and a line `transaction` with the number of each. The only
+/// error is [`Fault::NoResource`], where memory was refused.
 pub fn report_text(alloc: Global, report: &Report) -> Result<Vec<u8>, Fault>
     ensures text { IfOk result (λ text. text.items ≡ report_lines report.now) }
     ensures err { IfErr result (λ e. e ≡ NoResource) }

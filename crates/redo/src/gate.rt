@@ -2,8 +2,8 @@
 
 ghost use Rattle.std.specs.Prelude.{◌≡◌};
 
-/// Called once for each part, by the worker that drew it, before its work. The worker's number counts
-/// from 0. What a gate does changes no page.
+/// Called once for each part, by the worker that drew it, before its work. The worker's number
+/// counts from 0. What a gate does changes no page.
 pub trait Gate: Sync {
     fn enter(&self, worker: u32, part: u32);
 }
@@ -15,8 +15,8 @@ impl Gate for OpenGate {
     fn enter(&self, _worker: u32, _part: u32) {}
 }
 
-/// That the gate was told of a part. Nothing else makes one than the call that tells it, and the work on
-/// the part takes it: so it comes after the gate.
+/// That the gate was told of a part. Nothing else makes one than the call that tells it, and the
+/// work on the part takes it: so it comes after the gate.
 #[derive(Drop)]
 pub(crate) struct Entered {
     part: u32,

@@ -1,5 +1,5 @@
-//! Redo: repeating history on the pages of a store, by workers that draw the parts of the pages from a
-//! board.
+//! Redo: repeating history on the pages of a store, by workers that draw the parts of the pages
+//! from a board.
 #![tactic(auto)]
 
 mod crew;

@@ -17,8 +17,8 @@ pub struct Note {
     pub slot: u8,
 }
 
-/// Notes in 10 bytes each: beside the LSNs there is a number for each cell, `SLOTS` times the place and the
-/// slot. Contracts see the list of the notes.
+/// Notes in 10 bytes each: beside the LSNs there is a number for each cell, `SLOTS` times the place
+/// and the slot. Contracts see the list of the notes.
 #[derive(Drop)]
 pub struct NoteList {
     lsns: Vec<u64>,

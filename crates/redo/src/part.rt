@@ -130,7 +130,8 @@ fn finish_page(pass: &Pass, tally: &Tally) -> Progress
     }
 }
 
-/// The tallies of the pages of a part, by the routes in their order. The only error is `NoResource`.
+/// The tallies of the pages of a part, by the routes in their order. The only error is
+/// `NoResource`.
 fn count_part(alloc: Global, pass: &Pass, routes: &[Route], part: u32) -> Result<Vec<Tally>, Fault>
     requires part { part < pass.now.parting.parts }
     requires routes { AreRoutes pass.now routes.now }
@@ -164,9 +165,9 @@ fn finish(pass: &Pass, tallies: &[Tally], pages: &mut Vec<Progress>) -> Result<(
     Ok(())
 }
 
-/// Redoes the pages of a part that the gate was told of, by the routes in their order, and puts them
-/// behind those that are done. Of all records in one slot the value of the last alone is fetched. The
-/// only error is `NoResource`.
+/// Redoes the pages of a part that the gate was told of, by the routes in their order, and puts
+/// them behind those that are done. Of all records in one slot the value of the last alone is
+/// fetched. The only error is `NoResource`.
 pub(crate) fn redo_part(
     alloc: Global,
     pass: &Pass,

@@ -12,9 +12,9 @@ use page::{Fault, PAGES};
 use std::alloc::Global;
 use std::marker::Model;
 
-/// Which part each page of a store belongs to: 1 to 4,096 pages in 1 to 4,096 parts. The pages of one
-/// part are redone by one worker. Contracts see how many parts there are, the part of each page, and
-/// each page's place among those of its part.
+/// Which part each page of a store belongs to: 1 to 4,096 pages in 1 to 4,096 parts. The pages of
+/// one part are redone by one worker. Contracts see how many parts there are, the part of each
+/// page, and each page's place among those of its part.
 #[derive(Drop)]
 pub struct Parting {
     parts: u32,
@@ -70,8 +70,9 @@ impl Parting {
 
     /// The parting of so many pages into so many parts that gives page p the part `part_of[p]`.
     ///
-    /// Answers [`Fault::BadParting`] where pages or parts are outside 1 to 4,096, there is not one entry
-    /// a page, or an entry is not below `parts`; [`Fault::NoResource`] where memory was refused.
+    /// Answers [`Fault::BadParting`] where pages or parts are outside 1 to 4,096, there is not one
+    /// entry a page, or an entry is not below `parts`; [`Fault::NoResource`] where memory was
+    /// refused.
     pub fn new(alloc: Global, pages: u32, parts: u32, part_of: &[u32]) -> Result<Parting, Fault>
         ensures ok { IfOk result (λ p. (p.parts ≡ parts) × (p.part_of ≡ part_of.now)) }
         ensures dealt { OnOk result (IsDealt pages parts part_of.now) }
@@ -94,8 +95,8 @@ impl Parting {
 
     /// The parting that gives page p the part p modulo `parts`.
     ///
-    /// Answers [`Fault::BadParting`] where pages or parts are outside 1 to 4,096; [`Fault::NoResource`]
-    /// where memory was refused.
+    /// Answers [`Fault::BadParting`] where pages or parts are outside 1 to 4,096;
+    /// [`Fault::NoResource`] where memory was refused.
     pub fn by_number(alloc: Global, pages: u32, parts: u32) -> Result<Parting, Fault>
         ensures ok { IfOk result (λ p. (p.parts ≡ parts) × (p.part_of ≡ by_number pages parts)) }
         ensures sizes { OnOk result (IsSize pages × IsSize parts) }

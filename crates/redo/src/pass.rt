@@ -38,8 +38,8 @@ impl<'a> Pass<'a> {
         tables.redo_lsn
     }
 
-    /// The LSN up to which redo does not look at records: the one below redo_lsn; the log's last where
-    /// redo_lsn is 0 or behind it.
+    /// The LSN up to which redo does not look at records: the one below redo_lsn; the log's last
+    /// where redo_lsn is 0 or behind it.
     pub fn skipped(&self) -> u64
         ensures { result ≡ skipped_in self.now }
     {

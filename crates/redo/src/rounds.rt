@@ -122,18 +122,20 @@ pub fn redo_in_place<G: Gate, R: Threads + Sync>(
 }
 
 /// Repeats history on the pages of a store (ARIES, section 6.2): to each page that is listed in the
-/// dirty page table, the updates and compensations on it, of all transactions, are applied in LSN order,
-/// where their LSN is at least its RecLSN, at least `redo_lsn`, and above its PageLSN; a `redo_lsn` of 0
-/// applies none. The pages are given back, the store stays as it is.
+/// dirty page table, the updates and compensations on it, of all transactions, are applied in LSN
+/// order, where their LSN is at least its RecLSN, at least `redo_lsn`, and above its PageLSN; a
+/// `redo_lsn` of 0 applies none. The pages are given back, the store stays as it is.
 ///
 /// The work is done by `workers` threads at most, in two rounds. In the first each goes through its
-/// stretch of the log and notes, for each part of the parting, the LSNs of the records on that part's
-/// pages. In the second each draws parts from a board, calls the gate once for each, and applies the
-/// records noted for it. Whatever the workers, the parting and the gate, the outcome is the same.
+/// stretch of the log and notes, for each part of the parting, the LSNs of the records on that
+/// part's pages. In the second each draws parts from a board, calls the gate once for each, and
+/// applies the records noted for it. Whatever the workers, the parting and the gate, the outcome is
+/// the same.
 ///
-/// Refuses by [`Fault::BadWorkers`] where `workers` is outside 1 to 64; then by [`Fault::NoSuchPage`]
-/// with the LSN of the first record from `redo_lsn` on that is on a page which the store lacks.
-/// [`Fault::NoResource`], where memory was refused, may come in place of any other answer.
+/// Refuses by [`Fault::BadWorkers`] where `workers` is outside 1 to 64; then by
+/// [`Fault::NoSuchPage`] with the LSN of the first record from `redo_lsn` on that is on a page
+/// which the store lacks. [`Fault::NoResource`], where memory was refused, may come in place of any
+/// other answer.
 pub fn redo<G: Gate, R: Threads + Sync>(
     rt: &R,
     alloc: Global,

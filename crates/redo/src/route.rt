@@ -18,8 +18,8 @@ use std::thread;
 use std::thread::Threads;
 use wal::Glance;
 
-/// For each part the LSNs of one stretch of the log that are on its pages, in rising order, each with
-/// the cell that its record is in.
+/// For each part the LSNs of one stretch of the log that are on its pages, in rising order, each
+/// with the cell that its record is in.
 #[derive(Drop)]
 pub struct Route {
     pub lists: Vec<NoteList>,
@@ -87,8 +87,8 @@ fn put_note(
     Ok(())
 }
 
-/// The route through the records with LSNs above `from`, up to `to`. Refuses the first of them on a page
-/// that there is not by `NoSuchPage`.
+/// The route through the records with LSNs above `from`, up to `to`. Refuses the first of them on a
+/// page that there is not by `NoSuchPage`.
 fn route_through(alloc: Global, pass: &Pass, from: u64, to: u64) -> Result<Route, Fault>
     requires stretch { from ≤ to }
     requires within { to ≤ last_lsn (history pass.now.log) }

@@ -7,8 +7,8 @@ ghost use Rattle.page.specs.declared.sizes.TheConstants.{SLOTS};
 
 use page::SLOTS;
 
-/// What redo knows of a page before it fetches a value: of all the records that it applies to a slot
-/// the last alone counts.
+/// What redo knows of a page before it fetches a value: of all the records that it applies to a
+/// slot the last alone counts.
 #[derive(Clone, Copy)]
 pub struct Tally {
     /// The page's number.

@@ -1,12 +1,13 @@
-//! Laws of restarts on values. Each function is its law: what it ensures holds of the definitions alone.
+//! Laws of restarts on values. Each function is its law: what it ensures holds of the definitions
+//! alone.
 
 ghost use Rattle.restart.specs.OneAnswer.{OneOutcome, OneRestartFault, NoFaultOfARestart};
 
 use analysis::one_tables;
 use undo::{no_fault_of_undo, one_undo_fault};
 
-/// A log and a store have one outcome: two that meet the clause of [`restart`](crate::restart) on every
-/// input append the same records, leave the same store and tell the same numbers.
+/// A log and a store have one outcome: two that meet the clause of [`restart`](crate::restart) on
+/// every input append the same records, leave the same store and tell the same numbers.
 pub fn one_outcome()
     ensures { OneOutcome }
 {

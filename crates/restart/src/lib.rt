@@ -1,4 +1,5 @@
-//! Restart on values: analysis, redo and undo, one behind the other; and how a restart is to be run.
+//! Restart on values: analysis, redo and undo, one behind the other; and how a restart is to be
+//! run.
 #![tactic(auto)]
 
 mod doubt;

@@ -16,8 +16,8 @@ pub struct Options {
     pub parts: u32,
 }
 
-/// Refuses options out of their ranges: [`Fault::BadWorkers`] where `workers` is outside 1 to 64, then
-/// [`Fault::BadParting`] where `parts` is outside 1 to 4,096.
+/// Refuses options out of their ranges: [`Fault::BadWorkers`] where `workers` is outside 1 to 64,
+/// then [`Fault::BadParting`] where `parts` is outside 1 to 4,096.
 pub fn check_options(options: &Options) -> Result<(), Fault>
     ensures ok { OnOk result (AreInRange options.now) }
     ensures fault { IfErr result (OptionsFault options.now) }

@@ -16,9 +16,9 @@ pub struct Outcome {
     pub redone: u64,
     /// How many transactions were rolled back.
     pub losers: u64,
-    /// The transactions in doubt, in rising order of number: they have prepared to commit, and neither
-    /// committed nor turned back. What they wrote stays. Whoever settles one appends a commit or an abort
-    /// record of it to the log and restarts again.
+    /// The transactions in doubt, in rising order of number: they have prepared to commit, and
+    /// neither committed nor turned back. What they wrote stays. Whoever settles one appends a
+    /// commit or an abort record of it to the log and restarts again.
     pub in_doubt: Vec<u32>,
     /// How many compensation records (CLRs) are among the appended.
     pub compensated: u64,

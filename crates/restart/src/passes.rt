@@ -109,8 +109,8 @@ fn roll_back(
     })
 }
 
-/// [`restart`] on a store that is given away: its pages are changed in place and not copied. With an
-/// error they are gone.
+/// [`restart`] on a store that is given away: its pages are changed in place and not copied. With
+/// an error they are gone.
 pub fn restart_in_place<G: Gate, R: Threads + Sync>(
     rt: &R,
     alloc: Global,
@@ -143,23 +143,24 @@ pub fn restart_in_place<G: Gate, R: Threads + Sync>(
     roll_back(alloc, log, master, &tables, redone)
 }
 
-/// Restarts on a log and its store after a crash (ARIES, section 6): analysis from the last checkpoint
-/// on, redo by `workers` threads that draw the parts of the pages and call the gate for each, undo of
-/// the transactions that have not finished and are not in doubt.
+/// Restarts on a log and its store after a crash (ARIES, section 6): analysis from the last
+/// checkpoint on, redo by `workers` threads that draw the parts of the pages and call the gate for
+/// each, undo of the transactions that have not finished and are not in doubt.
 ///
-/// On a lawful log and its store each page has exactly what the committed and in-doubt transactions'
-/// updates and compensations, in LSN order, make of an empty page, and as PageLSN the LSN of its last
-/// record; the appended records are the log's tail, and the transactions in doubt are told. Log, store
-/// and outcome do not depend on workers, parting and gate. A restart on what was appended and the store
-/// after it appends nothing, leaves that store as it is and tells the same transactions.
+/// On a lawful log and its store each page has exactly what the committed and in-doubt
+/// transactions' updates and compensations, in LSN order, make of an empty page, and as PageLSN the
+/// LSN of its last record; the appended records are the log's tail, and the transactions in doubt
+/// are told. Log, store and outcome do not depend on workers, parting and gate. A restart on what
+/// was appended and the store after it appends nothing, leaves that store as it is and tells the
+/// same transactions.
 ///
 /// Refuses, in this order, by [`Fault::BadWorkers`] where `workers` is outside 1 to 64;
 /// [`Fault::BadParting`] where the parting has another number of pages than the store;
-/// [`Fault::PageAheadOfLog`] with the number of the first page whose PageLSN is above the log's length;
-/// [`Fault::BadMaster`] for a master that no checkpoint has; by the faults of [`redo::redo`] and then
-/// those of [`undo`]. [`Fault::NoResource`], where memory or a thread was refused, may come in place of
-/// any answer; a lawful log and its store are refused by nothing else. After an error log and store are as
-/// they were.
+/// [`Fault::PageAheadOfLog`] with the number of the first page whose PageLSN is above the log's
+/// length; [`Fault::BadMaster`] for a master that no checkpoint has; by the faults of
+/// [`redo::redo`] and then those of [`undo`]. [`Fault::NoResource`], where memory or a thread was
+/// refused, may come in place of any answer; a lawful log and its store are refused by nothing
+/// else. After an error log and store are as they were.
 pub fn restart<G: Gate, R: Threads + Sync>(
     rt: &R,
     alloc: Global,

@@ -1,5 +1,5 @@
-//! Restarts that were interrupted: the log that a restart makes, cut short at each byte, and a page that
-//! was written out on the way.
+//! Restarts that were interrupted: the log that a restart makes, cut short at each byte, and a page
+//! that was written out on the way.
 
 use crate::program::{audit, recover, remove_new_files};
 use crate::verdict::{Verdict, of_new_files};
@@ -33,8 +33,8 @@ struct Whole {
     last_lines: Vec<u8>,
 }
 
-/// Whether an audit of the cut log and this store finds them lawful, and a restart on them reports these
-/// last lines and makes the row's files.
+/// Whether an audit of the cut log and this store finds them lawful, and a restart on them reports
+/// these last lines and makes the row's files.
 fn of_cut<R: Files + AllocGlobal + Threads + Sync>(
     rt: &R,
     row: &str,
@@ -55,8 +55,8 @@ fn of_cut<R: Files + AllocGlobal + Threads + Sync>(
     Ok(verdict)
 }
 
-/// Whether the log, cut to each of the sizes, leads with this store to the row's files; else the verdict
-/// on the shortest cut that does not.
+/// Whether the log, cut to each of the sizes, leads with this store to the row's files; else the
+/// verdict on the shortest cut that does not.
 fn of_sizes<R: Files + AllocGlobal + Threads + Sync>(
     rt: &R,
     cuts: &Cuts,

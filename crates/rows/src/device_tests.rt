@@ -63,9 +63,9 @@ fn unflushed() -> Pace {
 /// What a recovery answers, and how many bytes its sinks have taken.
 type Seen = (Result<(), Fault>, usize, usize);
 
-/// Recovers a row and an empty page over devices of these paces. The sinks must have taken beginnings of
-/// the row's new log and of the store with this page; the log must be flushed before any of the store is
-/// taken, and both where it answers.
+/// Recovers a row and an empty page over devices of these paces. The sinks must have taken
+/// beginnings of the row's new log and of the store with this page; the log must be flushed before
+/// any of the store is taken, and both where it answers.
 fn seen<R: Threads + Sync>(
     rt: &R,
     alloc: Global,
@@ -237,8 +237,8 @@ impl Device {
         }
     }
 
-    /// Whether this is what is seen of a recovery, to a log and a store of these sizes, in which this
-    /// device failed.
+    /// Whether this is what is seen of a recovery, to a log and a store of these sizes, in which
+    /// this device failed.
     fn is_blamed(self, seen: &Seen, log: usize, store: usize) -> bool {
         match (self, seen) {
             (Device::LogSource, (Err(Fault::ReadLog), 0, 0)) => true,
@@ -251,8 +251,8 @@ impl Device {
     }
 }
 
-/// How many calls of this device fail before one comes at which the recovery goes through. Each of them
-/// must be blamed on it.
+/// How many calls of this device fail before one comes at which the recovery goes through. Each of
+/// them must be blamed on it.
 fn failing_calls<R: Threads + Sync>(
     rt: &R,
     alloc: Global,
@@ -298,8 +298,8 @@ fn each_device_fails_at_each_call(rt: HostRuntime) -> Result<(), Fail> {
     Ok(())
 }
 
-/// What a recovery of a row and an empty page leaves of the new log where its sink fails at this call,
-/// of seven bytes each.
+/// What a recovery of a row and an empty page leaves of the new log where its sink fails at this
+/// call, of seven bytes each.
 fn log_left_at<R: Threads + Sync>(
     rt: &R,
     alloc: Global,
@@ -324,7 +324,8 @@ fn log_left_at<R: Threads + Sync>(
     Ok(Vec::from_slice(alloc, out_log.bytes())?)
 }
 
-/// The log of two losers is taken by 16 calls; the records appended by 24, and then comes the flush.
+/// The log of two losers is taken by 16 calls; the records appended by 24, and then comes the
+/// flush.
 #[test]
 fn a_failed_recovery_is_gone_on_from(rt: HostRuntime) -> Result<(), Fail> {
     let alloc = rt.alloc();

@@ -1,5 +1,6 @@
 //! The worked rows as files: runs `aries` on each row that `data/index` names, and compares what it
-//! prints and the files it makes with those of the row; restarts are run over devices in memory, too.
+//! prints and the files it makes with those of the row; restarts are run over devices in memory,
+//! too.
 #![tactic(auto)]
 
 mod cuts;
@@ -89,8 +90,9 @@ fn run_cuts<R: Files + Print + AllocGlobal + Threads + Sync>(
     Ok(())
 }
 
-/// Runs what a line says of a row: the folder, and then `audit`; or `audit-over`; or `slow`; or `cuts`, the PageLSN of the
-/// page and the sizes of the shortest and the longest log; or the workers and the parts of a restart.
+/// Runs what a line says of a row: the folder, and then `audit`; or `audit-over`; or `slow`; or
+/// `cuts`, the PageLSN of the page and the sizes of the shortest and the longest log; or the
+/// workers and the parts of a restart.
 fn run_line<R: Files + Print + AllocGlobal + Threads + Sync>(rt: &R, line: &str) -> Result<()> {
     let mut words = line.split_whitespace();
     let row = words.next().context("a row without a name")?;

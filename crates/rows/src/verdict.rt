@@ -75,8 +75,8 @@ fn of_printed<R: Files + AllocGlobal>(rt: &R, row: &str, printed: &Printed) -> R
     of_new_files(rt, row)
 }
 
-/// Whether a restart on the row's log and store prints what the row says and, where it answers, makes
-/// the row's files. The new files are gone afterwards.
+/// Whether a restart on the row's log and store prints what the row says and, where it answers,
+/// makes the row's files. The new files are gone afterwards.
 pub fn of_restart<R: Files + AllocGlobal + Threads + Sync>(
     rt: &R,
     row: &str,

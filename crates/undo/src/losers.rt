@@ -26,8 +26,8 @@ pub struct Loser {
     pub last: u64,
 }
 
-/// Resolves a loser that the record at the LSN `from` sends to `lsn`: it waits at the update that it
-/// undoes next; where nothing is left, its end is appended.
+/// Resolves a loser that the record at the LSN `from` sends to `lsn`: it waits at the update that
+/// it undoes next; where nothing is left, its end is appended.
 pub fn resolve(
     log: &Log,
     loser: Loser,
@@ -75,8 +75,8 @@ fn is_lost(entry: Entry) -> bool
     }
 }
 
-/// Resolves the losers, in rising number, each from its UndoNxtLSN. Gives them by their places, and the
-/// ends of those that have nothing left.
+/// Resolves the losers, in rising number, each from its UndoNxtLSN. Gives them by their places, and
+/// the ends of those that have nothing left.
 pub fn begin(
     alloc: Global,
     log: &Log,

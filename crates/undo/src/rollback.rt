@@ -24,8 +24,9 @@ use std::alloc::Global;
 use std::collections::BTreeMap;
 use wal::{Log, Record, RecordView, value_of};
 
-/// Undoes the update at a place: appends its CLR, which has this LSN, and puts the before image back into
-/// the page. `last` is the LSN of its transaction's last record. Gives the update's PrevLSN.
+/// Undoes the update at a place: appends its CLR, which has this LSN, and puts the before image
+/// back into the page. `last` is the LSN of its transaction's last record. Gives the update's
+/// PrevLSN.
 fn compensate(
     log: &Log,
     place: u64,
@@ -137,20 +138,21 @@ fn undo_all(
     Ok(())
 }
 
-/// Undoes the losers, which are the entries of the transaction table (ARIES, section 6.3). Gives the
-/// pages, changed in place, and the records that a restart appends to the log, which take the LSNs
-/// behind its last one.
+/// Undoes the losers, which are the entries of the transaction table (ARIES, section 6.3). Gives
+/// the pages, changed in place, and the records that a restart appends to the log, which take the
+/// LSNs behind its last one.
 ///
-/// First each loser, in rising number, is resolved from its UndoNxtLSN: at an update it waits; at a CLR
-/// it goes on at the CLR's UndoNxtLSN; at 0 nothing is left, and its end is appended. Then the update
-/// with the largest LSN at which a loser waits is undone, again and again: its CLR is appended, slot and
-/// PageLSN of its page are set, and the loser is resolved again from the update's PrevLSN. Time is near
-/// linear in the records met; beside the records it takes one map entry for each loser.
+/// First each loser, in rising number, is resolved from its UndoNxtLSN: at an update it waits; at a
+/// CLR it goes on at the CLR's UndoNxtLSN; at 0 nothing is left, and its end is appended. Then the
+/// update with the largest LSN at which a loser waits is undone, again and again: its CLR is
+/// appended, slot and PageLSN of its page are set, and the loser is resolved again from the
+/// update's PrevLSN. Time is near linear in the records met; beside the records it takes one map
+/// entry for each loser.
 ///
-/// Errors, of which the first met in this order is given, the page of an update before the walk goes on
-/// from it:
-/// - BrokenChain(n): a loser is sent to an LSN n, not 0, at which no update or CLR of it stands below
-///   the record that sends it.
+/// Errors, of which the first met in this order is given, the page of an update before the walk
+/// goes on from it:
+/// - BrokenChain(n): a loser is sent to an LSN n, not 0, at which no update or CLR of it stands
+///   below the record that sends it.
 /// - NoSuchPage(n): the update at the LSN n, which is to be undone, is on a page that is not given.
 /// - NoResource: memory was refused. It may come in place of any answer.
 ///

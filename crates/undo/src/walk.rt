@@ -16,8 +16,8 @@ pub enum Hop {
     On(u64),
 }
 
-/// What the record at an LSN tells the walk of a transaction; None where it is no update or CLR of it,
-/// and at 0 and past the log's end.
+/// What the record at an LSN tells the walk of a transaction; None where it is no update or CLR of
+/// it, and at 0 and past the log's end.
 fn hop_at(log: &Log, tx: u32, lsn: u64) -> Option<Hop>
     ensures { result ≡ hop_of tx (record_at (history log.now) lsn) }
 {
@@ -32,8 +32,8 @@ fn hop_at(log: &Log, tx: u32, lsn: u64) -> Option<Hop>
     }
 }
 
-/// The first update that a transaction meets when the record at the LSN `from` sends it to `lsn`: at a
-/// CLR it goes on at the UndoNxtLSN at once. None where it comes to 0.
+/// The first update that a transaction meets when the record at the LSN `from` sends it to `lsn`:
+/// at a CLR it goes on at the UndoNxtLSN at once. None where it comes to 0.
 ///
 /// BrokenChain(n) where it is sent to an LSN n, not 0, at which no update or CLR of the transaction
 /// stands below the record that sends it.

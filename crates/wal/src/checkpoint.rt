@@ -39,9 +39,9 @@ impl<'a> Log<'a> {
         None
     }
 
-    /// The tables of the checkpoint whose begin record has the LSN `master`: those of the first later
-    /// checkpoint end that names it. None where no checkpoint begin stands there, or no later end names it.
-    /// The entries stay in the log's bytes, and no memory is taken.
+    /// The tables of the checkpoint whose begin record has the LSN `master`: those of the first
+    /// later checkpoint end that names it. None where no checkpoint begin stands there, or no later
+    /// end names it. The entries stay in the log's bytes, and no memory is taken.
     pub fn checkpoint(&self, master: u64) -> Option<(TransactionTable<'a>, DirtyTable<'a>)>
         ensures tables { option_map (λ x. (x.0, x.1)) result ≡ checkpoint_at master (history self.now) }
         ensures fits { IfSome result (λ x. Fits (CheckpointEnd master x.0 x.1)) }

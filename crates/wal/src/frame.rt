@@ -310,8 +310,8 @@ fn put_frame<A: Allocator>(out: &mut Vec<u8, A>, entry: &Record, lsn: u64) -> Re
     Ok(())
 }
 
-/// Appends the one spelling of the record with this LSN. `Record::is_writable` tells whether there is
-/// one.
+/// Appends the one spelling of the record with this LSN. `Record::is_writable` tells whether there
+/// is one.
 ///
 /// NoResource, where a growth of the vector was refused, leaves in it what it had.
 #[tactic(auto, using(crate::proofs::Keeping::cut_back))]

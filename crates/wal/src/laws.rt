@@ -23,8 +23,8 @@ pub fn lawful_by_record()
     ensures { LawfulByRecord }
 {}
 
-/// The hops of a transaction of a lawful log from its undo-next meet its pending updates, the newest
-/// first, and none is bad.
+/// The hops of a transaction of a lawful log from its undo-next meet its pending updates, the
+/// newest first, and none is bad.
 pub fn hops_meet_pending()
     ensures { HopsMeetPending }
 {}
@@ -34,8 +34,8 @@ pub fn replay_is_winners()
     ensures { ReplayIsWinners }
 {}
 
-/// A lawful log and its tail are lawful, have no loser, no tail, the same transactions in doubt, and the
-/// same winners.
+/// A lawful log and its tail are lawful, have no loser, no tail, the same transactions in doubt,
+/// and the same winners.
 pub fn tail_settles()
     ensures { TailSettles }
 {}
@@ -45,7 +45,8 @@ pub fn losers_end()
     ensures { LosersEnd }
 {}
 
-/// A lawful log that was cut within its tail is lawful, and its tail completes it to the same whole.
+/// A lawful log that was cut within its tail is lawful, and its tail completes it to the same
+/// whole.
 pub fn cuts_resume()
     ensures { CutsResume }
 {}
@@ -76,14 +77,14 @@ pub fn store_settles()
     ensures { StoreSettles }
 {}
 
-/// What a restart that was interrupted leaves is lawful, and a further restart goes on to the same log
-/// and the same store.
+/// What a restart that was interrupted leaves is lawful, and a further restart goes on to the same
+/// log and the same store.
 pub fn restart_goes_on()
     ensures { RestartGoesOn }
 {}
 
-/// The whole records of a cut and its store are lawful, and a restart goes on from them to the log and
-/// the store that an uninterrupted restart leaves.
+/// The whole records of a cut and its store are lawful, and a restart goes on from them to the log
+/// and the store that an uninterrupted restart leaves.
 pub fn cuts_settle()
     ensures { CutsSettle }
 {}

@@ -1,8 +1,8 @@
 //! The log: its records, their frames in bytes, and what a log means.
 //!
-//! `read_log` reads a log in place, `write_frame` appends a record's frame. The definitions of what a
-//! log means (replay, winners, pending, the laws, the tail of a restart) stand in `specs/`, and their
-//! laws are the functions of `laws`.
+//! `read_log` reads a log in place, `write_frame` appends a record's frame. The definitions of what
+//! a log means (replay, winners, pending, the laws, the tail of a restart) stand in `specs/`, and
+//! their laws are the functions of `laws`.
 #![tactic(auto)]
 
 mod change;

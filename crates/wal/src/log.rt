@@ -20,9 +20,9 @@ use page::{Fault, Value};
 use std::alloc::Global;
 use std::marker::Model;
 
-/// A log that stays in the bytes that it was read from. Beside them it holds one offset for each record,
-/// of 4 bytes in the first 4 GiB and of 8 behind them. Contracts see its content: its records,
-/// the first of which has LSN 1.
+/// A log that stays in the bytes that it was read from. Beside them it holds one offset for each
+/// record, of 4 bytes in the first 4 GiB and of 8 behind them. Contracts see its content: its
+/// records, the first of which has LSN 1.
 #[derive(Drop)]
 pub struct Log<'a> {
     bytes: &'a [u8],
@@ -59,8 +59,8 @@ impl<'a> Log<'a> {
         0
     }
 
-    /// The LSN of a record that is to come behind the last one. The log's bytes are fewer than 2^63 and
-    /// each record takes 13 of them at least, so there is room for many LSNs more (`room`).
+    /// The LSN of a record that is to come behind the last one. The log's bytes are fewer than 2^63
+    /// and each record takes 13 of them at least, so there is room for many LSNs more (`room`).
     pub fn next_lsn(&self) -> u64
         ensures next { result ≡ last_lsn (history self.now) + 1 }
         ensures room { HEADER_BYTES + SMALLEST_FRAME * length self.now.records < 2 ^ 63 }
@@ -69,8 +69,8 @@ impl<'a> Log<'a> {
         self.last() + 1
     }
 
-    /// The record at an LSN, None for 0 and past the end. It is decoded from the bytes at each call,
-    /// and takes no memory. What it shows fits the grammar (`fits`), as `to_record` asks.
+    /// The record at an LSN, None for 0 and past the end. It is decoded from the bytes at each
+    /// call, and takes no memory. What it shows fits the grammar (`fits`), as `to_record` asks.
     pub fn get(&self, lsn: u64) -> Option<RecordView<'a>>
         ensures found { option_map shown result ≡ record_at (history self.now) lsn }
         ensures fits { IfSome result (λ view. Fits (shown view)) }
@@ -78,8 +78,9 @@ impl<'a> Log<'a> {
         record_in(self.bytes, &self.offsets, lsn)
     }
 
-    /// The image that the record at an LSN put into its cell: None where that was no value, for a record
-    /// that is in no cell, and for 0 and past the end. No more of the record is decoded than that.
+    /// The image that the record at an LSN put into its cell: None where that was no value, for a
+    /// record that is in no cell, and for 0 and past the end. No more of the record is decoded than
+    /// that.
     pub fn image(&self, lsn: u64) -> Option<Value>
         ensures { result ≡ image_in (record_at (history self.now) lsn) }
     {

@@ -7,8 +7,8 @@ use page::Fault;
 use std::alloc::Global;
 use std::marker::Model;
 
-/// Offsets in a text, one behind the other: in 4 bytes each as far as that holds them, in 8 from the
-/// first one past 4 GiB on. Contracts see their list.
+/// Offsets in a text, one behind the other: in 4 bytes each as far as that holds them, in 8 from
+/// the first one past 4 GiB on. Contracts see their list.
 #[derive(Drop)]
 pub struct Offsets {
     short: Vec<u32>,

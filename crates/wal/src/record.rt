@@ -18,8 +18,8 @@ pub enum State {
     Active,
     /// It has asked to be rolled back.
     Aborting,
-    /// It has prepared to commit, and waits to be told whether it does (two-phase commit). A restart
-    /// leaves it in doubt: its changes stay, and it is listed.
+    /// It has prepared to commit, and waits to be told whether it does (two-phase commit). A
+    /// restart leaves it in doubt: its changes stay, and it is listed.
     Prepared,
 }
 

@@ -2,8 +2,8 @@
 
 use page::PAGES;
 
-/// How many entries the transaction table of a checkpoint has at most. Its dirty page table has at most
-/// one for each page.
+/// How many entries the transaction table of a checkpoint has at most. Its dirty page table has at
+/// most one for each page.
 pub const TRANSACTIONS: usize = 1024;
 
 /// How many bytes the header of a log takes.
