@@ -1,0 +1,10 @@
+//! The tests of the crates that read a log and change no page: how it is read and written, the
+//! tables that analysis finds in it, and its audit.
+#![tactic(auto)]
+
+#[cfg(test)]
+mod analysis_tests;
+#[cfg(test)]
+mod audit_tests;
+#[cfg(test)]
+mod wal_tests;
