@@ -81,7 +81,7 @@ written_same f g lsn (a ∷ actions) h =
 
 -- the chosen updates pass the test
 pub updates_pass : (p : ℕ → UpdateRecord → Bool) (log : History) → Each (λ n u. p n u ≡ true) (updates_where p log)
-updates_pass p start = tt
+updates_pass p (start _) = tt
 updates_pass p (log ▸ Update u) =
     cond_both (p (suc (last_lsn log)) u) ((suc (last_lsn log), u) ∷ updates_where p log) (updates_where p log) (λ xs. Each (λ n w. p n w ≡ true) xs) (λ e. (e, updates_pass p log)) (λ _. updates_pass p log)
 updates_pass p (log ▸ _) = updates_pass p log

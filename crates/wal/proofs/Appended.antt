@@ -1,5 +1,5 @@
 -- What a tail is made of, and what its records take over from the log.
-use Rattle.std.proofs.Common.{ℕ, suc, zero, ◌≡◌, ◌+◌, ◌^◌, ◌<◌, ◌≤◌, true, cond, List, [], ◌∷◌, ◌++◌, length, take, Some, sym, subst, inl, inr, arith, eqb-true, eqb, length-append}
+use Rattle.std.proofs.Common.{ℕ, suc, zero, ◌≡◌, ◌+◌, ◌^◌, ◌<◌, ◌≤◌, true, cond, List, [], ◌∷◌, ◌++◌, length, take, Some, sym, subst, inl, inr, arith, eqb-true, eqb}
 use Rattle.std.specs.Prelude.{All}
 use Rattle.std.specs.List.{AllByRecursion}
 use Rattle.std.proofs.lemmas.Bool.{cases_Bool, cond_both, false≢true, or_cases}
@@ -10,7 +10,7 @@ use Rattle.wal.specs.Laws.{Obeys, IsLawful}
 use Rattle.wal.specs.Tail.{Action, Finish, Undo, tx_for, record_for, written, tx_of, left_to_do, tail, tail_of}
 use Rattle.wal.specs.Spelling.{Fits}
 use Rattle.wal.specs.Store.{NamesPages}
-use Rattle.wal.proofs.Histories.{record_last, record_more, size_of_log, each_found}
+use Rattle.wal.proofs.Histories.{record_last, record_more, each_found}
 use Rattle.wal.proofs.Lists.{lawful_before}
 use Rattle.wal.proofs.Cuts.{cut_of}
 use Rattle.wal.proofs.Actions.{AllFor, left_is_of_losers}
@@ -58,10 +58,10 @@ module _ (base : BasePages) (P : LogRecord → Type 0) (Q : ℕ → Type 0) (bou
       let own : P r = next log r (omega arith) (lawful_before base (log ▸ r) rs h).1 p q.0 in
       (own, taken_over (log ▸ r) rs (omega arith) h (each_more P log r p own) q.1)
 
-  pub tail_has : (log : LogContent) (k : ℕ) → length log.records + length (take k (tail_of log)) ≤ bound → IsLawful base (history log) → ((t : ℕ) → is_loser t (history log) ≡ true → Q t)
+  pub tail_has : (log : LogContent) (k : ℕ) → last_lsn (history log) + length (take k (tail_of log)) ≤ bound → IsLawful base (history log) → ((t : ℕ) → is_loser t (history log) ≡ true → Q t)
       → EachRecord P (history log) → AllByRecursion P (take k (tail_of log))
   tail_has log k le h q p =
-      taken_over (history log) (take k (tail_of log)) (omega (arith, le, size_of_log log)) (cut_of base (history log) k h).lawful p
+      taken_over (history log) (take k (tail_of log)) le (cut_of base (history log) k h).lawful p
       (each_taken (IsRollback Q) k (tail_of log) (tail_rollback Q (history log) q))
 
 -- so it is of each record of the log and these
@@ -79,7 +79,7 @@ names_next base count log r o p q = absurd q
 pub tail_names : (base : BasePages) (count : ℕ) (log : LogContent) (k : ℕ) → IsLawful base (history log) → EachRecord (NamesPages count) (history log) → EachRecord (NamesPages count) (history log ▸▸ take k (tail_of log))
 tail_names base count log k h p =
     each_after (NamesPages count) (history log) (take k (tail_of log)) p
-    (tail_has base (NamesPages count) (λ _. Unit {0}) (length log.records + length (take k (tail_of log))) (λ log r _ o each q. names_next base count log r o each q) log k (omega arith) h (λ t l. tt) p)
+    (tail_has base (NamesPages count) (λ _. Unit {0}) (last_lsn (history log) + length (take k (tail_of log))) (λ log r _ o each q. names_next base count log r o each q) log k (omega arith) h (λ t l. tt) p)
 
 -- SPELLINGS
 abbrev FitsTx : ℕ → Type 0
@@ -93,7 +93,7 @@ tx_fits t r f e = (omega (arith, f.some_tx, eqb-true (tx_of r) t e), omega (arit
 
 -- so is each transaction of which the log has a record
 transaction_fits : (t : ℕ) (log : History) → EachRecord Fits log → has (is_of t) log ≡ true → FitsTx t
-transaction_fits t start p h = absurd (false≢true h)
+transaction_fits t (start _) p h = absurd (false≢true h)
 transaction_fits t (log ▸ r) p h =
     elim (or_cases (is_of t r) (has (is_of t) log) h) [
       | inl i ↦ tx_fits t r (p (suc (last_lsn log)) r (record_last log r)) i
@@ -101,7 +101,7 @@ transaction_fits t (log ▸ r) p h =
     ]
 
 last_of_within : (t : ℕ) (log : History) → last_of t log ≤ last_lsn log
-last_of_within t start = omega arith
+last_of_within t (start _) = omega arith
 last_of_within t (log ▸ r) =
     cond_both (is_of t r) (suc (last_lsn log)) (last_of t log) (λ n. n ≤ suc (last_lsn log)) (λ _. omega arith) (λ _. omega (arith, last_of_within t log))
 
@@ -123,14 +123,13 @@ fits_next base log (End s) few o p q = record { some_tx = q.0; tx = q.1; prev = 
 fits_next base log r few o p q = absurd q
 
 -- where the records have spellings, and no LSN is too large, those of a beginning of the tail have too
-pub tail_fits : (base : BasePages) (log : LogContent) (k : ℕ) → length (log.records ++ take k (tail_of log)) < 2 ^ 64 → IsLawful base (history log) → AllByRecursion Fits log.records
+pub tail_fits : (base : BasePages) (log : LogContent) (k : ℕ) → last_lsn (history log) + length (take k (tail_of log)) < 2 ^ 64 → IsLawful base (history log) → AllByRecursion Fits log.records
     → AllByRecursion Fits (log ⧺ take k (tail_of log)).records
 tail_fits base log k few h fits =
     let all : All Fits log.records = All-from_recursion Fits log.records fits in
-    let less : length log.records + length (take k (tail_of log)) < 2 ^ 64 = omega (arith, few, length-append log.records (take k (tail_of log))) in
     let each = each_found Fits log all in
     AllByRecursion-append log.records (take k (tail_of log)) fits
-    (tail_has base Fits FitsTx (length log.records + length (take k (tail_of log))) (λ log r l o p q. fits_next base log r (omega (arith, less, l)) o p q) log k (omega arith) h
+    (tail_has base Fits FitsTx (last_lsn (history log) + length (take k (tail_of log))) (λ log r l o p q. fits_next base log r (omega (arith, few, l)) o p q) log k (omega arith) h
     (λ t l. transaction_fits t (history log) each (loser_has t (history log) l)) each)
   where
     AllByRecursion-append : (xs ys : List LogRecord) → AllByRecursion Fits xs → AllByRecursion Fits ys → AllByRecursion Fits (xs ++ ys)

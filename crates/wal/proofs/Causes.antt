@@ -1,16 +1,19 @@
 -- A text that is no log is refused for one cause, and a log for none.
 use Rattle.std.proofs.Common.{◌≡◌, ◌≢◌, ◌⊎◌, ℕ, ◌+◌, ◌^◌, ◌<◌, List, [], ◌∷◌, ◌++◌, length, drop, Some, None, Option, refl, sym, ap, subst, ◌∙◌, append_assoc, arith, inl, inr}
 use Rattle.std.specs.List.{AllByRecursion}
-use Rattle.std.proofs.lemmas.List.{length-append, drop_at}
+use Rattle.std.proofs.lemmas.List.{length-append}
 use Rattle.std.proofs.lemmas.Option.{same_Some}
 use Rattle.page.specs.declared.fault.Fault.{Fault}
 use Rattle.page.specs.declared.fault.Fault.TheVariants.{NoResource, BadLogHeader, BadLength, BadRecord, BadLsn}
-use Rattle.wal.specs.Records.{LogRecord, LogContent}
+use Rattle.wal.specs.declared.header.LogStart.{LogStart}
+use Rattle.wal.specs.Records.{LogRecord, lsn_before, LogContent}
+use Rattle.wal.specs.Headers.{header_of, header_bytes, FitsStart}
 use Rattle.wal.specs.Spelling.{body, frame, Fits}
-use Rattle.wal.specs.Frames.{next_at, header}
+use Rattle.wal.specs.Frames.{next_at}
 use Rattle.wal.specs.Reading.{body_at}
-use Rattle.wal.specs.Reads.{spellings, IsTorn, Reads, HasFault, FaultBehind, Cause, OneLogFault, NoFaultOfALog}
+use Rattle.wal.specs.Reads.{spellings, IsTorn, Reads, HasFault, FaultBehind, HasFaultBehind, Cause, OneLogFault, NoFaultOfALog}
 use Rattle.wal.proofs.Bodies.{body_again}
+use Rattle.wal.proofs.Headers.{header_dropped, one_start}
 use Rattle.wal.proofs.Whole.{ok_is, body_size, right_body, frame_length, frame_rest, frame_next, torn_none}
 
 -- IN FRONT
@@ -131,41 +134,47 @@ none_behind lsn offset (r ∷ xs) (s ∷ ys) tail rest e fit also small torn tex
     none_behind (lsn + 1) (offset + length (frame s lsn)) xs ys tail rest e fit.1 also.1 (omega (arith, small)) torn same.behind (one_more lsn offset s ys rest e y)
 
 -- THE TEXT
--- what a cause says, the header's aside
-record IsBehindHeader (bytes : List ℕ) (e : Fault) : Type 0 where
-  pub front : bytes ≡ header ++ drop 8 bytes
-  pub behind : FaultBehind 1 8 (drop 8 bytes) e
-
 abbrev NoHeader : List ℕ → Type 0
-NoHeader bytes = (rest : List ℕ) → bytes ≢ header ++ rest
+NoHeader bytes = (begins : LogStart) (rest : List ℕ) → FitsStart begins → bytes ≢ header_of begins ++ rest
 
-either : (bytes : List ℕ) (e : Fault) → (e ≡ NoResource → ⊥) → Cause bytes e → ((e ≡ BadLogHeader) × NoHeader bytes) ⊎ IsBehindHeader bytes e
+either : (bytes : List ℕ) (e : Fault) → (e ≡ NoResource → ⊥) → Cause bytes e → ((e ≡ BadLogHeader) × NoHeader bytes) ⊎ HasFaultBehind bytes e
 either bytes NoResource some h = absurd (some refl)
 either bytes BadLogHeader some h = inl (refl, h)
-either bytes e some h = inr (record { front = h.0; behind = h.1 })
+either bytes e some h = inr h
+
+-- behind one header there is one fault
+one_fault_behind : (bytes : List ℕ) (d e : Fault) (a : HasFaultBehind bytes d) (b : HasFaultBehind bytes e) → a.begins ≡ b.begins → d ≡ e
+one_fault_behind bytes d e a b same =
+    let p = a.behind in
+    let q : FaultBehind (lsn_before a.begins + 1) (header_bytes a.begins) (drop (header_bytes a.begins) bytes) e =
+    subst (λ begins. FaultBehind (lsn_before begins + 1) (header_bytes begins) (drop (header_bytes begins) bytes) e) (sym same) b.behind in
+    one_behind (lsn_before a.begins + 1) (header_bytes a.begins) p.records q.records p.rest q.rest d e p.each q.each p.few q.few (sym p.text ∙ q.text) p.fault q.fault
 
 pub one_log_fault : OneLogFault
 one_log_fault bytes d e some other x y =
     elim (either bytes d some x) [
-      | inl a ↦ elim (either bytes e other y) [ inl b ↦ a.0 ∙ sym b.0 | inr b ↦ absurd (a.1 (drop 8 bytes) b.front) ]
+      | inl a ↦ elim (either bytes e other y) [ inl b ↦ a.0 ∙ sym b.0 | inr b ↦ absurd (a.1 b.begins (drop (header_bytes b.begins) bytes) b.starts b.front) ]
       | inr a ↦
           elim (either bytes e other y) [
-            | inl b ↦ absurd (b.1 (drop 8 bytes) a.front)
-            | inr b ↦
-                (let p = a.behind in
-                let q = b.behind in
-                one_behind 1 8 p.records q.records p.rest q.rest d e p.each q.each p.few q.few (sym p.text ∙ q.text) p.fault q.fault)
+            | inl b ↦ absurd (b.1 a.begins (drop (header_bytes a.begins) bytes) a.starts a.front)
+            | inr b ↦ one_fault_behind bytes d e a b (one_start a.begins b.begins (drop (header_bytes a.begins) bytes) (drop (header_bytes b.begins) bytes) a.starts b.starts (sym a.front ∙ b.front))
           ]
     ]
 
 none_stands : (bytes : List ℕ) (log : LogContent) (torn : ℕ) → Reads bytes log torn → (e : Fault) → (e ≡ NoResource → ⊥) → Cause bytes e → ⊥
 none_stands bytes log torn reads e some h =
     let records = log.records in
-    let text : bytes ≡ header ++ (spellings 1 records ++ reads.tail) = reads.text ∙ append_assoc header (spellings 1 records) reads.tail in
-    let behind : drop 8 bytes ≡ spellings 1 records ++ reads.tail = ap (drop 8) text ∙ drop_at header (spellings 1 records ++ reads.tail) 8 refl in
+    let begins = log.begins in
+    let first = lsn_before begins + 1 in
+    let text : bytes ≡ header_of begins ++ (spellings first records ++ reads.tail) = reads.text ∙ append_assoc (header_of begins) (spellings first records) reads.tail in
+    let behind : drop (header_bytes begins) bytes ≡ spellings first records ++ reads.tail = ap (drop (header_bytes begins)) text ∙ header_dropped begins (spellings first records ++ reads.tail) in
     elim (either bytes e some h) [
-      | inl a ↦ a.1 (spellings 1 records ++ reads.tail) text
-      | inr a ↦ (let p = a.behind in none_behind 1 8 records p.records reads.tail p.rest e reads.each p.each p.few reads.torn_tail (sym behind ∙ p.text) p.fault)
+      | inl a ↦ a.1 begins (spellings first records ++ reads.tail) reads.starts text
+      | inr a ↦
+          (let same : a.begins ≡ begins = one_start a.begins begins (drop (header_bytes a.begins) bytes) (spellings first records ++ reads.tail) a.starts reads.starts (sym a.front ∙ text) in
+          let p : FaultBehind first (header_bytes begins) (drop (header_bytes begins) bytes) e =
+          subst (λ b. FaultBehind (lsn_before b + 1) (header_bytes b) (drop (header_bytes b) bytes) e) same a.behind in
+          none_behind first (header_bytes begins) records p.records reads.tail p.rest e reads.each p.each p.few reads.torn_tail (sym behind ∙ p.text) p.fault)
     ]
 
 pub no_fault_of_a_log : NoFaultOfALog

@@ -2,13 +2,13 @@
 use Rattle.std.proofs.Common.{ℕ, ◌≡◌, ◌+◌, ◌<◌, ◌≤◌, Bool, true, false, cond, eqb, eq-eqb, leb, ltb, inl, inr, List, [], ◌∷◌, Option, Some, None, refl, sym, ap, ◌∙◌, arith}
 use Rattle.std.proofs.Math.Bool.{and-false}
 use Rattle.std.proofs.lemmas.Bool.{cases_Bool, false≢true, le-leb, lt-leb}
-use Rattle.wal.specs.Records.{TableEntry, LogRecord, CheckpointBegin, CheckpointEnd, History, start, ◌▸◌, ◌▸▸◌, last_lsn, record_at, first}
+use Rattle.wal.specs.Records.{TableEntry, LogRecord, CheckpointBegin, CheckpointEnd, History, start, ◌▸◌, ◌▸▸◌, last_lsn, record_at, first, base_lsn}
 use Rattle.wal.specs.Store.{first_end, is_begin, checkpoint_at}
-use Rattle.wal.proofs.Histories.{record_within, size_of_first}
+use Rattle.wal.proofs.Histories.{record_within, size_of_first, record_above}
 
 -- THE FIRST END that names a begin
 pub first_end_none : (m : ℕ) (log : History) → last_lsn log ≤ m → first_end m log ≡ None
-first_end_none m start le = refl
+first_end_none m (start _) le = refl
 first_end_none m (log ▸ CheckpointEnd begin ts d) le =
     let older = first_end_none m log (omega arith) in
     let e : leb m (last_lsn log) ≡ false = lt-leb m (last_lsn log) (omega arith) in
@@ -23,17 +23,17 @@ first_end_after m log (r ∷ rs) x e = first_end_after m (log ▸ r) rs x e
 -- the end that is met names m, and none before it does
 -- and one that is found up to an LSN is the first of the log
 first_end_before : (m lsn : ℕ) (log : History) (x : List TableEntry × List (ℕ × ℕ)) → first_end m (first lsn log) ≡ Some x → first_end m log ≡ Some x
-first_end_before m lsn start x e = e
+first_end_before m lsn (start _) x e = e
 first_end_before m lsn (log ▸ r) x e =
     elim (cases_Bool (ltb (last_lsn log) lsn)) [
       | inl i ↦ sym (ap (λ b. first_end m (cond b (log ▸ r) (first lsn log))) i) ∙ e
       | inr i ↦ first_end_after m log (r ∷ []) x (first_end_before m lsn log x (sym (ap (λ b. first_end m (cond b (log ▸ r) (first lsn log))) i) ∙ e))
     ]
 
-pub first_end_met : (log : History) (m lsn : ℕ) (begin : ℕ) (ts : List TableEntry) (d : List (ℕ × ℕ)) → lsn < last_lsn log → m ≤ lsn → begin ≡ m → first_end m (first lsn log) ≡ None
+pub first_end_met : (log : History) (m lsn : ℕ) (begin : ℕ) (ts : List TableEntry) (d : List (ℕ × ℕ)) → base_lsn log ≤ m → lsn < last_lsn log → m ≤ lsn → begin ≡ m → first_end m (first lsn log) ≡ None
     → first (lsn + 1) log ≡ first lsn log ▸ CheckpointEnd begin ts d → Some (ts, d) ≡ first_end m log
-first_end_met log m lsn begin ts d lt le own none next =
-    let n : last_lsn (first lsn log) ≡ lsn = size_of_first lsn log (omega arith) in
+first_end_met log m lsn begin ts d from lt le own none next =
+    let n : last_lsn (first lsn log) ≡ lsn = size_of_first lsn log (omega (arith, from, le)) (omega arith) in
     let named : eqb begin m ≡ true = eq-eqb begin m own in
     let behind : leb m (last_lsn (first lsn log)) ≡ true = le-leb _ _ (omega (arith, n)) in
     let here : first_end m (first (lsn + 1) log) ≡ Some (ts, d) = ap (first_end m) next ∙ (rw (none, named, behind) refl) in
@@ -55,6 +55,10 @@ chosen false o x e = absurd cc
 pub checkpoint_begins : (m : ℕ) (log : History) (x : Both) → checkpoint_at m log ≡ Some x → record_at log m ≡ Some CheckpointBegin
 checkpoint_begins m log x e = begin_is (record_at log m) (chosen (is_begin (record_at log m)) (first_end m log) x e).0
 
+-- a begin is a record of the log
+pub begin_above : (m : ℕ) (log : History) → is_begin (record_at log m) ≡ true → base_lsn log ≤ m
+begin_above m log h = omega (arith, record_above log m CheckpointBegin (begin_is (record_at log m) h))
+
 pub checkpoint_ends : (m : ℕ) (log : History) (x : Both) → checkpoint_at m log ≡ Some x → first_end m log ≡ Some x
 checkpoint_ends m log x e = (chosen (is_begin (record_at log m)) (first_end m log) x e).1
 
@@ -63,3 +67,6 @@ checkpoint_there m log begins = ap (λ o. cond (is_begin o) (first_end m log) No
 
 pub checkpoint_within : (m : ℕ) (log : History) (x : Both) → checkpoint_at m log ≡ Some x → m ≤ last_lsn log
 checkpoint_within m log x e = record_within log m CheckpointBegin (checkpoint_begins m log x e)
+
+pub checkpoint_above : (m : ℕ) (log : History) (x : Both) → checkpoint_at m log ≡ Some x → base_lsn log < m
+checkpoint_above m log x e = record_above log m CheckpointBegin (checkpoint_begins m log x e)

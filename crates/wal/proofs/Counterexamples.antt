@@ -30,7 +30,7 @@ says TheStrictness = Strictness
 
 -- each record keeps every law but this one
 abbrev KeepsBut : Law → History → Type 0
-KeepsBut law start = Unit {0}
+KeepsBut law (start _) = Unit {0}
 KeepsBut law (log ▸ r) = KeepsBut law log × ((other : Law) → other ≢ law → says other log r)
 
 -- without this law, the log and its tail leave in the first cell something else than the winners do
@@ -47,7 +47,7 @@ keeps law log r o TheBefore n = o.before
 keeps law log r o TheStrictness n = o.strict
 
 -- the first record of a log, an update
-first_update : Obeys no_base start (U 1 0 0 None a)
+first_update : Obeys no_base (start 0) (U 1 0 0 None a)
 first_update = record { chain = refl; finish = (refl, refl, refl); compensation = tt; before = refl; strict = λ other n w. absurd (false≢true w) }
 
 -- none of another transaction is in a cell that only this one could have touched
@@ -56,16 +56,16 @@ nobody other w = false≢true (sym (or_from (eqb 1 other && false) false (and_ri
 
 -- STRICTNESS. An update over one that is still open: undoing the first takes the second one's value away.
 without_strictness : Fails TheStrictness (L (U 1 0 0 None a ∷ U 2 0 0 a b ∷ K 2 2 ∷ []))
-without_strictness = record { others = (((tt, keeps TheStrictness start (U 1 0 0 None a) first_update), second), third); differs = λ e. (let f : None ≡ b = e in cc) }
+without_strictness = record { others = (((tt, keeps TheStrictness (start 0) (U 1 0 0 None a) first_update), second), third); differs = λ e. (let f : None ≡ b = e in cc) }
   where
-    second : (other : Law) → other ≢ TheStrictness → says other (start ▸ U 1 0 0 None a) (U 2 0 0 a b)
+    second : (other : Law) → other ≢ TheStrictness → says other (start 0 ▸ U 1 0 0 None a) (U 2 0 0 a b)
     second TheChain n = refl
     second TheFinish n = (refl, refl, refl)
     second TheCompensation n = tt
     second TheBefore n = refl
     second TheStrictness n = absurd (n refl)
 
-    third : (other : Law) → other ≢ TheStrictness → says other ((start ▸ U 1 0 0 None a) ▸ U 2 0 0 a b) (K 2 2)
+    third : (other : Law) → other ≢ TheStrictness → says other ((start 0 ▸ U 1 0 0 None a) ▸ U 2 0 0 a b) (K 2 2)
     third TheChain n = refl
     third TheFinish n = (refl, refl)
     third TheCompensation n = tt
@@ -84,9 +84,9 @@ unstrict_page law = (let f : b ≡ None = ap (λ slots. get_or slots 0 None) law
 
 -- COMPENSATION. An end with an update left: nothing undoes it any more.
 without_compensation_of_ends : Fails TheCompensation (L (U 1 0 0 None a ∷ E 1 1 ∷ []))
-without_compensation_of_ends = record { others = ((tt, keeps TheCompensation start (U 1 0 0 None a) first_update), second); differs = λ e. (let f : a ≡ None = e in cc) }
+without_compensation_of_ends = record { others = ((tt, keeps TheCompensation (start 0) (U 1 0 0 None a) first_update), second); differs = λ e. (let f : a ≡ None = e in cc) }
   where
-    second : (other : Law) → other ≢ TheCompensation → says other (start ▸ U 1 0 0 None a) (E 1 1)
+    second : (other : Law) → other ≢ TheCompensation → says other (start 0 ▸ U 1 0 0 None a) (E 1 1)
     second TheChain n = refl
     second TheFinish n = (refl, refl)
     second TheCompensation n = absurd (n refl)
@@ -95,9 +95,9 @@ without_compensation_of_ends = record { others = ((tt, keeps TheCompensation sta
 
 -- A CLR that puts another value there than was before.
 without_compensation : Fails TheCompensation (L (U 1 0 0 None a ∷ C 1 1 0 0 b ∷ []))
-without_compensation = record { others = ((tt, keeps TheCompensation start (U 1 0 0 None a) first_update), second); differs = λ e. (let f : b ≡ None = e in cc) }
+without_compensation = record { others = ((tt, keeps TheCompensation (start 0) (U 1 0 0 None a) first_update), second); differs = λ e. (let f : b ≡ None = e in cc) }
   where
-    second : (other : Law) → other ≢ TheCompensation → says other (start ▸ U 1 0 0 None a) (C 1 1 0 0 b)
+    second : (other : Law) → other ≢ TheCompensation → says other (start 0 ▸ U 1 0 0 None a) (C 1 1 0 0 b)
     second TheChain n = refl
     second TheFinish n = (refl, refl)
     second TheCompensation n = absurd (n refl)
@@ -108,7 +108,7 @@ without_compensation = record { others = ((tt, keeps TheCompensation start (U 1 
 without_before : Fails TheBefore (L (U 1 0 0 b a ∷ []))
 without_before = record { others = (tt, only); differs = λ e. (let f : b ≡ None = e in cc) }
   where
-    only : (other : Law) → other ≢ TheBefore → says other start (U 1 0 0 b a)
+    only : (other : Law) → other ≢ TheBefore → says other (start 0) (U 1 0 0 b a)
     only TheChain n = refl
     only TheFinish n = (refl, refl, refl)
     only TheCompensation n = tt
@@ -119,14 +119,14 @@ without_before = record { others = (tt, only); differs = λ e. (let f : b ≡ No
 without_finish : Fails TheFinish (L (E 1 0 ∷ U 1 1 0 None a ∷ []))
 without_finish = record { others = ((tt, first), second); differs = λ e. (let f : a ≡ None = e in cc) }
   where
-    first : (other : Law) → other ≢ TheFinish → says other start (E 1 0)
+    first : (other : Law) → other ≢ TheFinish → says other (start 0) (E 1 0)
     first TheChain n = refl
     first TheFinish n = absurd (n refl)
     first TheCompensation n = λ _. refl
     first TheBefore n = tt
     first TheStrictness n = tt
 
-    second : (other : Law) → other ≢ TheFinish → says other (start ▸ E 1 0) (U 1 1 0 None a)
+    second : (other : Law) → other ≢ TheFinish → says other (start 0 ▸ E 1 0) (U 1 1 0 None a)
     second TheChain n = refl
     second TheFinish n = absurd (n refl)
     second TheCompensation n = tt
@@ -138,9 +138,9 @@ abbrev unchained : LogContent
 unchained = L (U 1 0 0 None a ∷ U 1 0 1 None b ∷ [])
 
 unchained_others : KeepsBut TheChain (history unchained)
-unchained_others = ((tt, keeps TheChain start (U 1 0 0 None a) first_update), second)
+unchained_others = ((tt, keeps TheChain (start 0) (U 1 0 0 None a) first_update), second)
   where
-    second : (other : Law) → other ≢ TheChain → says other (start ▸ U 1 0 0 None a) (U 1 0 1 None b)
+    second : (other : Law) → other ≢ TheChain → says other (start 0 ▸ U 1 0 0 None a) (U 1 0 1 None b)
     second TheChain n = absurd (n refl)
     second TheFinish n = (refl, refl, refl)
     second TheCompensation n = tt
@@ -178,7 +178,7 @@ abbrev worked_on : LogContent
 worked_on = L (U 1 0 0 None a ∷ P 1 1 ∷ U 1 2 0 a b ∷ A 1 3 ∷ [])
 
 worked_on_others : KeepsBut TheFinish (history worked_on)
-worked_on_others = ((((tt, keeps TheFinish start (U 1 0 0 None a) first_update), second), third), fourth)
+worked_on_others = ((((tt, keeps TheFinish (start 0) (U 1 0 0 None a) first_update), second), third), fourth)
   where
     nobody_else : (other : ℕ) → other ≢ 1 → touches other 0 0 (history prepared) ≡ true → ⊥
     nobody_else other d w =
@@ -186,7 +186,7 @@ worked_on_others = ((((tt, keeps TheFinish start (U 1 0 0 None a) first_update),
         let f : false ≡ true = rw e at w in
         false≢true f
 
-    second : (other : Law) → other ≢ TheFinish → says other (start ▸ U 1 0 0 None a) (P 1 1)
+    second : (other : Law) → other ≢ TheFinish → says other (start 0 ▸ U 1 0 0 None a) (P 1 1)
     second TheChain n = refl
     second TheFinish n = absurd (n refl)
     second TheCompensation n = tt
@@ -217,11 +217,11 @@ no_write_over_prepared law = false≢true (law 1 (λ e. omega (arith, e)) refl)
 -- Aborted later, it would take away what another committed there.
 without_strictness_of_prepared : Fails TheStrictness (L (U 1 0 0 None a ∷ P 1 1 ∷ U 2 0 0 a c ∷ K 2 3 ∷ A 1 2 ∷ []))
 without_strictness_of_prepared = record {
-  others = (((((tt, keeps TheStrictness start (U 1 0 0 None a) first_update), second), third), fourth), fifth);
+  others = (((((tt, keeps TheStrictness (start 0) (U 1 0 0 None a) first_update), second), third), fourth), fifth);
   differs = λ e. (let f : None ≡ c = e in cc);
 }
   where
-    second : (other : Law) → other ≢ TheStrictness → says other (start ▸ U 1 0 0 None a) (P 1 1)
+    second : (other : Law) → other ≢ TheStrictness → says other (start 0 ▸ U 1 0 0 None a) (P 1 1)
     second TheChain n = refl
     second TheFinish n = (refl, refl, refl)
     second TheCompensation n = tt

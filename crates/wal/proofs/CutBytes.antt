@@ -6,14 +6,16 @@ use Rattle.std.proofs.lemmas.List.{append_cancel_left, length-take}
 use Rattle.page.specs.declared.fault.Fault.{Fault}
 use Rattle.page.specs.Store.{StoreContent, AreNumbered}
 use Rattle.wal.specs.Meaning.{BasePages}
-use Rattle.wal.specs.Records.{LogRecord, LogContent, history, ◌⧺◌, up_to, last_lsn}
+use Rattle.wal.specs.Records.{LogRecord, lsn_before, LogContent, history, ◌⧺◌, up_to, last_lsn}
 use Rattle.wal.specs.Tail.{tail_of, with_tail}
 use Rattle.wal.specs.Spelling.{body, frame, Fits}
-use Rattle.wal.specs.Frames.{header, next_at}
+use Rattle.wal.specs.Headers.{header_of, FitsStart}
+use Rattle.wal.specs.Frames.{next_at}
 use Rattle.wal.specs.Reads.{spellings, log_text, IsTorn}
 use Rattle.wal.specs.Store.{PageLaw, Lawful, Cut}
 use Rattle.wal.specs.Theorems.{Interrupted, GoesOn, CutsSettle, CutsCompose}
 use Rattle.wal.proofs.Histories.{size_of_log}
+use Rattle.wal.proofs.Headers.{one_start}
 use Rattle.wal.proofs.Lists.{take-append-ge, up_to_in_tail}
 use Rattle.wal.proofs.Whole.{frame_next, torn_none}
 use Rattle.wal.proofs.Appended.{tail_fits}
@@ -68,39 +70,59 @@ spellings-append lsn (x ∷ xs) ys =
     ∙ sym (append_assoc (frame x lsn) (spellings (lsn + 1) xs) (spellings (lsn + length (x ∷ xs)) ys))
 
 -- THE CUT
-module _ (base : BasePages) (log : LogContent) (store : StoreContent) (bytes : List ℕ) (left : StoreContent) (h : Lawful base log store) (fits : AllByRecursion Fits log.records) (few : last_lsn (history log) < 2 ^ 64)
-    (c : Cut base log store bytes left) where
-  -- the cut's bytes, and then what is missing, spell the log and its tail
-  whole_first : spellings 1 (with_tail log).records ≡ spellings 1 c.whole.records ++ (c.reads.tail ++ c.missing)
-  whole_first =
-      append_cancel_left header (spellings 1 (with_tail log).records) (spellings 1 c.whole.records ++ (c.reads.tail ++ c.missing))
-      (c.ends ∙ ap (λ (text : List ℕ). text ++ c.missing) c.reads.text ∙ append_assoc (log_text c.whole) c.reads.tail c.missing ∙ append_assoc header (spellings 1 c.whole.records) (c.reads.tail ++ c.missing))
+module _ (base : BasePages) (log : LogContent) (store : StoreContent) (bytes : List ℕ) (left : StoreContent) (h : Lawful base log store) (starts : FitsStart log.begins) (fits : AllByRecursion Fits log.records)
+    (few : last_lsn (history log) < 2 ^ 64) (c : Cut base log store bytes left) where
+  -- the LSN of the first record
+  abbrev lsn : ℕ
+  lsn = lsn_before log.begins + 1
 
-  log_first : spellings 1 c.whole.records ++ c.reads.tail ≡ spellings 1 log.records ++ c.written
+  -- the cut begins as the log does
+  same_start : c.whole.begins ≡ log.begins
+  same_start =
+      one_start c.whole.begins log.begins (spellings (lsn_before c.whole.begins + 1) c.whole.records ++ c.reads.tail) (spellings lsn log.records ++ c.written) c.reads.starts starts
+      (sym (append_assoc (header_of c.whole.begins) (spellings (lsn_before c.whole.begins + 1) c.whole.records) c.reads.tail) ∙ sym c.reads.text ∙ c.begins
+      ∙ append_assoc (header_of log.begins) (spellings lsn log.records) c.written)
+
+  same_text : log_text c.whole ≡ header_of log.begins ++ spellings lsn c.whole.records
+  same_text = ap (λ b. header_of b ++ spellings (lsn_before b + 1) c.whole.records) same_start
+
+  same_base : lsn_before c.whole.begins ≡ lsn_before log.begins
+  same_base = ap lsn_before same_start
+
+  -- the cut's bytes, and then what is missing, spell the log and its tail
+  whole_first : spellings lsn (with_tail log).records ≡ spellings lsn c.whole.records ++ (c.reads.tail ++ c.missing)
+  whole_first =
+      append_cancel_left (header_of log.begins) (spellings lsn (with_tail log).records) (spellings lsn c.whole.records ++ (c.reads.tail ++ c.missing))
+      (c.ends ∙ ap (λ (text : List ℕ). text ++ c.missing) c.reads.text ∙ append_assoc (log_text c.whole) c.reads.tail c.missing ∙ ap (λ (text : List ℕ). text ++ (c.reads.tail ++ c.missing)) same_text
+      ∙ append_assoc (header_of log.begins) (spellings lsn c.whole.records) (c.reads.tail ++ c.missing))
+
+  log_first : spellings lsn c.whole.records ++ c.reads.tail ≡ spellings lsn log.records ++ c.written
   log_first =
-      append_cancel_left header (spellings 1 c.whole.records ++ c.reads.tail) (spellings 1 log.records ++ c.written)
-      (sym (append_assoc header (spellings 1 c.whole.records) c.reads.tail) ∙ sym c.reads.text ∙ c.begins ∙ append_assoc header (spellings 1 log.records) c.written)
+      append_cancel_left (header_of log.begins) (spellings lsn c.whole.records ++ c.reads.tail) (spellings lsn log.records ++ c.written)
+      (sym (append_assoc (header_of log.begins) (spellings lsn c.whole.records) c.reads.tail) ∙ sym (ap (λ (text : List ℕ). text ++ c.reads.tail) same_text) ∙ sym c.reads.text ∙ c.begins
+      ∙ append_assoc (header_of log.begins) (spellings lsn log.records) c.written)
 
   past : length log.records ≤ length c.whole.records
-  past = as_many 1 log.records c.whole.records c.written c.reads.tail fits c.reads.each (omega (arith, few, size_of_log log)) c.reads.torn_tail log_first
+  past = as_many lsn log.records c.whole.records c.written c.reads.tail fits c.reads.each (omega (arith, few, size_of_log log)) c.reads.torn_tail log_first
 
   -- the records up to the cut have spellings
   all_fit : AllByRecursion Fits (take (length c.whole.records) (with_tail log).records)
   all_fit =
       let k : ℕ = length c.whole.records - length log.records in
       let e : take (length c.whole.records) (with_tail log).records ≡ log.records ++ take k (tail_of log) = take-append-ge (length c.whole.records) log.records (tail_of log) past in
+      let less : length (log.records ++ take k (tail_of log)) ≤ length c.whole.records = omega (arith, ap length e, length-take (length c.whole.records) (with_tail log).records) in
       subst (λ xs. AllByRecursion Fits xs) (sym e)
-      (tail_fits base log k (omega (arith, ap length e, length-take (length c.whole.records) (with_tail log).records, c.reads.few, size_of_log c.whole)) h.log fits)
+      (tail_fits base log k (omega (arith, less, length-append log.records (take k (tail_of log)), c.reads.few, size_of_log log, size_of_log c.whole, same_base)) h.log fits)
 
   whole_is : c.whole ≡ up_to (last_lsn (history c.whole)) (with_tail log)
   whole_is =
-      ap (λ xs. record { records = xs })
-      (beginning 1 (with_tail log).records c.whole.records (c.reads.tail ++ c.missing) all_fit c.reads.each (omega (arith, c.reads.few, size_of_log c.whole)) whole_first
-      ∙ ap (λ n. take n (with_tail log).records) (sym (size_of_log c.whole)))
+      ap₂ (λ b xs. record { begins = b; records = xs }) same_start
+      (beginning lsn (with_tail log).records c.whole.records (c.reads.tail ++ c.missing) all_fit c.reads.each (omega (arith, c.reads.few, size_of_log c.whole, same_base)) whole_first
+      ∙ ap (λ n. take n (with_tail log).records) (omega (arith, size_of_log c.whole, same_base)))
 
   -- the cut is not below the log's end
   past_log : last_lsn (history log) ≤ last_lsn (history c.whole)
-  past_log = omega (arith, past, size_of_log log, size_of_log c.whole)
+  past_log = omega (arith, past, size_of_log log, size_of_log c.whole, same_base)
 
   pub cut_interrupted : AreNumbered left.pages → Interrupted base log store (last_lsn (history c.whole)) left
   cut_interrupted numbered =
@@ -118,20 +140,20 @@ module _ (base : BasePages) (log : LogContent) (store : StoreContent) (bytes : L
       subst (λ l. GoesOn base log store l left) (sym whole_is) (restart_goes_on base log store (last_lsn (history c.whole)) left numbered h (cut_interrupted left_numbered))
 
   -- the text of the cut's records goes on from that of the log's
-  text_goes_on : (rest : List ℕ) → log_text c.whole ++ rest ≡ log_text log ++ (spellings (1 + length log.records) (take (length c.whole.records - length log.records) (tail_of log)) ++ rest)
+  text_goes_on : (rest : List ℕ) → log_text c.whole ++ rest ≡ log_text log ++ (spellings (lsn + length log.records) (take (length c.whole.records - length log.records) (tail_of log)) ++ rest)
   text_goes_on rest =
       let k : ℕ = length c.whole.records - length log.records in
       let e : c.whole ≡ log ⧺ take k (tail_of log) =
-      whole_is ∙ up_to_in_tail (last_lsn (history c.whole)) log past_log ∙ ap (λ n. log ⧺ take (n - length log.records) (tail_of log)) (size_of_log c.whole) in
-      let f : log_text c.whole ≡ header ++ (spellings 1 log.records ++ spellings (1 + length log.records) (take k (tail_of log))) =
-      ap log_text e ∙ ap (λ (x : List ℕ). header ++ x) (spellings-append 1 log.records (take k (tail_of log))) in
+      whole_is ∙ up_to_in_tail (last_lsn (history c.whole)) log past_log ∙ ap (λ n. log ⧺ take n (tail_of log)) (omega (arith, size_of_log log, size_of_log c.whole, same_base)) in
+      let f : log_text c.whole ≡ header_of log.begins ++ (spellings lsn log.records ++ spellings (lsn + length log.records) (take k (tail_of log))) =
+      ap log_text e ∙ ap (λ (x : List ℕ). header_of log.begins ++ x) (spellings-append lsn log.records (take k (tail_of log))) in
       ap (λ (x : List ℕ). x ++ rest) f ∙ simp append_assoc
 
   pub cut_again : AreNumbered store.pages → AreNumbered left.pages → (later : List ℕ) (later_left : StoreContent) → Cut base c.whole left later later_left → Cut base log store later later_left
   cut_again numbered left_numbered later later_left d =
       let g = cut_goes_on numbered left_numbered in
       record {
-        written = spellings (1 + length log.records) (take (length c.whole.records - length log.records) (tail_of log)) ++ d.written;
+        written = spellings (lsn + length log.records) (take (length c.whole.records - length log.records) (tail_of log)) ++ d.written;
         missing = d.missing;
         begins = d.begins ∙ text_goes_on d.written;
         ends = sym (ap log_text g.same_log) ∙ d.ends;
@@ -146,8 +168,8 @@ module _ (base : BasePages) (log : LogContent) (store : StoreContent) (bytes : L
 
 -- what the cut leaves goes on, its records being a beginning
 pub cuts_settle : CutsSettle
-cuts_settle base log store text torn bytes left read numbered left_numbered h c = cut_goes_on base log store bytes left h read.each read.few c numbered left_numbered
+cuts_settle base log store text torn bytes left read numbered left_numbered h c = cut_goes_on base log store bytes left h read.starts read.each read.few c numbered left_numbered
 
 pub cuts_compose : CutsCompose
 cuts_compose base log store text torn bytes left read numbered left_numbered h c later later_left d =
-    cut_again base log store bytes left h read.each read.few c numbered left_numbered later later_left d
+    cut_again base log store bytes left h read.starts read.each read.few c numbered left_numbered later later_left d

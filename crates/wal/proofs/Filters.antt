@@ -86,7 +86,7 @@ is_of_tx t r = owned (owner r)
 
 -- a transaction of the log is below the bound
 pub tx_below : (t : ℕ) (log : History) → has (is_of t) log ≡ true → t < above_all log
-tx_below t start e = absurd (false≢true e)
+tx_below t (start _) e = absurd (false≢true e)
 tx_below t (log ▸ r) e =
     elim (or_cases (is_of t r) (has (is_of t) log) e) [
       | inl i ↦ omega (arith, is_of_tx t r i)
@@ -133,7 +133,7 @@ Each-more P Q (x ∷ xs) h e = (h x.0 x.1 e.0, Each-more P Q xs h e.1)
 
 -- their LSNs are of the log
 pub updates_within : (p : ℕ → UpdateRecord → Bool) (log : History) → Each (λ n u. n ≤ last_lsn log) (updates_where p log)
-updates_within p start = tt
+updates_within p (start _) = tt
 updates_within p (log ▸ Update u) =
     let older : Each (λ n u. n ≤ suc (last_lsn log)) (updates_where p log) = Each-more (λ n u. n ≤ last_lsn log) (λ n u. n ≤ suc (last_lsn log)) (updates_where p log) (λ n u h. omega arith) (updates_within p log) in
     cond_both (p (suc (last_lsn log)) u) ((suc (last_lsn log), u) ∷ updates_where p log) (updates_where p log) (λ xs. Each (λ n u. n ≤ suc (last_lsn log)) xs) (λ _. (omega arith, older)) (λ _. older)
@@ -165,7 +165,7 @@ Leading-more p log r x xs off l =
 
 -- the first that passes is the newest
 pub leading : (p : ℕ → UpdateRecord → Bool) (log : History) (x : ℕ × UpdateRecord) (xs : List (ℕ × UpdateRecord)) → updates_where p log ≡ x ∷ xs → Leading p log x xs
-leading p start x xs e = absurd (cc)
+leading p (start _) x xs e = absurd (cc)
 leading p (log ▸ Update u) x xs e =
     elim (cases_Bool (p (suc (last_lsn log)) u)) [
       | inl i ↦
@@ -187,7 +187,7 @@ leading p (log ▸ r) x xs e = Leading-more p log r x xs (λ w f. absurd (cc)) (
 
 -- where two tests agree they choose the same
 pub updates_same : (p q : ℕ → UpdateRecord → Bool) (log : History) → ((m : ℕ) (w : UpdateRecord) → m ≤ last_lsn log → q m w ≡ p m w) → updates_where q log ≡ updates_where p log
-updates_same p q start h = refl
+updates_same p q (start _) h = refl
 updates_same p q (log ▸ Update u) h =
     ap₂ (λ b xs. cond b ((suc (last_lsn log), u) ∷ xs) xs) (h (suc (last_lsn log)) u (omega arith)) (updates_same p q log (λ m w o. h m w (omega arith)))
 updates_same p q (log ▸ _) h = updates_same p q log (λ m w o. h m w (omega arith))
@@ -195,7 +195,7 @@ updates_same p q (log ▸ _) h = updates_same p q log (λ m w o. h m w (omega ar
 -- where the first no longer passes, the others are left
 pub first_update_gone : (p q : ℕ → UpdateRecord → Bool) (log : History) (x : ℕ × UpdateRecord) (xs : List (ℕ × UpdateRecord)) → updates_where p log ≡ x ∷ xs
     → ((m : ℕ) (w : UpdateRecord) → m ≢ x.0 → q m w ≡ p m w) → q x.0 x.1 ≡ false → updates_where q log ≡ xs
-first_update_gone p q start x xs e h g = absurd (cc)
+first_update_gone p q (start _) x xs e h g = absurd (cc)
 first_update_gone p q (log ▸ Update u) x xs e h g =
     elim (cases_Bool (p (suc (last_lsn log)) u)) [
       | inl i ↦
@@ -216,7 +216,7 @@ first_update_gone p q (log ▸ _) x xs e h g = first_update_gone p q log x xs e 
 
 -- where no update passes
 pub no_update : (p : ℕ → UpdateRecord → Bool) (log : History) (m : ℕ) (w : UpdateRecord) → updates_where p log ≡ [] → record_at log m ≡ Some (Update w) → p m w ≡ false
-no_update p start m w e f = absurd (cc)
+no_update p (start _) m w e f = absurd (cc)
 no_update p (log ▸ r) m w e f =
     elim (cases_Bool (eqb m (suc (last_lsn log)))) [
       | inl i ↦

@@ -6,6 +6,7 @@ pub mod Rising
 pub mod Tables
 pub mod TableFields
 pub mod Bodies
+pub mod Headers
 pub mod Glances
 pub mod Images
 pub mod Whole

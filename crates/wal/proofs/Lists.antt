@@ -2,7 +2,7 @@
 use mathlib.Core.Path.{fun_ext}
 use Rattle.std.proofs.Common.{ℕ, suc, ◌-◌, ◌≤◌, List, [], ◌∷◌, ◌++◌, length, take, drop, sym, ap, ap₂, ◌∙◌, subst, Some, ◌≡◌, inl, inr, arith, append_assoc, take-append-drop}
 use Rattle.std.proofs.Math.Seq.{take-append-add}
-use Rattle.wal.specs.Records.{LogRecord, History, start, ◌▸◌, ◌▸▸◌, LogContent, history, ◌⧺◌, up_to, last_lsn, record_at, first}
+use Rattle.wal.specs.Records.{LogRecord, History, start, ◌▸◌, ◌▸▸◌, lsn_before, LogContent, history, ◌⧺◌, up_to, last_lsn, record_at, first}
 use Rattle.wal.specs.Meaning.{BasePages, in_doubt, replay, winners}
 use Rattle.wal.specs.Laws.{Obeys, IsLawful}
 use Rattle.wal.specs.Tail.{tail, tail_of, with_tail}
@@ -15,7 +15,7 @@ use Rattle.wal.proofs.Cuts.{cut_of, whole_lawful, whole_tail, whole_doubt, whole
 
 -- the log and its tail, in the order of time
 pub with_tail_is : (log : LogContent) → history (with_tail log) ≡ history log ▸▸ tail (history log)
-with_tail_is log = after-append start log.records (tail_of log)
+with_tail_is log = after-append (start (lsn_before log.begins)) log.records (tail_of log)
 
 pub hops_meet_pending : HopsMeetPending
 hops_meet_pending base log t h = walk_meets_pending base (history log) t h
@@ -42,22 +42,24 @@ take-append-ge n xs ys h = ap (λ m. take m (xs ++ ys)) (omega arith) ∙ take-a
 
 -- the log and as many records of its tail as an LSN allows
 abbrev pub left_of_tail : ℕ → LogContent → ℕ
-left_of_tail lsn log = lsn - length log.records
+left_of_tail lsn log = lsn - last_lsn (history log)
 
 pub up_to_in_tail : (lsn : ℕ) (log : LogContent) → last_lsn (history log) ≤ lsn → up_to lsn (with_tail log) ≡ log ⧺ take (left_of_tail lsn log) (tail_of log)
-up_to_in_tail lsn log le = ap (λ xs. record { records = xs }) (take-append-ge lsn log.records (tail_of log) (omega (arith, le, size_of_log log)))
+up_to_in_tail lsn log le =
+    ap (λ xs. record { begins = log.begins; records = xs })
+    (take-append-ge (lsn - lsn_before log.begins) log.records (tail_of log) (omega (arith, le, size_of_log log)) ∙ ap (λ k. log.records ++ take k (tail_of log)) (omega (arith, le, size_of_log log)))
 
 pub cuts_resume : CutsResume
 cuts_resume base log lsn h le =
     let k : ℕ = left_of_tail lsn log in
     let c = cut_of base (history log) k h in
     let e : up_to lsn (with_tail log) ≡ log ⧺ take k (tail_of log) = up_to_in_tail lsn log le in
-    let f : history (up_to lsn (with_tail log)) ≡ history log ▸▸ take k (tail_of log) = ap history e ∙ after-append start log.records (take k (tail_of log)) in
+    let f : history (up_to lsn (with_tail log)) ≡ history log ▸▸ take k (tail_of log) = ap history e ∙ after-append (start (lsn_before log.begins)) log.records (take k (tail_of log)) in
     let t : tail_of (up_to lsn (with_tail log)) ≡ drop k (tail_of log) = ap tail f ∙ c.rest in
     record {
       lawful = subst (IsLawful base) (sym f) c.lawful;
       whole = ap₂ (λ (l : LogContent) (ys : List LogRecord). l ⧺ ys) e t
-          ∙ ap (λ xs. record { records = xs }) (append_assoc log.records (take k (tail_of log)) (drop k (tail_of log)) ∙ ap (λ xs. log.records ++ xs) (take-append-drop k (tail_of log)));
+          ∙ ap (λ xs. record { begins = log.begins; records = xs }) (append_assoc log.records (take k (tail_of log)) (drop k (tail_of log)) ∙ ap (λ xs. log.records ++ xs) (take-append-drop k (tail_of log)));
     }
 
 -- EACH RECORD
@@ -75,7 +77,7 @@ first_but_last : (log : History) (r : LogRecord) → first (last_lsn log) (log �
 first_but_last log r = first_older log r (last_lsn log) (omega arith) ∙ first_all (last_lsn log) log (omega arith)
 
 pub each_of_lawful : (base : BasePages) (log : History) → IsLawful base log → Each base log
-each_of_lawful base start h lsn x f = absurd cc
+each_of_lawful base (start _) h lsn x f = absurd cc
 each_of_lawful base (log ▸ r) h lsn x f =
     elim (cases_eq lsn (last_lsn log)) [
       | inl e ↦
@@ -87,7 +89,7 @@ each_of_lawful base (log ▸ r) h lsn x f =
     ]
 
 lawful_of_each : (base : BasePages) (log : History) → Each base log → IsLawful base log
-lawful_of_each base start e = tt
+lawful_of_each base (start _) e = tt
 lawful_of_each base (log ▸ r) e = (
   lawful_of_each base log
       (λ lsn x f. subst (λ l. Obeys base l x) (first_older log r lsn (omega (arith, record_within log (suc lsn) x f))) (e lsn x (record_more log r (suc lsn) x f))),

@@ -6,8 +6,11 @@ use Rattle.std.proofs.lemmas.List.{append-nil, map_push, length-drop, drop-drop}
 use Rattle.std.proofs.lemmas.List.Elements.{All-push}
 use Rattle.page.specs.declared.fault.Fault.{Fault}
 use Rattle.page.specs.declared.fault.Fault.TheVariants.{NoResource, BadLsn}
-use Rattle.wal.specs.Records.{LogRecord, CheckpointBegin}
-use Rattle.wal.specs.Frames.{length_of, frame_at, judged, next_at, frames_at, ◌>>=◌, IsPlace, ArePlaces, record_of, Fails}
+use Rattle.wal.specs.declared.header.LogStart.{LogStart}
+use Rattle.wal.specs.declared.header.LogStart.TheVariants.{Version1, Version2}
+use Rattle.wal.specs.Records.{LogRecord, CheckpointBegin, lsn_before}
+use Rattle.wal.specs.Headers.{header_bytes}
+use Rattle.wal.specs.Frames.{length_of, frame_at, judged, next_at, frames_at, frames_behind, ◌>>=◌, IsPlace, ArePlaces, record_of, Fails}
 
 pub chosen : {A : Type 0} (b : Bool) (x y z : A) → cond b x y ≡ z → ((b ≡ true) × (x ≡ z)) ⊎ ((b ≡ false) × (y ≡ z))
 chosen true x y z e = inl (refl, e)
@@ -69,73 +72,78 @@ regroup : (front : List LogRecord) (r : LogRecord) (read : Result (List LogRecor
 regroup front r (Ok x) = ap (λ (rs : List LogRecord). Ok (rs, x.1)) (simp append_assoc)
 regroup front r (Err f) = refl
 
-pub goes_on : (front : List LogRecord) (limit i offset : ℕ) (bytes : List ℕ) (r : LogRecord) (size : ℕ) (total : Result (List LogRecord × ℕ) Fault) → i < limit → next_at (i + 1) offset bytes ≡ Ok (Some (r, size))
-    → with_front front (frames_at (limit - i) (i + 1) offset bytes) ≡ total → with_front (front ++ r ∷ []) (frames_at (limit - (i + 1)) (i + 1 + 1) (offset + size) (drop size bytes)) ≡ total
+pub goes_on : (front : List LogRecord) (limit i lsn offset : ℕ) (bytes : List ℕ) (r : LogRecord) (size : ℕ) (total : Result (List LogRecord × ℕ) Fault) → i < limit → next_at lsn offset bytes ≡ Ok (Some (r, size))
+    → with_front front (frames_at (limit - i) lsn offset bytes) ≡ total → with_front (front ++ r ∷ []) (frames_at (limit - (i + 1)) (lsn + 1) (offset + size) (drop size bytes)) ≡ total
 unfolding frames_at
-goes_on front limit i offset bytes r size total lt h so_far =
+goes_on front limit i lsn offset bytes r size total lt h so_far =
     let k : limit - i ≡ suc (limit - (i + 1)) = omega arith in
-    let one : with_front front (frames_at (limit - i) (i + 1) offset bytes) ≡ with_front (front ++ r ∷ []) (frames_at (limit - (i + 1)) (i + 1 + 1) (offset + size) (drop size bytes)) = rw (k, h) (regroup front r (frames_at (limit - (i + 1)) (i + 1 + 1) (offset + size) (drop size bytes))) in
+    let one : with_front front (frames_at (limit - i) lsn offset bytes) ≡ with_front (front ++ r ∷ []) (frames_at (limit - (i + 1)) (lsn + 1) (offset + size) (drop size bytes)) = rw (k, h) (regroup front r (frames_at (limit - (i + 1)) (lsn + 1) (offset + size) (drop size bytes))) in
     sym one ∙ so_far
 
-pub fails : (e : Fault) (front : List LogRecord) (limit i offset : ℕ) (bytes : List ℕ) (total : Result (List LogRecord × ℕ) Fault) → i < limit → Fails e (next_at (i + 1) offset bytes)
-    → with_front front (frames_at (limit - i) (i + 1) offset bytes) ≡ total → Fails e total
+pub fails : (e : Fault) (front : List LogRecord) (limit i lsn offset : ℕ) (bytes : List ℕ) (total : Result (List LogRecord × ℕ) Fault) → i < limit → Fails e (next_at lsn offset bytes)
+    → with_front front (frames_at (limit - i) lsn offset bytes) ≡ total → Fails e total
 unfolding frames_at
-fails NoResource front limit i offset bytes total lt h so_far = tt
-fails e front limit i offset bytes total lt h so_far =
+fails NoResource front limit i lsn offset bytes total lt h so_far = tt
+fails e front limit i lsn offset bytes total lt h so_far =
     let k : limit - i ≡ suc (limit - (i + 1)) = omega arith in
-    let one : with_front front (frames_at (limit - i) (i + 1) offset bytes) ≡ Err e = rw (k, h) refl in
+    let one : with_front front (frames_at (limit - i) lsn offset bytes) ≡ Err e = rw (k, h) refl in
     sym so_far ∙ one
 
-pub ends : (front : List LogRecord) (limit i offset : ℕ) (bytes : List ℕ) (total : Result (List LogRecord × ℕ) Fault) → i < limit → next_at (i + 1) offset bytes ≡ Ok None
-    → with_front front (frames_at (limit - i) (i + 1) offset bytes) ≡ total → total ≡ Ok (front, length bytes)
+pub ends : (front : List LogRecord) (limit i lsn offset : ℕ) (bytes : List ℕ) (total : Result (List LogRecord × ℕ) Fault) → i < limit → next_at lsn offset bytes ≡ Ok None
+    → with_front front (frames_at (limit - i) lsn offset bytes) ≡ total → total ≡ Ok (front, length bytes)
 unfolding frames_at
-ends front limit i offset bytes total lt h so_far =
+ends front limit i lsn offset bytes total lt h so_far =
     let k : limit - i ≡ suc (limit - (i + 1)) = omega arith in
-    let one : with_front front (frames_at (limit - i) (i + 1) offset bytes) ≡ Ok (front, length bytes) = rw (k, h) (ap (λ (rs : List LogRecord). Ok (rs, length bytes)) (append-nil front)) in
+    let one : with_front front (frames_at (limit - i) lsn offset bytes) ≡ Ok (front, length bytes) = rw (k, h) (ap (λ (rs : List LogRecord). Ok (rs, length bytes)) (append-nil front)) in
     sym so_far ∙ one
 
-pub is_done : (front : List LogRecord) (limit i offset : ℕ) (bytes : List ℕ) (total : Result (List LogRecord × ℕ) Fault) → limit ≤ i
-    → with_front front (frames_at (limit - i) (i + 1) offset bytes) ≡ total → total ≡ Ok (front, length bytes)
+pub is_done : (front : List LogRecord) (limit i lsn offset : ℕ) (bytes : List ℕ) (total : Result (List LogRecord × ℕ) Fault) → limit ≤ i
+    → with_front front (frames_at (limit - i) lsn offset bytes) ≡ total → total ≡ Ok (front, length bytes)
 unfolding frames_at
-is_done front limit i offset bytes total le so_far =
+is_done front limit i lsn offset bytes total le so_far =
     let k : limit - i ≡ 0 = omega arith in
-    let one : with_front front (frames_at (limit - i) (i + 1) offset bytes) ≡ Ok (front, length bytes) = rw k (ap (λ (rs : List LogRecord). Ok (rs, length bytes)) (append-nil front)) in
+    let one : with_front front (frames_at (limit - i) lsn offset bytes) ≡ Ok (front, length bytes) = rw k (ap (λ (rs : List LogRecord). Ok (rs, length bytes)) (append-nil front)) in
     sym so_far ∙ one
 
 -- ---- the loop's invariant
 
--- so many frames were read, and this offset stands behind them
-pub record SoFar (bytes : List ℕ) (offsets : List ℕ) (i offset : ℕ) : Type 0 where
+-- so many frames of a log that begins so were read, and this offset stands behind them
+pub record SoFar (begins : LogStart) (bytes : List ℕ) (offsets : List ℕ) (i offset : ℕ) : Type 0 where
   pub room : offset ≤ length bytes
   pub long : 8 + 13 * length offsets ≤ offset
   pub places : All (IsPlace bytes) offsets
-  pub read : with_front (map (record_of bytes) offsets) (frames_at (length bytes - i) (i + 1) offset (drop offset bytes)) ≡ frames_at (length bytes) 1 8 (drop 8 bytes)
+  pub read : with_front (map (record_of bytes) offsets) (frames_at (length bytes - i) (lsn_before begins + i + 1) offset (drop offset bytes)) ≡ frames_behind begins bytes
 
 nothing_in_front : (read : Result (List LogRecord × ℕ) Fault) → with_front [] read ≡ read
 nothing_in_front (Ok x) = refl
 nothing_in_front (Err e) = refl
 
-pub begins : (bytes : List ℕ) → 8 ≤ length bytes → SoFar bytes [] 0 8
-begins bytes h = record {
+header_room : (begins : LogStart) → 8 ≤ header_bytes begins
+header_room Version1 = omega arith
+header_room (Version2 base) = omega arith
+
+pub at_header : (begins : LogStart) (bytes : List ℕ) → header_bytes begins ≤ length bytes → SoFar begins bytes [] 0 (header_bytes begins)
+at_header begins bytes h = record {
   room = h;
-  long = omega arith;
+  long = omega (arith, header_room begins);
   places = λ i d l. absurd (omega (arith, l));
-  read = ap (λ k. with_front [] (frames_at k 1 8 (drop 8 bytes))) (omega arith) ∙ nothing_in_front (frames_at (length bytes) 1 8 (drop 8 bytes));
+  read = ap₂ (λ k lsn. with_front [] (frames_at k lsn (header_bytes begins) (drop (header_bytes begins) bytes))) (omega arith) (omega arith) ∙ nothing_in_front (frames_behind begins bytes);
 }
 
-pub placed : (bytes offsets : List ℕ) (i offset : ℕ) → SoFar bytes offsets i offset → ArePlaces bytes offsets
-placed bytes offsets i offset so_far = record { each = so_far.places; room = omega (arith, so_far.long, so_far.room) }
+pub placed : (begins : LogStart) (bytes offsets : List ℕ) (i offset : ℕ) → SoFar begins bytes offsets i offset → ArePlaces bytes offsets
+placed begins bytes offsets i offset so_far = record { each = so_far.places; room = omega (arith, so_far.long, so_far.room) }
 
 record_read : (bytes : List ℕ) (offset lsn : ℕ) (r : LogRecord) → frame_at (drop offset bytes) ≡ Some (r, lsn) → record_of bytes offset ≡ r
 unfolding record_of
 record_read bytes offset lsn r e = ap (λ o. unwrap_or (option_map (λ x. x.0) o) CheckpointBegin) e
 
-pub more : (bytes offsets : List ℕ) (i offset : ℕ) (r : LogRecord) (size : ℕ) → i < length bytes → SoFar bytes offsets i offset → next_at (i + 1) offset (drop offset bytes) ≡ Ok (Some (r, size))
-    → SoFar bytes (offsets ++ offset ∷ []) (i + 1) (offset + size)
-more bytes offsets i offset r size lt so_far e =
-    let found = next_is (i + 1) offset (drop offset bytes) r size e in
+pub more : (begins : LogStart) (bytes offsets : List ℕ) (i offset : ℕ) (r : LogRecord) (size : ℕ) → i < length bytes → SoFar begins bytes offsets i offset
+    → next_at (lsn_before begins + i + 1) offset (drop offset bytes) ≡ Ok (Some (r, size)) → SoFar begins bytes (offsets ++ offset ∷ []) (i + 1) (offset + size)
+more begins bytes offsets i offset r size lt so_far e =
+    let lsn = lsn_before begins + i + 1 in
+    let found = next_is lsn offset (drop offset bytes) r size e in
     let rest : length (drop offset bytes) ≡ length bytes - offset = length-drop offset bytes in
-    let front : map (record_of bytes) (offsets ++ offset ∷ []) ≡ map (record_of bytes) offsets ++ r ∷ [] = map_push (record_of bytes) offsets offset ∙ ap (λ (x : LogRecord). map (record_of bytes) offsets ++ x ∷ []) (record_read bytes offset (i + 1) r found.spelled) in
+    let front : map (record_of bytes) (offsets ++ offset ∷ []) ≡ map (record_of bytes) offsets ++ r ∷ [] = map_push (record_of bytes) offsets offset ∙ ap (λ (x : LogRecord). map (record_of bytes) offsets ++ x ∷ []) (record_read bytes offset lsn r found.spelled) in
     let behind : drop size (drop offset bytes) ≡ drop (offset + size) bytes = drop-drop size offset bytes in
     record {
       room = omega (arith, so_far.room, found.size_is, found.whole, rest);
@@ -145,6 +153,7 @@ more bytes offsets i offset r size lt so_far e =
         whole = omega (arith, so_far.room, found.whole, rest);
         spelled = ap is_some found.spelled;
       });
-      read = ap₂ (λ rs b. with_front rs (frames_at (length bytes - (i + 1)) (i + 1 + 1) (offset + size) b)) front (sym behind)
-          ∙ goes_on (map (record_of bytes) offsets) (length bytes) i offset (drop offset bytes) r size (frames_at (length bytes) 1 8 (drop 8 bytes)) lt e so_far.read;
+      read = ap₂ (λ rs b. with_front rs (frames_at (length bytes - (i + 1)) (lsn_before begins + (i + 1) + 1) (offset + size) b)) front (sym behind)
+          ∙ ap (λ n. with_front (map (record_of bytes) offsets ++ r ∷ []) (frames_at (length bytes - (i + 1)) n (offset + size) (drop size (drop offset bytes)))) (omega arith)
+          ∙ goes_on (map (record_of bytes) offsets) (length bytes) i lsn offset (drop offset bytes) r size (frames_behind begins bytes) lt e so_far.read;
     }

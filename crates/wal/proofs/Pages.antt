@@ -33,13 +33,13 @@ slot_held f page slot lt = get_or-map-range_with_len (λ s. f page s) 0 16 slot 
 
 -- THE LAST RECORD ON A PAGE
 pub last_on_within : (base : BasePages) (page : ℕ) (log : History) → BaseLaw base log → last_on base page log ≤ last_lsn log
-last_on_within base page start l = l page
+last_on_within base page (start _) l = l page
 last_on_within base page (log ▸ r) l =
     cond_both (is_on page r) (suc (last_lsn log)) (last_on base page log) (λ n. n ≤ suc (last_lsn log)) (λ _. omega arith) (λ _. omega (arith, last_on_within base page log l))
 
 -- it is not below that of the base page
 pub base_within_last : (base : BasePages) (page : ℕ) (log : History) → BaseLaw base log → base.page_lsn page ≤ last_on base page log
-base_within_last base page start l = omega arith
+base_within_last base page (start _) l = omega arith
 base_within_last base page (log ▸ r) l =
     cond_both (is_on page r) (suc (last_lsn log)) (last_on base page log) (λ n. base.page_lsn page ≤ n)
     (λ _. omega (arith, base_within_last base page log l, last_on_within base page log l)) (λ _. base_within_last base page log l)
@@ -50,7 +50,7 @@ IsOnPage base page log n = (n ≡ base.page_lsn page) ⊎ ((r : LogRecord) × (r
 
 -- it is on the page
 pub last_on_found : (base : BasePages) (page : ℕ) (log : History) → IsOnPage base page log (last_on base page log)
-last_on_found base page start = inl refl
+last_on_found base page (start _) = inl refl
 last_on_found base page (log ▸ r) =
     elim (cases_Bool (is_on page r)) [
       | inl e ↦
@@ -63,7 +63,7 @@ last_on_found base page (log ▸ r) =
 
 -- no record on the page is behind it
 pub last_on_highest : (base : BasePages) (page : ℕ) (log : History) (n : ℕ) (r : LogRecord) → record_at log n ≡ Some r → is_on page r ≡ true → n ≤ last_on base page log
-last_on_highest base page start n r f on = absurd (cc)
+last_on_highest base page (start _) n r f on = absurd (cc)
 last_on_highest base page (log ▸ x) n r f on =
     elim (cases_Bool (eqb n (suc (last_lsn log)))) [
       | inl i ↦
@@ -79,7 +79,7 @@ last_on_highest base page (log ▸ x) n r f on =
 
 -- a record on the page is the last one of the log up to it
 pub on_page_last : (base : BasePages) (log : History) (k page : ℕ) (r : LogRecord) → record_at log k ≡ Some r → is_on page r ≡ true → k ≡ last_on base page (first k log)
-on_page_last base start k page r f o = absurd (cc)
+on_page_last base (start _) k page r f o = absurd (cc)
 on_page_last base (log ▸ x) k page r f o =
     elim (cases_Bool (eqb k (suc (last_lsn log)))) [
       | inl i ↦
@@ -98,7 +98,7 @@ on_page_last base (log ▸ x) k page r f o =
 
 -- the cells of the page stay as it left them
 pub replay_to_last : (base : BasePages) (page slot : ℕ) (log : History) → BaseLaw base log → replay base (first (last_on base page log) log) page slot ≡ replay base log page slot
-replay_to_last base page slot start l = refl
+replay_to_last base page slot (start _) l = refl
 replay_to_last base page slot (log ▸ r) law =
     elim (cases_Bool (is_on page r)) [
       | inl e ↦

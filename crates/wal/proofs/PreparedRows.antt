@@ -14,7 +14,7 @@ use Rattle.wal.specs.Redo.{applied, rec_lsn_of}
 use Rattle.wal.specs.Store.{PageLaw, DirtyLaw, NamesPages, Lawful, true_table, store_out}
 use Rattle.wal.specs.Reads.{log_text}
 use Rattle.wal.proofs.Histories.{each_found}
-use Rattle.wal.proofs.Rows.{a, b, U, C, K, A, E, L, holding, store_of, active, dirty_from_1}
+use Rattle.wal.proofs.Rows.{a, b, U, C, K, A, E, L, holding, store_of, active, dirty_from_first}
 
 abbrev pub P : ℕ → ℕ → LogRecord
 P tx prev = Prepare (record { tx = tx; prev = prev })
@@ -187,7 +187,7 @@ at_checkpoint_lawful = record {
     named = refl;
     transactions_are = refl;
     dirty_are = All-from_recursion (λ (page : Page). DirtyLaw (history at_checkpoint) 3 page.number page.lsn (rec_lsn_of page.number ((0, 1) ∷ []))) (holding 0 None ∷ [])
-        (dirty_from_1 (history at_checkpoint) 3 0 0 (omega arith), tt);
+        (dirty_from_first (history at_checkpoint) 3 0 0 (omega arith), tt);
   });
 }
 
@@ -223,7 +223,7 @@ behind_begin_lawful = record {
     named = refl;
     transactions_are = refl;
     dirty_are = All-from_recursion (λ (page : Page). DirtyLaw (history behind_begin) 2 page.number page.lsn (rec_lsn_of page.number ((0, 1) ∷ []))) (holding 0 None ∷ [])
-        (dirty_from_1 (history behind_begin) 2 0 0 (omega arith), tt);
+        (dirty_from_first (history behind_begin) 2 0 0 (omega arith), tt);
   });
 }
 

@@ -12,7 +12,7 @@ use Rattle.wal.proofs.Pages.{writes_on, slot_held, same_slots, on_page_last}
 
 -- where nothing is chosen nothing changes
 none_chosen : (chosen : ℕ → Bool) (state : Cells) (log : History) (page slot : ℕ) → ((n : ℕ) → n ≤ last_lsn log → chosen n ≡ false) → effects (λ n _. chosen n) state log page slot ≡ state page slot
-none_chosen chosen state start page slot h = refl
+none_chosen chosen state (start _) page slot h = refl
 none_chosen chosen state (log ▸ r) page slot h =
     cond-false (writes page slot r && chosen (suc (last_lsn log))) (image_of r) (effects (λ n _. chosen n) state log page slot)
     (and_right (writes page slot r) (chosen (suc (last_lsn log))) (h (suc (last_lsn log)) (omega arith)))
@@ -22,7 +22,7 @@ none_chosen chosen state (log ▸ r) page slot h =
 redo_from : (base : BasePages) (chosen : ℕ → Bool) (k : ℕ) (state : Cells) (log : History) (page slot : ℕ) → ((n : ℕ) → n ≤ k → chosen n ≡ false)
     → ((n : ℕ) (r : LogRecord) → record_at log n ≡ Some r → is_on page r ≡ true → k < n → chosen n ≡ true)
     → state page slot ≡ replay base (first k log) page slot → effects (λ n _. chosen n) state log page slot ≡ replay base log page slot
-redo_from base chosen k state start page slot below above e = e
+redo_from base chosen k state (start _) page slot below above e = e
 redo_from base chosen k state (log ▸ r) page slot below above e =
     elim (cases_Bool (ltb (last_lsn log) k)) [
       | inl i ↦
@@ -41,7 +41,7 @@ redo_from base chosen k state (log ▸ r) page slot below above e =
 
 -- and the PageLSN stays
 none_last : (chosen : ℕ → Bool) (page lsn : ℕ) (log : History) → ((n : ℕ) → n ≤ last_lsn log → chosen n ≡ false) → last_where chosen page lsn log ≡ lsn
-none_last chosen page lsn start h = refl
+none_last chosen page lsn (start _) h = refl
 none_last chosen page lsn (log ▸ r) h =
     cond-false (is_on page r && chosen (suc (last_lsn log))) (suc (last_lsn log)) (last_where chosen page lsn log) (and_right (is_on page r) (chosen (suc (last_lsn log))) (h (suc (last_lsn log)) (omega arith)))
     ∙ none_last chosen page lsn log (λ n o. h n (omega arith))
@@ -50,7 +50,7 @@ none_last chosen page lsn (log ▸ r) h =
 last_from : (base : BasePages) (chosen : ℕ → Bool) (k : ℕ) (log : History) (page : ℕ) → ((n : ℕ) → n ≤ k → chosen n ≡ false)
     → ((n : ℕ) (r : LogRecord) → record_at log n ≡ Some r → is_on page r ≡ true → k < n → chosen n ≡ true)
     → k ≡ last_on base page (first k log) → last_where chosen page k log ≡ last_on base page log
-last_from base chosen k start page below above e = e
+last_from base chosen k (start _) page below above e = e
 last_from base chosen k (log ▸ r) page below above e =
     elim (cases_Bool (ltb (last_lsn log) k)) [
       | inl i ↦

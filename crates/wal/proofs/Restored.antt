@@ -15,7 +15,7 @@ use Rattle.wal.proofs.Holders.{unfinished_open, holder, release, release_keeps, 
 -- EFFECTS OF CHOSEN RECORDS
 -- one choice is as good as another that agrees on the records in the cell
 pub effects_same : (f g : ℕ → LogRecord → Bool) (state : Cells) (log : History) (page slot : ℕ) → ((n : ℕ) (x : LogRecord) → record_at log n ≡ Some x → writes page slot x ≡ true → f n x ≡ g n x) → effects f state log page slot ≡ effects g state log page slot
-effects_same f g state start page slot h = refl
+effects_same f g state (start _) page slot h = refl
 effects_same f g state (log ▸ r) page slot h =
     let older : effects f state log page slot ≡ effects g state log page slot = effects_same f g state log page slot (λ n x e w. h n x (record_more log r n x e) w) in
     elim (cases_Bool (writes page slot r)) [
@@ -35,7 +35,7 @@ effects_touched base f g log page slot h =
 
 -- where the holder counts, the newest of all records does
 effects_of_holder : (base : BasePages) (chosen : ℕ → Bool) (log : History) (page slot t : ℕ) → holder page slot log ≡ Some t → chosen t ≡ true → effects_of chosen base.cells log page slot ≡ replay base log page slot
-effects_of_holder base chosen start page slot t e h = absurd (cc)
+effects_of_holder base chosen (start _) page slot t e h = absurd (cc)
 effects_of_holder base chosen (log ▸ Update u) page slot t e h =
     elim (cases_Bool (eqb u.page page && eqb u.slot slot)) [
       | inl on ↦
@@ -268,7 +268,7 @@ module _ (base : BasePages) (log : History) (h : IsLawful base log) (page slot :
 
 -- once the holder of a cell is rolled back, the cell has what the committed ones leave there
 pub restored_is_kept : (base : BasePages) (log : History) → IsLawful base log → (page slot : ℕ) → restored base page slot log ≡ kept base log page slot
-restored_is_kept base start h page slot = refl
+restored_is_kept base (start _) h page slot = refl
 restored_is_kept base (log ▸ Update u) h page slot =
     elim (cases_Bool (eqb u.page page && eqb u.slot slot)) [
       | inl on ↦ restored_update_on base log h.0 page slot (restored_is_kept base log h.0 page slot) u h.1 on
@@ -286,7 +286,7 @@ restored_is_kept base (log ▸ r) h page slot =
 
 -- who touched a cell has a record
 touches_has : (t page slot : ℕ) (log : History) → touches t page slot log ≡ true → has (is_of t) log ≡ true
-touches_has t page slot start w = w
+touches_has t page slot (start _) w = w
 touches_has t page slot (log ▸ r) w =
     elim (or_cases (is_of t r && writes page slot r) (touches t page slot log) w) [
       | inl i ↦ or_left (is_of t r) (has (is_of t) log) (and_parts (is_of t r) (writes page slot r) i).0

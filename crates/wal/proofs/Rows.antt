@@ -7,8 +7,9 @@ use Rattle.std.proofs.lemmas.Option.{same_Some}
 use Rattle.page.specs.Image.{Image}
 use Rattle.page.specs.declared.page.Page.{Page}
 use Rattle.page.specs.Store.{StoreContent, AreNumbered}
+use Rattle.wal.specs.declared.header.LogStart.TheVariants.{Version1}
 use Rattle.wal.specs.declared.record.State.TheVariants.{Active}
-use Rattle.wal.specs.Records.{TableEntry, LogRecord, Update, Compensation, Commit, Abort, End, CheckpointBegin, CheckpointEnd, History, LogContent, history, ◌⧺◌, record_at}
+use Rattle.wal.specs.Records.{TableEntry, LogRecord, Update, Compensation, Commit, Abort, End, CheckpointBegin, CheckpointEnd, History, LogContent, history, ◌⧺◌, base_lsn}
 use Rattle.wal.specs.Meaning.{no_base, winners, touches}
 use Rattle.wal.specs.Laws.{IsLawful}
 use Rattle.wal.specs.Tail.{tail_of}
@@ -19,7 +20,7 @@ use Rattle.wal.specs.Store.{PageLaw, DirtyLaw, NamesPages, Lawful, Cut, first_en
 use Rattle.wal.specs.Reads.{log_text, Reads}
 use Rattle.wal.specs.Spelling.{frame, Fits}
 use Rattle.wal.specs.Theorems.{GoesOn}
-use Rattle.wal.proofs.Histories.{record_none, each_found}
+use Rattle.wal.proofs.Histories.{record_above, each_found}
 use Rattle.wal.proofs.CutBytes.{cuts_settle}
 
 abbrev pub a : Image
@@ -48,7 +49,7 @@ E tx prev = End (record { tx = tx; prev = prev })
 
 -- a log of these records
 abbrev pub L : List LogRecord → LogContent
-L records = record { records = records }
+L records = record { begins = Version1; records = records }
 
 -- a transaction that commits
 one_commit : tail_of (L (U 1 0 0 None a ∷ K 1 1 ∷ [])) ≡ []
@@ -185,17 +186,13 @@ first_end_counts = refl
 begin_not_named : first_end 2 (history (L (CheckpointBegin ∷ CheckpointBegin ∷ CheckpointEnd 1 [] [] ∷ []))) ≡ None
 begin_not_named = refl
 
--- a page that is listed from LSN 1 on keeps the dirty law
-pub dirty_from_1 : (log : History) (m page page_lsn : ℕ) → 1 ≤ m → DirtyLaw log m page page_lsn (Some 1)
-dirty_from_1 log m page page_lsn le =
+-- a page that is listed from the first record on keeps the dirty law
+pub dirty_from_first : (log : History) (m page page_lsn : ℕ) → base_lsn log < m → DirtyLaw log m page page_lsn (Some (suc (base_lsn log)))
+dirty_from_first log m page page_lsn lt =
     record {
-      range = λ rec_lsn e. (let one : 1 ≡ rec_lsn = same_Some 1 rec_lsn e in (omega (arith, one), omega (arith, one)));
-      covers = λ lsn r up f on. inr (1, refl, above_0 lsn r f);
+      range = λ rec_lsn e. (let one : suc (base_lsn log) ≡ rec_lsn = same_Some (suc (base_lsn log)) rec_lsn e in (omega (arith, one), omega (arith, one, lt)));
+      covers = λ lsn r up f on. inr (suc (base_lsn log), refl, omega (arith, record_above log lsn r f));
     }
-  where
-    above_0 : (lsn : ℕ) (r : LogRecord) → record_at log lsn ≡ Some r → 1 ≤ lsn
-    above_0 zero r f = absurd (let e : record_at log 0 ≡ None = record_none log 0 (inl refl) in cc)
-    above_0 (suc lsn) r f = omega arith
 
 -- a log with a checkpoint and its store are lawful
 checkpoint_loser_lawful : Lawful no_base checkpoint_loser (store_of 2 (holding 0 None))
@@ -216,7 +213,7 @@ checkpoint_loser_lawful = record {
     named = refl;
     transactions_are = refl;
     dirty_are = All-from_recursion (λ (page : Page). DirtyLaw (history checkpoint_loser) 2 page.number page.lsn (rec_lsn_of page.number ((0, 1) ∷ []))) (holding 0 None ∷ [])
-        (dirty_from_1 (history checkpoint_loser) 2 0 0 (omega arith), tt);
+        (dirty_from_first (history checkpoint_loser) 2 0 0 (omega arith), tt);
   });
 }
 
@@ -237,7 +234,7 @@ fits_tables = record {
 
 -- the log as it was, and with the CLR of its tail
 checkpoint_loser_reads : Reads (log_text checkpoint_loser) checkpoint_loser 0
-checkpoint_loser_reads = record { tail = []; text = refl; torn_tail = inl (omega arith); torn_count = refl; each = (fits_update, (tt, (fits_tables, tt))); few = omega arith }
+checkpoint_loser_reads = record { tail = []; text = refl; torn_tail = inl (omega arith); torn_count = refl; starts = tt; each = (fits_update, (tt, (fits_tables, tt))); few = omega arith }
 
 abbrev checkpoint_loser_undone : LogContent
 checkpoint_loser_undone = checkpoint_loser ⧺ C 1 1 0 0 None ∷ []
@@ -250,7 +247,7 @@ checkpoint_loser_cut = record {
   ends = refl;
   whole = checkpoint_loser_undone;
   torn = 0;
-  reads = record { tail = []; text = refl; torn_tail = inl (omega arith); torn_count = refl; each = (fits_update, (tt, (fits_tables, (fits_compensation, tt)))); few = omega arith };
+  reads = record { tail = []; text = refl; torn_tail = inl (omega arith); torn_count = refl; starts = tt; each = (fits_update, (tt, (fits_tables, (fits_compensation, tt)))); few = omega arith };
   master = refl;
   count = refl;
   pages = All-from_recursion (PageLaw no_base (history checkpoint_loser_undone)) (holding 4 None ∷ []) (record { within = omega arith; on_page = inr (C 1 1 0 0 None, refl, refl); slots_are = refl }, tt);

@@ -1,12 +1,12 @@
 -- The store of a restart, interrupted or done.
-use Rattle.std.proofs.Common.{ℕ, ◌≡◌, ◌<◌, ◌≤◌, length-append, List, length, take, map, get_or, Option, Some, refl, sym, ap, ap₂, ◌∙◌, subst, inl, inr, arith}
+use Rattle.std.proofs.Common.{ℕ, ◌≡◌, ◌<◌, ◌≤◌, length-append, List, length, take, map, get_or, Option, Some, refl, sym, ap, ap₂, ◌∙◌, subst, inl, inr, arith, ◌-◌}
 use Rattle.std.specs.Prelude.{All, slice_index_or}
 use Rattle.std.specs.List.{range_with_len}
 use Rattle.std.proofs.lemmas.List.{take_all}
 use Rattle.std.proofs.lemmas.List.FromFn.{length-map-range_with_len, get_or-map-range_with_len}
 use Rattle.page.specs.declared.page.Page.{Page}
 use Rattle.page.specs.Store.{StoreContent, AreNumbered}
-use Rattle.wal.specs.Records.{LogRecord, CheckpointBegin, History, ◌▸▸◌, start, LogContent, history, ◌⧺◌, up_to, last_lsn, record_at, EachRecord}
+use Rattle.wal.specs.Records.{LogRecord, CheckpointBegin, History, ◌▸▸◌, start, lsn_before, LogContent, history, ◌⧺◌, up_to, last_lsn, record_at, EachRecord}
 use Rattle.wal.specs.Meaning.{BasePages, BaseLaw, Cells, replay, winners, last_on}
 use Rattle.wal.specs.Tail.{tail_of, with_tail}
 use Rattle.wal.specs.Redo.{slots_in, rec_lsn_of}
@@ -23,7 +23,7 @@ use Rattle.wal.proofs.Appended.{tail_names}
 dirty_stays : (log : History) (xs : List LogRecord) (m page lsn newer : ℕ) (listed : Option ℕ) → m ≤ last_lsn log → lsn ≤ newer → DirtyLaw log m page lsn listed → DirtyLaw (log ▸▸ xs) m page newer listed
 dirty_stays log xs m page lsn newer listed le older d =
     record {
-      range = d.range;
+      range = subst (λ b. (rec_lsn : ℕ) → listed ≡ Some rec_lsn → (b < rec_lsn) × (rec_lsn ≤ m)) (sym (base_after log xs)) d.range;
       covers = λ n r up f on. elim (d.covers n r up (sym (record_in_front log xs n (omega arith)) ∙ f) on) [ inl o ↦ inl (omega arith) | inr o ↦ inr o ];
     }
 
@@ -65,7 +65,7 @@ restart_goes_on base log store lsn left numbered h l =
     let r = cuts_resume base log lsn h.log l.past in
     let k : ℕ = left_of_tail lsn log in
     let whole_is : whole ≡ log ⧺ take k (tail_of log) = up_to_in_tail lsn log l.past in
-    let log_is : history whole ≡ history log ▸▸ take k (tail_of log) = ap history whole_is ∙ after-append start log.records (take k (tail_of log)) in
+    let log_is : history whole ≡ history log ▸▸ take k (tail_of log) = ap history whole_is ∙ after-append (start (lsn_before log.begins)) log.records (take k (tail_of log)) in
     let winners_same : winners base (history whole) ≡ winners base (history log) = sym (replay_is_winners base whole r.lawful) ∙ ap (λ l. replay base (history l)) r.whole ∙ replay_is_winners base log h.log in
     let base_is : BaseLaw base (history whole) = subst (BaseLaw base) (sym log_is) (base_stays base (history log) (take k (tail_of log)) h.based) in
     record {
@@ -136,7 +136,7 @@ module _ (base : BasePages) (log : LogContent) (store : StoreContent) (numbered 
       omega (arith, own, at, lsn_is)
 
   all_of : up_to (last_lsn (history whole)) whole ≡ whole
-  all_of = ap (λ xs. record { records = xs }) (take_all (last_lsn (history whole)) whole.records (omega (arith, size_of_log whole)))
+  all_of = ap (λ xs. record { begins = log.begins; records = xs }) (take_all (last_lsn (history whole) - lsn_before log.begins) whole.records (omega (arith, size_of_log whole)))
 
   interrupted : Interrupted base log store (last_lsn (history whole)) (store_out base log store)
   interrupted =

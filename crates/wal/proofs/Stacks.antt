@@ -31,7 +31,7 @@ Falls-among b n (m ∷ ns) f h =
 
 -- what is pending falls
 pub pending_falls : (t : ℕ) (log : History) → Falls (suc (last_lsn log)) (pending t log)
-pending_falls t start = tt
+pending_falls t (start _) = tt
 pending_falls t (log ▸ Update u) =
     cond_both (eqb u.tx t) (suc (last_lsn log) ∷ pending t log) (pending t log) (λ s. Falls (suc (suc (last_lsn log))) s)
     (λ _. (omega arith, pending_falls t log))
@@ -56,7 +56,7 @@ among_drop n [] h = h
 among_drop n (m ∷ ns) h = or_right (eqb n m) (is_among n ns) h
 
 pub pending_found : (t : ℕ) (log : History) (n : ℕ) → is_among n (pending t log) ≡ true → IsUpdateOf t log n
-pending_found t start n h = absurd (false≢true h)
+pending_found t (start _) n h = absurd (false≢true h)
 pending_found t (log ▸ Update u) n h =
     elim (cases_Bool (eqb u.tx t)) [
       | inl e ↦

@@ -23,7 +23,7 @@ hops_older t log r n h = hops_other t log r n (ne_eqb n (suc (last_lsn log)) (λ
 
 -- a walk that ends well was sent to a record of the log, or nowhere
 ends_within : (t : ℕ) (log : History) (n : ℕ) → (hops t log n).ends ≡ 0 → n ≤ last_lsn log
-ends_within t start n h = omega (arith, h)
+ends_within t (start _) n h = omega (arith, h)
 ends_within t (log ▸ r) n h =
     elim (cases_Bool (eqb n (suc (last_lsn log)))) [
       | inl e ↦ omega (arith, eqb-true n (suc (last_lsn log)) e)
@@ -57,7 +57,7 @@ Meets-more t log r m ms p = record { update = p.update; found = record_more log 
 
 -- what the first update that is met tells
 pub first_met : (t : ℕ) (log : History) (n m : ℕ) (ms : List ℕ) → Walks t log n (m ∷ ms) → Meets t log m ms
-first_met t start n m ms w = absurd (let e : [] ≡ m ∷ ms = ap (λ w. w.met) w in cc)
+first_met t (start _) n m ms w = absurd (let e : [] ≡ m ∷ ms = ap (λ w. w.met) w in cc)
 first_met t (log ▸ Update u) n m ms w =
     elim (cases_Bool (eqb n (suc (last_lsn log)))) [
       | inl e ↦
@@ -143,7 +143,7 @@ leads_same t log r u p f h =
 
 -- in a lawful log the walks lead to what is pending
 pub leads : (base : BasePages) (log : History) → IsLawful base log → (t : ℕ) → Leads t log
-leads base start h t = record { undo_next = refl; last = λ _ _ _. refl }
+leads base (start _) h t = record { undo_next = refl; last = λ _ _ _. refl }
 leads base (log ▸ Update u) h t =
     elim (cases_Bool (eqb u.tx t)) [
       | inl e ↦ subst (λ x. Leads x (log ▸ Update u)) (eqb-true u.tx t e) (leads_own_update base log u (leads base log h.0 u.tx) h.1)

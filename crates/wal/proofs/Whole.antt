@@ -1,26 +1,27 @@
 -- The frames that are read are the frames that stand there, and no others.
-use Rattle.std.proofs.Common.{◌≡◌, ◌≢◌, ◌⊎◌, ℕ, zero, suc, ◌+◌, ◌-◌, ◌^◌, ◌<◌, ◌≤◌, ◌||◌, true, false, ltb, eqb, eq-eqb, List, [], ◌∷◌, ◌++◌, length, take, drop, Option, Some, None, Result, Ok, Err, refl, sym, ap, ap₂, subst, ◌∙◌, append_assoc, arith, inl, inr}
+use Rattle.std.proofs.Common.{◌≡◌, ◌⊎◌, ℕ, zero, suc, ◌+◌, ◌-◌, ◌^◌, ◌<◌, ◌≤◌, ◌||◌, false, ltb, eqb, eq-eqb, List, [], ◌∷◌, ◌++◌, length, take, drop, Option, Some, None, Result, Ok, Err, refl, sym, ap, ap₂, subst, ◌∙◌, append_assoc, arith, inl, inr}
 use Rattle.std.specs.Prelude.{IfOk, IfErr}
-use Rattle.std.specs.List.{AllByRecursion, starts_with}
-use Rattle.std.proofs.lemmas.Slice.Eq.{starts_is}
-use Rattle.std.proofs.lemmas.Bool.Decides.{Decides-eqb}
+use Rattle.std.specs.List.{AllByRecursion}
 use Rattle.std.specs.Int.{w32, w64, from_be_bytes, to_be_bytes}
-use Rattle.std.proofs.lemmas.Bool.{both_ways, or_cases, or_parts, eqb-false, ltb-false, ltb-true, le-ltb, lt-ltb}
+use Rattle.std.proofs.lemmas.Bool.{or_cases, or_parts, eqb-false, ltb-false, ltb-true, le-ltb, lt-ltb}
 use Rattle.std.proofs.lemmas.List.{take_at, drop_at, take-append-drop, length-append, length-take, length-drop, drop-drop}
 use Rattle.page.specs.declared.fault.Fault.{Fault}
 use Rattle.page.specs.declared.fault.Fault.TheVariants.{NoResource, BadLogHeader, BadLength, BadRecord, BadLsn}
 use Rattle.wal.specs.declared.record.State.{State}
 use Rattle.wal.specs.declared.record.State.TheVariants.{Active, Aborting, Prepared}
-use Rattle.wal.specs.Records.{TableEntry, LogRecord, Update, Compensation, CheckpointEnd, LogContent}
+use Rattle.wal.specs.Records.{TableEntry, LogRecord, Update, Compensation, CheckpointEnd, lsn_before, LogContent}
+use Rattle.wal.specs.declared.header.LogStart.{LogStart}
+use Rattle.wal.specs.Headers.{header_of, header_bytes, start_at}
 use Rattle.wal.specs.Spelling.{image, state, entry, dirty_page, table, body, frame, Fits}
 use Rattle.wal.specs.Reading.{body_at}
-use Rattle.wal.specs.Frames.{length_of, body_of, frame_at, judged, next_at, frames_at, followed, ◌>>=◌, header, as_log, log_at, Gives, Fails}
-use Rattle.wal.specs.Reads.{spellings, IsTorn, Reads, OneReading, IsWhole, HasFault, FaultBehind, Cause}
+use Rattle.wal.specs.Frames.{length_of, body_of, frame_at, judged, next_at, frames_at, followed, ◌>>=◌, frames_behind, as_log, log_from, log_at, Gives, Fails}
+use Rattle.wal.specs.Reads.{spellings, IsTorn, Reads, OneReading, IsWhole, HasFault, FaultBehind, HasFaultBehind, Cause}
 use Rattle.wal.proofs.Loop.{chosen, Found, next_is}
 use Rattle.page.proofs.BigEndian.{AreBytes, AreBytes-take, AreBytes-drop}
 use Rattle.wal.proofs.Fields.{wide32}
 use Rattle.wal.proofs.Bodies.{body_takes, body_again}
 use Rattle.wal.proofs.TableFields.{table_length}
+use Rattle.wal.proofs.Headers.{start_small, header_dropped, header_room, start_again, no_start, Header, header_taken}
 use Rattle.wal.proofs.Histories.{size_of_log}
 use Rattle.page.specs.Image.{FitsSlot}
 
@@ -203,50 +204,55 @@ spellings_long lsn [] = omega arith
 spellings_long lsn (r ∷ rs) = omega (arith, spellings_long (lsn + 1) rs, length-append (frame r lsn) (spellings (lsn + 1) rs), length-append (to_be_bytes w32 (length (body r lsn))) (body r lsn))
 
 -- frames that were read, as a log
-read_on : (bytes : List ℕ) (x : LogContent × ℕ) → (frames_at (length bytes) 1 8 (drop 8 bytes) >>= λ y. Ok (as_log y)) ≡ Ok x → frames_at (length bytes) 1 8 (drop 8 bytes) ≡ Ok (x.0.records, x.1)
-read_on bytes x e = by (frames_at (length bytes) 1 8 (drop 8 bytes)) e
-  where
-    by : (read : Result (List LogRecord × ℕ) Fault) → (read >>= λ y. Ok (as_log y)) ≡ Ok x → read ≡ Ok (x.0.records, x.1)
-    by (Ok y) h = ap (λ (z : LogContent × ℕ). Ok (z.0.records, z.1)) (ok_is (as_log y) x h)
-    by (Err d) h = absurd cc
+records_read : (begins : LogStart) (bytes : List ℕ) (header : Header bytes begins) (read : List LogRecord × ℕ) → AreBytes bytes → length bytes < 2 ^ 63 → frames_behind begins bytes ≡ Ok read
+    → Reads bytes (as_log begins read).0 read.1
+records_read begins bytes header read fits short e =
+    let behind = drop (header_bytes begins) bytes in
+    let first = lsn_before begins + 1 in
+    let all = frames_take (length bytes) first (header_bytes begins) behind read (AreBytes-drop (header_bytes begins) bytes fits) (omega (arith, length-drop (header_bytes begins) bytes)) e in
+    let log = (as_log begins read).0 in
+    record {
+      tail = all.tail;
+      text = header.front ∙ ap (λ (t : List ℕ). header_of begins ++ t) all.text ∙ sym (append_assoc (header_of begins) (spellings first read.0) all.tail);
+      torn_tail = all.torn_tail;
+      torn_count = all.torn_count;
+      starts = header.fits;
+      each = all.each;
+      few = omega (arith, all.few, length-drop (header_bytes begins) bytes, short, size_of_log log, start_small begins header.fits);
+    }
 
-pub log_takes : (bytes : List ℕ) (x : LogContent × ℕ) → AreBytes bytes → length bytes < 2 ^ 64 → log_at bytes ≡ Ok x → Reads bytes x.0 x.1
+pub log_takes : (bytes : List ℕ) (x : LogContent × ℕ) → AreBytes bytes → length bytes < 2 ^ 63 → log_at bytes ≡ Ok x → Reads bytes x.0 x.1
 unfolding log_at
-log_takes bytes x fits short e =
-    elim (chosen (starts_with eqb bytes header) _ _ _ e) [
-      | inl p ↦
-          (let front : bytes ≡ header ++ drop 8 bytes = (starts_is Decides-eqb bytes header (starts_with eqb bytes header) refl).0 p.0 in
-          let all = frames_take (length bytes) 1 8 (drop 8 bytes) (x.0.records, x.1) (AreBytes-drop 8 bytes fits) (omega (arith, length-drop 8 bytes)) (read_on bytes x p.1) in
-          record {
-            tail = all.tail;
-            text = front ∙ ap (λ (t : List ℕ). header ++ t) all.text ∙ sym (append_assoc header (spellings 1 x.0.records) all.tail);
-            torn_tail = all.torn_tail;
-            torn_count = all.torn_count;
-            each = all.each;
-            few = omega (arith, all.few, length-drop 8 bytes, short, size_of_log x.0);
-          })
-      | inr p ↦ absurd cc
-    ]
+log_takes bytes x fits short e = by (start_at bytes) refl e
+  where
+    by : (o : Option LogStart) → start_at bytes ≡ o → log_from bytes o ≡ Ok x → Reads bytes x.0 x.1
+    by None is h = absurd cc
+    by (Some begins) is h =
+        let read = bind_ok (frames_behind begins bytes) (λ y. Ok (as_log begins y)) x h in
+        subst (λ (y : LogContent × ℕ). Reads bytes y.0 y.1) (ok_is (as_log begins read.0) x read.2) (records_read begins bytes (header_taken bytes begins fits is) read.0 fits short read.1)
 
 pub log_again : (bytes : List ℕ) (log : LogContent) (torn : ℕ) → Reads bytes log torn → log_at bytes ≡ Ok (log, torn)
 unfolding log_at
 log_again bytes log torn reads =
     let records = log.records in
-    let text : bytes ≡ header ++ (spellings 1 records ++ reads.tail) = reads.text ∙ append_assoc header (spellings 1 records) reads.tail in
-    let b : starts_with eqb bytes header ≡ true = (starts_is Decides-eqb bytes header (starts_with eqb bytes header) refl).1 (spellings 1 records ++ reads.tail) text in
-    let rest : drop 8 bytes ≡ spellings 1 records ++ reads.tail = ap (drop 8) text ∙ drop_at header (spellings 1 records ++ reads.tail) 8 refl in
-    let long : length bytes ≡ 8 + length (spellings 1 records ++ reads.tail) = ap length text ∙ omega arith in
-    let few : length records ≤ length bytes = omega (arith, spellings_long 1 records, long, length-append (spellings 1 records) reads.tail) in
-    let all : frames_at (length bytes) 1 8 (drop 8 bytes) ≡ Ok (records, torn) =
-    ap (frames_at (length bytes) 1 8) rest ∙ frames_again (length bytes) 1 8 records reads.tail few reads.each (omega (arith, reads.few, size_of_log log)) reads.torn_tail ∙ ap (λ n. Ok (records, n)) reads.torn_count in
-    rw b (ap (λ read. read >>= λ y. Ok (as_log y)) all)
+    let begins = log.begins in
+    let first = lsn_before begins + 1 in
+    let front = header_bytes begins in
+    let text : bytes ≡ header_of begins ++ (spellings first records ++ reads.tail) = reads.text ∙ append_assoc (header_of begins) (spellings first records) reads.tail in
+    let start : start_at bytes ≡ Some begins = ap start_at text ∙ start_again begins (spellings first records ++ reads.tail) reads.starts in
+    let rest : drop front bytes ≡ spellings first records ++ reads.tail = ap (drop front) text ∙ header_dropped begins (spellings first records ++ reads.tail) in
+    let long = header_room begins bytes (spellings first records ++ reads.tail) text in
+    let few : length records ≤ length bytes = omega (arith, spellings_long first records, long, length-append (spellings first records) reads.tail) in
+    let all : frames_behind begins bytes ≡ Ok (records, torn) =
+    ap (frames_at (length bytes) first front) rest ∙ frames_again (length bytes) first front records reads.tail few reads.each (omega (arith, reads.few, size_of_log log)) reads.torn_tail ∙ ap (λ n. Ok (records, n)) reads.torn_count in
+    ap (log_from bytes) start ∙ ap (λ read. read >>= λ y. Ok (as_log begins y)) all
 
 pub one_reading : OneReading
 one_reading bytes first second t u a b =
     let e : ◌≡◌ {A = LogContent × ℕ} (first, t) (second, u) = ok_is (first, t) (second, u) (sym (log_again bytes first t a) ∙ log_again bytes second u b) in
     (ap (λ x. x.0) e, ap (λ x. x.1) e)
 
-pub is_found : {X : Type 0} (view : X → LogContent × ℕ) (bytes : List ℕ) (r : Result X Fault) → AreBytes bytes → length bytes < 2 ^ 64 → Gives view r (log_at bytes) → IfOk r (λ x. Reads bytes (view x).0 (view x).1)
+pub is_found : {X : Type 0} (view : X → LogContent × ℕ) (bytes : List ℕ) (r : Result X Fault) → AreBytes bytes → length bytes < 2 ^ 63 → Gives view r (log_at bytes) → IfOk r (λ x. Reads bytes (view x).0 (view x).1)
 is_found view bytes (Ok x) fits short given = log_takes bytes (view x) fits short given
 is_found view bytes (Err e) fits short given = tt
 
@@ -328,28 +334,32 @@ frames_fault (suc limit) lsn offset bytes e fits room h =
       | inr p ↦ fault_next limit lsn offset bytes e fits room (λ size more f. frames_fault limit (lsn + 1) (offset + size) (drop size bytes) e (AreBytes-drop size bytes fits) more f) p.0 p.1 p.2
     ]
 
-log_fault : (bytes : List ℕ) (e : Fault) → AreBytes bytes → length bytes < 2 ^ 64 → log_at bytes ≡ Err e → ((bytes ≡ header ++ drop 8 bytes) × FaultBehind 1 8 (drop 8 bytes) e) ⊎ ((starts_with eqb bytes header ≡ false) × (BadLogHeader ≡ e))
+log_fault : (bytes : List ℕ) (e : Fault) → AreBytes bytes → length bytes < 2 ^ 63 → log_at bytes ≡ Err e → HasFaultBehind bytes e ⊎ ((start_at bytes ≡ None) × (BadLogHeader ≡ e))
 unfolding log_at
-log_fault bytes e fits short h =
-    elim (chosen (starts_with eqb bytes header) _ _ _ h) [
-      | inl p ↦
-          (let front : bytes ≡ header ++ drop 8 bytes = (starts_is Decides-eqb bytes header (starts_with eqb bytes header) refl).0 p.0 in
-          let room : 1 + length (drop 8 bytes) < 2 ^ 64 = omega (arith, short, ap length front) in
-          elim (bind_err (frames_at (length bytes) 1 8 (drop 8 bytes)) (λ y. Ok (as_log y)) e p.1) [
-            | inl q ↦ inl (front, frames_fault (length bytes) 1 8 (drop 8 bytes) e (AreBytes-drop 8 bytes fits) room q)
-            | inr q ↦ absurd cc
-          ])
-      | inr p ↦ inr (p.0, err_is {B = LogContent × ℕ} BadLogHeader e p.1)
-    ]
+log_fault bytes e fits short h = by (start_at bytes) refl h
+  where
+    by : (o : Option LogStart) → start_at bytes ≡ o → log_from bytes o ≡ Err e → HasFaultBehind bytes e ⊎ ((start_at bytes ≡ None) × (BadLogHeader ≡ e))
+    by None is f = inr (is, err_is {B = LogContent × ℕ} BadLogHeader e f)
+    by (Some begins) is f =
+        let header = header_taken bytes begins fits is in
+        let front = header_bytes begins in
+        let room : lsn_before begins + 1 + length (drop front bytes) < 2 ^ 64 = omega (arith, short, start_small begins header.fits, header_room begins bytes (drop front bytes) header.front) in
+        elim (bind_err (frames_behind begins bytes) (λ y. Ok (as_log begins y)) e f) [
+          | inl q ↦
+              inl (record {
+                begins = begins;
+                starts = header.fits;
+                front = header.front;
+                behind = frames_fault (length bytes) (lsn_before begins + 1) front (drop front bytes) e (AreBytes-drop front bytes fits) room q;
+              })
+          | inr q ↦ absurd cc
+        ]
 
-no_header : (bytes : List ℕ) → starts_with eqb bytes header ≡ false → (rest : List ℕ) → bytes ≢ header ++ rest
-no_header bytes e rest text = both_ways (starts_with eqb bytes header) e ((starts_is Decides-eqb bytes header (starts_with eqb bytes header) refl).1 rest text)
-
-cause : (bytes : List ℕ) (e : Fault) → AreBytes bytes → length bytes < 2 ^ 64 → Fails e (log_at bytes) → Cause bytes e
+cause : (bytes : List ℕ) (e : Fault) → AreBytes bytes → length bytes < 2 ^ 63 → Fails e (log_at bytes) → Cause bytes e
 cause bytes NoResource fits short h = tt
-cause bytes BadLogHeader fits short h = elim (log_fault bytes BadLogHeader fits short h) [ inl p ↦ absurd p.1.fault | inr p ↦ no_header bytes p.0 ]
+cause bytes BadLogHeader fits short h = elim (log_fault bytes BadLogHeader fits short h) [ inl p ↦ absurd p.behind.fault | inr p ↦ no_start bytes p.0 ]
 cause bytes e fits short h = elim (log_fault bytes e fits short h) [ inl p ↦ p | inr p ↦ absurd cc ]
 
-pub is_cause : {X : Type 0} (view : X → LogContent × ℕ) (bytes : List ℕ) (r : Result X Fault) → AreBytes bytes → length bytes < 2 ^ 64 → Gives view r (log_at bytes) → IfErr r (λ e. Cause bytes e)
+pub is_cause : {X : Type 0} (view : X → LogContent × ℕ) (bytes : List ℕ) (r : Result X Fault) → AreBytes bytes → length bytes < 2 ^ 63 → Gives view r (log_at bytes) → IfErr r (λ e. Cause bytes e)
 is_cause view bytes (Ok x) fits short given = tt
 is_cause view bytes (Err e) fits short given = cause bytes e fits short given

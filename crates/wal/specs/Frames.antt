@@ -1,10 +1,11 @@
 -- Reading the frames of a log from left to right, with the first fault that is met.
-use Rattle.std.specs.Prelude.{◌≡◌, ℕ, zero, suc, ◌+◌, ◌*◌, ◌≤◌, true, All, ◌||◌, List, [], ◌∷◌, length, take, drop, Option, Some, None, Result, Ok, Err, nat_lt, nat_eq, ◌==◌, if◌then◌else◌, is_some, option_map, unwrap_or}
-use Rattle.std.specs.List.{starts_with}
+use Rattle.std.specs.Prelude.{◌≡◌, ℕ, zero, suc, ◌+◌, ◌*◌, ◌≤◌, true, All, ◌||◌, List, [], ◌∷◌, length, take, drop, Option, Some, None, Result, Ok, Err, nat_lt, ◌==◌, if◌then◌else◌, is_some, option_map, unwrap_or}
 use Rattle.std.specs.Int.{w32, from_be_bytes}
 use Rattle.page.specs.declared.fault.Fault.{Fault}
 use Rattle.page.specs.declared.fault.Fault.TheVariants.{NoResource, BadLogHeader, BadLength, BadRecord, BadLsn}
-use Rattle.wal.specs.Records.{LogRecord, CheckpointBegin, LogContent}
+use Rattle.wal.specs.declared.header.LogStart.{LogStart}
+use Rattle.wal.specs.Records.{LogRecord, CheckpointBegin, lsn_before, LogContent}
+use Rattle.wal.specs.Headers.{header_bytes, FitsStart, start_at}
 use Rattle.wal.specs.Reading.{body_at}
 use Rattle.wal.specs.declared.sizes.TheConstants.{HEADER_BYTES, LARGEST_BODY, SMALLEST_BODY, SMALLEST_FRAME}
 
@@ -30,6 +31,11 @@ pub record IsPlace (bytes : List ℕ) (offset : ℕ) : Type 0 where
 pub record ArePlaces (bytes : List ℕ) (offsets : List ℕ) : Type 0 where
   pub each : All (IsPlace bytes) offsets
   pub room : HEADER_BYTES + SMALLEST_FRAME * length offsets ≤ length bytes
+
+-- a log that begins so, by the offsets of its frames
+pub record IsLog (begins : LogStart) (bytes : List ℕ) (offsets : List ℕ) : Type 0 where
+  pub starts : FitsStart begins
+  pub places : ArePlaces bytes offsets
 
 -- the record of the frame at an offset (some record, where none is)
 unfoldable pub record_of : List ℕ → ℕ → LogRecord
@@ -64,17 +70,21 @@ unfoldable pub frames_at : (limit lsn offset : ℕ) → List ℕ → Result (Lis
 frames_at zero lsn offset bytes = Ok ([], length bytes)
 frames_at (suc limit) lsn offset bytes = next_at lsn offset bytes >>= followed bytes (λ size. frames_at limit (lsn + 1) (offset + size) (drop size bytes))
 
--- "ARIESLG1"
-abbrev pub header : List ℕ
-header = 0x41 ∷ 0x52 ∷ 0x49 ∷ 0x45 ∷ 0x53 ∷ 0x4c ∷ 0x47 ∷ 0x31 ∷ []
+-- the frames behind the header of a log that begins so
+abbrev pub frames_behind : LogStart → List ℕ → Result (List LogRecord × ℕ) Fault
+frames_behind begins bytes = frames_at (length bytes) (lsn_before begins + 1) (header_bytes begins) (drop (header_bytes begins) bytes)
 
 -- these records as a log
-abbrev pub as_log : List LogRecord × ℕ → LogContent × ℕ
-as_log x = (record { records = x.0 }, x.1)
+abbrev pub as_log : LogStart → List LogRecord × ℕ → LogContent × ℕ
+as_log begins x = (record { begins = begins; records = x.0 }, x.1)
+
+abbrev pub log_from : List ℕ → Option LogStart → Result (LogContent × ℕ) Fault
+log_from bytes None = Err BadLogHeader
+log_from bytes (Some begins) = frames_behind begins bytes >>= λ x. Ok (as_log begins x)
 
 -- the log and how many bytes the torn tail has, or the first fault
 unfoldable pub log_at : List ℕ → Result (LogContent × ℕ) Fault
-log_at bytes = if starts_with nat_eq bytes header then frames_at (length bytes) 1 HEADER_BYTES (drop HEADER_BYTES bytes) >>= (λ x. Ok (as_log x)) else Err BadLogHeader
+log_at bytes = log_from bytes (start_at bytes)
 
 -- What a function returned, seen by view, is what reading gives, unless memory ran out.
 abbrev pub Fails : {Y : Type 0} → Fault → Result Y Fault → Type 0

@@ -20,7 +20,7 @@ sent_on t _ = None
 -- The walk of t that is sent to this LSN of the log. From an update it is sent on to the PrevLSN, from a CLR to the
 -- UndoNxtLSN, in what stands before that record. Where no update or CLR of t stands there, it ends.
 abbrev pub hops : ℕ → History → ℕ → Walk
-hops t start lsn = record { met = []; ends = lsn }
+hops t (start _) lsn = record { met = []; ends = lsn }
 hops t (log ▸ Update u) lsn =
     if lsn == suc (last_lsn log)
     then (if u.tx == t then meet lsn (hops t log u.prev) else record { met = []; ends = lsn })

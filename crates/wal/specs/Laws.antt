@@ -58,5 +58,5 @@ pub record Obeys (base : BasePages) (log : History) (r : LogRecord) : Type 0 whe
 
 -- LAWFUL LOG over base pages. Each record obeys them after the log before it.
 abbrev pub IsLawful : BasePages → History → Type 0
-IsLawful base start = Unit {0}
+IsLawful base (start _) = Unit {0}
 IsLawful base (log ▸ r) = IsLawful base log × Obeys base log r

@@ -8,6 +8,7 @@ pub mod Store
 pub mod Undo
 pub mod Spelling
 pub mod Reading
+pub mod Headers
 pub mod Frames
 pub mod Reads
 pub mod Content

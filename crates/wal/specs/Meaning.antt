@@ -54,7 +54,7 @@ is_prepare_of t _ = false
 
 -- whether the log has such a record
 abbrev pub has : (LogRecord → Bool) → History → Bool
-has test start = false
+has test (start _) = false
 has test (log ▸ r) = test r || has test log
 
 -- STATUS. Committed, aborted, ended, prepared, finished, unfinished, in doubt, and what a loser is. ARIES, sections 5.2, 5.3 and
@@ -160,7 +160,7 @@ BaseLaw base log = (page : ℕ) → base.page_lsn page ≤ base_lsn log
 
 -- what cells become by the effects of the chosen records, in order: a record is chosen by its LSN and itself
 abbrev pub effects : (ℕ → LogRecord → Bool) → Cells → History → Cells
-effects chosen cells start page slot = cells page slot
+effects chosen cells (start _) page slot = cells page slot
 effects chosen cells (log ▸ r) page slot =
     if writes page slot r && chosen (suc (last_lsn log)) r then image_of r else effects chosen cells log page slot
 
@@ -191,19 +191,19 @@ touches t page slot log = has (λ r. is_of t r && writes page slot r) log
 -- PENDING. The updates of t not yet compensated, by LSN, the newest on top: an update goes onto the stack, a CLR takes the
 -- top off (an empty stack stays empty). ARIES, section 5.2 (CLRs and nested rollbacks); as a stack, own.
 abbrev pub pending : ℕ → History → List ℕ
-pending t start = []
+pending t (start _) = []
 pending t (log ▸ Update u) = if u.tx == t then suc (last_lsn log) ∷ pending t log else pending t log
 pending t (log ▸ Compensation c) = if c.tx == t then drop 1 (pending t log) else pending t log
 pending t (log ▸ _) = pending t log
 
 -- the LSN of the last record of t, or 0
 abbrev pub last_of : ℕ → History → ℕ
-last_of t start = 0
+last_of t (start _) = 0
 last_of t (log ▸ r) = if is_of t r then suc (last_lsn log) else last_of t log
 
 -- RAW UNDO-NEXT. Of the last update or CLR of t the own LSN, or its UndoNxtLSN; else 0. ARIES, section 4.3.
 abbrev pub undo_next_of : ℕ → History → ℕ
-undo_next_of t start = 0
+undo_next_of t (start _) = 0
 undo_next_of t (log ▸ Update u) = if u.tx == t then suc (last_lsn log) else undo_next_of t log
 undo_next_of t (log ▸ Compensation c) = if c.tx == t then c.undo_next else undo_next_of t log
 undo_next_of t (log ▸ _) = undo_next_of t log
@@ -214,7 +214,7 @@ is_on page r = is_on_page page (change_of r)
 
 -- LAST-ON. The LSN of the last update or CLR on the page, or where there is none the PageLSN given. ARIES, section 4.2 (PageLSN).
 abbrev pub last_on_from : (page page_lsn : ℕ) → History → ℕ
-last_on_from page page_lsn start = page_lsn
+last_on_from page page_lsn (start _) = page_lsn
 last_on_from page page_lsn (log ▸ r) = if is_on page r then suc (last_lsn log) else last_on_from page page_lsn log
 
 -- over the base pages

@@ -1,13 +1,15 @@
--- What a log file is: the header, the spellings of its records with LSNs 1, 2, .., and a torn tail.
+-- What a log file is: the header, the spellings of its records with the LSNs behind its base LSN, and a torn tail.
 use Rattle.std.specs.Prelude.{◌≡◌, ◌≢◌, ℕ, ◌+◌, ◌<◌, ◌≤◌, ◌^◌, List, [], ◌∷◌, ◌++◌, length, drop, ◌⊎◌}
 use Rattle.std.specs.List.{AllByRecursion}
-use Rattle.wal.specs.Records.{LogRecord, LogContent, history, last_lsn}
+use Rattle.wal.specs.declared.header.LogStart.{LogStart}
+use Rattle.wal.specs.Records.{LogRecord, lsn_before, LogContent, history, last_lsn}
+use Rattle.wal.specs.Headers.{header_of, header_bytes, FitsStart}
 use Rattle.page.specs.Causes.{HasOneCause, HasNoCause}
 use Rattle.wal.specs.Spelling.{body, frame, Fits}
 use Rattle.page.specs.declared.fault.Fault.{Fault}
 use Rattle.page.specs.declared.fault.Fault.TheVariants.{NoResource, BadLogHeader, BadLength, BadRecord, BadLsn}
-use Rattle.wal.specs.Frames.{header, length_of, body_of}
-use Rattle.wal.specs.declared.sizes.TheConstants.{HEADER_BYTES, LARGEST_BODY, SMALLEST_BODY}
+use Rattle.wal.specs.Frames.{length_of, body_of}
+use Rattle.wal.specs.declared.sizes.TheConstants.{LARGEST_BODY, SMALLEST_BODY}
 
 -- the spellings of these records, the first of them with this LSN
 abbrev pub spellings : ℕ → List LogRecord → List ℕ
@@ -15,7 +17,7 @@ spellings lsn [] = []
 spellings lsn (r ∷ rs) = frame r lsn ++ spellings (lsn + 1) rs
 
 abbrev pub log_text : LogContent → List ℕ
-log_text log = header ++ spellings 1 log.records
+log_text log = header_of log.begins ++ spellings (lsn_before log.begins + 1) log.records
 
 -- up to 3 bytes, or a length that a body may have and fewer bytes than it says
 abbrev pub IsTorn : List ℕ → Type 0
@@ -26,6 +28,7 @@ pub record Reads (bytes : List ℕ) (log : LogContent) (torn : ℕ) : Type 0 whe
   pub text : bytes ≡ log_text log ++ tail
   pub torn_tail : IsTorn tail
   pub torn_count : length tail ≡ torn
+  pub starts : FitsStart log.begins
   pub each : AllByRecursion Fits log.records
   pub few : last_lsn (history log) < 2 ^ 64
 
@@ -53,11 +56,18 @@ pub record FaultBehind (lsn offset : ℕ) (bytes : List ℕ) (e : Fault) : Type 
   pub few : lsn + length records < 2 ^ 64
   pub fault : HasFault e (lsn + length records) (offset + length (spellings lsn records)) rest
 
+-- a header, and behind it frames with the fault
+pub record HasFaultBehind (bytes : List ℕ) (e : Fault) : Type 0 where
+  pub begins : LogStart
+  pub starts : FitsStart begins
+  pub front : bytes ≡ header_of begins ++ drop (header_bytes begins) bytes
+  pub behind : FaultBehind (lsn_before begins + 1) (header_bytes begins) (drop (header_bytes begins) bytes) e
+
 -- why a log is refused, memory aside
 abbrev pub Cause : List ℕ → Fault → Type 0
 Cause bytes NoResource = Unit {0}
-Cause bytes BadLogHeader = (rest : List ℕ) → bytes ≢ header ++ rest
-Cause bytes e = (bytes ≡ header ++ drop HEADER_BYTES bytes) × FaultBehind 1 HEADER_BYTES (drop HEADER_BYTES bytes) e
+Cause bytes BadLogHeader = (begins : LogStart) (rest : List ℕ) → FitsStart begins → bytes ≢ header_of begins ++ rest
+Cause bytes e = HasFaultBehind bytes e
 
 -- a text that is no log is refused for one cause
 abbrev pub OneLogFault : Type 0

@@ -1,9 +1,11 @@
 -- What a log is made of: records as plain data, without where they lie in memory.
 -- ARIES, section 4.1 (log records), 4.3 (transaction table), 4.4 (dirty page table), 5.4 (checkpoints); the layout of a page
 -- in slots, and the LSN as a number, are own.
-use Rattle.std.specs.Prelude.{◌≡◌, ℕ, suc, nat_lt, List, [], ◌∷◌, ◌++◌, take, Option, Some, None, ◌==◌, if◌then◌else◌}
+use Rattle.std.specs.Prelude.{◌≡◌, ℕ, suc, ◌-◌, nat_lt, List, [], ◌∷◌, ◌++◌, take, Option, Some, None, ◌==◌, if◌then◌else◌}
 use Rattle.page.specs.Image.{Image}
 use Rattle.wal.specs.declared.record.State.{State}
+use Rattle.wal.specs.declared.header.LogStart.{LogStart}
+use Rattle.wal.specs.declared.header.LogStart.TheVariants.{Version1, Version2}
 
 infixl 60 ◌▸◌
 infixl 60 ◌▸▸◌
@@ -55,9 +57,10 @@ pub data LogRecord : Type 0 where
   CheckpointBegin : LogRecord
   CheckpointEnd : (begin : ℕ) → (transactions : List TableEntry) → (dirty : List (ℕ × ℕ)) → LogRecord
 
--- A log in the order of time: `log ▸ r` is a log, and then the record r.
+-- A log in the order of time: `start base` is one with no record yet, whose first is to have the LSN behind base; `log ▸ r` is
+-- a log, and then the record r.
 pub data History : Type 0 where
-  start : History
+  start : (base : ℕ) → History
   ◌▸◌ : History → LogRecord → History
 
 -- a log, and then these records, the first of them first
@@ -65,41 +68,47 @@ abbrev pub ◌▸▸◌ : History → List LogRecord → History
 log ▸▸ [] = log
 log ▸▸ (r ∷ rs) = (log ▸ r) ▸▸ rs
 
--- LOG CONTENT. What a log file holds: its records, of which the first has LSN 1.
+-- the LSN behind which the records of a log that begins so come
+abbrev pub lsn_before : LogStart → ℕ
+lsn_before Version1 = 0
+lsn_before (Version2 base) = base
+
+-- LOG CONTENT. What a log file holds: how it begins, and its records, whose LSNs go on from there.
 pub record LogContent : Type 0 where
+  pub begins : LogStart
   pub records : List LogRecord
 
 -- the same in the order of time
 abbrev pub history : LogContent → History
-history log = start ▸▸ log.records
+history log = start (lsn_before log.begins) ▸▸ log.records
 
 -- the log, and these records behind it
 infixl 60 ◌⧺◌
 abbrev pub ◌⧺◌ : LogContent → List LogRecord → LogContent
-log ⧺ more = record { records = log.records ++ more }
+log ⧺ more = record { begins = log.begins; records = log.records ++ more }
 
 -- the log up to an LSN
 abbrev pub up_to : ℕ → LogContent → LogContent
-up_to lsn log = record { records = take lsn log.records }
+up_to lsn log = record { begins = log.begins; records = take (lsn - lsn_before log.begins) log.records }
 
--- the LSN of its last record, 0 for none
+-- the LSN of its last record; where it has none, the one behind which it begins
 abbrev pub last_lsn : History → ℕ
-last_lsn start = 0
+last_lsn (start base) = base
 last_lsn (log ▸ r) = suc (last_lsn log)
 
--- the LSN below that of its first record
+-- the LSN behind which it begins
 abbrev pub base_lsn : History → ℕ
-base_lsn start = 0
+base_lsn (start base) = base
 base_lsn (log ▸ r) = base_lsn log
 
 -- the record at an LSN
 abbrev pub record_at : History → ℕ → Option LogRecord
-record_at start lsn = None
+record_at (start base) lsn = None
 record_at (log ▸ r) lsn = if lsn == suc (last_lsn log) then Some r else record_at log lsn
 
--- the first n records of the log
+-- the records of the log up to an LSN
 abbrev pub first : ℕ → History → History
-first n start = start
+first n (start base) = start base
 first n (log ▸ r) = if nat_lt (last_lsn log) n then log ▸ r else first n log
 
 -- what is so of each of its records

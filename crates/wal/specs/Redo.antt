@@ -29,7 +29,7 @@ held_by image page slot = slice_index_or image.slots slot None
 
 -- the LSN of the last chosen record on the page, else the one given
 abbrev pub last_where : (ℕ → Bool) → (page page_lsn : ℕ) → History → ℕ
-last_where chosen page page_lsn start = page_lsn
+last_where chosen page page_lsn (start _) = page_lsn
 last_where chosen page page_lsn (log ▸ r) =
     if is_on page r && chosen (suc (last_lsn log)) then suc (last_lsn log) else last_where chosen page page_lsn log
 
@@ -43,7 +43,7 @@ redo_of listed redo_lsn log image = record {
 
 -- APPLIED. How many they are.
 abbrev pub applied : (listed : Option ℕ) (redo_lsn : ℕ) → Page → History → ℕ
-applied listed redo_lsn image start = 0
+applied listed redo_lsn image (start _) = 0
 applied listed redo_lsn image (log ▸ r) =
     if is_on image.number r && is_redone listed redo_lsn image.lsn (suc (last_lsn log)) then suc (applied listed redo_lsn image log)
     else applied listed redo_lsn image log

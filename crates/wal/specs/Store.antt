@@ -4,7 +4,7 @@ use Rattle.std.specs.List.{range_with_len, slice_get}
 use Rattle.page.specs.declared.page.Page.{Page}
 use Rattle.page.specs.Image.{Image}
 use Rattle.page.specs.Store.{StoreContent}
-use Rattle.wal.specs.Records.{TableEntry, LogRecord, Update, Compensation, CheckpointBegin, CheckpointEnd, History, start, ◌▸◌, LogContent, history, last_lsn, record_at, first, EachRecord}
+use Rattle.wal.specs.Records.{TableEntry, LogRecord, Update, Compensation, CheckpointBegin, CheckpointEnd, History, start, ◌▸◌, LogContent, history, last_lsn, base_lsn, record_at, first, EachRecord}
 use Rattle.wal.specs.Meaning.{BasePages, BaseLaw, state_at, replay, winners, last_of, undo_next_of, is_on, last_on}
 use Rattle.wal.specs.Laws.{IsLawful}
 use Rattle.wal.specs.Tail.{unfinished_of, with_tail}
@@ -38,7 +38,7 @@ or_else None other = other
 
 -- the tables of the first checkpoint end behind the LSN m that names m
 abbrev pub first_end : ℕ → History → Option (List TableEntry × List (ℕ × ℕ))
-first_end m start = None
+first_end m (start _) = None
 first_end m (log ▸ CheckpointEnd begin transactions dirty) =
     or_else (first_end m log) (if begin == m && nat_le m (last_lsn log) then Some (transactions, dirty) else None)
 first_end m (log ▸ _) = first_end m log
@@ -60,9 +60,10 @@ true_entry log t = record { tx = t; state = state_at t log; last = last_of t log
 abbrev pub true_table : History → List TableEntry
 true_table log = map (true_entry log) (unfinished_of log)
 
--- DIRTY LAW of a checkpoint at m, for a page: its RecLSN lies in 1 to m, and no record up to m that its image lacks is left out
+-- DIRTY LAW of a checkpoint at m, for a page: its RecLSN is of the log and at most m, and no record up to m that its image lacks
+-- is left out
 pub record DirtyLaw (log : History) (m page page_lsn : ℕ) (listed : Option ℕ) : Type 0 where
-  pub range : (rec_lsn : ℕ) → listed ≡ Some rec_lsn → (1 ≤ rec_lsn) × (rec_lsn ≤ m)
+  pub range : (rec_lsn : ℕ) → listed ≡ Some rec_lsn → (base_lsn log < rec_lsn) × (rec_lsn ≤ m)
   pub covers : (lsn : ℕ) (r : LogRecord) → lsn ≤ m → record_at log lsn ≡ Some r → is_on page r ≡ true
       → (lsn ≤ page_lsn) ⊎ ((rec_lsn : ℕ) × (listed ≡ Some rec_lsn) × (rec_lsn ≤ lsn))
 

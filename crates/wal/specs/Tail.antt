@@ -59,7 +59,7 @@ is_lowest n (m ∷ k ∷ ms) = is_lowest n (k ∷ ms)
 
 -- the chosen updates of the log with their LSNs, in descending LSN
 abbrev pub updates_where : (ℕ → UpdateRecord → Bool) → History → List (ℕ × UpdateRecord)
-updates_where chosen start = []
+updates_where chosen (start _) = []
 updates_where chosen (log ▸ Update u) =
     if chosen (suc (last_lsn log)) u then (suc (last_lsn log), u) ∷ updates_where chosen log else updates_where chosen log
 updates_where chosen (log ▸ _) = updates_where chosen log
@@ -94,7 +94,7 @@ tx_of r = number_or_0 (owner r)
 
 -- a number above those of all transactions of the log
 abbrev pub above_all : History → ℕ
-above_all start = 0
+above_all (start _) = 0
 above_all (log ▸ r) = max (suc (tx_of r)) (above_all log)
 
 -- the transactions of the log that are chosen, in rising number

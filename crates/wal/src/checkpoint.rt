@@ -1,7 +1,7 @@
 //! The checkpoint that a master names.
 
-ghost use Rattle.std.specs.Prelude.{◌≡◌, option_map, IfSome};
-ghost use Rattle.wal.specs.Records.{CheckpointEnd, history, record_at};
+ghost use Rattle.std.specs.Prelude.{◌≡◌, ◌≤◌, option_map, IfSome};
+ghost use Rattle.wal.specs.Records.{CheckpointEnd, history, base_lsn, record_at};
 ghost use Rattle.wal.specs.Spelling.{Fits};
 ghost use Rattle.wal.specs.Store.{is_begin, first_end, checkpoint_at};
 
@@ -21,6 +21,7 @@ impl<'a> Log<'a> {
 
     /// The tables of the first checkpoint end behind the LSN `master` that names it.
     fn end_naming(&self, master: u64) -> Option<(TransactionTable<'a>, DirtyTable<'a>)>
+        requires { base_lsn (history self.now) ≤ master }
         ensures found { option_map (λ x. (x.0, x.1)) result ≡ first_end master (history self.now) }
         ensures fits { IfSome result (λ x. Fits (CheckpointEnd master x.0 x.1)) }
     {

@@ -10,6 +10,7 @@ mod checkpoint;
 mod field;
 mod frame;
 mod glance;
+mod header;
 mod image;
 mod laws;
 mod log;
@@ -21,6 +22,7 @@ mod view;
 pub use change::Change;
 pub use frame::write_frame;
 pub use glance::Glance;
+pub use header::LogStart;
 pub use laws::{
     cuts_compose, cuts_resume, cuts_settle, hops_meet_pending, lawful_by_record, losers_end,
     no_fault_of_a_log, one_log_fault, one_reading, redo_replays, redo_suffices, replay_is_winners,

@@ -3,38 +3,40 @@
 ghost use Rattle.std.specs.Prelude.{◌≡◌, ◌+◌, ◌<◌, ◌≤◌, ◌^◌, ℕ, All, length, map, drop, Some, option_map, IfErr, IfOk, IfSome, Ok, ◌*◌};
 ghost use Rattle.wal.specs.Glances.{IsGlanceBehind};
 ghost use Rattle.wal.specs.Meaning.{image_in};
-ghost use Rattle.wal.specs.Records.{LogContent, start, ◌▸◌, ◌▸▸◌, history, last_lsn, base_lsn, record_at, first};
-ghost use Rattle.wal.specs.Frames.{IsPlace, ArePlaces, record_of, length_of, frame_at, next_at, frames_at, log_at, Gives};
+ghost use Rattle.wal.specs.Records.{LogContent, start, ◌▸◌, ◌▸▸◌, lsn_before, history, last_lsn, base_lsn, record_at, first};
+ghost use Rattle.wal.specs.Headers.{header_bytes, FitsStart};
+ghost use Rattle.wal.specs.Frames.{IsPlace, ArePlaces, record_of, length_of, frame_at, next_at, frames_behind, log_at, Gives, IsLog};
 ghost use Rattle.wal.specs.Reads.{Cause, Reads};
 ghost use Rattle.wal.specs.Spelling.{Fits};
 ghost use Rattle.wal.specs.Content.{shown};
-ghost use Rattle.wal.specs.declared.sizes.TheConstants.{HEADER_BYTES, SMALLEST_FRAME};
+ghost use Rattle.wal.specs.declared.sizes.TheConstants.{HEADER_BYTES, LARGEST_BASE, SMALLEST_FRAME};
 
 use crate::frame::{body_at, next_at};
 use crate::glance::{Glance, body_here, glance_here};
+use crate::header::{LogStart, start_at};
 use crate::image::image_here;
 use crate::offsets::Offsets;
-use crate::sizes::HEADER_BYTES;
 use crate::view::RecordView;
 use page::{Fault, Value};
 use std::alloc::Global;
 use std::marker::Model;
 
 /// A log that stays in the bytes that it was read from. Beside them it holds one offset for each
-/// record, of 4 bytes in the first 4 GiB and of 8 behind them. Contracts see its content: its
-/// records, the first of which has LSN 1.
+/// record, of 4 bytes in the first 4 GiB and of 8 behind them. Contracts see its content: how it
+/// begins, and its records, whose LSNs go on from there.
 #[derive(Drop)]
 pub struct Log<'a> {
     bytes: &'a [u8],
+    begins: LogStart,
     offsets: Offsets,
 }
 
 impl<'a> Model for Log<'a> {
     ghost Value = { LogContent };
 
-    ghost view = { λ log. record { records = map (record_of log.bytes.now) log.offsets } };
+    ghost view = { λ log. record { begins = log.begins; records = map (record_of log.bytes.now) log.offsets } };
 
-    ghost invariant = { λ log. ArePlaces log.bytes.now log.offsets };
+    ghost invariant = { λ log. IsLog log.begins log.bytes.now log.offsets };
 }
 
 impl<'a> Log<'a> {
@@ -45,55 +47,64 @@ impl<'a> Log<'a> {
         self.offsets.len() as u64
     }
 
-    /// The LSN of its last record, 0 where it has none.
+    /// The LSN of its last record; where it has none, the base LSN. It is the sum of `base` and `len`.
     pub fn last(&self) -> u64
         ensures { result ≡ last_lsn (history self.now) }
     {
-        self.offsets.len() as u64
+        self.begins.base() + self.offsets.len() as u64
     }
 
-    /// The LSN behind which it begins: its first record has the next one.
+    /// The base LSN, behind which the log begins: its first record has the next one. It is 0 in
+    /// version 1 of a log, and at most 9,223,372,036,854,775,807.
+    #[inline(always)]
     pub fn base(&self) -> u64
-        ensures { result ≡ base_lsn (history self.now) }
+        ensures is { result ≡ base_lsn (history self.now) }
+        ensures low { result ≤ LARGEST_BASE }
     {
-        0
+        self.begins.base()
     }
 
-    /// The LSN of a record that is to come behind the last one. The log's bytes are fewer than 2^63
-    /// and each record takes 13 of them at least, so there is room for many LSNs more (`room`).
+    /// The LSN of a record that is to come behind the last one. The base LSN is below 2^63 (`low`),
+    /// the log's bytes are fewer than 2^63, and each record takes 13 of them at least, so there is
+    /// room for many LSNs more (`room`).
     pub fn next_lsn(&self) -> u64
         ensures next { result ≡ last_lsn (history self.now) + 1 }
+        ensures low { base_lsn (history self.now) ≤ LARGEST_BASE }
         ensures room { HEADER_BYTES + SMALLEST_FRAME * length self.now.records < 2 ^ 63 }
     {
         let _room = self.bytes.len();
         self.last() + 1
     }
 
-    /// The record at an LSN, None for 0 and past the end. It is decoded from the bytes at each
-    /// call, and takes no memory. What it shows fits the grammar (`fits`), as `to_record` asks.
+    /// The record at an LSN, None up to the base LSN and past the end. It is decoded from the bytes
+    /// at each call, and takes no memory. What it shows fits the grammar (`fits`), as `to_record`
+    /// asks.
     pub fn get(&self, lsn: u64) -> Option<RecordView<'a>>
         ensures found { option_map shown result ≡ record_at (history self.now) lsn }
         ensures fits { IfSome result (λ view. Fits (shown view)) }
     {
-        record_in(self.bytes, &self.offsets, lsn)
+        record_in(self.bytes, &self.offsets, self.begins.base(), lsn)
     }
 
     /// The image that the record at an LSN put into its cell: None where that was no value, for a
-    /// record that is in no cell, and for 0 and past the end. No more of the record is decoded than
-    /// that.
+    /// record that is in no cell, and up to the base LSN and past the end. No more of the record is
+    /// decoded than that.
     pub fn image(&self, lsn: u64) -> Option<Value>
         ensures { result ≡ image_in (record_at (history self.now) lsn) }
     {
-        if lsn == 0 || lsn > self.last() {
+        let base = self.begins.base();
+        if lsn <= base || lsn > self.last() {
             return None;
         }
-        let offset = self.offsets.get((lsn - 1) as usize);
+        let offset = self.offsets.get((lsn - base - 1) as usize);
         image_here(self.bytes, offset)
     }
 
-    /// The record behind an LSN, which is below the last one: the record whose LSN is one more.
+    /// The record behind an LSN, which is the base LSN or above it and below the last one: the
+    /// record whose LSN is one more.
     pub fn after(&self, lsn: u64) -> RecordView<'a>
-        requires { lsn < last_lsn (history self.now) }
+        requires from { base_lsn (history self.now) ≤ lsn }
+        requires to { lsn < last_lsn (history self.now) }
         ensures there { record_at (history self.now) (lsn + 1) ≡ Some (shown result) }
         ensures fits { Fits (shown result) }
         ensures next { first (lsn + 1) (history self.now) ≡ first lsn (history self.now) ▸ shown result }
@@ -108,10 +119,11 @@ impl<'a> Log<'a> {
     /// The record behind an LSN at a glance: as `after`, but no more of it is decoded than that.
     #[inline(always)]
     pub fn glance_after(&self, lsn: u64) -> Glance
-        requires { lsn < last_lsn (history self.now) }
+        requires from { base_lsn (history self.now) ≤ lsn }
+        requires to { lsn < last_lsn (history self.now) }
         ensures { IsGlanceBehind (history self.now) lsn result }
     {
-        let offset = self.offsets.get(lsn as usize);
+        let offset = self.offsets.get((lsn - self.base()) as usize);
         match glance_here(self.bytes, offset) {
             Some(glance) => glance,
             None => unreachable!(),
@@ -119,18 +131,18 @@ impl<'a> Log<'a> {
     }
 }
 
-fn record_in<'a>(bytes: &'a [u8], offsets: &Offsets, lsn: u64) -> Option<RecordView<'a>>
+fn record_in<'a>(bytes: &'a [u8], offsets: &Offsets, base: u64, lsn: u64) -> Option<RecordView<'a>>
     requires { All (IsPlace bytes.now) offsets.now }
-    ensures found { option_map shown result ≡ record_at (start ▸▸ map (record_of bytes.now) offsets.now) lsn }
+    ensures found { option_map shown result ≡ record_at (start base ▸▸ map (record_of bytes.now) offsets.now) lsn }
     ensures fits { IfSome result (λ view. Fits (shown view)) }
 {
-    if lsn == 0 {
+    if lsn <= base {
         return None;
     }
-    if lsn > offsets.len() as u64 {
+    if lsn - base > offsets.len() as u64 {
         return None;
     }
-    let offset = offsets.get((lsn - 1) as usize);
+    let offset = offsets.get((lsn - base - 1) as usize);
     record_here(bytes, offset)
 }
 
@@ -145,16 +157,17 @@ fn record_here(bytes: &[u8], offset: usize) -> Option<RecordView>
     }
 }
 
-fn offsets_of(alloc: Global, bytes: &[u8]) -> Result<(Offsets, usize), Fault>
-    requires { HEADER_BYTES ≤ length bytes.now }
+fn offsets_of(alloc: Global, begins: LogStart, bytes: &[u8]) -> Result<(Offsets, usize), Fault>
+    requires starts { FitsStart begins }
+    requires room { header_bytes begins ≤ length bytes.now }
     ensures places { IfOk result (λ x. ArePlaces bytes.now x.0) }
-    ensures read { Gives (λ x. (map (record_of bytes.now) x.0, x.1)) result (frames_at (length bytes.now) 1 HEADER_BYTES (drop HEADER_BYTES bytes.now)) }
+    ensures read { Gives (λ x. (map (record_of bytes.now) x.0, x.1)) result (frames_behind begins bytes.now) }
 {
     let mut offsets = Offsets::new(alloc);
-    let mut offset = HEADER_BYTES;
+    let mut offset = begins.header_bytes();
     for number in 0..bytes.len() {
         let (_, rest) = bytes.split_at(offset);
-        match next_at(number as u64 + 1, offset, rest)? {
+        match next_at(begins.base() + number as u64 + 1, offset, rest)? {
             None => return Ok((offsets, rest.len())),
             Some((_, size)) => {
                 offsets.push(offset)?;
@@ -169,11 +182,18 @@ fn offsets_of(alloc: Global, bytes: &[u8]) -> Result<(Offsets, usize), Fault>
 fn read_in<'a>(alloc: Global, bytes: &'a [u8]) -> Result<(Log<'a>, usize), Fault>
     ensures { Gives (λ x. x) result (log_at bytes.now) }
 {
-    if !bytes.starts_with(b"ARIESLG1") {
+    let Some(begins) = start_at(bytes) else {
         return Err(Fault::BadLogHeader);
-    }
-    let (offsets, torn) = offsets_of(alloc, bytes)?;
-    Ok((Log { bytes, offsets }, torn))
+    };
+    let (offsets, torn) = offsets_of(alloc, begins, bytes)?;
+    Ok((
+        Log {
+            bytes,
+            begins,
+            offsets,
+        },
+        torn,
+    ))
 }
 
 /// The log in these bytes, and how many bytes its torn tail has: up to 3 bytes, or a length that a
@@ -182,10 +202,12 @@ fn read_in<'a>(alloc: Global, bytes: &'a [u8]) -> Result<(Log<'a>, usize), Fault
 ///
 /// Errors, of which the first in the bytes is given; an offset is that of a frame's length field:
 /// - NoResource: memory for the offsets was refused.
-/// - BadLogHeader: the bytes do not begin with `ARIESLG1`.
+/// - BadLogHeader: the bytes begin neither with `ARIESLG1`, which is version 1, nor with `ARIESLG2`
+///   and 8 bytes of a base LSN of at most 9,223,372,036,854,775,807, which is version 2.
 /// - BadLength(offset): a complete length field is outside 9 to 70,681.
 /// - BadRecord(offset): a complete body spells no record with any LSN.
-/// - BadLsn(offset): the body spells a record with another LSN than the frame's number from 1.
+/// - BadLsn(offset): the body spells a record with another LSN than the sum of the base LSN and the
+///   frame's number from 1.
 pub fn read_log<'a>(alloc: Global, bytes: &'a [u8]) -> Result<(Log<'a>, usize), Fault>
     // What is read stands there.
     ensures found { IfOk result (λ x. Reads bytes.now x.0 x.1) }

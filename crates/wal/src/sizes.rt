@@ -6,8 +6,14 @@ use page::PAGES;
 /// most one for each page.
 pub const TRANSACTIONS: usize = 1024;
 
-/// How many bytes the header of a log takes.
+/// How many bytes the header of a log takes in version 1: its magic.
 pub const HEADER_BYTES: usize = 8;
+
+/// How many bytes the header of a log takes in version 2: its magic and the base LSN.
+pub const BASED_HEADER_BYTES: usize = HEADER_BYTES + LSN_BYTES;
+
+/// The largest base LSN that a log may have.
+pub const LARGEST_BASE: u64 = 9_223_372_036_854_775_807;
 
 /// How many bytes an LSN takes.
 pub const LSN_BYTES: usize = 8;

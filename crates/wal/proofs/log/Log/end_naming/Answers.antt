@@ -7,11 +7,11 @@ use Rattle.wal.proofs.Checkpoints.{first_end_none, first_end_met}
 use Rattle.wal.proofs.log.Log.end_naming.Goals as goal
 
 pub loop-lsn-init : goal.loop-lsn-init
-loop-lsn-init c = first_end_none c.args.master (first c.args.master (history c.args.self.now)) (size_of_first_le c.args.master (history c.args.self.now))
+loop-lsn-init c = first_end_none c.args.master (first c.args.master (history c.args.self.now)) (size_of_first_le c.args.master (history c.args.self.now) c.requires)
 
 pub returns-then-begin-master-clause-found : goal.returns-then-begin-master-clause-found
 returns-then-begin-master-clause-found c =
-    first_end_met (history c.args.self.now) c.args.master c.loop-lsn.lsn c.in-CheckpointEnd.begin c.in-CheckpointEnd.transactions c.in-CheckpointEnd.dirty (omega arith) (omega arith) c.if-begin-master.true c.loop-lsn.invariant c.in-CheckpointEnd.ensures.next
+    first_end_met (history c.args.self.now) c.args.master c.loop-lsn.lsn c.in-CheckpointEnd.begin c.in-CheckpointEnd.transactions c.in-CheckpointEnd.dirty c.requires (omega arith) (omega arith) c.if-begin-master.true c.loop-lsn.invariant c.in-CheckpointEnd.ensures.next
 
 pub returns-then-begin-master-clause-fits : goal.returns-then-begin-master-clause-fits
 returns-then-begin-master-clause-fits c =

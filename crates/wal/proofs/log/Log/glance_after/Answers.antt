@@ -1,27 +1,43 @@
-use Rattle.std.proofs.Common.{ℕ, ◌≡◌, ◌+◌, ◌<◌, List, length, map, drop, Some, get_or, sym, subst, ap, ◌∙◌, arith}
-use Rattle.wal.specs.Records.{LogContent, history, last_lsn, record_at}
+use Rattle.std.proofs.Common.{ℕ, ◌≡◌, ◌+◌, ◌-◌, ◌<◌, ◌≤◌, List, length, map, drop, Some, get_or, sym, subst, ap, ◌∙◌, arith}
+use Rattle.wal.specs.declared.header.LogStart.{LogStart}
+use Rattle.wal.specs.Records.{lsn_before, LogContent, history, last_lsn, base_lsn, record_at}
 use Rattle.wal.specs.Glances.{glance_of}
 use Rattle.wal.specs.Frames.{IsPlace, record_of, frame_at}
 use Rattle.wal.proofs.Histories.{record_of_item, first_more}
-use Rattle.wal.proofs.Places.{last_is_count, nothing_spelled, seen_there, fits_there}
+use Rattle.wal.proofs.Places.{last_is_count, base_is, nothing_spelled, seen_there, fits_there}
 use Rattle.wal.proofs.log.Log.glance_after.Goals as goal
 
-below : (bytes offsets : List ℕ) (lsn : ℕ) (log : LogContent) → record { records = map (record_of bytes) offsets } ≡ log → lsn < last_lsn (history log) → lsn < length offsets
-below bytes offsets lsn log view lt = omega (arith, lt, last_is_count (record_of bytes) offsets log view)
+-- the place of the record behind an LSN, among the offsets
+pub record Behind (bytes offsets : List ℕ) (base lsn : ℕ) (log : LogContent) : Type 0 where
+  pub lt : lsn - base < length offsets
+  pub there : (d : ℕ) → record_at (history log) (lsn + 1) ≡ Some (record_of bytes (get_or offsets (lsn - base) d))
+
+below : (begins : LogStart) (bytes offsets : List ℕ) (lsn base : ℕ) (log : LogContent) → record { begins = begins; records = map (record_of bytes) offsets } ≡ log
+    → base ≡ base_lsn (history log) → base_lsn (history log) ≤ lsn → lsn < last_lsn (history log) → Behind bytes offsets base lsn log
+below begins bytes offsets lsn base log view is from to =
+    let size = last_is_count begins (record_of bytes) offsets log view in
+    let begun = base_is begins (record_of bytes) offsets log view in
+    record {
+      lt = omega (arith, is, from, to, size, begun);
+      there = λ d.
+          ap (λ (l : LogContent). record_at (history l) (lsn + 1)) (sym view)
+          ∙ record_of_item (lsn_before begins) (record_of bytes) offsets (lsn + 1) d (omega (arith, from, begun)) (omega (arith, to, size))
+          ∙ ap (λ k. Some (record_of bytes (get_or offsets k d))) (omega (arith, is, from, begun));
+    }
 
 pub get-offset-requires : goal.get-offset-requires
-get-offset-requires c = below c.self.inside.bytes.now c.self.inside.offsets c.args.lsn c.args.self.now c.self.view_is c.requires
+get-offset-requires c = (below c.self.inside.begins c.self.inside.bytes.now c.self.inside.offsets c.args.lsn c.base.result c.args.self.now c.self.view_is c.base.ensures.is c.requires.from c.requires.to).lt
 
 pub glance_here-requires : goal.glance_here-requires
 glance_here-requires c =
-    let lt = below c.self.inside.bytes.now c.self.inside.offsets c.args.lsn c.args.self.now c.self.view_is c.requires in
-    subst (IsPlace c.self.inside.bytes.now) (sym c.get-offset.ensures) (c.self.invariant.each c.args.lsn c.get-offset.result lt)
+    let at = below c.self.inside.begins c.self.inside.bytes.now c.self.inside.offsets c.args.lsn c.base.result c.args.self.now c.self.view_is c.base.ensures.is c.requires.from c.requires.to in
+    subst (IsPlace c.self.inside.bytes.now) (sym c.get-offset.ensures) (c.self.invariant.places.each (c.args.lsn - c.base.result) c.get-offset.result at.lt)
 
 pub unreachable-requires : goal.unreachable-requires
 unreachable-requires c =
     let bytes = c.self.inside.bytes.now in
-    let lt = below bytes c.self.inside.offsets c.args.lsn c.args.self.now c.self.view_is c.requires in
-    let place : IsPlace bytes c.get-offset.result = subst (IsPlace bytes) (sym c.get-offset.ensures) (c.self.invariant.each c.args.lsn c.get-offset.result lt) in
+    let at = below c.self.inside.begins bytes c.self.inside.offsets c.args.lsn c.base.result c.args.self.now c.self.view_is c.base.ensures.is c.requires.from c.requires.to in
+    let place : IsPlace bytes c.get-offset.result = subst (IsPlace bytes) (sym c.get-offset.ensures) (c.self.invariant.places.each (c.args.lsn - c.base.result) c.get-offset.result at.lt) in
     nothing_spelled (λ x. glance_of x.0) (frame_at (drop c.get-offset.result bytes)) c.in-None.ensures.seen place.spelled
 
 pub returns : goal.returns
@@ -30,13 +46,9 @@ returns c =
     let offsets = c.self.inside.offsets in
     let log = c.args.self.now in
     let o = c.get-offset.result in
-    let lt : c.args.lsn < length offsets = below bytes offsets c.args.lsn log c.self.view_is c.requires in
-    let place : IsPlace bytes o = subst (IsPlace bytes) (sym c.get-offset.ensures) (c.self.invariant.each c.args.lsn o lt) in
-    let there : record_at (history log) (c.args.lsn + 1) ≡ Some (record_of bytes o) =
-    ap (λ (l : LogContent). record_at (history l) (c.args.lsn + 1)) (sym c.self.view_is)
-    ∙ record_of_item (record_of bytes) offsets (c.args.lsn + 1) o (omega arith) (omega (arith, lt))
-    ∙ ap (λ k. Some (record_of bytes (get_or offsets k o))) (omega arith)
-    ∙ ap (λ k. Some (record_of bytes k)) (sym c.get-offset.ensures) in
+    let at = below c.self.inside.begins bytes offsets c.args.lsn c.base.result log c.self.view_is c.base.ensures.is c.requires.from c.requires.to in
+    let place : IsPlace bytes o = subst (IsPlace bytes) (sym c.get-offset.ensures) (c.self.invariant.places.each (c.args.lsn - c.base.result) o at.lt) in
+    let there : record_at (history log) (c.args.lsn + 1) ≡ Some (record_of bytes o) = at.there o ∙ ap (λ k. Some (record_of bytes k)) (sym c.get-offset.ensures) in
     record {
       entry = record_of bytes o;
       there = there;

@@ -4,4 +4,4 @@ use Rattle.wal.proofs.Places.{last_is_count}
 use Rattle.wal.proofs.log.Log.last.Goals as goal
 
 pub returns : goal.returns
-returns c = omega (arith, c.len.ensures, last_is_count (record_of c.self.inside.bytes.now) c.self.inside.offsets c.args.self.now c.self.view_is)
+returns c = omega (arith, c.base.ensures, c.len.ensures, last_is_count c.self.inside.begins (record_of c.self.inside.bytes.now) c.self.inside.offsets c.args.self.now c.self.view_is)

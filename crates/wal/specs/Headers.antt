@@ -1,0 +1,39 @@
+-- The header of a log file. Own.
+use Rattle.std.specs.Prelude.{ℕ, ◌≤◌, List, [], ◌∷◌, ◌++◌, drop, Option, Some, None, nat_lt, nat_eq, if◌then◌else◌}
+use Rattle.std.specs.List.{starts_with}
+use Rattle.std.specs.Int.{w64, to_be_bytes}
+use Rattle.wal.specs.declared.header.LogStart.{LogStart}
+use Rattle.wal.specs.declared.header.LogStart.TheVariants.{Version1, Version2}
+use Rattle.wal.specs.declared.sizes.TheConstants.{HEADER_BYTES, BASED_HEADER_BYTES, LARGEST_BASE}
+use Rattle.wal.specs.Reading.{◌>>=◌, number_at}
+
+-- "ARIESLG1" and "ARIESLG2"
+abbrev pub magic_1 : List ℕ
+magic_1 = 0x41 ∷ 0x52 ∷ 0x49 ∷ 0x45 ∷ 0x53 ∷ 0x4c ∷ 0x47 ∷ 0x31 ∷ []
+
+abbrev pub magic_2 : List ℕ
+magic_2 = 0x41 ∷ 0x52 ∷ 0x49 ∷ 0x45 ∷ 0x53 ∷ 0x4c ∷ 0x47 ∷ 0x32 ∷ []
+
+-- the header: the magic of the version, and in the second the base LSN behind it
+abbrev pub header_of : LogStart → List ℕ
+header_of Version1 = magic_1
+header_of (Version2 base) = magic_2 ++ to_be_bytes w64 base
+
+-- how many bytes it has
+abbrev pub header_bytes : LogStart → ℕ
+header_bytes Version1 = HEADER_BYTES
+header_bytes (Version2 base) = BASED_HEADER_BYTES
+
+-- a base LSN is not so large that LSNs could run out
+abbrev pub FitsStart : LogStart → Type 0
+FitsStart Version1 = Unit {0}
+FitsStart (Version2 base) = base ≤ LARGEST_BASE
+
+-- READING. How the log in these bytes begins, or None where they begin with no header.
+unfoldable pub start_at : List ℕ → Option LogStart
+start_at bytes =
+    if starts_with nat_eq bytes magic_1 then Some Version1
+    else if starts_with nat_eq bytes magic_2 then (do
+      base ← number_at w64 (drop HEADER_BYTES bytes)
+      if nat_lt LARGEST_BASE base.0 then None else Some (Version2 base.0))
+    else None

@@ -1,0 +1,65 @@
+//! How a log file begins: its header.
+
+ghost use Rattle.std.specs.Prelude.{◌≡◌};
+ghost use Rattle.wal.specs.Records.{lsn_before};
+ghost use Rattle.wal.specs.Headers.{header_bytes, start_at};
+
+use crate::field::u64_at;
+use crate::sizes::{BASED_HEADER_BYTES, HEADER_BYTES, LARGEST_BASE};
+
+/// How a log file begins: which version it is written in, and behind which LSN its records come.
+#[derive(Clone, Copy)]
+pub enum LogStart {
+    /// Version 1: the first record has LSN 1.
+    Version1,
+    /// Version 2, of a log that goes on from one that was archived.
+    Version2 {
+        /// The base LSN: that of the last record before this log. The first record here has the next.
+        base: u64,
+    },
+}
+
+impl LogStart {
+    /// The LSN behind which its records come.
+    #[inline(always)]
+    pub fn base(self) -> u64
+        ensures { result ≡ lsn_before self }
+    {
+        match self {
+            LogStart::Version1 => 0,
+            LogStart::Version2 { base } => base,
+        }
+    }
+
+    /// How many bytes the header takes.
+    #[inline(always)]
+    pub fn header_bytes(self) -> usize
+        ensures { result ≡ header_bytes self }
+    {
+        match self {
+            LogStart::Version1 => HEADER_BYTES,
+            LogStart::Version2 { .. } => BASED_HEADER_BYTES,
+        }
+    }
+}
+
+/// How the log in these bytes begins, None where it has no header: the first 8 bytes are neither
+/// magic, or in version 2 there are fewer than 16 bytes, or the base LSN is above
+/// 9,223,372,036,854,775,807.
+#[tactic(auto, unfolding(crate::specs::Headers::start_at))]
+pub fn start_at(bytes: &[u8]) -> Option<LogStart>
+    ensures { result ≡ start_at bytes.now }
+{
+    if bytes.starts_with(b"ARIESLG1") {
+        return Some(LogStart::Version1);
+    }
+    if !bytes.starts_with(b"ARIESLG2") {
+        return None;
+    }
+    let (_, rest) = bytes.split_at(HEADER_BYTES);
+    let (base, _) = u64_at(rest)?;
+    if base > LARGEST_BASE {
+        return None;
+    }
+    Some(LogStart::Version2 { base })
+}
