@@ -43,7 +43,7 @@ last_other : (t : ℕ) (log : History) (r : LogRecord) → is_of t r ≡ false �
 last_other t log r e = rw e refl
 
 absent : (t : ℕ) (log : History) → has (is_of t) log ≡ false → Absent t log
-absent t start h = record { state = refl; undo_next = refl; last = refl }
+absent t (start _) h = record { state = refl; undo_next = refl; last = refl }
 absent t (log ▸ Update u) h =
     let (a, b) = or_parts (eqb u.tx t) (has (is_of t) log) h in
     let k = absent t log b in
@@ -250,7 +250,7 @@ module _ (over : BasePages) (t m : ℕ) (base : Option TableEntry) (log : Histor
   next_known r o = other_next r refl refl refl refl (rw behind) (rw behind)
 
 known_after : (over : BasePages) (t m : ℕ) (log : History) → IsLawful over log → m ≤ last_lsn log → KnownAt t m (unfinished_entry (first m log) t) log
-known_after over t m start h l = at_checkpoint t start
+known_after over t m (start b) h l = at_checkpoint t (start b)
 known_after over t m (log ▸ r) h l =
     elim (cases_Bool (ltb (last_lsn log) m)) [
       | inl i ↦

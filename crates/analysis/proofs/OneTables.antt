@@ -1,6 +1,6 @@
 -- Two tables of one log are the same: their numbers rise, and at each number stands the same.
-use Rattle.std.proofs.Common.{◌≡◌, ℕ, List, sym, ap, ap₂, ◌∙◌}
-use Rattle.wal.specs.Records.{TableEntry, history}
+use Rattle.std.proofs.Common.{◌≡◌, ℕ, List, sym, ap, ap₂, ◌∙◌, suc}
+use Rattle.wal.specs.Records.{TableEntry, history, base_lsn}
 use Rattle.wal.specs.Redo.{rec_lsn_of}
 use Rattle.wal.specs.Undo.{entry_for}
 use Rattle.wal.proofs.Entries.{same_table}
@@ -17,6 +17,6 @@ one_tables content m a b is other =
     (λ t. is.entries t ∙ (ap (λ ts. analysed_entry t m (entry_for t ts) log) base.0 ∙ sym (other.entries t))) in
     let dirty : a.dirty ≡ b.dirty =
     same_pages a.dirty b.dirty is.pages_rise other.pages_rise (λ p. is.pages p ∙ (ap (λ ds. analysed_rec_lsn p m (rec_lsn_of p ds) log) base.1 ∙ sym (other.pages p))) in
-    let redo_lsn : a.redo_lsn ≡ b.redo_lsn = is.redo_lsn ∙ ap redo_lsn_of dirty ∙ sym other.redo_lsn in
+    let redo_lsn : a.redo_lsn ≡ b.redo_lsn = is.redo_lsn ∙ ap (redo_lsn_of (suc (base_lsn log))) dirty ∙ sym other.redo_lsn in
     ap₂ (λ (ts : List TableEntry) (ds : List (ℕ × ℕ)). record { transactions = ts; dirty = ds; redo_lsn = a.redo_lsn }) transactions dirty
     ∙ ap (λ n. record { transactions = b.transactions; dirty = b.dirty; redo_lsn = n }) redo_lsn

@@ -1,9 +1,9 @@
 -- One record more, looked at.
-use Rattle.std.proofs.Common.{ℕ, suc, ◌≡◌, ◌+◌, ◌≤◌, Bool, true, false, ◌||◌, cond, eqb, ltb, leb, List, [], ◌∷◌, Option, Some, None, refl, sym, ap, ap₂, ◌∙◌, arith, inl, inr}
+use Rattle.std.proofs.Common.{ℕ, suc, ◌≡◌, ◌+◌, ◌≤◌, Bool, true, false, ◌||◌, cond, eqb, ltb, leb, List, [], ◌∷◌, Option, Some, None, refl, sym, ap, ap₂, ◌∙◌, arith, inl, inr, max}
 use Rattle.std.proofs.lemmas.Bool.{cases_Bool, le-ltb, lt-ltb, le-leb, lt-leb}
 use Rattle.wal.specs.declared.record.State.{State}
 use Rattle.wal.specs.declared.record.State.TheVariants.{Active, Prepared, Aborting}
-use Rattle.wal.specs.Records.{TableEntry, LogRecord, Update, Abort, Prepare, CheckpointBegin, CheckpointEnd, History, start, ◌▸◌, last_lsn}
+use Rattle.wal.specs.Records.{TableEntry, LogRecord, Update, Abort, Prepare, CheckpointBegin, CheckpointEnd, History, start, ◌▸◌, last_lsn, base_lsn}
 use Rattle.wal.specs.Meaning.{state_by, is_of, is_abort_of, is_prepare_of, is_on}
 use Rattle.wal.specs.Undo.{is_prepared}
 use Rattle.wal.specs.Store.{or_else}
@@ -11,6 +11,7 @@ use Rattle.analysis.specs.Tables.{work_since, finished_since, base_since, undo_n
 use Rattle.analysis.specs.Steps.{prepared_from, state_in, undo_next_of_entry, entry_after, rec_lsn_after, entry_seen}
 use Rattle.wal.specs.declared.glance.Glance.{Glance}
 use Rattle.wal.specs.Glances.{glance_of}
+use Rattle.wal.proofs.Histories.{base_within}
 
 -- what the entry says of the state and the undo-next
 pub state_by-state : (s : State) → state_by (is_aborting s) (is_prepared s) ≡ s
@@ -90,29 +91,29 @@ rec_lsn_more page m base log r le =
     rw behind (or_else-assoc base (first_behind m page log) (cond (is_on page r) (Some (suc (last_lsn log))) None))
 
 -- NO RECORD behind m
-pub work_none : (t m : ℕ) (log : History) → last_lsn log ≤ m → work_since t m log ≡ []
-work_none t m start le = refl
-work_none t m (log ▸ r) le = (let e : ltb (last_lsn log) m ≡ true = lt-ltb _ _ (omega arith) in rw e refl)
+pub work_none : (t m : ℕ) (log : History) → last_lsn log ≤ max m (base_lsn log) → work_since t m log ≡ []
+work_none t m (start _) le = refl
+work_none t m (log ▸ r) le = (let e : ltb (last_lsn log) m ≡ true = lt-ltb _ _ (omega (arith, le, base_within log)) in rw e refl)
 
-finished_none : (t m : ℕ) (log : History) → last_lsn log ≤ m → finished_since t m log ≡ false
-finished_none t m start le = refl
-finished_none t m (log ▸ r) le = (let e : ltb (last_lsn log) m ≡ true = lt-ltb _ _ (omega arith) in rw e refl)
+finished_none : (t m : ℕ) (log : History) → last_lsn log ≤ max m (base_lsn log) → finished_since t m log ≡ false
+finished_none t m (start _) le = refl
+finished_none t m (log ▸ r) le = (let e : ltb (last_lsn log) m ≡ true = lt-ltb _ _ (omega (arith, le, base_within log)) in rw e refl)
 
-pub entry_none : (t m : ℕ) (base : Option TableEntry) (log : History) → last_lsn log ≤ m → analysed_entry t m base log ≡ base
+pub entry_none : (t m : ℕ) (base : Option TableEntry) (log : History) → last_lsn log ≤ max m (base_lsn log) → analysed_entry t m base log ≡ base
 entry_none t m base log le = rw (work_none t m log le, finished_none t m log le) refl
 
-behind_none : (m page : ℕ) (log : History) → last_lsn log ≤ m → first_behind m page log ≡ None
-behind_none m page start le = refl
+behind_none : (m page : ℕ) (log : History) → last_lsn log ≤ max m (base_lsn log) → first_behind m page log ≡ None
+behind_none m page (start _) le = refl
 behind_none m page (log ▸ r) le =
-    let older = behind_none m page log (omega arith) in
-    let e : leb m (last_lsn log) ≡ false = lt-leb m (last_lsn log) (omega arith) in
+    let older = behind_none m page log (omega (arith, le, base_within log)) in
+    let e : leb m (last_lsn log) ≡ false = lt-leb m (last_lsn log) (omega (arith, le, base_within log)) in
     rw (older, e) refl
 
 or_else-none : (a : Option ℕ) → or_else a None ≡ a
 or_else-none None = refl
 or_else-none (Some x) = refl
 
-pub rec_lsn_none : (page m : ℕ) (base : Option ℕ) (log : History) → last_lsn log ≤ m → analysed_rec_lsn page m base log ≡ base
+pub rec_lsn_none : (page m : ℕ) (base : Option ℕ) (log : History) → last_lsn log ≤ max m (base_lsn log) → analysed_rec_lsn page m base log ≡ base
 rec_lsn_none page m base log le = rw (behind_none m page log le) (or_else-none base)
 
 -- FROM RECORD TO RECORD of a list

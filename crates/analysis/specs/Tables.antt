@@ -6,7 +6,7 @@ use Rattle.page.specs.Causes.{HasOneCause, HasNoCause}
 use Rattle.wal.specs.declared.record.State.{State}
 use Rattle.wal.specs.declared.record.State.TheVariants.{Active, Prepared, Aborting}
 use Rattle.wal.specs.declared.record.Entry.{Entry}
-use Rattle.wal.specs.Records.{TableEntry, LogRecord, Update, Compensation, History, start, ◌▸◌, LogContent, history, last_lsn, tx_in, page_in}
+use Rattle.wal.specs.Records.{TableEntry, LogRecord, Update, Compensation, History, start, ◌▸◌, LogContent, history, last_lsn, tx_in, page_in, base_lsn}
 use Rattle.wal.specs.Meaning.{state_by, is_of, is_commit_of, is_abort_of, is_end_of, is_prepare_of, is_on}
 use Rattle.wal.specs.Redo.{rec_lsn_of}
 use Rattle.wal.specs.Undo.{entry_for, is_prepared, lost_in}
@@ -35,14 +35,14 @@ finishes t r = is_commit_of t r || is_end_of t r
 
 -- its work: its records behind the LSN m and behind its last commit or end there, the newest first
 abbrev pub work_since : ℕ → ℕ → History → List (ℕ × LogRecord)
-work_since t m start = []
+work_since t m (start _) = []
 work_since t m (log ▸ r) =
     if nat_lt (last_lsn log) m || finishes t r then []
     else if is_of t r then (suc (last_lsn log), r) ∷ work_since t m log else work_since t m log
 
 -- whether it has a commit or an end behind m
 abbrev pub finished_since : ℕ → ℕ → History → Bool
-finished_since t m start = false
+finished_since t m (start _) = false
 finished_since t m (log ▸ r) = if nat_lt (last_lsn log) m then false else finishes t r || finished_since t m log
 
 -- the base counts where it has not finished behind m
@@ -82,17 +82,17 @@ analysed_entry t m base log = entry_by t (work_since t m log) (base_since t m ba
 
 -- A PAGE. The base's RecLSN, else the first record on it behind m.
 abbrev pub first_behind : ℕ → ℕ → History → Option ℕ
-first_behind m page start = None
+first_behind m page (start _) = None
 first_behind m page (log ▸ r) = or_else (first_behind m page log) (if nat_le m (last_lsn log) && is_on page r then Some (suc (last_lsn log)) else None)
 
 abbrev pub analysed_rec_lsn : ℕ → ℕ → Option ℕ → History → Option ℕ
 analysed_rec_lsn page m base log = or_else base (first_behind m page log)
 
--- the smallest RecLSN, 0 counting as 1; 0 where no page is listed
-abbrev pub redo_lsn_of : List (ℕ × ℕ) → ℕ
-redo_lsn_of [] = 0
-redo_lsn_of (d ∷ []) = max 1 d.1
-redo_lsn_of (d ∷ e ∷ dirty) = min (max 1 d.1) (redo_lsn_of (e ∷ dirty))
+-- the smallest RecLSN, one below the first LSN of the log counting as that; 0 where no page is listed
+abbrev pub redo_lsn_of : (first : ℕ) → List (ℕ × ℕ) → ℕ
+redo_lsn_of first [] = 0
+redo_lsn_of first (d ∷ []) = max first d.1
+redo_lsn_of first (d ∷ e ∷ dirty) = min (max first d.1) (redo_lsn_of first (e ∷ dirty))
 
 -- WHAT THE TABLES SAY
 -- the tables of this log behind the LSN m: in both the numbers rise, each once, and at each stands what the log says
@@ -104,7 +104,7 @@ pub record AreTablesOf (log : LogContent) (m : ℕ) (tables : TablesContent) : T
   pub pages : (page : ℕ) → rec_lsn_of page tables.dirty ≡ analysed_rec_lsn page m (rec_lsn_of page dirty) (history log)
   pub entries_rise : IsRising (map tx_in tables.transactions)
   pub pages_rise : IsRising (map page_in tables.dirty)
-  pub redo_lsn : tables.redo_lsn ≡ redo_lsn_of tables.dirty
+  pub redo_lsn : tables.redo_lsn ≡ redo_lsn_of (suc (base_lsn (history log))) tables.dirty
 
 -- ONE ANSWER. No log has two such tables behind one LSN.
 abbrev pub OneTables : Type 0

@@ -1,6 +1,6 @@
 //! The analysis pass.
 
-ghost use Rattle.std.specs.Prelude.{◌≡◌, max, None, IfOk, IfErr};
+ghost use Rattle.std.specs.Prelude.{◌≡◌, ◌≤◌, max, None, IfOk, IfErr};
 ghost use Rattle.page.specs.Store.{StoreContent};
 ghost use Rattle.wal.specs.Records.{history};
 ghost use Rattle.wal.specs.Meaning.{BasePages};
@@ -18,12 +18,12 @@ use std::alloc::Global;
 use std::collections::BTreeMap;
 use wal::Log;
 
-/// The smaller of the smallest RecLSN so far, 0 for none, and another, which counts as 1 where it
-/// is 0.
-fn lower(smallest: u64, rec_lsn: u64) -> u64
-    ensures { result ≡ lower smallest (max 1 rec_lsn) }
+/// The smaller of the smallest RecLSN so far, 0 for none, and another, which counts as the first LSN
+/// of the log where it is below that.
+fn lower(smallest: u64, first: u64, rec_lsn: u64) -> u64
+    ensures { result ≡ lower smallest (max first rec_lsn) }
 {
-    let rec_lsn = rec_lsn.max(1);
+    let rec_lsn = rec_lsn.max(first);
     if smallest == 0 || rec_lsn < smallest {
         rec_lsn
     } else {
@@ -31,14 +31,15 @@ fn lower(smallest: u64, rec_lsn: u64) -> u64
     }
 }
 
-/// The LSN from which redo looks at records: the smallest RecLSN, 0 counting as 1; 0 where no page
-/// is listed.
-fn redo_lsn_of(dirty: &BTreeMap<u32, u64>) -> u64
-    ensures { result ≡ redo_lsn_of dirty.now.entries }
+/// The LSN from which redo looks at records: the smallest RecLSN, one below the first LSN of the log
+/// counting as that; 0 where no page is listed.
+fn redo_lsn_of(first: u64, dirty: &BTreeMap<u32, u64>) -> u64
+    requires { 1 ≤ first }
+    ensures { result ≡ redo_lsn_of first dirty.now.entries }
 {
     let mut smallest = 0;
     for (_, rec_lsn) in dirty {
-        smallest = lower(smallest, *rec_lsn);
+        smallest = lower(smallest, first, *rec_lsn);
     }
     smallest
 }
@@ -58,7 +59,8 @@ pub fn analyse(alloc: Global, log: &Log, master: u64) -> Result<Tables, Fault>
 {
     let (mut transactions, mut dirty) = base(alloc, log, master)?;
     scan(log, master, &mut transactions, &mut dirty)?;
-    let redo_lsn = redo_lsn_of(&dirty);
+    let first = log.base() + 1;
+    let redo_lsn = redo_lsn_of(first, &dirty);
     // For the proof: the keys of both maps rise.
     let _in_order = transactions.iter();
     let _in_order_too = dirty.iter();

@@ -152,7 +152,7 @@ fn note_page(
     Ok(())
 }
 
-/// Looks at the records behind the LSN `master`.
+/// Looks at the records behind the LSN `master`: all of them where it is not above the base LSN.
 pub fn scan(
     log: &Log,
     master: u64,
@@ -168,7 +168,8 @@ pub fn scan(
 {
     let mut known = [false; PAGES];
     let mut kept = [None; PLACES];
-    for lsn in master..log.last() {
+    let from = master.max(log.base());
+    for lsn in from..log.last() {
         let glance = log.glance_after(lsn);
         note_transaction(transactions, &mut kept, glance, lsn + 1)?;
         note_page(dirty, &mut known, glance, lsn + 1)?;

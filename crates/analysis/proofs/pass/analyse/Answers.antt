@@ -1,7 +1,7 @@
-use Rattle.std.proofs.Common.{sym, subst}
+use Rattle.std.proofs.Common.{sym, subst, ap, ◌∙◌, arith}
 use Rattle.std.specs.Prelude.{map}
 use Rattle.wal.specs.Content.{entry_of}
-use Rattle.analysis.specs.Tables.{TablesContent, AreTablesOf}
+use Rattle.analysis.specs.Tables.{TablesContent, AreTablesOf, redo_lsn_of}
 use Rattle.analysis.proofs.Rising.{entries_rise, pages_rise}
 use Rattle.analysis.proofs.Truth.{tables_true}
 use Rattle.analysis.proofs.pass.analyse.Goals as goal
@@ -17,7 +17,7 @@ returns-clause-tables c =
       pages = λ p. c.in_ok-scan.ensures.pages p _ (base.pages_are p);
       entries_rise = entries_rise c.scan.new.transactions.entries c.iter-in_order.ensures.ordered;
       pages_rise = pages_rise c.scan.new.dirty.entries c.iter-in_order_too.ensures.ordered;
-      redo_lsn = c.redo_lsn_of-redo_lsn.ensures;
+      redo_lsn = c.redo_lsn_of-redo_lsn.ensures ∙ ap (λ n. redo_lsn_of n c.scan.new.dirty.entries) (omega (arith, c.base-first.ensures.is));
     }
 
 pub returns-clause-lawful : goal.returns-clause-lawful

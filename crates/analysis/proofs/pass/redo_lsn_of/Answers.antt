@@ -10,6 +10,6 @@ pub loop-rec_lsn-preserved : goal.loop-rec_lsn-preserved
 loop-rec_lsn-preserved c =
     let read : Bor ℕ × Bor ℕ → ℕ × ℕ = λ e. (e.0.now, e.1.now) in
     c.lower-smallest.ensures
-    ∙ ap (λ n. lower n (max 1 c.in-Some.rec_lsn.now)) c.loop-rec_lsn.invariant
-    ∙ sym (redo_lsn_of-push (map read c.loop-rec_lsn.yielded) (c.in-Some.field-0-0.now, c.in-Some.rec_lsn.now))
-    ∙ ap redo_lsn_of (sym (map_push read c.loop-rec_lsn.yielded (c.in-Some.field-0-0, c.in-Some.rec_lsn)))
+    ∙ ap (λ n. lower n (max c.args.first c.in-Some.rec_lsn.now)) c.loop-rec_lsn.invariant
+    ∙ sym (redo_lsn_of-push c.args.first (map read c.loop-rec_lsn.yielded) (c.in-Some.field-0-0.now, c.in-Some.rec_lsn.now) c.requires)
+    ∙ ap (redo_lsn_of c.args.first) (sym (map_push read c.loop-rec_lsn.yielded (c.in-Some.field-0-0, c.in-Some.rec_lsn)))

@@ -1,6 +1,6 @@
-use Rattle.std.proofs.Common.{◌≡◌, ◌+◌, ◌≤◌, sym, ap, ◌∙◌, arith}
-use Rattle.wal.specs.Records.{history, last_lsn, first}
-use Rattle.wal.proofs.Histories.{size_of_first, size_of_first_le, first_all}
+use Rattle.std.proofs.Common.{◌≡◌, ◌+◌, ◌≤◌, sym, ap, ◌∙◌, arith, max}
+use Rattle.wal.specs.Records.{history, last_lsn, first, base_lsn}
+use Rattle.wal.proofs.Histories.{size_of_first, size_of_first_le, first_all, base_of_first}
 use Rattle.analysis.specs.Tables.{analysed_entry, analysed_rec_lsn}
 use Rattle.analysis.specs.Steps.{entry_after}
 use Rattle.analysis.proofs.Scanned.{entry_none, rec_lsn_none, entry_next, rec_lsn_next, entry_glanced}
@@ -11,8 +11,10 @@ use Rattle.analysis.proofs.scan.scan.Goals as goal
 
 pub loop-lsn-init : goal.loop-lsn-init
 loop-lsn-init c =
-    let before = first c.args.master (history c.args.log.now) in
-    let short : last_lsn before ≤ c.args.master = size_of_first_le c.args.master (history c.args.log.now) in
+    let log = history c.args.log.now in
+    let before = first c.max-from.result log in
+    let short : last_lsn before ≤ max c.args.master (base_lsn before) =
+    omega (arith, size_of_first_le c.max-from.result log (omega (arith, c.base.ensures.is, c.max-from.ensures)), base_of_first c.max-from.result log, c.base.ensures.is, c.max-from.ensures) in
     (λ t base e. none_held t c.args.transactions.now.entries ∙ e ∙ sym (entry_none t c.args.master base before short), λ p base e. e ∙ sym (rec_lsn_none p c.args.master base before short), λ none. none_held 0 c.args.transactions.now.entries ∙ none, λ page noted. none_known 4096 page noted, none_kept)
 
 pub loop-lsn-preserved : goal.loop-lsn-preserved
@@ -22,8 +24,8 @@ loop-lsn-preserved c =
     let g = c.glance_after-glance.result in
     let lsn = c.loop-lsn.lsn + 1 in
     let log = first c.loop-lsn.lsn (history c.args.log.now) in
-    let n : last_lsn log ≡ c.loop-lsn.lsn = size_of_first c.loop-lsn.lsn (history c.args.log.now) (omega arith) in
-    let le : c.args.master ≤ last_lsn log = omega (arith, n) in
+    let n : last_lsn log ≡ c.loop-lsn.lsn = size_of_first c.loop-lsn.lsn (history c.args.log.now) (omega (arith, c.base.ensures.is, c.max-from.ensures)) (omega arith) in
+    let le : c.args.master ≤ last_lsn log = omega (arith, n, c.max-from.ensures) in
     let at : last_lsn log + 1 ≡ lsn = omega (arith, n) in (
       λ t base e. entry_next t c.args.master base _ _ log r lsn le at (c.loop-lsn.invariant.0 t base e) (entry_glanced lsn t r g _ _ seen.seen_of (c.in_ok-note_transaction.ensures.ok t))
           ∙ ap (analysed_entry t c.args.master base) (sym seen.next),
