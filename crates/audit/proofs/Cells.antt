@@ -9,7 +9,7 @@ use Rattle.wal.proofs.Holders.{holder, release_keeps, found_has}
 use Rattle.audit.specs.Cells.{image_or, last_write}
 
 pub last_write_within : (page slot : ℕ) (log : History) → last_write page slot log ≤ last_lsn log
-last_write_within page slot start = omega arith
+last_write_within page slot (start _) = omega arith
 last_write_within page slot (log ▸ r) =
     elim (cases_Bool (writes page slot r)) [
       | inl e ↦ rw e (omega arith)
@@ -17,7 +17,7 @@ last_write_within page slot (log ▸ r) =
     ]
 
 pub image_in_last : (base : BasePages) (page slot : ℕ) (log : History) → image_or (base.cells page slot) (record_at log (last_write page slot log)) ≡ replay base log page slot
-image_in_last base page slot start = refl
+image_in_last base page slot (start _) = refl
 image_in_last base page slot (log ▸ r) =
     elim (cases_Bool (writes page slot r)) [
       | inl e ↦ rw (e, eq-eqb (suc (last_lsn log)) (suc (last_lsn log)) refl) refl
@@ -26,7 +26,7 @@ image_in_last base page slot (log ▸ r) =
 
 -- the last writer writes there
 pub last_writes : (page slot : ℕ) (log : History) (r : LogRecord) → record_at log (last_write page slot log) ≡ Some r → writes page slot r ≡ true
-last_writes page slot start r h = absurd (cc)
+last_writes page slot (start _) r h = absurd (cc)
 last_writes page slot (log ▸ x) r h =
     elim (cases_Bool (writes page slot x)) [
       | inl e ↦
@@ -56,7 +56,7 @@ later : (page slot t : ℕ) (log : History) (x : LogRecord) → writes page slot
 later page slot t log x e p = (p.0, rw e (record_more log x (last_write page slot log) p.0 p.1), p.2)
 
 pub holder_wrote : (page slot t : ℕ) (log : History) → holder page slot log ≡ Some t → WrittenBy page slot t log
-holder_wrote page slot t start h = absurd (cc)
+holder_wrote page slot t (start _) h = absurd (cc)
 holder_wrote page slot t (log ▸ Update u) h =
     elim (cases_Bool (eqb u.page page && eqb u.slot slot)) [
       | inl e ↦ (Update u, rw e (record_last log (Update u)), (let g : Some u.tx ≡ Some t = rw e at h in cc))

@@ -1,7 +1,7 @@
 -- What the state that is kept decides of the laws.
-use Rattle.std.proofs.Common.{◌≡◌, ◌<◌, ◌≤◌, ◌&&◌, ◌||◌, not, ℕ, Bool, true, false, List, [], ◌∷◌, length, Option, Some, None, refl, sym, ap, ap₂, subst, ◌∙◌, inl, inr, arith}
+use Rattle.std.proofs.Common.{◌≡◌, ◌<◌, ◌≤◌, ◌&&◌, ◌||◌, not, ℕ, Bool, true, false, List, [], ◌∷◌, length, Option, Some, None, refl, sym, ap, ap₂, subst, ◌∙◌, inl, inr, arith, ◌+◌}
 use Rattle.std.proofs.lemmas.Bool.{cases_eq, both_ways, and_parts, not-true}
-use Rattle.wal.specs.Records.{UpdateRecord, CompensationRecord, LogRecord, Update, History, history, last_lsn, record_at, LogContent}
+use Rattle.wal.specs.Records.{UpdateRecord, CompensationRecord, LogRecord, Update, History, history, last_lsn, record_at, LogContent, base_lsn}
 use Rattle.wal.specs.Meaning.{BasePages, replay, is_of, has, pending, finished, aborted, prepared, in_doubt}
 use Rattle.wal.specs.Laws.{IsLawful, Compensates, Strictness}
 use Rattle.wal.specs.Tail.{tx_of}
@@ -22,7 +22,7 @@ cell_value base content log page slot w begins e =
     ∙ image_in_last base page slot log
 
 -- COMPENSATION
-module _ (content : LogContent) (log : History) (links : List ℕ) (c : CompensationRecord) (s : Standing) (begins : Begins log content) (len : length links ≡ last_lsn log) (h : Stands links c.tx log s) where
+module _ (content : LogContent) (log : History) (links : List ℕ) (c : CompensationRecord) (s : Standing) (begins : Begins log content) (len : base_lsn log + length links ≡ last_lsn log) (h : Stands links c.tx log s) where
   abbrev pub HasUndone : Type 0
   HasUndone = (r : LogRecord) × (record_at (history content) s.newest ≡ Some r) × Undoes r c.page c.slot c.undo_next c.image
 
@@ -31,14 +31,14 @@ module _ (content : LogContent) (log : History) (links : List ℕ) (c : Compensa
       record { lsn = n; below = ns; update = u; newest = p; found = found; page = h.0; slot = h.1; image = h.3; undo_next = h.2 }
   by_record r n ns p found h = absurd h
 
-  by_stack : (stack : List ℕ) → pending c.tx log ≡ stack → Linked links stack s.newest → HasUndone → Compensates log c
+  by_stack : (stack : List ℕ) → pending c.tx log ≡ stack → Linked (base_lsn log) links stack s.newest → HasUndone → Compensates log c
   by_stack [] p l u =
-      (let none : record_at (history content) s.newest ≡ None = ap (record_at (history content)) l ∙ record_none (history content) 0 (inl refl) in
+      (let none : record_at (history content) s.newest ≡ None = ap (record_at (history content)) l ∙ record_none (history content) 0 (inl (omega arith)) in
       let some : record_at (history content) s.newest ≡ Some u.0 = u.1 in
       absurd (cc))
   by_stack (n ∷ ns) p l u =
       let e : s.newest ≡ n = l.0 in
-      let room : n ≤ length links = l.2 in
+      let room : n ≤ base_lsn log + length links = l.2 in
       let found : record_at log n ≡ Some u.0 = sym (begins n (omega arith)) ∙ ap (record_at (history content)) (sym e) ∙ u.1 in
       by_record u.0 n ns p found u.2
 
@@ -47,21 +47,21 @@ module _ (content : LogContent) (log : History) (links : List ℕ) (c : Compensa
 
   pub compensates_undone : Compensates log c → HasUndone
   compensates_undone k =
-      let l : Linked links (k.lsn ∷ k.below) s.newest = subst (λ x. Linked links x s.newest) k.newest h.pending in
-      let room : k.lsn ≤ length links = l.2 in
+      let l : Linked (base_lsn log) links (k.lsn ∷ k.below) s.newest = subst (λ x. Linked (base_lsn log) links x s.newest) k.newest h.pending in
+      let room : k.lsn ≤ base_lsn log + length links = l.2 in
       let found : record_at (history content) s.newest ≡ Some (Update k.update) = ap (record_at (history content)) l.0 ∙ begins k.lsn (omega arith) ∙ k.found in
       (Update k.update, found, (k.page, k.slot, k.undo_next, k.image))
 
 -- an end without a commit finds an empty stack
-empty_stack : (links stack : List ℕ) (top : ℕ) → Linked links stack top → top ≡ 0 → stack ≡ []
-empty_stack links [] top l e = refl
-empty_stack links (n ∷ ns) top l e = absurd (let a : top ≡ n = l.0 in let b : 0 < n = l.1 in omega arith)
+empty_stack : (base : ℕ) (links stack : List ℕ) (top : ℕ) → Linked base links stack top → top ≡ 0 → stack ≡ []
+empty_stack base links [] top l e = refl
+empty_stack base links (n ∷ ns) top l e = absurd (let a : top ≡ n = l.0 in let b : base < n = l.1 in omega arith)
 
 pub end_allowed : (links : List ℕ) (t : ℕ) (log : History) (s : Standing) → Stands links t log s → s.newest ≡ 0 → pending t log ≡ []
-end_allowed links t log s h e = empty_stack links (pending t log) s.newest h.pending e
+end_allowed links t log s h e = empty_stack (base_lsn log) links (pending t log) s.newest h.pending e
 
 pub end_needs : (links : List ℕ) (t : ℕ) (log : History) (s : Standing) → Stands links t log s → pending t log ≡ [] → s.newest ≡ 0
-end_needs links t log s h e = (let l : Linked links [] s.newest = subst (λ x. Linked links x s.newest) e h.pending in l)
+end_needs links t log s h e = (let l : Linked (base_lsn log) links [] s.newest = subst (λ x. Linked (base_lsn log) links x s.newest) e h.pending in l)
 
 -- STRICTNESS
 module _ (base : BasePages) (log : History) (lawful : IsLawful base log) (links : List ℕ) (standing : ℕ → Standing) (stands : (t : ℕ) → Stands links t log (standing t)) (u : UpdateRecord) where

@@ -4,7 +4,7 @@ use Rattle.std.proofs.lemmas.Bool.{cases_Bool, cases_eq, cases_lt, and_parts, an
 use Rattle.std.proofs.lemmas.List.{get_or-set_same, get_or-set_other}
 use Rattle.std.proofs.Math.ListN.{length-set}
 use Rattle.page.specs.declared.page.Page.{Page}
-use Rattle.wal.specs.Records.{LogRecord, Update, Compensation, History, start, ◌▸◌, history, last_lsn, record_at, LogContent, first}
+use Rattle.wal.specs.Records.{LogRecord, Update, Compensation, History, start, ◌▸◌, history, last_lsn, record_at, LogContent, first, base_lsn}
 use Rattle.wal.specs.Meaning.{is_on}
 use Rattle.wal.specs.Store.{NamesPages, DirtyLaw}
 use Rattle.wal.proofs.Histories.{record_last, record_more, record_in_first, size_of_first}
@@ -81,7 +81,7 @@ missing_more pages log r ms lsn at named keeps = idle pages log r ms (λ q. refl
 
 -- WHAT IT IS
 pub missing_within : (p k : ℕ) (log : History) → first_missing p k log ≤ last_lsn log
-missing_within p k start = omega arith
+missing_within p k (start _) = omega arith
 missing_within p k (log ▸ r) =
     elim (cases_Bool (eqb (first_missing p k log) 0 && (is_on p r && ltb k (suc (last_lsn log))))) [
       | inl e ↦ rw e (omega arith)
@@ -89,7 +89,7 @@ missing_within p k (log ▸ r) =
     ]
 
 pub missing_found : (p k : ℕ) (log : History) → 0 < first_missing p k log → (r : LogRecord) × (record_at log (first_missing p k log) ≡ Some r) × (is_on p r ≡ true) × (k < first_missing p k log)
-missing_found p k start h = absurd (omega (arith, h))
+missing_found p k (start _) h = absurd (omega (arith, h))
 missing_found p k (log ▸ r) h =
     elim (cases_Bool (eqb (first_missing p k log) 0 && (is_on p r && ltb k (suc (last_lsn log))))) [
       | inl e ↦
@@ -104,7 +104,7 @@ missing_found p k (log ▸ r) h =
     ]
 
 pub missing_low : (p k : ℕ) (log : History) (lsn : ℕ) (x : LogRecord) → record_at log lsn ≡ Some x → is_on p x ≡ true → k < lsn → (0 < first_missing p k log) × (first_missing p k log ≤ lsn)
-missing_low p k start lsn x at on lt = absurd (cc)
+missing_low p k (start _) lsn x at on lt = absurd (cc)
 missing_low p k (log ▸ r) lsn x at on lt =
     elim (cases_Bool (eqb (first_missing p k log) 0)) [
       | inl z ↦
@@ -135,8 +135,8 @@ missing_low p k (log ▸ r) lsn x at on lt =
     ]
 
 -- THE LAW
-module _ (log : LogContent) (m p k : ℕ) (listed : Option ℕ) (le : m ≤ last_lsn (history log)) where
-  pub covered_law : IsInRange listed m → IsCovered listed (first_missing p k (first m (history log))) → DirtyLaw (history log) m p k listed
+module _ (log : LogContent) (m p k : ℕ) (listed : Option ℕ) (from : base_lsn (history log) ≤ m) (le : m ≤ last_lsn (history log)) where
+  pub covered_law : IsInRange (base_lsn (history log)) listed m → IsCovered listed (first_missing p k (first m (history log))) → DirtyLaw (history log) m p k listed
   covered_law range covered =
       record {
         range = range;
@@ -150,13 +150,13 @@ module _ (log : LogContent) (m p k : ℕ) (listed : Option ℕ) (le : m ≤ last
             ];
       }
 
-  pub law_covered : DirtyLaw (history log) m p k listed → IsInRange listed m × IsCovered listed (first_missing p k (first m (history log)))
+  pub law_covered : DirtyLaw (history log) m p k listed → IsInRange (base_lsn (history log)) listed m × IsCovered listed (first_missing p k (first m (history log)))
   law_covered law = (
     law.range,
     λ some.
         let missing = first_missing p k (first m (history log)) in
         let x = missing_found p k (first m (history log)) some in
-        let within : missing ≤ m = omega (arith, missing_within p k (first m (history log)), size_of_first m (history log) le) in
+        let within : missing ≤ m = omega (arith, missing_within p k (first m (history log)), size_of_first m (history log) from le) in
         let here = sym (record_in_first m (history log) missing within) ∙ x.1 in
         elim (law.covers missing x.0 within here x.2) [
           | inl l ↦ absurd (let a = x.3 in omega (arith, a, l))

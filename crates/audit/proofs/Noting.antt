@@ -10,7 +10,7 @@ use Rattle.wal.specs.Store.{NamesPages}
 use Rattle.wal.specs.Spelling.{Fits}
 use Rattle.wal.specs.Tail.{number_or_0, tx_of}
 use Rattle.audit.specs.declared.standing.Standing.{Standing}
-use Rattle.audit.specs.Standings.{unknown, Linked, Stands}
+use Rattle.audit.specs.Standings.{unknown, Linked, Stands, IsTop}
 use Rattle.audit.specs.Cells.{last_write, KeepsCells, HasCell, written}
 use Rattle.audit.proofs.Standings.{stands_other}
 
@@ -46,9 +46,9 @@ module _ (links : List ℕ) (log : History) (r : LogRecord) (found found' : ℕ 
 pub at_transaction : (links : List ℕ) (log : History) (standing : ℕ → Standing) (t' t : ℕ) (s : Standing) → ((n : ℕ) → Stands links n log (standing n)) → t' ≡ t → s ≡ standing t' → Stands links t log s
 at_transaction links log standing t' t s stands e is = subst (λ x. Stands links t log x) (sym (is ∙ ap standing e)) (stands t)
 
-pub top_within : (links stack : List ℕ) (top : ℕ) → Linked links stack top → top ≤ length links
-top_within links [] top l = (let e : top ≡ 0 = l in omega arith)
-top_within links (n ∷ ns) top l = (let e : top ≡ n = l.0 in let b : n ≤ length links = l.2 in omega arith)
+pub is_top : (base : ℕ) (links stack : List ℕ) (top : ℕ) → Linked base links stack top → IsTop base links top
+is_top base links [] top l = inl l
+is_top base links (n ∷ ns) top l = (let e : top ≡ n = l.0 in let a : base < n = l.1 in let b : n ≤ base + length links = l.2 in inr (omega arith, omega arith))
 
 -- CELLS
 pub has_cell : (count cells : ℕ) (r : LogRecord) → cells ≡ 16 * count → NamesPages count r → Fits r → HasCell cells r

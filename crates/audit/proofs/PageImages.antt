@@ -1,12 +1,12 @@
 -- The law of a page, decided by the last writers of its cells.
 use Rattle.std.proofs.Common.{◌≡◌, ◌<◌, ◌≤◌, ◌+◌, ◌*◌, ◌&&◌, ℕ, suc, true, false, cond, List, [], length, get_or, Option, Some, None, refl, sym, ap, ap₂, ◌∙◌, inl, inr, arith, eqb, eqb-true, ltb, leb}
-use Rattle.std.proofs.lemmas.Bool.{cases_Bool, ltb-true, ltb-false, le-leb, lt-leb, and_parts}
+use Rattle.std.proofs.lemmas.Bool.{cases_Bool, ltb-true, ltb-false, le-leb, lt-leb, and_parts, cases_lt}
 use Rattle.std.proofs.lemmas.List.FromFn.{get_or-map-range_with_len, length-map-range_with_len}
 use Rattle.std.proofs.lemmas.List.{ext_get_or, get_or_default}
 use Rattle.std.specs.Option.{option_map_or}
 use Rattle.page.specs.Image.{Image}
 use Rattle.page.specs.declared.page.Page.{Page}
-use Rattle.wal.specs.Records.{LogRecord, History, ◌▸◌, first, last_lsn, record_at}
+use Rattle.wal.specs.Records.{LogRecord, History, ◌▸◌, first, last_lsn, record_at, base_lsn}
 use Rattle.wal.specs.Meaning.{BasePages, Change, change_of, is_in_cell, replay, writes}
 use Rattle.wal.specs.Redo.{slots_in}
 use Rattle.wal.specs.Store.{NamesPages}
@@ -15,7 +15,7 @@ use Rattle.audit.specs.Cells.{image_or, last_write, KeepsCells, written}
 use Rattle.audit.specs.Pages.{page_lsn, log_at, counts_for, KeepsPage}
 use Rattle.audit.proofs.Cells.{last_write_within, image_in_last}
 use Rattle.audit.proofs.Noting.{Follows, keeps_written}
-use Rattle.wal.proofs.Histories.{first_all, size_of_first_le, record_in_first}
+use Rattle.wal.proofs.Histories.{first_all, size_of_first_le, record_in_first, first_base}
 
 -- BEGINNINGS
 -- one record more, for a page whose PageLSN is k
@@ -77,12 +77,20 @@ module _ (pages : List Page) (log : History) (r : LogRecord) (lsn : ℕ) (at : l
   pub cells_skipped : (ws : List ℕ) → counts_for (page_lsn pages) r lsn ≡ false → KeepsCells (length pages) (log_at pages log) ws → KeepsCells (length pages) (log_at pages (log ▸ r)) ws
   cells_skipped ws c keeps = record { size_is = keeps.size_is; each = λ page slot lt lt'. keeps.each page slot lt lt' ∙ skipped c page slot }
 
+-- what is written up to an LSN has none above
+write_low : (page slot lsn : ℕ) (log : History) → last_write page slot (first lsn log) ≤ lsn
+write_low page slot lsn log =
+    elim (cases_lt lsn (base_lsn log)) [
+      | inl below ↦ (let none : last_write page slot (first lsn log) ≡ 0 = ap (last_write page slot) (first_base log lsn (omega (arith, below))) in omega (arith, none))
+      | inr above ↦ omega (arith, last_write_within page slot (first lsn log), size_of_first_le lsn log above)
+    ]
+
 -- SLOTS
 module _ (base : BasePages) (log : History) (ws : List ℕ) (page : Page) (keeps : KeepsPage log ws page) where
   value_left : (k : ℕ) → k < 16 → image_or (base.cells page.number k) (record_at log (get_or ws (16 * page.number + k) 0)) ≡ replay base (first page.lsn log) page.number k
   value_left k lt =
       let w : ℕ = last_write page.number k (first page.lsn log) in
-      let low : w ≤ page.lsn = (let a = last_write_within page.number k (first page.lsn log) in let b = size_of_first_le page.lsn log in omega (arith, a, b)) in
+      let low : w ≤ page.lsn = write_low page.number k page.lsn log in
       ap (λ n. image_or (base.cells page.number k) (record_at log n)) (keeps k lt)
       ∙ ap (image_or (base.cells page.number k)) (sym (record_in_first page.lsn log w low))
       ∙ image_in_last base page.number k (first page.lsn log)

@@ -1,11 +1,11 @@
 -- The log so far, as a beginning of the log.
-use Rattle.std.proofs.Common.{◌≡◌, ◌+◌, cond, refl, inl, inr, suc, ℕ, List, ◌++◌, length, take, drop, sym, subst, ◌∙◌, arith}
+use Rattle.std.proofs.Common.{◌≡◌, ◌+◌, cond, refl, inl, inr, suc, ℕ, List, ◌++◌, length, take, drop, sym, subst, ◌∙◌, arith, ◌≤◌}
 use Rattle.std.proofs.lemmas.List.{take_at}
 use Rattle.page.specs.declared.fault.Fault.{Fault}
 use Rattle.page.specs.declared.fault.Fault.TheVariants.{NoResource, EndTooEarly, WrongCompensation}
 use Rattle.std.proofs.lemmas.Bool.{cases_Bool}
 use Rattle.wal.specs.Meaning.{BasePages}
-use Rattle.wal.specs.Records.{LogRecord, History, ◌▸◌, LogContent, history, last_lsn, first}
+use Rattle.wal.specs.Records.{LogRecord, History, ◌▸◌, LogContent, history, last_lsn, first, base_lsn}
 use Rattle.wal.specs.Laws.{Obeys, ChainLaw, FinishLaw, CompensationLaw}
 use Rattle.wal.specs.Tail.{is_end}
 use Rattle.wal.specs.Store.{NamesPages}
@@ -14,8 +14,8 @@ use Rattle.wal.proofs.Appended.{each_more}
 use Rattle.audit.specs.Passing.{Begins}
 use Rattle.audit.specs.FirstFault.{BrokenAt, AreSound, FirstBroken, RecordFault}
 
-pub begins_first : (log : LogContent) (lsn : ℕ) → Begins (first lsn (history log)) log
-begins_first log lsn n le = sym (record_in_first lsn (history log) n (omega (arith, le, size_of_first_le lsn (history log))))
+pub begins_first : (log : LogContent) (lsn : ℕ) → base_lsn (history log) ≤ lsn → Begins (first lsn (history log)) log
+begins_first log lsn from n le = sym (record_in_first lsn (history log) n (omega (arith, le, size_of_first_le lsn (history log) from)))
 
 -- one record more
 pub sound_more : (base : BasePages) (count : ℕ) (log : History) (lsn : ℕ) (r : LogRecord) → first (lsn + 1) log ≡ first lsn log ▸ r

@@ -11,7 +11,7 @@ use Rattle.audit.specs.Standings.{Stands}
 
 -- the last record of a transaction
 pub last_found : (t : ℕ) (log : History) → has (is_of t) log ≡ true → (r : LogRecord) × (record_at log (last_of t log) ≡ Some r) × (tx_of r ≡ t)
-last_found t start h = absurd (cc)
+last_found t (start _) h = absurd (cc)
 last_found t (log ▸ r) h =
     elim (cases_Bool (is_of t r)) [
       | inl e ↦ (r, rw e (record_last log r), is_of_tx t r e)
@@ -22,7 +22,7 @@ pub last_within : (t : ℕ) (log : History) → has (is_of t) log ≡ true → l
 last_within t log h = (let p = last_found t log h in record_within log (last_of t log) p.0 p.1)
 
 pub has_none : (t : ℕ) (log : History) → last_of t log ≡ 0 → has (is_of t) log ≡ false
-has_none t start h = refl
+has_none t (start _) h = refl
 has_none t (log ▸ r) h =
     elim (cases_Bool (is_of t r)) [
       | inl e ↦ absurd (let f : suc (last_lsn log) ≡ 0 = rw e at h in omega (arith, f))
@@ -30,7 +30,7 @@ has_none t (log ▸ r) h =
     ]
 
 pub has_some : (t : ℕ) (log : History) → (last_of t log ≡ 0 → ⊥) → has (is_of t) log ≡ true
-has_some t start h = absurd (h refl)
+has_some t (start _) h = absurd (h refl)
 has_some t (log ▸ r) h =
     elim (cases_Bool (is_of t r)) [
       | inl e ↦ rw e refl
@@ -56,7 +56,7 @@ prepare_own t (Prepare s) h = h
 prepare_own t r h = absurd (false≢true h)
 
 pub prepared_has : (t : ℕ) (log : History) → prepared t log ≡ true → has (is_of t) log ≡ true
-prepared_has t start h = h
+prepared_has t (start _) h = h
 prepared_has t (log ▸ r) h =
     elim (or_cases (is_prepare_of t r) (prepared t log) h) [
       | inl i ↦ or_left (is_of t r) (has (is_of t) log) (prepare_own t r i)

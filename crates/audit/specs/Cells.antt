@@ -8,7 +8,7 @@ use Rattle.page.specs.declared.sizes.TheConstants.{SLOTS}
 
 -- the LSN of the last update or CLR in the cell, or 0
 abbrev pub last_write : ℕ → ℕ → History → ℕ
-last_write page slot start = 0
+last_write page slot (start _) = 0
 last_write page slot (log ▸ r) = if writes page slot r then suc (last_lsn log) else last_write page slot log
 
 -- what the record at an LSN left in a cell, or where there is none what was there before

@@ -8,7 +8,7 @@ use Rattle.audit.specs.Pages.{page_lsn}
 
 -- the LSN of the first record on the page above its PageLSN, or 0
 abbrev pub first_missing : (page page_lsn : ℕ) → History → ℕ
-first_missing page page_lsn start = 0
+first_missing page page_lsn (start _) = 0
 first_missing page page_lsn (log ▸ r) =
     if first_missing page page_lsn log == 0 && (is_on page r && nat_lt page_lsn (suc (last_lsn log))) then suc (last_lsn log) else first_missing page page_lsn log
 
@@ -23,8 +23,8 @@ noted_missing lsn_of missing r lsn =
     option_map_or (λ c. if slice_index missing c.page == 0 && nat_lt (lsn_of c.page) lsn then slice_set missing c.page lsn else missing) (change_of r) missing
 
 -- a listed RecLSN lies in 1 to the master
-abbrev pub IsInRange : Option ℕ → ℕ → Type 0
-IsInRange listed master = (rec_lsn : ℕ) → listed ≡ Some rec_lsn → (1 ≤ rec_lsn) × (rec_lsn ≤ master)
+abbrev pub IsInRange : (base : ℕ) → Option ℕ → ℕ → Type 0
+IsInRange base listed master = (rec_lsn : ℕ) → listed ≡ Some rec_lsn → (base < rec_lsn) × (rec_lsn ≤ master)
 
 -- a missing record is listed from no later a RecLSN
 abbrev pub IsCovered : Option ℕ → ℕ → Type 0

@@ -1,7 +1,7 @@
 -- What is kept while the records are gone through.
-use Rattle.std.specs.Prelude.{◌≡◌, ◌≤◌, ◌⊎◌, ◌||◌, ℕ, length, Option, Some, None, true}
+use Rattle.std.specs.Prelude.{◌≡◌, ◌≤◌, ◌⊎◌, ◌||◌, ℕ, length, Option, Some, None, true, ◌+◌}
 use Rattle.page.specs.Image.{Image}
-use Rattle.wal.specs.Records.{LogRecord, Update, History, LogContent, history, last_lsn, record_at}
+use Rattle.wal.specs.Records.{LogRecord, Update, History, LogContent, history, last_lsn, record_at, base_lsn}
 use Rattle.wal.specs.Tail.{tx_of}
 use Rattle.audit.specs.declared.standing.Standing.{Standing}
 use Rattle.audit.specs.declared.running.Running.{Running}
@@ -10,7 +10,8 @@ use Rattle.audit.specs.Cells.{KeepsCells}
 
 -- it tells how each transaction stands and who wrote each cell last
 pub record Tells (count : ℕ) (log : History) (running : Running) : Type 0 where
-  pub links : length running.links.items ≡ last_lsn log
+  pub base : running.base ≡ base_lsn log
+  pub links : base_lsn log + length running.links.items ≡ last_lsn log
   pub stands : (t : ℕ) → Stands running.links.items t log (standing_in running.table t)
   pub cells : KeepsCells count (λ _. log) running.writers.items
 

@@ -1,19 +1,23 @@
 -- What the records so far say of a transaction.
-use Rattle.std.specs.Prelude.{◌≡◌, ◌<◌, ◌≤◌, Option, Some, None, ℕ, zero, suc, List, [], ◌∷◌, length, true, false, slice_index, unwrap_or, nat_eq}
+use Rattle.std.specs.Prelude.{◌≡◌, ◌<◌, ◌≤◌, Option, Some, None, ℕ, zero, suc, List, [], ◌∷◌, length, true, false, slice_index, unwrap_or, nat_eq, ◌+◌, ◌-◌, ◌⊎◌}
 use Rattle.std.specs.HashMap.{HashMap, get}
-use Rattle.wal.specs.Records.{LogRecord, Update, Compensation, Commit, Abort, End, Prepare, History}
+use Rattle.wal.specs.Records.{LogRecord, Update, Compensation, Commit, Abort, End, Prepare, History, base_lsn}
 use Rattle.wal.specs.Meaning.{owner, committed, aborted, ended, prepared, pending, last_of, undo_next_of}
 use Rattle.audit.specs.declared.standing.Standing.{Standing}
 
--- what stands below a number on a stack: the n-th link says it of n, and 0 stands for nothing
-abbrev pub under : List ℕ → ℕ → ℕ
-under links zero = 0
-under links (suc n) = slice_index links n
+-- what stands below an LSN on a stack, 0 for nothing: there is a link for each LSN behind the base LSN
+abbrev pub under : (base : ℕ) → List ℕ → ℕ → ℕ
+under base links zero = 0
+under base links (suc n) = slice_index links (suc n - base - 1)
 
--- the links from this top on show these numbers, and nothing more
-abbrev pub Linked : List ℕ → List ℕ → ℕ → Type 0
-Linked links [] top = top ≡ 0
-Linked links (n ∷ ns) top = (top ≡ n) × (0 < n) × (n ≤ length links) × Linked links ns (under links n)
+-- such an LSN, or 0
+abbrev pub IsTop : (base : ℕ) → List ℕ → ℕ → Type 0
+IsTop base links top = (top ≡ 0) ⊎ ((base < top) × (top ≤ base + length links))
+
+-- the links from this top on show these LSNs, and nothing more
+abbrev pub Linked : (base : ℕ) → List ℕ → List ℕ → ℕ → Type 0
+Linked base links [] top = top ≡ 0
+Linked base links (n ∷ ns) top = (top ≡ n) × (base < n) × (n ≤ base + length links) × Linked base links ns (under base links n)
 
 -- it is what the log says of the transaction t
 pub record Stands (links : List ℕ) (t : ℕ) (log : History) (s : Standing) : Type 0 where
@@ -23,7 +27,7 @@ pub record Stands (links : List ℕ) (t : ℕ) (log : History) (s : Standing) : 
   pub aborted : s.aborted ≡ aborted t log
   pub ended : s.ended ≡ ended t log
   pub prepared : s.prepared ≡ prepared t log
-  pub pending : Linked links (pending t log) s.newest
+  pub pending : Linked (base_lsn log) links (pending t log) s.newest
 
 -- what is known of a transaction without records
 abbrev pub unknown : Standing

@@ -2,7 +2,7 @@
 
 ghost use Rattle.std.specs.Prelude.{◌≡◌, ◌+◌, ◌*◌, ◌≤◌, ◌<◌, ◌⊎◌, ◌||◌, ◌↔◌, ℕ, List, All, IsTrue, Some, true, length, option_map, slice_index, slice_index_or};
 ghost use Rattle.page.specs.Image.{Image};
-ghost use Rattle.wal.specs.Records.{LogRecord, History, history, last_lsn, record_at};
+ghost use Rattle.wal.specs.Records.{LogRecord, History, history, last_lsn, record_at, base_lsn};
 ghost use Rattle.wal.specs.Meaning.{BasePages, image_of};
 ghost use Rattle.wal.specs.Laws.{IsLawful, ChainLaw, FinishLaw, CompensationLaw, BeforeLaw, Strictness};
 ghost use Rattle.wal.specs.Store.{NamesPages, base_pages};
@@ -126,7 +126,7 @@ fn undoes_at(log: &Log, lsn: u64, cell: (u32, u8), undo_next: u64, image: Option
 
 /// Whether a CLR undoes the newest pending update, and an end without a commit finds none.
 pub fn keeps_compensation(log: &Log, view: &RecordView, standing: Standing) -> bool
-    ensures { (so_far : History) (links : List ℕ) → Begins so_far log.now → length links ≡ last_lsn so_far
+    ensures { (so_far : History) (links : List ℕ) → Begins so_far log.now → base_lsn so_far + length links ≡ last_lsn so_far
         → Stands links (tx_of (shown view.now)) so_far standing
         → IsTrue result ↔ CompensationLaw so_far (shown view.now) }
 {

@@ -3,7 +3,7 @@
 ghost use Rattle.std.specs.Prelude.{◌≡◌, ◌+◌, ◌≤◌, ◌<◌, ◌↔◌, ℕ, All, IsTrue, Some, length, take, IfOk, OnOk, IfErr};
 ghost use Rattle.page.specs.Store.{AreNumbered};
 ghost use Rattle.page.specs.declared.fault.Fault.TheVariants.{NoResource};
-ghost use Rattle.wal.specs.Records.{history, first, last_lsn, EachRecord};
+ghost use Rattle.wal.specs.Records.{history, first, last_lsn, EachRecord, base_lsn};
 ghost use Rattle.wal.specs.Redo.{rec_lsn_of};
 ghost use Rattle.wal.specs.Store.{NamesPages, DirtyLaw};
 ghost use Rattle.wal.specs.Content.{shown};
@@ -29,17 +29,19 @@ fn note_missing(missing: &mut [u64], view: &RecordView, pages: &[Page], lsn: u64
     }
 }
 
-/// For each page the LSN of the first of so many records that is on it and above its PageLSN, 0 for
-/// none. The only error is `NoResource`.
-fn missing_in(alloc: Global, log: &Log, count: u64, pages: &[Page]) -> Result<Vec<u64>, Fault>
-    requires count { count ≤ last_lsn (history log.now) }
+/// For each page the LSN of the first record up to an LSN that is on it and above its PageLSN, 0
+/// for none. The only error is `NoResource`.
+fn missing_in(alloc: Global, log: &Log, upto: u64, pages: &[Page]) -> Result<Vec<u64>, Fault>
+    requires from { base_lsn (history log.now) ≤ upto }
+    requires to { upto ≤ last_lsn (history log.now) }
     requires named { EachRecord (NamesPages (length pages.now)) (history log.now) }
-    ensures ok { IfOk result (λ v. KeepsMissing pages.now (first count (history log.now)) v.items) }
+    ensures ok { IfOk result (λ v. KeepsMissing pages.now (first upto (history log.now)) v.items) }
     ensures err { IfErr result (λ e. e ≡ NoResource) }
 {
     let mut missing = vec![in alloc; 0; pages.len()]?;
     let _last = log.last();
-    for lsn in 0..count {
+    let base = log.base();
+    for lsn in base..upto {
         note_missing(&mut missing, &log.after(lsn), pages, lsn + 1);
     }
     Ok(missing)
@@ -58,13 +60,16 @@ fn rec_lsn_in(dirty: &DirtyTable, page: u32) -> Option<u64>
     None
 }
 
-/// Whether a listed RecLSN lies in 1 to the master, and at or before the first missing record.
-fn is_covered(listed: Option<u64>, missing: u64, master: u64) -> bool
-    ensures { IsTrue result ↔ IsInRange listed master × IsCovered listed missing }
+/// Whether a listed RecLSN lies above the base LSN and up to the master, and at or before the first
+/// missing record.
+fn is_covered(base: u64, listed: Option<u64>, missing: u64, master: u64) -> bool
+    ensures { IsTrue result ↔ IsInRange base listed master × IsCovered listed missing }
 {
     match listed {
         None => missing == 0,
-        Some(rec_lsn) => rec_lsn >= 1 && rec_lsn <= master && (missing == 0 || rec_lsn <= missing),
+        Some(rec_lsn) => {
+            base < rec_lsn && rec_lsn <= master && (missing == 0 || rec_lsn <= missing)
+        }
     }
 }
 
@@ -77,7 +82,8 @@ pub fn check_dirty(
     pages: &[Page],
     dirty: &DirtyTable,
 ) -> Result<(), Fault>
-    requires master { master ≤ last_lsn (history log.now) }
+    requires from { base_lsn (history log.now) ≤ master }
+    requires to { master ≤ last_lsn (history log.now) }
     requires numbered { AreNumbered pages.now }
     requires named { EachRecord (NamesPages (length pages.now)) (history log.now) }
     ensures ok { OnOk result (All (KeepsDirty (history log.now) master dirty.now) pages.now) }
@@ -85,7 +91,12 @@ pub fn check_dirty(
 {
     let missing = missing_in(alloc, log, master, pages)?;
     for (number, page) in pages.iter().enumerate() {
-        if !is_covered(rec_lsn_in(dirty, page.number), missing[number], master) {
+        if !is_covered(
+            log.base(),
+            rec_lsn_in(dirty, page.number),
+            missing[number],
+            master,
+        ) {
             return Err(Fault::DirtyTable(page.number));
         }
     }

@@ -3,7 +3,7 @@
 ghost use Rattle.std.specs.Prelude.{◌≡◌, ◌+◌, ◌*◌, ◌≤◌, ◌<◌, ◌⊎◌, ◌↔◌, ◌^◌, ℕ, List, All, IsTrue, Some, None, true, false, length, map, take, option_map, nat_eq, nat_le, ◌||◌, IfOk, OnOk, IfErr, IfSome, slice_index, slice_index_or};
 ghost use Rattle.std.specs.HashSet.{contains};
 ghost use Rattle.page.specs.declared.fault.Fault.TheVariants.{NoResource};
-ghost use Rattle.wal.specs.Records.{LogRecord, TableEntry, CheckpointBegin, tx_in, History, history, first, record_at, last_lsn, EachRecord};
+ghost use Rattle.wal.specs.Records.{LogRecord, TableEntry, CheckpointBegin, tx_in, History, history, first, record_at, last_lsn, EachRecord, base_lsn};
 ghost use Rattle.wal.specs.Meaning.{state_by, is_unfinished, last_of};
 ghost use Rattle.wal.specs.Tail.{is_among};
 ghost use Rattle.wal.specs.Store.{true_entry, true_table, NamesPages, CheckpointLaw};
@@ -105,16 +105,17 @@ fn is_missing(listed: &HashSet<u32>, tx: u32, standing: Standing, lsn: u64) -> b
 /// Whether each transaction that is unfinished after the first so many records is listed.
 fn unfinished_are_listed(
     log: &Log,
-    count: u64,
+    upto: u64,
     table: &HashMap<u32, Standing>,
     listed: &HashSet<u32>,
 ) -> bool
-    requires { count ≤ last_lsn (history log.now) }
-    ensures { (links : List ℕ) → ((t : ℕ) → Stands links t (first count (history log.now)) (standing_in table.now t))
-        → IsTrue result ↔ ((t : ℕ) → is_unfinished t (first count (history log.now)) ≡ true → IsTrue (contains nat_eq listed.now t)) }
+    requires from { base_lsn (history log.now) ≤ upto }
+    requires to { upto ≤ last_lsn (history log.now) }
+    ensures { (links : List ℕ) → ((t : ℕ) → Stands links t (first upto (history log.now)) (standing_in table.now t))
+        → IsTrue result ↔ ((t : ℕ) → is_unfinished t (first upto (history log.now)) ≡ true → IsTrue (contains nat_eq listed.now t)) }
 {
     let _last = log.last();
-    for lsn in 0..count {
+    for lsn in log.base()..upto {
         let tx = transaction_of(&log.after(lsn));
         if is_missing(listed, tx, standing_of(table, tx), lsn + 1) {
             return false;
@@ -123,17 +124,19 @@ fn unfinished_are_listed(
     true
 }
 
-/// How each transaction stands after the first so many records. The only error is `NoResource`.
-fn running_at(alloc: Global, log: &Log, count: u64, pages: usize) -> Result<Running, Fault>
-    requires count { count ≤ last_lsn (history log.now) }
+/// How each transaction stands after the records up to an LSN. The only error is `NoResource`.
+fn running_at(alloc: Global, log: &Log, upto: u64, pages: usize) -> Result<Running, Fault>
+    requires from { base_lsn (history log.now) ≤ upto }
+    requires to { upto ≤ last_lsn (history log.now) }
     requires few { pages ≤ PAGES }
     requires named { EachRecord (NamesPages pages) (history log.now) }
-    ensures ok { IfOk result (Tells pages (first count (history log.now))) }
+    ensures ok { IfOk result (Tells pages (first upto (history log.now))) }
     ensures err { IfErr result (λ e. e ≡ NoResource) }
 {
-    let mut running = Running::start(alloc, pages)?;
+    let base = log.base();
+    let mut running = Running::start(alloc, base, pages)?;
     let _last = log.last();
-    for lsn in 0..count {
+    for lsn in base..upto {
         let view = log.after(lsn);
         running.note(&view, lsn + 1)?;
     }
@@ -149,7 +152,8 @@ fn is_true_table(
     pages: usize,
     transactions: &TransactionTable,
 ) -> Result<bool, Fault>
-    requires count { master ≤ last_lsn (history log.now) }
+    requires from { base_lsn (history log.now) ≤ master }
+    requires to { master ≤ last_lsn (history log.now) }
     requires few { pages ≤ PAGES }
     requires named { EachRecord (NamesPages pages) (history log.now) }
     requires rising { IsRising (map tx_in transactions.now) }

@@ -39,7 +39,8 @@ fn writers_at(alloc: Global, log: &Log, pages: &[Page]) -> Result<Vec<u64>, Faul
     ensures err { IfErr result (λ e. e ≡ NoResource) }
 {
     let mut writers = vec![in alloc; 0; SLOTS * pages.len()]?;
-    for lsn in 0..log.last() {
+    let base = log.base();
+    for lsn in base..log.last() {
         let view = log.after(lsn);
         if counts(&view, pages, lsn + 1) {
             note_write(&mut writers, &view, lsn + 1);

@@ -76,8 +76,9 @@ pub fn check_records(alloc: Global, log: &Log, base: &[Page], count: usize) -> R
     ensures ok { OnOk result (AreSound (base_pages base.now) count (history log.now)) }
     ensures err { IfErr result (RecordFault (base_pages base.now) count (history log.now)) }
 {
-    let mut running = Running::start(alloc, count)?;
-    for lsn in 0..log.last() {
+    let begins = log.base();
+    let mut running = Running::start(alloc, begins, count)?;
+    for lsn in begins..log.last() {
         let view = log.after(lsn);
         if let Err(fault) = check_record(log, base, &running, count, &view, lsn + 1) {
             return Err(fault);

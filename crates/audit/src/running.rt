@@ -6,7 +6,7 @@ ghost use Rattle.wal.specs.Records.{History, start, ◌▸◌, last_lsn};
 ghost use Rattle.wal.specs.Store.{NamesPages};
 ghost use Rattle.wal.specs.Spelling.{Fits};
 ghost use Rattle.wal.specs.Content.{shown};
-ghost use Rattle.audit.specs.Standings.{standing_in};
+ghost use Rattle.audit.specs.Standings.{standing_in, IsTop};
 ghost use Rattle.audit.specs.Cells.{HasCell, written};
 ghost use Rattle.audit.specs.Passing.{Tells};
 ghost use Rattle.page.specs.declared.sizes.TheConstants.{PAGES};
@@ -22,6 +22,8 @@ use wal::RecordView;
 pub struct Running {
     /// How each transaction stands.
     pub table: HashMap<u32, Standing>,
+    /// The base LSN of the log.
+    pub base: u64,
     /// For each record what stood on top of its transaction's stack of pending updates before it.
     pub links: Vec<u64>,
     /// For each cell the LSN of its last writer, 0 for none; so many cells a page as it has slots.
@@ -29,15 +31,17 @@ pub struct Running {
 }
 
 impl Running {
-    /// Before the first record, for so many pages. The only error is `NoResource`.
-    pub fn start(alloc: Global, count: usize) -> Result<Running, Fault>
+    /// Before the first record of a log with this base LSN, for so many pages. The only error is
+    /// `NoResource`.
+    pub fn start(alloc: Global, base: u64, count: usize) -> Result<Running, Fault>
         requires { count ≤ PAGES }
-        ensures ok { IfOk result (Tells count start) }
+        ensures ok { IfOk result (Tells count (start base)) }
         ensures err { IfErr result (λ e. e ≡ NoResource) }
     {
         let writers = vec![in alloc; 0; SLOTS * count]?;
         Ok(Running {
             table: HashMap::new(alloc),
+            base,
             links: Vec::new(alloc),
             writers,
         })
@@ -46,14 +50,14 @@ impl Running {
     /// Takes in the record at an LSN. The only error is `NoResource`.
     pub fn note(&mut self, view: &RecordView, lsn: u64) -> Result<(), Fault>
         requires cell { HasCell (length self.old.writers.items) (shown view.now) }
-        requires tops { (t : ℕ) → (standing_in self.old.table t).newest ≤ length self.old.links.items }
+        requires tops { (t : ℕ) → IsTop self.old.base self.old.links.items (standing_in self.old.table t).newest }
         ensures ok { OnOk result ((count : ℕ) (log : History) → last_lsn log + 1 ≡ lsn → NamesPages count (shown view.now) → Fits (shown view.now)
             → Tells count log self.old → Tells count (log ▸ shown view.now) self.new) }
         ensures err { IfErr result (λ e. e ≡ NoResource) }
     {
         let tx = transaction_of(view);
         let standing = standing_of(&self.table, tx);
-        let below = below_top(&self.links, standing.newest);
+        let below = below_top(self.base, &self.links, standing.newest);
         self.table.insert(tx, noted(standing, view, lsn, below))?;
         self.links.push(standing.newest)?;
         note_write(&mut self.writers, view, lsn);

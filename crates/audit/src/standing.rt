@@ -4,7 +4,7 @@ ghost use Rattle.std.specs.Prelude.{◌≡◌, ◌≤◌, length, nat_eq, ◌||�
 ghost use Rattle.std.specs.HashMap.{get};
 ghost use Rattle.wal.specs.Tail.{tx_of};
 ghost use Rattle.wal.specs.Content.{shown};
-ghost use Rattle.audit.specs.Standings.{under, unknown, standing_in, after};
+ghost use Rattle.audit.specs.Standings.{under, unknown, standing_in, after, IsTop};
 
 use std::collections::HashMap;
 use wal::RecordView;
@@ -82,15 +82,16 @@ pub fn transaction_of(view: &RecordView) -> u32
     }
 }
 
-/// What stands below this number on its stack, 0 for nothing.
-pub fn below_top(links: &[u64], top: u64) -> u64
-    requires { top ≤ length links.now }
-    ensures { result ≡ under links.now top }
+/// What stands below this LSN on its stack, 0 for nothing. There is a link for each LSN behind the
+/// base LSN.
+pub fn below_top(base: u64, links: &[u64], top: u64) -> u64
+    requires { IsTop base links.now top }
+    ensures { result ≡ under base links.now top }
 {
     if top == 0 {
         return 0;
     }
-    links[(top - 1) as usize]
+    links[(top - base - 1) as usize]
 }
 
 /// How the transaction of a record stands after it. `below` is what stands below its newest pending

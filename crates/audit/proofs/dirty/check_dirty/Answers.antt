@@ -5,7 +5,7 @@ use Rattle.std.proofs.lemmas.Option.{slice_get-get_or}
 use Rattle.std.proofs.lemmas.List.{take_all, get_or_default}
 use Rattle.std.proofs.lemmas.List.Elements.{All-more}
 use Rattle.page.specs.declared.page.Page.{Page}
-use Rattle.wal.specs.Records.{History, LogContent, history, last_lsn, first}
+use Rattle.wal.specs.Records.{History, LogContent, history, last_lsn, first, base_lsn}
 use Rattle.wal.specs.Redo.{rec_lsn_of}
 use Rattle.audit.specs.Pages.{page_lsn}
 use Rattle.audit.specs.Dirty.{first_missing, KeepsMissing, IsInRange, IsCovered}
@@ -21,12 +21,12 @@ kept pages log ms i n x page is lt number keeps at xn =
     let room : i < length ms = (let z = keeps.size_is in omega (arith, z)) in
     at ∙ get_or_default ms i x 0 room ∙ keeps.each i lt ∙ ap₂ (λ q k. first_missing q k log) (sym number) lsn
 
-decided : (log : LogContent) (m n : ℕ) (page : Page) (dirty : List (ℕ × ℕ)) (o : Option ℕ) → m ≤ last_lsn (history log) → o ≡ rec_lsn_of page.number dirty → n ≡ first_missing page.number page.lsn (first m (history log))
-    → (IsInRange o m × IsCovered o n) ↔ KeepsDirty (history log) m dirty page
-decided log m n page dirty o le e f = (
-  λ h. covered_law log m page.number page.lsn (rec_lsn_of page.number dirty) le (subst (λ z. IsInRange z m) e h.0) (subst (λ z. IsCovered (rec_lsn_of page.number dirty) z) f (subst (λ z. IsCovered z n) e h.1)),
-  λ law. let h = law_covered log m page.number page.lsn (rec_lsn_of page.number dirty) le law in
-      (subst (λ z. IsInRange z m) (sym e) h.0, subst (λ z. IsCovered z n) (sym e) (subst (λ z. IsCovered (rec_lsn_of page.number dirty) z) (sym f) h.1)),
+decided : (log : LogContent) (base m n : ℕ) (page : Page) (dirty : List (ℕ × ℕ)) (o : Option ℕ) → base ≡ base_lsn (history log) → base_lsn (history log) ≤ m → m ≤ last_lsn (history log) → o ≡ rec_lsn_of page.number dirty → n ≡ first_missing page.number page.lsn (first m (history log))
+    → (IsInRange base o m × IsCovered o n) ↔ KeepsDirty (history log) m dirty page
+decided log base m n page dirty o is from le e f = (
+  λ h. covered_law log m page.number page.lsn (rec_lsn_of page.number dirty) from le (subst (λ b. IsInRange b (rec_lsn_of page.number dirty) m) is (subst (λ z. IsInRange base z m) e h.0)) (subst (λ z. IsCovered (rec_lsn_of page.number dirty) z) f (subst (λ z. IsCovered z n) e h.1)),
+  λ law. let h = law_covered log m page.number page.lsn (rec_lsn_of page.number dirty) from le law in
+      (subst (λ z. IsInRange base z m) (sym e) (subst (λ b. IsInRange b (rec_lsn_of page.number dirty) m) (sym is) h.0), subst (λ z. IsCovered z n) (sym e) (subst (λ z. IsCovered (rec_lsn_of page.number dirty) z) (sym f) h.1)),
 )
 
 pub returns-then-not-is_covered-clause-err : goal.returns-then-not-is_covered-clause-err
@@ -36,7 +36,7 @@ returns-then-not-is_covered-clause-err c =
     let log : History = first c.args.master (history c.args.log.now) in
     let number = ap (λ (p : Page). p.number) c.index-pages-number.is ∙ c.requires.numbered.at_place i page (omega arith) in
     let n = kept c.args.pages.now log c.in_ok-missing.missing.items i c.index.result.now c.index.result.now page c.index-pages-number.is (omega arith) number c.in_ok-missing.ensures.ok c.index.ensures refl in
-    let d = decided c.args.log.now c.args.master c.index.result.now page c.args.dirty.now c.rec_lsn_in.result c.requires.master c.rec_lsn_in.ensures n in
+    let d = decided c.args.log.now c.base.result c.args.master c.index.result.now page c.args.dirty.now c.rec_lsn_in.result c.base.ensures.is c.requires.from c.requires.to c.rec_lsn_in.ensures n in
     record {
       place = i;
       page = page;
@@ -53,7 +53,7 @@ loop-number-preserved c =
     let log : History = first c.args.master (history c.args.log.now) in
     let number = ap (λ (p : Page). p.number) c.index-pages-number.is ∙ c.requires.numbered.at_place i page (omega arith) in
     let n = kept c.args.pages.now log c.in_ok-missing.missing.items i c.index.result.now c.index.result.now page c.index-pages-number.is (omega arith) number c.in_ok-missing.ensures.ok c.index.ensures refl in
-    let d = decided c.args.log.now c.args.master c.index.result.now page c.args.dirty.now c.rec_lsn_in.result c.requires.master c.rec_lsn_in.ensures n in
+    let d = decided c.args.log.now c.base.result c.args.master c.index.result.now page c.args.dirty.now c.rec_lsn_in.result c.base.ensures.is c.requires.from c.requires.to c.rec_lsn_in.ensures n in
     All-more (KeepsDirty (history c.args.log.now) c.args.master c.args.dirty.now) c.args.pages.now i page (omega arith) c.loop-number.invariant
     (subst (KeepsDirty (history c.args.log.now) c.args.master c.args.dirty.now) c.index-pages-number.is (d.0 (c.is_covered.ensures.0 c.if-not-is_covered.false)))
 

@@ -7,5 +7,5 @@ use Rattle.audit.proofs.master.unfinished_are_listed.Given as goal
 
 abbrev pub invariant-loop-lsn : goal.invariant-loop-lsn
 invariant-loop-lsn l =
-    (links : List ℕ) → ((t : ℕ) → Stands links t (first l.count (history l.log)) (standing_in l.table t))
-    → (t : ℕ) → last_of t (first l.count (history l.log)) ≤ l.lsn → is_unfinished t (first l.count (history l.log)) ≡ true → contains eqb l.listed t ≡ true
+    (links : List ℕ) → ((t : ℕ) → Stands links t (first l.upto (history l.log)) (standing_in l.table t))
+    → (t : ℕ) → last_of t (first l.upto (history l.log)) ≤ l.lsn → is_unfinished t (first l.upto (history l.log)) ≡ true → contains eqb l.listed t ≡ true

@@ -1,6 +1,6 @@
 use Rattle.std.proofs.lemmas.List.{get_or-replicate, length-replicate}
 use Rattle.std.proofs.Common.{◌*◌, ◌≡◌, ◌+◌, length, true, false, sym, ap, subst, ◌∙◌, arith, List, ℕ, get_or}
-use Rattle.wal.proofs.Histories.{size_of_first, first_none, first_all}
+use Rattle.wal.proofs.Histories.{size_of_first, first_at_base, first_all}
 use Rattle.wal.specs.Records.{History, LogRecord, history, last_lsn, ◌▸◌, first}
 use Rattle.wal.specs.Store.{NamesPages}
 use Rattle.wal.specs.Content.{shown}
@@ -15,7 +15,7 @@ pub loop-lsn-preserved : goal.loop-lsn-preserved
 loop-lsn-preserved c =
     let so_far : History = first c.loop-lsn.lsn (history c.args.log.now) in
     let r : LogRecord = shown c.after-view.result in
-    let at : last_lsn so_far + 1 ≡ c.loop-lsn.lsn + 1 = omega (arith, size_of_first c.loop-lsn.lsn (history c.args.log.now) (omega arith)) in
+    let at : last_lsn so_far + 1 ≡ c.loop-lsn.lsn + 1 = omega (arith, size_of_first c.loop-lsn.lsn (history c.args.log.now) (omega (arith, c.base-base.ensures.is)) (omega arith)) in
     let named : NamesPages (length c.args.pages.now) r =
     c.requires.named (c.loop-lsn.lsn + 1) r c.after-view.ensures.there in
     subst (λ (h : History). KeepsCells (length c.args.pages.now) (log_at c.args.pages.now h) c.if-counts.writers.items) (sym c.after-view.ensures.next)
@@ -36,7 +36,7 @@ loop-lsn-preserved c =
 
 pub loop-lsn-init : goal.loop-lsn-init
 loop-lsn-init c =
-    subst (λ (h : History). KeepsCells (length c.args.pages.now) (log_at c.args.pages.now h) c.in_ok-writers.writers.items) (sym (first_none (history c.args.log.now)))
+    subst (λ (h : History). KeepsCells (length c.args.pages.now) (log_at c.args.pages.now h) c.in_ok-writers.writers.items) (sym (first_at_base (history c.args.log.now) c.base-base.result c.base-base.ensures.is))
     (record {
       size_is = ap length (c.in_ok-writers.ensures.items_if_clones_equal (λ y e. e)) ∙ length-replicate _ _;
       each = λ page slot lt small.

@@ -1,45 +1,47 @@
 use Rattle.std.proofs.Common.{◌≡◌, ◌+◌, length, sym, subst, arith}
-use Rattle.wal.proofs.Histories.{size_of_first, first_none, first_all}
-use Rattle.wal.specs.Records.{History, history, last_lsn, first}
+use Rattle.wal.proofs.Histories.{size_of_first, first_at_base, first_all}
+use Rattle.wal.specs.Records.{History, history, last_lsn, first, base_lsn}
 use Rattle.wal.specs.Meaning.{pending}
 use Rattle.wal.specs.Content.{shown}
 use Rattle.wal.specs.Store.{base_pages}
 use Rattle.audit.specs.FirstFault.{AreSound}
-use Rattle.audit.specs.Standings.{standing_in}
+use Rattle.audit.specs.Standings.{standing_in, IsTop}
 use Rattle.audit.specs.Passing.{Tells}
-use Rattle.audit.proofs.Noting.{has_cell, top_within}
+use Rattle.audit.proofs.Noting.{has_cell, is_top}
 use Rattle.audit.proofs.Passing.{begins_first, sound_more, record_fault}
 use Rattle.audit.proofs.records.check_records.Goals as goal
 
 pub returns-in-Err-clause-err : goal.returns-in-Err-clause-err
 returns-in-Err-clause-err c =
     let so_far : History = first c.loop-lsn.lsn (history c.args.log.now) in
-    let at : last_lsn so_far + 1 ≡ c.loop-lsn.lsn + 1 = omega (arith, size_of_first c.loop-lsn.lsn (history c.args.log.now) (omega arith)) in
+    let at : last_lsn so_far + 1 ≡ c.loop-lsn.lsn + 1 = omega (arith, size_of_first c.loop-lsn.lsn (history c.args.log.now) (omega (arith, c.base-begins.ensures.is)) (omega arith)) in
     record_fault (base_pages c.args.base.now) c.args.count (history c.args.log.now) c.in-Err.fault
     (record {
       lsn = c.loop-lsn.lsn;
       entry = shown c.after-view.result;
       there = c.after-view.ensures.there;
       before = c.loop-lsn.invariant.0;
-      broken = c.in-Err.ensures.err so_far at (begins_first c.args.log.now c.loop-lsn.lsn) c.loop-lsn.invariant.0.lawful c.loop-lsn.invariant.1;
+      broken = c.in-Err.ensures.err so_far at (begins_first c.args.log.now c.loop-lsn.lsn (omega (arith, c.base-begins.ensures.is))) c.loop-lsn.invariant.0.lawful c.loop-lsn.invariant.1;
     })
 
 pub note-requires-clause-cell : goal.note-requires-clause-cell
 note-requires-clause-cell c =
     let so_far : History = first c.loop-lsn.lsn (history c.args.log.now) in
-    let at : last_lsn so_far + 1 ≡ c.loop-lsn.lsn + 1 = omega (arith, size_of_first c.loop-lsn.lsn (history c.args.log.now) (omega arith)) in
+    let at : last_lsn so_far + 1 ≡ c.loop-lsn.lsn + 1 = omega (arith, size_of_first c.loop-lsn.lsn (history c.args.log.now) (omega (arith, c.base-begins.ensures.is)) (omega arith)) in
     has_cell c.args.count (length c.loop-lsn.running.writers.items) (shown c.after-view.result) c.loop-lsn.invariant.1.cells.size_is
-    (c.in_default.ensures.ok so_far at (begins_first c.args.log.now c.loop-lsn.lsn) c.loop-lsn.invariant.0.lawful c.loop-lsn.invariant.1).0 c.after-view.ensures.fits
+    (c.in_default.ensures.ok so_far at (begins_first c.args.log.now c.loop-lsn.lsn (omega (arith, c.base-begins.ensures.is))) c.loop-lsn.invariant.0.lawful c.loop-lsn.invariant.1).0 c.after-view.ensures.fits
 
 pub note-requires-clause-tops : goal.note-requires-clause-tops
 note-requires-clause-tops c = λ t.
-    top_within c.loop-lsn.running.links.items (pending t (first c.loop-lsn.lsn (history c.args.log.now))) (standing_in c.loop-lsn.running.table t).newest (c.loop-lsn.invariant.1.stands t).pending
+    let so_far = first c.loop-lsn.lsn (history c.args.log.now) in
+    subst (λ b. IsTop b c.loop-lsn.running.links.items (standing_in c.loop-lsn.running.table t).newest) (sym c.loop-lsn.invariant.1.base)
+    (is_top (base_lsn so_far) c.loop-lsn.running.links.items (pending t (first c.loop-lsn.lsn (history c.args.log.now))) (standing_in c.loop-lsn.running.table t).newest (c.loop-lsn.invariant.1.stands t).pending)
 
 pub loop-lsn-preserved : goal.loop-lsn-preserved
 loop-lsn-preserved c =
     let so_far : History = first c.loop-lsn.lsn (history c.args.log.now) in
-    let at : last_lsn so_far + 1 ≡ c.loop-lsn.lsn + 1 = omega (arith, size_of_first c.loop-lsn.lsn (history c.args.log.now) (omega arith)) in
-    let kept = c.in_default.ensures.ok so_far at (begins_first c.args.log.now c.loop-lsn.lsn) c.loop-lsn.invariant.0.lawful c.loop-lsn.invariant.1 in (
+    let at : last_lsn so_far + 1 ≡ c.loop-lsn.lsn + 1 = omega (arith, size_of_first c.loop-lsn.lsn (history c.args.log.now) (omega (arith, c.base-begins.ensures.is)) (omega arith)) in
+    let kept = c.in_default.ensures.ok so_far at (begins_first c.args.log.now c.loop-lsn.lsn (omega (arith, c.base-begins.ensures.is))) c.loop-lsn.invariant.0.lawful c.loop-lsn.invariant.1 in (
       sound_more (base_pages c.args.base.now) c.args.count (history c.args.log.now) c.loop-lsn.lsn (shown c.after-view.result) c.after-view.ensures.next c.loop-lsn.invariant.0 kept.0 kept.1,
       subst (λ (h : History). Tells c.args.count h c.note.new.self) (sym c.after-view.ensures.next)
           (c.in_ok-note.ensures.ok c.args.count so_far at kept.0 c.after-view.ensures.fits c.loop-lsn.invariant.1),
@@ -47,7 +49,7 @@ loop-lsn-preserved c =
 
 pub loop-lsn-init : goal.loop-lsn-init
 loop-lsn-init c =
-    subst (λ (h : History). AreSound (base_pages c.args.base.now) c.args.count h × Tells c.args.count h c.in_ok-running.running) (sym (first_none (history c.args.log.now)))
+    subst (λ (h : History). AreSound (base_pages c.args.base.now) c.args.count h × Tells c.args.count h c.in_ok-running.running) (sym (first_at_base (history c.args.log.now) c.base-begins.result c.base-begins.ensures.is))
     (record { lawful = tt; named = λ lsn r there. absurd cc }, c.in_ok-running.ensures.ok)
 
 pub returns-clause-ok : goal.returns-clause-ok

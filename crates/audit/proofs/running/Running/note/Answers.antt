@@ -1,6 +1,6 @@
-use Rattle.std.proofs.Common.{◌≡◌, ℕ, List, [], ◌∷◌, ◌++◌, length, ap, sym, subst, ◌∙◌, arith, eqb, length-append}
+use Rattle.std.proofs.Common.{◌≡◌, ℕ, List, [], ◌∷◌, ◌++◌, length, ap, sym, subst, ◌∙◌, arith, eqb, length-append, ◌+◌, ap₂}
 use Rattle.std.specs.HashMap.{get}
-use Rattle.wal.specs.Records.{LogRecord, ◌▸◌, last_lsn}
+use Rattle.wal.specs.Records.{LogRecord, ◌▸◌, last_lsn, base_lsn}
 use Rattle.wal.specs.Content.{shown}
 use Rattle.wal.specs.Tail.{tx_of}
 use Rattle.audit.specs.Standings.{standing_in, Stands, under}
@@ -14,9 +14,10 @@ pub returns-clause-ok : goal.returns-clause-ok
 returns-clause-ok c = λ count log at named fits tells.
     let r : LogRecord = shown c.args.view.now in
     let links : List ℕ = c.args.self.now.links.items in
-    let len : length links ≡ last_lsn log = tells.links in
+    let len : base_lsn log + length links ≡ last_lsn log = tells.links in
     let pushed : c.push.new.self.items ≡ links ++ c.standing_of-standing.result.newest ∷ [] = c.in_ok-push.ensures.items in
-    let below : c.below_top-below.result ≡ under links c.standing_of-standing.result.newest = c.below_top-below.ensures ∙ ap (λ xs. under xs c.standing_of-standing.result.newest) c.deref.ensures.value in
+    let below : c.below_top-below.result ≡ under (base_lsn log) links c.standing_of-standing.result.newest =
+    c.below_top-below.ensures ∙ ap₂ (λ b xs. under b xs c.standing_of-standing.result.newest) tells.base c.deref.ensures.value in
     let own : Stands (links ++ c.standing_of-standing.result.newest ∷ []) (tx_of r) (log ▸ r) c.noted.result =
     subst (λ x. Stands (links ++ c.standing_of-standing.result.newest ∷ []) (tx_of r) (log ▸ r) x) (sym c.noted.ensures)
     (stands_own links log r c.standing_of-standing.result c.args.lsn c.below_top-below.result at len below
@@ -28,7 +29,8 @@ returns-clause-ok c = λ count log at named fits tells.
     let len'' : length c.note_write.new.writers ≡ c.args.self.now.writers.len = omega (arith, c.note_write.auto.writers, c.deref_mut.ensures.len) in
     let back = written_back c.args.self.now.writers.len c.args.self.now.writers.items c.note_write.new.writers len' len'' in
     record {
-      links = ap length pushed ∙ length-append links (c.standing_of-standing.result.newest ∷ []) ∙ omega arith;
+      base = tells.base;
+      links = omega (arith, ap length pushed, length-append links (c.standing_of-standing.result.newest ∷ []), len);
       stands = λ t. subst (λ xs. Stands xs t (log ▸ r) (standing_in c.insert.new.self t)) (sym pushed) (all t);
       cells = subst (λ xs. KeepsCells count (λ _. log ▸ r) xs) (sym (back ∙ wrote)) (keeps_more count log c.args.self.now.writers.items r c.args.lsn at named fits tells.cells);
     }
