@@ -29,7 +29,7 @@ redone_same (Some x) redo_lsn k l n e = ap (λ b. leb x n && (not (eqb redo_lsn 
 
 -- the PageLSN on the way is the image's, or that of a record which was redone
 last_between : (rec_lsn : Option ℕ) (redo_lsn page k : ℕ) (log : History) → let l = last_where (is_redone rec_lsn redo_lsn k) page k log in (l ≡ k) ⊎ ((k < l) × (l ≤ last_lsn log))
-last_between rec_lsn redo_lsn page k start = inl refl
+last_between rec_lsn redo_lsn page k (start _) = inl refl
 last_between rec_lsn redo_lsn page k (log ▸ r) =
     cond_both (is_on page r && is_redone rec_lsn redo_lsn k (suc (last_lsn log))) (suc (last_lsn log)) (last_where (is_redone rec_lsn redo_lsn k) page k log) (λ l. (l ≡ k) ⊎ ((k < l) × (l ≤ suc (last_lsn log))))
     (λ e. inr (redone_above rec_lsn redo_lsn k (suc (last_lsn log)) (and_parts (is_on page r) (is_redone rec_lsn redo_lsn k (suc (last_lsn log))) e).1, omega arith))

@@ -1,9 +1,9 @@
 -- What the first round has seen, in the words of redo's contract.
-use Rattle.std.proofs.Common.{◌≡◌, ℕ, zero, suc, ◌-◌, ◌<◌, ◌≤◌, min, List, Some, length, refl, ap, ◌∙◌, cond, ne_eqb, arith}
+use Rattle.std.proofs.Common.{◌≡◌, ℕ, zero, suc, ◌-◌, ◌<◌, ◌≤◌, min, List, Some, length, refl, ap, ◌∙◌, cond, ne_eqb, arith, max}
 use Rattle.page.specs.declared.fault.Fault.{Fault}
 use Rattle.page.specs.declared.fault.Fault.TheVariants.{NoResource, NoSuchPage}
-use Rattle.wal.specs.Records.{LogRecord, history, record_at, last_lsn, LogContent}
-use Rattle.wal.proofs.Histories.{record_within}
+use Rattle.wal.specs.Records.{LogRecord, history, record_at, last_lsn, LogContent, base_lsn}
+use Rattle.wal.proofs.Histories.{record_within, base_within, record_above}
 use Rattle.redo.specs.declared.route.Route.{Route}
 use Rattle.redo.specs.Passes.{PassContent}
 use Rattle.redo.specs.Rounds.{skipped, skipped_in, RoundFault, AreRoutes}
@@ -11,18 +11,18 @@ use Rattle.redo.specs.Redone.{AreWorkers, IsLookedAt, AllExist, RedoFault}
 use Rattle.redo.proofs.Stretches.{boundary_last, skipped_within}
 use Rattle.redo.proofs.Routes.{all_exist}
 
-skipped_some : (n len : ℕ) → skipped (suc n) len ≡ min len n
-skipped_some n len = ap (λ b. cond b len (min len (suc n - 1))) (ne_eqb (suc n) 0 (λ e. omega arith)) ∙ omega arith
+skipped_some : (base n len : ℕ) → skipped base (suc n) len ≡ max base (min len n)
+skipped_some base n len = ap (λ b. cond b len (max base (min len (suc n - 1)))) (ne_eqb (suc n) 0 (λ e. omega arith)) ∙ omega arith
 
 -- what is not skipped is looked at
-looked_at : (redo_lsn len lsn : ℕ) → skipped redo_lsn len < lsn → lsn ≤ len → IsLookedAt redo_lsn lsn
-looked_at zero len lsn past within = absurd (let e : skipped 0 len ≡ len = refl in omega arith)
-looked_at (suc n) len lsn past within = let e = skipped_some n len in ((λ z. omega arith), omega arith)
+looked_at : (base redo_lsn len lsn : ℕ) → skipped base redo_lsn len < lsn → lsn ≤ len → IsLookedAt redo_lsn lsn
+looked_at base zero len lsn past within = absurd (let e : skipped base 0 len ≡ len = refl in omega arith)
+looked_at base (suc n) len lsn past within = let e = skipped_some base n len in ((λ z. omega arith), omega arith)
 
 -- and what is looked at is not skipped
-not_skipped : (redo_lsn len lsn : ℕ) → IsLookedAt redo_lsn lsn → lsn ≤ len → skipped redo_lsn len < lsn
-not_skipped zero len lsn h within = absurd (h.0 refl)
-not_skipped (suc n) len lsn h within = let from = h.1 in let e = skipped_some n len in omega arith
+not_skipped : (base redo_lsn len lsn : ℕ) → IsLookedAt redo_lsn lsn → base < lsn → lsn ≤ len → skipped base redo_lsn len < lsn
+not_skipped base zero len lsn h above within = absurd (h.0 refl)
+not_skipped base (suc n) len lsn h above within = let from = h.1 in let e = skipped_some base n len in omega arith
 
 in_log : (log : LogContent) (lsn : ℕ) (r : LogRecord) → record_at (history log) lsn ≡ Some r → lsn ≤ last_lsn (history log)
 in_log log lsn r e = record_within (history log) lsn r e
@@ -31,8 +31,8 @@ pub exist_all : (pass : PassContent) (routes : List Route) → AreRoutes pass ro
 exist_all pass routes are lsn r looked found =
     let within = in_log pass.log lsn r found in
     let len = last_lsn (history pass.log) in
-    let last = boundary_last (skipped_in pass) len (length routes) (skipped_within pass.redo_lsn len) are.some in
-    all_exist pass routes are lsn r (not_skipped pass.redo_lsn len lsn looked within) (omega (arith, within, last)) found
+    let last = boundary_last (skipped_in pass) len (length routes) (skipped_within (base_lsn (history pass.log)) pass.redo_lsn len (base_within (history pass.log))) are.some in
+    all_exist pass routes are lsn r (not_skipped (base_lsn (history pass.log)) pass.redo_lsn len lsn looked (record_above (history pass.log) lsn r found) within) (omega (arith, within, last)) found
 
 pub round_fault : (pass : PassContent) (workers : ℕ) (e : Fault) → AreWorkers workers → RoundFault pass e → RedoFault pass.log (length pass.images) pass.redo_lsn workers e
 round_fault pass workers NoResource fit cause = tt
@@ -41,10 +41,10 @@ round_fault pass workers (NoSuchPage lsn) fit m =
       fit,
       record {
         entry = m.entry;
-        looked_at = looked_at pass.redo_lsn (last_lsn (history pass.log)) lsn m.past within;
+        looked_at = looked_at (base_lsn (history pass.log)) pass.redo_lsn (last_lsn (history pass.log)) lsn m.past within;
         there = m.there;
         beyond = m.beyond;
-        before = λ k r looked less found. m.before k r (not_skipped pass.redo_lsn (last_lsn (history pass.log)) k looked (in_log pass.log k r found)) (omega arith) found;
+        before = λ k r looked less found. m.before k r (not_skipped (base_lsn (history pass.log)) pass.redo_lsn (last_lsn (history pass.log)) k looked (record_above (history pass.log) k r found) (in_log pass.log k r found)) (omega arith) found;
       },
     )
 round_fault pass workers e fit cause = absurd cause

@@ -12,7 +12,7 @@ use Rattle.std.proofs.lemmas.List.Elements.{All-push}
 use Rattle.std.proofs.lemmas.Option.{slice_get-get_or, same_Some}
 use Rattle.wal.specs.Spelling.{Fits}
 use Rattle.redo.specs.declared.note.Note.{Note}
-use Rattle.wal.specs.Records.{LogRecord, Update, Compensation, History, ◌▸◌, last_lsn, history, record_at, first}
+use Rattle.wal.specs.Records.{LogRecord, Update, Compensation, History, ◌▸◌, last_lsn, history, record_at, first, base_lsn}
 use Rattle.wal.proofs.Histories.{size_of_first, size_of_first_le}
 use Rattle.redo.specs.Changes.{page_named, part_of_page, is_part, IsNote, NamesBelow, on_part, lsns_where, lsn_in}
 use Rattle.wal.specs.Meaning.{cell_of}
@@ -22,17 +22,17 @@ use Rattle.redo.proofs.Routes.{lsns_none}
 use Rattle.redo.proofs.Replay.{lsns_more, page_of_cell}
 
 -- nothing is noted before the first
-pub none_noted : (pass : PassContent) (from part : ℕ) → from ≤ last_lsn (history pass.log) → lsns_where (on_part pass.parting.part_of part) from (first from (history pass.log)) ≡ []
-none_noted pass from part le = lsns_none (on_part pass.parting.part_of part) from (first from (history pass.log)) (size_of_first_le from (history pass.log))
+pub none_noted : (pass : PassContent) (from part : ℕ) → base_lsn (history pass.log) ≤ from → lsns_where (on_part pass.parting.part_of part) from (first from (history pass.log)) ≡ []
+none_noted pass from part le = lsns_none (on_part pass.parting.part_of part) from (first from (history pass.log)) (size_of_first_le from (history pass.log) le)
 
-module _ (pass : PassContent) (from seen : ℕ) (r : LogRecord) (le : from ≤ seen) (lt : seen < last_lsn (history pass.log)) (at : record_at (history pass.log) (seen + 1) ≡ Some r) where
+module _ (pass : PassContent) (from seen : ℕ) (r : LogRecord) (low : base_lsn (history pass.log) ≤ from) (le : from ≤ seen) (lt : seen < last_lsn (history pass.log)) (at : record_at (history pass.log) (seen + 1) ≡ Some r) where
   pub one_noted : (part : ℕ) (old new : List ℕ) → first (seen + 1) (history pass.log) ≡ first seen (history pass.log) ▸ r
       → new ≡ cond (on_part pass.parting.part_of part r) (old ++ (seen + 1) ∷ []) old → old ≡ lsns_where (on_part pass.parting.part_of part) from (first seen (history pass.log))
       → new ≡ lsns_where (on_part pass.parting.part_of part) from (first (seen + 1) (history pass.log))
   one_noted part old new next is before =
       let test = on_part pass.parting.part_of part in
       let log = first seen (history pass.log) in
-      let count : last_lsn log ≡ seen = size_of_first seen (history pass.log) (omega (arith, lt)) in
+      let count : last_lsn log ≡ seen = size_of_first seen (history pass.log) (omega (arith, low, le)) (omega (arith, lt)) in
       let lsn : seen + 1 ≡ suc (last_lsn log) = omega (arith, count) in
       is
       ∙ (ap (λ xs. cond (test r) (xs ++ (seen + 1) ∷ []) xs) before

@@ -1,8 +1,8 @@
 -- The records of a stretch, applied by their LSNs in order.
-use Rattle.std.proofs.Common.{◌≡◌, ℕ, zero, suc, ◌+◌, ◌-◌, ◌<◌, ◌≤◌, ◌^◌, Bool, true, false, cond, ◌&&◌, not, eqb, leb, ltb, List, [], ◌∷◌, ◌++◌, All, Option, Some, None, map, replicate, length, get_or, min, refl, sym, ap, ◌∙◌, subst, inl, inr, arith, length-append, eq-eqb, eqb-true}
+use Rattle.std.proofs.Common.{◌≡◌, ℕ, zero, suc, ◌+◌, ◌-◌, ◌<◌, ◌≤◌, ◌^◌, Bool, true, false, cond, ◌&&◌, not, eqb, leb, ltb, List, [], ◌∷◌, ◌++◌, All, Option, Some, None, map, replicate, length, get_or, min, refl, sym, ap, ◌∙◌, subst, inl, inr, arith, length-append, eq-eqb, eqb-true, max}
 use Rattle.std.specs.Prelude.{option_map}
 use Rattle.std.specs.List.{fold, slice_get}
-use Rattle.std.proofs.lemmas.Bool.{cases_Bool, cond_both, and_right, and_parts, le-leb, leb-true, lt-leb, false≢true}
+use Rattle.std.proofs.lemmas.Bool.{cases_Bool, cond_both, and_right, and_parts, le-leb, leb-true, lt-leb, false≢true, cases_lt}
 use Rattle.std.proofs.lemmas.List.{length-map, get_or-map, ext_get_or}
 use Rattle.std.proofs.lemmas.List.Elements.{All-push}
 use Rattle.std.proofs.lemmas.List.Sums.{fold_push}
@@ -10,11 +10,11 @@ use Rattle.std.proofs.lemmas.Option.{slice_get-get_or, slice_get_within, same_So
 use mathlib.Core.Path.{fun_ext}
 use Rattle.page.specs.declared.page.Page.{Page}
 use Rattle.page.specs.Store.{AreNumbered}
-use Rattle.wal.specs.Records.{LogRecord, History, start, ◌▸◌, last_lsn, history, record_at, first}
+use Rattle.wal.specs.Records.{LogRecord, History, start, ◌▸◌, last_lsn, history, record_at, first, base_lsn}
 use Rattle.wal.specs.Meaning.{cell_of}
 use Rattle.std.proofs.lemmas.List.FromFn.{length-map-range_with_len, get_or-map-range_with_len}
 use Rattle.wal.specs.Redo.{is_redone, applied, rec_lsn_of, slots_in, held_by}
-use Rattle.wal.proofs.Histories.{behind, size_of_first, size_of_first_le, first_none, record_in_first, record_more, record_last, record_within}
+use Rattle.wal.proofs.Histories.{behind, size_of_first, size_of_first_le, first_none, record_in_first, record_more, record_last, record_within, base_within, first_base}
 use Rattle.redo.specs.declared.progress.Progress.{Progress}
 use Rattle.redo.specs.declared.note.Note.{Note}
 use Rattle.redo.specs.Changes.{page_named, lsn_in, IsNote, part_of_page, is_part, on_part, lsns_where, progress_at, advance, advance_by, step}
@@ -44,8 +44,8 @@ off_part part_of part redo_lsn lsn r p here off =
     false≢true (sym off ∙ given))
 
 -- the image itself, before any record
-pub image_begun : (pass : PassContent) (image : Page) → length image.slots ≡ 16 → progress_in pass start image ≡ record { page = image; rec_lsn = rec_lsn_of image.number pass.dirty; applied = 0 }
-image_begun pass image count =
+pub image_begun : (pass : PassContent) (base : ℕ) (image : Page) → length image.slots ≡ 16 → progress_in pass (start base) image ≡ record { page = image; rec_lsn = rec_lsn_of image.number pass.dirty; applied = 0 }
+image_begun pass base image count =
     let slots : slots_in (held_by image) image.number ≡ image.slots =
     ext_get_or None (slots_in (held_by image) image.number) image.slots (length-map-range_with_len (held_by image image.number) 0 16 ∙ sym count)
     (λ k lt. get_or-map-range_with_len (held_by image image.number) 0 16 k k None (omega (arith, length-map-range_with_len (held_by image image.number) 0 16)) (omega arith)) in
@@ -54,27 +54,27 @@ image_begun pass image count =
 -- A STRETCH
 module _ (pass : PassContent) (part : ℕ) (image : Page) (here : slice_get pass.parting.part_of image.number ≡ Some part) where
   -- the LSNs of the stretch from the first m records to the first m + k, applied in order
-  pub stretch : (m k : ℕ) → m + k ≤ last_lsn (history pass.log)
+  pub stretch : (m k : ℕ) → base_lsn (history pass.log) ≤ m → m + k ≤ last_lsn (history pass.log)
       → fold (step (history pass.log) pass.redo_lsn) (progress_in pass (first m (history pass.log)) image) (lsns_where (on_part pass.parting.part_of part) m (first (m + k) (history pass.log)))
       ≡ progress_in pass (first (m + k) (history pass.log)) image
-  stretch m zero le =
+  stretch m zero from le =
       let same : first (m + zero) (history pass.log) ≡ first m (history pass.log) = ap (λ n. first n (history pass.log)) (omega arith) in
       let none : lsns_where (on_part pass.parting.part_of part) m (first (m + zero) (history pass.log)) ≡ [] =
-      lsns_none (on_part pass.parting.part_of part) m (first (m + zero) (history pass.log)) (omega (arith, size_of_first_le (m + zero) (history pass.log))) in
+      lsns_none (on_part pass.parting.part_of part) m (first (m + zero) (history pass.log)) (omega (arith, size_of_first_le (m + zero) (history pass.log) (omega (arith, from)))) in
       ap (fold (step (history pass.log) pass.redo_lsn) (progress_in pass (first m (history pass.log)) image)) none ∙ ap (λ h. progress_in pass h image) (sym same)
-  stretch m (suc k) le =
+  stretch m (suc k) from le =
       let whole = (history pass.log) in
       let log = first (m + k) (history pass.log) in
-      let found = behind (history pass.log) (m + k) (omega (arith, le)) in
+      let found = behind (history pass.log) (m + k) (omega (arith, from)) (omega (arith, le)) in
       let r = found.entry in
       let begun = progress_in pass (first m (history pass.log)) image in
       let test = on_part pass.parting.part_of part in
       let f = step whole pass.redo_lsn in
-      let count : last_lsn log ≡ m + k = size_of_first (m + k) (history pass.log) (omega (arith, le)) in
+      let count : last_lsn log ≡ m + k = size_of_first (m + k) (history pass.log) (omega (arith, from)) (omega (arith, le)) in
       let next : first (m + suc k) (history pass.log) ≡ log ▸ r = ap (λ n. first n (history pass.log)) (omega arith) ∙ found.next in
       let lsns : lsns_where test m (first (m + suc k) (history pass.log)) ≡ cond (test r) (lsns_where test m log ++ suc (last_lsn log) ∷ []) (lsns_where test m log) =
       ap (lsns_where test m) next ∙ lsns_more test m log r (omega (arith, count)) in
-      let before : fold f begun (lsns_where test m log) ≡ progress_in pass log image = stretch m k (omega (arith, le)) in
+      let before : fold f begun (lsns_where test m log) ≡ progress_in pass log image = stretch m k from (omega (arith, le)) in
       let after : progress_in pass (log ▸ r) image ≡ advance pass.redo_lsn (suc (last_lsn log)) r (progress_in pass log image) = advanced (rec_lsn_of image.number pass.dirty) pass.redo_lsn log r image in
       let there : record_at whole (suc (last_lsn log)) ≡ Some r = ap (record_at whole) (omega (arith, count)) ∙ found.there in
       elim (cases_Bool (test r)) [
@@ -96,39 +96,50 @@ pub record IsFound (test : LogRecord → Bool) (log : History) (lsn : ℕ) : Typ
   pub passes : test entry ≡ true
 
 -- WHAT REDO DOES NOT LOOK AT
-not_looked_at : (rec_lsn : Option ℕ) (redo_lsn len k n : ℕ) → n ≤ skipped redo_lsn len → 0 < n → is_redone rec_lsn redo_lsn k n ≡ false
-not_looked_at None redo_lsn len k n le some = refl
-not_looked_at (Some x) redo_lsn len k n le some =
+not_looked_at : (rec_lsn : Option ℕ) (base redo_lsn len k n : ℕ) → n ≤ skipped base redo_lsn len → base < n → is_redone rec_lsn redo_lsn k n ≡ false
+not_looked_at None base redo_lsn len k n le some = refl
+not_looked_at (Some x) base redo_lsn len k n le some =
     and_right (leb x n) (not (eqb redo_lsn 0) && (leb redo_lsn n && ltb k n))
     (elim (cases_Bool (eqb redo_lsn 0)) [
       | inl z ↦ ap (λ b. not b && (leb redo_lsn n && ltb k n)) z
       | inr s ↦
-          (let few : n ≤ min len (redo_lsn - 1) = subst (λ m. n ≤ m) (ap (λ b. cond b len (min len (redo_lsn - 1))) s) le in
-          ap (λ b. not b && (leb redo_lsn n && ltb k n)) s ∙ ap (λ b. b && ltb k n) (lt-leb redo_lsn n (positive redo_lsn s (omega (arith, few)))))
+          (let few : n ≤ max base (min len (redo_lsn - 1)) = subst (λ m. n ≤ m) (ap (λ b. cond b len (max base (min len (redo_lsn - 1)))) s) le in
+          ap (λ b. not b && (leb redo_lsn n && ltb k n)) s ∙ ap (λ b. b && ltb k n) (lt-leb redo_lsn n (positive redo_lsn s (omega (arith, few, some)))))
     ])
   where
     positive : (r : ℕ) → eqb r 0 ≡ false → n ≤ r - 1 → n < r
     positive zero z le = absurd (false≢true (sym z))
     positive (suc r) z le = omega arith
 
--- the records that redo skips change nothing
-pub skips_none : (pass : PassContent) (image : Page) (n : ℕ) → n ≤ skipped_in pass → n ≤ last_lsn (history pass.log) → progress_in pass (first n (history pass.log)) image ≡ progress_in pass start image
-skips_none pass image zero le within = ap (λ h. progress_in pass h image) (first_none (history pass.log))
-skips_none pass image (suc n) le within =
+-- a record that redo skips changes nothing
+skips_one : (pass : PassContent) (image : Page) (n : ℕ) → base_lsn (history pass.log) ≤ n → suc n ≤ skipped_in pass → suc n ≤ last_lsn (history pass.log)
+    → progress_in pass (first n (history pass.log)) image ≡ progress_in pass (start (base_lsn (history pass.log))) image
+    → progress_in pass (first (suc n) (history pass.log)) image ≡ progress_in pass (start (base_lsn (history pass.log))) image
+skips_one pass image n from le within before =
     let log = first n (history pass.log) in
-    let found = behind (history pass.log) n (omega (arith, within)) in
+    let found = behind (history pass.log) n from (omega (arith, within)) in
     let r = found.entry in
-    let count : last_lsn log ≡ n = size_of_first n (history pass.log) (omega (arith, within)) in
+    let count : last_lsn log ≡ n = size_of_first n (history pass.log) from (omega (arith, within)) in
     let same : suc n ≡ n + 1 = omega arith in
     let next : first (suc n) (history pass.log) ≡ log ▸ r = ap (λ k. first k (history pass.log)) same ∙ found.next in
     ap (λ h. progress_in pass h image) next
     ∙ (advanced (rec_lsn_of image.number pass.dirty) pass.redo_lsn log r image
-    ∙ (advance_had pass.redo_lsn (suc (last_lsn log)) r (progress_in pass log image) (not_looked_at (rec_lsn_of image.number pass.dirty) pass.redo_lsn (last_lsn (history pass.log)) (progress_in pass log image).page.lsn (suc (last_lsn log)) (omega (arith, count, le)) (omega arith))
-    ∙ skips_none pass image n (omega (arith, le)) (omega (arith, within))))
+    ∙ (advance_had pass.redo_lsn (suc (last_lsn log)) r (progress_in pass log image)
+    (not_looked_at (rec_lsn_of image.number pass.dirty) (base_lsn (history pass.log)) pass.redo_lsn (last_lsn (history pass.log)) (progress_in pass log image).page.lsn (suc (last_lsn log)) (omega (arith, count, le)) (omega (arith, count, from)))
+    ∙ before))
+
+-- the records that redo skips change nothing
+pub skips_none : (pass : PassContent) (image : Page) (n : ℕ) → n ≤ skipped_in pass → n ≤ last_lsn (history pass.log) → progress_in pass (first n (history pass.log)) image ≡ progress_in pass (start (base_lsn (history pass.log))) image
+skips_none pass image zero le within = ap (λ h. progress_in pass h image) (first_none (history pass.log))
+skips_none pass image (suc n) le within =
+    elim (cases_lt (base_lsn (history pass.log)) (suc n)) [
+      | inl above ↦ skips_one pass image n (omega (arith, above)) le within (skips_none pass image n (omega (arith, le)) (omega (arith, within)))
+      | inr low ↦ ap (λ h. progress_in pass h image) (first_base (history pass.log) (suc n) low)
+    ]
 
 -- COUNTS
 pub applied_within : (rec_lsn : Option ℕ) (redo_lsn : ℕ) (image : Page) (log : History) → applied rec_lsn redo_lsn image log ≤ last_lsn log
-applied_within rec_lsn redo_lsn image start = omega arith
+applied_within rec_lsn redo_lsn image (start _) = omega arith
 applied_within rec_lsn redo_lsn image (log ▸ r) =
     let fewer = applied_within rec_lsn redo_lsn image log in
     let more : (progress_at rec_lsn redo_lsn (log ▸ r) image).applied ≤ suc (applied rec_lsn redo_lsn image log) =
@@ -136,7 +147,7 @@ applied_within rec_lsn redo_lsn image (log ▸ r) =
     omega (arith, more, fewer)
 
 pub lsns_few : (test : LogRecord → Bool) (from : ℕ) (log : History) → length (lsns_where test from log) ≤ last_lsn log - from
-lsns_few test from start = omega arith
+lsns_few test from (start _) = omega arith
 lsns_few test from (log ▸ r) =
     cond_both (leb from (last_lsn log) && test r) (lsns_where test from log ++ suc (last_lsn log) ∷ []) (lsns_where test from log) (λ xs. length xs ≤ suc (last_lsn log) - from)
     (λ e.
@@ -148,7 +159,7 @@ lsns_few test from (log ▸ r) =
 -- what the LSNs of a part name, in a log that goes on
 pub lsns_found : (test : LogRecord → Bool) (from : ℕ) (log whole : History) → ((n : ℕ) (r : LogRecord) → record_at log n ≡ Some r → record_at whole n ≡ Some r)
     → All (λ lsn. IsFound test whole lsn) (lsns_where test from log)
-lsns_found test from start whole on = λ k d lt. absurd (omega arith)
+lsns_found test from (start _) whole on = λ k d lt. absurd (omega arith)
 lsns_found test from (log ▸ r) whole on =
     let rest = lsns_found test from log whole (λ n x e. on n x (record_more log r n x e)) in
     cond_both (leb from (last_lsn log) && test r) (lsns_where test from log ++ suc (last_lsn log) ∷ []) (lsns_where test from log) (All (λ lsn. IsFound test whole lsn))
@@ -156,8 +167,8 @@ lsns_found test from (log ▸ r) whole on =
     (λ _. rest)
 
 -- what stands in the log up to an LSN stands in the log
-found_first : (lsn : ℕ) (log : History) → lsn ≤ last_lsn log → (k : ℕ) (r : LogRecord) → record_at (first lsn log) k ≡ Some r → record_at log k ≡ Some r
-found_first lsn log le k r e = sym (record_in_first lsn log k (omega (arith, record_within (first lsn log) k r e, size_of_first lsn log le))) ∙ e
+found_first : (lsn : ℕ) (log : History) → base_lsn log ≤ lsn → lsn ≤ last_lsn log → (k : ℕ) (r : LogRecord) → record_at (first lsn log) k ≡ Some r → record_at log k ≡ Some r
+found_first lsn log from le k r e = sym (record_in_first lsn log k (omega (arith, record_within (first lsn log) k r e, size_of_first lsn log from le))) ∙ e
 
 -- an image has its number
 pub image_number : (images : List Page) (number : ℕ) → AreNumbered images → number < length images → (image_at images number).number ≡ number
@@ -186,10 +197,10 @@ module _ (pass : PassContent) (part : ℕ) (numbered : AreNumbered pass.images) 
       ∙ (ap (λ (p : Progress). p.page.number) (get_or-map at members k 0 (at 0) below) ∙ image_number pass.images (get_or members k 0) numbered (member_image members are k 0 below).0))
 
   -- the page of each noted record of the part stands among them
-  pub all_stand : (m n : ℕ) (ps : List Progress) (notes : List Note) → n ≤ last_lsn (history pass.log) → IsUpTo pass part m ps
+  pub all_stand : (m n : ℕ) (ps : List Progress) (notes : List Note) → base_lsn (history pass.log) ≤ n → n ≤ last_lsn (history pass.log) → IsUpTo pass part m ps
       → map lsn_in notes ≡ lsns_where (on_part pass.parting.part_of part) m (first n (history pass.log)) → All (IsNote (history pass.log) pass.parting.place_of) notes
       → All (Stands (history pass.log) pass.parting.place_of (numbers_of ps)) notes
-  all_stand m n ps notes le up are noted k d lt =
+  all_stand m n ps notes from le up are noted k d lt =
       let log = first m (history pass.log) in
       let lsns = lsns_where (on_part pass.parting.part_of part) m (first n (history pass.log)) in
       let numbers : numbers_of ps ≡ up.members = ap numbers_of up.redone ∙ numbers_are up.members log up.are in
@@ -197,7 +208,7 @@ module _ (pass : PassContent) (part : ℕ) (numbered : AreNumbered pass.images) 
       let is = noted k d lt in
       let lsn : get_or lsns k 0 ≡ note.lsn = sym (ap (λ xs. get_or xs k 0) are) ∙ get_or-map lsn_in notes k d 0 lt in
       let below : k < length lsns = omega (arith, lt, ap (λ (xs : List ℕ). length xs) are, length-map notes lsn_in) in
-      let found = lsns_found (on_part pass.parting.part_of part) m (first n (history pass.log)) (history pass.log) (found_first n (history pass.log) le) k 0 below in
+      let found = lsns_found (on_part pass.parting.part_of part) m (first n (history pass.log)) (history pass.log) (found_first n (history pass.log) from le) k 0 below in
       let same : found.entry ≡ is.entry = same_Some _ _ (sym found.there ∙ (ap (record_at (history pass.log)) lsn ∙ is.there)) in
       let named : page_named is.entry ≡ Some is.page = page_of_cell is.entry is.page note.slot is.cell in
       let given : slice_get pass.parting.part_of is.page ≡ Some part = part_is (slice_get pass.parting.part_of is.page) (sym (ap (λ o. is_part part (part_of_page pass.parting.part_of o)) (ap page_named same ∙ named)) ∙ found.passes) in
@@ -222,9 +233,9 @@ module _ (pass : PassContent) (part : ℕ) (numbered : AreNumbered pass.images) 
       part_is (Some x) e = ap Some (eqb-true x part e)
 
   -- no count of theirs can overflow
-  pub all_room : (m n : ℕ) (ps : List Progress) → m ≤ n → n ≤ last_lsn (history pass.log) → IsUpTo pass part m ps
+  pub all_room : (m n : ℕ) (ps : List Progress) → base_lsn (history pass.log) ≤ m → m ≤ n → n ≤ last_lsn (history pass.log) → IsUpTo pass part m ps
       → All (λ p. p.applied + length (lsns_where (on_part pass.parting.part_of part) m (first n (history pass.log))) < 2 ^ 64) ps
-  all_room m n ps less le up k d lt =
+  all_room m n ps from less le up k d lt =
       let at : ℕ → Progress = λ number. progress_in pass (first m (history pass.log)) (image_at pass.images number) in
       let below : k < length up.members = omega (arith, ap length up.redone, length-map up.members at) in
       let is : get_or ps k d ≡ at (get_or up.members k 0) = ap (λ xs. get_or xs k d) up.redone ∙ get_or-map at up.members k 0 d below in
@@ -236,15 +247,15 @@ module _ (pass : PassContent) (part : ℕ) (numbered : AreNumbered pass.images) 
         few,
         count,
         lsns_few (on_part pass.parting.part_of part) m (first n (history pass.log)),
-        size_of_first m (history pass.log) (omega (arith, less, le)),
-        size_of_first n (history pass.log) le,
+        size_of_first m (history pass.log) from (omega (arith, less, le)),
+        size_of_first n (history pass.log) (omega (arith, from, less)) le,
         fits,
       )
 
   -- one stretch further
-  pub further : (m n : ℕ) (old new : List Progress) → m ≤ n → n ≤ last_lsn (history pass.log) → IsUpTo pass part m old
+  pub further : (m n : ℕ) (old new : List Progress) → base_lsn (history pass.log) ≤ m → m ≤ n → n ≤ last_lsn (history pass.log) → IsUpTo pass part m old
       → new ≡ map (λ p. fold (step (history pass.log) pass.redo_lsn) p (lsns_where (on_part pass.parting.part_of part) m (first n (history pass.log)))) old → IsUpTo pass part n new
-  further m n old new less le up is =
+  further m n old new from less le up is =
       let lsns = lsns_where (on_part pass.parting.part_of part) m (first n (history pass.log)) in
       let run : Progress → Progress = λ p. fold (step (history pass.log) pass.redo_lsn) p lsns in
       let at : ℕ → ℕ → Progress = λ i number. progress_in pass (first i (history pass.log)) (image_at pass.images number) in
@@ -263,7 +274,7 @@ module _ (pass : PassContent) (part : ℕ) (numbered : AreNumbered pass.images) 
             get_or-map run (map (at m) up.members) k (at 0 0) (at 0 0) (omega (arith, length-map up.members (at m), below))
             ∙ (ap run (get_or-map (at m) up.members k 0 (at 0 0) below)
             ∙ (subst (λ i. fold (step (history pass.log) pass.redo_lsn) (at m (get_or up.members k 0)) (lsns_where (on_part pass.parting.part_of part) m (first i (history pass.log))) ≡ at i (get_or up.members k 0)) sum
-            (stretch pass part image here m (n - m) (omega (arith, less, le)))
+            (stretch pass part image here m (n - m) from (omega (arith, less, le)))
             ∙ sym (get_or-map (at n) up.members k 0 (at 0 0) below)))));
       }
 
@@ -272,5 +283,5 @@ module _ (pass : PassContent) (part : ℕ) (numbered : AreNumbered pass.images) 
   begins ps up =
       let at : ℕ → ℕ → Progress = λ i number. progress_in pass (first i (history pass.log)) (image_at pass.images number) in
       let same : at 0 ≡ at (skipped_in pass) =
-      fun_ext (λ number. ap (λ h. progress_in pass h (image_at pass.images number)) (first_none (history pass.log)) ∙ sym (skips_none pass (image_at pass.images number) (skipped_in pass) (omega arith) (skipped_within pass.redo_lsn (last_lsn (history pass.log))))) in
+      fun_ext (λ number. ap (λ h. progress_in pass h (image_at pass.images number)) (first_none (history pass.log)) ∙ sym (skips_none pass (image_at pass.images number) (skipped_in pass) (omega arith) (skipped_within (base_lsn (history pass.log)) pass.redo_lsn (last_lsn (history pass.log)) (base_within (history pass.log))))) in
       record { members = up.members; are = up.are; all = up.all; redone = up.redone ∙ ap (λ f. map f up.members) same }

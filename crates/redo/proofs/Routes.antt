@@ -21,7 +21,7 @@ answered route = Ok route
 
 -- nothing stands above the end of a log
 pub lsns_none : (test : LogRecord → Bool) (from : ℕ) (log : History) → last_lsn log ≤ from → lsns_where test from log ≡ []
-lsns_none test from start le = refl
+lsns_none test from (start _) le = refl
 lsns_none test from (log ▸ r) le =
     let b : leb from (last_lsn log) ≡ false = lt-leb from (last_lsn log) (omega arith) in
     ap (λ t. cond (t && test r) (lsns_where test from log ++ suc (last_lsn log) ∷ []) (lsns_where test from log)) b ∙ lsns_none test from log (omega arith)

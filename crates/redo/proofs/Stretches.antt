@@ -1,5 +1,5 @@
 -- Where the stretches of the workers begin and end.
-use Rattle.std.proofs.Common.{◌≡◌, ℕ, ◌+◌, ◌-◌, ◌/◌, ◌%◌, ◌<◌, ◌≤◌, min, eqb, arith}
+use Rattle.std.proofs.Common.{◌≡◌, ℕ, ◌+◌, ◌-◌, ◌/◌, ◌%◌, ◌<◌, ◌≤◌, min, eqb, arith, max}
 use Rattle.std.proofs.Math.Nat.{mul-add, mul-zero, mod-add-div', mul-le-mul_left}
 use Rattle.std.proofs.lemmas.Bool.{cond_both}
 use Rattle.redo.specs.Rounds.{skipped, boundary}
@@ -23,5 +23,9 @@ boundary_within from len workers k le some few =
     let less = mul-le-mul_left ((len - from) / workers) few in
     omega arith
 
-pub skipped_within : (redo_lsn len : ℕ) → skipped redo_lsn len ≤ len
-skipped_within redo_lsn len = cond_both (eqb redo_lsn 0) len (min len (redo_lsn - 1)) (λ n. n ≤ len) (λ _. omega arith) (λ _. omega arith)
+pub skipped_within : (base redo_lsn len : ℕ) → base ≤ len → skipped base redo_lsn len ≤ len
+skipped_within base redo_lsn len le = cond_both (eqb redo_lsn 0) len (max base (min len (redo_lsn - 1))) (λ n. n ≤ len) (λ _. omega arith) (λ _. omega arith)
+
+-- none begins before the log
+pub skipped_from : (base redo_lsn len : ℕ) → base ≤ len → base ≤ skipped base redo_lsn len
+skipped_from base redo_lsn len le = cond_both (eqb redo_lsn 0) len (max base (min len (redo_lsn - 1))) (λ n. base ≤ n) (λ _. omega arith) (λ _. omega arith)

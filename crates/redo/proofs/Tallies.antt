@@ -21,7 +21,7 @@ use Rattle.redo.proofs.Replay.{image_begun, page_of_cell}
 
 -- a record stands at no LSN but a positive one
 pub positive : (log : History) (lsn : ℕ) (r : LogRecord) → record_at log lsn ≡ Some r → eqb lsn 0 ≡ false
-positive log zero r there = absurd (none (sym (record_none log zero (inl refl)) ∙ there))
+positive log zero r there = absurd (none (sym (record_none log zero (inl (omega arith))) ∙ there))
   where
     none : None ≡ Some r → ⊥
     none e = cc
@@ -99,12 +99,12 @@ counted_alone pass (q ∷ qs) new n stands is =
     ∙ ap (λ o. map (advance_by pass.redo_lsn n.lsn o) ps) (sym stands.there)
 
 -- AT THE BEGINNING
-pub begun_page : (pass : PassContent) (number : ℕ) (rec_lsn : Option ℕ) → (image_at pass.images number).number ≡ number → length (image_at pass.images number).slots ≡ 16 → rec_lsn ≡ rec_lsn_of number pass.dirty
-    → resolved pass (record { number = number; lsn = (image_at pass.images number).lsn; rec_lsn = rec_lsn; applied = 0; lasts = replicate 16 0 }) ≡ progress_in pass start (image_at pass.images number)
-begun_page pass number rec_lsn own count listed =
+pub begun_page : (pass : PassContent) (base number : ℕ) (rec_lsn : Option ℕ) → (image_at pass.images number).number ≡ number → length (image_at pass.images number).slots ≡ 16 → rec_lsn ≡ rec_lsn_of number pass.dirty
+    → resolved pass (record { number = number; lsn = (image_at pass.images number).lsn; rec_lsn = rec_lsn; applied = 0; lasts = replicate 16 0 }) ≡ progress_in pass (start base) (image_at pass.images number)
+begun_page pass base number rec_lsn own count listed =
     let image = image_at pass.images number in
     let slots : slots_after (history pass.log) (replicate 16 0) image.slots ≡ image.slots =
     ap (λ n. slots_after (history pass.log) (replicate n 0) image.slots) (sym count) ∙ slots_none (history pass.log) image.slots in
     ap (λ xs. record { page = record { number = number; lsn = image.lsn; slots = xs }; rec_lsn = rec_lsn; applied = 0 }) slots
     ∙ (ap (λ n. record { page = record { number = n; lsn = image.lsn; slots = image.slots }; rec_lsn = rec_lsn; applied = 0 }) (sym own)
-    ∙ (ap (λ o. record { page = image; rec_lsn = o; applied = 0 }) (listed ∙ ap (λ n. rec_lsn_of n pass.dirty) (sym own)) ∙ sym (image_begun pass image count)))
+    ∙ (ap (λ o. record { page = image; rec_lsn = o; applied = 0 }) (listed ∙ ap (λ n. rec_lsn_of n pass.dirty) (sym own)) ∙ sym (image_begun pass base image count)))

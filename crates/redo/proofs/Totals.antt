@@ -61,13 +61,13 @@ module _ (dirty : List (ℕ × ℕ)) (redo_lsn : ℕ) where
         | inr off ↦ omega (arith, same_count log r image off, one_more log r (suc a) images (tail_from a image images from))
       ]
 
-  none_yet : (images : List Page) → total (count start) images ≤ 0
+  none_yet : (base : ℕ) (images : List Page) → total (count (start base)) images ≤ 0
   unfolding count
-  none_yet [] = omega arith
-  none_yet (image ∷ images) = omega (arith, none_yet images)
+  none_yet base [] = omega arith
+  none_yet base (image ∷ images) = omega (arith, none_yet base images)
 
   within : (log : History) (images : List Page) → AreFrom 0 images → total (count log) images ≤ last_lsn log
-  within start images from = none_yet images
+  within (start base) images from = omega (arith, none_yet base images)
   within (log ▸ r) images from = omega (arith, within log images from, one_more log r 0 images from)
 
 -- so all pages together have at most as many as the log

@@ -34,7 +34,7 @@ on_part part_of part r = is_part part (part_of_page part_of (page_named r))
 
 -- the LSNs above `from` of the records that pass a test, in rising order
 abbrev pub lsns_where : (LogRecord → Bool) → (from : ℕ) → History → List ℕ
-lsns_where test from start = []
+lsns_where test from (start _) = []
 lsns_where test from (log ▸ r) =
     if nat_le from (last_lsn log) && test r then lsns_where test from log ++ suc (last_lsn log) ∷ [] else lsns_where test from log
 

@@ -1,10 +1,10 @@
 -- What the two rounds of workers hand over (own).
-use Rattle.std.specs.Prelude.{◌≡◌, ℕ, ◌+◌, ◌-◌, ◌*◌, ◌/◌, ◌%◌, ◌<◌, ◌≤◌, List, [], All, Contains, Some, false, ◌==◌, if◌then◌else◌, min, length, slice_index_or, replicate, None, map, Result, MatchResult}
+use Rattle.std.specs.Prelude.{◌≡◌, ℕ, ◌+◌, ◌-◌, ◌*◌, ◌/◌, ◌%◌, ◌<◌, ◌≤◌, List, [], All, Contains, Some, false, ◌==◌, if◌then◌else◌, min, length, slice_index_or, replicate, None, map, Result, MatchResult, max}
 use Rattle.std.specs.List.{slice_get}
 use Rattle.page.specs.declared.fault.Fault.{Fault}
 use Rattle.page.specs.declared.fault.Fault.TheVariants.{NoResource, NoSuchPage}
 use Rattle.page.specs.declared.page.Page.{Page}
-use Rattle.wal.specs.Records.{LogRecord, History, LogContent, history, last_lsn, record_at, first}
+use Rattle.wal.specs.Records.{LogRecord, History, LogContent, history, last_lsn, record_at, first, base_lsn}
 use Rattle.wal.specs.Meaning.{cell_of}
 use Rattle.wal.specs.Redo.{rec_lsn_of}
 use Rattle.wal.specs.declared.glance.Glance.{Glance}
@@ -25,11 +25,11 @@ use Rattle.page.specs.declared.sizes.TheConstants.{SLOTS}
 
 -- THE FIRST ROUND
 -- the LSN up to which redo does not look at records
-abbrev pub skipped : (redo_lsn last : ℕ) → ℕ
-skipped redo_lsn last = if redo_lsn == 0 then last else min last (redo_lsn - 1)
+abbrev pub skipped : (base redo_lsn last : ℕ) → ℕ
+skipped base redo_lsn last = if redo_lsn == 0 then last else max base (min last (redo_lsn - 1))
 
 abbrev pub skipped_in : PassContent → ℕ
-skipped_in pass = skipped pass.redo_lsn (last_lsn (history pass.log))
+skipped_in pass = skipped (base_lsn (history pass.log)) pass.redo_lsn (last_lsn (history pass.log))
 
 -- the LSN below the stretch of a worker, where the LSNs above `from` up to the last are cut into as many stretches as workers
 abbrev pub boundary : (from last workers worker : ℕ) → ℕ

@@ -3,7 +3,7 @@
 ghost use Rattle.std.specs.Prelude.{◌≡◌, ℕ, ◌+◌, ◌<◌, ◌≤◌, ◌^◌, ◌++◌, All, length, map, take, slice_set, slice_index_or, IfOk, IfErr, OnOk, Some};
 ghost use Rattle.std.specs.List.{fold};
 ghost use Rattle.page.specs.declared.fault.Fault.TheVariants.{NoResource};
-ghost use Rattle.wal.specs.Records.{start, history, record_at};
+ghost use Rattle.wal.specs.Records.{start, history, record_at, base_lsn};
 ghost use Rattle.redo.specs.Changes.{counted, step, lsn_in, held_after, slots_after};
 ghost use Rattle.redo.specs.Rounds.{AreRoutes, IsUpTo, IsDone, HasPart, Stands, numbers_of, progress_in, image_at, resolved};
 ghost use Rattle.redo.specs.declared.tally.Tally.{Tally};
@@ -43,7 +43,7 @@ fn image(pass: &Pass, number: u32) -> Page
 
 /// A page to which no record was applied.
 fn begin_page(pass: &Pass, number: u32) -> Tally
-    ensures { resolved pass.now result ≡ progress_in pass.now start (image_at pass.now.images number) }
+    ensures { resolved pass.now result ≡ progress_in pass.now (start (base_lsn (history pass.now.log))) (image_at pass.now.images number) }
 {
     let image = image(pass, number);
     Tally::begin(number, image.lsn, pass.tables.rec_lsn(number))

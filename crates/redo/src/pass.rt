@@ -38,8 +38,8 @@ impl<'a> Pass<'a> {
         tables.redo_lsn
     }
 
-    /// The LSN up to which redo does not look at records: the one below redo_lsn; the log's last
-    /// where redo_lsn is 0 or behind it.
+    /// The LSN up to which redo does not look at records: the one below redo_lsn; the log's base LSN
+    /// where redo_lsn is not above that; the log's last where redo_lsn is 0 or behind it.
     pub fn skipped(&self) -> u64
         ensures { result ≡ skipped_in self.now }
     {
@@ -48,7 +48,7 @@ impl<'a> Pass<'a> {
         if redo_lsn == 0 {
             last
         } else {
-            last.min(redo_lsn - 1)
+            last.min(redo_lsn - 1).max(self.log.base())
         }
     }
 }

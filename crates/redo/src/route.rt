@@ -2,7 +2,7 @@
 
 ghost use Rattle.std.specs.Prelude.{◌≡◌, ℕ, ◌+◌, ◌<◌, ◌≤◌, [], ◌∷◌, ◌++◌, All, Some, length, map, vec_len, slice_set, OnOk, IfOk, IfErr, MatchResult, if◌then◌else◌};
 ghost use Rattle.page.specs.declared.fault.Fault.TheVariants.{NoResource};
-ghost use Rattle.wal.specs.Records.{LogRecord, History, record_at, last_lsn, history};
+ghost use Rattle.wal.specs.Records.{LogRecord, History, record_at, last_lsn, history, base_lsn};
 ghost use Rattle.wal.specs.Glances.{glance_of};
 ghost use Rattle.redo.specs.Notes.{notes_at};
 ghost use Rattle.redo.specs.Changes.{NamesBelow, on_part, lsn_in, IsNote};
@@ -90,6 +90,7 @@ fn put_note(
 /// The route through the records with LSNs above `from`, up to `to`. Refuses the first of them on a
 /// page that there is not by `NoSuchPage`.
 fn route_through(alloc: Global, pass: &Pass, from: u64, to: u64) -> Result<Route, Fault>
+    requires begun { base_lsn (history pass.now.log) ≤ from }
     requires stretch { from ≤ to }
     requires within { to ≤ last_lsn (history pass.now.log) }
     ensures ok { IfOk result (IsRoute pass.now from to) }

@@ -1,6 +1,6 @@
 use Rattle.std.proofs.Common.{ℕ, ◌≡◌, length, map, sym, ap, subst, ◌∙◌, arith}
 use Rattle.std.proofs.lemmas.List.{take_all}
-use Rattle.wal.specs.Records.{start, history}
+use Rattle.wal.specs.Records.{start, history, base_lsn}
 use Rattle.wal.proofs.Histories.{first_none}
 use Rattle.redo.specs.declared.progress.Progress.{Progress}
 use Rattle.redo.specs.Rounds.{progress_in, image_at}
@@ -11,7 +11,7 @@ pub returns-clause-begun : goal.returns-clause-begun
 returns-clause-begun c =
     let pass = c.args.pass.now in
     let members = c.members-members.result.now in
-    let at : ℕ → Progress = λ number. progress_in pass start (image_at pass.images number) in
+    let at : ℕ → Progress = λ number. progress_in pass (start (base_lsn (history pass.log))) (image_at pass.images number) in
     record {
       members = members;
       are = subst (λ (p : PartingContent). AreMembers p.part_of p.place_of c.args.part members) (ap (λ p. p.parting) c.pass.view_is) c.members-members.ensures.members;

@@ -1,7 +1,7 @@
 use Rattle.std.proofs.Common.{◌≡◌, ℕ, ◌+◌, ◌<◌, ◌^◌, List, All, map, length, sym, ap, ◌∙◌, subst, arith}
 use Rattle.std.specs.List.{fold}
 use Rattle.std.proofs.lemmas.List.{length-map}
-use Rattle.wal.specs.Records.{history, last_lsn, first}
+use Rattle.wal.specs.Records.{history, last_lsn, first, base_lsn}
 use Rattle.redo.specs.declared.progress.Progress.{Progress}
 use Rattle.redo.specs.declared.tally.Tally.{Tally}
 use Rattle.redo.specs.Changes.{on_part, lsns_where, step, lsn_in}
@@ -12,6 +12,7 @@ use Rattle.redo.proofs.Counting.{sound, stretch}
 use Rattle.redo.proofs.Replay.{all_stand, all_room, further, begins}
 use Rattle.redo.proofs.Parts.{all_done, all_there}
 use Rattle.redo.proofs.part.count_part.Goals as goal
+use Rattle.wal.proofs.Histories.{base_within}
 
 pub loop-route-init : goal.loop-route-init
 loop-route-init c =
@@ -34,7 +35,7 @@ replay-requires-clause-stand c =
     let ps = map (resolved pass) c.loop-route.tallies.items in
     let lent : map (resolved pass) c.deref_mut.result.now ≡ ps = ap (map (resolved pass)) c.deref_mut.ensures.value in
     subst (λ (qs : List Progress). All (Stands (history pass.log) pass.parting.place_of (numbers_of qs)) notes) (sym lent)
-    (all_stand pass c.args.part known.numbered known.dealt known.fits from to ps notes walked.within c.loop-route.invariant walked.lsns walked.are)
+    (all_stand pass c.args.part known.numbered known.dealt known.fits from to ps notes (omega (arith, walked.begun, walked.next)) walked.within c.loop-route.invariant walked.lsns walked.are)
 
 pub replay-requires-clause-room : goal.replay-requires-clause-room
 replay-requires-clause-room c =
@@ -51,7 +52,7 @@ replay-requires-clause-room c =
     let count : length (lsns_where (on_part pass.parting.part_of c.args.part) from (first to (history pass.log))) ≡ length notes = sym (ap (λ (xs : List ℕ). length xs) walked.lsns) ∙ length-map notes lsn_in in
     subst (All (λ p. p.applied + length notes < 2 ^ 64)) (sym lent)
     (subst (λ n. All (λ p. p.applied + n < 2 ^ 64) ps) count
-    (all_room pass c.args.part known.numbered known.dealt known.fits from to ps walked.next walked.within c.loop-route.invariant))
+    (all_room pass c.args.part known.numbered known.dealt known.fits from to ps walked.begun walked.next walked.within c.loop-route.invariant))
 
 pub loop-route-preserved : goal.loop-route-preserved
 loop-route-preserved c =
@@ -73,7 +74,7 @@ loop-route-preserved c =
     replayed ∙ (ap (λ (xs : List ℕ). map (run xs) (map (resolved pass) c.deref_mut.result.now)) walked.lsns ∙ ap (map (run (lsns_where (on_part pass.parting.part_of c.args.part) from (first to (history pass.log))))) lent) in
     let count : length c.replay.new.tallies ≡ c.loop-route.tallies.len = omega (arith, ap (λ (qs : List Progress). length qs) replayed, length-map (map (resolved pass) c.deref_mut.result.now) (run (map lsn_in notes)), length-map c.replay.new.tallies (resolved pass), length-map c.deref_mut.result.now (resolved pass), ap (λ (ts : List Tally). length ts) c.deref_mut.ensures.value, c.loop-route.tallies.ok.0) in
     subst (λ (ts : List Tally). IsUpTo pass c.args.part to (map (resolved pass) ts)) (sym (written_back c.loop-route.tallies.len c.loop-route.tallies.items c.replay.new.tallies count))
-    (further pass c.args.part known.numbered known.dealt known.fits from to ps new walked.next walked.within c.loop-route.invariant is)
+    (further pass c.args.part known.numbered known.dealt known.fits from to ps new walked.begun walked.next walked.within c.loop-route.invariant is)
 
 pub returns-clause-done : goal.returns-clause-done
 returns-clause-done c =
@@ -82,7 +83,7 @@ returns-clause-done c =
     let workers = length c.args.routes.now in
     let last : boundary_in pass workers c.loop-route.route-index ≡ last_lsn (history pass.log) =
     ap (boundary_in pass workers) (omega (arith, c.loop-route.auto.route-index-end, c.loop-route-test.false))
-    ∙ boundary_last (skipped_in pass) (last_lsn (history pass.log)) workers (skipped_within pass.redo_lsn (last_lsn (history pass.log))) c.requires.routes.some in
+    ∙ boundary_last (skipped_in pass) (last_lsn (history pass.log)) workers (skipped_within (base_lsn (history pass.log)) pass.redo_lsn (last_lsn (history pass.log)) (base_within (history pass.log))) c.requires.routes.some in
     let ps = map (resolved pass) c.loop-route.tallies.items in
     all_done pass c.args.part known.numbered known.dealt known.fits ps (subst (λ n. IsUpTo pass c.args.part n ps) last c.loop-route.invariant)
 

@@ -15,7 +15,7 @@ loop-lsn-init c =
     let pass = c.args.pass.now in
     let made = c.in_ok-lists.ensures in (
       made.count ∙ (c.parts.ensures.parts ∙ ap (λ p. p.parting.parts) c.pass.view_is),
-      (λ part lt. ap (map lsn_in) (made.empty part) ∙ sym (none_noted pass c.args.from part (omega (arith, c.requires.stretch, c.requires.within)))),
+      (λ part lt. ap (map lsn_in) (made.empty part) ∙ sym (none_noted pass c.args.from part c.requires.begun)),
       exist_none pass.log (length pass.images) c.args.from,
       (λ part lt. subst (All (IsNote (history pass.log) pass.parting.place_of)) (sym (made.empty part)) (λ k d less. absurd (omega arith))),
     )
@@ -31,7 +31,7 @@ returns-in-Err-clause-fault c =
     let at : record_at (history pass.log) (upto + 1) ≡ Some r = glance.there in
     let images = ap (λ p. p.images) c.pass.view_is in
     let dealt : length c.pass.inside.parting.now.part_of ≡ length pass.images = c.pass.invariant.dealt ∙ ap (λ (xs : List Page). length xs) images in
-    refused pass c.args.from upto r c.loop-lsn.auto.lsn lt at (length c.pass.inside.parting.now.part_of) c.args.to c.in-Err.fault dealt c.loop-lsn-test.true c.loop-lsn.invariant.2 (c.in-Err.ensures.fault r seen)
+    refused pass c.args.from upto r c.requires.begun c.loop-lsn.auto.lsn lt at (length c.pass.inside.parting.now.part_of) c.args.to c.in-Err.fault dealt c.loop-lsn-test.true c.loop-lsn.invariant.2 (c.in-Err.ensures.fault r seen)
 
 pub loop-lsn-preserved : goal.loop-lsn-preserved
 loop-lsn-preserved c =
@@ -58,8 +58,8 @@ loop-lsn-preserved c =
           ∙ (ap (λ (xs : List (List Note)). cond (on_part c.pass.inside.parting.now.part_of part r) (map lsn_in (notes_at xs part) ++ (upto + 1) ∷ []) (map lsn_in (notes_at xs part))) lent
           ∙ ap (λ part_of. cond (on_part part_of part r) (map lsn_in (notes_at c.loop-lsn.lists.items part) ++ (upto + 1) ∷ []) (map lsn_in (notes_at c.loop-lsn.lists.items part))) (ap (λ p. p.parting.part_of) c.pass.view_is)) in
           ap (λ (xs : List (List Note)). map lsn_in (notes_at xs part)) same
-          ∙ one_noted pass c.args.from upto r c.loop-lsn.auto.lsn lt at part (map lsn_in (notes_at c.loop-lsn.lists.items part)) (map lsn_in (notes_at lists part)) next noted (old.1 part less)),
-      exist_more pass c.args.from upto r c.loop-lsn.auto.lsn lt at below old.2,
+          ∙ one_noted pass c.args.from upto r c.requires.begun c.loop-lsn.auto.lsn lt at part (map lsn_in (notes_at c.loop-lsn.lists.items part)) (map lsn_in (notes_at lists part)) next noted (old.1 part less)),
+      exist_more pass c.args.from upto r c.requires.begun c.loop-lsn.auto.lsn lt at below old.2,
       (λ part less.
           let place_of = ap (λ p. p.parting.place_of) c.pass.view_is in
           let before : All (IsNote (history pass.log) c.pass.inside.parting.now.place_of) (notes_at c.deref_mut.result.now part) =
