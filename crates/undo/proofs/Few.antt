@@ -50,5 +50,5 @@ pub height_within : (log : History) (entries : List (ℕ × Loser)) → ((n : �
 height_within log entries updates = height_least (last_lsn log + 1) entries (λ n l e. omega (arith, place_within log l.tx n (updates n l e)))
 
 -- a turn appends two records at most, and all that wait behind it stand below its place
-pub turn_few : (place high low before after most : ℕ) → 0 < place → place < high → low ≤ place → after ≤ before + 2 → before + 2 * (high - 1) ≤ most → after + 2 * (low - 1) ≤ most
-turn_few place high low before after most some above below two few = omega (arith, some, above, below, two, few)
+pub turn_few : (base place high low before after most : ℕ) → base < place → place < high → low ≤ place → after ≤ before + 2 → before + 2 * (high - 1 - base) ≤ most → after + 2 * (low - 1 - base) ≤ most
+turn_few base place high low before after most some above below two few = omega (arith, some, above, below, two, few)

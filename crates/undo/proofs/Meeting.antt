@@ -1,18 +1,18 @@
 -- What a walk meets: updates of its transaction, in falling LSN.
-use Rattle.std.proofs.Common.{ℕ, suc, ◌≡◌, ◌-◌, ◌<◌, true, false, cond, ◌||◌, Option, Some, None, sym, ap, ◌∙◌, inl, inr, arith, eqb-true, eqb, ltb, []}
+use Rattle.std.proofs.Common.{ℕ, suc, ◌≡◌, ◌-◌, ◌<◌, true, false, cond, ◌||◌, Option, Some, None, sym, ap, ◌∙◌, inl, inr, arith, eqb-true, eqb, ltb, [], subst}
 use Rattle.std.specs.Prelude.{option_map, unwrap_or}
-use Rattle.std.proofs.lemmas.Bool.{cases_Bool, false≢true, or_cases}
-use Rattle.wal.specs.Records.{LogRecord, Update, History, start, ◌▸◌, last_lsn, record_at, first}
+use Rattle.std.proofs.lemmas.Bool.{cases_Bool, false≢true, or_cases, cases_lt}
+use Rattle.wal.specs.Records.{LogRecord, Update, History, start, ◌▸◌, last_lsn, record_at, first, base_lsn}
 use Rattle.wal.specs.Hops.{sent_on, hops}
 use Rattle.wal.specs.Tail.{is_among}
-use Rattle.wal.proofs.Histories.{record_last, record_more}
+use Rattle.wal.proofs.Histories.{record_last, record_more, first_base}
 use Rattle.wal.proofs.Stacks.{Falls, Falls-more, IsUpdateOf}
 use Rattle.undo.specs.Rollback.{walk_from}
 use Rattle.wal.proofs.Histories.{size_of_first_le}
 
 -- it falls
 met_falls : (t : ℕ) (log : History) (n : ℕ) → Falls (suc (last_lsn log)) (hops t log n).met
-met_falls t start n = tt
+met_falls t (start _) n = tt
 met_falls t (log ▸ Update u) n =
     elim (cases_Bool (eqb n (suc (last_lsn log)))) [
       | inl e ↦
@@ -37,7 +37,7 @@ found_more : (t : ℕ) (log : History) (r : LogRecord) (n : ℕ) → IsUpdateOf 
 found_more t log r n p = (p.0, record_more log r n (Update p.0) p.1, p.2)
 
 met_found : (t : ℕ) (log : History) (n m : ℕ) → is_among m (hops t log n).met ≡ true → IsUpdateOf t log m
-met_found t start n m h = absurd (false≢true h)
+met_found t (start _) n m h = absurd (false≢true h)
 met_found t (log ▸ Update u) n m h =
     elim (cases_Bool (eqb n (suc (last_lsn log)))) [
       | inl e ↦
@@ -63,7 +63,7 @@ met_found t (log ▸ r) n m h =
     by_sent (Some next) older h = found_more t log r m (older next h)
 
 found_in_first : (b : ℕ) (log : History) (n : ℕ) (x : LogRecord) → record_at (first b log) n ≡ Some x → record_at log n ≡ Some x
-found_in_first b start n x h = h
+found_in_first b (start _) n x h = h
 found_in_first b (log ▸ r) n x h =
     elim (cases_Bool (ltb (last_lsn log) b)) [
       | inl i ↦ ap (λ c. record_at (cond c (log ▸ r) (first b log)) n) (sym i) ∙ h
@@ -73,7 +73,10 @@ found_in_first b (log ▸ r) n x h =
 -- the same of the walk from a record
 pub walk_falls : (log : History) (t from lsn : ℕ) → 0 < from → Falls from (walk_from log t from lsn).met
 walk_falls log t from lsn p =
-    Falls-more (suc (last_lsn (first (from - 1) log))) from (walk_from log t from lsn).met (omega (arith, size_of_first_le (from - 1) log)) (met_falls t (first (from - 1) log) lsn)
+    elim (cases_lt (from - 1) (base_lsn log)) [
+      | inl none ↦ subst (λ h. Falls from (hops t h lsn).met) (sym (first_base log (from - 1) (omega (arith, none)))) tt
+      | inr some ↦ Falls-more (suc (last_lsn (first (from - 1) log))) from (walk_from log t from lsn).met (omega (arith, size_of_first_le (from - 1) log some)) (met_falls t (first (from - 1) log) lsn)
+    ]
 
 pub walk_found : (log : History) (t from lsn m : ℕ) → is_among m (walk_from log t from lsn).met ≡ true → IsUpdateOf t log m
 walk_found log t from lsn m h = (let (u, found, own) = met_found t (first (from - 1) log) lsn m h in (u, found_in_first (from - 1) log m (Update u) found, own))

@@ -1,16 +1,16 @@
 -- A rollback under way, one update on.
 use Rattle.std.specs.Prelude.{flat_map, All, map}
-use Rattle.std.proofs.Common.{append_assoc, append-nil, length-append, ℕ, suc, zero, ◌≡◌, ◌≢◌, ◌+◌, ◌⊎◌, ◌<◌, ◌≤◌, true, false, cond, List, [], ◌∷◌, ◌++◌, length, Some, None, refl, sym, ap, ap₂, ◌∙◌, subst, inl, inr, arith, eq-eqb, ne_eqb, eqb-true, eqb}
+use Rattle.std.proofs.Common.{append_assoc, append-nil, length-append, ℕ, suc, ◌≡◌, ◌≢◌, ◌+◌, ◌⊎◌, ◌<◌, ◌≤◌, true, false, cond, List, [], ◌∷◌, ◌++◌, length, Some, None, refl, sym, ap, ap₂, ◌∙◌, subst, inl, inr, arith, eq-eqb, ne_eqb, eqb-true, eqb}
 use Rattle.std.proofs.lemmas.List.Elements.{All-push}
 use Rattle.std.proofs.lemmas.Bool.{cases_eq, false≢true, or_cases, or_left, or_right, both_ways}
 use Rattle.page.specs.declared.page.Page.{Page}
 use Rattle.page.specs.declared.fault.Fault.{Fault}
 use Rattle.page.specs.declared.fault.Fault.TheVariants.{NoResource, NoSuchPage, BrokenChain}
-use Rattle.wal.specs.Records.{TableEntry, UpdateRecord, PlainRecord, LogRecord, Update, Compensation, End, History, last_lsn, record_at}
+use Rattle.wal.specs.Records.{TableEntry, UpdateRecord, PlainRecord, LogRecord, Update, Compensation, End, History, last_lsn, record_at, base_lsn}
 use Rattle.wal.specs.Tail.{Action, Finish, Undo, tx_for, record_for, written, undo_of, updates_where, is_stacked, is_among, is_empty}
 use Rattle.wal.specs.Store.{NamesPages}
 use Rattle.wal.specs.Undo.{entry_for, walk_of, undone_by}
-use Rattle.wal.proofs.Histories.{record_within, record_none}
+use Rattle.wal.proofs.Histories.{record_within, record_above}
 use Rattle.wal.proofs.Stacks.{Falls, Falls-more, Falls-among, IsUpdateOf}
 use Rattle.wal.proofs.Filters.{leading, no_update}
 use Rattle.wal.proofs.Rollback.{AreStacks, on_top, taken_off}
@@ -23,9 +23,11 @@ use Rattle.undo.proofs.Placed.{left_below}
 use Rattle.undo.proofs.UndonePages.{idle_undone, end_idle}
 
 -- A LOSER AT ITS PLACE
+pub place_above : (log : History) (t n : ℕ) → IsUpdateAt log t n → base_lsn log < n
+place_above log t n u = record_above log n (Update u.update) u.found
+
 pub place_positive : (log : History) (t n : ℕ) → IsUpdateAt log t n → 0 < n
-place_positive log t zero u = absurd (let e : record_at log 0 ≡ None = record_none log 0 (inl refl) in let f : record_at log 0 ≡ Some (Update u.update) = u.found in cc)
-place_positive log t (suc n) u = omega arith
+place_positive log t n u = omega (arith, place_above log t n u)
 
 pub place_within : (log : History) (t n : ℕ) → IsUpdateAt log t n → n ≤ last_lsn log
 place_within log t n u = record_within log n (Update u.update) u.found

@@ -55,14 +55,14 @@ by_log b log image = record {
 
 -- of none
 pub no_effects : (b : ℕ) (state : Cells) (log : History) (page slot : ℕ) → last_lsn log ≤ b → effects (λ lsn _. ltb b lsn) state log page slot ≡ state page slot
-no_effects b state start page slot h = refl
+no_effects b state (start _) page slot h = refl
 no_effects b state (log ▸ r) page slot h =
     cond-false (writes page slot r && ltb b (suc (last_lsn log))) (image_of r) (effects (λ lsn _. ltb b lsn) state log page slot)
     (and_right (writes page slot r) (ltb b (suc (last_lsn log))) (le-ltb b (suc (last_lsn log)) (omega arith)))
     ∙ no_effects b state log page slot (omega arith)
 
 pub no_last : (b page lsn : ℕ) (log : History) → last_lsn log ≤ b → last_where (λ n. ltb b n) page lsn log ≡ lsn
-no_last b page lsn start h = refl
+no_last b page lsn (start _) h = refl
 no_last b page lsn (log ▸ r) h =
     cond-false (is_on page r && ltb b (suc (last_lsn log))) (suc (last_lsn log)) (last_where (λ n. ltb b n) page lsn log)
     (and_right (is_on page r) (ltb b (suc (last_lsn log))) (le-ltb b (suc (last_lsn log)) (omega arith)))

@@ -1,11 +1,11 @@
 -- A walk that a record sends on: what the record at the LSN says of it.
 use Rattle.std.proofs.Common.{ℕ, suc, ◌≡◌, ◌+◌, ◌-◌, ◌<◌, ◌≤◌, true, cond, [], Option, Some, None, refl, sym, ap, ap₂, ◌∙◌, inl, inr, arith, eq-eqb, eqb-true, ne_eqb, eqb}
 use Rattle.std.specs.Prelude.{option_map, unwrap_or}
-use Rattle.std.proofs.lemmas.Bool.{cases_Bool, cases_eq}
-use Rattle.wal.specs.Records.{LogRecord, Update, History, start, ◌▸◌, last_lsn, record_at, first}
+use Rattle.std.proofs.lemmas.Bool.{cases_Bool, cases_eq, cases_lt}
+use Rattle.wal.specs.Records.{LogRecord, Update, History, start, ◌▸◌, last_lsn, record_at, first, base_lsn}
 use Rattle.wal.specs.Hops.{Walk, sent_on, hops, meet}
 use Rattle.wal.proofs.Walks.{hops_other}
-use Rattle.wal.proofs.Histories.{first_older, first_all, size_of_first_le}
+use Rattle.wal.proofs.Histories.{first_older, first_all, size_of_first_le, first_base}
 use Rattle.undo.specs.declared.walk.Hop.TheVariants as hop
 use Rattle.undo.specs.Rollback.{hop_of, walk_from, IsUpdateAt, Meets}
 
@@ -22,17 +22,17 @@ hops_here t log r n e = rw (eq-eqb n (suc (last_lsn log)) e)
 
 -- sent past the end
 hops_past : (t : ℕ) (log : History) (n : ℕ) → last_lsn log < n → hops t log n ≡ record { met = []; ends = n }
-hops_past t start n h = refl
+hops_past t (start _) n h = refl
 hops_past t (log ▸ r) n h = hops_other t log r n (ne_eqb n (suc (last_lsn log)) (λ e. omega arith)) ∙ hops_past t log n (omega arith)
 
 -- sent nowhere
 pub hops_nowhere : (t : ℕ) (log : History) → hops t log 0 ≡ record { met = []; ends = 0 }
-hops_nowhere t start = refl
+hops_nowhere t (start _) = refl
 hops_nowhere t (log ▸ r) = hops_other t log r 0 (ne_eqb 0 (suc (last_lsn log)) (λ e. omega arith)) ∙ hops_nowhere t log
 
 -- sent to one of the first records
 hops_to : (t b : ℕ) (log : History) (n : ℕ) → 0 < n → n ≤ b → b ≤ last_lsn log → hops t (first b log) n ≡ sent_by t (first (n - 1) log) n (record_at log n)
-hops_to t b start n p h l = absurd (omega arith)
+hops_to t b (start _) n p h l = refl
 hops_to t b (log ▸ r) n p h l =
     elim (cases_eq b (suc (last_lsn log))) [
       | inl e ↦
@@ -63,7 +63,11 @@ walk_zero log t from = hops_nowhere t (first (from - 1) log)
 
 -- sent to no record below
 pub walk_past : (log : History) (t from lsn : ℕ) → 0 < from → from ≤ lsn → walk_from log t from lsn ≡ record { met = []; ends = lsn }
-walk_past log t from lsn p h = hops_past t (first (from - 1) log) lsn (omega (arith, size_of_first_le (from - 1) log))
+walk_past log t from lsn p h =
+    elim (cases_lt (from - 1) (base_lsn log)) [
+      | inl none ↦ ap (λ x. hops t x lsn) (first_base log (from - 1) (omega (arith, none)))
+      | inr some ↦ hops_past t (first (from - 1) log) lsn (omega (arith, size_of_first_le (from - 1) log some))
+    ]
 
 module _ (log : History) (t from lsn : ℕ) (some : lsn ≡ 0 → ⊥) (below : lsn < from) (within : from ≤ last_lsn log + 1) where
   walk_to : walk_from log t from lsn ≡ sent_by t (first (lsn - 1) log) lsn (record_at log lsn)

@@ -2,14 +2,14 @@ use Rattle.std.proofs.Common.{◌<◌, ◌≤◌, All, length, map, sym, subst, 
 use Rattle.std.proofs.lemmas.Result.{err_from_is_err_and}
 use Rattle.std.specs.Ordering.{nat_cmp}
 use Rattle.std.specs.BTreeMap.{get}
-use Rattle.wal.specs.Records.{history}
+use Rattle.wal.specs.Records.{history, base_lsn}
 use Rattle.wal.specs.Content.{content}
 use Rattle.wal.specs.Store.{NamesPages}
-use Rattle.wal.proofs.Histories.{size_of_log}
+use Rattle.wal.proofs.Histories.{size_of_log, base_of_log}
 use Rattle.undo.specs.Undone.{UndoFault}
 use Rattle.undo.specs.Rollback.{Rolls}
 use Rattle.undo.proofs.Placed.{height, height_least, height_above, left_below, taken_updates}
-use Rattle.undo.proofs.Rolling.{place_positive, all_appended, all_end, all_exist}
+use Rattle.undo.proofs.Rolling.{place_above, all_appended, all_end, all_exist}
 use Rattle.undo.proofs.Few.{height_within, turn_few}
 use Rattle.undo.proofs.rollback.undo_all.Goals as goal
 
@@ -19,7 +19,7 @@ loop-place-init c =
       updates = c.requires.updates;
       rolls = λ losers rolls. rolls;
       exist = λ all. all;
-      few = omega (arith, height_within (history c.args.log.now) c.args.places.now.entries c.requires.updates, size_of_log c.args.log.now);
+      few = omega (arith, height_within (history c.args.log.now) c.args.places.now.entries c.requires.updates, size_of_log c.args.log.now, base_of_log c.args.log.now);
       spelled = λ all. all;
       pages_are = λ given numbered same. same;
     }
@@ -65,8 +65,8 @@ loop-place-preserved c =
           subst (λ count. All (NamesPages count) (map content c.undo_at.new.appended.items)) c.loop-place.auto.pages
           (done.exist (subst (λ count. All (NamesPages count) (map content c.loop-place.appended.items)) (sym c.loop-place.auto.pages) (c.loop-place.invariant.exist all)));
       few =
-          turn_few c.in-Some.place (height c.loop-place.places.entries) (height c.undo_at.new.places.entries) (length c.loop-place.appended.items) (length c.undo_at.new.appended.items) _
-          (place_positive (history c.args.log.now) c.in-Some.loser.tx c.in-Some.place (c.loop-place.invariant.updates c.in-Some.place c.in-Some.loser taken.there))
+          turn_few (base_lsn (history c.args.log.now)) c.in-Some.place (height c.loop-place.places.entries) (height c.undo_at.new.places.entries) (length c.loop-place.appended.items) (length c.undo_at.new.appended.items) _
+          (place_above (history c.args.log.now) c.in-Some.loser.tx c.in-Some.place (c.loop-place.invariant.updates c.in-Some.place c.in-Some.loser taken.there))
           (above c) (below c) done.few c.loop-place.invariant.few;
       spelled = λ all. done.spelled (c.loop-place.invariant.spelled all);
       pages_are = λ given numbered same. done.pages given numbered (c.loop-place.invariant.pages_are given numbered same);

@@ -3,7 +3,7 @@ use Rattle.std.specs.Ordering.{nat_cmp}
 use Rattle.std.specs.BTreeMap.{get}
 use Rattle.page.specs.declared.page.Page.{Page}
 use Rattle.page.specs.Store.{AreNumbered}
-use Rattle.wal.specs.Records.{TableEntry, history}
+use Rattle.wal.specs.Records.{TableEntry, history, base_lsn}
 use Rattle.wal.specs.Content.{content}
 use Rattle.wal.specs.Store.{NamesPages}
 use Rattle.undo.specs.Undone.{undone_page, AreSpelled}
@@ -18,7 +18,7 @@ invariant-loop-place l =
       rolls : (losers : List TableEntry) → Rolls (history l.log) losers (length l.fn.pages) (get nat_cmp l.fn.places) (map content l.fn.appended.items)
           → Rolls (history l.log) losers (length l.fn.pages) (get nat_cmp l.places) (map content l.appended.items);
       exist : All (NamesPages (length l.fn.pages)) (map content l.fn.appended.items) → All (NamesPages (length l.fn.pages)) (map content l.appended.items);
-      few : length l.appended.items + 2 * (height l.places.entries - 1) ≤ length l.fn.appended.items + 2 * length l.log.records;
+      few : length l.appended.items + 2 * (height l.places.entries - 1 - base_lsn (history l.log)) ≤ length l.fn.appended.items + 2 * length l.log.records;
       spelled : AreSpelled l.fn.appended.items → AreSpelled l.appended.items;
       pages_are : (given : List Page) → AreNumbered given → l.fn.pages ≡ map (undone_page (history l.log) (map content l.fn.appended.items)) given
           → l.pages ≡ map (undone_page (history l.log) (map content l.appended.items)) given;

@@ -3,13 +3,13 @@ use Rattle.std.proofs.lemmas.List.{length-map}
 use Rattle.std.proofs.lemmas.Result.{err_from_is_err_and, on_ok_weaker, IfErr-weaker}
 use Rattle.wal.specs.Records.{history}
 use Rattle.wal.specs.Content.{content}
-use Rattle.wal.proofs.Histories.{size_of_log}
+use Rattle.wal.proofs.Histories.{size_of_log, base_of_log}
 use Rattle.undo.proofs.Rolling.{place_positive, place_within, undone_rolling, missing_page, broken_walk, pages_named, pages_kept}
 use Rattle.undo.proofs.Few.{one_more, resolved_few}
 use Rattle.undo.proofs.rollback.undo_at.Goals as goal
 
 pub overflow_add-lsn : goal.overflow_add-lsn
-overflow_add-lsn c = omega (arith, c.requires.room, c.next_lsn.ensures.next, c.next_lsn.ensures.room, c.len.ensures, size_of_log c.args.log.now)
+overflow_add-lsn c = omega (arith, c.requires.room, c.next_lsn.ensures.next, c.next_lsn.ensures.low, c.next_lsn.ensures.room, c.len.ensures, size_of_log c.args.log.now, base_of_log c.args.log.now)
 
 pub resolve-requires-clause-positive : goal.resolve-requires-clause-positive
 resolve-requires-clause-positive c = place_positive (history c.args.log.now) c.args.loser.tx c.args.place c.requires.update
