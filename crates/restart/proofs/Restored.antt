@@ -10,7 +10,7 @@ use Rattle.page.specs.declared.page.Page.{Page}
 use Rattle.page.specs.declared.fault.Fault.{Fault}
 use Rattle.page.specs.declared.fault.Fault.TheVariants.{NoResource, BadWorkers, BadMaster, PageAheadOfLog, NoSuchPage}
 use Rattle.page.specs.Store.{StoreContent, AreNumbered}
-use Rattle.wal.specs.Records.{LogRecord, tx_in, Update, Compensation, History, start, ◌▸◌, ◌▸▸◌, history, last_lsn, LogContent, ◌⧺◌}
+use Rattle.wal.specs.Records.{LogRecord, tx_in, Update, Compensation, History, start, ◌▸◌, ◌▸▸◌, lsn_before, history, last_lsn, LogContent, ◌⧺◌}
 use Rattle.wal.specs.Meaning.{BasePages, Cells, in_doubt, effects, replay, writes, image_of, is_on, last_on}
 use Rattle.wal.specs.Redo.{held_by, last_where, slots_in}
 use Rattle.wal.specs.Store.{Lawful, NamesPages, true_table, store_out, page_out, checkpoint_at}
@@ -76,7 +76,7 @@ undone_replayed base log xs page =
 module _ (base : BasePages) (read : LogContent) (before : StoreContent) (lawful : Lawful base read before) where
   -- THE PAGES
   whole_is : history read ▸▸ tail_of read ≡ history (with_tail read)
-  whole_is = sym (after-append start read.records (tail_of read))
+  whole_is = sym (after-append (start (lsn_before read.begins)) read.records (tail_of read))
 
   -- what the log and its tail make of a page is what the winners leave
   page_is_out : (page : ℕ) → replayed_page base (history read ▸▸ tail_of read) page ≡ page_out base read page
