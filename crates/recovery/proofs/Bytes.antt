@@ -6,8 +6,8 @@ use Rattle.page.specs.Store.{StoreContent}
 use Rattle.page.specs.declared.fault.Fault.{Fault}
 use Rattle.page.specs.declared.fault.Fault.TheVariants.{NoResource, BadWorkers, BadParting}
 use Rattle.wal.proofs.Histories.{size_of_log}
-use Rattle.wal.specs.Records.{LogRecord, LogContent, last_lsn, history, ◌⧺◌}
-use Rattle.wal.specs.Frames.{header, Gives}
+use Rattle.wal.specs.Records.{LogRecord, LogContent, last_lsn, history, ◌⧺◌, lsn_before}
+use Rattle.wal.specs.Frames.{Gives}
 use Rattle.wal.specs.Reads.{Reads, spellings, log_text}
 use Rattle.wal.specs.Spelling.{frame}
 use Rattle.wal.specs.Meaning.{BasePages}
@@ -19,6 +19,7 @@ use Rattle.restart.specs.Restart.{AreSettings, InputFault, RestartFault}
 use Rattle.recovery.specs.Recovery.{Are, AreLawful, Cause}
 use Rattle.restart.specs.Options.{AreInRange, OptionsFault}
 use Rattle.restart.proofs.Causes.{settings_hold}
+use Rattle.wal.specs.Headers.{header_of}
 
 -- OPTIONS
 pub options_cause : (log store : List ℕ) (options : Options) (e : Fault) → OptionsFault options e → Cause log store options e
@@ -59,9 +60,10 @@ spellings_push out new lsn next xs x at before after =
 -- the text of a log, and behind it the frames of more records
 pub text_extended : (log : LogContent) (more : List LogRecord) (kept frames : List ℕ) (lsn : ℕ) → kept ≡ log_text log → lsn ≡ last_lsn (history log) + 1 → frames ≡ spellings lsn more → kept ++ frames ≡ log_text (log ⧺ more)
 text_extended log more kept frames lsn front at behind =
+    let first = lsn_before log.begins + 1 in
     ap₂ (λ (k : List ℕ) (f : List ℕ). k ++ f) front (behind ∙ ap (λ n. spellings n more) (at ∙ omega (arith, size_of_log log)))
-    ∙ append_assoc header (spellings 1 log.records) (spellings (1 + length log.records) more)
-    ∙ ap (λ (s : List ℕ). header ++ s) (sym (spellings-append 1 log.records more))
+    ∙ append_assoc (header_of log.begins) (spellings first log.records) (spellings (first + length log.records) more)
+    ∙ ap (λ (s : List ℕ). header_of log.begins ++ s) (sym (spellings-append first log.records more))
 
 -- the pages of a parting by number
 pub dealt_by_number : (pages parts : ℕ) (part_of : List ℕ) → part_of ≡ by_number pages parts → length part_of ≡ pages

@@ -69,12 +69,12 @@ never_sink : (log store : List ℕ) (options : Options) → (Cause log store opt
 never_sink log store options = (
   λ h.
       elim h.1 [
-        | inl i ↦ i.1.fault
+        | inl i ↦ i.behind.fault
         | inr i ↦ elim i [ inl j ↦ j.3 | inr j ↦ j.1.1.holds ]
       ],
   λ h.
       elim h.1 [
-        | inl i ↦ i.1.fault
+        | inl i ↦ i.behind.fault
         | inr i ↦ elim i [ inl j ↦ j.3 | inr j ↦ j.1.1.holds ]
       ],
 )

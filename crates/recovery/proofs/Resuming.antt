@@ -11,7 +11,7 @@ use Rattle.page.specs.declared.fault.Fault.TheVariants.{WriteLog, WriteStore}
 use Rattle.page.specs.declared.page.Page.{Page}
 use Rattle.page.specs.Store.{StoreContent}
 use Rattle.wal.specs.declared.record.Record.{Record}
-use Rattle.wal.specs.Records.{LogRecord, History, start, ◌▸▸◌, history, last_lsn, LogContent, ◌⧺◌}
+use Rattle.wal.specs.Records.{LogRecord, History, start, ◌▸▸◌, history, last_lsn, LogContent, ◌⧺◌, lsn_before}
 use Rattle.wal.specs.Content.{content}
 use Rattle.wal.specs.Meaning.{BasePages, replay}
 use Rattle.wal.specs.Redo.{slots_in}
@@ -27,20 +27,22 @@ use Rattle.recovery.specs.Devices.{AreCutOf, Leaves, LeavesCut}
 use Rattle.recovery.specs.Recovery.{AreLawful}
 use Rattle.undo.specs.Undone.{AreSpelled}
 use Rattle.recovery.proofs.Bytes.{text_extended}
+use Rattle.wal.specs.Headers.{FitsStart}
 
 -- THE NEW LOG
 -- it is read whole, with nothing torn
-pub reads_extended : (bytes : List ℕ) (read : LogContent) (appended : List Record) → bytes ≡ log_text (read ⧺ map content appended) → AllByRecursion Fits read.records → AreSpelled appended
-    → last_lsn (history read) < 2 ^ 63 → length appended < 2 ^ 63 → Reads bytes (read ⧺ map content appended) 0
-reads_extended bytes read appended text fits spelled few more =
+pub reads_extended : (bytes : List ℕ) (read : LogContent) (appended : List Record) → bytes ≡ log_text (read ⧺ map content appended) → FitsStart read.begins → AllByRecursion Fits read.records → AreSpelled appended
+    → last_lsn (history read) + length appended < 2 ^ 64 → Reads bytes (read ⧺ map content appended) 0
+reads_extended bytes read appended text starts fits spelled few =
     let all = read ⧺ map content appended in
     record {
       tail = [];
       text = text ∙ sym (append-nil (log_text all));
       torn_tail = inl (omega arith);
       torn_count = refl;
+      starts = starts;
       each = recursion_from_All Fits all.records (All-append Fits read.records (map content appended) (All-from_recursion Fits read.records fits) (All-map Fits content appended spelled));
-      few = omega (arith, few, more, size_of_log all, size_of_log read, length-append read.records (map content appended), length-map appended content);
+      few = omega (arith, few, size_of_log all, size_of_log read, length-append read.records (map content appended), length-map appended content);
     }
 
 -- A BEGINNING OF FRAMES
@@ -108,7 +110,7 @@ each_behind P (x ∷ xs) ys h = each_behind P xs ys h.1
 -- is kept when records come behind
 page_law_more : (base : BasePages) (read : LogContent) (more : List LogRecord) (page : Page) → PageLaw base (history read) page → PageLaw base (history (read ⧺ more)) page
 page_law_more base read more page law =
-    let split : history (read ⧺ more) ≡ history read ▸▸ more = after-append start read.records more in
+    let split : history (read ⧺ more) ≡ history read ▸▸ more = after-append (start (lsn_before read.begins)) read.records more in
     subst (λ (log : History). PageLaw base log page) (sym split)
     (record {
       within = omega (arith, law.within, ap last_lsn (sym split), size_of_log (read ⧺ more), size_of_log read, length-append read.records more);
@@ -133,9 +135,9 @@ written_behind read tail out written missing begins ends =
     (text_more read tail ∙ ends ∙ ap (λ (l : List ℕ). l ++ missing) begins ∙ append_assoc (log_text read) written missing)
 
 -- the records of the log and of some frames behind it are read, and the rest is torn
-reads_cut : (read : LogContent) (tail : List LogRecord) (out written : List ℕ) → AllByRecursion Fits (read ⧺ tail).records → last_lsn (history (read ⧺ tail)) < 2 ^ 64 → out ≡ log_text read ++ written
+reads_cut : (read : LogContent) (tail : List LogRecord) (out written : List ℕ) → FitsStart read.begins → AllByRecursion Fits (read ⧺ tail).records → last_lsn (history (read ⧺ tail)) < 2 ^ 64 → out ≡ log_text read ++ written
     → (cut : Cuts (last_lsn (history read) + 1) tail written) → Reads out (read ⧺ take cut.count tail) (length cut.tail)
-reads_cut read tail out written fits few begins cut =
+reads_cut read tail out written starts fits few begins cut =
     let kept = take cut.count tail in
     record {
       tail = cut.tail;
@@ -144,6 +146,7 @@ reads_cut read tail out written fits few begins cut =
           ∙ ap (λ (l : List ℕ). l ++ cut.tail) (text_more read kept);
       torn_tail = cut.torn;
       torn_count = refl;
+      starts = starts;
       each = subst (λ (xs : List LogRecord). AllByRecursion Fits xs) (take-append-add read.records tail cut.count) (each_front Fits (length read.records + cut.count) (read ⧺ tail).records fits);
       few = omega (arith, few, size_of_log (read ⧺ kept), size_of_log (read ⧺ tail), length-append read.records kept, length-append read.records tail, length-take cut.count tail);
     }
@@ -166,7 +169,7 @@ module _ (base : BasePages) (read : LogContent) (before : StoreContent) (lawful 
         ends = ends;
         whole = read ⧺ kept;
         torn = length cut.tail;
-        reads = reads_cut read tail out written reads.each reads.few begins cut;
+        reads = reads_cut read tail out written reads.starts reads.each reads.few begins cut;
         master = refl;
         count = refl;
         pages = λ i d lt. page_law_more base read kept _ (lawful.pages i d lt);

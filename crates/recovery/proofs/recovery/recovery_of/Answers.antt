@@ -1,8 +1,8 @@
-use Rattle.std.proofs.Common.{◌≡◌, ℕ, ◌-◌, ◌^◌, ◌<◌, ◌++◌, List, arith, length, take, map, sym, ap, ◌∙◌, subst}
+use Rattle.std.proofs.Common.{◌≡◌, ℕ, ◌-◌, ◌^◌, ◌<◌, ◌++◌, List, arith, length, take, map, sym, ap, ◌∙◌, subst, ◌+◌}
 use Rattle.std.proofs.lemmas.Result.{err_from_is_err_and}
 use Rattle.page.specs.Store.{StoreContent}
 use Rattle.page.specs.File.{store_text, SpellsStore}
-use Rattle.wal.proofs.Histories.{size_of_log}
+use Rattle.wal.proofs.Histories.{size_of_log, base_of_log}
 use Rattle.wal.specs.Records.{LogRecord, ◌⧺◌, last_lsn, history}
 use Rattle.wal.specs.Content.{content}
 use Rattle.wal.specs.Meaning.{in_doubt}
@@ -46,7 +46,7 @@ returns-in_err-outcome-clause-cause g c =
     (restart_cause c.args.log.now c.args.store.items c.args.options.now c.in_ok-parting.parting c.in_err-outcome.field-0.0 range are (record { fit = c.requires.workers; dealt = dealt }) c.in_err-outcome.ensures.fault)
 
 pub frames_of-requires-clause-room : goal.frames_of-requires-clause-room
-frames_of-requires-clause-room g c = omega (arith, size_of_log c.in_ok-records.records, c.next_lsn.ensures.next, c.next_lsn.ensures.room, c.in_ok-outcome.ensures.few, ap length c.deref-2.ensures.value)
+frames_of-requires-clause-room g c = omega (arith, size_of_log c.in_ok-records.records, base_of_log c.in_ok-records.records, c.next_lsn.ensures.next, c.next_lsn.ensures.low, c.next_lsn.ensures.room, c.in_ok-outcome.ensures.few, ap length c.deref-2.ensures.value)
 
 pub returns-clause-answer : goal.returns-clause-answer
 returns-clause-answer g c =
@@ -58,14 +58,14 @@ returns-clause-answer g c =
     text_extended read appended (take (length c.args.log.now - torn) c.args.log.now) c.in_ok-frames_of.field-0.items c.next_lsn.result
     (kept_text c.args.log.now read torn c.in_ok-records.ensures.found) c.next_lsn.ensures.next
     (c.in_ok-frames_of.ensures.frames ∙ ap (λ rs. spellings c.next_lsn.result (map content rs)) c.deref-2.ensures.value) in
-    let few : last_lsn (history read) < 2 ^ 63 = omega (arith, c.next_lsn.ensures.room, size_of_log read) in
-    let more : length c.in_ok-outcome.outcome.appended.items < 2 ^ 63 = omega (arith, c.in_ok-outcome.ensures.few, c.next_lsn.ensures.room, size_of_log read) in
+    let few : last_lsn (history read) + length c.in_ok-outcome.outcome.appended.items < 2 ^ 64 =
+    omega (arith, c.in_ok-outcome.ensures.few, c.next_lsn.ensures.low, c.next_lsn.ensures.room, size_of_log read, base_of_log read) in
     record {
       are = record { read = read; torn = torn; before = c.in_ok-before.before; reads = c.in_ok-records.ensures.found; spells = subst (λ (text : List ℕ). SpellsStore text c.in_ok-before.before) c.deref.ensures.value c.in_ok-before.ensures.found };
       outcome = c.in_ok-outcome.outcome;
       restarts = c.in_ok-outcome.ensures.restarts;
       log_is = log_is;
-      reads = reads_extended bytes read c.in_ok-outcome.outcome.appended.items log_is c.in_ok-records.ensures.found.each c.in_ok-outcome.ensures.spelled few more;
+      reads = reads_extended bytes read c.in_ok-outcome.outcome.appended.items log_is c.in_ok-records.ensures.found.starts c.in_ok-records.ensures.found.each c.in_ok-outcome.ensures.spelled few;
       store_is = c.in_ok-encode_store_into.ensures.ok;
       report_is = c.report_of.ensures;
     }
