@@ -152,7 +152,7 @@ fn audit_command<'a>(alloc: Global) -> Result<Command<'a>, AllocError>
         .arg(free_file_option(
             alloc,
             "base",
-            "The store as the log found it; without it all pages were empty",
+            "The store as the log found it; without it all pages were empty (fault 23 or 26 mostly, where the log has a base LSN)",
         ))
 }
 
