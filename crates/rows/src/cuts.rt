@@ -1,7 +1,7 @@
 //! Restarts that were interrupted: the log that a restart makes, cut short at each byte, and a page
 //! that was written out on the way.
 
-use crate::program::{audit, recover, remove_new_files};
+use crate::program::{Printed, audit, audit_over, recover, remove_new_files};
 use crate::verdict::{Verdict, of_new_files};
 use anyhow::{Context, Result};
 use std::fs;
@@ -22,6 +22,8 @@ pub struct Cuts<'a> {
     pub first: usize,
     /// The size of the longest log.
     pub last: usize,
+    /// Whether the row began over a base store, which lies in `base`.
+    pub over_base: bool,
 }
 
 /// What does not change from cut to cut.
@@ -31,22 +33,36 @@ struct Whole {
     log: Vec<u8>,
     /// The lines that each report ends with: the pages, and what is in doubt.
     last_lines: Vec<u8>,
+    /// The file of the base store, if the row began over one.
+    base: Option<String>,
+}
+
+/// An audit of the cut log and this store, over the base store if there is one.
+fn audit_cut<R: Files + AllocGlobal + Threads + Sync>(
+    rt: &R,
+    whole: &Whole,
+    store: &str,
+) -> Printed {
+    match &whole.base {
+        None => audit(rt, CUT_LOG, store),
+        Some(base) => audit_over(rt, CUT_LOG, store, base.as_str()),
+    }
 }
 
 /// Whether an audit of the cut log and this store finds them lawful, and a restart on them reports
-/// these last lines and makes the row's files.
+/// the last lines of the whole and makes the row's files.
 fn of_cut<R: Files + AllocGlobal + Threads + Sync>(
     rt: &R,
     row: &str,
-    last_lines: &[u8],
+    whole: &Whole,
     store: &str,
 ) -> Result<Verdict> {
-    let audited = audit(rt, CUT_LOG, store);
+    let audited = audit_cut(rt, whole, store);
     if audited.status != 0 {
         return Ok(Verdict::AnotherAnswer);
     }
     let printed = recover(rt, CUT_LOG, store, "2", "2");
-    let verdict = if printed.status == 0 && printed.out.ends_with(last_lines) {
+    let verdict = if printed.status == 0 && printed.out.ends_with(&whole.last_lines) {
         of_new_files(rt, row)?
     } else {
         Verdict::AnotherAnswer
@@ -66,7 +82,7 @@ fn of_sizes<R: Files + AllocGlobal + Threads + Sync>(
     for size in cuts.first..=cuts.last {
         let bytes = whole.log.get(..size).context("a cut past the log's end")?;
         fs::write(rt, CUT_LOG, bytes)?;
-        let verdict = of_cut(rt, cuts.row, &whole.last_lines, store)?;
+        let verdict = of_cut(rt, cuts.row, whole, store)?;
         if verdict != Verdict::Same {
             return Ok(verdict);
         }
@@ -77,7 +93,13 @@ fn of_sizes<R: Files + AllocGlobal + Threads + Sync>(
 /// Whether all cuts of the row's new log lead to its files.
 pub fn of_cuts<R: Files + AllocGlobal + Threads + Sync>(rt: &R, cuts: &Cuts) -> Result<Verdict> {
     let Cuts { row, page, .. } = cuts;
+    let base = if cuts.over_base {
+        Some(format!(in rt.alloc(); "{row}/base")?)
+    } else {
+        None
+    };
     let whole = Whole {
+        base,
         log: fs::read(rt, format!(in rt.alloc(); "{row}/out-log")?)?,
         last_lines: fs::read(rt, format!(in rt.alloc(); "{row}/last-lines")?)?,
     };

@@ -74,6 +74,7 @@ fn run_slow<R: Files + Print + AllocGlobal + Threads + Sync>(rt: &R, row: &str) 
 fn run_cuts<R: Files + Print + AllocGlobal + Threads + Sync>(
     rt: &R,
     row: &str,
+    over_base: bool,
     words: &mut SplitWhitespace,
 ) -> Result<()> {
     let page = words.next().context("a row without the LSN of its page")?;
@@ -84,6 +85,7 @@ fn run_cuts<R: Files + Print + AllocGlobal + Threads + Sync>(
         page,
         first: first.parse::<usize>()?,
         last: last.parse::<usize>()?,
+        over_base,
     };
     let verdict = cuts::of_cuts(rt, &cuts).context(format_args!("cuts of {row}"))?;
     println!(rt; "{row}, page at {page}, cut to {first} up to {last} bytes: {verdict}")?;
@@ -91,8 +93,8 @@ fn run_cuts<R: Files + Print + AllocGlobal + Threads + Sync>(
 }
 
 /// Runs what a line says of a row: the folder, and then `audit`; or `audit-over`; or `slow`; or
-/// `cuts`, the PageLSN of the page and the sizes of the shortest and the longest log; or the
-/// workers and the parts of a restart.
+/// `cuts`, the PageLSN of the page and the sizes of the shortest and the longest log; or `cuts-over`
+/// and the same; or the workers and the parts of a restart.
 fn run_line<R: Files + Print + AllocGlobal + Threads + Sync>(rt: &R, line: &str) -> Result<()> {
     let mut words = line.split_whitespace();
     let row = words.next().context("a row without a name")?;
@@ -107,7 +109,10 @@ fn run_line<R: Files + Print + AllocGlobal + Threads + Sync>(rt: &R, line: &str)
         return run_slow(rt, row);
     }
     if command == "cuts" {
-        return run_cuts(rt, row, &mut words);
+        return run_cuts(rt, row, false, &mut words);
+    }
+    if command == "cuts-over" {
+        return run_cuts(rt, row, true, &mut words);
     }
     let parts = words.next().context("a row without parts")?;
     run_restart(rt, row, command, parts)

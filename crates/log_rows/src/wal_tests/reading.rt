@@ -1,7 +1,7 @@
 //! Logs that are read, and what is no log.
 
 use super::vectors::{
-    CHECKPOINT_LOSER, EMPTY_AND_FULL_VALUES, ONE_COMMIT, ONE_LOSER_RESTARTED,
+    BASE_LOSER, CHECKPOINT_LOSER, EMPTY_AND_FULL_VALUES, ONE_COMMIT, ONE_LOSER_RESTARTED,
     PARTIAL_ROLLBACK_COMMIT, PREPARED, PREPARED_AT_CHECKPOINT, ROLLBACK_INTERRUPTED,
 };
 use super::{checkpoint_text, rewritten};
@@ -61,11 +61,42 @@ fn views_show_prepares(rt: HostRuntime) -> Result<(), Fail> {
         return Err("no prepare".into());
     };
     assert_eq!(rt; (tx, prev), (1, 1));
+    assert!(rt; log.base() == 0);
     assert!(rt; log.last() > 1);
     let Glance::Prepare { tx } = log.glance_after(1) else {
         return Err("no prepare at a glance".into());
     };
     assert_eq!(rt; tx, 1);
+    Ok(())
+}
+
+#[test]
+fn records_stand_behind_the_base_lsn(rt: HostRuntime) -> Result<(), Fail> {
+    assert_eq!(rt; BASE_LOSER.len(), 50);
+    let (log, torn) = read_log(rt.alloc(), BASE_LOSER)?;
+    assert_eq!(rt; (log.base(), log.len(), log.last(), torn), (5, 1, 6, 0));
+    assert!(rt; log.get(1).is_none());
+    assert!(rt; log.get(5).is_none());
+    assert!(rt; log.get(7).is_none());
+    let Some(RecordView::Update { tx, prev, .. }) = log.get(6) else {
+        return Err("no update".into());
+    };
+    assert_eq!(rt; (tx, prev), (1, 0));
+    assert!(rt; log.image(5).is_none());
+    assert!(rt; log.image(6).is_some());
+    Ok(())
+}
+
+#[test]
+fn headers_of_version_2_have_16_bytes(rt: HostRuntime) -> Result<(), Fail> {
+    let (header, _) = BASE_LOSER.split_at(16);
+    let (log, torn) = read_log(rt.alloc(), header)?;
+    assert_eq!(rt; (log.base(), log.len(), log.last(), torn), (5, 0, 5, 0));
+    let (short, _) = BASE_LOSER.split_at(15);
+    assert_eq!(rt;
+        read_log(rt.alloc(), short).err(),
+        Some(Fault::BadLogHeader)
+    );
     Ok(())
 }
 
