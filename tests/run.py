@@ -1,5 +1,5 @@
 #!/usr/bin/env python3
-"""Runs the proved programs as they are: on rows of real size, with threads counted, with files that are missing or stand
+"""Runs the proved programs as they are: on rows of real size, on the small rows in version 2, with threads counted, with files that are missing or stand
 already, with wrong lines, with prints that fail, and with each growth of memory refused in turn.
 
 usage: tests/run.py        at the top of the repository, behind `rt ci`, which builds the programs
@@ -90,12 +90,13 @@ class Tally:
 # Rows of real size: what is expected was worked by a model that shares no code with the program.
 
 def check_large_row(tally, name, row):
+    over = ("--base", row.at("base")) if os.path.exists(row.at("base")) else ()
     for workers, parts in ((1, 1), (4, 16), (64, 4096)):
         ran = row.recover(workers=workers, parts=parts)
         is_well = has_printed(ran, bytes_of(row.at("printed"))) and row.is_recovered()
         tally.say(f"{name}, {workers} workers, {parts} parts", is_well, ran.stderr)
-    tally.say(f"{name}, audit", has_printed(row.audit(), bytes_of(row.at("audited"))))
-    tally.say(f"{name}, audit of its outcome", has_printed(row.audit("out-log", "out-store"), b"lawful\n"))
+    tally.say(f"{name}, audit", has_printed(row.audit(more=over), bytes_of(row.at("audited"))))
+    tally.say(f"{name}, audit of its outcome", has_printed(row.audit("out-log", "out-store", over), b"lawful\n"))
     again = row.recover("out-log", "out-store")
     is_well = again.returncode == 0 and row.is_recovered() and in_doubt(again.stdout) == in_doubt(bytes_of(row.at("printed")))
     tally.say(f"{name}, its outcome again", is_well, again.stderr)
@@ -107,6 +108,52 @@ def check_large_rows(tally, room):
         with tarfile.open(os.path.join(LARGE_ROWS, archive)) as files:
             files.extractall(room)
         check_large_row(tally, name, Row(os.path.join(room, name), room))
+
+
+# Version 2 of a log: with base 0 it says what version 1 says, and keeps its own header.
+
+def in_version_2(log):
+    return b"ARIESLG2" + bytes(8) + log[8:]
+
+
+def moved_back(printed):
+    """What was printed, with the offset that version 1 gives: there the frames stand 8 bytes nearer to the beginning."""
+    words = printed.split(b" at byte ")
+    if len(words) < 2:
+        return printed
+    return b"%s at byte %d\n" % (words[0], int(words[1]) - 8)
+
+
+def is_same_in_version_2(row, ran):
+    """Whether a recovery prints what it prints of version 1, and makes the same files, the header aside."""
+    expected = bytes_of(row.at("printed"))
+    if ran.returncode == 1:
+        return moved_back(ran.stderr) == expected and row.is_nothing_out()
+    log, store = in_version_2(bytes_of(row.at("out-log"))), bytes_of(row.at("out-store"))
+    return has_printed(ran, expected) and bytes_of(row.new_at("log")) == log and bytes_of(row.new_at("store")) == store
+
+
+def check_row_in_version_2(tally, row, log):
+    name = os.path.basename(row.folder)
+    if os.path.exists(row.at("printed")):
+        ran = row.recover(log=log)
+        tally.say(f"{name} in version 2", is_same_in_version_2(row, ran), ran.stderr)
+    if os.path.exists(row.at("audited")):
+        over = ("--base", row.at("base")) if os.path.exists(row.at("base")) else ()
+        ran = row.audit(log=log, more=over)
+        is_same = moved_back(ran.stdout + ran.stderr) == bytes_of(row.at("audited"))
+        tally.say(f"{name} in version 2, audit", is_same, ran.stderr)
+
+
+def check_version_2(tally, room):
+    log = os.path.join(room, "version-2")
+    for name in sorted(os.listdir(SMALL_ROWS)):
+        row = Row(os.path.join(SMALL_ROWS, name), room)
+        text = bytes_of(row.at("log")) if os.path.isdir(row.folder) else b""
+        if text.startswith(b"ARIESLG1"):
+            with open(log, "wb") as file:
+                file.write(in_version_2(text))
+            check_row_in_version_2(tally, row, log)
 
 
 # Files and words: what the program prints, its status, and which files it makes.
@@ -291,6 +338,7 @@ def main():
     tally = Tally()
     with tempfile.TemporaryDirectory(prefix="aries-tests-") as room:
         check_large_rows(tally, room)
+        check_version_2(tally, room)
         check_threads(tally, room)
         check_files(tally, room)
         check_missing_files(tally, room)
