@@ -52,8 +52,8 @@ fn first_fault(alloc: Global, log: &Log, base: &[Page], store: &Store) -> Result
 /// - BadMaster: the master is not 0, and its record is no checkpoint begin or no later end names
 ///   it.
 /// - TransactionTable: the table is not exactly that of the unfinished transactions at the begin.
-/// - DirtyTable: the smallest page with a RecLSN outside 1 to the master, or of which a record at
-///   or before the master is neither in the image nor listed.
+/// - DirtyTable: the smallest page with a RecLSN that is not above the base LSN, or is above the
+///   master, or of which a record at or before the master is neither in the image nor listed.
 ///
 /// NoResource, where memory is refused, may come in place of any answer.
 pub fn audit(alloc: Global, log: &Log, store: &Store) -> Result<(), Fault>

@@ -25,7 +25,8 @@ pub enum Fault {
     /// The writer of the store failed.
     #[error("writing the store failed")]
     WriteStore,
-    /// The first 8 bytes of the log are not `ARIESLG1`.
+    /// The first 8 bytes of the log are neither `ARIESLG1` nor `ARIESLG2`; or they are the latter,
+    /// and the log has fewer than 16 bytes or a base LSN above 9,223,372,036,854,775,807.
     #[error("bad log header")]
     BadLogHeader,
     /// The length field of the frame at this offset lies outside 9 to 70,681.
@@ -34,7 +35,8 @@ pub enum Fault {
     /// The body of the frame at this offset spells no record with any LSN.
     #[error("bad record at byte {0}")]
     BadRecord(u64),
-    /// The body of the frame at this offset spells a record with another LSN than its number.
+    /// The body of the frame at this offset spells a record with another LSN than the sum of the
+    /// log's base LSN and the frame's number.
     #[error("bad LSN at byte {0}")]
     BadLsn(u64),
     /// The store has fewer than 24 bytes, another magic, a page count outside 1 to 4,096, or a
@@ -93,7 +95,7 @@ pub enum Fault {
     #[error("wrong transaction table")]
     TransactionTable,
     /// The checkpoint's dirty page table leaves out a record that this page's image lacks, or lists
-    /// a RecLSN outside 1 to the master; the smallest such page.
+    /// a RecLSN that is not above the log's base LSN, or is above the master; the smallest such page.
     #[error("wrong dirty page table at page {0}")]
     DirtyTable(u32),
     /// The base store has another page count than the store, or a page whose PageLSN is above the
