@@ -1,12 +1,13 @@
 #!/usr/bin/env python3
 """Runs the proved programs as they are: on rows of real size, on the small rows in version 2, with threads counted, with files that are missing or stand
-already, with wrong lines, with prints that fail, and with each growth of memory refused in turn.
+already, with wrong lines, with prints that fail, and with each growth of memory refused in turn. And looks whether the documents are true of them.
 
 usage: tests/run.py        at the top of the repository, behind `rt ci`, which builds the programs
 
 Prints a line for each check, and at last `N passed, N failed`; the status is 1 where one failed. Takes python3 and cc.
 """
 import os
+import re
 import shutil
 import subprocess
 import sys
@@ -331,11 +332,48 @@ def check_refusals(tally, room):
         check_refused_growth(tally, f"{name}, slow devices", refuser, job, lambda *ran: is_right_slow(name, *ran))
 
 
+# Documents: the code, the links and the tables that they show.
+
+def text_of(path):
+    with open(os.path.join(TOP, path), encoding="utf-8") as file:
+        return file.read()
+
+
+def documents():
+    yield from ("README.md", "CONTRIBUTING.md", "CHANGELOG.md", "crates/rows/data/README.md")
+    yield from (os.path.join("docs", name) for name in sorted(os.listdir(os.path.join(TOP, "docs"))) if name.endswith(".md"))
+
+
+def broken_links(document):
+    """The links of a document that lead to no file of this repository."""
+    targets = (it.partition("#")[0] for it in re.findall(r"\]\(([^)\s]+)\)", text_of(document)))
+    return [it for it in targets if it and not os.path.exists(os.path.join(TOP, os.path.dirname(document), it))]
+
+
+def check_documents(tally):
+    shown = re.findall(r"```rust\n(.*?)```", text_of("README.md"), re.S)
+    code = text_of("crates/rows/src/in_memory.rt")
+    tally.say("README's code is that of crates/rows", shown and all(part.strip() in code for it in shown for part in it.split("\n\n")))
+    for document in documents():
+        tally.say(f"links of {document}", not broken_links(document), broken_links(document))
+    # number, name and text of each fault, as FORMATS has them
+    told = re.findall(r"^\| (\d+) \| `(\w+)` \| ([^|]*) \|", text_of("docs/FORMATS.md"), re.M)
+    faults = text_of("crates/page/src/fault.rt")
+    texts = {name: text for text, name in re.findall(r'#\[error\("([^"]*)"\)\]\s*(\w+)', faults)}
+    numbers = dict(re.findall(r"Fault::(\w+)(?:\(_\))? => (\d+)", faults))
+    is_told = {name: (number, text.replace("<n>", "{0}")) for number, name, text in told}
+    tally.say("faults in docs/FORMATS.md", is_told == {name: (numbers[name], texts[name]) for name in numbers})
+    rows = re.findall(r"^\| `([\w-]+)` \|", text_of("crates/rows/data/README.md").partition("## The rows")[2], re.M)
+    folders = [it for it in sorted(os.listdir(SMALL_ROWS)) if os.path.isdir(os.path.join(SMALL_ROWS, it))]
+    tally.say("rows in crates/rows/data/README.md", rows == folders, set(rows) ^ set(folders))
+
+
 def main():
     for program in (ARIES, ROW_RUNNER):
         if not os.path.exists(program):
             sys.exit(f"{program} is missing: `rt ci` builds it")
     tally = Tally()
+    check_documents(tally)
     with tempfile.TemporaryDirectory(prefix="aries-tests-") as room:
         check_large_rows(tally, room)
         check_version_2(tally, room)

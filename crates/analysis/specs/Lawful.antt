@@ -1,4 +1,4 @@
--- What the tables of a lawful log are.
+-- What the tables of a lawful log are (own).
 use Rattle.std.specs.Prelude.{◌≡◌, ℕ, All, Option, Some, None, if◌then◌else◌}
 use Rattle.page.specs.Store.{StoreContent}
 use Rattle.wal.specs.Records.{TableEntry, History, LogContent, history}

@@ -1,4 +1,4 @@
--- Which record wrote a cell last.
+-- Which record wrote a cell last (own).
 use Rattle.page.specs.Image.{Image}
 use Rattle.std.specs.Prelude.{Option, Some, None, ◌≡◌, ◌<◌, ◌+◌, ◌*◌, ℕ, suc, List, length, IfSome, if◌then◌else◌, slice_index, slice_set}
 use Rattle.std.specs.Option.{option_map_or}

@@ -1,4 +1,4 @@
--- What the checkpoint of a master says.
+-- What the checkpoint of a master says (own).
 use Rattle.std.specs.Prelude.{◌≡◌, ℕ, List, Some, true, slice_get}
 use Rattle.wal.specs.Records.{TableEntry, History}
 use Rattle.wal.specs.Meaning.{is_unfinished}

@@ -1,4 +1,4 @@
--- Records that a page's image lacks, and whether a dirty page table covers them.
+-- Records that a page's image lacks, and whether a dirty page table covers them (own).
 use Rattle.std.specs.Prelude.{◌≡◌, ◌<◌, ◌≤◌, ℕ, suc, List, length, Option, Some, ◌==◌, ◌&&◌, nat_lt, if◌then◌else◌, slice_index, slice_set}
 use Rattle.page.specs.declared.page.Page.{Page}
 use Rattle.std.specs.Option.{option_map_or}

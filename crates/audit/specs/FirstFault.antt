@@ -1,4 +1,4 @@
--- The first law that a log and a store over base pages break, in the order: the records by LSN, the pages by number, the checkpoint.
+-- The first law that a log and a store over base pages break, in the order: the records by LSN, the pages by number, the checkpoint (own).
 use Rattle.std.specs.Prelude.{◌≡◌, ◌<◌, ◌≤◌, ◌⊎◌, ◌+◌, ℕ, suc, List, All, length, take, slice_get, Some, true, false, None}
 use Rattle.page.specs.declared.fault.Fault.{Fault}
 use Rattle.page.specs.declared.fault.Fault.TheVariants.{NoResource, NoSuchPage, Chain, AfterFinish, WrongCompensation, BeforeImage, DirtyWrite, EndTooEarly, PageAheadOfLog, PageImage, BadMaster, TransactionTable, DirtyTable}

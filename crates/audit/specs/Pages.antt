@@ -1,4 +1,4 @@
--- The records that a page's image is to have.
+-- The records that a page's image is to have (own).
 use Rattle.std.specs.Prelude.{◌≡◌, ◌<◌, ◌+◌, ◌*◌, ℕ, List, [], Bool, false, nat_le, slice_index, slice_index_or}
 use Rattle.page.specs.declared.page.Page.{Page}
 use Rattle.std.specs.Option.{option_map_or}

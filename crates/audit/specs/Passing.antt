@@ -1,4 +1,4 @@
--- What is kept while the records are gone through.
+-- What is kept while the records are gone through (own).
 use Rattle.std.specs.Prelude.{◌≡◌, ◌≤◌, ◌⊎◌, ◌||◌, ℕ, length, Option, Some, None, true, ◌+◌}
 use Rattle.page.specs.Image.{Image}
 use Rattle.wal.specs.Records.{LogRecord, Update, History, LogContent, history, last_lsn, record_at, base_lsn}

@@ -1,4 +1,4 @@
--- What the records so far say of a transaction.
+-- What the records so far say of a transaction (own).
 use Rattle.std.specs.Prelude.{◌≡◌, ◌<◌, ◌≤◌, Option, Some, None, ℕ, zero, suc, List, [], ◌∷◌, length, true, false, slice_index, unwrap_or, nat_eq, ◌+◌, ◌-◌, ◌⊎◌}
 use Rattle.std.specs.HashMap.{HashMap, get}
 use Rattle.wal.specs.Records.{LogRecord, Update, Compensation, Commit, Abort, End, Prepare, History, base_lsn}

@@ -45,7 +45,7 @@ fn first_fault(alloc: Global, log: &Log, base: &[Page], store: &Store) -> Result
 /// - BeforeImage: its before image is not the cell's value.
 ///
 /// Then the pages by number, at each (with its number):
-/// - PageAheadOfLog: PageLSN is above the log's length.
+/// - PageAheadOfLog: PageLSN is above the log's last LSN.
 /// - PageImage: it is not what the log up to its PageLSN makes of it.
 ///
 /// Then the checkpoint:

@@ -1,4 +1,4 @@
--- What a board shows of its table.
+-- What a board shows of its table (own).
 use Rattle.std.specs.Prelude.{◌≡◌, ◌+◌, ◌<◌, ◌≤◌}
 use Rattle.board.specs.declared.board.Board.TheInside.{Inside}
 use Rattle.board.specs.Drawn.{BoardId}

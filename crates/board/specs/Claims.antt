@@ -1,4 +1,4 @@
--- The rule of a board's words, and what each step on them tells.
+-- The rule of a board's words, and what each step on them tells (own).
 -- Claim word r counts the steps on range r: a step that finds k there below the range's size claims its number k, and any other one meets the range's end.
 -- The last word, the stop word, is 1 where some seat has stopped the board, and else 0.
 use Rattle.std.specs.Prelude.{◌≡◌, ℕ, zero, suc, ◌+◌, ◌-◌, ◌<◌, ◌≤◌, min, true, false, cond, ◌||◌, eqb, List, [], ◌∷◌, ◌++◌, length, slice_index}

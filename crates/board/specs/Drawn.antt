@@ -1,4 +1,4 @@
--- What contracts see of a board, of a seat and of a tally.
+-- What contracts see of a board, of a seat and of a tally (own).
 use Rattle.std.specs.Prelude.{◌≡◌, ◌≢◌, ℕ, ◌+◌, ◌-◌, ◌*◌, ◌/◌, ◌<◌, ◌≤◌, ◌↔◌, ◌⊎◌, Bool, List, [], ◌∷◌, ◌++◌, slice_index}
 use Rattle.std.specs.List.{Contains, AllPairs}
 use Rattle.atomic_table.specs.Seated.{TableId}

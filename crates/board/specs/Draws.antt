@@ -1,4 +1,4 @@
--- The cases of a draw on a board that may be stopped.
+-- The cases of a draw on a board that may be stopped (own).
 use Rattle.std.specs.Prelude.{ℕ, Bool, true, false}
 use Rattle.board.specs.declared.draw.Draw.{Draw}
 use Rattle.board.specs.declared.draw.Draw.TheVariants.{Part, Finished, Stopped}

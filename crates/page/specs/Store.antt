@@ -1,4 +1,4 @@
--- A store as contracts see it.
+-- A store as contracts see it (own).
 use Rattle.std.specs.Prelude.{◌≡◌, ℕ, ◌<◌, ◌≤◌, List, length, slice_index_or}
 use Rattle.page.specs.declared.page.Page.{Page}
 use Rattle.page.specs.declared.sizes.TheConstants.{PAGES}

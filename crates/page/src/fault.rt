@@ -55,7 +55,7 @@ pub enum Fault {
     /// The record at this LSN names a page that the store does not have.
     #[error("no such page at LSN {0}")]
     NoSuchPage(u64),
-    /// The PageLSN of this page is above the log's length; the smallest such page.
+    /// The PageLSN of this page is above the log's last LSN; the smallest such page.
     #[error("page {0} is ahead of the log")]
     PageAheadOfLog(u32),
     /// An undo was sent to this LSN, where no update or CLR of its transaction stands below the
@@ -72,7 +72,7 @@ pub enum Fault {
     /// The PrevLSN of the record at this LSN is not its transaction's last record.
     #[error("wrong previous LSN at LSN {0}")]
     Chain(u64),
-    /// A commit, abort or end of its transaction forbids the record at this LSN.
+    /// A commit, abort, end or prepare of its transaction forbids the record at this LSN.
     #[error("record after finish at LSN {0}")]
     AfterFinish(u64),
     /// The CLR at this LSN does not compensate its transaction's latest pending update.
@@ -90,8 +90,8 @@ pub enum Fault {
     /// The image of this page is not the log's page at its PageLSN.
     #[error("wrong content of page {0}")]
     PageImage(u32),
-    /// The checkpoint's transaction table is not exactly the unfinished transactions before its
-    /// begin.
+    /// The checkpoint's transaction table is not exactly that of the unfinished transactions of the
+    /// log up to its begin.
     #[error("wrong transaction table")]
     TransactionTable,
     /// The checkpoint's dirty page table leaves out a record that this page's image lacks, or lists

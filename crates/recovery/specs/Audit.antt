@@ -1,4 +1,4 @@
--- Whether the bytes of a log and a store are lawful, and why not, over empty pages or over a base store.
+-- Whether the bytes of a log and a store are lawful, and why not, over empty pages or over a base store (own).
 use Rattle.std.specs.Prelude.{ℕ, ◌⊎◌, List}
 use Rattle.page.specs.declared.fault.Fault.{Fault}
 use Rattle.page.specs.Store.{StoreContent}

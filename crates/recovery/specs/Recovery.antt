@@ -1,4 +1,4 @@
--- What a recovery makes of the bytes of a log and a store, and why it is refused.
+-- What a recovery makes of the bytes of a log and a store, and why it is refused (own).
 use Rattle.std.specs.Prelude.{◌≡◌, ℕ, ◌⊎◌, List, ◌++◌, length}
 use Rattle.page.specs.declared.fault.Fault.{Fault}
 use Rattle.page.specs.declared.fault.Fault.TheVariants.{NoResource, BadWorkers, BadParting}

@@ -109,11 +109,11 @@ fn write_both<L: Sink, S: Sink>(
 ///
 /// The new log is the log read without its torn tail, and behind it the records that the restart
 /// appends. What is written does not depend on the options or the gate. On a lawful log and its
-/// store the new log is the log and its tail, each page of the new store has what the committed
-/// transactions' updates and compensations, in LSN order, make of an empty page, and a recovery of
-/// these bytes writes them again. On what an interrupted recovery leaves, a beginning of the new
-/// log beside pages of which some are new, it writes what the first would have written. Answers the
-/// report.
+/// store the new log is the log and its tail, each page of the new store has what the committed and
+/// in-doubt transactions' updates and compensations, in LSN order, make of the base page, an empty
+/// one or what it held before the log's first record, and a recovery of these bytes writes them
+/// again. On what an interrupted recovery leaves, a beginning of the new log beside pages of which
+/// some are new, it writes what the first would have written. Answers the report.
 ///
 /// Refuses, in this order: [`Fault::BadWorkers`] and [`Fault::BadParting`] for options out of their
 /// ranges; [`Fault::ReadLog`] and [`Fault::ReadStore`] where a source failed; the faults of

@@ -1,4 +1,4 @@
--- Lists of lists, read by place.
+-- Lists of lists, read by place (own).
 use Rattle.std.specs.Prelude.{ℕ, List, [], Option, Some, None, Vec}
 use Rattle.std.specs.declared.alloc.Global.{Global}
 use Rattle.std.specs.List.{slice_get}

@@ -1,4 +1,4 @@
--- What redo looks at.
+-- What redo looks at (own).
 use Rattle.std.specs.Prelude.{◌≡◌, ℕ, List, length}
 use Rattle.page.specs.declared.page.Page.{Page}
 use Rattle.page.specs.Store.{AreNumbered}

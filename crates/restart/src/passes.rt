@@ -148,16 +148,16 @@ pub fn restart_in_place<G: Gate, R: Threads + Sync>(
 /// each, undo of the transactions that have not finished and are not in doubt.
 ///
 /// On a lawful log and its store each page has exactly what the committed and in-doubt
-/// transactions' updates and compensations, in LSN order, make of an empty page, and as PageLSN the
-/// LSN of its last record; the appended records are the log's tail, and the transactions in doubt
-/// are told. Log, store and outcome do not depend on workers, parting and gate. A restart on what
+/// transactions' updates and compensations, in LSN order, make of the base page (what it held before
+/// the log's first record), and as PageLSN the LSN of its last record; the appended records are the
+/// log's tail, and the transactions in doubt are listed. Log, store and outcome do not depend on workers, parting and gate. A restart on what
 /// was appended and the store after it appends nothing, leaves that store as it is and tells the
 /// same transactions.
 ///
 /// Refuses, in this order, by [`Fault::BadWorkers`] where `workers` is outside 1 to 64;
 /// [`Fault::BadParting`] where the parting has another number of pages than the store;
 /// [`Fault::PageAheadOfLog`] with the number of the first page whose PageLSN is above the log's
-/// length; [`Fault::BadMaster`] for a master that no checkpoint has; by the faults of
+/// last LSN; [`Fault::BadMaster`] for a master that no checkpoint has; by the faults of
 /// [`redo::redo`] and then those of [`undo`]. [`Fault::NoResource`], where memory or a thread was
 /// refused, may come in place of any answer; a lawful log and its store are refused by nothing
 /// else. After an error log and store are as they were.

@@ -1,9 +1,6 @@
-//! Recovery in memory, for the tests.
+//! Recovery in memory, as an engine would embed it; and for the tests.
 
-use aries::{Options, Report, recover};
-use device::{MemorySink, MemorySource};
-use page::Fault;
-use redo::Gate;
+use aries::{Fault, Gate, MemorySink, MemorySource, Options, Report, recover};
 use std::alloc::Global;
 use std::thread::Threads;
 
@@ -16,13 +13,15 @@ pub fn recover_in_memory<G: Gate, R: Threads + Sync>(
     options: &Options,
     gate: &G,
 ) -> Result<(Vec<u8>, Vec<u8>, Report), Fault> {
+    let mut log_source = MemorySource::new(log);
+    let mut store_source = MemorySource::new(store);
     let mut out_log = MemorySink::new(alloc);
     let mut out_store = MemorySink::new(alloc);
     let report = recover(
         rt,
         alloc,
-        &mut MemorySource::new(log),
-        &mut MemorySource::new(store),
+        &mut log_source,
+        &mut store_source,
         &mut out_log,
         &mut out_store,
         options,

@@ -1,4 +1,4 @@
--- A record of the program, and one as it lies in the bytes of a log, as the laws see them.
+-- A record of the program, and one as it lies in the bytes of a log, as the laws see them (own).
 use Rattle.std.specs.Prelude.{◌≡◌, ℕ, List, ◌++◌, map, option_map}
 use Rattle.wal.specs.declared.record.Entry.{Entry}
 use Rattle.wal.specs.declared.record.Record.{Record}

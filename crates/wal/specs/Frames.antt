@@ -1,4 +1,4 @@
--- Reading the frames of a log from left to right, with the first fault that is met.
+-- Reading the frames of a log from left to right, with the first fault that is met (own).
 use Rattle.std.specs.Prelude.{◌≡◌, ℕ, zero, suc, ◌+◌, ◌*◌, ◌≤◌, true, All, ◌||◌, List, [], ◌∷◌, length, take, drop, Option, Some, None, Result, Ok, Err, nat_lt, ◌==◌, if◌then◌else◌, is_some, option_map, unwrap_or}
 use Rattle.std.specs.Int.{w32, from_be_bytes}
 use Rattle.page.specs.declared.fault.Fault.{Fault}

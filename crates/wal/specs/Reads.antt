@@ -1,4 +1,4 @@
--- What a log file is: the header, the spellings of its records with the LSNs behind its base LSN, and a torn tail.
+-- What a log file is: the header, the spellings of its records with the LSNs behind its base LSN, and a torn tail (own).
 use Rattle.std.specs.Prelude.{◌≡◌, ◌≢◌, ℕ, ◌+◌, ◌<◌, ◌≤◌, ◌^◌, List, [], ◌∷◌, ◌++◌, length, drop, ◌⊎◌}
 use Rattle.std.specs.List.{AllByRecursion}
 use Rattle.wal.specs.declared.header.LogStart.{LogStart}

@@ -1,4 +1,4 @@
--- What is proved of the definitions alone.
+-- What is proved of the definitions alone (own).
 use Rattle.std.specs.Prelude.{suc, ◌≡◌, ◌↔◌, ◌≤◌, ◌<◌, ℕ, List, [], length, slice_index_or, true, false, Option, Some, filter, map, All}
 use Rattle.page.specs.declared.page.Page.{Page}
 use Rattle.page.specs.Store.{StoreContent, AreNumbered}

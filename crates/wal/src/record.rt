@@ -34,8 +34,8 @@ pub struct Entry {
     pub undo_next: u64,
 }
 
-/// A record of the log, with what it holds. LSNs are numbers from 1; 0 stands for none. A value is
-/// None where the slot is absent.
+/// A record of the log, with what it holds. LSNs are numbers from 1, the first of a log being that
+/// behind its base LSN; 0 stands for none. A value is None where the slot is absent.
 #[derive(Drop)]
 pub enum Record {
     /// A transaction changed a slot of a page, from the value before to the value after. `prev` is

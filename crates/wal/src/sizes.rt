@@ -33,7 +33,8 @@ pub const SMALLEST_BODY: usize = 1 + LSN_BYTES;
 /// How many bytes the smallest frame takes: the length of its body, and the body.
 pub const SMALLEST_FRAME: usize = 4 + SMALLEST_BODY;
 
-/// How many bytes the body of a commit, an abort or an end takes: kind, LSN, transaction, PrevLSN.
+/// How many bytes the body of a commit, an abort, an end or a prepare takes: kind, LSN, transaction,
+/// PrevLSN.
 pub const PLAIN_BODY: usize = SMALLEST_BODY + 4 + LSN_BYTES;
 
 /// How many bytes the body of a checkpoint end takes without its entries: kind, LSN, the LSN of its
