@@ -5,7 +5,7 @@ use Rattle.wal.specs.declared.record.State.TheVariants.{Active}
 use Rattle.wal.specs.Records.{TableEntry, LogRecord, Update, Compensation, Commit, Abort, End, Prepare, History, start, ◌▸◌, last_lsn, first}
 use Rattle.wal.specs.Meaning.{BasePages, state_by, state_at, is_of, is_abort_of, is_prepare_of, has, aborted, prepared, committed, ended, finished, is_unfinished, last_of, undo_next_of}
 use Rattle.wal.specs.Laws.{IsLawful, Obeys}
-use Rattle.wal.specs.Store.{true_entry}
+use Rattle.wal.specs.Checkpoint.{true_entry}
 use Rattle.analysis.specs.Tables.{finishes, work_since, finished_since, undo_next_in, told_in, is_aborting, state_in_work, entry_by, base_since, analysed_entry}
 use Rattle.analysis.specs.Lawful.{unfinished_entry}
 use Rattle.analysis.proofs.Scanned.{state_by-state}

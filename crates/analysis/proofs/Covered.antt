@@ -4,7 +4,7 @@ use Rattle.std.proofs.lemmas.Bool.{cases_Bool, cases_lt, and_from, and_parts, le
 use Rattle.wal.specs.Records.{LogRecord, History, start, ◌▸◌, last_lsn, record_at, base_lsn}
 use Rattle.wal.specs.Meaning.{is_on}
 use Rattle.wal.specs.Redo.{rec_lsn_of}
-use Rattle.wal.specs.Store.{or_else, DirtyLaw}
+use Rattle.wal.specs.Checkpoint.{or_else, DirtyLaw}
 use Rattle.analysis.specs.Tables.{first_behind, analysed_rec_lsn, redo_lsn_of}
 use Rattle.wal.specs.Theorems.{IsReached}
 use Rattle.analysis.proofs.Smallest.{not_below}

@@ -8,7 +8,7 @@ use Rattle.std.proofs.lemmas.Bool.{cases_Bool}
 use Rattle.wal.specs.declared.record.Entry.{Entry}
 use Rattle.wal.specs.Content.{entry_of}
 use Rattle.wal.specs.Redo.{rec_lsn_of}
-use Rattle.wal.specs.Store.{or_else}
+use Rattle.wal.specs.Checkpoint.{or_else}
 use Rattle.wal.specs.Undo.{entry_for}
 use Rattle.wal.proofs.Entries.{is_eq-nat_cmp, entry_for-lookup}
 use Rattle.std.proofs.lemmas.List.{get_or-set_other}

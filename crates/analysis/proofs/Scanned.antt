@@ -6,7 +6,7 @@ use Rattle.wal.specs.declared.record.State.TheVariants.{Active, Prepared, Aborti
 use Rattle.wal.specs.Records.{TableEntry, LogRecord, Update, Abort, Prepare, CheckpointBegin, CheckpointEnd, History, start, ◌▸◌, last_lsn, base_lsn}
 use Rattle.wal.specs.Meaning.{state_by, is_of, is_abort_of, is_prepare_of, is_on}
 use Rattle.wal.specs.Undo.{is_prepared}
-use Rattle.wal.specs.Store.{or_else}
+use Rattle.wal.specs.Checkpoint.{or_else}
 use Rattle.analysis.specs.Tables.{work_since, finished_since, base_since, undo_next_in, told_in, is_aborting, state_in_work, entry_by, analysed_entry, first_behind, analysed_rec_lsn}
 use Rattle.analysis.specs.Steps.{prepared_from, state_in, undo_next_of_entry, entry_after, rec_lsn_after, entry_seen}
 use Rattle.wal.specs.declared.glance.Glance.{Glance}

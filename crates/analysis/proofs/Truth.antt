@@ -7,7 +7,8 @@ use Rattle.page.specs.Store.{StoreContent}
 use Rattle.wal.specs.Meaning.{BasePages}
 use Rattle.wal.specs.Records.{TableEntry, LogRecord, History, LogContent, history, last_lsn, record_at, first}
 use Rattle.wal.specs.Redo.{rec_lsn_of}
-use Rattle.wal.specs.Store.{checkpoint_at, true_table, DirtyLaw, CheckpointLaw, Lawful}
+use Rattle.wal.specs.Checkpoint.{checkpoint_at, true_table, DirtyLaw, CheckpointLaw}
+use Rattle.wal.specs.Store.{Lawful}
 use Rattle.wal.proofs.Histories.{record_none, first_none}
 use Rattle.wal.proofs.Checkpoints.{checkpoint_within}
 use Rattle.wal.proofs.Undone.{true_entry_for}

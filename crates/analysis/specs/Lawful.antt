@@ -3,7 +3,7 @@ use Rattle.std.specs.Prelude.{◌≡◌, ℕ, All, Option, Some, None, if◌then
 use Rattle.page.specs.Store.{StoreContent}
 use Rattle.wal.specs.Records.{TableEntry, History, LogContent, history}
 use Rattle.wal.specs.Meaning.{is_unfinished}
-use Rattle.wal.specs.Store.{true_entry, true_table}
+use Rattle.wal.specs.Checkpoint.{true_entry, true_table}
 use Rattle.wal.specs.Theorems.{ReachesAll}
 use Rattle.analysis.specs.Tables.{TablesContent}
 

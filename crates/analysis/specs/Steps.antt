@@ -1,5 +1,5 @@
 -- What one record more does to the tables (ARIES section 6.1, the analysis pass).
-use Rattle.std.specs.Prelude.{◌≡◌, ℕ, ◌%◌, nat_lt, ◌||◌, Bool, true, false, List, slice_index_or, Option, Some, None, is_some, ◌==◌, if◌then◌else◌}
+use Rattle.std.specs.Prelude.{◌≡◌, ℕ, ◌%◌, nat_lt, ◌||◌, Bool, true, false, List, slice_index_or, Option, Some, None, is_some, ◌==◌, if◌then◌else◌, ◌≢◌}
 use Rattle.wal.specs.declared.record.State.{State}
 use Rattle.wal.specs.declared.record.State.TheVariants.{Active, Prepared, Aborting}
 use Rattle.wal.specs.Records.{TableEntry, LogRecord, Update, Compensation, Commit, Abort, End, Prepare}
@@ -8,7 +8,7 @@ use Rattle.wal.specs.declared.glance.Glance.TheVariants as seen
 use Rattle.wal.specs.Glances.{owner_seen}
 use Rattle.wal.specs.Meaning.{is_owned_by, is_of, is_on}
 use Rattle.wal.specs.Redo.{rec_lsn_of}
-use Rattle.wal.specs.Store.{or_else}
+use Rattle.wal.specs.Checkpoint.{or_else}
 use Rattle.wal.specs.Content.{entry_of}
 use Rattle.wal.specs.declared.record.Entry.{Entry}
 use Rattle.analysis.specs.Tables.{entry_at}
@@ -84,7 +84,7 @@ AreKept kept = (place : ℕ) (p : ℕ × Entry) → slice_index_or kept place No
 
 -- the entry that is kept at the place of tx stands in the table, if it is another's
 pub record IsMoved (tx : ℕ) (kept : List (Option (ℕ × Entry))) (old new : List (ℕ × Entry)) : Type 0 where
-  pub here : (t : ℕ) → (t ≡ tx → ⊥) → t % PLACES ≡ tx % PLACES → entry_at t new ≡ held_entry t kept old
+  pub here : (t : ℕ) → (t ≢ tx) → t % PLACES ≡ tx % PLACES → entry_at t new ≡ held_entry t kept old
   pub elsewhere : (t : ℕ) → (t % PLACES ≡ tx % PLACES → ⊥) → entry_at t new ≡ entry_at t old
 
 -- the smaller of the smallest so far, 0 for none, and another

@@ -1,5 +1,5 @@
 -- TABLES-OF. What analysis finds from a checkpoint on: last and first records, not a scan (own, for every log).
-use Rattle.std.specs.Prelude.{◌≡◌, ℕ, suc, List, [], ◌∷◌, Option, Some, None, Bool, true, false, ◌||◌, ◌&&◌, ◌==◌, nat_lt, nat_le, min, max, map, if◌then◌else◌}
+use Rattle.std.specs.Prelude.{◌≡◌, ℕ, suc, List, [], ◌∷◌, Option, Some, None, Bool, true, false, ◌||◌, ◌&&◌, ◌==◌, nat_lt, nat_le, min, max, map, if◌then◌else◌, ⊤}
 use Rattle.page.specs.declared.fault.Fault.{Fault}
 use Rattle.page.specs.declared.fault.Fault.TheVariants.{NoResource, BadMaster}
 use Rattle.page.specs.Causes.{HasOneCause, HasNoCause}
@@ -10,7 +10,7 @@ use Rattle.wal.specs.Records.{TableEntry, LogRecord, Update, Compensation, Histo
 use Rattle.wal.specs.Meaning.{state_by, is_of, is_commit_of, is_abort_of, is_end_of, is_prepare_of, is_on}
 use Rattle.wal.specs.Redo.{rec_lsn_of}
 use Rattle.wal.specs.Undo.{entry_for, is_prepared, lost_in}
-use Rattle.wal.specs.Store.{or_else, checkpoint_at}
+use Rattle.wal.specs.Checkpoint.{or_else, checkpoint_at}
 use Rattle.wal.specs.Content.{entry_of}
 use Rattle.wal.specs.Spelling.{IsRising}
 
@@ -125,7 +125,7 @@ pub record IsBase (m : ℕ) (log : History) (entries : List (ℕ × Entry)) (pag
 
 -- why there is no base, memory aside: the master is not 0, and its record is no begin or no later end names it
 abbrev pub BaseFault : ℕ → History → Fault → Type 0
-BaseFault m log NoResource = Unit {0}
+BaseFault m log NoResource = ⊤
 BaseFault m log BadMaster = base_of m log ≡ None
 BaseFault m log e = ⊥
 

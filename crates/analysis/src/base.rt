@@ -1,6 +1,6 @@
 //! The base: the tables of the checkpoint that the master names.
 
-ghost use Rattle.std.specs.Prelude.{◌≡◌, ℕ, Option, Some, None, option_map, IfOk, OnOk, IfErr, IfSome, [], length, drop, ◌<◌, ◌+◌};
+ghost use Rattle.std.specs.Prelude.{◌≡◌, ℕ, Option, Some, None, option_map, IfOk, OnOk, IfErr, IfSome, [], length, drop, ◌<◌, ◌+◌, IsOkUnless};
 ghost use Rattle.page.specs.declared.fault.Fault.TheVariants.{NoResource};
 ghost use Rattle.wal.specs.Records.{history, record_at};
 ghost use Rattle.wal.specs.Redo.{rec_lsn_of};
@@ -19,8 +19,10 @@ fn put_transaction(
     place: usize,
 ) -> Result<(), Fault>
     requires { place < length table.now }
-    ensures ok { OnOk result (((t : ℕ) → entry_at t map.old.entries ≡ entry_for t (drop (place + 1) table.now)) → (t : ℕ) → entry_at t map.new.entries ≡ entry_for t (drop place table.now)) }
-    ensures err { IfErr result (λ e. e ≡ NoResource) }
+    ensures ok { OnOk result (((t : ℕ) → entry_at t map.old.entries
+        ≡ entry_for t (drop (place + 1) table.now)) → (t : ℕ)
+        → entry_at t map.new.entries ≡ entry_for t (drop place table.now)) }
+    ensures err { IsOkUnless result NoResource }
 {
     let (tx, entry) = table.entry(place);
     map.insert(tx, entry)?;
@@ -30,7 +32,7 @@ fn put_transaction(
 /// The entries of a lent table as a map.
 fn transactions_of(alloc: Global, table: &TransactionTable) -> Result<BTreeMap<u32, Entry>, Fault>
     ensures ok { IfOk result (λ map. (t : ℕ) → entry_at t map.entries ≡ entry_for t table.now) }
-    ensures err { IfErr result (λ e. e ≡ NoResource) }
+    ensures err { IsOkUnless result NoResource }
 {
     let count = table.len();
     let mut map = BTreeMap::new(alloc);
@@ -43,8 +45,10 @@ fn transactions_of(alloc: Global, table: &TransactionTable) -> Result<BTreeMap<u
 /// Puts the entry at a place of a lent table over those behind it.
 fn put_page(map: &mut BTreeMap<u32, u64>, table: &DirtyTable, place: usize) -> Result<(), Fault>
     requires { place < length table.now }
-    ensures ok { OnOk result (((p : ℕ) → rec_lsn_of p map.old.entries ≡ rec_lsn_of p (drop (place + 1) table.now)) → (p : ℕ) → rec_lsn_of p map.new.entries ≡ rec_lsn_of p (drop place table.now)) }
-    ensures err { IfErr result (λ e. e ≡ NoResource) }
+    ensures ok { OnOk result (((p : ℕ) → rec_lsn_of p map.old.entries
+        ≡ rec_lsn_of p (drop (place + 1) table.now)) → (p : ℕ)
+        → rec_lsn_of p map.new.entries ≡ rec_lsn_of p (drop place table.now)) }
+    ensures err { IsOkUnless result NoResource }
 {
     let (page, rec_lsn) = table.entry(place);
     map.insert(page, rec_lsn)?;
@@ -52,9 +56,9 @@ fn put_page(map: &mut BTreeMap<u32, u64>, table: &DirtyTable, place: usize) -> R
 }
 
 /// The entries of a lent table as a map.
-fn pages_of(alloc: Global, table: &DirtyTable) -> Result<BTreeMap<u32, u64>, Fault>
+fn dirty_pages_of(alloc: Global, table: &DirtyTable) -> Result<BTreeMap<u32, u64>, Fault>
     ensures ok { IfOk result (λ map. (p : ℕ) → rec_lsn_of p map.entries ≡ rec_lsn_of p table.now) }
-    ensures err { IfErr result (λ e. e ≡ NoResource) }
+    ensures err { IsOkUnless result NoResource }
 {
     let count = table.len();
     let mut map = BTreeMap::new(alloc);
@@ -73,7 +77,7 @@ pub fn base(
     master: u64,
 ) -> Result<(BTreeMap<u32, Entry>, BTreeMap<u32, u64>), Fault>
     ensures found { IfOk result (λ x. IsBase master (history log.now) x.0.entries x.1.entries) }
-    ensures numbered { IfOk result (λ x. entry_at 0 x.0.entries ≡ None) }
+    ensures no_transaction_0 { IfOk result (λ x. entry_at 0 x.0.entries ≡ None) }
     ensures fault { IfErr result (BaseFault master (history log.now)) }
 {
     if master == 0 {
@@ -83,6 +87,6 @@ pub fn base(
         return Err(Fault::BadMaster);
     };
     let transactions = transactions_of(alloc, &transactions)?;
-    let dirty = pages_of(alloc, &dirty)?;
+    let dirty = dirty_pages_of(alloc, &dirty)?;
     Ok((transactions, dirty))
 }

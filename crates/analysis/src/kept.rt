@@ -1,7 +1,7 @@
 //! The transaction table during the scan: of 256 transactions the entries are kept aside, each at
 //! the place of its transaction's number modulo 256, where it is found at once.
 
-ghost use Rattle.std.specs.Prelude.{◌≡◌, ℕ, List, OnOk, IfErr, if◌then◌else◌, ◌==◌, Some, None};
+ghost use Rattle.std.specs.Prelude.{◌≡◌, ℕ, List, OnOk, if◌then◌else◌, ◌==◌, Some, None, IsOkUnless, ◌≢◌};
 ghost use Rattle.page.specs.declared.fault.Fault.TheVariants.{NoResource};
 ghost use Rattle.wal.specs.declared.record.Entry.{Entry};
 ghost use Rattle.wal.specs.Content.{entry_of};
@@ -22,7 +22,8 @@ pub fn entry_in(
     tx: u32,
 ) -> Entry
     ensures state { result.state ≡ state_in (held_entry tx kept.now transactions.now.entries) }
-    ensures undo_next { result.undo_next ≡ undo_next_of_entry (held_entry tx kept.now transactions.now.entries) }
+    ensures undo_next { result.undo_next
+        ≡ undo_next_of_entry (held_entry tx kept.now transactions.now.entries) }
 {
     if let Some((own, entry)) = kept[tx as usize % PLACES] {
         if own == tx {
@@ -41,8 +42,9 @@ pub fn entry_in(
 
 /// Puts the entry of a transaction.
 fn put(transactions: &mut BTreeMap<u32, Entry>, tx: u32, entry: Entry) -> Result<(), Fault>
-    ensures ok { OnOk result ((t : ℕ) → entry_at t transactions.new.entries ≡ (if tx == t then Some (entry_of (t, entry)) else entry_at t transactions.old.entries)) }
-    ensures err { IfErr result (λ e. e ≡ NoResource) }
+    ensures ok { OnOk result ((t : ℕ) → entry_at t transactions.new.entries
+        ≡ (if tx == t then Some (entry_of (t, entry)) else entry_at t transactions.old.entries)) }
+    ensures err { IsOkUnless result NoResource }
 {
     transactions.insert(tx, entry)?;
     Ok(())
@@ -55,8 +57,9 @@ fn make_place(
     tx: u32,
 ) -> Result<(), Fault>
     requires { AreKept kept.now }
-    ensures ok { OnOk result (IsMoved tx kept.now transactions.old.entries transactions.new.entries) }
-    ensures err { IfErr result (λ e. e ≡ NoResource) }
+    ensures ok { OnOk result
+        (IsMoved tx kept.now transactions.old.entries transactions.new.entries) }
+    ensures err { IsOkUnless result NoResource }
 {
     if let Some((own, entry)) = kept[tx as usize % PLACES] {
         if own != tx {
@@ -74,9 +77,11 @@ pub fn keep(
     entry: Entry,
 ) -> Result<(), Fault>
     requires { AreKept kept.old }
-    ensures ok { OnOk result ((t : ℕ) → held_entry t kept.new transactions.new.entries ≡ (if tx == t then Some (entry_of (t, entry)) else held_entry t kept.old transactions.old.entries)) }
+    ensures ok { OnOk result ((t : ℕ) → held_entry t kept.new transactions.new.entries
+        ≡ (if tx == t then Some (entry_of
+        (t, entry)) else held_entry t kept.old transactions.old.entries)) }
     ensures kept { AreKept kept.new }
-    ensures err { IfErr result (λ e. e ≡ NoResource) }
+    ensures err { IsOkUnless result NoResource }
 {
     make_place(transactions, kept, tx)?;
     kept[tx as usize % PLACES] = Some((tx, entry));
@@ -86,8 +91,10 @@ pub fn keep(
 /// Keeps no entry of a transaction.
 fn forget(kept: &mut [Option<(u32, Entry)>; PLACES], tx: u32)
     requires { AreKept kept.old }
-    ensures other { (t : ℕ) (entries : List (ℕ × Entry)) → (t ≡ tx → ⊥) → held_entry t kept.new entries ≡ held_entry t kept.old entries }
-    ensures own { (entries : List (ℕ × Entry)) → held_entry tx kept.new entries ≡ entry_at tx entries }
+    ensures other { (t : ℕ) (entries : List (ℕ × Entry)) → (t ≢ tx)
+        → held_entry t kept.new entries ≡ held_entry t kept.old entries }
+    ensures own { (entries : List (ℕ × Entry)) → held_entry tx kept.new entries
+        ≡ entry_at tx entries }
     ensures kept { AreKept kept.new }
 {
     let place = tx as usize % PLACES;
@@ -105,7 +112,8 @@ pub fn finish(
     tx: u32,
 )
     requires { AreKept kept.old }
-    ensures entries { (t : ℕ) → held_entry t kept.new transactions.new.entries ≡ (if tx == t then None else held_entry t kept.old transactions.old.entries) }
+    ensures entries { (t : ℕ) → held_entry t kept.new transactions.new.entries
+        ≡ (if tx == t then None else held_entry t kept.old transactions.old.entries) }
     ensures kept { AreKept kept.new }
 {
     forget(kept, tx);
@@ -118,8 +126,9 @@ pub fn put_back(
     kept: &[Option<(u32, Entry)>; PLACES],
 ) -> Result<(), Fault>
     requires { AreKept kept.now }
-    ensures ok { OnOk result ((t : ℕ) → entry_at t transactions.new.entries ≡ held_entry t kept.now transactions.old.entries) }
-    ensures err { IfErr result (λ e. e ≡ NoResource) }
+    ensures ok { OnOk result ((t : ℕ) → entry_at t transactions.new.entries
+        ≡ held_entry t kept.now transactions.old.entries) }
+    ensures err { IsOkUnless result NoResource }
 {
     for place in 0..PLACES {
         if let Some((tx, entry)) = kept[place] {

@@ -52,9 +52,10 @@ fn redo_lsn_of(first: u64, dirty: &BTreeMap<u32, u64>) -> u64
 pub fn analyse(alloc: Global, log: &Log, master: u64) -> Result<Tables, Fault>
     ensures tables { IfOk result (AreTablesOf log.now master) }
     // On a lawful log and its store: exactly the unfinished transactions, and no record that an image lacks is skipped.
-    ensures lawful { (over : BasePages) (store : StoreContent) → Lawful over log.now store → store.master ≡ master → IfOk result (AreTrue log.now store) }
+    ensures lawful { (over : BasePages) (store : StoreContent) → Lawful over log.now store
+        → store.master ≡ master → IfOk result (AreTrue log.now store) }
     // No record and no checkpoint that was read names transaction 0: the grammar of logs forbids it.
-    ensures numbered { IfOk result (λ tables. entry_for 0 tables.transactions ≡ None) }
+    ensures no_transaction_0 { IfOk result (λ tables. entry_for 0 tables.transactions ≡ None) }
     ensures fault { IfErr result (BaseFault master (history log.now)) }
 {
     let (mut transactions, mut dirty) = base(alloc, log, master)?;

@@ -1,12 +1,12 @@
 //! The scan: what each record does to the tables.
 
-ghost use Rattle.std.specs.Prelude.{◌≡◌, ℕ, IfOk, OnOk, IfErr, nat_eq, if◌then◌else◌, ◌==◌, Some, None, Option, true, false, slice_index_or, slice_set};
+ghost use Rattle.std.specs.Prelude.{◌≡◌, ℕ, IfOk, OnOk, nat_eq, if◌then◌else◌, ◌==◌, Some, None, Option, true, false, slice_index_or, slice_set, IsOkUnless};
 ghost use Rattle.page.specs.declared.fault.Fault.TheVariants.{NoResource};
 ghost use Rattle.wal.specs.Content.{entry_of};
 ghost use Rattle.wal.specs.Records.{LogRecord, TableEntry, history};
 ghost use Rattle.wal.specs.Glances.{glance_of};
 ghost use Rattle.wal.specs.Redo.{rec_lsn_of};
-ghost use Rattle.wal.specs.Store.{or_else};
+ghost use Rattle.wal.specs.Checkpoint.{or_else};
 ghost use Rattle.analysis.specs.Tables.{entry_at, analysed_entry, analysed_rec_lsn};
 ghost use Rattle.analysis.specs.Steps.{prepared_from, entry_seen, rec_lsn_after, AreListed, held_entry, AreKept};
 
@@ -41,9 +41,10 @@ fn note_transaction(
     lsn: u64,
 ) -> Result<(), Fault>
     requires { AreKept kept.old }
-    ensures ok { OnOk result ((t : ℕ) → held_entry t kept.new transactions.new.entries ≡ entry_seen lsn glance t (held_entry t kept.old transactions.old.entries)) }
+    ensures ok { OnOk result ((t : ℕ) → held_entry t kept.new transactions.new.entries
+        ≡ entry_seen lsn glance t (held_entry t kept.old transactions.old.entries)) }
     ensures kept { AreKept kept.new }
-    ensures err { IfErr result (λ e. e ≡ NoResource) }
+    ensures err { IsOkUnless result NoResource }
 {
     match glance {
         Glance::Update { tx, .. } => {
@@ -86,8 +87,9 @@ fn note_transaction(
 
 /// Lists a page from this LSN on, if it is not listed.
 fn list_page(dirty: &mut BTreeMap<u32, u64>, page: u32, lsn: u64) -> Result<(), Fault>
-    ensures ok { OnOk result ((p : ℕ) → rec_lsn_of p dirty.new.entries ≡ or_else (rec_lsn_of p dirty.old.entries) (if page == p then Some lsn else None)) }
-    ensures err { IfErr result (λ e. e ≡ NoResource) }
+    ensures ok { OnOk result ((p : ℕ) → rec_lsn_of p dirty.new.entries
+        ≡ or_else (rec_lsn_of p dirty.old.entries) (if page == p then Some lsn else None)) }
+    ensures err { IsOkUnless result NoResource }
 {
     if !dirty.contains_key(&page) {
         dirty.insert(page, lsn)?;
@@ -122,9 +124,10 @@ fn list_unknown(
     lsn: u64,
 ) -> Result<(), Fault>
     requires { AreListed known.old dirty.old.entries }
-    ensures ok { OnOk result ((p : ℕ) → rec_lsn_of p dirty.new.entries ≡ or_else (rec_lsn_of p dirty.old.entries) (if page == p then Some lsn else None)) }
+    ensures ok { OnOk result ((p : ℕ) → rec_lsn_of p dirty.new.entries
+        ≡ or_else (rec_lsn_of p dirty.old.entries) (if page == p then Some lsn else None)) }
     ensures known { OnOk result (AreListed known.new dirty.new.entries) }
-    ensures err { IfErr result (λ e. e ≡ NoResource) }
+    ensures err { IsOkUnless result NoResource }
 {
     if is_known(known, page) {
         return Ok(());
@@ -142,9 +145,10 @@ fn note_page(
     lsn: u64,
 ) -> Result<(), Fault>
     requires { AreListed known.old dirty.old.entries }
-    ensures ok { OnOk result ((r : LogRecord) → glance ≡ glance_of r → (p : ℕ) → rec_lsn_of p dirty.new.entries ≡ rec_lsn_after lsn r p (rec_lsn_of p dirty.old.entries)) }
+    ensures ok { OnOk result ((r : LogRecord) → glance ≡ glance_of r → (p : ℕ)
+        → rec_lsn_of p dirty.new.entries ≡ rec_lsn_after lsn r p (rec_lsn_of p dirty.old.entries)) }
     ensures known { OnOk result (AreListed known.new dirty.new.entries) }
-    ensures err { IfErr result (λ e. e ≡ NoResource) }
+    ensures err { IsOkUnless result NoResource }
 {
     if let Some((page, _)) = glance.cell() {
         list_unknown(dirty, known, page, lsn)?;
@@ -159,12 +163,14 @@ pub fn scan(
     transactions: &mut BTreeMap<u32, Entry>,
     dirty: &mut BTreeMap<u32, u64>,
 ) -> Result<(), Fault>
-    ensures entries { OnOk result ((t : ℕ) (base : Option TableEntry) → entry_at t transactions.old.entries ≡ base
+    ensures entries { OnOk result ((t : ℕ) (base : Option TableEntry)
+        → entry_at t transactions.old.entries ≡ base
         → entry_at t transactions.new.entries ≡ analysed_entry t master base (history log.now)) }
     ensures pages { OnOk result ((p : ℕ) (base : Option ℕ) → rec_lsn_of p dirty.old.entries ≡ base
         → rec_lsn_of p dirty.new.entries ≡ analysed_rec_lsn p master base (history log.now)) }
-    ensures numbered { OnOk result (entry_at 0 transactions.old.entries ≡ None → entry_at 0 transactions.new.entries ≡ None) }
-    ensures err { IfErr result (λ e. e ≡ NoResource) }
+    ensures no_transaction_0 { OnOk result (entry_at 0 transactions.old.entries ≡ None
+        → entry_at 0 transactions.new.entries ≡ None) }
+    ensures err { IsOkUnless result NoResource }
 {
     let mut known = [false; PAGES];
     let mut kept = [None; PLACES];

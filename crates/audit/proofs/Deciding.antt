@@ -7,8 +7,8 @@ use Rattle.wal.specs.Laws.{IsLawful, Compensates, Strictness}
 use Rattle.wal.specs.Tail.{tx_of}
 use Rattle.wal.proofs.Histories.{record_none}
 use Rattle.wal.proofs.Holders.{held, strict_from_holder}
-use Rattle.audit.specs.declared.standing.Standing.{Standing}
-use Rattle.audit.specs.Standings.{Linked, Stands}
+use Rattle.audit.specs.declared.status.Status.{Status}
+use Rattle.audit.specs.Statuses.{Linked, IsStatusOf}
 use Rattle.audit.specs.Cells.{image_or, last_write}
 use Rattle.audit.specs.Passing.{Begins, Undoes, IsFreeFor}
 use Rattle.audit.proofs.Unfinished.{begun_already, prepared_has}
@@ -22,7 +22,7 @@ cell_value base content log page slot w begins e =
     ∙ image_in_last base page slot log
 
 -- COMPENSATION
-module _ (content : LogContent) (log : History) (links : List ℕ) (c : CompensationRecord) (s : Standing) (begins : Begins log content) (len : base_lsn log + length links ≡ last_lsn log) (h : Stands links c.tx log s) where
+module _ (content : LogContent) (log : History) (links : List ℕ) (c : CompensationRecord) (s : Status) (begins : Begins log content) (len : base_lsn log + length links ≡ last_lsn log) (h : IsStatusOf links c.tx log s) where
   abbrev pub HasUndone : Type 0
   HasUndone = (r : LogRecord) × (record_at (history content) s.newest ≡ Some r) × Undoes r c.page c.slot c.undo_next c.image
 
@@ -57,18 +57,18 @@ empty_stack : (base : ℕ) (links stack : List ℕ) (top : ℕ) → Linked base 
 empty_stack base links [] top l e = refl
 empty_stack base links (n ∷ ns) top l e = absurd (let a : top ≡ n = l.0 in let b : base < n = l.1 in omega arith)
 
-pub end_allowed : (links : List ℕ) (t : ℕ) (log : History) (s : Standing) → Stands links t log s → s.newest ≡ 0 → pending t log ≡ []
+pub end_allowed : (links : List ℕ) (t : ℕ) (log : History) (s : Status) → IsStatusOf links t log s → s.newest ≡ 0 → pending t log ≡ []
 end_allowed links t log s h e = empty_stack (base_lsn log) links (pending t log) s.newest h.pending e
 
-pub end_needs : (links : List ℕ) (t : ℕ) (log : History) (s : Standing) → Stands links t log s → pending t log ≡ [] → s.newest ≡ 0
+pub end_needs : (links : List ℕ) (t : ℕ) (log : History) (s : Status) → IsStatusOf links t log s → pending t log ≡ [] → s.newest ≡ 0
 end_needs links t log s h e = (let l : Linked (base_lsn log) links [] s.newest = subst (λ x. Linked (base_lsn log) links x s.newest) e h.pending in l)
 
 -- STRICTNESS
-module _ (base : BasePages) (log : History) (lawful : IsLawful base log) (links : List ℕ) (standing : ℕ → Standing) (stands : (t : ℕ) → Stands links t log (standing t)) (u : UpdateRecord) where
-  finished_is : (t : ℕ) → ((standing t).committed || (standing t).ended) ≡ finished t log
+module _ (base : BasePages) (log : History) (lawful : IsLawful base log) (links : List ℕ) (status : ℕ → Status) (stands : (t : ℕ) → IsStatusOf links t log (status t)) (u : UpdateRecord) where
+  finished_is : (t : ℕ) → ((status t).committed || (status t).ended) ≡ finished t log
   finished_is t = ap₂ (λ x y. x || y) (stands t).committed (stands t).ended
 
-  pub free_strict : (o : Option LogRecord) → record_at log (last_write u.page u.slot log) ≡ o → IsFreeFor standing o u.tx → Strictness log (Update u)
+  pub free_strict : (o : Option LogRecord) → record_at log (last_write u.page u.slot log) ≡ o → IsFreeFor status o u.tx → Strictness log (Update u)
   free_strict None e f = strict_from_holder base log lawful u (λ t held_by. let p = holder_wrote u.page u.slot t log held_by in let q : record_at log (last_write u.page u.slot log) ≡ Some p.0 = p.1 in absurd (cc))
   free_strict (Some r) e f =
       strict_from_holder base log lawful u
@@ -82,7 +82,7 @@ module _ (base : BasePages) (log : History) (lawful : IsLawful base log) (links 
         | inr i ↦ absurd (both_ways (finished t log) (held base log lawful u.page u.slot t held_by).0 (ap (λ x. finished x log) (sym own) ∙ sym (finished_is (tx_of r)) ∙ i))
       ])
 
-  pub strict_free : (o : Option LogRecord) → record_at log (last_write u.page u.slot log) ≡ o → Strictness log (Update u) → IsFreeFor standing o u.tx
+  pub strict_free : (o : Option LogRecord) → record_at log (last_write u.page u.slot log) ≡ o → Strictness log (Update u) → IsFreeFor status o u.tx
   strict_free None e s = tt
   strict_free (Some r) e s =
       elim (cases_eq (tx_of r) u.tx) [
@@ -102,7 +102,7 @@ pub neither : (a b x y : Bool) → a ≡ x → b ≡ y → a ≡ false
     → (not b ≡ true → (x ≡ false) × (y ≡ false)) × ((x ≡ false) × (y ≡ false) → not b ≡ true)
 neither a b x y e f n = (λ k. (sym e ∙ n, (not_is b y f).0 k), λ p. (not_is b y f).1 p.1)
 
-module _ (links : List ℕ) (t : ℕ) (log : History) (s : Standing) (h : Stands links t log s) where
+module _ (links : List ℕ) (t : ℕ) (log : History) (s : Status) (h : IsStatusOf links t log s) where
   pub stands_finished : (s.committed || s.ended) ≡ finished t log
   stands_finished = ap₂ (λ x y. x || y) h.committed h.ended
 

@@ -1,6 +1,6 @@
 -- A lawful input has no fault.
 use Rattle.std.proofs.Common.{◌+◌, ◌≡◌, ℕ, List, length, Option, Some, None, Result, Ok, Err, refl, sym, ap, subst, ◌∙◌, inl, inr, arith}
-use Rattle.std.specs.Prelude.{All, IfErr, slice_get}
+use Rattle.std.specs.Prelude.{All, IfErr, slice_get, ⊤}
 use Rattle.std.proofs.lemmas.Option.{slice_get_within, get_or_from_slice_get}
 use Rattle.page.specs.declared.fault.Fault.{Fault}
 use Rattle.page.specs.declared.fault.Fault.TheVariants.{NoResource, NoSuchPage, Chain, AfterFinish, WrongCompensation, BeforeImage, DirtyWrite, EndTooEarly, PageAheadOfLog, PageImage, BadMaster, TransactionTable, DirtyTable}
@@ -9,7 +9,9 @@ use Rattle.page.specs.Store.{StoreContent}
 use Rattle.wal.specs.Meaning.{BasePages}
 use Rattle.wal.specs.Records.{TableEntry, LogRecord, History, history, LogContent, EachRecord, first, record_at}
 use Rattle.wal.specs.Laws.{Obeys, IsLawful}
-use Rattle.wal.specs.Store.{NamesPages, PageLaw, CheckpointLaw, Lawful, checkpoint_at}
+use Rattle.wal.specs.Pages.{PageLaw}
+use Rattle.wal.specs.Checkpoint.{CheckpointLaw, checkpoint_at}
+use Rattle.wal.specs.Store.{NamesPages, Lawful}
 use Rattle.wal.proofs.Lists.{each_of_lawful}
 use Rattle.audit.specs.FirstFault.{BrokenAt, RecordFault, FirstBroken, BrokenPage, PagesFault, FirstBrokenPage, KeepsDirty, MasterFault, FirstFault, NoFaultOfTheLawful}
 
@@ -98,6 +100,6 @@ fault_kept base log store lawful e f =
           ]
     ]
 
-pub lawful_kept : (base : BasePages) (log : LogContent) (store : StoreContent) (r : Result (Unit {0}) Fault) → Lawful base log store → IfErr r (FirstFault base log store) → IfErr r (λ e. e ≡ NoResource)
+pub lawful_kept : (base : BasePages) (log : LogContent) (store : StoreContent) (r : Result ⊤ Fault) → Lawful base log store → IfErr r (FirstFault base log store) → IfErr r (λ e. e ≡ NoResource)
 lawful_kept base log store (Ok x) lawful f = tt
 lawful_kept base log store (Err e) lawful f = fault_kept base log store lawful e f

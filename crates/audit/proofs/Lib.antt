@@ -1,4 +1,4 @@
-pub mod Standings
+pub mod Statuses
 pub mod Cells
 pub mod Deciding
 pub mod Noting

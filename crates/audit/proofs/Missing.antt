@@ -6,7 +6,8 @@ use Rattle.std.proofs.Math.ListN.{length-set}
 use Rattle.page.specs.declared.page.Page.{Page}
 use Rattle.wal.specs.Records.{LogRecord, Update, Compensation, History, start, ◌▸◌, history, last_lsn, record_at, LogContent, first, base_lsn}
 use Rattle.wal.specs.Meaning.{is_on}
-use Rattle.wal.specs.Store.{NamesPages, DirtyLaw}
+use Rattle.wal.specs.Checkpoint.{DirtyLaw}
+use Rattle.wal.specs.Store.{NamesPages}
 use Rattle.wal.proofs.Histories.{record_last, record_more, record_in_first, size_of_first}
 use Rattle.audit.specs.Pages.{page_lsn}
 use Rattle.audit.specs.Dirty.{first_missing, KeepsMissing, noted_missing, IsInRange, IsCovered}
@@ -33,8 +34,8 @@ module _ (pages : List Page) (log : History) (lsn p : ℕ) (r : LogRecord) (at :
       let e : is_on p r ≡ true = on p ∙ eq-eqb p p refl in
       rw (e, keeps.each p lt, n_is) refl
 
-  pub noted : KeepsMissing pages (log ▸ r) (cond (eqb (get_or ms p 0) 0 && ltb (page_lsn pages p) lsn) (set ms p lsn) ms)
-  noted =
+  pub status_after : KeepsMissing pages (log ▸ r) (cond (eqb (get_or ms p 0) 0 && ltb (page_lsn pages p) lsn) (set ms p lsn) ms)
+  status_after =
       elim (cases_Bool (eqb (get_or ms p 0) 0 && ltb (page_lsn pages p) lsn)) [
         | inl i ↦
             rw i
@@ -75,8 +76,8 @@ idle pages log r ms off keeps =
     }
 
 pub missing_more : (pages : List Page) (log : History) (r : LogRecord) (ms : List ℕ) (lsn : ℕ) → last_lsn log + 1 ≡ lsn → NamesPages (length pages) r → KeepsMissing pages log ms → KeepsMissing pages (log ▸ r) (noted_missing (page_lsn pages) ms r lsn)
-missing_more pages log (Update u) ms lsn at named keeps = noted pages log lsn u.page (Update u) at (λ q. refl) named ms keeps
-missing_more pages log (Compensation u) ms lsn at named keeps = noted pages log lsn u.page (Compensation u) at (λ q. refl) named ms keeps
+missing_more pages log (Update u) ms lsn at named keeps = status_after pages log lsn u.page (Update u) at (λ q. refl) named ms keeps
+missing_more pages log (Compensation u) ms lsn at named keeps = status_after pages log lsn u.page (Compensation u) at (λ q. refl) named ms keeps
 missing_more pages log r ms lsn at named keeps = idle pages log r ms (λ q. refl) keeps
 
 -- WHAT IT IS

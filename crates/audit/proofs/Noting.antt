@@ -9,10 +9,10 @@ use Rattle.wal.specs.Meaning.{owner, is_owned_by, is_of, writes}
 use Rattle.wal.specs.Store.{NamesPages}
 use Rattle.wal.specs.Spelling.{Fits}
 use Rattle.wal.specs.Tail.{number_or_0, tx_of}
-use Rattle.audit.specs.declared.standing.Standing.{Standing}
-use Rattle.audit.specs.Standings.{unknown, Linked, Stands, IsTop}
+use Rattle.audit.specs.declared.status.Status.{Status}
+use Rattle.audit.specs.Statuses.{unknown, Linked, IsStatusOf, IsTop}
 use Rattle.audit.specs.Cells.{last_write, KeepsCells, HasCell, written}
-use Rattle.audit.proofs.Standings.{stands_other}
+use Rattle.audit.proofs.Statuses.{stands_other}
 
 -- STANDINGS
 of_another : (t : ℕ) (r : LogRecord) → eqb (tx_of r) t ≡ false → is_of t r ≡ false
@@ -22,29 +22,29 @@ of_another t r = other (owner r)
     other None e = refl
     other (Some x) e = e
 
-abbrev pub looked : (ℕ → Option Standing) → ℕ → Standing
+abbrev pub looked : (ℕ → Option Status) → ℕ → Status
 looked found t = unwrap_or (found t) unknown
 
-module _ (links : List ℕ) (log : History) (r : LogRecord) (found found' : ℕ → Option Standing) (tx : ℕ) (s' : Standing) (x : ℕ) where
-  pub stands_all : tx ≡ tx_of r → ((t : ℕ) → found' t ≡ cond (eqb tx t) (Some s') (found t)) → Stands (links ++ x ∷ []) (tx_of r) (log ▸ r) s'
-      → ((t : ℕ) → Stands links t log (looked found t)) → (t : ℕ) → Stands (links ++ x ∷ []) t (log ▸ r) (looked found' t)
+module _ (links : List ℕ) (log : History) (r : LogRecord) (found found' : ℕ → Option Status) (tx : ℕ) (s' : Status) (x : ℕ) where
+  pub stands_all : tx ≡ tx_of r → ((t : ℕ) → found' t ≡ cond (eqb tx t) (Some s') (found t)) → IsStatusOf (links ++ x ∷ []) (tx_of r) (log ▸ r) s'
+      → ((t : ℕ) → IsStatusOf links t log (looked found t)) → (t : ℕ) → IsStatusOf (links ++ x ∷ []) t (log ▸ r) (looked found' t)
   stands_all e updated own others t =
       elim (cases_Bool (eqb tx t)) [
         | inl i ↦
             (let at : found' t ≡ Some s' = updated t ∙ rw i refl in
             let is : looked found' t ≡ s' = ap (λ o. unwrap_or o unknown) at in
             let here : tx_of r ≡ t = sym e ∙ eqb-true tx t i in
-            let k : Stands (links ++ x ∷ []) t (log ▸ r) s' = subst (λ n. Stands (links ++ x ∷ []) n (log ▸ r) s') here own in
-            subst (λ s. Stands (links ++ x ∷ []) t (log ▸ r) s) (sym is) k)
+            let k : IsStatusOf (links ++ x ∷ []) t (log ▸ r) s' = subst (λ n. IsStatusOf (links ++ x ∷ []) n (log ▸ r) s') here own in
+            subst (λ s. IsStatusOf (links ++ x ∷ []) t (log ▸ r) s) (sym is) k)
         | inr i ↦
             (let at : found' t ≡ found t = updated t ∙ rw i refl in
             let is : looked found' t ≡ looked found t = ap (λ o. unwrap_or o unknown) at in
-            let k : Stands (links ++ x ∷ []) t (log ▸ r) (looked found t) = stands_other links x t log r (looked found t) (of_another t r (ap (λ n. eqb n t) (sym e) ∙ i)) (others t) in
-            subst (λ s. Stands (links ++ x ∷ []) t (log ▸ r) s) (sym is) k)
+            let k : IsStatusOf (links ++ x ∷ []) t (log ▸ r) (looked found t) = stands_other links x t log r (looked found t) (of_another t r (ap (λ n. eqb n t) (sym e) ∙ i)) (others t) in
+            subst (λ s. IsStatusOf (links ++ x ∷ []) t (log ▸ r) s) (sym is) k)
       ]
 
-pub at_transaction : (links : List ℕ) (log : History) (standing : ℕ → Standing) (t' t : ℕ) (s : Standing) → ((n : ℕ) → Stands links n log (standing n)) → t' ≡ t → s ≡ standing t' → Stands links t log s
-at_transaction links log standing t' t s stands e is = subst (λ x. Stands links t log x) (sym (is ∙ ap standing e)) (stands t)
+pub at_transaction : (links : List ℕ) (log : History) (status : ℕ → Status) (t' t : ℕ) (s : Status) → ((n : ℕ) → IsStatusOf links n log (status n)) → t' ≡ t → s ≡ status t' → IsStatusOf links t log s
+at_transaction links log status t' t s stands e is = subst (λ x. IsStatusOf links t log x) (sym (is ∙ ap status e)) (stands t)
 
 pub is_top : (base : ℕ) (links stack : List ℕ) (top : ℕ) → Linked base links stack top → IsTop base links top
 is_top base links [] top l = inl l

@@ -12,7 +12,9 @@ use Rattle.wal.specs.Meaning.{BasePages}
 use Rattle.wal.specs.Records.{LogRecord, History, history, last_lsn, TableEntry, LogContent, record_at, first}
 use Rattle.wal.specs.Laws.{ChainLaw, FinishLaw, CompensationLaw, BeforeLaw, Strictness, Obeys}
 use Rattle.wal.specs.Tail.{is_end}
-use Rattle.wal.specs.Store.{NamesPages, PageLaw, checkpoint_at}
+use Rattle.wal.specs.Pages.{PageLaw}
+use Rattle.wal.specs.Checkpoint.{checkpoint_at}
+use Rattle.wal.specs.Store.{NamesPages}
 use Rattle.wal.proofs.Histories.{record_in_first, first_first}
 use Rattle.wal.proofs.Lists.{each_of_lawful}
 use Rattle.audit.specs.FirstFault.{BrokenAt, AreSound, RecordFault, FirstBroken, BrokenPage, PagesFault, FirstBrokenPage, KeepsDirty, FirstUncovered, MasterFault, FirstFault, OneFirstFault}

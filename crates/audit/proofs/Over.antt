@@ -1,17 +1,17 @@
 -- The first fault over a base store.
 use Rattle.std.proofs.Common.{◌≡◌, refl, ◌∙◌, sym}
-use Rattle.std.specs.Prelude.{Result, IfErr}
+use Rattle.std.specs.Prelude.{Result, IfErr, ⊤}
 use Rattle.page.specs.declared.fault.Fault.{Fault}
 use Rattle.page.specs.declared.fault.Fault.TheVariants.{NoResource, BadBase}
 use Rattle.page.specs.Store.{StoreContent}
 use Rattle.wal.specs.Records.{LogContent}
-use Rattle.wal.specs.Store.{base_pages}
+use Rattle.wal.specs.Pages.{base_pages}
 use Rattle.audit.specs.FirstFault.{FirstFault}
 use Rattle.audit.specs.Base.{IsBaseOf, LawfulOver, FirstFaultOver, OneFirstFaultOver, NoFaultOfTheLawfulOver}
 use Rattle.audit.proofs.Kept.{lawful_kept, fault_kept}
 use Rattle.audit.proofs.OneFault.{one_first_fault}
 
-pub over_kept : (log : LogContent) (store base : StoreContent) (r : Result (Unit {0}) Fault) → LawfulOver log store base → IfErr r (FirstFault (base_pages base.pages) log store) → IfErr r (λ e. e ≡ NoResource)
+pub over_kept : (log : LogContent) (store base : StoreContent) (r : Result ⊤ Fault) → LawfulOver log store base → IfErr r (FirstFault (base_pages base.pages) log store) → IfErr r (λ e. e ≡ NoResource)
 over_kept log store base r lawful f = lawful_kept (base_pages base.pages) log store r lawful.lawful f
 
 -- a fault is that of the base store, or not

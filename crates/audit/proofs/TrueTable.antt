@@ -7,7 +7,7 @@ use Rattle.std.proofs.lemmas.Option.{slice_get_within, get_or_from_slice_get}
 use Rattle.wal.specs.Records.{TableEntry, tx_in, History}
 use Rattle.wal.specs.Meaning.{is_unfinished}
 use Rattle.wal.specs.Tail.{is_among, numbers_from, above_all, unfinished_of}
-use Rattle.wal.specs.Store.{true_entry, true_table}
+use Rattle.wal.specs.Checkpoint.{true_entry, true_table}
 use Rattle.wal.specs.Spelling.{IsRising}
 use Rattle.wal.proofs.Rising.{RisesFrom, rising_from_0}
 use Rattle.wal.proofs.Filters.{tx_below}

@@ -6,8 +6,8 @@ use Rattle.wal.specs.Meaning.{is_of, is_prepare_of, has, prepared, is_unfinished
 use Rattle.wal.specs.Tail.{tx_of}
 use Rattle.wal.proofs.Histories.{record_last, record_more, record_within}
 use Rattle.wal.proofs.Filters.{is_of_tx}
-use Rattle.audit.specs.declared.standing.Standing.{Standing}
-use Rattle.audit.specs.Standings.{Stands}
+use Rattle.audit.specs.declared.status.Status.{Status}
+use Rattle.audit.specs.Statuses.{IsStatusOf}
 
 -- the last record of a transaction
 pub last_found : (t : ℕ) (log : History) → has (is_of t) log ≡ true → (r : LogRecord) × (record_at log (last_of t log) ≡ Some r) × (tx_of r ≡ t)
@@ -37,7 +37,7 @@ has_some t (log ▸ r) h =
       | inr e ↦ rw e (has_some t log (λ z. h (rw e z)))
     ]
 
-module _ (t : ℕ) (log : History) (links : List ℕ) (s : Standing) (h : Stands links t log s) where
+module _ (t : ℕ) (log : History) (links : List ℕ) (s : Status) (h : IsStatusOf links t log s) where
   pub unfinished_then : (s.last ≡ 0 → ⊥) → (f : Bool) → f ≡ (s.committed || s.ended) → not f ≡ is_unfinished t log
   unfinished_then n f e =
       let some : has (is_of t) log ≡ true = has_some t log (λ z. n (h.last ∙ z)) in

@@ -5,7 +5,8 @@ use Rattle.page.specs.declared.fault.Fault.TheVariants.{BadBase}
 use Rattle.page.specs.Causes.{HasOneCause, HasNoCause}
 use Rattle.page.specs.Store.{StoreContent}
 use Rattle.wal.specs.Records.{LogContent, history, base_lsn}
-use Rattle.wal.specs.Store.{Lawful, base_pages}
+use Rattle.wal.specs.Pages.{base_pages}
+use Rattle.wal.specs.Store.{Lawful}
 use Rattle.audit.specs.FirstFault.{FirstFault}
 
 -- it has as many pages as the store beside the log, and none of them is of a record of the log

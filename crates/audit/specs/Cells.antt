@@ -21,7 +21,7 @@ pub record KeepsCells (count : ℕ) (counts : ℕ → History) (writers : List �
   pub size_is : length writers ≡ SLOTS * count
   pub each : (page slot : ℕ) → page < count → slot < SLOTS → slice_index writers (SLOTS * page + slot) ≡ last_write page slot (counts page)
 
--- the cell of a record, if it has one, is among so many
+-- the cell of a record, if it has one, is below the count
 abbrev pub HasCell : ℕ → LogRecord → Type 0
 HasCell cells r = IfSome (change_of r) (λ c. SLOTS * c.page + c.slot < cells)
 

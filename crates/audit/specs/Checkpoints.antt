@@ -2,7 +2,7 @@
 use Rattle.std.specs.Prelude.{◌≡◌, ℕ, List, Some, true, slice_get}
 use Rattle.wal.specs.Records.{TableEntry, History}
 use Rattle.wal.specs.Meaning.{is_unfinished}
-use Rattle.wal.specs.Store.{true_entry}
+use Rattle.wal.specs.Checkpoint.{true_entry}
 
 -- the entry is of an unfinished transaction, and what is true of it
 abbrev pub IsTrueEntry : History → TableEntry → Type 0

@@ -1,5 +1,5 @@
 -- The first law that a log and a store over base pages break, in the order: the records by LSN, the pages by number, the checkpoint (own).
-use Rattle.std.specs.Prelude.{◌≡◌, ◌<◌, ◌≤◌, ◌⊎◌, ◌+◌, ℕ, suc, List, All, length, take, slice_get, Some, true, false, None}
+use Rattle.std.specs.Prelude.{◌≡◌, ◌<◌, ◌≤◌, ◌⊎◌, ◌+◌, ℕ, suc, List, All, length, take, slice_get, Some, true, false, None, ⊤, ◌≢◌}
 use Rattle.page.specs.declared.fault.Fault.{Fault}
 use Rattle.page.specs.declared.fault.Fault.TheVariants.{NoResource, NoSuchPage, Chain, AfterFinish, WrongCompensation, BeforeImage, DirtyWrite, EndTooEarly, PageAheadOfLog, PageImage, BadMaster, TransactionTable, DirtyTable}
 use Rattle.page.specs.declared.page.Page.{Page}
@@ -7,7 +7,9 @@ use Rattle.wal.specs.Records.{LogRecord, TableEntry, History, LogContent, histor
 use Rattle.wal.specs.Meaning.{BasePages}
 use Rattle.wal.specs.Laws.{ChainLaw, FinishLaw, CompensationLaw, BeforeLaw, Strictness, IsLawful}
 use Rattle.wal.specs.Tail.{is_end}
-use Rattle.wal.specs.Store.{NamesPages, PageLaw, DirtyLaw, Lawful, checkpoint_at, true_table}
+use Rattle.wal.specs.Pages.{PageLaw}
+use Rattle.wal.specs.Checkpoint.{DirtyLaw, checkpoint_at, true_table}
+use Rattle.wal.specs.Store.{NamesPages, Lawful}
 use Rattle.wal.specs.Redo.{rec_lsn_of}
 use Rattle.page.specs.Causes.{HasOneCause, HasNoCause}
 use Rattle.page.specs.Store.{StoreContent}
@@ -42,7 +44,7 @@ pub record FirstBroken (base : BasePages) (count : ℕ) (log : History) (e : Fau
 
 -- why the records are refused, want of memory aside
 abbrev pub RecordFault : BasePages → (count : ℕ) → History → Fault → Type 0
-RecordFault base count log NoResource = Unit {0}
+RecordFault base count log NoResource = ⊤
 RecordFault base count log e = FirstBroken base count log e
 
 -- the fault names the page and the first law that it breaks
@@ -61,7 +63,7 @@ pub record FirstBrokenPage (base : BasePages) (log : History) (pages : List Page
 
 -- why the pages are refused, want of memory aside
 abbrev pub PagesFault : BasePages → History → List Page → Fault → Type 0
-PagesFault base log pages NoResource = Unit {0}
+PagesFault base log pages NoResource = ⊤
 PagesFault base log pages e = FirstBrokenPage base log pages e
 
 -- the dirty page table of the begin at m is true of the page
@@ -79,17 +81,17 @@ pub record FirstUncovered (log : History) (m : ℕ) (dirty : List (ℕ × ℕ)) 
 
 -- why a dirty page table is refused, want of memory aside
 abbrev pub DirtyFault : History → ℕ → List (ℕ × ℕ) → List Page → Fault → Type 0
-DirtyFault log m dirty pages NoResource = Unit {0}
+DirtyFault log m dirty pages NoResource = ⊤
 DirtyFault log m dirty pages e = FirstUncovered log m dirty pages e
 
 -- why the master m is refused, want of memory aside
 abbrev pub MasterFault : History → List Page → ℕ → Fault → Type 0
-MasterFault log pages m NoResource = Unit {0}
-MasterFault log pages m BadMaster = (m ≡ 0 → ⊥) × (checkpoint_at m log ≡ None)
+MasterFault log pages m NoResource = ⊤
+MasterFault log pages m BadMaster = (m ≢ 0) × (checkpoint_at m log ≡ None)
 MasterFault log pages m TransactionTable =
-    (m ≡ 0 → ⊥) × ((transactions : List TableEntry) × (dirty : List (ℕ × ℕ)) × (checkpoint_at m log ≡ Some (transactions, dirty)) × (transactions ≡ true_table (first m log) → ⊥))
+    (m ≢ 0) × ((transactions : List TableEntry) × (dirty : List (ℕ × ℕ)) × (checkpoint_at m log ≡ Some (transactions, dirty)) × (transactions ≡ true_table (first m log) → ⊥))
 MasterFault log pages m (DirtyTable number) =
-    (m ≡ 0 → ⊥)
+    (m ≢ 0)
     × ((transactions : List TableEntry) × (dirty : List (ℕ × ℕ)) × (checkpoint_at m log ≡ Some (transactions, dirty)) × (transactions ≡ true_table (first m log))
     × FirstUncovered log m dirty pages (DirtyTable number))
 MasterFault log pages m _ = ⊥

@@ -1,4 +1,4 @@
-pub mod Standings
+pub mod Statuses
 pub mod Cells
 pub mod FirstFault
 pub mod Base

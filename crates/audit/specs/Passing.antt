@@ -1,19 +1,19 @@
 -- What is kept while the records are gone through (own).
-use Rattle.std.specs.Prelude.{◌≡◌, ◌≤◌, ◌⊎◌, ◌||◌, ℕ, length, Option, Some, None, true, ◌+◌}
+use Rattle.std.specs.Prelude.{◌≡◌, ◌≤◌, ◌⊎◌, ◌||◌, ℕ, length, Option, Some, None, true, ◌+◌, ⊤}
 use Rattle.page.specs.Image.{Image}
 use Rattle.wal.specs.Records.{LogRecord, Update, History, LogContent, history, last_lsn, record_at, base_lsn}
 use Rattle.wal.specs.Tail.{tx_of}
-use Rattle.audit.specs.declared.standing.Standing.{Standing}
-use Rattle.audit.specs.declared.running.Running.{Running}
-use Rattle.audit.specs.Standings.{Stands, standing_in}
+use Rattle.audit.specs.declared.status.Status.{Status}
+use Rattle.audit.specs.declared.state.AuditState.{AuditState}
+use Rattle.audit.specs.Statuses.{IsStatusOf, status_in}
 use Rattle.audit.specs.Cells.{KeepsCells}
 
 -- it tells how each transaction stands and who wrote each cell last
-pub record Tells (count : ℕ) (log : History) (running : Running) : Type 0 where
-  pub base : running.base ≡ base_lsn log
-  pub links : base_lsn log + length running.links.items ≡ last_lsn log
-  pub stands : (t : ℕ) → Stands running.links.items t log (standing_in running.table t)
-  pub cells : KeepsCells count (λ _. log) running.writers.items
+pub record IsStateOf (count : ℕ) (log : History) (state : AuditState) : Type 0 where
+  pub base : state.base ≡ base_lsn log
+  pub links : base_lsn log + length state.links.items ≡ last_lsn log
+  pub stands : (t : ℕ) → IsStatusOf state.links.items t log (status_in state.table t)
+  pub cells : KeepsCells count (λ _. log) state.writers.items
 
 -- it is a beginning of the log
 abbrev pub Begins : History → LogContent → Type 0
@@ -25,6 +25,6 @@ Undoes (Update u) page slot undo_next image = (page ≡ u.page) × (slot ≡ u.s
 Undoes _ page slot undo_next image = ⊥
 
 -- the writer of a cell, if there is one, is this transaction or has finished
-abbrev pub IsFreeFor : (ℕ → Standing) → Option LogRecord → ℕ → Type 0
-IsFreeFor standing None tx = Unit {0}
-IsFreeFor standing (Some r) tx = (tx_of r ≡ tx) ⊎ (((standing (tx_of r)).committed || (standing (tx_of r)).ended) ≡ true)
+abbrev pub IsFreeFor : (ℕ → Status) → Option LogRecord → ℕ → Type 0
+IsFreeFor status None tx = ⊤
+IsFreeFor status (Some r) tx = (tx_of r ≡ tx) ⊎ (((status (tx_of r)).committed || (status (tx_of r)).ended) ≡ true)

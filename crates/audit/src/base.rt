@@ -2,7 +2,7 @@
 
 ghost use Rattle.std.specs.Prelude.{◌≡◌, IsTrue, ◌↔◌, ◌≤◌, All};
 ghost use Rattle.wal.specs.Records.{history, base_lsn};
-ghost use Rattle.wal.specs.Store.{base_pages};
+ghost use Rattle.wal.specs.Pages.{base_pages};
 ghost use Rattle.audit.specs.Base.{IsBaseOf};
 
 use page::{Page, Store, Value};

@@ -5,17 +5,18 @@ ghost use Rattle.page.specs.Image.{Image};
 ghost use Rattle.wal.specs.Records.{LogRecord, History, history, last_lsn, record_at, base_lsn};
 ghost use Rattle.wal.specs.Meaning.{BasePages, image_of};
 ghost use Rattle.wal.specs.Laws.{IsLawful, ChainLaw, FinishLaw, CompensationLaw, BeforeLaw, Strictness};
-ghost use Rattle.wal.specs.Store.{NamesPages, base_pages};
+ghost use Rattle.wal.specs.Pages.{base_pages};
+ghost use Rattle.wal.specs.Store.{NamesPages};
 ghost use Rattle.wal.specs.Spelling.{Fits};
 ghost use Rattle.wal.specs.Tail.{tx_of};
 ghost use Rattle.wal.specs.Content.{shown};
-ghost use Rattle.audit.specs.Standings.{Stands, standing_in};
+ghost use Rattle.audit.specs.Statuses.{IsStatusOf, status_in};
 ghost use Rattle.audit.specs.Cells.{HasCell, KeepsCells, image_or};
 ghost use Rattle.audit.specs.Passing.{Begins, Undoes, IsFreeFor};
 ghost use Rattle.page.specs.declared.sizes.TheConstants.{SLOTS};
 
 use crate::base::base_value;
-use crate::standing::{Standing, standing_of, transaction_of};
+use crate::status::{Status, status_of, transaction_of};
 use page::{Page, SLOTS, Value};
 use std::collections::HashMap;
 use wal::{DirtyTable, Log, RecordView};
@@ -53,28 +54,30 @@ pub fn names_pages(view: &RecordView, count: usize) -> bool
 }
 
 /// Whether PrevLSN is the transaction's last record.
-pub fn keeps_chain(view: &RecordView, standing: Standing) -> bool
-    ensures { (log : History) (links : List ℕ) → Stands links (tx_of (shown view.now)) log standing
+pub fn keeps_chain(view: &RecordView, status: Status) -> bool
+    ensures { (log : History) (links : List ℕ)
+        → IsStatusOf links (tx_of (shown view.now)) log status
         → IsTrue result ↔ ChainLaw log (shown view.now) }
 {
     match view.tx() {
-        Some(_) => view.prev() == standing.last,
+        Some(_) => view.prev() == status.last,
         None => true,
     }
 }
 
 /// Whether no commit, abort, end or prepare of its transaction forbids the record.
-pub fn keeps_finish(view: &RecordView, standing: Standing) -> bool
-    ensures { (log : History) (links : List ℕ) → Stands links (tx_of (shown view.now)) log standing
+pub fn keeps_finish(view: &RecordView, status: Status) -> bool
+    ensures { (log : History) (links : List ℕ)
+        → IsStatusOf links (tx_of (shown view.now)) log status
         → IsTrue result ↔ FinishLaw log (shown view.now) }
 {
     match view {
-        RecordView::Update { .. } => standing.is_active(),
-        RecordView::Compensation { .. } => !standing.is_finished() && !standing.is_in_doubt(),
-        RecordView::Commit { .. } => !standing.is_finished() && !standing.aborted,
-        RecordView::Abort { .. } => !standing.is_finished() && !standing.aborted,
-        RecordView::End { .. } => !standing.ended && !standing.is_in_doubt(),
-        RecordView::Prepare { .. } => standing.is_active(),
+        RecordView::Update { .. } => status.is_active(),
+        RecordView::Compensation { .. } => !status.is_finished() && !status.is_in_doubt(),
+        RecordView::Commit { .. } => !status.is_finished() && !status.aborted,
+        RecordView::Abort { .. } => !status.is_finished() && !status.aborted,
+        RecordView::End { .. } => !status.ended && !status.is_in_doubt(),
+        RecordView::Prepare { .. } => status.is_active(),
         RecordView::CheckpointBegin => true,
         RecordView::CheckpointEnd { .. } => true,
     }
@@ -82,7 +85,8 @@ pub fn keeps_finish(view: &RecordView, standing: Standing) -> bool
 
 /// Whether both images are absent, or hold the same bytes.
 fn are_same(left: Option<&[u8]>, right: Option<&[u8]>) -> bool
-    ensures { IsTrue result ↔ option_map (λ s. s.now) left.entry ≡ option_map (λ s. s.now) right.entry }
+    ensures { IsTrue result ↔ option_map (λ s. s.now) left.entry
+        ≡ option_map (λ s. s.now) right.entry }
 {
     match left {
         None => match right {
@@ -98,7 +102,8 @@ fn are_same(left: Option<&[u8]>, right: Option<&[u8]>) -> bool
 
 /// Whether it is an update of this cell that has this before image and PrevLSN.
 fn undoes(view: &RecordView, cell: (u32, u8), undo_next: u64, image: Option<&[u8]>) -> bool
-    ensures { IsTrue result ↔ Undoes (shown view.now) cell.0 cell.1 undo_next (option_map (λ s. s.now) image.entry) }
+    ensures { IsTrue result ↔ Undoes (shown view.now) cell.0 cell.1 undo_next
+        (option_map (λ s. s.now) image.entry) }
 {
     match view {
         RecordView::Update {
@@ -116,7 +121,8 @@ fn undoes(view: &RecordView, cell: (u32, u8), undo_next: u64, image: Option<&[u8
 
 /// Whether such an update stands at an LSN.
 fn undoes_at(log: &Log, lsn: u64, cell: (u32, u8), undo_next: u64, image: Option<&[u8]>) -> bool
-    ensures { IsTrue result ↔ ((r : LogRecord) × (record_at (history log.now) lsn ≡ Some r) × Undoes r cell.0 cell.1 undo_next (option_map (λ s. s.now) image.entry)) }
+    ensures { IsTrue result ↔ ((r : LogRecord) × (record_at (history log.now) lsn ≡ Some r)
+        × Undoes r cell.0 cell.1 undo_next (option_map (λ s. s.now) image.entry)) }
 {
     match log.get(lsn) {
         None => false,
@@ -125,9 +131,10 @@ fn undoes_at(log: &Log, lsn: u64, cell: (u32, u8), undo_next: u64, image: Option
 }
 
 /// Whether a CLR undoes the newest pending update, and an end without a commit finds none.
-pub fn keeps_compensation(log: &Log, view: &RecordView, standing: Standing) -> bool
-    ensures { (so_far : History) (links : List ℕ) → Begins so_far log.now → base_lsn so_far + length links ≡ last_lsn so_far
-        → Stands links (tx_of (shown view.now)) so_far standing
+pub fn keeps_compensation(log: &Log, view: &RecordView, status: Status) -> bool
+    ensures { (so_far : History) (links : List ℕ) → Begins so_far log.now
+        → base_lsn so_far + length links ≡ last_lsn so_far
+        → IsStatusOf links (tx_of (shown view.now)) so_far status
         → IsTrue result ↔ CompensationLaw so_far (shown view.now) }
 {
     match view {
@@ -137,8 +144,8 @@ pub fn keeps_compensation(log: &Log, view: &RecordView, standing: Standing) -> b
             undo_next,
             image,
             ..
-        } => undoes_at(log, standing.newest, (*page, *slot), *undo_next, *image),
-        RecordView::End { .. } => standing.committed || standing.newest == 0,
+        } => undoes_at(log, status.newest, (*page, *slot), *undo_next, *image),
+        RecordView::End { .. } => status.committed || status.newest == 0,
         RecordView::Update { .. }
         | RecordView::Commit { .. }
         | RecordView::Abort { .. }
@@ -157,14 +164,15 @@ fn last_writer(writers: &[u64], page: u32, slot: u8) -> u64
 }
 
 /// Whether no other transaction than this one wrote the record at an LSN, or it has finished.
-fn is_free_for(log: &Log, table: &HashMap<u32, Standing>, writer: u64, tx: u32) -> bool
-    ensures { IsTrue result ↔ IsFreeFor (standing_in table.now) (record_at (history log.now) writer) tx }
+fn is_free_for(log: &Log, table: &HashMap<u32, Status>, writer: u64, tx: u32) -> bool
+    ensures { IsTrue result ↔ IsFreeFor (status_in table.now)
+        (record_at (history log.now) writer) tx }
 {
     match log.get(writer) {
         None => true,
         Some(view) => {
             let other = transaction_of(&view);
-            other == tx || standing_of(table, other).is_finished()
+            other == tx || status_of(table, other).is_finished()
         }
     }
 }
@@ -172,14 +180,16 @@ fn is_free_for(log: &Log, table: &HashMap<u32, Standing>, writer: u64, tx: u32) 
 /// Whether no other unfinished transaction has an update or CLR in the cell of an update.
 pub fn keeps_strictness(
     log: &Log,
-    table: &HashMap<u32, Standing>,
+    table: &HashMap<u32, Status>,
     writers: &[u64],
     view: &RecordView,
 ) -> bool
     requires { HasCell (length writers.now) (shown view.now) }
-    ensures { (base : BasePages) (so_far : History) (links : List ℕ) (count : ℕ) → Begins so_far log.now → IsLawful base so_far
-        → ((t : ℕ) → Stands links t so_far (standing_in table.now t))
-        → KeepsCells count (λ _. so_far) writers.now → NamesPages count (shown view.now) → Fits (shown view.now)
+    ensures { (base : BasePages) (so_far : History) (links : List ℕ) (count : ℕ)
+        → Begins so_far log.now → IsLawful base so_far
+        → ((t : ℕ) → IsStatusOf links t so_far (status_in table.now t))
+        → KeepsCells count (λ _. so_far) writers.now → NamesPages count (shown view.now)
+        → Fits (shown view.now)
         → IsTrue result ↔ Strictness so_far (shown view.now) }
 {
     match view {
@@ -221,7 +231,8 @@ fn puts(view: &RecordView, image: Option<&[u8]>) -> bool
 
 /// Whether the record at an LSN leaves this image or, where none is, what was there before.
 pub fn leaves(log: &Log, writer: u64, before: Option<Value>, image: Option<&[u8]>) -> bool
-    ensures { IsTrue result ↔ option_map (λ s. s.now) image.entry ≡ image_or before (record_at (history log.now) writer) }
+    ensures { IsTrue result ↔ option_map (λ s. s.now) image.entry
+        ≡ image_or before (record_at (history log.now) writer) }
 {
     match log.get(writer) {
         None => is_value(image, before),
@@ -233,7 +244,8 @@ pub fn leaves(log: &Log, writer: u64, before: Option<Value>, image: Option<&[u8]
 pub fn keeps_before(log: &Log, base: &[Page], writers: &[u64], view: &RecordView) -> bool
     requires { HasCell (length writers.now) (shown view.now) }
     ensures { (so_far : History) (count : ℕ) → Begins so_far log.now
-        → KeepsCells count (λ _. so_far) writers.now → NamesPages count (shown view.now) → Fits (shown view.now)
+        → KeepsCells count (λ _. so_far) writers.now → NamesPages count (shown view.now)
+        → Fits (shown view.now)
         → IsTrue result ↔ BeforeLaw (base_pages base.now) so_far (shown view.now) }
 {
     match view {

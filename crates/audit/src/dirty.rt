@@ -1,11 +1,12 @@
 //! The dirty page table of a checkpoint, against the log and the pages.
 
-ghost use Rattle.std.specs.Prelude.{◌≡◌, ◌+◌, ◌≤◌, ◌<◌, ◌↔◌, ℕ, All, IsTrue, Some, length, take, IfOk, OnOk, IfErr};
+ghost use Rattle.std.specs.Prelude.{◌≡◌, ◌+◌, ◌≤◌, ◌<◌, ◌↔◌, ℕ, All, IsTrue, Some, length, take, IfOk, OnOk, IfErr, IsOkUnless};
 ghost use Rattle.page.specs.Store.{AreNumbered};
 ghost use Rattle.page.specs.declared.fault.Fault.TheVariants.{NoResource};
 ghost use Rattle.wal.specs.Records.{history, first, last_lsn, EachRecord, base_lsn};
 ghost use Rattle.wal.specs.Redo.{rec_lsn_of};
-ghost use Rattle.wal.specs.Store.{NamesPages, DirtyLaw};
+ghost use Rattle.wal.specs.Checkpoint.{DirtyLaw};
+ghost use Rattle.wal.specs.Store.{NamesPages};
 ghost use Rattle.wal.specs.Content.{shown};
 ghost use Rattle.audit.specs.Pages.{page_lsn};
 ghost use Rattle.audit.specs.Dirty.{KeepsMissing, noted_missing, IsInRange, IsCovered};
@@ -36,7 +37,7 @@ fn missing_in(alloc: Global, log: &Log, upto: u64, pages: &[Page]) -> Result<Vec
     requires to { upto ≤ last_lsn (history log.now) }
     requires named { EachRecord (NamesPages (length pages.now)) (history log.now) }
     ensures ok { IfOk result (λ v. KeepsMissing pages.now (first upto (history log.now)) v.items) }
-    ensures err { IfErr result (λ e. e ≡ NoResource) }
+    ensures err { IsOkUnless result NoResource }
 {
     let mut missing = vec![in alloc; 0; pages.len()]?;
     let _last = log.last();

@@ -8,8 +8,8 @@ mod laws;
 mod master;
 mod pages;
 mod records;
-mod running;
-mod standing;
+mod state;
+mod status;
 mod verdict;
 
 pub use laws::{

@@ -1,34 +1,36 @@
 //! The law of the checkpoint that the master names.
 
-ghost use Rattle.std.specs.Prelude.{◌≡◌, ◌+◌, ◌*◌, ◌≤◌, ◌<◌, ◌⊎◌, ◌↔◌, ◌^◌, ℕ, List, All, IsTrue, Some, None, true, false, length, map, take, option_map, nat_eq, nat_le, ◌||◌, IfOk, OnOk, IfErr, IfSome, slice_index, slice_index_or};
+ghost use Rattle.std.specs.Prelude.{◌≡◌, ◌+◌, ◌*◌, ◌≤◌, ◌<◌, ◌⊎◌, ◌↔◌, ◌^◌, ℕ, List, All, IsTrue, Some, None, true, false, length, map, take, option_map, nat_eq, nat_le, ◌||◌, IfOk, OnOk, IfErr, IfSome, slice_index, slice_index_or, IsOkUnless};
 ghost use Rattle.std.specs.HashSet.{contains};
 ghost use Rattle.page.specs.declared.fault.Fault.TheVariants.{NoResource};
 ghost use Rattle.wal.specs.Records.{LogRecord, TableEntry, CheckpointBegin, tx_in, History, history, first, record_at, last_lsn, EachRecord, base_lsn};
 ghost use Rattle.wal.specs.Meaning.{state_by, is_unfinished, last_of};
 ghost use Rattle.wal.specs.Tail.{is_among};
-ghost use Rattle.wal.specs.Store.{true_entry, true_table, NamesPages, CheckpointLaw};
+ghost use Rattle.wal.specs.Checkpoint.{true_entry, true_table, CheckpointLaw};
+ghost use Rattle.wal.specs.Store.{NamesPages};
 ghost use Rattle.wal.specs.Spelling.{IsRising, Fits};
 ghost use Rattle.wal.specs.Content.{entry_of, shown};
-ghost use Rattle.audit.specs.Standings.{Stands, standing_in};
+ghost use Rattle.audit.specs.Statuses.{IsStatusOf, status_in};
 ghost use Rattle.page.specs.Store.{AreNumbered};
-ghost use Rattle.audit.specs.Passing.{Tells};
+ghost use Rattle.audit.specs.Passing.{IsStateOf};
 ghost use Rattle.audit.specs.FirstFault.{MasterFault};
 ghost use Rattle.audit.specs.Checkpoints.{IsTrueEntry, Lists};
 ghost use Rattle.page.specs.declared.sizes.TheConstants.{PAGES};
 
 use crate::dirty::check_dirty;
-use crate::running::Running;
-use crate::standing::{Standing, standing_of, transaction_of};
+use crate::state::AuditState;
+use crate::status::{Status, status_of, transaction_of};
 use page::{Fault, Page};
 use std::alloc::Global;
 use std::collections::{HashMap, HashSet};
 use wal::{Entry, Log, State, TransactionTable};
 
 /// Whether a transaction that stands so has begun and has not finished.
-fn is_unfinished(standing: Standing) -> bool
-    ensures { (t : ℕ) (log : History) (links : List ℕ) → Stands links t log standing → result ≡ is_unfinished t log }
+fn is_unfinished(status: Status) -> bool
+    ensures { (t : ℕ) (log : History) (links : List ℕ) → IsStatusOf links t log status
+        → result ≡ is_unfinished t log }
 {
-    standing.last != 0 && !standing.is_finished()
+    status.last != 0 && !status.is_finished()
 }
 
 /// Whether a state is that of a transaction that has or has not aborted, and has or has not
@@ -44,23 +46,25 @@ fn tells_state(state: State, aborted: bool, prepared: bool) -> bool
 }
 
 /// Whether a transaction that stands so is unfinished, and has this entry.
-fn is_true_entry(standing: Standing, entry: Entry) -> bool
-    ensures { (t : ℕ) (log : History) (links : List ℕ) → Stands links t log standing → IsTrue result ↔ IsTrueEntry log (entry_of (t, entry)) }
+fn is_true_entry(status: Status, entry: Entry) -> bool
+    ensures { (t : ℕ) (log : History) (links : List ℕ) → IsStatusOf links t log status
+        → IsTrue result ↔ IsTrueEntry log (entry_of (t, entry)) }
 {
-    is_unfinished(standing)
-        && entry.last == standing.last
-        && entry.undo_next == standing.undo_next
-        && tells_state(entry.state, standing.aborted, standing.prepared)
+    is_unfinished(status)
+        && entry.last == status.last
+        && entry.undo_next == status.undo_next
+        && tells_state(entry.state, status.aborted, status.prepared)
 }
 
 /// Whether each entry is of an unfinished transaction, and true of it.
-fn entries_are_true(table: &HashMap<u32, Standing>, transactions: &TransactionTable) -> bool
-    ensures { (log : History) (links : List ℕ) → ((t : ℕ) → Stands links t log (standing_in table.now t))
+fn entries_are_true(table: &HashMap<u32, Status>, transactions: &TransactionTable) -> bool
+    ensures { (log : History) (links : List ℕ)
+        → ((t : ℕ) → IsStatusOf links t log (status_in table.now t))
         → IsTrue result ↔ All (IsTrueEntry log) transactions.now }
 {
     for place in 0..transactions.len() {
         let (tx, entry) = transactions.entry(place);
-        if !is_true_entry(standing_of(table, tx), entry) {
+        if !is_true_entry(status_of(table, tx), entry) {
             return false;
         }
     }
@@ -69,8 +73,9 @@ fn entries_are_true(table: &HashMap<u32, Standing>, transactions: &TransactionTa
 
 /// Takes a transaction into the set. The only error is `NoResource`.
 fn list(listed: &mut HashSet<u32>, tx: u32) -> Result<(), Fault>
-    ensures ok { OnOk result ((t : ℕ) → contains nat_eq listed.new t ≡ (nat_eq t tx || contains nat_eq listed.old t)) }
-    ensures err { IfErr result (λ e. e ≡ NoResource) }
+    ensures ok { OnOk result ((t : ℕ) → contains nat_eq listed.new t
+        ≡ (nat_eq t tx || contains nat_eq listed.old t)) }
+    ensures err { IsOkUnless result NoResource }
 {
     listed.insert(tx)?;
     Ok(())
@@ -78,8 +83,9 @@ fn list(listed: &mut HashSet<u32>, tx: u32) -> Result<(), Fault>
 
 /// The transactions that have an entry. The only error is `NoResource`.
 fn listed_in(alloc: Global, transactions: &TransactionTable) -> Result<HashSet<u32>, Fault>
-    ensures ok { IfOk result (λ set. (t : ℕ) → IsTrue (contains nat_eq set t) ↔ Lists transactions.now t) }
-    ensures err { IfErr result (λ e. e ≡ NoResource) }
+    ensures ok { IfOk result (λ set. (t : ℕ) → IsTrue (contains nat_eq set t)
+        ↔ Lists transactions.now t) }
+    ensures err { IsOkUnless result NoResource }
 {
     let mut listed = HashSet::new(alloc);
     for place in 0..transactions.len() {
@@ -90,34 +96,39 @@ fn listed_in(alloc: Global, transactions: &TransactionTable) -> Result<HashSet<u
 }
 
 /// Whether a transaction whose last record this is is unfinished and not listed.
-fn is_missing(listed: &HashSet<u32>, tx: u32, standing: Standing, lsn: u64) -> bool
-    ensures missing { result ≡ true → (log : History) (links : List ℕ) → Stands links tx log standing
+fn is_missing(listed: &HashSet<u32>, tx: u32, status: Status, lsn: u64) -> bool
+    ensures missing { result ≡ true → (log : History) (links : List ℕ)
+        → IsStatusOf links tx log status
         → (is_unfinished tx log ≡ true) × (contains nat_eq listed.now tx ≡ false) }
-    ensures found { result ≡ false → (log : History) (links : List ℕ) → Stands links tx log standing
-        → last_of tx log ≡ lsn → is_unfinished tx log ≡ true → contains nat_eq listed.now tx ≡ true }
+    ensures found { result ≡ false → (log : History) (links : List ℕ)
+        → IsStatusOf links tx log status
+        → last_of tx log ≡ lsn → is_unfinished tx log ≡ true
+        → contains nat_eq listed.now tx ≡ true }
 {
-    if standing.last != lsn || !is_unfinished(standing) {
+    if status.last != lsn || !is_unfinished(status) {
         return false;
     }
     !listed.contains(&tx)
 }
 
-/// Whether each transaction that is unfinished after the first so many records is listed.
+/// Whether each transaction that is unfinished after the records up to this LSN is listed.
 fn unfinished_are_listed(
     log: &Log,
     upto: u64,
-    table: &HashMap<u32, Standing>,
+    table: &HashMap<u32, Status>,
     listed: &HashSet<u32>,
 ) -> bool
     requires from { base_lsn (history log.now) ≤ upto }
     requires to { upto ≤ last_lsn (history log.now) }
-    ensures { (links : List ℕ) → ((t : ℕ) → Stands links t (first upto (history log.now)) (standing_in table.now t))
-        → IsTrue result ↔ ((t : ℕ) → is_unfinished t (first upto (history log.now)) ≡ true → IsTrue (contains nat_eq listed.now t)) }
+    ensures { (links : List ℕ) → ((t : ℕ)
+        → IsStatusOf links t (first upto (history log.now)) (status_in table.now t))
+        → IsTrue result ↔ ((t : ℕ) → is_unfinished t (first upto (history log.now)) ≡ true
+        → IsTrue (contains nat_eq listed.now t)) }
 {
     let _last = log.last();
     for lsn in log.base()..upto {
         let tx = transaction_of(&log.after(lsn));
-        if is_missing(listed, tx, standing_of(table, tx), lsn + 1) {
+        if is_missing(listed, tx, status_of(table, tx), lsn + 1) {
             return false;
         }
     }
@@ -125,22 +136,22 @@ fn unfinished_are_listed(
 }
 
 /// How each transaction stands after the records up to an LSN. The only error is `NoResource`.
-fn running_at(alloc: Global, log: &Log, upto: u64, pages: usize) -> Result<Running, Fault>
+fn state_at(alloc: Global, log: &Log, upto: u64, pages: usize) -> Result<AuditState, Fault>
     requires from { base_lsn (history log.now) ≤ upto }
     requires to { upto ≤ last_lsn (history log.now) }
     requires few { pages ≤ PAGES }
     requires named { EachRecord (NamesPages pages) (history log.now) }
-    ensures ok { IfOk result (Tells pages (first upto (history log.now))) }
-    ensures err { IfErr result (λ e. e ≡ NoResource) }
+    ensures ok { IfOk result (IsStateOf pages (first upto (history log.now))) }
+    ensures err { IsOkUnless result NoResource }
 {
     let base = log.base();
-    let mut running = Running::start(alloc, base, pages)?;
+    let mut state = AuditState::start(alloc, base, pages)?;
     let _last = log.last();
     for lsn in base..upto {
         let view = log.after(lsn);
-        running.note(&view, lsn + 1)?;
+        state.note(&view, lsn + 1)?;
     }
-    Ok(running)
+    Ok(state)
 }
 
 /// Whether the table is exactly that of the unfinished transactions at the begin `master`. The only
@@ -157,15 +168,16 @@ fn is_true_table(
     requires few { pages ≤ PAGES }
     requires named { EachRecord (NamesPages pages) (history log.now) }
     requires rising { IsRising (map tx_in transactions.now) }
-    ensures ok { IfOk result (λ yes. IsTrue yes ↔ transactions.now ≡ true_table (first master (history log.now))) }
-    ensures err { IfErr result (λ e. e ≡ NoResource) }
+    ensures ok { IfOk result (λ yes. IsTrue yes ↔ transactions.now
+        ≡ true_table (first master (history log.now))) }
+    ensures err { IsOkUnless result NoResource }
 {
-    let running = running_at(alloc, log, master, pages)?;
-    if !entries_are_true(&running.table, transactions) {
+    let state = state_at(alloc, log, master, pages)?;
+    if !entries_are_true(&state.table, transactions) {
         return Ok(false);
     }
     let listed = listed_in(alloc, transactions)?;
-    Ok(unfinished_are_listed(log, master, &running.table, &listed))
+    Ok(unfinished_are_listed(log, master, &state.table, &listed))
 }
 
 /// Refuses the master for the first law that its checkpoint breaks. `NoResource`, where memory is

@@ -1,11 +1,12 @@
 //! The law of pages, by number.
 
-ghost use Rattle.std.specs.Prelude.{◌≡◌, ◌+◌, ◌*◌, ◌≤◌, ◌<◌, ◌⊎◌, ◌↔◌, ℕ, All, IsTrue, Some, None, true, length, IfOk, OnOk, IfErr, slice_index, slice_index_or};
+ghost use Rattle.std.specs.Prelude.{◌≡◌, ◌+◌, ◌*◌, ◌≤◌, ◌<◌, ◌⊎◌, ◌↔◌, ℕ, All, IsTrue, Some, None, true, length, IfOk, OnOk, IfErr, slice_index, slice_index_or, IsOkUnless};
 ghost use Rattle.page.specs.Store.{AreNumbered};
 ghost use Rattle.page.specs.declared.fault.Fault.TheVariants.{NoResource};
 ghost use Rattle.wal.specs.Records.{LogRecord, history, first, record_at, EachRecord};
 ghost use Rattle.wal.specs.Meaning.{is_on};
-ghost use Rattle.wal.specs.Store.{NamesPages, PageLaw, base_pages};
+ghost use Rattle.wal.specs.Pages.{PageLaw, base_pages};
+ghost use Rattle.wal.specs.Store.{NamesPages};
 ghost use Rattle.wal.specs.Content.{shown};
 ghost use Rattle.audit.specs.Cells.{KeepsCells, image_or};
 ghost use Rattle.audit.specs.Pages.{page_lsn, counts_for, log_at, KeepsPage};
@@ -14,7 +15,7 @@ ghost use Rattle.page.specs.declared.sizes.TheConstants.{PAGES, SLOTS};
 
 use crate::base::{base_page_lsn, base_value};
 use crate::decide::leaves;
-use crate::running::note_write;
+use crate::state::note_write;
 use page::{Fault, Page, SLOTS, Value};
 use std::alloc::Global;
 use wal::{Log, RecordView};
@@ -35,8 +36,9 @@ fn counts(view: &RecordView, pages: &[Page], lsn: u64) -> bool
 fn writers_at(alloc: Global, log: &Log, pages: &[Page]) -> Result<Vec<u64>, Fault>
     requires few { length pages.now ≤ PAGES }
     requires named { EachRecord (NamesPages (length pages.now)) (history log.now) }
-    ensures ok { IfOk result (λ w. KeepsCells (length pages.now) (log_at pages.now (history log.now)) w.items) }
-    ensures err { IfErr result (λ e. e ≡ NoResource) }
+    ensures ok { IfOk result (λ w. KeepsCells (length pages.now)
+        (log_at pages.now (history log.now)) w.items) }
+    ensures err { IsOkUnless result NoResource }
 {
     let mut writers = vec![in alloc; 0; SLOTS * pages.len()]?;
     let base = log.base();
@@ -61,7 +63,9 @@ fn is_on_page(view: &RecordView, number: u32) -> bool
 
 /// Whether PageLSN is that of the base page or the LSN of a record on the page.
 fn lsn_is_on(log: &Log, base: &[Page], page: &Page) -> bool
-    ensures { IsTrue result ↔ (page.now.lsn ≡ (base_pages base.now).page_lsn page.now.number) ⊎ ((r : LogRecord) × (record_at (history log.now) page.now.lsn ≡ Some r) × (is_on page.now.number r ≡ true)) }
+    ensures { IsTrue result ↔ (page.now.lsn ≡ (base_pages base.now).page_lsn page.now.number)
+        ⊎ ((r : LogRecord) × (record_at (history log.now) page.now.lsn ≡ Some r)
+        × (is_on page.now.number r ≡ true)) }
 {
     if page.lsn == base_page_lsn(base, page.number) {
         return true;
@@ -91,7 +95,10 @@ fn slots_are_left(
     slots: &[Option<Value>; SLOTS],
 ) -> bool
     requires { SLOTS * number + SLOTS ≤ length writers.now }
-    ensures all { IsTrue result ↔ ((k : ℕ) → k < SLOTS → slice_index_or slots.now k None ≡ image_or ((base_pages base.now).cells number k) (record_at (history log.now) (slice_index writers.now (SLOTS * number + k)))) }
+    ensures all { IsTrue result ↔ ((k : ℕ) → k < SLOTS
+        → slice_index_or slots.now k None
+        ≡ image_or ((base_pages base.now).cells number k)
+        (record_at (history log.now) (slice_index writers.now (SLOTS * number + k)))) }
     ensures count { length slots.now ≡ SLOTS }
 {
     for (slot, value) in slots.iter().enumerate() {
@@ -106,8 +113,10 @@ fn slots_are_left(
 /// Refuses the page for the first law that it breaks.
 fn check_page(log: &Log, base: &[Page], writers: &[u64], page: &Page) -> Result<(), Fault>
     requires { SLOTS * page.now.number + SLOTS ≤ length writers.now }
-    ensures ok { OnOk result (KeepsPage (history log.now) writers.now page.now → PageLaw (base_pages base.now) (history log.now) page.now) }
-    ensures err { IfErr result (λ e. KeepsPage (history log.now) writers.now page.now → BrokenPage (base_pages base.now) (history log.now) page.now e) }
+    ensures ok { OnOk result (KeepsPage (history log.now) writers.now page.now
+        → PageLaw (base_pages base.now) (history log.now) page.now) }
+    ensures err { IfErr result (λ e. KeepsPage (history log.now) writers.now page.now
+        → BrokenPage (base_pages base.now) (history log.now) page.now e) }
 {
     if page.lsn > log.last() {
         return Err(Fault::PageAheadOfLog(page.number));

@@ -5,25 +5,27 @@ ghost use Rattle.page.specs.declared.fault.Fault.TheVariants.{WrongCompensation,
 ghost use Rattle.wal.specs.Records.{History, last_lsn, history};
 ghost use Rattle.wal.specs.Laws.{IsLawful, Obeys};
 ghost use Rattle.wal.specs.Tail.{is_end};
-ghost use Rattle.wal.specs.Store.{NamesPages, base_pages};
+ghost use Rattle.wal.specs.Pages.{base_pages};
+ghost use Rattle.wal.specs.Store.{NamesPages};
 ghost use Rattle.wal.specs.Spelling.{Fits};
 ghost use Rattle.wal.specs.Content.{shown};
-ghost use Rattle.audit.specs.Passing.{Tells, Begins};
+ghost use Rattle.audit.specs.Passing.{IsStateOf, Begins};
 ghost use Rattle.audit.specs.FirstFault.{BrokenAt, AreSound, RecordFault};
 ghost use Rattle.page.specs.declared.sizes.TheConstants.{PAGES, SLOTS};
 
 use crate::decide::{
     keeps_before, keeps_chain, keeps_compensation, keeps_finish, keeps_strictness, names_pages,
 };
-use crate::running::Running;
-use crate::standing::{standing_of, transaction_of};
+use crate::state::AuditState;
+use crate::status::{status_of, transaction_of};
 use page::{Fault, Page};
 use std::alloc::Global;
 use wal::{Log, RecordView};
 
 /// The fault of a record that breaks the law of compensation.
 fn wrong_compensation(view: &RecordView, lsn: u64) -> Fault
-    ensures { result ≡ (if is_end (shown view.now) then EndTooEarly lsn else WrongCompensation lsn) }
+    ensures { result ≡
+        (if is_end (shown view.now) then EndTooEarly lsn else WrongCompensation lsn) }
 {
     match view {
         RecordView::End { .. } => Fault::EndTooEarly(lsn),
@@ -35,35 +37,38 @@ fn wrong_compensation(view: &RecordView, lsn: u64) -> Fault
 fn check_record(
     log: &Log,
     base: &[Page],
-    running: &Running,
+    state: &AuditState,
     count: usize,
     view: &RecordView,
     lsn: u64,
 ) -> Result<(), Fault>
-    requires size { length running.now.writers.items ≡ SLOTS * count }
+    requires size { length state.now.writers.items ≡ SLOTS * count }
     requires fits { Fits (shown view.now) }
-    ensures ok { OnOk result ((so_far : History) → last_lsn so_far + 1 ≡ lsn → Begins so_far log.now → IsLawful (base_pages base.now) so_far → Tells count so_far running.now
+    ensures ok { OnOk result ((so_far : History) → last_lsn so_far + 1 ≡ lsn → Begins so_far log.now
+        → IsLawful (base_pages base.now) so_far → IsStateOf count so_far state.now
         → NamesPages count (shown view.now) × Obeys (base_pages base.now) so_far (shown view.now)) }
-    ensures err { IfErr result (λ e. (so_far : History) → last_lsn so_far + 1 ≡ lsn → Begins so_far log.now → IsLawful (base_pages base.now) so_far → Tells count so_far running.now
+    ensures err { IfErr result (λ e. (so_far : History) → last_lsn so_far + 1 ≡ lsn
+        → Begins so_far log.now → IsLawful (base_pages base.now) so_far
+        → IsStateOf count so_far state.now
         → BrokenAt (base_pages base.now) count so_far (shown view.now) e) }
 {
     if !names_pages(view, count) {
         return Err(Fault::NoSuchPage(lsn));
     }
-    let standing = standing_of(&running.table, transaction_of(view));
-    if !keeps_chain(view, standing) {
+    let status = status_of(&state.table, transaction_of(view));
+    if !keeps_chain(view, status) {
         return Err(Fault::Chain(lsn));
     }
-    if !keeps_finish(view, standing) {
+    if !keeps_finish(view, status) {
         return Err(Fault::AfterFinish(lsn));
     }
-    if !keeps_compensation(log, view, standing) {
+    if !keeps_compensation(log, view, status) {
         return Err(wrong_compensation(view, lsn));
     }
-    if !keeps_strictness(log, &running.table, &running.writers, view) {
+    if !keeps_strictness(log, &state.table, &state.writers, view) {
         return Err(Fault::DirtyWrite(lsn));
     }
-    if !keeps_before(log, base, &running.writers, view) {
+    if !keeps_before(log, base, &state.writers, view) {
         return Err(Fault::BeforeImage(lsn));
     }
     Ok(())
@@ -77,13 +82,13 @@ pub fn check_records(alloc: Global, log: &Log, base: &[Page], count: usize) -> R
     ensures err { IfErr result (RecordFault (base_pages base.now) count (history log.now)) }
 {
     let begins = log.base();
-    let mut running = Running::start(alloc, begins, count)?;
+    let mut state = AuditState::start(alloc, begins, count)?;
     for lsn in begins..log.last() {
         let view = log.after(lsn);
-        if let Err(fault) = check_record(log, base, &running, count, &view, lsn + 1) {
+        if let Err(fault) = check_record(log, base, &state, count, &view, lsn + 1) {
             return Err(fault);
         }
-        running.note(&view, lsn + 1)?;
+        state.note(&view, lsn + 1)?;
     }
     Ok(())
 }

@@ -1,10 +1,11 @@
 //! The audit: the base store, records, pages and the checkpoint in turn.
 
-ghost use Rattle.std.specs.Prelude.{◌≡◌, OnOk, IfErr};
+ghost use Rattle.std.specs.Prelude.{OnOk, IfErr, IsOkUnless};
 ghost use Rattle.page.specs.declared.fault.Fault.TheVariants.{NoResource};
 ghost use Rattle.wal.specs.Meaning.{BaseLaw, no_base};
 ghost use Rattle.wal.specs.Records.{history};
-ghost use Rattle.wal.specs.Store.{Lawful, base_pages};
+ghost use Rattle.wal.specs.Pages.{base_pages};
+ghost use Rattle.wal.specs.Store.{Lawful};
 ghost use Rattle.audit.specs.FirstFault.{FirstFault};
 ghost use Rattle.audit.specs.Base.{LawfulOver, FirstFaultOver};
 
@@ -60,7 +61,7 @@ pub fn audit(alloc: Global, log: &Log, store: &Store) -> Result<(), Fault>
     ensures ok { OnOk result (Lawful no_base log.now store.now) }
     ensures fault { IfErr result (FirstFault no_base log.now store.now) }
     // A lawful input is refused for want of memory alone.
-    ensures lawful { Lawful no_base log.now store.now → IfErr result (λ e. e ≡ NoResource) }
+    ensures lawful { Lawful no_base log.now store.now → IsOkUnless result NoResource }
 {
     let none: [Page; 0] = [];
     first_fault(alloc, log, &none, store)
@@ -79,7 +80,7 @@ pub fn audit_from(alloc: Global, log: &Log, store: &Store, base: &Store) -> Resu
     ensures ok { OnOk result (LawfulOver log.now store.now base.now) }
     ensures fault { IfErr result (FirstFaultOver log.now store.now base.now) }
     // A lawful input is refused for want of memory alone.
-    ensures lawful { LawfulOver log.now store.now base.now → IfErr result (λ e. e ≡ NoResource) }
+    ensures lawful { LawfulOver log.now store.now base.now → IsOkUnless result NoResource }
 {
     if !is_base_of(log, store, base) {
         return Err(Fault::BadBase);

@@ -1,7 +1,7 @@
 -- The rule of a board's words, and what each step on them tells (own).
 -- Claim word r counts the steps on range r: a step that finds k there below the range's size claims its number k, and any other one meets the range's end.
 -- The last word, the stop word, is 1 where some seat has stopped the board, and else 0.
-use Rattle.std.specs.Prelude.{◌≡◌, ℕ, zero, suc, ◌+◌, ◌-◌, ◌<◌, ◌≤◌, min, true, false, cond, ◌||◌, eqb, List, [], ◌∷◌, ◌++◌, length, slice_index}
+use Rattle.std.specs.Prelude.{◌≡◌, ℕ, zero, suc, ◌+◌, ◌-◌, ◌<◌, ◌≤◌, min, true, false, cond, ◌||◌, eqb, List, [], ◌∷◌, ◌++◌, length, slice_index, ⊤}
 use mathlib.Core.Option.{some}
 use lib.ListN.{get_elem?}
 use Rattle.atomic_table.specs.Table.{State, Me, Step}
@@ -54,7 +54,7 @@ Knows p words ended = (r : ℕ) → r < p.ranges → 0 < times r ended → size 
 
 -- The rule of the words and of what all seats know.
 -- Each number of a range whose step was made is in one seat's list once, and each other one in none; a word passes its range's size by no more than the places that met its end; whoever was told of a stop has its cause.
-pub record IsLawful (p : Plan) (s : State (Unit {0}) View) : Type 0 where
+pub record IsLawful (p : Plan) (s : State ⊤ View) : Type 0 where
   pub sized : (p.parts ≤ 4096) × (0 < p.ranges) × (p.ranges ≤ 64) × (p.seats ≤ 64)
   pub rows : length s.words ≡ p.ranges + 1
   pub all_places : total places s.views ≡ p.seats
@@ -75,7 +75,7 @@ pub record IsDrawn (n ranges : ℕ) (views : List View) : Type 0 where
 
 -- The drawn law: so it is wherever the rule holds
 abbrev pub DrawnLaw : Type 0
-DrawnLaw = (p : Plan) (s : State (Unit {0}) View) → IsLawful p s → IsDrawn p.parts p.ranges s.views
+DrawnLaw = (p : Plan) (s : State ⊤ View) → IsLawful p s → IsDrawn p.parts p.ranges s.views
 
 -- the first seat: all places, and nothing drawn, ended or noted
 abbrev pub opened : Plan → View
@@ -122,23 +122,23 @@ nobody = record { plan = record { parts = 0; ranges = 0; seats = 0 }; places = 0
 
 -- what a seat knows and holds
 abbrev Own : Type 0
-Own = Me (Unit {0}) View
+Own = Me ⊤ View
 
 -- a claim found n: below the range's size its number is drawn, which the seat had not, and else the range has ended
-abbrev pub claimed : Step (Unit {0}) → Own → ℕ → Own → Type 0
+abbrev pub claimed : Step ⊤ → Own → ℕ → Own → Type 0
 claimed st m n m' =
     (m'.1 ≡ m.1)
     × (n < size m.0.plan st.word → (m'.0 ≡ with_drawn m.0 (start m.0.plan st.word + n)) × (times (start m.0.plan st.word + n) m.0.drawn ≡ 0))
     × (size m.0.plan st.word ≤ n → m'.0 ≡ with_ended m.0 st.word)
 
 -- a look at the stop word that notes nothing: it changes nothing, and tells that the seat's numbers are distinct and its places few
-abbrev pub looked : Step (Unit {0}) → Own → ℕ → Own → Type 0
+abbrev pub looked : Step ⊤ → Own → ℕ → Own → Type 0
 looked st m n m' = (m' ≡ m) × ((x : ℕ) → times x m.0.drawn ≤ 1) × (m.0.places ≤ 64)
 
 -- a step on the stop word: the seat has stopped the board
-abbrev pub stop_set : Step (Unit {0}) → Own → ℕ → Own → Type 0
+abbrev pub stop_set : Step ⊤ → Own → ℕ → Own → Type 0
 stop_set st m n m' = m' ≡ (with_stop m.0, m.1)
 
 -- a look at the stop word that notes what it sees: where it is 0 nothing changes, and the seat has not stopped and was not told; else it is told
-abbrev pub stop_seen : Step (Unit {0}) → Own → ℕ → Own → Type 0
+abbrev pub stop_seen : Step ⊤ → Own → ℕ → Own → Type 0
 stop_seen st m n m' = (n ≡ 0 → (m' ≡ m) × (m.0.stopped ≡ false) × (m.0.told ≡ false)) × (0 < n → m' ≡ (with_told m.0, m.1))

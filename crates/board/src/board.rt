@@ -51,8 +51,10 @@ impl Board {
         requires ranges { (1 ≤ ranges) × (ranges ≤ 64) }
         requires seats { (1 ≤ seats) × (seats ≤ 64) }
         ensures err { IfErr result (λ f. f ≡ NoResource) }
-        ensures board { IfOk result (λ r. (r.0.parts ≡ parts) × (r.0.ranges ≡ ranges) × (r.0.seats ≡ seats)) }
-        ensures seat { IfOk result (λ r. (r.1.board ≡ r.0) × (r.1.places ≡ seats) × (r.1.drawn ≡ []) × (r.1.ended ≡ []) × (r.1.stopped ≡ false) × (r.1.told ≡ false)) }
+        ensures board { IfOk result (λ r. (r.0.parts ≡ parts) × (r.0.ranges ≡ ranges)
+            × (r.0.seats ≡ seats)) }
+        ensures seat { IfOk result (λ r. (r.1.board ≡ r.0) × (r.1.places ≡ seats) × (r.1.drawn ≡ [])
+            × (r.1.ended ≡ []) × (r.1.stopped ≡ false) × (r.1.told ≡ false)) }
     {
         let plan = Plan {
             parts,
@@ -79,7 +81,8 @@ impl Board {
         ensures places { (result.0.places ≡ 1) × (result.1.places + 1 ≡ seat.places) }
         ensures drawn { result.0.drawn ++ result.1.drawn ≡ seat.drawn }
         ensures ended { (result.0.ended ≡ seat.ended) × (result.1.ended ≡ seat.ended) }
-        ensures notes { (result.0.stopped ≡ seat.stopped) × (result.1.stopped ≡ seat.stopped) × (result.0.told ≡ seat.told) × (result.1.told ≡ seat.told) }
+        ensures notes { (result.0.stopped ≡ seat.stopped) × (result.1.stopped ≡ seat.stopped)
+            × (result.0.told ≡ seat.told) × (result.1.told ≡ seat.told) }
     {
         let Seat {
             mut token,
@@ -112,7 +115,8 @@ impl Board {
         ensures drawn { result.drawn ≡ first.drawn ++ second.drawn }
         ensures distinct { AreDistinct result.drawn }
         ensures ended { result.ended ≡ first.ended ++ second.ended }
-        ensures notes { (result.stopped ≡ (first.stopped || second.stopped)) × (result.told ≡ (first.told || second.told)) }
+        ensures notes { (result.stopped ≡ (first.stopped || second.stopped))
+            × (result.told ≡ (first.told || second.told)) }
     {
         let Seat {
             mut token,
@@ -147,7 +151,8 @@ impl Board {
         requires places { seat.places ≡ self.seats }
         ensures distinct { AreDistinct seat.drawn }
         ensures below { All (λ x. x < self.parts) seat.drawn }
-        ensures all { AllEnded self.ranges seat.ended → (x : ℕ) → x < self.parts → Contains seat.drawn x }
+        ensures all { AllEnded self.ranges seat.ended → (x : ℕ) → x < self.parts
+            → Contains seat.drawn x }
         ensures words { length result.words ≡ self.ranges }
         ensures claims { AreFirst self result.words seat.drawn }
         ensures drawn { length seat.drawn ≤ sum result.words }

@@ -32,10 +32,12 @@ impl Board {
         requires open { ¬ Contains seat.old.ended range }
         ensures seat { KeepsPlaces seat.old seat.new }
         ensures notes { KeepsNotes seat.old seat.new }
-        ensures some { IfSome result (λ x. Gains self.now seat.old seat.new x × (seat.new.ended ≡ seat.old.ended)) }
+        ensures some { IfSome result (λ x. Gains self.now seat.old seat.new x
+            × (seat.new.ended ≡ seat.old.ended)) }
         ensures number { IfSome result (λ x. IsInRange self.now range x) }
         ensures room { IfSome result (λ _. length seat.old.drawn < self.now.parts) }
-        ensures none { IfNone result ((seat.new.drawn ≡ seat.old.drawn) × (seat.new.ended ≡ seat.old.ended ++ range ∷ [])) }
+        ensures none { IfNone result ((seat.new.drawn ≡ seat.old.drawn)
+            × (seat.new.ended ≡ seat.old.ended ++ range ∷ [])) }
     {
         let (start, size) = self.range(range);
         let found = self
@@ -57,9 +59,11 @@ impl Board {
         ensures seat { KeepsPlaces seat.old seat.new }
         ensures notes { KeepsNotes seat.old seat.new }
         ensures some { IfSome result (λ x. Gains self.now seat.old seat.new x) }
-        ensures number { IfSome result (λ x. (¬ Contains seat.new.ended range) × IsInRange self.now range x) }
+        ensures number { IfSome result (λ x. (¬ Contains seat.new.ended range)
+            × IsInRange self.now range x) }
         ensures room { IfSome result (λ _. length seat.old.drawn < self.now.parts) }
-        ensures none { IfNone result ((seat.new.drawn ≡ seat.old.drawn) × Contains seat.new.ended range) }
+        ensures none { IfNone result ((seat.new.drawn ≡ seat.old.drawn)
+            × Contains seat.new.ended range) }
         ensures ended { IsWithin seat.old.ended seat.new.ended }
     {
         let _ = &self.plan;
@@ -80,7 +84,8 @@ impl Board {
         ensures some { IfSome result (λ x. Gains self.now seat.old seat.new x) }
         ensures first { IfSome result (λ x. IsOfFirst self.now from to seat.new.ended x) }
         ensures room { IfSome result (λ _. length seat.old.drawn < self.now.parts) }
-        ensures none { IfNone result ((seat.new.drawn ≡ seat.old.drawn) × EndedWithin from to seat.new.ended) }
+        ensures none { IfNone result ((seat.new.drawn ≡ seat.old.drawn)
+            × EndedWithin from to seat.new.ended) }
         ensures ended { IsWithin seat.old.ended seat.new.ended }
     {
         let _ = &self.plan;
@@ -107,10 +112,12 @@ impl Board {
         ensures seat { KeepsPlaces seat.old seat.new }
         ensures notes { KeepsNotes seat.old seat.new }
         ensures some { IfSome result (λ x. Gains self.now seat.old seat.new x) }
-        ensures home { IfSome result (λ x. ¬ Contains seat.new.ended home → IsInRange self.now home x) }
+        ensures home { IfSome result (λ x. ¬ Contains seat.new.ended home
+            → IsInRange self.now home x) }
         ensures order { IfSome result (λ x. IsNext self.now home seat.new.ended x) }
         ensures room { IfSome result (λ _. length seat.old.drawn < self.now.parts) }
-        ensures none { IfNone result ((seat.new.drawn ≡ seat.old.drawn) × AllEnded self.now.ranges seat.new.ended) }
+        ensures none { IfNone result ((seat.new.drawn ≡ seat.old.drawn)
+            × AllEnded self.now.ranges seat.new.ended) }
         ensures ended { IsWithin seat.old.ended seat.new.ended }
     {
         let drawn = self.sweep(seat, home, self.plan.ranges);

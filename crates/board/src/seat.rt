@@ -45,7 +45,8 @@ impl Seat {
     /// Whether the seat knows this range as ended.
     pub(crate) fn knows_ended(&self, range: u32) -> bool
         requires { range < 64 }
-        ensures { MatchBool result (Contains self.now.ended range) (¬ Contains self.now.ended range) }
+        ensures { MatchBool result (Contains self.now.ended range)
+            (¬ Contains self.now.ended range) }
     {
         self.ended[range as usize]
     }

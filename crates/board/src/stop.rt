@@ -28,7 +28,8 @@ impl Board {
     fn is_stopped(&self, seat: &mut Seat) -> bool
         requires board { seat.old.board ≡ self.now }
         ensures seat { KeepsPlaces seat.old seat.new }
-        ensures same { (seat.new.drawn ≡ seat.old.drawn) × (seat.new.ended ≡ seat.old.ended) × (seat.new.stopped ≡ seat.old.stopped) }
+        ensures same { (seat.new.drawn ≡ seat.old.drawn) × (seat.new.ended ≡ seat.old.ended)
+            × (seat.new.stopped ≡ seat.old.stopped) }
         ensures told { seat.new.told ≡ result }
         ensures clear { result ≡ false → (seat.old.stopped ≡ false) × (seat.old.told ≡ false) }
     {
@@ -45,14 +46,19 @@ impl Board {
         requires home { home < self.now.ranges }
         ensures seat { KeepsPlaces seat.old seat.new }
         ensures part { IfPart result (λ x. Gains self.now seat.old seat.new x) }
-        ensures home { IfPart result (λ x. ¬ Contains seat.new.ended home → IsInRange self.now home x) }
+        ensures home { IfPart result (λ x. ¬ Contains seat.new.ended home
+            → IsInRange self.now home x) }
         ensures order { IfPart result (λ x. IsNext self.now home seat.new.ended x) }
         ensures room { IfPart result (λ _. length seat.old.drawn < self.now.parts) }
-        ensures finished { IfFinished result ((seat.new.drawn ≡ seat.old.drawn) × AllEnded self.now.ranges seat.new.ended) }
-        ensures stopped { IfStopped result ((seat.new.drawn ≡ seat.old.drawn) × (seat.new.ended ≡ seat.old.ended)) }
+        ensures finished { IfFinished result ((seat.new.drawn ≡ seat.old.drawn)
+            × AllEnded self.now.ranges seat.new.ended) }
+        ensures stopped { IfStopped result ((seat.new.drawn ≡ seat.old.drawn)
+            × (seat.new.ended ≡ seat.old.ended)) }
         ensures ended { IsWithin seat.old.ended seat.new.ended }
-        ensures notes { (seat.new.stopped ≡ seat.old.stopped) × (seat.new.told ≡ is_stopped result) }
-        ensures heeds { is_stopped result ≡ false → (seat.old.stopped ≡ false) × (seat.old.told ≡ false) }
+        ensures notes { (seat.new.stopped ≡ seat.old.stopped)
+            × (seat.new.told ≡ is_stopped result) }
+        ensures heeds { is_stopped result ≡ false → (seat.old.stopped ≡ false)
+            × (seat.old.told ≡ false) }
     {
         if self.is_stopped(seat) {
             return Draw::Stopped;

@@ -1,5 +1,5 @@
 -- What a command line may ask for.
-use Rattle.std.specs.Prelude.{◌≡◌, ℕ, ◌≤◌, List, [], Some, IsSomeAnd, codes, decimal, option_map, string_bytes}
+use Rattle.std.specs.Prelude.{◌≡◌, ℕ, ◌≤◌, List, [], Some, IsSomeAnd, codes, decimal, option_map, string_bytes, ⊤}
 use Rattle.clap.specs.Words.{Row, Text, fault_of, first_of, one_of, subcommand_of}
 use Rattle.command.specs.declared.job.Job.{Job}
 use Rattle.command.specs.declared.job.Job.TheVariants.{Recover, Audit}
@@ -11,7 +11,7 @@ use Rattle.redo.specs.declared.rounds.TheConstants.{WORKERS}
 -- its numbers lie in their ranges
 abbrev pub HasRanges : Job → Type 0
 HasRanges (Recover log store out_log out_store options) = AreInRange options
-HasRanges (Audit log store base) = Unit {0}
+HasRanges (Audit log store base) = ⊤
 
 -- the command is the job's, and the values of its options name the job's files
 abbrev pub NamesFiles : (command : Text) → (values : List Row) → Job → Type 0
@@ -49,7 +49,7 @@ abbrev pub GivesNumbers : (values : List Row) → Job → Type 0
 GivesNumbers values (Recover log store out_log out_store options) =
     IsNumberOf values (codes "workers") WORKERS options.workers
     × IsNumberOf values (codes "parts") PAGES options.parts
-GivesNumbers values (Audit log store base) = Unit {0}
+GivesNumbers values (Audit log store base) = ⊤
 
 -- the job has the numbers that the words give, or the defaults of the line
 abbrev pub HasNumbers : (words : List Text) → Job → Type 0

@@ -2,11 +2,7 @@
 //! with the tests of the crates that change pages: redo, undo and a restart on values.
 #![tactic(auto)]
 
-#[cfg(test)]
-mod redo_tests;
-#[cfg(test)]
-mod restart_tests;
 pub mod ten_pages;
 #[cfg(test)]
-mod undo_tests;
+mod tests;
 pub mod written;

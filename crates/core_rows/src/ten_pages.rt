@@ -64,7 +64,7 @@ pub struct HeldGate {
 }
 
 impl HeldGate {
-    /// A gate for so many workers.
+    /// A gate for this number of workers.
     pub fn new(alloc: Global, workers: u64) -> Result<HeldGate, Fault> {
         let mut told = Vec::new(alloc);
         for _ in 0..10 {

@@ -5,7 +5,7 @@ use Rattle.std.proofs.Math.Seq.{take-append_seam}
 use Rattle.std.specs.declared.option.Option.{Option}
 use Rattle.std.specs.Io.KnownBytes.{Appends, Consumes, Keeps}
 use Rattle.std.proofs.KnownBytes.{Appends-kept, Consumes-trans}
-use Rattle.device.specs.Whole.{TookBeginning}
+use Rattle.device.specs.Transfer.{TookBeginning}
 
 -- what is done grows by a piece of the rest, and the rest is what stands behind it
 pub goes_on : (all done rest : List ℕ) (n : ℕ) → all ≡ done ++ rest → all ≡ (done ++ take n rest) ++ take (length rest - n) (drop n rest)

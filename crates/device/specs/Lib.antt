@@ -3,4 +3,4 @@ pub mod Files
 pub mod Kept
 pub mod Memory
 pub mod Slow
-pub mod Whole
+pub mod Transfer

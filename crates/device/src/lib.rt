@@ -5,19 +5,17 @@
 
 mod failures;
 mod file;
-#[cfg(test)]
-mod file_tests;
 mod kept;
 mod memory;
 mod slow;
 #[cfg(test)]
 mod tests;
 mod traits;
-mod whole;
+mod transfer;
 
 pub use failures::Failures;
 pub use file::{FileSink, FileSource};
 pub use memory::{MemorySink, MemorySource};
 pub use slow::{Pace, SlowSink, SlowSource};
 pub use traits::{Failed, Sink, Source};
-pub use whole::{ReadFault, read_all, write_all};
+pub use transfer::{ReadFault, read_all, write_all};

@@ -8,7 +8,7 @@ use crate::kept::Kept;
 use crate::{Failed, Failures, Sink, Source};
 use std::alloc::{AllocError, Global};
 
-/// How a device goes.
+/// How fast a device is, and at which call it fails.
 #[derive(Clone, Copy, Debug)]
 pub struct Pace {
     /// How many bytes a call passes at most. 0 is taken for 1.
@@ -46,7 +46,7 @@ impl Pace {
         }
     }
 
-    /// How many of so many bytes a call passes.
+    /// How many of these bytes a call passes.
     fn count_of(&self, bytes: usize) -> usize
         ensures within { result ≤ bytes }
         ensures progress { 0 < bytes → 0 < result }
@@ -104,8 +104,7 @@ pub struct SlowSink {
 }
 
 impl SlowSink {
-    /// A sink that has taken nothing, with room for so many bytes. `AllocError` where that was
-    /// refused.
+    /// A sink that has taken nothing, with room for `room` bytes. `AllocError` where that was refused.
     pub fn new(alloc: Global, room: usize, pace: Pace) -> Result<SlowSink, AllocError>
         ensures taken { IfOk result (λ sink. bytes_taken sink ≡ []) }
         ensures flushed { IfOk result (λ sink. bytes_flushed sink ≡ []) }

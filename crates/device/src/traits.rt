@@ -5,7 +5,7 @@ ghost use Rattle.std.specs.declared.option.Option.{Option};
 ghost use Rattle.std.specs.Io.{ReadsAtMost, WritesAtMost};
 ghost use Rattle.std.specs.Io.KnownBytes.{Keeps, ReadConsumes, WriteAppends};
 ghost use Rattle.device.specs.Failures.{Counts};
-ghost use Rattle.device.specs.Whole.{Flushes};
+ghost use Rattle.device.specs.Transfer.{Flushes};
 
 /// A device failed. Why, it does not say.
 #[derive(Clone, Copy, Debug, PartialEq, Eq, Drop)]

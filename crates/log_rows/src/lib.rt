@@ -3,8 +3,4 @@
 #![tactic(auto)]
 
 #[cfg(test)]
-mod analysis_tests;
-#[cfg(test)]
-mod audit_tests;
-#[cfg(test)]
-mod wal_tests;
+mod tests;

@@ -1,5 +1,5 @@
 -- The one spelling of a store in bytes (own).
-use Rattle.std.specs.Prelude.{◌≡◌, ◌≢◌, ℕ, ◌+◌, ◌*◌, ◌<◌, ◌≤◌, ◌^◌, List, [], ◌∷◌, ◌++◌, All, length, take, drop}
+use Rattle.std.specs.Prelude.{◌≡◌, ◌≢◌, ℕ, ◌+◌, ◌*◌, ◌<◌, ◌≤◌, ◌^◌, List, [], ◌∷◌, ◌++◌, All, length, take, drop, ⊤}
 use Rattle.std.specs.Int.{w32, w64, to_be_bytes}
 use Rattle.std.specs.List.{flat_map}
 use Rattle.page.specs.declared.fault.Fault.{Fault}
@@ -32,7 +32,7 @@ pub record SpellsStore (bytes : List ℕ) (store : StoreContent) : Type 0 where
   pub fits : FitsStore store
   pub text : bytes ≡ store_text store
 
--- these bytes begin with the header of so many pages, 1 to 4,096, and this master
+-- these bytes begin with a header that has this page count, 1 to 4,096, and this master
 pub record BeginsWithHeader (bytes : List ℕ) (count master : ℕ) : Type 0 where
   pub text : take STORE_HEADER_BYTES bytes ≡ store_header count master
   pub some : 0 < count
@@ -64,7 +64,7 @@ pub record HasBadPage (bytes : List ℕ) (n : ℕ) : Type 0 where
 
 -- why bytes are refused: what is wrong, and nothing that is looked at before it
 abbrev pub StoreFault : List ℕ → Fault → Type 0
-StoreFault bytes NoResource = Unit {0}
+StoreFault bytes NoResource = ⊤
 StoreFault bytes BadStoreHeader = ¬ HasStoreHeader bytes
 StoreFault bytes StoreSize = HasWrongSize bytes
 StoreFault bytes (BadPage n) = HasBadPage bytes n

@@ -1,5 +1,5 @@
 -- The images of pages, one after the other (own).
-use Rattle.std.specs.Prelude.{◌≡◌, ◌≢◌, ℕ, ◌*◌, ◌<◌, List, All, length, slice_index_or, take, drop}
+use Rattle.std.specs.Prelude.{◌≡◌, ◌≢◌, ℕ, ◌*◌, ◌<◌, List, All, length, slice_index_or, take, drop, ⊤}
 use Rattle.std.specs.List.{flat_map}
 use Rattle.page.specs.declared.fault.Fault.{Fault}
 use Rattle.page.specs.declared.fault.Fault.TheVariants.{NoResource, BadPage}
@@ -22,14 +22,14 @@ pub record SpellPages (images : List ℕ) (count : ℕ) (pages : List Page) : Ty
   pub fits : All FitsPage pages
   pub text : images ≡ flat_map page_text pages
 
--- page n is the smallest of so many whose image spells no page of its number
+-- page n is the smallest below the count whose image spells no page of its number
 pub record FirstBadPage (images : List ℕ) (count n : ℕ) : Type 0 where
   pub below : n < count
   pub good : (i : ℕ) → i < n → HasPage images i
   pub bad : (page : Page) → SpellsPage (image_of images n) page → page.number ≢ n
 
--- why images of so many pages are refused
+-- why the images of a store with this page count are refused
 abbrev pub PagesFault : List ℕ → ℕ → Fault → Type 0
-PagesFault images count NoResource = Unit {0}
+PagesFault images count NoResource = ⊤
 PagesFault images count (BadPage n) = FirstBadPage images count n
 PagesFault images count e = ⊥

@@ -40,7 +40,8 @@ impl Page {
     /// Puts a value, or none, into slot `i` as the record at this LSN did.
     pub fn set(&mut self, i: usize, value: Option<Value>, lsn: u64)
         requires { i < SLOTS }
-        ensures { self.new ≡ record self.old { lsn = lsn; slots = slice_set self.old.slots i value } }
+        ensures { self.new
+            ≡ record self.old { lsn = lsn; slots = slice_set self.old.slots i value } }
     {
         self.slots[i] = value;
         self.lsn = lsn;

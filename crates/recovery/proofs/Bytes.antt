@@ -16,7 +16,7 @@ use Rattle.wal.proofs.CutBytes.{spellings-append}
 use Rattle.redo.specs.Parting.{PartingContent, by_number}
 use Rattle.restart.specs.declared.options.Options.{Options}
 use Rattle.restart.specs.Restart.{AreSettings, InputFault, RestartFault}
-use Rattle.recovery.specs.Recovery.{Are, AreLawful, Cause}
+use Rattle.recovery.specs.Recovery.{Decoded, AreLawful, Cause}
 use Rattle.restart.specs.Options.{AreInRange, OptionsFault}
 use Rattle.restart.proofs.Causes.{settings_hold}
 use Rattle.wal.specs.Headers.{header_of}
@@ -39,8 +39,8 @@ pub torn_within : (bytes : List ℕ) (read : LogContent) (torn : ℕ) → Reads 
 torn_within bytes read torn reads = omega (arith, ap length reads.text, length-append (log_text read) reads.tail, reads.torn_count)
 
 -- what was read of lawful bytes is lawful
-pub is_lawful : {base : BasePages} {log store : List ℕ} (bytes : AreLawful base log store) (read : LogContent) (before : StoreContent) → read ≡ bytes.are.read → before ≡ bytes.are.before → Lawful base read before
-is_lawful {base} bytes read before e f = subst (λ l. Lawful base l before) (sym e) (subst (Lawful base bytes.are.read) (sym f) bytes.lawful)
+pub is_lawful : {base : BasePages} {log store : List ℕ} (bytes : AreLawful base log store) (read : LogContent) (before : StoreContent) → read ≡ bytes.decoded.read → before ≡ bytes.decoded.before → Lawful base read before
+is_lawful {base} bytes read before e f = subst (λ l. Lawful base l before) (sym e) (subst (Lawful base bytes.decoded.read) (sym f) bytes.lawful)
 
 -- what stands there is read, unless memory is refused
 pub read_alone : {X Y : Type 0} (view : X → Y) (e : Fault) (y : Y) → Gives view (Err e) (Ok y) → e ≡ NoResource
@@ -71,13 +71,13 @@ dealt_by_number pages parts part_of is = ap length is ∙ length-map-range_with_
 
 -- WHY IT IS REFUSED
 -- a refusal of the restart is one of the recovery
-pub restart_cause : (log store : List ℕ) (options : Options) (parting : PartingContent) (e : Fault) → AreInRange options → (are : Are log store) → AreSettings (length are.before.pages) parting options.workers
-    → RestartFault are.read are.before parting options.workers e → Cause log store options e
-restart_cause log store options parting e range are fit (inl h) = absurd (settings_hold (length are.before.pages) parting options.workers e fit h)
-restart_cause log store options parting e range are fit (inr h) = by_input e h.1
+pub restart_cause : (log store : List ℕ) (options : Options) (parting : PartingContent) (e : Fault) → AreInRange options → (decoded : Decoded log store) → AreSettings (length decoded.before.pages) parting options.workers
+    → RestartFault decoded.read decoded.before parting options.workers e → Cause log store options e
+restart_cause log store options parting e range decoded fit (inl h) = absurd (settings_hold (length decoded.before.pages) parting options.workers e fit h)
+restart_cause log store options parting e range decoded fit (inr h) = by_input e h.1
   where
-    by_input : (e : Fault) → InputFault are.read are.before e → Cause log store options e
+    by_input : (e : Fault) → InputFault decoded.read decoded.before e → Cause log store options e
     by_input NoResource h = tt
     by_input BadWorkers h = absurd h.1.holds
     by_input BadParting h = absurd h.1.holds
-    by_input e h = (range, inr (inr (are, h)))
+    by_input e h = (range, inr (inr (decoded, h)))

@@ -10,7 +10,7 @@ use Rattle.wal.specs.Reads.{Reads, log_text}
 use Rattle.wal.specs.Meaning.{BasePages}
 use Rattle.wal.specs.Theorems.{GoesOn}
 use Rattle.wal.proofs.CutBytes.{cuts_settle}
-use Rattle.device.specs.Whole.{TookBeginning}
+use Rattle.device.specs.Transfer.{TookBeginning}
 use Rattle.restart.specs.declared.options.Options.{Options}
 use Rattle.recovery.specs.Text.{ReportContent}
 use Rattle.recovery.specs.Recovery.{Recovers, AreLawful, AreCut, Cause}
@@ -43,12 +43,12 @@ lent_makes {log_left} {store_left} log lent_log store new_log new_store report r
 abbrev pub lent_lawful : {base : BasePages} {log_left store_left : Option (List ℕ)} (log lent_log store log_text store_text : List ℕ) → AreRead log_left store_left log store → lent_log ≡ log
     → log_left ≡ Some log_text → store_left ≡ Some store_text → AreLawful base log_text store_text → AreLawful base lent_log store
 lent_lawful {base} {log_left} {store_left} log lent_log store log_text store_text read e tells_log tells_store bytes = record {
-  are = record {
-    read = bytes.are.read;
-    torn = bytes.are.torn;
-    before = bytes.are.before;
-    reads = subst (λ l. Reads l bytes.are.read bytes.are.torn) (sym (e ∙ told log_left log log_text read.log_read tells_log)) bytes.are.reads;
-    spells = subst (λ s. SpellsStore s bytes.are.before) (sym (told store_left store store_text read.store_read tells_store)) bytes.are.spells;
+  decoded = record {
+    read = bytes.decoded.read;
+    torn = bytes.decoded.torn;
+    before = bytes.decoded.before;
+    reads = subst (λ l. Reads l bytes.decoded.read bytes.decoded.torn) (sym (e ∙ told log_left log log_text read.log_read tells_log)) bytes.decoded.reads;
+    spells = subst (λ s. SpellsStore s bytes.decoded.before) (sym (told store_left store store_text read.store_read tells_store)) bytes.decoded.spells;
   };
   lawful = bytes.lawful;
 }
@@ -103,21 +103,21 @@ behind_front before between after front back out (count, within, taken) =
 
 -- AFTER AN INTERRUPTION
 module _ {base : BasePages} {log store : List ℕ} (bytes : AreCut base log store) where
-  pub goes_on : GoesOn base bytes.first.are.read bytes.first.are.before bytes.cut.whole bytes.left
+  pub goes_on : GoesOn base bytes.first.decoded.read bytes.first.decoded.before bytes.cut.whole bytes.left
   goes_on =
-      cuts_settle base bytes.first.are.read bytes.first.are.before bytes.first_log bytes.first.are.torn log bytes.left
-      bytes.first.are.reads bytes.first.are.spells.fits.numbered bytes.spells.fits.numbered bytes.first.lawful bytes.cut
+      cuts_settle base bytes.first.decoded.read bytes.first.decoded.before bytes.first_log bytes.first.decoded.torn log bytes.left
+      bytes.first.decoded.reads bytes.first.decoded.spells.fits.numbered bytes.spells.fits.numbered bytes.first.lawful bytes.cut
 
   -- what an interrupted restart leaves is lawful
   abbrev pub cut_lawful : AreLawful base log store
   cut_lawful = record {
-    are = record { read = bytes.cut.whole; torn = bytes.cut.torn; before = bytes.left; reads = bytes.cut.reads; spells = bytes.spells };
+    decoded = record { read = bytes.cut.whole; torn = bytes.cut.torn; before = bytes.left; reads = bytes.cut.reads; spells = bytes.spells };
     lawful = goes_on.lawful;
   }
 
   -- and what a restart on it puts out is what the first would have
   pub completed : (log_before log_after store_before store_after : Option (List ℕ)) (report : ReportContent) → Delivers base bytes.cut.whole bytes.left log_before log_after store_before store_after report
-      → Completes base bytes.first.are.read bytes.first.are.before log_before log_after store_before store_after
+      → Completes base bytes.first.decoded.read bytes.first.decoded.before log_before log_after store_before store_after
   completed log_before log_after store_before store_after report out = record {
     log_out = subst (Appends log_before log_after) (out.recovered.log_is ∙ ap log_text goes_on.same_log) out.log_out;
     store_out = subst (Appends store_before store_after) (out.recovered.store_is ∙ ap store_text goes_on.same_store) out.store_out;

@@ -13,7 +13,7 @@ use Rattle.restart.specs.declared.options.Options.{Options}
 use Rattle.restart.specs.Restart.{Restarts, InputFault}
 use Rattle.restart.specs.Options.{AreInRange, OptionsFault}
 use Rattle.restart.proofs.OptionFaults.{options_hold, one_options_fault}
-use Rattle.recovery.specs.Recovery.{Are, Cause}
+use Rattle.recovery.specs.Recovery.{Decoded, Cause}
 use Rattle.wal.specs.Meaning.{no_base}
 use Rattle.audit.specs.Base.{FirstFaultOver, OneFirstFaultOver, NoFaultOfTheLawfulOver}
 use Rattle.recovery.specs.Audit.{TextFault, OverFault}
@@ -32,11 +32,11 @@ module _ (log store : List ℕ) (no_log_fault : NoFaultOfALog) (reading : OneRea
   log_is_read : (read : LogContent) (torn : ℕ) → Reads log read torn → (e : Fault) → (e ≡ NoResource → ⊥) → LogFault log e → ⊥
   log_is_read read torn reads e some h = some (no_log_fault log read torn reads e h)
 
-  store_is_spelled : (are : Are log store) → (e : Fault) → (e ≡ NoResource → ⊥) → StoreFault store e → ⊥
-  store_is_spelled are e some h = some (no_store_fault store are.before are.spells e h)
+  store_is_spelled : (decoded : Decoded log store) → (e : Fault) → (e ≡ NoResource → ⊥) → StoreFault store e → ⊥
+  store_is_spelled decoded e some h = some (no_store_fault store decoded.before decoded.spells e h)
 
   -- two texts are read as one log and one store
-  as_read : (Holds : LogContent → StoreContent → Type 0) (a b : Are log store) → Holds a.read a.before → Holds b.read b.before
+  as_read : (Holds : LogContent → StoreContent → Type 0) (a b : Decoded log store) → Holds a.read a.before → Holds b.read b.before
   as_read Holds a b h =
       let read : a.read ≡ b.read = (reading log a.read b.read a.torn b.torn a.reads b.reads).0 in
       let before : a.before ≡ b.before = spelling store a.before b.before a.spells b.spells in
@@ -55,10 +55,10 @@ module _ (log store : List ℕ) (no_log_fault : NoFaultOfALog) (reading : OneRea
     one_text_fault one_log one_store one_input d e some other (inr (inr x)) (inr (inr y)) =
         one_input y.0.read y.0.before d e some other (as_read (λ l before. InputFault l before d) x.0 y.0 x.1) y.1
 
-    pub no_text_fault : (are : Are log store) → HasNoCause (InputFault are.read are.before) → (e : Fault) → (e ≡ NoResource → ⊥) → TextFault InputFault log store e → ⊥
-    no_text_fault are none e some (inl h) = log_is_read are.read are.torn are.reads e some h
-    no_text_fault are none e some (inr (inl h)) = store_is_spelled are e some h.3
-    no_text_fault are none e some (inr (inr h)) = some (none e (as_read (λ l before. InputFault l before e) h.0 are h.1))
+    pub no_text_fault : (decoded : Decoded log store) → HasNoCause (InputFault decoded.read decoded.before) → (e : Fault) → (e ≡ NoResource → ⊥) → TextFault InputFault log store e → ⊥
+    no_text_fault decoded none e some (inl h) = log_is_read decoded.read decoded.torn decoded.reads e some h
+    no_text_fault decoded none e some (inr (inl h)) = store_is_spelled decoded e some h.3
+    no_text_fault decoded none e some (inr (inr h)) = some (none e (as_read (λ l before. InputFault l before e) h.0 decoded h.1))
 
 pub one_recovery_fault : OneLogFault → NoFaultOfALog → OneReading → OneStoreFault → NoFaultOfAStore → OneStoreSpelling
     → ((read : LogContent) (before : StoreContent) → HasOneCause (InputFault read before)) → OneRecoveryFault
@@ -82,7 +82,7 @@ no_fault_of_a_recovery no_log reading no_store spelling no_input log store optio
 no_fault_of_a_recovery no_log reading no_store spelling no_input log store options new_log new_store report none r e h =
     elim (options_first log store options e (λ i. absurd cc) h) [
       | inl a ↦ absurd (none e a)
-      | inr a ↦ absurd (no_text_fault log store no_log reading no_store spelling InputFault r.are (no_input r.are.read r.are.before r.outcome r.restarts) e (λ i. absurd cc) a.1)
+      | inr a ↦ absurd (no_text_fault log store no_log reading no_store spelling InputFault r.decoded (no_input r.decoded.read r.decoded.before r.outcome r.restarts) e (λ i. absurd cc) a.1)
     ]
 
 -- THE AUDIT
@@ -93,7 +93,7 @@ one_audit_fault one_log no_log reading one_store no_store spelling one_first log
 pub no_fault_of_lawful_texts : NoFaultOfALog → OneReading → NoFaultOfAStore → OneStoreSpelling → NoFaultOfTheLawful → NoFaultOfLawfulTexts
 no_fault_of_lawful_texts no_log reading no_store spelling none log store bytes NoResource h = refl
 no_fault_of_lawful_texts no_log reading no_store spelling none log store bytes e h =
-    absurd (no_text_fault log store no_log reading no_store spelling (FirstFault no_base) bytes.are (none no_base bytes.are.read bytes.are.before bytes.lawful) e (λ i. absurd cc) h)
+    absurd (no_text_fault log store no_log reading no_store spelling (FirstFault no_base) bytes.decoded (none no_base bytes.decoded.read bytes.decoded.before bytes.lawful) e (λ i. absurd cc) h)
 
 -- over a base store
 module _ (base : List ℕ) (no_store : NoFaultOfAStore) (spelling : OneStoreSpelling) (read : LogContent) (before : StoreContent) where
@@ -118,10 +118,10 @@ one_audit_fault_over one_log no_log reading one_store no_store spelling one_over
 pub no_fault_of_lawful_texts_over : NoFaultOfALog → OneReading → NoFaultOfAStore → OneStoreSpelling → NoFaultOfTheLawfulOver → NoFaultOfLawfulTextsOver
 no_fault_of_lawful_texts_over no_log reading no_store spelling none log store base bytes e h = by e h
   where
-    over : HasNoCause (OverFault base bytes.are.read bytes.are.before)
+    over : HasNoCause (OverFault base bytes.decoded.read bytes.decoded.before)
     over NoResource i = refl
-    over f i = absurd (no_over_fault base no_store spelling bytes.are.read bytes.are.before bytes.below bytes.spells (none bytes.are.read bytes.are.before bytes.below bytes.lawful) f (λ j. absurd cc) i)
+    over f i = absurd (no_over_fault base no_store spelling bytes.decoded.read bytes.decoded.before bytes.below bytes.spells (none bytes.decoded.read bytes.decoded.before bytes.below bytes.lawful) f (λ j. absurd cc) i)
 
     by : (f : Fault) → TextFault (OverFault base) log store f → f ≡ NoResource
     by NoResource i = refl
-    by f i = absurd (no_text_fault log store no_log reading no_store spelling (OverFault base) bytes.are over f (λ j. absurd cc) i)
+    by f i = absurd (no_text_fault log store no_log reading no_store spelling (OverFault base) bytes.decoded over f (λ j. absurd cc) i)

@@ -19,21 +19,23 @@ use Rattle.wal.specs.Tail.{tail_of, with_tail}
 use Rattle.wal.specs.Frames.{length_of}
 use Rattle.wal.specs.Reads.{Reads, IsTorn, spellings, log_text}
 use Rattle.wal.specs.Spelling.{Fits, body, frame}
-use Rattle.wal.specs.Store.{Lawful, PageLaw, Cut}
+use Rattle.wal.specs.Pages.{PageLaw}
+use Rattle.wal.specs.Store.{Lawful}
+use Rattle.wal.specs.Cut.{Cut}
 use Rattle.wal.proofs.Fields.{wide32}
 use Rattle.wal.proofs.Histories.{after-append, first_in_front, record_in_front, size_of_log}
 use Rattle.wal.proofs.Whole.{body_size}
 use Rattle.recovery.specs.Devices.{AreCutOf, Leaves, LeavesCut}
 use Rattle.recovery.specs.Recovery.{AreLawful}
-use Rattle.undo.specs.Undone.{AreSpelled}
+use Rattle.undo.specs.Undone.{AreWritable}
 use Rattle.recovery.proofs.Bytes.{text_extended}
 use Rattle.wal.specs.Headers.{FitsStart}
 
 -- THE NEW LOG
 -- it is read whole, with nothing torn
-pub reads_extended : (bytes : List ℕ) (read : LogContent) (appended : List Record) → bytes ≡ log_text (read ⧺ map content appended) → FitsStart read.begins → AllByRecursion Fits read.records → AreSpelled appended
+pub reads_extended : (bytes : List ℕ) (read : LogContent) (appended : List Record) → bytes ≡ log_text (read ⧺ map content appended) → FitsStart read.begins → AllByRecursion Fits read.records → AreWritable appended
     → last_lsn (history read) + length appended < 2 ^ 64 → Reads bytes (read ⧺ map content appended) 0
-reads_extended bytes read appended text starts fits spelled few =
+reads_extended bytes read appended text starts fits writable few =
     let all = read ⧺ map content appended in
     record {
       tail = [];
@@ -41,7 +43,7 @@ reads_extended bytes read appended text starts fits spelled few =
       torn_tail = inl (omega arith);
       torn_count = refl;
       starts = starts;
-      each = recursion_from_All Fits all.records (All-append Fits read.records (map content appended) (All-from_recursion Fits read.records fits) (All-map Fits content appended spelled));
+      each = recursion_from_All Fits all.records (All-append Fits read.records (map content appended) (All-from_recursion Fits read.records fits) (All-map Fits content appended writable));
       few = omega (arith, few, size_of_log all, size_of_log read, length-append read.records (map content appended), length-map appended content);
     }
 
@@ -177,29 +179,29 @@ module _ (base : BasePages) (read : LogContent) (before : StoreContent) (lawful 
       }
 
 -- WHAT A FAULT OF A SINK LEAVES
-module _ {base : BasePages} {log store : List ℕ} (bytes : AreLawful base log store) (new_log : List ℕ) (reads : Reads new_log (with_tail bytes.are.read) 0) where
-  cut_of : (out written missing : List ℕ) → out ≡ log_text bytes.are.read ++ written → new_log ≡ out ++ missing → AreCutOf base bytes.are.read bytes.are.before out store
+module _ {base : BasePages} {log store : List ℕ} (bytes : AreLawful base log store) (new_log : List ℕ) (reads : Reads new_log (with_tail bytes.decoded.read) 0) where
+  cut_of : (out written missing : List ℕ) → out ≡ log_text bytes.decoded.read ++ written → new_log ≡ out ++ missing → AreCutOf base bytes.decoded.read bytes.decoded.before out store
   cut_of out written missing begins goes_on =
       record {
         cut = record {
           first_log = log;
           first_store = store;
           first = bytes;
-          left = bytes.are.before;
-          spells = bytes.are.spells;
-          cut = beside_old_store base bytes.are.read bytes.are.before bytes.lawful new_log reads out written missing begins goes_on;
+          left = bytes.decoded.before;
+          spells = bytes.decoded.spells;
+          cut = beside_old_store base bytes.decoded.read bytes.decoded.before bytes.lawful new_log reads out written missing begins goes_on;
         };
         read_is = refl;
         store_is = refl;
       }
 
   pub leaves_cut : (new_store : List ℕ) (log_before log_after store_before store_after : Option (List ℕ)) (e : Fault) → Leaves new_log new_store log_before log_after store_before store_after e
-      → LeavesCut base bytes.are.read bytes.are.before store log_before log_after e
+      → LeavesCut base bytes.decoded.read bytes.decoded.before store log_before log_after e
   leaves_cut new_store log_before log_after store_before store_after WriteLog (took, kept) =
       let out = take took.0 new_log in
       (out, took.2, λ written begins. cut_of out written (drop took.0 new_log) begins (sym (take-append-drop took.0 new_log)))
   leaves_cut new_store log_before log_after store_before store_after WriteStore (out, took) =
-      let read = bytes.are.read in
-      let begins : new_log ≡ log_text read ++ spellings (last_lsn (history read) + 1) (tail_of read) = new_log_is base read bytes.are.before bytes.lawful new_log reads ∙ sym (text_more read (tail_of read)) in
+      let read = bytes.decoded.read in
+      let begins : new_log ≡ log_text read ++ spellings (last_lsn (history read) + 1) (tail_of read) = new_log_is base read bytes.decoded.before bytes.lawful new_log reads ∙ sym (text_more read (tail_of read)) in
       (new_log, out, cut_of new_log (spellings (last_lsn (history read) + 1) (tail_of read)) [] begins (sym (append-nil new_log)))
   leaves_cut new_store log_before log_after store_before store_after e h = absurd h

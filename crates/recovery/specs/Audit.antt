@@ -8,14 +8,14 @@ use Rattle.wal.specs.Meaning.{no_base}
 use Rattle.wal.specs.Reads.{Reads, Cause as LogFault}
 use Rattle.audit.specs.FirstFault.{FirstFault}
 use Rattle.audit.specs.Base.{LawfulOver, FirstFaultOver}
-use Rattle.recovery.specs.Recovery.{Are}
+use Rattle.recovery.specs.Recovery.{Decoded}
 
 -- why bytes are not those of a log and its store of which no such fault stands, in the order in which causes are looked for,
 -- memory aside
 abbrev pub TextFault : (LogContent → StoreContent → Fault → Type 0) → (log store : List ℕ) → Fault → Type 0
 TextFault Broken log store e =
     LogFault log e ⊎ ((read : LogContent) × (torn : ℕ) × Reads log read torn × StoreFault store e)
-    ⊎ ((are : Are log store) × Broken are.read are.before e)
+    ⊎ ((decoded : Decoded log store) × Broken decoded.read decoded.before e)
 
 -- OVER EMPTY PAGES
 abbrev pub AuditFault : (log store : List ℕ) → Fault → Type 0
@@ -24,10 +24,10 @@ AuditFault log store e = TextFault (FirstFault no_base) log store e
 -- OVER A BASE STORE
 -- the bytes of a log and its store that are lawful over the store that these bytes are
 pub record AreLawfulOver (log store base : List ℕ) : Type 0 where
-  pub are : Are log store
+  pub decoded : Decoded log store
   pub below : StoreContent
   pub spells : SpellsStore base below
-  pub lawful : LawfulOver are.read are.before below
+  pub lawful : LawfulOver decoded.read decoded.before below
 
 -- the bytes are no store, or they are one, and what stands over it is refused
 abbrev pub OverFault : (base : List ℕ) → LogContent → StoreContent → Fault → Type 0

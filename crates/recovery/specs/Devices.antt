@@ -1,5 +1,5 @@
 -- What a recovery over devices reads, writes and leaves (own).
-use Rattle.std.specs.Prelude.{◌≡◌, ℕ, ◌+◌, ◌⊎◌, List, ◌++◌, Option, IfSome, Result, Err}
+use Rattle.std.specs.Prelude.{◌≡◌, ℕ, ◌+◌, ◌⊎◌, List, ◌++◌, Option, IfSome, Result, Err, ⊤}
 use Rattle.std.specs.Io.KnownBytes.{Appends, Keeps}
 use Rattle.page.specs.declared.fault.Fault.{Fault}
 use Rattle.page.specs.declared.fault.Fault.TheVariants.{NoResource, ReadLog, ReadStore, WriteLog, WriteStore, BadWorkers, BadParting}
@@ -10,7 +10,7 @@ use Rattle.wal.specs.Records.{LogContent}
 use Rattle.wal.specs.Tail.{with_tail}
 use Rattle.wal.specs.Reads.{log_text}
 use Rattle.wal.specs.Store.{store_out}
-use Rattle.device.specs.Whole.{TookBeginning, Flushes}
+use Rattle.device.specs.Transfer.{TookBeginning, Flushes}
 use Rattle.restart.specs.declared.options.Options.{Options}
 use Rattle.recovery.specs.Text.{ReportContent}
 use Rattle.recovery.specs.Recovery.{Recovers, Recovered, AreCut, Cause}
@@ -76,18 +76,18 @@ IsOut log_left store_left log_before log_after store_before store_after e =
 
 -- why sources are not read, memory aside
 abbrev pub IsReadFault : Fault → Type 0
-IsReadFault NoResource = Unit {0}
-IsReadFault ReadLog = Unit {0}
-IsReadFault ReadStore = Unit {0}
+IsReadFault NoResource = ⊤
+IsReadFault ReadLog = ⊤
+IsReadFault ReadStore = ⊤
 IsReadFault e = ⊥
 
 -- why a recovery over devices is refused: a device, memory, the options, or the texts that were read
 abbrev pub DeviceCause : (log_left store_left : Option (List ℕ)) → Options → Fault → Type 0
-DeviceCause log_left store_left options NoResource = Unit {0}
-DeviceCause log_left store_left options ReadLog = Unit {0}
-DeviceCause log_left store_left options ReadStore = Unit {0}
-DeviceCause log_left store_left options WriteLog = Unit {0}
-DeviceCause log_left store_left options WriteStore = Unit {0}
+DeviceCause log_left store_left options NoResource = ⊤
+DeviceCause log_left store_left options ReadLog = ⊤
+DeviceCause log_left store_left options ReadStore = ⊤
+DeviceCause log_left store_left options WriteLog = ⊤
+DeviceCause log_left store_left options WriteStore = ⊤
 DeviceCause log_left store_left options BadWorkers = OptionsFault options BadWorkers
 DeviceCause log_left store_left options BadParting = OptionsFault options BadParting
 DeviceCause log_left store_left options e = (log : List ℕ) × (store : List ℕ) × AreRead log_left store_left log store × Cause log store options e
@@ -110,8 +110,8 @@ pub record Completes (base : BasePages) (read : LogContent) (before : StoreConte
 -- bytes that a restart of this log and its store may have left, if it was interrupted
 pub record AreCutOf (base : BasePages) (read : LogContent) (before : StoreContent) (log store : List ℕ) : Type 0 where
   pub cut : AreCut base log store
-  pub read_is : cut.first.are.read ≡ read
-  pub store_is : cut.first.are.before ≡ before
+  pub read_is : cut.first.decoded.read ≡ read
+  pub store_is : cut.first.decoded.before ≡ before
 
 -- what a fault of a sink leaves of the new log is such bytes beside the text of the store that was read: after the log's fault
 -- where it begins with all of the log read, after the store's in any case
@@ -119,13 +119,13 @@ abbrev pub LeavesCut : BasePages → (read : LogContent) (before : StoreContent)
 LeavesCut base read before store log_before log_after WriteLog =
     (out : List ℕ) × Appends log_before log_after out × ((written : List ℕ) → out ≡ log_text read ++ written → AreCutOf base read before out store)
 LeavesCut base read before store log_before log_after WriteStore = (out : List ℕ) × Appends log_before log_after out × AreCutOf base read before out store
-LeavesCut base read before store log_before log_after e = Unit {0}
+LeavesCut base read before store log_before log_after e = ⊤
 
 -- a refusal that is no fault of the input
 abbrev pub IsResourceOrDevice : Fault → Type 0
-IsResourceOrDevice NoResource = Unit {0}
-IsResourceOrDevice ReadLog = Unit {0}
-IsResourceOrDevice ReadStore = Unit {0}
-IsResourceOrDevice WriteLog = Unit {0}
-IsResourceOrDevice WriteStore = Unit {0}
+IsResourceOrDevice NoResource = ⊤
+IsResourceOrDevice ReadLog = ⊤
+IsResourceOrDevice ReadStore = ⊤
+IsResourceOrDevice WriteLog = ⊤
+IsResourceOrDevice WriteStore = ⊤
 IsResourceOrDevice e = ⊥

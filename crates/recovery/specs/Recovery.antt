@@ -1,5 +1,5 @@
 -- What a recovery makes of the bytes of a log and a store, and why it is refused (own).
-use Rattle.std.specs.Prelude.{◌≡◌, ℕ, ◌⊎◌, List, ◌++◌, length}
+use Rattle.std.specs.Prelude.{◌≡◌, ℕ, ◌⊎◌, List, ◌++◌, length, ⊤}
 use Rattle.page.specs.declared.fault.Fault.{Fault}
 use Rattle.page.specs.declared.fault.Fault.TheVariants.{NoResource, BadWorkers, BadParting}
 use Rattle.page.specs.Store.{StoreContent}
@@ -8,7 +8,8 @@ use Rattle.wal.specs.Records.{LogContent, history, ◌⧺◌}
 use Rattle.wal.specs.Meaning.{BasePages, in_doubt}
 use Rattle.wal.specs.Tail.{in_doubt_of, losers_of, tail_of, with_tail}
 use Rattle.wal.specs.Reads.{Reads, log_text, Cause as LogFault}
-use Rattle.wal.specs.Store.{Lawful, Cut, store_out}
+use Rattle.wal.specs.Store.{Lawful, store_out}
+use Rattle.wal.specs.Cut.{Cut}
 use Rattle.restart.specs.declared.outcome.Outcome.{Outcome}
 use Rattle.restart.specs.Restart.{appended_by, clrs_in, Restarts, IsSettled, Redoes, InputFault}
 use Rattle.restart.specs.declared.options.Options.{Options}
@@ -17,7 +18,7 @@ use Rattle.recovery.specs.Text.{ReportContent}
 use Rattle.restart.specs.Options.{AreInRange, OptionsFault}
 
 -- what the bytes of a log and of a store are
-pub record Are (log store : List ℕ) : Type 0 where
+pub record Decoded (log store : List ℕ) : Type 0 where
   pub read : LogContent
   pub torn : ℕ
   pub before : StoreContent
@@ -46,19 +47,19 @@ report_of read torn x = record {
 -- EVERY INPUT. The new log is the log without its torn tail and what a restart appends, and is read as such; the new store is
 -- that of the restart.
 pub record Recovers (log store new_log new_store : List ℕ) (report : ReportContent) : Type 0 where
-  pub are : Are log store
+  pub decoded : Decoded log store
   pub outcome : Outcome
-  pub restarts : Restarts are.read are.before outcome
-  pub log_is : new_log ≡ log_text (are.read ⧺ appended_by outcome)
-  pub reads : Reads new_log (are.read ⧺ appended_by outcome) 0
+  pub restarts : Restarts decoded.read decoded.before outcome
+  pub log_is : new_log ≡ log_text (decoded.read ⧺ appended_by outcome)
+  pub reads : Reads new_log (decoded.read ⧺ appended_by outcome) 0
   pub store_is : new_store ≡ store_text outcome.store
-  pub report_is : report ≡ report_of are.read are.torn outcome
+  pub report_is : report ≡ report_of decoded.read decoded.torn outcome
 
 -- LAWFUL INPUT
 -- the bytes of a log and its store that are lawful over these base pages
 pub record AreLawful (base : BasePages) (log store : List ℕ) : Type 0 where
-  pub are : Are log store
-  pub lawful : Lawful base are.read are.before
+  pub decoded : Decoded log store
+  pub lawful : Lawful base decoded.read decoded.before
 
 -- the new log is the log and its tail, the new store what the winners leave; those in doubt are told, and stay so; a restart on
 -- both appends nothing and leaves the store as it is
@@ -82,15 +83,15 @@ pub record AreCut (base : BasePages) (log store : List ℕ) : Type 0 where
   pub first : AreLawful base first_log first_store
   pub left : StoreContent
   pub spells : SpellsStore store left
-  pub cut : Cut base first.are.read first.are.before log left
+  pub cut : Cut base first.decoded.read first.decoded.before log left
 
 -- REFUSALS
 -- why bytes are refused, in the order in which causes are looked for, memory aside
 abbrev pub Cause : List ℕ → List ℕ → Options → Fault → Type 0
-Cause log store options NoResource = Unit {0}
+Cause log store options NoResource = ⊤
 Cause log store options BadWorkers = OptionsFault options BadWorkers
 Cause log store options BadParting = OptionsFault options BadParting
 Cause log store options e =
     AreInRange options
     × (LogFault log e ⊎ ((read : LogContent) × (torn : ℕ) × Reads log read torn × StoreFault store e)
-    ⊎ ((are : Are log store) × InputFault are.read are.before e))
+    ⊎ ((decoded : Decoded log store) × InputFault decoded.read decoded.before e))

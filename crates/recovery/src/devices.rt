@@ -6,7 +6,7 @@ ghost use Rattle.std.specs.Io.KnownBytes.{IsAtEnd};
 ghost use Rattle.page.specs.declared.fault.Fault.{Fault};
 ghost use Rattle.page.specs.declared.fault.Fault.TheVariants.{NoResource, ReadLog, ReadStore, WriteLog, WriteStore};
 ghost use Rattle.device.specs.Failures.{Counts};
-ghost use Rattle.device.specs.Whole.{TookBeginning, Flushes};
+ghost use Rattle.device.specs.Transfer.{TookBeginning, Flushes};
 ghost use Rattle.wal.specs.Meaning.{BasePages};
 ghost use Rattle.recovery.specs.Recovery.{new_log, AreLawful, AreCut};
 ghost use Rattle.restart.specs.Options.{AreInRange, OptionsFault};
@@ -46,7 +46,8 @@ fn read_both<L: Source, S: Source>(
     log: &mut L,
     store: &mut S,
 ) -> Result<(Vec<u8>, Vec<u8>), Fault>
-    ensures read { IfOk result (λ x. AreRead (L.left log.old) (S.left store.old) x.0.items x.1.items) }
+    ensures read { IfOk result (λ x. AreRead (L.left log.old)
+        (S.left store.old) x.0.items x.1.items) }
     ensures ends { OnOk result (IsAtEnd (L.left log.new) × IsAtEnd (S.left store.new)) }
     ensures log_first { (store.new ≡ store.old) ⊎ IsAtEnd (L.left log.new) }
     ensures log_failed { result ≡ Err ReadLog → store.new ≡ store.old }
@@ -61,8 +62,10 @@ fn read_both<L: Source, S: Source>(
 
 /// Writes bytes to a sink and flushes it.
 fn write_whole<S: Sink>(sink: &mut S, bytes: &[u8]) -> Result<(), Failed>
-    ensures all { OnOk result (AreOut bytes.now (S.taken sink.old) (S.taken sink.new) (S.flushed sink.old) (S.flushed sink.new)) }
-    ensures beginning { OnErr result (TookBeginning (S.taken sink.old) (S.taken sink.new) bytes.now) }
+    ensures all { OnOk result (AreOut bytes.now (S.taken sink.old) (S.taken sink.new)
+        (S.flushed sink.old) (S.flushed sink.new)) }
+    ensures beginning { OnErr result
+        (TookBeginning (S.taken sink.old) (S.taken sink.new) bytes.now) }
     ensures cause { Counts (S.failures sink.old) (S.failures sink.new) result }
 {
     write_all(sink, bytes)?;
@@ -72,8 +75,10 @@ fn write_whole<S: Sink>(sink: &mut S, bytes: &[u8]) -> Result<(), Failed>
 /// Writes a log in two pieces and flushes it: what is kept of the log read, and behind it the
 /// frames appended.
 fn write_log<S: Sink>(sink: &mut S, kept: &[u8], frames: &[u8]) -> Result<(), Failed>
-    ensures all { OnOk result (AreOut (kept.now ++ frames.now) (S.taken sink.old) (S.taken sink.new) (S.flushed sink.old) (S.flushed sink.new)) }
-    ensures beginning { OnErr result (TookBeginning (S.taken sink.old) (S.taken sink.new) (kept.now ++ frames.now)) }
+    ensures all { OnOk result (AreOut (kept.now ++ frames.now) (S.taken sink.old) (S.taken sink.new)
+        (S.flushed sink.old) (S.flushed sink.new)) }
+    ensures beginning { OnErr result
+        (TookBeginning (S.taken sink.old) (S.taken sink.new) (kept.now ++ frames.now)) }
     ensures cause { Counts (S.failures sink.old) (S.failures sink.new) result }
 {
     write_all(sink, kept)?;
@@ -87,10 +92,15 @@ fn write_both<L: Sink, S: Sink>(
     store: &mut S,
     recovery: &Recovery,
 ) -> Result<(), Fault>
-    ensures log_out { OnOk result (AreOut (new_log recovery.now) (L.taken log.old) (L.taken log.new) (L.flushed log.old) (L.flushed log.new)) }
-    ensures store_out { OnOk result (AreOut recovery.now.store.items (S.taken store.old) (S.taken store.new) (S.flushed store.old) (S.flushed store.new)) }
-    ensures log_first { (store.new ≡ store.old) ⊎ AreOut (new_log recovery.now) (L.taken log.old) (L.taken log.new) (L.flushed log.old) (L.flushed log.new) }
-    ensures fault { IfErr result (Leaves (new_log recovery.now) recovery.now.store.items (L.taken log.old) (L.taken log.new) (S.taken store.old) (S.taken store.new)) }
+    ensures log_out { OnOk result (AreOut (new_log recovery.now) (L.taken log.old) (L.taken log.new)
+        (L.flushed log.old) (L.flushed log.new)) }
+    ensures store_out { OnOk result (AreOut recovery.now.store.items (S.taken store.old)
+        (S.taken store.new) (S.flushed store.old) (S.flushed store.new)) }
+    ensures log_first { (store.new ≡ store.old)
+        ⊎ AreOut (new_log recovery.now) (L.taken log.old) (L.taken log.new) (L.flushed log.old)
+        (L.flushed log.new) }
+    ensures fault { IfErr result (Leaves (new_log recovery.now) recovery.now.store.items
+        (L.taken log.old) (L.taken log.new) (S.taken store.old) (S.taken store.new)) }
     ensures log_sink { Fails WriteLog result (L.failures log.old) (L.failures log.new) }
     ensures store_sink { Fails WriteStore result (S.failures store.old) (S.failures store.new) }
 {
@@ -137,46 +147,66 @@ pub fn recover<LR: Source, SR: Source, LW: Sink, SW: Sink, G: Gate, R: Threads +
     gate: &G,
 ) -> Result<Report, Fault>
     // On the bytes of a log and its store that are lawful over any base pages: both are out, and a fault is want of memory or a device's.
-    ensures lawful { (base : BasePages) (log_text store_text : List ℕ) → LR.left log.old ≡ Some log_text → SR.left store.old ≡ Some store_text → AreInRange options.now
+    ensures lawful { (base : BasePages) (log_text store_text : List ℕ)
+        → LR.left log.old ≡ Some log_text → SR.left store.old ≡ Some store_text
+        → AreInRange options.now
         → (bytes : AreLawful base log_text store_text)
-        → MatchResult result (Delivers base bytes.are.read bytes.are.before (LW.taken out_log.old) (LW.taken out_log.new) (SW.taken out_store.old) (SW.taken out_store.new)) IsResourceOrDevice }
+        → MatchResult result (Delivers base bytes.decoded.read bytes.decoded.before
+        (LW.taken out_log.old) (LW.taken out_log.new) (SW.taken out_store.old)
+        (SW.taken out_store.new)) IsResourceOrDevice }
 
     // On what a restart of them may leave that was interrupted: what it would have written is out.
-    ensures interrupted { (base : BasePages) (log_text store_text : List ℕ) → LR.left log.old ≡ Some log_text → SR.left store.old ≡ Some store_text → AreInRange options.now
+    ensures interrupted { (base : BasePages) (log_text store_text : List ℕ)
+        → LR.left log.old ≡ Some log_text → SR.left store.old ≡ Some store_text
+        → AreInRange options.now
         → (bytes : AreCut base log_text store_text)
-        → MatchResult result (λ _. Completes base bytes.first.are.read bytes.first.are.before (LW.taken out_log.old) (LW.taken out_log.new) (SW.taken out_store.old) (SW.taken out_store.new)) IsResourceOrDevice }
+        → MatchResult result
+        (λ _. Completes base bytes.first.decoded.read bytes.first.decoded.before
+        (LW.taken out_log.old) (LW.taken out_log.new) (SW.taken out_store.old)
+        (SW.taken out_store.new)) IsResourceOrDevice }
 
     // After a fault of a sink what is out of the new log, beside the store that was read, is such bytes.
-    ensures resumable { (base : BasePages) (log_text store_text : List ℕ) → LR.left log.old ≡ Some log_text → SR.left store.old ≡ Some store_text → AreInRange options.now
+    ensures resumable { (base : BasePages) (log_text store_text : List ℕ)
+        → LR.left log.old ≡ Some log_text → SR.left store.old ≡ Some store_text
+        → AreInRange options.now
         → (bytes : AreLawful base log_text store_text)
-        → IfErr result (LeavesCut base bytes.are.read bytes.are.before store_text (LW.taken out_log.old) (LW.taken out_log.new)) }
+        → IfErr result (LeavesCut base bytes.decoded.read bytes.decoded.before store_text
+        (LW.taken out_log.old) (LW.taken out_log.new)) }
 
     // Wherever it answers.
-    ensures answer { IfOk result (Writes (LR.left log.old) (SR.left store.old) (LW.taken out_log.old) (LW.taken out_log.new) (SW.taken out_store.old) (SW.taken out_store.new)) }
+    ensures answer { IfOk result (Writes (LR.left log.old) (SR.left store.old)
+        (LW.taken out_log.old) (LW.taken out_log.new) (SW.taken out_store.old)
+        (SW.taken out_store.new)) }
     ensures options { (e : Fault) → OptionsFault options.now e → result ≡ Err e }
 
     // A refusal has its cause, and what is out after it.
     ensures cause { IfErr result (DeviceCause (LR.left log.old) (SR.left store.old) options.now) }
-    ensures out { IfErr result (IsOut (LR.left log.old) (SR.left store.old) (LW.taken out_log.old) (LW.taken out_log.new) (SW.taken out_store.old) (SW.taken out_store.new)) }
+    ensures out { IfErr result (IsOut (LR.left log.old) (SR.left store.old) (LW.taken out_log.old)
+        (LW.taken out_log.new) (SW.taken out_store.old) (SW.taken out_store.new)) }
 
     // An answer means that both are flushed.
-    ensures log_flushed { OnOk result (Flushes (LW.flushed out_log.old) (LW.flushed out_log.new) (LW.taken out_log.new)) }
-    ensures store_flushed { OnOk result (Flushes (SW.flushed out_store.old) (SW.flushed out_store.new) (SW.taken out_store.new)) }
+    ensures log_flushed { OnOk result
+        (Flushes (LW.flushed out_log.old) (LW.flushed out_log.new) (LW.taken out_log.new)) }
+    ensures store_flushed { OnOk result
+        (Flushes (SW.flushed out_store.old) (SW.flushed out_store.new) (SW.taken out_store.new)) }
 
     // The log is at its end before the store's source is touched, both are before a sink is, and the new
     // log is out and flushed before the store's sink is.
     ensures log_read_first { (store.new ≡ store.old) ⊎ IsAtEnd (LR.left log.new) }
     ensures log_unread { result ≡ Err ReadLog → store.new ≡ store.old }
-    ensures read_first { ((out_log.new ≡ out_log.old) × (out_store.new ≡ out_store.old)) ⊎ (IsAtEnd (LR.left log.new) × IsAtEnd (SR.left store.new)) }
+    ensures read_first { ((out_log.new ≡ out_log.old) × (out_store.new ≡ out_store.old))
+        ⊎ (IsAtEnd (LR.left log.new) × IsAtEnd (SR.left store.new)) }
     ensures log_out_first { (out_store.new ≡ out_store.old)
         ⊎ ((made : Makes (LR.left log.old) (SR.left store.old))
-        × AreOut made.new_log (LW.taken out_log.old) (LW.taken out_log.new) (LW.flushed out_log.old) (LW.flushed out_log.new)) }
+        × AreOut made.new_log (LW.taken out_log.old) (LW.taken out_log.new) (LW.flushed out_log.old)
+        (LW.flushed out_log.new)) }
 
     // A device is blamed where it failed, and nowhere else.
     ensures log_source { Fails ReadLog result (LR.failures log.old) (LR.failures log.new) }
     ensures store_source { Fails ReadStore result (SR.failures store.old) (SR.failures store.new) }
     ensures log_sink { Fails WriteLog result (LW.failures out_log.old) (LW.failures out_log.new) }
-    ensures store_sink { Fails WriteStore result (SW.failures out_store.old) (SW.failures out_store.new) }
+    ensures store_sink { Fails WriteStore result (SW.failures out_store.old)
+        (SW.failures out_store.new) }
 {
     check_options(options)?;
     let (log_text, store_text) = read_both(alloc, log, store)?;

@@ -1,11 +1,11 @@
 //! Recovery in memory: from the bytes of a log and a store to the bytes of both after it.
 
-ghost use Rattle.std.specs.Prelude.{◌≡◌, ◌<◌, ◌+◌, ◌^◌, length, map, IfOk, IfErr, MatchResult};
+ghost use Rattle.std.specs.Prelude.{◌≡◌, ◌<◌, ◌+◌, ◌^◌, length, map, IfOk, IfErr, MatchResult, IsOkUnless};
 ghost use Rattle.page.specs.declared.fault.Fault.{Fault};
 ghost use Rattle.page.specs.declared.fault.Fault.TheVariants.{NoResource};
 ghost use Rattle.wal.specs.Content.{content};
 ghost use Rattle.wal.specs.Reads.{spellings};
-ghost use Rattle.undo.specs.Undone.{AreSpelled};
+ghost use Rattle.undo.specs.Undone.{AreWritable};
 ghost use Rattle.wal.specs.Meaning.{BasePages};
 ghost use Rattle.recovery.specs.Recovery.{report_of, new_log, Recovers, AreLawful, Recovered, Cause};
 ghost use Rattle.restart.specs.Options.{AreInRange};
@@ -20,11 +20,11 @@ use wal::{Log, Record, read_log, write_frame};
 
 /// The frames of records, the first of which has this LSN.
 fn frames_of(alloc: Global, records: &[Record], first: u64) -> Result<Vec<u8>, Fault>
-    requires spelled { AreSpelled records.now }
+    requires writable { AreWritable records.now }
     requires some { 0 < first }
     requires room { first + length records.now < 2 ^ 64 }
     ensures frames { IfOk result (λ x. x.items ≡ spellings first (map content records.now)) }
-    ensures err { IfErr result (λ e. e ≡ NoResource) }
+    ensures err { IsOkUnless result NoResource }
 {
     let mut frames = Vec::new(alloc);
     let mut lsn = first;
@@ -82,10 +82,12 @@ pub fn recovery_of<'a, G: Gate, R: Threads + Sync>(
 
     // On the bytes of a log and its store that are lawful over any base pages.
     ensures lawful { (base : BasePages) (bytes : AreLawful base log.now store.items)
-        → MatchResult result (λ x. Recovered base bytes.are.read bytes.are.before (new_log x) x.store.items x.report) (λ e. e ≡ NoResource) }
+        → MatchResult result (λ x. Recovered base bytes.decoded.read bytes.decoded.before
+        (new_log x) x.store.items x.report) (λ e. e ≡ NoResource) }
 
     // Wherever it answers.
-    ensures answer { IfOk result (λ x. Recovers log.now store.items (new_log x) x.store.items x.report) }
+    ensures answer { IfOk result (λ x. Recovers log.now store.items
+        (new_log x) x.store.items x.report) }
 
     // A refusal has its cause in the input, memory aside.
     ensures cause { IfErr result (Cause log.now store.items options.now) }

@@ -1,6 +1,6 @@
 //! What a restart reports.
 
-ghost use Rattle.std.specs.Prelude.{◌≡◌, ◌++◌, IfOk, OnOk, IfErr};
+ghost use Rattle.std.specs.Prelude.{◌≡◌, ◌++◌, IfOk, OnOk, IsOkUnless};
 ghost use Rattle.page.specs.declared.fault.Fault.TheVariants.{NoResource};
 ghost use Rattle.recovery.specs.Text.{line, number_lines, doubt_lines, report_lines};
 
@@ -88,7 +88,7 @@ fn numbers_text(alloc: Global, report: &Report) -> Result<Vec<u8>, AllocError>
 /// error is [`Fault::NoResource`], where memory was refused.
 pub fn report_text(alloc: Global, report: &Report) -> Result<Vec<u8>, Fault>
     ensures text { IfOk result (λ text. text.items ≡ report_lines report.now) }
-    ensures err { IfErr result (λ e. e ≡ NoResource) }
+    ensures err { IsOkUnless result NoResource }
 {
     let mut text = numbers_text(alloc, report)?;
     put_in_doubt(&mut text, &report.in_doubt)?;

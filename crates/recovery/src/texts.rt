@@ -1,6 +1,6 @@
 //! The audit of a log and a store by their bytes.
 
-ghost use Rattle.std.specs.Prelude.{◌≡◌, OnOk, IfErr};
+ghost use Rattle.std.specs.Prelude.{OnOk, IfErr, IsOkUnless};
 ghost use Rattle.page.specs.declared.fault.Fault.TheVariants.{NoResource};
 ghost use Rattle.wal.specs.Meaning.{no_base};
 ghost use Rattle.recovery.specs.Recovery.{AreLawful};
@@ -22,7 +22,7 @@ pub fn audit_texts(alloc: Global, log: &[u8], store: &[u8]) -> Result<(), Fault>
     ensures ok { OnOk result (AreLawful no_base log.now store.now) }
     ensures fault { IfErr result (AuditFault log.now store.now) }
     // Lawful bytes are refused for want of memory alone.
-    ensures lawful { AreLawful no_base log.now store.now → IfErr result (λ e. e ≡ NoResource) }
+    ensures lawful { AreLawful no_base log.now store.now → IsOkUnless result NoResource }
 {
     let (records, _) = read_log(alloc, log)?;
     let store = decode_store(alloc, store)?;
@@ -41,7 +41,7 @@ pub fn audit_texts_over(alloc: Global, log: &[u8], store: &[u8], base: &[u8]) ->
     ensures ok { OnOk result (AreLawfulOver log.now store.now base.now) }
     ensures fault { IfErr result (AuditFaultOver log.now store.now base.now) }
     // Lawful bytes are refused for want of memory alone.
-    ensures lawful { AreLawfulOver log.now store.now base.now → IfErr result (λ e. e ≡ NoResource) }
+    ensures lawful { AreLawfulOver log.now store.now base.now → IsOkUnless result NoResource }
 {
     let (records, _) = read_log(alloc, log)?;
     let store = decode_store(alloc, store)?;

@@ -8,7 +8,8 @@ use Rattle.redo.specs.declared.progress.Progress.{Progress}
 use Rattle.page.specs.Image.{Image}
 use Rattle.wal.specs.Records.{LogRecord}
 use Rattle.redo.specs.Changes.{page_named, put, advance}
-use Rattle.redo.specs.Rounds.{StandsAlone, numbers_of}
+use Rattle.redo.specs.Routes.{StandsAlone}
+use Rattle.redo.specs.Parts.{numbers_of}
 use Rattle.redo.proofs.Reading.{get_same}
 use Rattle.redo.proofs.Advance.{advance_elsewhere}
 

@@ -5,8 +5,8 @@ use Rattle.page.specs.declared.fault.Fault.TheVariants.{NoResource, NoSuchPage}
 use Rattle.wal.specs.Records.{LogRecord, history, record_at, last_lsn, LogContent, base_lsn}
 use Rattle.wal.proofs.Histories.{record_within, base_within, record_above}
 use Rattle.redo.specs.declared.route.Route.{Route}
-use Rattle.redo.specs.Passes.{PassContent}
-use Rattle.redo.specs.Rounds.{skipped, skipped_in, RoundFault, AreRoutes}
+use Rattle.redo.specs.Inputs.{InputContent}
+use Rattle.redo.specs.Routes.{skipped, skipped_in, RoundFault, AreRoutes}
 use Rattle.redo.specs.Redone.{AreWorkers, IsLookedAt, AllExist, RedoFault}
 use Rattle.redo.proofs.Stretches.{boundary_last, skipped_within}
 use Rattle.redo.proofs.Routes.{all_exist}
@@ -27,24 +27,24 @@ not_skipped base (suc n) len lsn h above within = let from = h.1 in let e = skip
 in_log : (log : LogContent) (lsn : ℕ) (r : LogRecord) → record_at (history log) lsn ≡ Some r → lsn ≤ last_lsn (history log)
 in_log log lsn r e = record_within (history log) lsn r e
 
-pub exist_all : (pass : PassContent) (routes : List Route) → AreRoutes pass routes → AllExist pass.log (length pass.images) pass.redo_lsn
-exist_all pass routes are lsn r looked found =
-    let within = in_log pass.log lsn r found in
-    let len = last_lsn (history pass.log) in
-    let last = boundary_last (skipped_in pass) len (length routes) (skipped_within (base_lsn (history pass.log)) pass.redo_lsn len (base_within (history pass.log))) are.some in
-    all_exist pass routes are lsn r (not_skipped (base_lsn (history pass.log)) pass.redo_lsn len lsn looked (record_above (history pass.log) lsn r found) within) (omega (arith, within, last)) found
+pub exist_all : (input : InputContent) (routes : List Route) → AreRoutes input routes → AllExist input.log (length input.images) input.redo_lsn
+exist_all input routes are lsn r looked found =
+    let within = in_log input.log lsn r found in
+    let len = last_lsn (history input.log) in
+    let last = boundary_last (skipped_in input) len (length routes) (skipped_within (base_lsn (history input.log)) input.redo_lsn len (base_within (history input.log))) are.some in
+    all_exist input routes are lsn r (not_skipped (base_lsn (history input.log)) input.redo_lsn len lsn looked (record_above (history input.log) lsn r found) within) (omega (arith, within, last)) found
 
-pub round_fault : (pass : PassContent) (workers : ℕ) (e : Fault) → AreWorkers workers → RoundFault pass e → RedoFault pass.log (length pass.images) pass.redo_lsn workers e
-round_fault pass workers NoResource fit cause = tt
-round_fault pass workers (NoSuchPage lsn) fit m =
-    let within = in_log pass.log lsn m.entry m.there in (
+pub round_fault : (input : InputContent) (workers : ℕ) (e : Fault) → AreWorkers workers → RoundFault input e → RedoFault input.log (length input.images) input.redo_lsn workers e
+round_fault input workers NoResource fit cause = tt
+round_fault input workers (NoSuchPage lsn) fit m =
+    let within = in_log input.log lsn m.entry m.there in (
       fit,
       record {
         entry = m.entry;
-        looked_at = looked_at (base_lsn (history pass.log)) pass.redo_lsn (last_lsn (history pass.log)) lsn m.past within;
+        looked_at = looked_at (base_lsn (history input.log)) input.redo_lsn (last_lsn (history input.log)) lsn m.past within;
         there = m.there;
         beyond = m.beyond;
-        before = λ k r looked less found. m.before k r (not_skipped (base_lsn (history pass.log)) pass.redo_lsn (last_lsn (history pass.log)) k looked (record_above (history pass.log) k r found) (in_log pass.log k r found)) (omega arith) found;
+        before = λ k r looked less found. m.before k r (not_skipped (base_lsn (history input.log)) input.redo_lsn (last_lsn (history input.log)) k looked (record_above (history input.log) k r found) (in_log input.log k r found)) (omega arith) found;
       },
     )
-round_fault pass workers e fit cause = absurd cause
+round_fault input workers e fit cause = absurd cause

@@ -8,10 +8,10 @@ use Rattle.std.proofs.lemmas.Option.{slice_get-get_or, slice_get_within, get_or_
 use Rattle.page.specs.declared.page.Page.{Page}
 use Rattle.wal.specs.Records.{history}
 use Rattle.board.specs.Drawn.{BoardId}
-use Rattle.redo.specs.Passes.{PassContent}
+use Rattle.redo.specs.Inputs.{InputContent}
 use Rattle.redo.specs.declared.progress.Progress.{Progress}
 use Rattle.redo.specs.declared.crew.Share.{Share}
-use Rattle.redo.specs.Rounds.{progress_in, IsDone, HasPage, IsPut, ArePut, IsBack}
+use Rattle.redo.specs.Parts.{progress_in, IsDone, HasPage, IsPut, ArePut, IsBack}
 use Rattle.redo.proofs.Reading.{get_more, get_split, get_same}
 
 -- PLACES OF A LIST THAT IS WRITTEN
@@ -24,9 +24,9 @@ get_set_other xs i j x y ne e =
     slice_get-get_or (set xs i x) j y (omega (arith, length-set xs i x, lt)) ∙ ap Some (get_or-set_other xs i j x y ne ∙ get_or_from_slice_get xs j y y e)
 
 -- ONE PAGE
-module _ (pass : PassContent) (pages : List Page) (counts : List ℕ) (p : Progress) (done : IsDone pass p) (below : p.page.number < length pages) (same : length counts ≡ length pages) where
+module _ (input : InputContent) (pages : List Page) (counts : List ℕ) (p : Progress) (done : IsDone input p) (below : p.page.number < length pages) (same : length counts ≡ length pages) where
   -- the page is put
-  put_here : IsPut pass (set pages p.page.number p.page) (set counts p.page.number p.applied) p.page.number
+  put_here : IsPut input (set pages p.page.number p.page) (set counts p.page.number p.applied) p.page.number
   put_here = record {
     image = done.image;
     there = done.there;
@@ -35,10 +35,10 @@ module _ (pass : PassContent) (pages : List Page) (counts : List ℕ) (p : Progr
   }
 
   -- and the others stay
-  pub put_one : (number : ℕ) → (IsPut pass pages counts number) ⊎ (p.page.number ≡ number) → IsPut pass (set pages p.page.number p.page) (set counts p.page.number p.applied) number
+  pub put_one : (number : ℕ) → (IsPut input pages counts number) ⊎ (p.page.number ≡ number) → IsPut input (set pages p.page.number p.page) (set counts p.page.number p.applied) number
   put_one number either_way =
       elim (cases_eq number p.page.number) [
-        | inl e ↦ subst (IsPut pass (set pages p.page.number p.page) (set counts p.page.number p.applied)) (sym e) put_here
+        | inl e ↦ subst (IsPut input (set pages p.page.number p.page) (set counts p.page.number p.applied)) (sym e) put_here
         | inr ne ↦
             elim either_way [
               | inl old ↦
@@ -81,31 +81,31 @@ has_right ps qs number has =
 
 -- WHAT WORKERS BRING BACK
 -- where all pages of a share are put, those of its parts are
-pub share_put : (pass : PassContent) (board : BoardId) (share : Share) (pages : List Page) (counts : List ℕ) → IsBack pass board share → share.seat.stopped ≡ false → share.seat.told ≡ false
-    → ((number : ℕ) → HasPage share.pages.items number → IsPut pass pages counts number) → ArePut pass pages counts share.seat.drawn
-share_put pass board share pages counts back stopped told put number part given drawn = put number (back.drawn stopped told part drawn number given)
+pub share_put : (input : InputContent) (board : BoardId) (share : Share) (pages : List Page) (counts : List ℕ) → IsBack input board share → share.seat.stopped ≡ false → share.seat.told ≡ false
+    → ((number : ℕ) → HasPage share.pages.items number → IsPut input pages counts number) → ArePut input pages counts share.seat.drawn
+share_put input board share pages counts back stopped told put number part given drawn = put number (back.drawn stopped told part drawn number given)
 
 -- what is drawn together was drawn by one of the two
-pub both_put : (pass : PassContent) (pages : List Page) (counts : List ℕ) (xs ys drawn : List ℕ) → drawn ≡ xs ++ ys → ArePut pass pages counts xs → ArePut pass pages counts ys → ArePut pass pages counts drawn
-both_put pass pages counts xs ys drawn is first second number part given has =
+pub both_put : (input : InputContent) (pages : List Page) (counts : List ℕ) (xs ys drawn : List ℕ) → drawn ≡ xs ++ ys → ArePut input pages counts xs → ArePut input pages counts ys → ArePut input pages counts drawn
+both_put input pages counts xs ys drawn is first second number part given has =
     elim (Contains-append_cases xs ys part (subst (λ zs. Contains zs part) is has)) [
       | inl h ↦ first number part given h
       | inr h ↦ second number part given h
     ]
 
 -- where all parts are drawn, all pages are put
-pub all_put : (pass : PassContent) (pages : List Page) (counts drawn : List ℕ) → length pass.parting.part_of ≡ length pass.images → All (λ part. part < pass.parting.parts) pass.parting.part_of
-    → ((part : ℕ) → part < pass.parting.parts → Contains drawn part) → ArePut pass pages counts drawn → (number : ℕ) → number < length pass.images → IsPut pass pages counts number
-all_put pass pages counts drawn dealt below all put number lt =
-    let part_of = pass.parting.part_of in
+pub all_put : (input : InputContent) (pages : List Page) (counts drawn : List ℕ) → length input.parting.part_of ≡ length input.images → All (λ part. part < input.parting.parts) input.parting.part_of
+    → ((part : ℕ) → part < input.parting.parts → Contains drawn part) → ArePut input pages counts drawn → (number : ℕ) → number < length input.images → IsPut input pages counts number
+all_put input pages counts drawn dealt below all put number lt =
+    let part_of = input.parting.part_of in
     let within : number < length part_of = omega (arith, lt, dealt) in
     put number (get_or part_of number 0) (slice_get-get_or part_of number 0 within) (all (get_or part_of number 0) (below number 0 within))
 
 -- a page that stands in the store has a place
-pub done_below : (pass : PassContent) (ps : List Progress) (n : ℕ) → n ≡ length pass.images → All (IsDone pass) ps → All (λ p. p.page.number < n) ps
-done_below pass ps n count done k d lt =
+pub done_below : (input : InputContent) (ps : List Progress) (n : ℕ) → n ≡ length input.images → All (IsDone input) ps → All (λ p. p.page.number < n) ps
+done_below input ps n count done k d lt =
     let is = done k d lt in
-    omega (arith, count, slice_get_within pass.images (get_or ps k d).page.number is.image is.there)
+    omega (arith, count, slice_get_within input.images (get_or ps k d).page.number is.image is.there)
 
 -- AT THE END
 -- a list that has at each place what a function makes of the image there
@@ -115,15 +115,15 @@ map_of h [] (x ∷ xs) e at = absurd (omega arith)
 map_of h (image ∷ images) [] e at = absurd (omega arith)
 map_of h (image ∷ images) (x ∷ xs) e at = ap₂ (λ y ys. y ∷ ys) (same_Some _ _ (at 0 image refl)) (map_of h images xs (omega arith) (λ k i f. at (suc k) i f))
 
-module _ (pass : PassContent) (pages : List Page) (counts : List ℕ) (put : (number : ℕ) → number < length pass.images → IsPut pass pages counts number) where
-  pub pages_are : length pages ≡ length pass.images → pages ≡ map (λ image. (progress_in pass (history pass.log) image).page) pass.images
-  pages_are same = map_of (λ image. (progress_in pass (history pass.log) image).page) pass.images pages same
+module _ (input : InputContent) (pages : List Page) (counts : List ℕ) (put : (number : ℕ) → number < length input.images → IsPut input pages counts number) where
+  pub pages_are : length pages ≡ length input.images → pages ≡ map (λ image. (progress_in input (history input.log) image).page) input.images
+  pages_are same = map_of (λ image. (progress_in input (history input.log) image).page) input.images pages same
       (λ k image e.
-      let is = put k (slice_get_within pass.images k image e) in
-      is.page ∙ ap (λ i. Some ((progress_in pass (history pass.log) i).page)) (get_same pass.images k is.image image is.there e))
+      let is = put k (slice_get_within input.images k image e) in
+      is.page ∙ ap (λ i. Some ((progress_in input (history input.log) i).page)) (get_same input.images k is.image image is.there e))
 
-  pub counts_are : length counts ≡ length pass.images → counts ≡ map (λ image. (progress_in pass (history pass.log) image).applied) pass.images
-  counts_are same = map_of (λ image. (progress_in pass (history pass.log) image).applied) pass.images counts same
+  pub counts_are : length counts ≡ length input.images → counts ≡ map (λ image. (progress_in input (history input.log) image).applied) input.images
+  counts_are same = map_of (λ image. (progress_in input (history input.log) image).applied) input.images counts same
       (λ k image e.
-      let is = put k (slice_get_within pass.images k image e) in
-      is.count ∙ ap (λ i. Some ((progress_in pass (history pass.log) i).applied)) (get_same pass.images k is.image image is.there e))
+      let is = put k (slice_get_within input.images k image e) in
+      is.count ∙ ap (λ i. Some ((progress_in input (history input.log) i).applied)) (get_same input.images k is.image image is.there e))

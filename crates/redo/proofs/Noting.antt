@@ -16,38 +16,38 @@ use Rattle.wal.specs.Records.{LogRecord, Update, Compensation, History, ◌▸�
 use Rattle.wal.proofs.Histories.{size_of_first, size_of_first_le}
 use Rattle.redo.specs.Changes.{page_named, part_of_page, is_part, IsNote, NamesBelow, on_part, lsns_where, lsn_in}
 use Rattle.wal.specs.Meaning.{cell_of}
-use Rattle.redo.specs.Passes.{PassContent}
-use Rattle.redo.specs.Rounds.{ExistWithin, NoteFault, RouteFault}
+use Rattle.redo.specs.Inputs.{InputContent}
+use Rattle.redo.specs.Routes.{ExistWithin, NoteFault, RouteFault}
 use Rattle.redo.proofs.Routes.{lsns_none}
 use Rattle.redo.proofs.Replay.{lsns_more, page_of_cell}
 
 -- nothing is noted before the first
-pub none_noted : (pass : PassContent) (from part : ℕ) → base_lsn (history pass.log) ≤ from → lsns_where (on_part pass.parting.part_of part) from (first from (history pass.log)) ≡ []
-none_noted pass from part le = lsns_none (on_part pass.parting.part_of part) from (first from (history pass.log)) (size_of_first_le from (history pass.log) le)
+pub none_noted : (input : InputContent) (from part : ℕ) → base_lsn (history input.log) ≤ from → lsns_where (on_part input.parting.part_of part) from (first from (history input.log)) ≡ []
+none_noted input from part le = lsns_none (on_part input.parting.part_of part) from (first from (history input.log)) (size_of_first_le from (history input.log) le)
 
-module _ (pass : PassContent) (from seen : ℕ) (r : LogRecord) (low : base_lsn (history pass.log) ≤ from) (le : from ≤ seen) (lt : seen < last_lsn (history pass.log)) (at : record_at (history pass.log) (seen + 1) ≡ Some r) where
-  pub one_noted : (part : ℕ) (old new : List ℕ) → first (seen + 1) (history pass.log) ≡ first seen (history pass.log) ▸ r
-      → new ≡ cond (on_part pass.parting.part_of part r) (old ++ (seen + 1) ∷ []) old → old ≡ lsns_where (on_part pass.parting.part_of part) from (first seen (history pass.log))
-      → new ≡ lsns_where (on_part pass.parting.part_of part) from (first (seen + 1) (history pass.log))
+module _ (input : InputContent) (from seen : ℕ) (r : LogRecord) (low : base_lsn (history input.log) ≤ from) (le : from ≤ seen) (lt : seen < last_lsn (history input.log)) (at : record_at (history input.log) (seen + 1) ≡ Some r) where
+  pub one_noted : (part : ℕ) (old new : List ℕ) → first (seen + 1) (history input.log) ≡ first seen (history input.log) ▸ r
+      → new ≡ cond (on_part input.parting.part_of part r) (old ++ (seen + 1) ∷ []) old → old ≡ lsns_where (on_part input.parting.part_of part) from (first seen (history input.log))
+      → new ≡ lsns_where (on_part input.parting.part_of part) from (first (seen + 1) (history input.log))
   one_noted part old new next is before =
-      let test = on_part pass.parting.part_of part in
-      let log = first seen (history pass.log) in
-      let count : last_lsn log ≡ seen = size_of_first seen (history pass.log) (omega (arith, low, le)) (omega (arith, lt)) in
+      let test = on_part input.parting.part_of part in
+      let log = first seen (history input.log) in
+      let count : last_lsn log ≡ seen = size_of_first seen (history input.log) (omega (arith, low, le)) (omega (arith, lt)) in
       let lsn : seen + 1 ≡ suc (last_lsn log) = omega (arith, count) in
       is
       ∙ (ap (λ xs. cond (test r) (xs ++ (seen + 1) ∷ []) xs) before
       ∙ (ap (λ n. cond (test r) (lsns_where test from log ++ n ∷ []) (lsns_where test from log)) lsn
       ∙ (sym (lsns_more test from log r (omega (arith, count, le))) ∙ ap (lsns_where test from) (sym next))))
 
-  pub exist_more : NamesBelow (length pass.images) r → ExistWithin pass.log (length pass.images) from seen → ExistWithin pass.log (length pass.images) from (seen + 1)
+  pub exist_more : NamesBelow (length input.images) r → ExistWithin input.log (length input.images) from seen → ExistWithin input.log (length input.images) from (seen + 1)
   exist_more below old lsn x past within found =
       dite (dec_lt lsn (seen + 1))
       (λ less. old lsn x past (omega arith) found)
       (λ last.
       let here : lsn ≡ seen + 1 = omega arith in
-      subst (NamesBelow (length pass.images)) (same_Some _ _ (sym at ∙ (ap (record_at (history pass.log)) (sym here) ∙ found))) below)
+      subst (NamesBelow (length input.images)) (same_Some _ _ (sym at ∙ (ap (record_at (history input.log)) (sym here) ∙ found))) below)
 
-  pub refused : (count to : ℕ) (e : Fault) → count ≡ length pass.images → seen < to → ExistWithin pass.log (length pass.images) from seen → NoteFault count (seen + 1) r e → RouteFault pass from to e
+  pub refused : (count to : ℕ) (e : Fault) → count ≡ length input.images → seen < to → ExistWithin input.log (length input.images) from seen → NoteFault count (seen + 1) r e → RouteFault input from to e
   refused count to NoResource same within old cause = tt
   refused count to (NoSuchPage lsn) same within old cause =
       let here : lsn ≡ seen + 1 = cause.0 in (
@@ -55,7 +55,7 @@ module _ (pass : PassContent) (from seen : ℕ) (r : LogRecord) (low : base_lsn 
         record {
           entry = r;
           past = omega (arith, le);
-          there = ap (record_at (history pass.log)) here ∙ at;
+          there = ap (record_at (history input.log)) here ∙ at;
           beyond = λ below. cause.1 (subst (λ n. NamesBelow n r) (sym same) below);
           before = λ k x past less found. old k x past (omega arith) found;
         },

@@ -10,9 +10,9 @@ use Rattle.page.specs.declared.fault.Fault.{Fault}
 use Rattle.page.specs.declared.fault.Fault.TheVariants.{NoResource, NoSuchPage}
 use Rattle.wal.specs.Records.{LogRecord, History, start, ◌▸◌, last_lsn, history, LogContent}
 use Rattle.redo.specs.Changes.{lsns_where}
-use Rattle.redo.specs.Passes.{PassContent}
+use Rattle.redo.specs.Inputs.{InputContent}
 use Rattle.redo.specs.declared.route.Route.{Route}
-use Rattle.redo.specs.Rounds.{ExistWithin, RouteFault, IsRoute, IfRoute, IfEach, RoundFault, AreRoutes, boundary_in, skipped_in}
+use Rattle.redo.specs.Routes.{ExistWithin, RouteFault, IsRoute, IfRoute, IfEach, RoundFault, AreRoutes, boundary_in, skipped_in}
 use Rattle.redo.proofs.Stretches.{boundary_first}
 
 -- what a worker answers that has its route
@@ -33,42 +33,42 @@ exist_join log count a b c h g lsn r past within at = dite (dec_lt b lsn) (λ lt
 pub exist_none : (log : LogContent) (count a : ℕ) → ExistWithin log count a a
 exist_none log count a lsn r past within at = absurd (omega arith)
 
-module _ (pass : PassContent) (workers : ℕ) where
+module _ (input : InputContent) (workers : ℕ) where
   -- the records of the first k stretches
-  exist_first : (k : ℕ) → ((j : ℕ) → j < k → ExistWithin pass.log (length pass.images) (boundary_in pass workers j) (boundary_in pass workers (j + 1)))
-      → ExistWithin pass.log (length pass.images) (skipped_in pass) (boundary_in pass workers k)
+  exist_first : (k : ℕ) → ((j : ℕ) → j < k → ExistWithin input.log (length input.images) (boundary_in input workers j) (boundary_in input workers (j + 1)))
+      → ExistWithin input.log (length input.images) (skipped_in input) (boundary_in input workers k)
   exist_first zero h =
-      subst (ExistWithin pass.log (length pass.images) (skipped_in pass)) (sym (boundary_first (skipped_in pass) (last_lsn (history pass.log)) workers)) (exist_none pass.log (length pass.images) (skipped_in pass))
+      subst (ExistWithin input.log (length input.images) (skipped_in input)) (sym (boundary_first (skipped_in input) (last_lsn (history input.log)) workers)) (exist_none input.log (length input.images) (skipped_in input))
   exist_first (suc k) h =
-      let here : ExistWithin pass.log (length pass.images) (boundary_in pass workers k) (boundary_in pass workers (suc k)) = subst (λ n. ExistWithin pass.log (length pass.images) (boundary_in pass workers k) (boundary_in pass workers n)) (omega arith) (h k (omega arith)) in
-      exist_join pass.log (length pass.images) (skipped_in pass) (boundary_in pass workers k) (boundary_in pass workers (suc k)) (exist_first k (λ j lt. h j (omega arith))) here
+      let here : ExistWithin input.log (length input.images) (boundary_in input workers k) (boundary_in input workers (suc k)) = subst (λ n. ExistWithin input.log (length input.images) (boundary_in input workers k) (boundary_in input workers n)) (omega arith) (h k (omega arith)) in
+      exist_join input.log (length input.images) (skipped_in input) (boundary_in input workers k) (boundary_in input workers (suc k)) (exist_first k (λ j lt. h j (omega arith))) here
 
 -- all records that are looked at are on pages of the store
-pub all_exist : (pass : PassContent) (routes : List Route) → AreRoutes pass routes → ExistWithin pass.log (length pass.images) (skipped_in pass) (boundary_in pass (length routes) (length routes))
-all_exist pass [] are = absurd (let some = are.some in omega arith)
-all_exist pass (r ∷ rs) are = exist_first pass (length (r ∷ rs)) (length (r ∷ rs)) (λ j lt. (are.each j r lt).exist)
+pub all_exist : (input : InputContent) (routes : List Route) → AreRoutes input routes → ExistWithin input.log (length input.images) (skipped_in input) (boundary_in input (length routes) (length routes))
+all_exist input [] are = absurd (let some = are.some in omega arith)
+all_exist input (r ∷ rs) are = exist_first input (length (r ∷ rs)) (length (r ∷ rs)) (λ j lt. (are.each j r lt).exist)
 
-module _ (pass : PassContent) (results : List (Result Route Fault)) (each : IfEach pass results) where
+module _ (input : InputContent) (results : List (Result Route Fault)) (each : IfEach input results) where
   -- the route of a worker that answered
-  route_at : (routes : List Route) (more : List (Result Route Fault)) → results ≡ map answered routes ++ more → (k : ℕ) (d : Route) → k < length routes → IsRoute pass (boundary_in pass (length results) k) (boundary_in pass (length results) (k + 1)) (get_or routes k d)
+  route_at : (routes : List Route) (more : List (Result Route Fault)) → results ≡ map answered routes ++ more → (k : ℕ) (d : Route) → k < length routes → IsRoute input (boundary_in input (length results) k) (boundary_in input (length results) (k + 1)) (get_or routes k d)
   route_at routes more are k d lt =
       let within : k < length results = omega (arith, ap (λ (xs : List (Result Route Fault)). length xs) are, length-append (map answered routes) more, length-map routes answered) in
       let at : get_or results k (Ok d) ≡ Ok (get_or routes k d) =
       ap (λ (xs : List (Result Route Fault)). get_or xs k (Ok d)) are
       ∙ get_or_append_left (map answered routes) more (Ok d) k (omega (arith, length-map routes answered))
       ∙ get_or-map answered routes k d in
-      subst (IfRoute pass (length results) k) at (each k (Ok d) within)
+      subst (IfRoute input (length results) k) at (each k (Ok d) within)
 
-  pub routes_are : (routes : List Route) → 0 < length results → results ≡ map answered routes → AreRoutes pass routes
+  pub routes_are : (routes : List Route) → 0 < length results → results ≡ map answered routes → AreRoutes input routes
   routes_are routes some are =
       let count : length results ≡ length routes = ap (λ (xs : List (Result Route Fault)). length xs) are ∙ length-map routes answered in
       record {
         some = omega arith;
-        each = λ k d lt. subst (λ n. IsRoute pass (boundary_in pass n k) (boundary_in pass n (k + 1)) (get_or routes k d)) count (route_at routes [] (are ∙ sym (append-nil (map answered routes))) k d lt);
+        each = λ k d lt. subst (λ n. IsRoute input (boundary_in input n k) (boundary_in input n (k + 1)) (get_or routes k d)) count (route_at routes [] (are ∙ sym (append-nil (map answered routes))) k d lt);
       }
 
   -- the first that gave no route
-  pub first_refused : (routes : List Route) (fault : Fault) (more : List (Result Route Fault)) → results ≡ map answered routes ++ Err fault ∷ more → RoundFault pass fault
+  pub first_refused : (routes : List Route) (fault : Fault) (more : List (Result Route Fault)) → results ≡ map answered routes ++ Err fault ∷ more → RoundFault input fault
   first_refused routes fault more are =
       let n = length results in
       let k = length routes in
@@ -78,15 +78,15 @@ module _ (pass : PassContent) (results : List (Result Route Fault)) (each : IfEa
       ap (λ (xs : List (Result Route Fault)). get_or xs k (Err fault)) are
       ∙ ap (λ i. get_or (map answered routes ++ Err fault ∷ more) i (Err fault)) (sym count)
       ∙ get_or-append_seam (map answered routes) (Err fault) more (Err fault) in
-      let cause : RouteFault pass (boundary_in pass n k) (boundary_in pass n (k + 1)) fault = subst (IfRoute pass n k) at (each k (Err fault) within) in
-      let exist : ExistWithin pass.log (length pass.images) (skipped_in pass) (boundary_in pass n k) = exist_first pass n k (exist_of routes are) in
+      let cause : RouteFault input (boundary_in input n k) (boundary_in input n (k + 1)) fault = subst (IfRoute input n k) at (each k (Err fault) within) in
+      let exist : ExistWithin input.log (length input.images) (skipped_in input) (boundary_in input n k) = exist_first input n k (exist_of routes are) in
       of fault exist cause
     where
-      exist_of : (rs : List Route) → results ≡ map answered rs ++ Err fault ∷ more → (j : ℕ) → j < length rs → ExistWithin pass.log (length pass.images) (boundary_in pass (length results) j) (boundary_in pass (length results) (j + 1))
+      exist_of : (rs : List Route) → results ≡ map answered rs ++ Err fault ∷ more → (j : ℕ) → j < length rs → ExistWithin input.log (length input.images) (boundary_in input (length results) j) (boundary_in input (length results) (j + 1))
       exist_of [] is j lt = absurd (omega arith)
       exist_of (r ∷ rs) is j lt = (route_at (r ∷ rs) (Err fault ∷ more) is j r lt).exist
 
-      of : (e : Fault) → ExistWithin pass.log (length pass.images) (skipped_in pass) (boundary_in pass (length results) (length routes)) → RouteFault pass (boundary_in pass (length results) (length routes)) (boundary_in pass (length results) (length routes + 1)) e → RoundFault pass e
+      of : (e : Fault) → ExistWithin input.log (length input.images) (skipped_in input) (boundary_in input (length results) (length routes)) → RouteFault input (boundary_in input (length results) (length routes)) (boundary_in input (length results) (length routes + 1)) e → RoundFault input e
       of NoResource exist cause = tt
       of (NoSuchPage lsn) exist cause =
           let m = cause.1 in
@@ -95,6 +95,6 @@ module _ (pass : PassContent) (results : List (Result Route Fault)) (each : IfEa
             past = omega (arith, m.past);
             there = m.there;
             beyond = m.beyond;
-            before = exist_join pass.log (length pass.images) (skipped_in pass) (boundary_in pass (length results) (length routes)) (lsn - 1) exist m.before;
+            before = exist_join input.log (length input.images) (skipped_in input) (boundary_in input (length results) (length routes)) (lsn - 1) exist m.before;
           }
       of e exist cause = absurd cause

@@ -2,7 +2,7 @@
 use Rattle.std.proofs.Common.{◌≡◌, ℕ, ◌+◌, ◌-◌, ◌/◌, ◌%◌, ◌<◌, ◌≤◌, min, eqb, arith, max}
 use Rattle.std.proofs.Math.Nat.{mul-add, mul-zero, mod-add-div', mul-le-mul_left}
 use Rattle.std.proofs.lemmas.Bool.{cond_both}
-use Rattle.redo.specs.Rounds.{skipped, boundary}
+use Rattle.redo.specs.Routes.{skipped, boundary}
 
 pub boundary_first : (from len workers : ℕ) → boundary from len workers 0 ≡ from
 boundary_first from len workers = let z = mul-zero ((len - from) / workers) in omega arith

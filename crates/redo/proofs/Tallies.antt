@@ -14,8 +14,9 @@ use Rattle.redo.specs.declared.progress.Progress.{Progress}
 use Rattle.redo.specs.declared.tally.Tally.{Tally}
 use Rattle.redo.specs.declared.note.Note.{Note}
 use Rattle.redo.specs.Changes.{put, changed_by, advance, advance_by, step, counted, held_after, slots_after}
-use Rattle.redo.specs.Passes.{PassContent}
-use Rattle.redo.specs.Rounds.{Stands, numbers_of, progress_in, image_at, resolved}
+use Rattle.redo.specs.Inputs.{InputContent}
+use Rattle.redo.specs.Routes.{Stands}
+use Rattle.redo.specs.Parts.{numbers_of, progress_in, image_at, resolved}
 use Rattle.redo.proofs.Alone.{alone_within, put_alone}
 use Rattle.redo.proofs.Replay.{image_begun, page_of_cell}
 
@@ -64,47 +65,47 @@ slots_count log [] (x ∷ xs) e = absurd (omega (arith, e))
 slots_count log (l ∷ ls) (x ∷ xs) e = ap suc (slots_count log ls xs (omega (arith, e)))
 
 -- A RECORD MORE
-pub counted_put : (pass : PassContent) (redo_lsn lsn slot : ℕ) (r : LogRecord) (t : Tally) → record_at (history pass.log) lsn ≡ Some r
-    → resolved pass (counted redo_lsn lsn slot t) ≡ put redo_lsn lsn slot (image_of r) (resolved pass t)
-counted_put pass redo_lsn lsn slot r t there =
+pub counted_put : (input : InputContent) (redo_lsn lsn slot : ℕ) (r : LogRecord) (t : Tally) → record_at (history input.log) lsn ≡ Some r
+    → resolved input (counted redo_lsn lsn slot t) ≡ put redo_lsn lsn slot (image_of r) (resolved input t)
+counted_put input redo_lsn lsn slot r t there =
     elim (cases_Bool (is_redone t.rec_lsn redo_lsn t.lsn lsn)) [
       | inl lacking ↦
-          (let held : (x : Image) → held_after (history pass.log) lsn x ≡ image_of r =
-          λ x. ap (λ b. cond b x (image_in (record_at (history pass.log) lsn))) (positive (history pass.log) lsn r there) ∙ ap image_in there in
-          let slots = slots_set (history pass.log) t.lasts (image_at pass.images t.number).slots slot lsn (image_of r) held in
+          (let held : (x : Image) → held_after (history input.log) lsn x ≡ image_of r =
+          λ x. ap (λ b. cond b x (image_in (record_at (history input.log) lsn))) (positive (history input.log) lsn r there) ∙ ap image_in there in
+          let slots = slots_set (history input.log) t.lasts (image_at input.images t.number).slots slot lsn (image_of r) held in
           rw lacking (ap (λ xs. record { page = record { number = t.number; lsn = lsn; slots = xs }; rec_lsn = t.rec_lsn; applied = suc t.applied }) slots))
       | inr over ↦ rw over refl
     ]
 
 -- a noted record, counted for its page, is that record applied to the pages
-pub counted_alone : (pass : PassContent) (ts new : List Tally) (n : Note) → Stands (history pass.log) pass.parting.place_of (numbers_of (map (resolved pass) ts)) n
-    → ((d : Tally) → new ≡ set ts n.place (counted pass.redo_lsn n.lsn n.slot (get_or ts n.place d)))
-    → map (resolved pass) new ≡ map (λ p. step (history pass.log) pass.redo_lsn p n.lsn) (map (resolved pass) ts)
-counted_alone pass [] new n stands is = absurd (let lt = alone_within pass.parting.place_of [] stands.page stands.alone in omega arith)
-counted_alone pass (q ∷ qs) new n stands is =
+pub counted_alone : (input : InputContent) (ts new : List Tally) (n : Note) → Stands (history input.log) input.parting.place_of (numbers_of (map (resolved input) ts)) n
+    → ((d : Tally) → new ≡ set ts n.place (counted input.redo_lsn n.lsn n.slot (get_or ts n.place d)))
+    → map (resolved input) new ≡ map (λ p. step (history input.log) input.redo_lsn p n.lsn) (map (resolved input) ts)
+counted_alone input [] new n stands is = absurd (let lt = alone_within input.parting.place_of [] stands.page stands.alone in omega arith)
+counted_alone input (q ∷ qs) new n stands is =
     let ts = q ∷ qs in
-    let ps = map (resolved pass) ts in
+    let ps = map (resolved input) ts in
     let r = stands.entry in
     let value = image_of r in
-    let long : n.place < length ts = omega (arith, alone_within pass.parting.place_of ps stands.page stands.alone, stands.place, length-map ts (resolved pass)) in
-    let noted : slice_get pass.parting.place_of stands.page ≡ Some n.place = stands.alone.noted ∙ ap Some (sym stands.place) in
-    let one : resolved pass (counted pass.redo_lsn n.lsn n.slot (get_or ts n.place q)) ≡ put pass.redo_lsn n.lsn n.slot value (resolved pass (get_or ts n.place q)) =
-    counted_put pass pass.redo_lsn n.lsn n.slot r (get_or ts n.place q) stands.there in
-    let written : (d : Progress) → map (resolved pass) new ≡ set ps n.place (put pass.redo_lsn n.lsn n.slot value (get_or ps n.place d)) =
-    λ d. ap (map (resolved pass)) (is q)
-    ∙ (map-set (resolved pass) ts n.place (counted pass.redo_lsn n.lsn n.slot (get_or ts n.place q))
-    ∙ ap (λ p. set ps n.place p) (one ∙ ap (put pass.redo_lsn n.lsn n.slot value) (sym (get_or-map (resolved pass) ts n.place q d long)))) in
-    put_alone pass.redo_lsn n.lsn n.slot value r pass.parting.place_of ps (map (resolved pass) new) stands.page n.place stands.alone noted (page_of_cell r stands.page n.slot stands.cell)
-    (does pass.redo_lsn n.lsn r stands.page n.slot stands.cell) written
-    ∙ ap (λ o. map (advance_by pass.redo_lsn n.lsn o) ps) (sym stands.there)
+    let long : n.place < length ts = omega (arith, alone_within input.parting.place_of ps stands.page stands.alone, stands.place, length-map ts (resolved input)) in
+    let noted : slice_get input.parting.place_of stands.page ≡ Some n.place = stands.alone.noted ∙ ap Some (sym stands.place) in
+    let one : resolved input (counted input.redo_lsn n.lsn n.slot (get_or ts n.place q)) ≡ put input.redo_lsn n.lsn n.slot value (resolved input (get_or ts n.place q)) =
+    counted_put input input.redo_lsn n.lsn n.slot r (get_or ts n.place q) stands.there in
+    let written : (d : Progress) → map (resolved input) new ≡ set ps n.place (put input.redo_lsn n.lsn n.slot value (get_or ps n.place d)) =
+    λ d. ap (map (resolved input)) (is q)
+    ∙ (map-set (resolved input) ts n.place (counted input.redo_lsn n.lsn n.slot (get_or ts n.place q))
+    ∙ ap (λ p. set ps n.place p) (one ∙ ap (put input.redo_lsn n.lsn n.slot value) (sym (get_or-map (resolved input) ts n.place q d long)))) in
+    put_alone input.redo_lsn n.lsn n.slot value r input.parting.place_of ps (map (resolved input) new) stands.page n.place stands.alone noted (page_of_cell r stands.page n.slot stands.cell)
+    (does input.redo_lsn n.lsn r stands.page n.slot stands.cell) written
+    ∙ ap (λ o. map (advance_by input.redo_lsn n.lsn o) ps) (sym stands.there)
 
 -- AT THE BEGINNING
-pub begun_page : (pass : PassContent) (base number : ℕ) (rec_lsn : Option ℕ) → (image_at pass.images number).number ≡ number → length (image_at pass.images number).slots ≡ 16 → rec_lsn ≡ rec_lsn_of number pass.dirty
-    → resolved pass (record { number = number; lsn = (image_at pass.images number).lsn; rec_lsn = rec_lsn; applied = 0; lasts = replicate 16 0 }) ≡ progress_in pass (start base) (image_at pass.images number)
-begun_page pass base number rec_lsn own count listed =
-    let image = image_at pass.images number in
-    let slots : slots_after (history pass.log) (replicate 16 0) image.slots ≡ image.slots =
-    ap (λ n. slots_after (history pass.log) (replicate n 0) image.slots) (sym count) ∙ slots_none (history pass.log) image.slots in
+pub begun_page : (input : InputContent) (base number : ℕ) (rec_lsn : Option ℕ) → (image_at input.images number).number ≡ number → length (image_at input.images number).slots ≡ 16 → rec_lsn ≡ rec_lsn_of number input.dirty
+    → resolved input (record { number = number; lsn = (image_at input.images number).lsn; rec_lsn = rec_lsn; applied = 0; lasts = replicate 16 0 }) ≡ progress_in input (start base) (image_at input.images number)
+begun_page input base number rec_lsn own count listed =
+    let image = image_at input.images number in
+    let slots : slots_after (history input.log) (replicate 16 0) image.slots ≡ image.slots =
+    ap (λ n. slots_after (history input.log) (replicate n 0) image.slots) (sym count) ∙ slots_none (history input.log) image.slots in
     ap (λ xs. record { page = record { number = number; lsn = image.lsn; slots = xs }; rec_lsn = rec_lsn; applied = 0 }) slots
     ∙ (ap (λ n. record { page = record { number = n; lsn = image.lsn; slots = image.slots }; rec_lsn = rec_lsn; applied = 0 }) (sym own)
-    ∙ (ap (λ o. record { page = image; rec_lsn = o; applied = 0 }) (listed ∙ ap (λ n. rec_lsn_of n pass.dirty) (sym own)) ∙ sym (image_begun pass base image count)))
+    ∙ (ap (λ o. record { page = image; rec_lsn = o; applied = 0 }) (listed ∙ ap (λ n. rec_lsn_of n input.dirty) (sym own)) ∙ sym (image_begun input base image count)))

@@ -2,6 +2,7 @@ pub mod Lists
 pub mod Notes
 pub mod Parting
 pub mod Changes
-pub mod Passes
-pub mod Rounds
+pub mod Inputs
+pub mod Routes
+pub mod Parts
 pub mod Redone

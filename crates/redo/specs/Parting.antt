@@ -1,5 +1,5 @@
 -- A parting of pages, as contracts see it (own).
-use Rattle.std.specs.Prelude.{◌≡◌, ℕ, ◌%◌, ◌<◌, ◌≤◌, List, All, Some, Vec, length, vec_len, map}
+use Rattle.std.specs.Prelude.{◌≡◌, ℕ, ◌%◌, ◌<◌, ◌≤◌, List, All, Some, Vec, length, vec_len, map, ⊤}
 use Rattle.std.specs.declared.alloc.Global.{Global}
 use Rattle.std.specs.List.{slice_get, range_with_len}
 use Rattle.page.specs.declared.fault.Fault.{Fault}
@@ -14,7 +14,7 @@ pub record PartingContent : Type 0 where
   pub part_of : List ℕ
   pub place_of : List ℕ
 
--- so many pages, and so many parts, a parting may have
+-- the numbers of pages, and of parts, that a parting may have
 abbrev pub IsSize : ℕ → Type 0
 IsSize n = (1 ≤ n) × (n ≤ PAGES)
 
@@ -27,7 +27,7 @@ pub record IsDealt (pages parts : ℕ) (part_of : List ℕ) : Type 0 where
 
 -- why a parting is refused, memory aside
 abbrev pub PartingFault : ℕ → ℕ → List ℕ → Fault → Type 0
-PartingFault pages parts part_of NoResource = Unit {0}
+PartingFault pages parts part_of NoResource = ⊤
 PartingFault pages parts part_of BadParting = IsDealt pages parts part_of → ⊥
 PartingFault pages parts part_of e = ⊥
 
@@ -64,6 +64,6 @@ by_number pages parts = map (λ page. page % parts) (range_with_len 0 pages)
 
 -- why such a parting is refused, memory aside
 abbrev pub NumberFault : ℕ → ℕ → Fault → Type 0
-NumberFault pages parts NoResource = Unit {0}
+NumberFault pages parts NoResource = ⊤
 NumberFault pages parts BadParting = (IsSize pages × IsSize parts) → ⊥
 NumberFault pages parts e = ⊥

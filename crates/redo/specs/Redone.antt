@@ -1,5 +1,5 @@
 -- REDO. What redo answers. ARIES, section 6.2 (redo pass).
-use Rattle.std.specs.Prelude.{◌≡◌, ◌≢◌, ℕ, ◌<◌, ◌≤◌, Some}
+use Rattle.std.specs.Prelude.{◌≡◌, ◌≢◌, ℕ, ◌<◌, ◌≤◌, Some, ⊤}
 use Rattle.page.specs.declared.fault.Fault.{Fault}
 use Rattle.page.specs.declared.fault.Fault.TheVariants.{NoResource, BadWorkers, NoSuchPage}
 use Rattle.page.specs.declared.page.Page.{Page}
@@ -18,7 +18,7 @@ redone_page log tables image = redo_of (rec_lsn_of image.number tables.dirty) ta
 abbrev pub applied_to : LogContent → TablesContent → Page → ℕ
 applied_to log tables image = applied (rec_lsn_of image.number tables.dirty) tables.redo_lsn image (history log)
 
--- so many workers redo may have (own)
+-- the numbers of workers that redo may have (own)
 abbrev pub AreWorkers : ℕ → Type 0
 AreWorkers workers = (1 ≤ workers) × (workers ≤ WORKERS)
 
@@ -44,7 +44,7 @@ pub record IsFirstMissing (log : LogContent) (count redo_lsn lsn : ℕ) : Type 0
 
 -- why redo refuses, memory and threads aside
 abbrev pub RedoFault : LogContent → (count redo_lsn workers : ℕ) → Fault → Type 0
-RedoFault log count redo_lsn workers NoResource = Unit {0}
+RedoFault log count redo_lsn workers NoResource = ⊤
 RedoFault log count redo_lsn workers BadWorkers = AreWorkers workers → ⊥
 RedoFault log count redo_lsn workers (NoSuchPage lsn) = AreWorkers workers × IsFirstMissing log count redo_lsn lsn
 RedoFault log count redo_lsn workers e = ⊥
@@ -53,6 +53,6 @@ RedoFault log count redo_lsn workers e = ⊥
 abbrev pub OneRedoFault : Type 0
 OneRedoFault = (log : LogContent) (count redo_lsn workers : ℕ) → HasOneCause (RedoFault log count redo_lsn workers)
 
--- and for none where it may have so many workers and finds all pages
+-- and for none where it may have this number of workers and finds all pages
 abbrev pub NoFaultOfRedo : Type 0
 NoFaultOfRedo = (log : LogContent) (count redo_lsn workers : ℕ) → AreWorkers workers → AllExist log count redo_lsn → HasNoCause (RedoFault log count redo_lsn workers)

@@ -1,13 +1,14 @@
 //! The second round: workers draw parts and redo them.
 
-ghost use Rattle.std.specs.Prelude.{◌≡◌, ℕ, ◌+◌, ◌<◌, ◌≤◌, [], false, length, vec_len, All, IfOk, IfErr, OnOk};
+ghost use Rattle.std.specs.Prelude.{◌≡◌, ℕ, ◌+◌, ◌<◌, ◌≤◌, [], false, length, vec_len, All, IfOk, OnOk, IsOkUnless};
 ghost use Rattle.page.specs.declared.fault.Fault.TheVariants.{NoResource};
 ghost use Rattle.board.specs.Drawn.{AllEnded};
-ghost use Rattle.redo.specs.Rounds.{AreRoutes, IsReady, IsBack, IsDone, HasPart};
+ghost use Rattle.redo.specs.Routes.{AreRoutes};
+ghost use Rattle.redo.specs.Parts.{IsReady, IsBack, IsDone, HasPart};
 
 use crate::gate::{Gate, enter};
+use crate::input::RedoInput;
 use crate::part::redo_part;
-use crate::pass::Pass;
 use crate::progress::Progress;
 use crate::route::Route;
 use board::{Board, Draw, Seat};
@@ -37,7 +38,7 @@ pub fn deal(alloc: Global, board: &Board, seat: Seat, workers: u32) -> Result<Ve
     requires fresh { seat.drawn ≡ [] }
     ensures len { IfOk result (λ jobs. vec_len jobs ≡ workers) }
     ensures each { IfOk result (λ jobs. All (IsReady board.now) jobs.items) }
-    ensures err { IfErr result (λ e. e ≡ NoResource) }
+    ensures err { IsOkUnless result NoResource }
 {
     let mut jobs = Vec::new(alloc);
     let mut rest = seat;
@@ -56,22 +57,22 @@ pub fn deal(alloc: Global, board: &Board, seat: Seat, workers: u32) -> Result<Ve
 /// Draws parts and redoes them until there is none, or until some worker was refused memory.
 fn work<G: Gate>(
     alloc: Global,
-    pass: &Pass,
+    input: &RedoInput,
     routes: &[Route],
     board: &Board,
     gate: &G,
     job: Job,
 ) -> Share
-    requires routes { AreRoutes pass.now routes.now }
-    requires parts { board.now.parts ≡ pass.now.parting.parts }
+    requires routes { AreRoutes input.now routes.now }
+    requires parts { board.now.parts ≡ input.now.parting.parts }
     requires ready { IsReady board.now job }
-    ensures { IsBack pass.now board.now result }
+    ensures { IsBack input.now board.now result }
 {
     let Job { home, mut seat } = job;
     let mut pages = Vec::new(alloc);
     while let Draw::Part(part) = board.draw_or_stop(&mut seat, home) {
         let entered = enter(gate, home, part);
-        if redo_part(alloc, pass, routes, entered, &mut pages).is_err() {
+        if redo_part(alloc, input, routes, entered, &mut pages).is_err() {
             board.stop(&mut seat);
             return Share { seat, pages };
         }
@@ -83,22 +84,23 @@ fn work<G: Gate>(
 pub fn run<G: Gate, R: Threads + Sync>(
     rt: &R,
     alloc: Global,
-    pass: &Pass,
+    input: &RedoInput,
     routes: &[Route],
     board: &Board,
     gate: &G,
     jobs: Vec<Job>,
 ) -> Result<Vec<Share>, Fault>
-    requires routes { AreRoutes pass.now routes.now }
-    requires parts { board.now.parts ≡ pass.now.parting.parts }
+    requires routes { AreRoutes input.now routes.now }
+    requires parts { board.now.parts ≡ input.now.parting.parts }
     requires ready { All (IsReady board.now) jobs.items }
     ensures len { IfOk result (λ shares. vec_len shares ≡ vec_len jobs) }
-    ensures each { IfOk result (λ shares. All (IsBack pass.now board.now) shares.items) }
-    ensures err { IfErr result (λ e. e ≡ NoResource) }
+    ensures each { IfOk result (λ shares. All (IsBack input.now board.now) shares.items) }
+    ensures err { IsOkUnless result NoResource }
 {
     let worker = |job: Job| -> Share
-        requires { AreRoutes pass.now routes.now × (board.now.parts ≡ pass.now.parting.parts) × IsReady board.now job }
-        ensures { IsBack pass.entry.now board.entry.now result }
-    { work(alloc, pass, routes, board, gate, job) };
+        requires { AreRoutes input.now routes.now × (board.now.parts ≡ input.now.parting.parts)
+            × IsReady board.now job }
+        ensures { IsBack input.entry.now board.entry.now result }
+    { work(alloc, input, routes, board, gate, job) };
     Ok(thread::map_vec(rt, jobs, &worker)?)
 }

@@ -1,13 +1,13 @@
 //! After the second round: the pages of all workers, each at its place.
 
-ghost use Rattle.std.specs.Prelude.{◌≡◌, ℕ, ◌+◌, ◌<◌, ◌≤◌, ◌^◌, ◌⊎◌, Some, false, length, vec_len, map, sum, All, Contains, IfOk, IfErr};
+ghost use Rattle.std.specs.Prelude.{◌≡◌, ℕ, ◌+◌, ◌<◌, ◌≤◌, ◌^◌, ◌⊎◌, Some, false, length, vec_len, map, sum, All, Contains, IfOk, IsOkUnless};
 ghost use Rattle.page.specs.declared.fault.Fault.TheVariants.{NoResource};
 ghost use Rattle.page.specs.Store.{AreNumbered};
 ghost use Rattle.std.specs.List.{slice_get};
 ghost use Rattle.board.specs.Drawn.{AllEnded};
-ghost use Rattle.redo.specs.Passes.{PassContent, pass_over};
+ghost use Rattle.redo.specs.Inputs.{InputContent, input_over};
 ghost use Rattle.redo.specs.Redone.{redone_page, applied_to};
-ghost use Rattle.redo.specs.Rounds.{IsBack, IsDone, HasPage, IsPut, ArePut};
+ghost use Rattle.redo.specs.Parts.{IsBack, IsDone, HasPage, IsPut, ArePut};
 
 use crate::crew::Share;
 use crate::progress::Progress;
@@ -24,7 +24,9 @@ fn place(done: &[Progress], pages: &mut [Page], counts: &mut [u64])
     requires below { All (λ p. p.page.number < length pages.old) done.now }
     ensures pages_count { length pages.new ≡ length pages.old }
     ensures counts_count { length counts.new ≡ length counts.old }
-    ensures put { (pass : PassContent) → All (IsDone pass) done.now → (number : ℕ) → (IsPut pass pages.old counts.old number) ⊎ (HasPage done.now number) → IsPut pass pages.new counts.new number }
+    ensures put { (input : InputContent) → All (IsDone input) done.now → (number : ℕ)
+        → (IsPut input pages.old counts.old number) ⊎ (HasPage done.now number)
+        → IsPut input pages.new counts.new number }
 {
     for progress in done {
         let number = progress.page.number as usize;
@@ -44,14 +46,18 @@ fn gather(
     counts: &mut [u64],
 ) -> Seat
     requires some { 0 < vec_len shares }
-    requires each { All (IsBack (pass_over log.now pages.old tables.now parting.now) board.now) shares.items }
+    requires each { All
+        (IsBack (input_over log.now pages.old tables.now parting.now) board.now) shares.items }
     requires count { length counts.old ≡ length pages.old }
     ensures board { result.board ≡ board.now }
     ensures places { result.places ≡ vec_len shares }
     ensures pages_count { length pages.new ≡ length pages.old }
     ensures counts_count { length counts.new ≡ length pages.old }
-    ensures put { result.stopped ≡ false → result.told ≡ false → ArePut (pass_over log.now pages.old tables.now parting.now) pages.new counts.new result.drawn }
-    ensures ended { result.stopped ≡ false → result.told ≡ false → AllEnded board.now.ranges result.ended }
+    ensures put { result.stopped ≡ false → result.told ≡ false
+        → ArePut
+        (input_over log.now pages.old tables.now parting.now) pages.new counts.new result.drawn }
+    ensures ended { result.stopped ≡ false → result.told ≡ false
+        → AllEnded board.now.ranges result.ended }
 {
     let Some(last) = shares.pop() else {
         unreachable!()
@@ -90,10 +96,13 @@ pub fn assemble(
     requires some { 0 < vec_len shares }
     requires seats { board.seats ≡ vec_len shares }
     requires parts { board.parts ≡ parting.now.parts }
-    requires each { All (IsBack (pass_over log.now pages.items tables.now parting.now) board) shares.items }
-    ensures pages { IfOk result (λ redone. redone.pages.items ≡ map (redone_page log.now tables.now) pages.items) }
-    ensures applied { IfOk result (λ redone. redone.applied ≡ sum (map (applied_to log.now tables.now) pages.items)) }
-    ensures err { IfErr result (λ e. e ≡ NoResource) }
+    requires each { All
+        (IsBack (input_over log.now pages.items tables.now parting.now) board) shares.items }
+    ensures pages { IfOk result (λ redone. redone.pages.items
+        ≡ map (redone_page log.now tables.now) pages.items) }
+    ensures applied { IfOk result (λ redone. redone.applied
+        ≡ sum (map (applied_to log.now tables.now) pages.items)) }
+    ensures err { IsOkUnless result NoResource }
 {
     let _parts = parting.parts();
     let _last = log.last();

@@ -7,8 +7,8 @@ pub fn one_redo_fault()
     ensures { OneRedoFault }
 {}
 
-/// Redo that may have so many workers, and finds all pages, is not refused, want of memory and
-/// threads aside.
+/// Redo that may have this number of workers, and finds all pages, is not refused, want of memory
+/// and threads aside.
 pub fn no_fault_of_redo()
     ensures { NoFaultOfRedo }
 {}

@@ -5,12 +5,12 @@
 mod crew;
 mod gate;
 mod gather;
+mod input;
 mod laws;
 mod lists;
 mod note;
 mod part;
 mod parting;
-mod pass;
 mod progress;
 mod redone;
 mod rounds;

@@ -1,17 +1,17 @@
 //! Lists of lists that grow at their ends.
 
-ghost use Rattle.std.specs.Prelude.{◌≡◌, ℕ, ◌<◌, [], ◌∷◌, ◌++◌, length, nat_eq, if◌then◌else◌, ◌==◌, IfOk, IfErr, OnOk};
+ghost use Rattle.std.specs.Prelude.{◌≡◌, ℕ, ◌<◌, [], ◌∷◌, ◌++◌, length, nat_eq, if◌then◌else◌, ◌==◌, IfOk, OnOk, IsOkUnless};
 ghost use Rattle.page.specs.declared.fault.Fault.TheVariants.{NoResource};
 ghost use Rattle.redo.specs.Lists.{list_at};
 
 use page::Fault;
 use std::alloc::Global;
 
-/// So many empty lists. The only error is `NoResource`.
+/// `count` empty lists. The only error is `NoResource`.
 pub fn empty_lists<T: Drop>(alloc: Global, count: usize) -> Result<Vec<Vec<T>>, Fault>
     ensures count { IfOk result (λ lists. length lists.items ≡ count) }
     ensures empty { IfOk result (λ lists. (k : ℕ) → list_at lists.items k ≡ []) }
-    ensures err { IfErr result (λ e. e ≡ NoResource) }
+    ensures err { IsOkUnless result NoResource }
 {
     let mut lists = Vec::new(alloc);
     for _ in 0..count {
@@ -32,8 +32,9 @@ pub fn len_at<T>(lists: &[Vec<T>], place: usize) -> usize
 pub fn push_to<T: Drop>(lists: &mut [Vec<T>], place: usize, item: T) -> Result<(), Fault>
     requires { place < length lists.old }
     ensures count { length lists.new ≡ length lists.old }
-    ensures ok { OnOk result ((k : ℕ) → list_at lists.new k ≡ (if k == place then list_at lists.old k ++ item ∷ [] else list_at lists.old k)) }
-    ensures err { IfErr result (λ e. e ≡ NoResource) }
+    ensures ok { OnOk result ((k : ℕ) → list_at lists.new k
+        ≡ (if k == place then list_at lists.old k ++ item ∷ [] else list_at lists.old k)) }
+    ensures err { IsOkUnless result NoResource }
 {
     lists[place].push(item)?;
     Ok(())

@@ -1,6 +1,6 @@
 //! Notes: which record is in which cell of a part.
 
-ghost use Rattle.std.specs.Prelude.{◌≡◌, ◌<◌, [], ◌∷◌, ◌++◌, length, slice_index_or, OnOk, IfErr};
+ghost use Rattle.std.specs.Prelude.{◌≡◌, ◌<◌, [], ◌∷◌, ◌++◌, length, slice_index_or, OnOk, IsOkUnless};
 ghost use Rattle.page.specs.declared.fault.Fault.TheVariants.{NoResource};
 ghost use Rattle.page.specs.declared.sizes.TheConstants.{PAGES, SLOTS};
 
@@ -74,7 +74,7 @@ impl NoteList {
         requires place { note.place < PAGES }
         requires slot { note.slot < SLOTS }
         ensures ok { OnOk result (self.new ≡ self.old ++ note ∷ []) }
-        ensures err { IfErr result (λ e. e ≡ NoResource) }
+        ensures err { IsOkUnless result NoResource }
     {
         self.cells
             .push(SLOTS as u16 * note.place + note.slot as u16)?;

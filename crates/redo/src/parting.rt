@@ -1,6 +1,6 @@
 //! How the pages are dealt into parts.
 
-ghost use Rattle.std.specs.Prelude.{◌≡◌, ℕ, ◌+◌, ◌%◌, ◌<◌, ◌≤◌, List, [], ◌∷◌, All, length, vec_len, slice_index, IfOk, IfErr, IfSome, OnOk, Some, IsTrue, ◌↔◌};
+ghost use Rattle.std.specs.Prelude.{◌≡◌, ℕ, ◌+◌, ◌%◌, ◌<◌, ◌≤◌, List, [], ◌∷◌, All, length, vec_len, slice_index, IfOk, IfErr, IfSome, OnOk, Some, IsTrue, ◌↔◌, IsOkUnless};
 ghost use Rattle.std.specs.List.{slice_get, range_with_len};
 ghost use Rattle.page.specs.declared.fault.Fault.TheVariants.{NoResource};
 ghost use Rattle.redo.specs.Lists.{list_at};
@@ -47,7 +47,7 @@ fn index(alloc: Global, parts: u32, part_of: &[u32]) -> Result<(Vec<u16>, Vec<Ve
     ensures count { IfOk result (λ x. length x.1.items ≡ parts) }
     ensures lists { IfOk result (λ x. AreLists part_of.now x.0.items x.1.items) }
     ensures low { IfOk result (λ x. All (λ place. place < PAGES) x.0.items) }
-    ensures err { IfErr result (λ e. e ≡ NoResource) }
+    ensures err { IsOkUnless result NoResource }
 {
     let mut place_of = Vec::new(alloc);
     let mut members = empty_lists(alloc, parts as usize)?;
@@ -61,14 +61,14 @@ fn index(alloc: Global, parts: u32, part_of: &[u32]) -> Result<(Vec<u16>, Vec<Ve
 }
 
 impl Parting {
-    /// Whether a parting can have so many pages or so many parts: 1 to `page::PAGES`.
+    /// Whether a parting can have this number of pages, or of parts: 1 to `page::PAGES`.
     pub fn can_have(count: u32) -> bool
         ensures { IsTrue result ↔ IsSize count }
     {
         (1..=PAGES as u32).contains(&count)
     }
 
-    /// The parting of so many pages into so many parts that gives page p the part `part_of[p]`.
+    /// The parting of `pages` pages into `parts` parts that gives page p the part `part_of[p]`.
     ///
     /// Answers [`Fault::BadParting`] where pages or parts are outside 1 to 4,096, there is not one
     /// entry a page, or an entry is not below `parts`; [`Fault::NoResource`] where memory was

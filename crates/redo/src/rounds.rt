@@ -1,15 +1,16 @@
 //! Redo: two rounds of workers.
 
-ghost use Rattle.std.specs.Prelude.{◌≡◌, ◌≤◌, Ok, Err, length, map, sum, IfOk, OnOk, IfErr, IsTrue, ◌↔◌, ◌<◌, All, vec_len};
+ghost use Rattle.std.specs.Prelude.{◌≡◌, ◌≤◌, Ok, Err, length, map, sum, IfOk, OnOk, IfErr, IsTrue, ◌↔◌, ◌<◌, All, vec_len, IsOkUnless};
 ghost use Rattle.page.specs.declared.fault.Fault.TheVariants.{NoResource, BadWorkers};
-ghost use Rattle.redo.specs.Passes.{pass_over};
-ghost use Rattle.redo.specs.Rounds.{AreRoutes, IsBack};
+ghost use Rattle.redo.specs.Inputs.{input_over};
+ghost use Rattle.redo.specs.Routes.{AreRoutes};
+ghost use Rattle.redo.specs.Parts.{IsBack};
 ghost use Rattle.redo.specs.Redone.{redone_page, applied_to, AreWorkers, AllExist, RedoFault};
 
 use crate::crew::{Share, deal, run};
 use crate::gate::Gate;
 use crate::gather::assemble;
-use crate::pass::Pass;
+use crate::input::RedoInput;
 use crate::route::{Route, routes};
 use crate::{Parting, Redone};
 use analysis::Tables;
@@ -22,7 +23,7 @@ use wal::Log;
 /// How many workers redo has at most.
 pub const WORKERS: u32 = 64;
 
-/// Whether redo may have so many workers: 1 to [`WORKERS`].
+/// Whether redo may have this number of workers: 1 to [`WORKERS`].
 pub fn are_workers(workers: u32) -> bool
     ensures { IsTrue result ↔ AreWorkers workers }
 {
@@ -34,22 +35,22 @@ pub fn are_workers(workers: u32) -> bool
 fn second_round<G: Gate, R: Threads + Sync>(
     rt: &R,
     alloc: Global,
-    pass: &Pass,
+    input: &RedoInput,
     routes: &[Route],
     gate: &G,
 ) -> Result<(Board, Vec<Share>), Fault>
-    requires routes { AreRoutes pass.now routes.now }
+    requires routes { AreRoutes input.now routes.now }
     requires workers { AreWorkers (length routes.now) }
     ensures some { IfOk result (λ x. 0 < vec_len x.1) }
     ensures seats { IfOk result (λ x. x.0.seats ≡ vec_len x.1) }
-    ensures parts { IfOk result (λ x. x.0.parts ≡ pass.now.parting.parts) }
-    ensures each { IfOk result (λ x. All (IsBack pass.now x.0) x.1.items) }
-    ensures err { IfErr result (λ e. e ≡ NoResource) }
+    ensures parts { IfOk result (λ x. x.0.parts ≡ input.now.parting.parts) }
+    ensures each { IfOk result (λ x. All (IsBack input.now x.0) x.1.items) }
+    ensures err { IsOkUnless result NoResource }
 {
     let workers = routes.len() as u32;
-    let (board, seat) = Board::new(alloc, pass.parting.parts(), workers, workers)?;
+    let (board, seat) = Board::new(alloc, input.parting.parts(), workers, workers)?;
     let jobs = deal(alloc, &board, seat, workers)?;
-    let shares = run(rt, alloc, pass, routes, &board, gate, jobs)?;
+    let shares = run(rt, alloc, input, routes, &board, gate, jobs)?;
     Ok((board, shares))
 }
 
@@ -69,22 +70,24 @@ fn shares_of<G: Gate, R: Threads + Sync>(
     ensures some { IfOk result (λ x. 0 < vec_len x.1) }
     ensures seats { IfOk result (λ x. x.0.seats ≡ vec_len x.1) }
     ensures parts { IfOk result (λ x. x.0.parts ≡ parting.now.parts) }
-    ensures each { IfOk result (λ x. All (IsBack (pass_over log.now store.now.pages tables.now parting.now) x.0) x.1.items) }
+    ensures each { IfOk result (λ x. All
+        (IsBack (input_over log.now store.now.pages tables.now parting.now) x.0) x.1.items) }
     ensures exist { OnOk result (AllExist log.now (length store.now.pages) tables.now.redo_lsn) }
-    ensures fault { IfErr result (RedoFault log.now (length store.now.pages) tables.now.redo_lsn workers) }
+    ensures fault { IfErr result (RedoFault log.now
+        (length store.now.pages) tables.now.redo_lsn workers) }
 {
     let _count = store.pages.len();
-    let pass = Pass {
+    let input = RedoInput {
         log,
         store,
         tables,
         parting,
     };
-    let routes = match routes(rt, alloc, &pass, workers) {
+    let routes = match routes(rt, alloc, &input, workers) {
         Ok(routes) => routes,
         Err(fault) => return Err(fault),
     };
-    let shares = second_round(rt, alloc, &pass, &routes, gate)?;
+    let shares = second_round(rt, alloc, &input, &routes, gate)?;
     Ok(shares)
 }
 
@@ -101,13 +104,16 @@ pub fn redo_in_place<G: Gate, R: Threads + Sync>(
     gate: &G,
 ) -> Result<Redone, Fault>
     requires pages { length parting.now.part_of ≡ length store.pages }
-    ensures pages { IfOk result (λ redone. redone.pages.items ≡ map (redone_page log.now tables.now) store.pages) }
-    ensures applied { IfOk result (λ redone. redone.applied ≡ sum (map (applied_to log.now tables.now) store.pages)) }
+    ensures pages { IfOk result (λ redone. redone.pages.items
+        ≡ map (redone_page log.now tables.now) store.pages) }
+    ensures applied { IfOk result (λ redone. redone.applied
+        ≡ sum (map (applied_to log.now tables.now) store.pages)) }
     ensures workers { OnOk result (AreWorkers workers) }
     ensures exist { OnOk result (AllExist log.now (length store.pages) tables.now.redo_lsn) }
 
     // A refusal has its cause, memory aside.
-    ensures fault { IfErr result (RedoFault log.now (length store.pages) tables.now.redo_lsn workers) }
+    ensures fault { IfErr result (RedoFault log.now
+        (length store.pages) tables.now.redo_lsn workers) }
     ensures bad_workers { (AreWorkers workers → ⊥) → result ≡ Err BadWorkers }
 {
     if !are_workers(workers) {
@@ -147,13 +153,16 @@ pub fn redo<G: Gate, R: Threads + Sync>(
     gate: &G,
 ) -> Result<Redone, Fault>
     requires pages { length parting.now.part_of ≡ length store.now.pages }
-    ensures pages { IfOk result (λ redone. redone.pages.items ≡ map (redone_page log.now tables.now) store.now.pages) }
-    ensures applied { IfOk result (λ redone. redone.applied ≡ sum (map (applied_to log.now tables.now) store.now.pages)) }
+    ensures pages { IfOk result (λ redone. redone.pages.items
+        ≡ map (redone_page log.now tables.now) store.now.pages) }
+    ensures applied { IfOk result (λ redone. redone.applied
+        ≡ sum (map (applied_to log.now tables.now) store.now.pages)) }
     ensures workers { OnOk result (AreWorkers workers) }
     ensures exist { OnOk result (AllExist log.now (length store.now.pages) tables.now.redo_lsn) }
 
     // A refusal has its cause, memory aside.
-    ensures fault { IfErr result (RedoFault log.now (length store.now.pages) tables.now.redo_lsn workers) }
+    ensures fault { IfErr result (RedoFault log.now
+        (length store.now.pages) tables.now.redo_lsn workers) }
     ensures bad_workers { (AreWorkers workers → ⊥) → result ≡ Err BadWorkers }
 {
     if !are_workers(workers) {

@@ -1,17 +1,17 @@
 //! The first round: which records each part is to look at.
 
-ghost use Rattle.std.specs.Prelude.{◌≡◌, ℕ, ◌+◌, ◌<◌, ◌≤◌, [], ◌∷◌, ◌++◌, All, Some, length, map, vec_len, slice_set, OnOk, IfOk, IfErr, MatchResult, if◌then◌else◌};
+ghost use Rattle.std.specs.Prelude.{◌≡◌, ℕ, ◌+◌, ◌<◌, ◌≤◌, [], ◌∷◌, ◌++◌, All, Some, length, map, vec_len, slice_set, OnOk, IfOk, IfErr, MatchResult, if◌then◌else◌, IsOkUnless};
 ghost use Rattle.page.specs.declared.fault.Fault.TheVariants.{NoResource};
 ghost use Rattle.wal.specs.Records.{LogRecord, History, record_at, last_lsn, history, base_lsn};
 ghost use Rattle.wal.specs.Glances.{glance_of};
 ghost use Rattle.redo.specs.Notes.{notes_at};
 ghost use Rattle.redo.specs.Changes.{NamesBelow, on_part, lsn_in, IsNote};
-ghost use Rattle.redo.specs.Rounds.{IsRoute, AreRoutes, ExistWithin, RouteFault, IsSeen, NoteFault, IfRoute, IfEach, RoundFault, boundary_in};
+ghost use Rattle.redo.specs.Routes.{IsRoute, AreRoutes, ExistWithin, RouteFault, IsSeen, NoteFault, IfRoute, IfEach, RoundFault, boundary_in};
 ghost use Rattle.page.specs.declared.sizes.TheConstants.{PAGES, SLOTS};
 
 use crate::Parting;
+use crate::input::RedoInput;
 use crate::note::{Note, NoteList};
-use crate::pass::Pass;
 use page::Fault;
 use std::alloc::Global;
 use std::thread;
@@ -39,7 +39,7 @@ impl Route {
 fn empty_notes(alloc: Global, parts: u32) -> Result<Vec<NoteList>, Fault>
     ensures count { IfOk result (λ lists. length lists.items ≡ parts) }
     ensures empty { IfOk result (λ lists. (part : ℕ) → notes_at lists.items part ≡ []) }
-    ensures err { IfErr result (λ e. e ≡ NoResource) }
+    ensures err { IsOkUnless result NoResource }
 {
     let mut lists = Vec::new(alloc);
     for _ in 0..parts {
@@ -54,8 +54,9 @@ fn note_for(lists: &mut [NoteList], part: usize, note: Note) -> Result<(), Fault
     requires place { note.place < PAGES }
     requires slot { note.slot < SLOTS }
     ensures count { length lists.new ≡ length lists.old }
-    ensures ok { OnOk result (lists.new ≡ slice_set lists.old part (notes_at lists.old part ++ note ∷ [])) }
-    ensures err { IfErr result (λ e. e ≡ NoResource) }
+    ensures ok { OnOk result (lists.new
+        ≡ slice_set lists.old part (notes_at lists.old part ++ note ∷ [])) }
+    ensures err { IsOkUnless result NoResource }
 {
     lists[part].push(note)?;
     Ok(())
@@ -71,10 +72,18 @@ fn put_note(
     requires lists { length lists.old ≡ parting.now.parts }
     requires seen { IsSeen glance }
     ensures count { length lists.new ≡ length lists.old }
-    ensures exists { OnOk result ((r : LogRecord) → glance ≡ glance_of r → NamesBelow (length parting.now.part_of) r) }
-    ensures lsns { OnOk result ((r : LogRecord) → glance ≡ glance_of r → (part : ℕ) → map lsn_in (notes_at lists.new part) ≡ (if on_part parting.now.part_of part r then map lsn_in (notes_at lists.old part) ++ lsn ∷ [] else map lsn_in (notes_at lists.old part))) }
-    ensures notes { OnOk result ((log : History) (r : LogRecord) → glance ≡ glance_of r → record_at log lsn ≡ Some r → (part : ℕ) → All (IsNote log parting.now.place_of) (notes_at lists.old part) → All (IsNote log parting.now.place_of) (notes_at lists.new part)) }
-    ensures fault { IfErr result (λ e. (r : LogRecord) → glance ≡ glance_of r → NoteFault (length parting.now.part_of) lsn r e) }
+    ensures exists { OnOk result ((r : LogRecord) → glance ≡ glance_of r
+        → NamesBelow (length parting.now.part_of) r) }
+    ensures lsns { OnOk result ((r : LogRecord) → glance ≡ glance_of r → (part : ℕ)
+        → map lsn_in (notes_at lists.new part)
+        ≡ (if on_part parting.now.part_of part r then map lsn_in
+        (notes_at lists.old part) ++ lsn ∷ [] else map lsn_in (notes_at lists.old part))) }
+    ensures notes { OnOk result ((log : History) (r : LogRecord) → glance ≡ glance_of r
+        → record_at log lsn ≡ Some r → (part : ℕ)
+        → All (IsNote log parting.now.place_of) (notes_at lists.old part)
+        → All (IsNote log parting.now.place_of) (notes_at lists.new part)) }
+    ensures fault { IfErr result (λ e. (r : LogRecord) → glance ≡ glance_of r
+        → NoteFault (length parting.now.part_of) lsn r e) }
 {
     let Some((page, slot)) = glance.cell() else {
         return Ok(());
@@ -89,17 +98,17 @@ fn put_note(
 
 /// The route through the records with LSNs above `from`, up to `to`. Refuses the first of them on a
 /// page that there is not by `NoSuchPage`.
-fn route_through(alloc: Global, pass: &Pass, from: u64, to: u64) -> Result<Route, Fault>
-    requires begun { base_lsn (history pass.now.log) ≤ from }
+fn route_through(alloc: Global, input: &RedoInput, from: u64, to: u64) -> Result<Route, Fault>
+    requires begun { base_lsn (history input.now.log) ≤ from }
     requires stretch { from ≤ to }
-    requires within { to ≤ last_lsn (history pass.now.log) }
-    ensures ok { IfOk result (IsRoute pass.now from to) }
-    ensures fault { IfErr result (RouteFault pass.now from to) }
+    requires within { to ≤ last_lsn (history input.now.log) }
+    ensures ok { IfOk result (IsRoute input.now from to) }
+    ensures fault { IfErr result (RouteFault input.now from to) }
 {
-    let mut lists = empty_notes(alloc, pass.parting.parts())?;
+    let mut lists = empty_notes(alloc, input.parting.parts())?;
     for lsn in from..to {
-        let glance = pass.log.glance_after(lsn);
-        if let Err(fault) = put_note(pass.parting, glance, lsn + 1, &mut lists) {
+        let glance = input.log.glance_after(lsn);
+        if let Err(fault) = put_note(input.parting, glance, lsn + 1, &mut lists) {
             return Err(fault);
         }
     }
@@ -107,38 +116,38 @@ fn route_through(alloc: Global, pass: &Pass, from: u64, to: u64) -> Result<Route
 }
 
 /// The LSN below the stretch of a worker.
-fn boundary(pass: &Pass, workers: u32, worker: u64) -> u64
+fn boundary(input: &RedoInput, workers: u32, worker: u64) -> u64
     requires workers { 0 < workers }
     requires worker { worker ≤ workers }
-    ensures { result ≡ boundary_in pass.now workers worker }
+    ensures { result ≡ boundary_in input.now workers worker }
 {
-    let from = pass.skipped();
-    let count = pass.log.last() - from;
+    let from = input.skipped();
+    let count = input.log.last() - from;
     let workers = workers as u64;
     from + count / workers * worker + worker.min(count % workers)
 }
 
 /// The route of a worker.
-fn route_of(alloc: Global, pass: &Pass, workers: u32, worker: u64) -> Result<Route, Fault>
+fn route_of(alloc: Global, input: &RedoInput, workers: u32, worker: u64) -> Result<Route, Fault>
     requires { worker < workers }
-    ensures { IfRoute pass.now workers worker result }
+    ensures { IfRoute input.now workers worker result }
 {
-    let from = boundary(pass, workers, worker);
-    let to = boundary(pass, workers, worker + 1);
-    route_through(alloc, pass, from, to)
+    let from = boundary(input, workers, worker);
+    let to = boundary(input, workers, worker + 1);
+    route_through(alloc, input, from, to)
 }
 
 /// The routes, if there are all.
 fn all_of(
     alloc: Global,
-    pass: &Pass,
+    input: &RedoInput,
     results: Vec<Result<Route, Fault>>,
 ) -> Result<Vec<Route>, Fault>
     requires some { 0 < vec_len results }
-    requires each { IfEach pass.now results.items }
-    ensures ok { IfOk result (λ routes. AreRoutes pass.now routes.items) }
+    requires each { IfEach input.now results.items }
+    ensures ok { IfOk result (λ routes. AreRoutes input.now routes.items) }
     ensures len { IfOk result (λ routes. vec_len routes ≡ vec_len results) }
-    ensures fault { IfErr result (RoundFault pass.now) }
+    ensures fault { IfErr result (RoundFault input.now) }
 {
     let mut routes = Vec::new(alloc);
     for result in results {
@@ -154,18 +163,18 @@ fn all_of(
 pub fn routes<R: Threads + Sync>(
     rt: &R,
     alloc: Global,
-    pass: &Pass,
+    input: &RedoInput,
     workers: u32,
 ) -> Result<Vec<Route>, Fault>
     requires { 0 < workers }
-    ensures ok { IfOk result (λ routes. AreRoutes pass.now routes.items) }
+    ensures ok { IfOk result (λ routes. AreRoutes input.now routes.items) }
     ensures len { IfOk result (λ routes. vec_len routes ≡ workers) }
-    ensures fault { IfErr result (RoundFault pass.now) }
+    ensures fault { IfErr result (RoundFault input.now) }
 {
     let worker = |worker: usize| -> Result<Route, Fault>
         requires { worker < workers }
-        ensures { IfRoute pass.entry.now workers worker result }
-    { route_of(alloc, pass, workers, worker as u64) };
+        ensures { IfRoute input.entry.now workers worker result }
+    { route_of(alloc, input, workers, worker as u64) };
     let results = thread::map_indices(rt, alloc, workers as usize, &worker)?;
-    all_of(alloc, pass, results)
+    all_of(alloc, input, results)
 }

@@ -26,7 +26,8 @@ pub struct Tally {
 impl Tally {
     /// A page to which no record was applied.
     pub fn begin(number: u32, lsn: u64, rec_lsn: Option<u64>) -> Tally
-        ensures { result ≡ record { number = number; lsn = lsn; rec_lsn = rec_lsn; applied = 0; lasts = replicate SLOTS 0 } }
+        ensures { result
+            ≡ record { number = number; lsn = lsn; rec_lsn = rec_lsn; applied = 0; lasts = replicate SLOTS 0 } }
     {
         Tally {
             number,

@@ -13,7 +13,8 @@ use Rattle.page.specs.Store.{StoreContent, AreNumbered}
 use Rattle.wal.specs.Records.{LogRecord, tx_in, Update, Compensation, History, start, ◌▸◌, ◌▸▸◌, lsn_before, history, last_lsn, LogContent, ◌⧺◌}
 use Rattle.wal.specs.Meaning.{BasePages, Cells, in_doubt, effects, replay, writes, image_of, is_on, last_on}
 use Rattle.wal.specs.Redo.{held_by, last_where, slots_in}
-use Rattle.wal.specs.Store.{Lawful, NamesPages, true_table, store_out, page_out, checkpoint_at}
+use Rattle.wal.specs.Checkpoint.{true_table, checkpoint_at}
+use Rattle.wal.specs.Store.{Lawful, NamesPages, store_out, page_out}
 use Rattle.wal.specs.Tail.{in_doubt_of, losers_of, tail_of, with_tail}
 use Rattle.wal.specs.Undo.{lost_in, doubtful_in}
 use Rattle.wal.specs.Theorems.{replayed_page, TellsDoubt}

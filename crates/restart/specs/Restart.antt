@@ -1,5 +1,5 @@
 -- What a restart makes of a log and a store, and why it is refused. ARIES, section 6 (restart processing).
-use Rattle.std.specs.Prelude.{◌≡◌, ℕ, ◌<◌, ◌≤◌, ◌⊎◌, List, [], All, Some, None, false, length, map, filter, sum, slice_index_or}
+use Rattle.std.specs.Prelude.{◌≡◌, ℕ, ◌<◌, ◌≤◌, ◌⊎◌, List, [], All, Some, None, false, length, map, filter, sum, slice_index_or, ⊤}
 use Rattle.std.specs.List.{slice_get}
 use Rattle.page.specs.declared.fault.Fault.{Fault}
 use Rattle.page.specs.declared.fault.Fault.TheVariants.{NoResource, BadMaster, PageAheadOfLog, NoSuchPage, BrokenChain, BadParting, BadWorkers}
@@ -134,7 +134,7 @@ PassFault log count e tables = ⊥
 
 -- why a log and a store are not restarted, in the order in which causes are looked for, memory aside
 abbrev pub InputFault : LogContent → StoreContent → Fault → Type 0
-InputFault log before NoResource = Unit {0}
+InputFault log before NoResource = ⊤
 InputFault log before (PageAheadOfLog number) = IsFirstAhead log before.pages number
 InputFault log before BadMaster = NoneAhead log before × (base_of before.master (history log) ≡ None)
 InputFault log before e = NoneAhead log before × Finds log before (PassFault log (length before.pages) e)

@@ -1,6 +1,6 @@
 //! The transactions in doubt, which a restart leaves as they are and tells.
 
-ghost use Rattle.std.specs.Prelude.{◌≡◌, ◌+◌, length, IfOk, IfErr};
+ghost use Rattle.std.specs.Prelude.{◌≡◌, ◌+◌, length, IfOk, IsOkUnless};
 ghost use Rattle.page.specs.declared.fault.Fault.TheVariants.{NoResource};
 ghost use Rattle.wal.specs.Undo.{is_prepared, doubtful_in};
 ghost use Rattle.analysis.specs.Tables.{losers_in};
@@ -25,8 +25,9 @@ fn is_prepared(state: State) -> bool
 /// error is [`Fault::NoResource`], where memory was refused.
 pub fn in_doubt(alloc: Global, tables: &Tables) -> Result<Vec<u32>, Fault>
     ensures ok { IfOk result (λ x. x.items ≡ doubtful_in tables.now.transactions) }
-    ensures others { IfOk result (λ x. length x.items + length (losers_in tables.now) ≡ length tables.now.transactions) }
-    ensures err { IfErr result (λ e. e ≡ NoResource) }
+    ensures others { IfOk result (λ x. length x.items + length (losers_in tables.now)
+        ≡ length tables.now.transactions) }
+    ensures err { IsOkUnless result NoResource }
 {
     let mut numbers = Vec::new(alloc);
     for (tx, entry) in &tables.transactions {

@@ -11,7 +11,7 @@ ghost use Rattle.wal.specs.Store.{Lawful};
 ghost use Rattle.wal.specs.Tail.{tail_of};
 ghost use Rattle.analysis.specs.Lawful.{AreTrue};
 ghost use Rattle.analysis.specs.Tables.{losers_in};
-ghost use Rattle.undo.specs.Undone.{AreCounted, AreSpelled, UndoFault};
+ghost use Rattle.undo.specs.Undone.{HasNoTransaction0, AreWritable, UndoFault};
 ghost use Rattle.restart.specs.Restart.{AreSettings, SettingsFault, AheadFault, appended_by, clrs_in, ends_in, RollsBack, Restarts, Restores, RestartFault};
 
 use crate::Outcome;
@@ -27,7 +27,8 @@ use wal::{Log, Record};
 /// Refuses a number of workers out of its range, then a parting of another number of pages.
 fn check_settings(store: &Store, parting: &Parting, workers: u32) -> Result<(), Fault>
     ensures ok { OnOk result (AreSettings (length store.now.pages) parting.now workers) }
-    ensures refused { (e : Fault) → SettingsFault (length store.now.pages) parting.now workers e → result ≡ Err e }
+    ensures refused { (e : Fault) → SettingsFault (length store.now.pages) parting.now workers e
+        → result ≡ Err e }
     ensures fault { IfErr result (SettingsFault (length store.now.pages) parting.now workers) }
 {
     if !are_workers(workers) {
@@ -77,7 +78,7 @@ fn store_of(master: u64, pages: Vec<Page>) -> Store
     Store { master, pages }
 }
 
-/// Rolls the losers back on pages that were redone.
+/// RollbackInvariant the losers back on pages that were redone.
 fn roll_back(
     alloc: Global,
     log: &Log,
@@ -87,10 +88,13 @@ fn roll_back(
 ) -> Result<Outcome, Fault>
     requires { AreNumbered redone.pages.items }
     ensures rolls_back { IfOk result (RollsBack log.now master tables.now redone) }
-    ensures spelled { IfOk result (λ x. AreCounted tables.now → AreSpelled x.appended.items) }
+    ensures writable { IfOk result (λ x. HasNoTransaction0 tables.now
+        → AreWritable x.appended.items) }
     ensures few { IfOk result (λ x. length x.appended.items ≤ 2 * length log.now.records + 2 ^ 32) }
-    ensures fault { IfErr result (UndoFault (history log.now) (losers_in tables.now) (length redone.pages.items)) }
-    ensures lawful { (base : BasePages) (store : StoreContent) → Lawful base log.now store → AreTrue log.now store tables.now → length redone.pages.items ≡ length store.pages
+    ensures fault { IfErr result (UndoFault (history log.now) (losers_in tables.now)
+        (length redone.pages.items)) }
+    ensures lawful { (base : BasePages) (store : StoreContent) → Lawful base log.now store
+        → AreTrue log.now store tables.now → length redone.pages.items ≡ length store.pages
         → MatchResult result (λ x. appended_by x ≡ tail_of log.now) (λ e. e ≡ NoResource) }
 {
     let in_doubt = in_doubt(alloc, tables)?;
@@ -121,15 +125,17 @@ pub fn restart_in_place<G: Gate, R: Threads + Sync>(
     gate: &G,
 ) -> Result<Outcome, Fault>
     // On a lawful log and its store, over any base pages: the log's tail and the store that the winners leave.
-    ensures lawful { (base : BasePages) → Lawful base log.now store → AreSettings (length store.pages) parting.now workers
+    ensures lawful { (base : BasePages) → Lawful base log.now store
+        → AreSettings (length store.pages) parting.now workers
         → MatchResult result (Restores base log.now store) (λ e. e ≡ NoResource) }
 
     // Wherever it answers: what analysis, redo and undo make of log and store, and no cause of a refusal stands.
     ensures restarts { IfOk result (Restarts log.now store) }
-    ensures settings { (e : Fault) → SettingsFault (length store.pages) parting.now workers e → result ≡ Err e }
+    ensures settings { (e : Fault) → SettingsFault (length store.pages) parting.now workers e
+        → result ≡ Err e }
 
     // Each appended record has a spelling; they are so few that there are LSNs for them behind the log.
-    ensures spelled { IfOk result (λ x. AreSpelled x.appended.items) }
+    ensures writable { IfOk result (λ x. AreWritable x.appended.items) }
     ensures few { IfOk result (λ x. length x.appended.items ≤ 2 * length log.now.records + 2 ^ 32) }
 
     // A refusal has its cause in the input, memory aside.
@@ -150,9 +156,9 @@ pub fn restart_in_place<G: Gate, R: Threads + Sync>(
 /// On a lawful log and its store each page has exactly what the committed and in-doubt
 /// transactions' updates and compensations, in LSN order, make of the base page (what it held before
 /// the log's first record), and as PageLSN the LSN of its last record; the appended records are the
-/// log's tail, and the transactions in doubt are listed. Log, store and outcome do not depend on workers, parting and gate. A restart on what
-/// was appended and the store after it appends nothing, leaves that store as it is and tells the
-/// same transactions.
+/// log's tail, and the transactions in doubt are listed. Log, store and outcome do not depend on
+/// workers, parting and gate. A restart on what was appended and the store after it appends
+/// nothing, leaves that store as it is and lists the same transactions.
 ///
 /// Refuses, in this order, by [`Fault::BadWorkers`] where `workers` is outside 1 to 64;
 /// [`Fault::BadParting`] where the parting has another number of pages than the store;
@@ -171,15 +177,17 @@ pub fn restart<G: Gate, R: Threads + Sync>(
     gate: &G,
 ) -> Result<Outcome, Fault>
     // On a lawful log and its store, over any base pages: the log's tail and the store that the winners leave.
-    ensures lawful { (base : BasePages) → Lawful base log.now store.now → AreSettings (length store.now.pages) parting.now workers
+    ensures lawful { (base : BasePages) → Lawful base log.now store.now
+        → AreSettings (length store.now.pages) parting.now workers
         → MatchResult result (Restores base log.now store.now) (λ e. e ≡ NoResource) }
 
     // Wherever it answers: what analysis, redo and undo make of log and store, and no cause of a refusal stands.
     ensures restarts { IfOk result (Restarts log.now store.now) }
-    ensures settings { (e : Fault) → SettingsFault (length store.now.pages) parting.now workers e → result ≡ Err e }
+    ensures settings { (e : Fault) → SettingsFault (length store.now.pages) parting.now workers e
+        → result ≡ Err e }
 
     // Each appended record has a spelling; they are so few that there are LSNs for them behind the log.
-    ensures spelled { IfOk result (λ x. AreSpelled x.appended.items) }
+    ensures writable { IfOk result (λ x. AreWritable x.appended.items) }
     ensures few { IfOk result (λ x. length x.appended.items ≤ 2 * length log.now.records + 2 ^ 32) }
 
     // A refusal has its cause in the input, memory aside.

@@ -132,10 +132,6 @@ fn main(rt: HostRuntime) -> Result<()> {
 }
 
 #[cfg(test)]
-mod device_tests;
-#[cfg(test)]
-mod gate_tests;
-#[cfg(test)]
 mod in_memory;
 #[cfg(test)]
-mod recovery_tests;
+mod tests;

@@ -1,5 +1,5 @@
 -- A rollback at its start: the losers are resolved one after the other.
-use Rattle.std.specs.Prelude.{All, filter}
+use Rattle.std.specs.Prelude.{All, filter, ⊤}
 use Rattle.std.proofs.Common.{ℕ, suc, ◌≡◌, ◌≢◌, ◌+◌, ◌⊎◌, Bool, true, false, cond, List, [], ◌∷◌, ◌++◌, append-nil, length, map, Option, Some, None, refl, sym, ap, ap₂, ◌∙◌, subst, inl, inr, arith, eq-eqb, ne_eqb, eqb-true, eqb, ltb, zero, ◌<◌, ◌≤◌}
 use Rattle.std.proofs.lemmas.Bool.{cases_Bool, cases_eq, cond_both, ltb-true, ltb-false, false≢true, or_cases, or_parts, or_left, or_right, both_ways}
 use Rattle.std.proofs.lemmas.List.Elements.{All-nil, All-cons}
@@ -13,7 +13,7 @@ use Rattle.wal.specs.Undo.{entry_for, walk_of, last_in}
 use Rattle.wal.proofs.Actions.{AllFor}
 use Rattle.undo.specs.declared.losers.Loser.{Loser}
 use Rattle.undo.specs.Undone.{EndsBadly, last_met, lowest, UndoFault}
-use Rattle.undo.specs.Rollback.{walk_from, WalkFault, Places, Ends, Stays, Resolved, Waits, IsDone, HasPlace, undos, Rolls, met_by, last_by, meets_nothing, end_of, AreEnds, Begun}
+use Rattle.undo.specs.Rollback.{walk_from, WalkFault, Places, Ends, Stays, Resolved, Waits, IsDone, HasPlace, undos, RollbackInvariant, met_by, last_by, meets_nothing, end_of, AreEnds, Begun}
 use Rattle.undo.proofs.Lowest.{lowest_most}
 use Rattle.undo.proofs.Rolling.{place_within, last_within}
 use Rattle.wal.proofs.Histories.{first_all}
@@ -45,7 +45,7 @@ after_other f n (a ∷ xs) t h =
 
 -- THE ENDS THAT COME FIRST
 abbrev EachEntry : (TableEntry → Type 0) → List TableEntry → Type 0
-EachEntry P [] = Unit {0}
+EachEntry P [] = ⊤
 EachEntry P (e ∷ es) = P e × EachEntry P es
 
 EachEntry-more : (P Q : TableEntry → Type 0) (es : List TableEntry) → ((e : TableEntry) → P e → Q e) → EachEntry P es → EachEntry Q es
@@ -100,7 +100,7 @@ idle_others p t h (x ∷ ts) =
 
 -- ALL LOSERS HAVE BEEN RESOLVED
 pub begun_rolls : (log : History) (losers : List TableEntry) (at : Places) (appended : List LogRecord) → AreDistinct (map tx_in losers) → Begun log losers losers at appended
-    → (count : ℕ) → Rolls log losers count at appended
+    → (count : ℕ) → RollbackInvariant log losers count at appended
 begun_rolls log losers at appended distinct b count = record {
   left = met_by log losers;
   last = after (last_by losers) n0 idles;

@@ -16,7 +16,7 @@ use Rattle.wal.proofs.Filters.{leading, no_update}
 use Rattle.wal.proofs.Rollback.{AreStacks, on_top, taken_off}
 use Rattle.undo.specs.declared.losers.Loser.{Loser}
 use Rattle.undo.specs.Undone.{NoBadHop, undone_page, MetExist, EndsBadly, last_met, UndoFault}
-use Rattle.undo.specs.Rollback.{walk_from, WalkFault, IsUpdateAt, Places, Ends, Stays, Resolved, Taken, AreBelow, Waits, IsDone, HasPlace, undos, IsPassed, Rolls, CompensationFault}
+use Rattle.undo.specs.Rollback.{walk_from, WalkFault, IsUpdateAt, Places, Ends, Stays, Resolved, Taken, AreBelow, Waits, IsDone, HasPlace, undos, IsPassed, RollbackInvariant, CompensationFault}
 use Rattle.undo.proofs.Lowest.{lowest_among, lowest_least}
 use Rattle.undo.proofs.Meeting.{walk_falls, walk_found}
 use Rattle.undo.proofs.Placed.{left_below}
@@ -58,7 +58,7 @@ module _ (log : History) (losers : List TableEntry) (left : ℕ → List ℕ) (l
   pub last_within : last_met log losers l.tx ≤ n
   last_within = lowest_among (suc (last_lsn log)) n (walk_of log (entry_for l.tx losers)).met place_met
 
-pub stacks : (log : History) (losers : List TableEntry) (count : ℕ) (at : Places) (appended : List LogRecord) (r : Rolls log losers count at appended) → AreStacks r.left log
+pub stacks : (log : History) (losers : List TableEntry) (count : ℕ) (at : Places) (appended : List LogRecord) (r : RollbackInvariant log losers count at appended) → AreStacks r.left log
 stacks log losers count at appended r = record { falls = falls; found = found }
   where
     falls : (t : ℕ) → Falls (suc (last_lsn log)) (r.left t)
@@ -109,7 +109,7 @@ owed_less log last appended a actions =
 
 -- ONE UPDATE IS UNDONE
 module _ (log : History) (losers : List TableEntry) (count : ℕ) (at rest : Places) (appended : List LogRecord) (place : ℕ) (l : Loser) (taken : Taken place l at rest)
-    (r : Rolls log losers count at appended) (u : UpdateRecord) (there : record_at log place ≡ Some (Update u)) (exists : u.page < count) where
+    (r : RollbackInvariant log losers count at appended) (u : UpdateRecord) (there : record_at log place ≡ Some (Update u)) (exists : u.page < count) where
   waited : Waits log losers r.left r.last place l
   waited = r.waits place l taken.there
 
@@ -263,7 +263,7 @@ module _ (log : History) (losers : List TableEntry) (count : ℕ) (at rest : Pla
           | inr d ↦ left_below place l at rest taken n m (sym (elsewhere n d) ∙ e)
         ]
 
-    pub stays_rolling : Rolls log losers count new after
+    pub stays_rolling : RollbackInvariant log losers count new after
     stays_rolling = record {
       left = left';
       last = last₁;
@@ -312,7 +312,7 @@ module _ (log : History) (losers : List TableEntry) (count : ℕ) (at rest : Pla
         (let e : eqb u.tx u.tx ≡ true = eq-eqb u.tx u.tx refl in
         ap₂ (λ t n. End (record { tx = t; prev = n })) own (ap (λ b. cond b lsn (r.last u.tx)) e))
 
-    pub ends_rolling : Rolls log losers count new after
+    pub ends_rolling : RollbackInvariant log losers count new after
     ends_rolling = record {
       left = left';
       last = last₂;
@@ -345,7 +345,7 @@ module _ (log : History) (losers : List TableEntry) (count : ℕ) (at rest : Pla
     }
 
   pub undone_rolling : (new : Places) (n prev : ℕ) (middle after : List LogRecord) → n ≡ lsn → prev ≡ u.prev → middle ≡ appended ++ clr ∷ []
-      → Resolved log (record { tx = l.tx; last = n }) place prev rest new middle after → Rolls log losers count new after
+      → Resolved log (record { tx = l.tx; last = n }) place prev rest new middle after → RollbackInvariant log losers count new after
   undone_rolling new n prev middle after at_lsn goes_on is resolved =
       let to_prev : Resolved log (record { tx = l.tx; last = n }) place u.prev rest new middle after =
       subst (λ k. Resolved log (record { tx = l.tx; last = n }) place k rest new middle after) goes_on resolved in
@@ -357,7 +357,7 @@ module _ (log : History) (losers : List TableEntry) (count : ℕ) (at rest : Pla
       ]
 
 -- WHY IT BREAKS OFF
-module _ (log : History) (losers : List TableEntry) (count : ℕ) (at rest : Places) (appended : List LogRecord) (place : ℕ) (l : Loser) (taken : Taken place l at rest) (r : Rolls log losers count at appended) where
+module _ (log : History) (losers : List TableEntry) (count : ℕ) (at rest : Places) (appended : List LogRecord) (place : ℕ) (l : Loser) (taken : Taken place l at rest) (r : RollbackInvariant log losers count at appended) where
   at_place : Waits log losers r.left r.last place l
   at_place = r.waits place l taken.there
 
@@ -469,7 +469,7 @@ pages_kept log l from to old new before after given pages resolved same =
 
 -- NOTHING IS LEFT
 -- where no loser waits, all have ended
-module _ (log : History) (losers : List TableEntry) (count : ℕ) (at : Places) (appended : List LogRecord) (r : Rolls log losers count at appended) (none : (n : ℕ) → at n ≡ None) where
+module _ (log : History) (losers : List TableEntry) (count : ℕ) (at : Places) (appended : List LogRecord) (r : RollbackInvariant log losers count at appended) (none : (n : ℕ) → at n ≡ None) where
   each_done : (t : ℕ) → IsDone log losers r.left t
   each_done t =
       elim (r.each t) [

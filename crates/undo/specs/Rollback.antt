@@ -1,5 +1,5 @@
 -- A rollback under way: where each loser goes on, and what is left to be undone (own).
-use Rattle.std.specs.Prelude.{◌≡◌, ◌≢◌, ℕ, suc, ◌+◌, ◌-◌, ◌<◌, ◌≤◌, ◌⊎◌, List, [], ◌∷◌, ◌++◌, length, map, filter, flat_map, Option, Some, None, option_map, Bool, true, ◌==◌, if◌then◌else◌}
+use Rattle.std.specs.Prelude.{◌≡◌, ◌≢◌, ℕ, suc, ◌+◌, ◌-◌, ◌<◌, ◌≤◌, ◌⊎◌, List, [], ◌∷◌, ◌++◌, length, map, filter, flat_map, Option, Some, None, option_map, Bool, true, ◌==◌, if◌then◌else◌, ⊤}
 use Rattle.page.specs.declared.fault.Fault.{Fault}
 use Rattle.page.specs.declared.fault.Fault.TheVariants.{NoResource, NoSuchPage, BrokenChain}
 use Rattle.wal.specs.Records.{TableEntry, tx_in, UpdateRecord, LogRecord, Update, End, History, last_lsn, record_at, first}
@@ -38,8 +38,8 @@ MeetsNothing log t from lsn = walk_from log t from lsn ≡ record { met = []; en
 
 -- why a walk breaks off before it meets an update, memory aside
 abbrev pub WalkFault : Walk → Fault → Type 0
-WalkFault walk NoResource = Unit {0}
-WalkFault walk (BrokenChain lsn) = (lsn ≡ 0 → ⊥) × (walk ≡ record { met = []; ends = lsn })
+WalkFault walk NoResource = ⊤
+WalkFault walk (BrokenChain lsn) = (lsn ≢ 0) × (walk ≡ record { met = []; ends = lsn })
 WalkFault walk e = ⊥
 
 -- LOSERS AT PLACES
@@ -109,7 +109,7 @@ pub record IsPassed (log : History) (count : ℕ) (at : Places) (lsn : ℕ) : Ty
   pub exists : (u : UpdateRecord) → record_at log lsn ≡ Some (Update u) → u.page < count
 
 -- what has been appended and what is left are together what undo appends; what is met is left or passed
-pub record Rolls (log : History) (losers : List TableEntry) (count : ℕ) (at : Places) (appended : List LogRecord) : Type 0 where
+pub record RollbackInvariant (log : History) (losers : List TableEntry) (count : ℕ) (at : Places) (appended : List LogRecord) : Type 0 where
   pub left : ℕ → List ℕ
   pub last : ℕ → ℕ
   pub whole : appended ++ written last (suc (last_lsn log + length appended)) (undos left log) ≡ undone_by log losers
@@ -131,7 +131,7 @@ abbrev pub end_of : TableEntry → LogRecord
 end_of e = End (record { tx = e.tx; prev = e.last })
 
 abbrev pub AreEnds : List LogRecord → Type 0
-AreEnds [] = Unit {0}
+AreEnds [] = ⊤
 AreEnds (End s ∷ rs) = AreEnds rs
 AreEnds (_ ∷ rs) = ⊥
 
@@ -143,7 +143,7 @@ pub record Begun (log : History) (losers done : List TableEntry) (at : Places) (
 
 -- ONE UPDATE
 abbrev pub IsUpdate : Option LogRecord → Type 0
-IsUpdate (Some (Update u)) = Unit {0}
+IsUpdate (Some (Update u)) = ⊤
 IsUpdate _ = ⊥
 
 -- its CLR is appended, and the walk goes on to its PrevLSN
@@ -154,6 +154,6 @@ pub record Compensated (u : UpdateRecord) (last count prev : ℕ) (before after 
 
 -- why it is not undone, memory aside: its page is missing
 abbrev pub CompensationFault : History → ℕ → ℕ → Fault → Type 0
-CompensationFault log place count NoResource = Unit {0}
+CompensationFault log place count NoResource = ⊤
 CompensationFault log place count (NoSuchPage lsn) = (lsn ≡ place) × ((u : UpdateRecord) → record_at log place ≡ Some (Update u) → count ≤ u.page)
 CompensationFault log place count e = ⊥

@@ -1,5 +1,5 @@
 -- What undo makes of any log, tables and pages, and why it is refused. ARIES, section 6.3 (undo pass).
-use Rattle.std.specs.Prelude.{◌≡◌, ℕ, suc, ◌<◌, ◌≤◌, ◌⊎◌, min, [], ◌∷◌, List, All, Some, None, true, length, map, nat_lt}
+use Rattle.std.specs.Prelude.{◌≡◌, ℕ, suc, ◌<◌, ◌≤◌, ◌⊎◌, min, [], ◌∷◌, List, All, Some, None, true, length, map, nat_lt, ⊤}
 use Rattle.std.specs.List.{range_with_len}
 use Rattle.page.specs.Image.{Image}
 use Rattle.page.specs.declared.page.Page.{Page}
@@ -80,7 +80,7 @@ pub record Breaks (log : History) (losers : List TableEntry) (count lsn : ℕ) :
 
 -- why undo is refused, memory aside
 abbrev pub UndoFault : History → List TableEntry → ℕ → Fault → Type 0
-UndoFault log losers count NoResource = Unit {0}
+UndoFault log losers count NoResource = ⊤
 UndoFault log losers count (NoSuchPage lsn) = MeetsMissing log losers count lsn
 UndoFault log losers count (BrokenChain lsn) = Breaks log losers count lsn
 UndoFault log losers count e = ⊥
@@ -94,9 +94,9 @@ NoFaultOfUndo = (log : History) (losers : List TableEntry) (count : ℕ) → NoB
 
 -- WHAT CAN BE WRITTEN
 -- no loser has the number 0, which is no transaction's (own)
-abbrev pub AreCounted : TablesContent → Type 0
-AreCounted tables = entry_for 0 (losers_in tables) ≡ None
+abbrev pub HasNoTransaction0 : TablesContent → Type 0
+HasNoTransaction0 tables = entry_for 0 (losers_in tables) ≡ None
 
 -- each of these records has a spelling
-abbrev pub AreSpelled : List Record → Type 0
-AreSpelled records = All (λ r. Fits (content r)) records
+abbrev pub AreWritable : List Record → Type 0
+AreWritable records = All (λ r. Fits (content r)) records

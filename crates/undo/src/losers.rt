@@ -7,8 +7,8 @@ ghost use Rattle.wal.specs.Records.{history, last_lsn};
 ghost use Rattle.wal.specs.Content.{entry_of, content};
 ghost use Rattle.wal.specs.Undo.{is_lost};
 ghost use Rattle.analysis.specs.Tables.{losers_in};
-ghost use Rattle.undo.specs.Undone.{AreCounted, AreSpelled, UndoFault};
-ghost use Rattle.undo.specs.Rollback.{walk_from, WalkFault, Resolved, Taken, AreEnds, Rolls};
+ghost use Rattle.undo.specs.Undone.{HasNoTransaction0, AreWritable, UndoFault};
+ghost use Rattle.undo.specs.Rollback.{walk_from, WalkFault, Resolved, Taken, AreEnds, RollbackInvariant};
 
 use crate::walk::next_update;
 use analysis::Tables;
@@ -39,8 +39,10 @@ pub fn resolve(
     requires positive { 0 < from }
     requires within { from ≤ last_lsn (history log.now) + 1 }
     ensures ok { OnOk result (Resolved (history log.now) loser from lsn
-        (get nat_cmp places.old) (get nat_cmp places.new) (map content appended.old.items) (map content appended.new.items)) }
-    ensures spelled { OnOk result (0 < loser.tx → AreSpelled appended.old.items → AreSpelled appended.new.items) }
+        (get nat_cmp places.old) (get nat_cmp places.new) (map content appended.old.items)
+        (map content appended.new.items)) }
+    ensures writable { OnOk result (0 < loser.tx → AreWritable appended.old.items
+        → AreWritable appended.new.items) }
     ensures fault { IfErr result (WalkFault (walk_from (history log.now) loser.tx from lsn)) }
 {
     match next_update(log, loser.tx, from, lsn)? {
@@ -58,7 +60,8 @@ pub fn resolve(
 /// Takes the loser that waits at the largest place; None where nobody waits.
 #[tactic(auto, using(crate::proofs::Placed::last_taken, crate::proofs::Placed::nobody_waits))]
 pub fn take_newest(places: &mut BTreeMap<u64, Loser>) -> Option<(u64, Loser)>
-    ensures taken { IfSome result (λ x. Taken x.0 x.1 (get nat_cmp places.old) (get nat_cmp places.new)) }
+    ensures taken { IfSome result (λ x. Taken x.0 x.1 (get nat_cmp places.old)
+        (get nat_cmp places.new)) }
     ensures nobody { IfNone result ((n : ℕ) → get nat_cmp places.old n ≡ None) }
 {
     places.pop_last()
@@ -82,12 +85,15 @@ pub fn begin(
     log: &Log,
     tables: &Tables,
 ) -> Result<(BTreeMap<u64, Loser>, Vec<Record>), Fault>
-    ensures ok { IfOk result (λ x. (count : ℕ) → Rolls (history log.now) (losers_in tables.now) count (get nat_cmp x.0) (map content x.1.items)) }
+    ensures ok { IfOk result (λ x. (count : ℕ)
+        → RollbackInvariant (history log.now) (losers_in tables.now) count (get nat_cmp x.0)
+        (map content x.1.items)) }
     ensures ends { IfOk result (λ x. AreEnds (map content x.1.items)) }
     ensures few { IfOk result (λ x. length x.1.items ≤ length (losers_in tables.now)) }
     ensures numbers { OnOk result (length (losers_in tables.now) ≤ 2 ^ 32) }
-    ensures spelled { IfOk result (λ x. AreCounted tables.now → AreSpelled x.1.items) }
-    ensures fault { IfErr result (λ e. (count : ℕ) → UndoFault (history log.now) (losers_in tables.now) count e) }
+    ensures writable { IfOk result (λ x. HasNoTransaction0 tables.now → AreWritable x.1.items) }
+    ensures fault { IfErr result (λ e. (count : ℕ)
+        → UndoFault (history log.now) (losers_in tables.now) count e) }
 {
     let mut places = BTreeMap::new(alloc);
     let mut appended = Vec::new(alloc);

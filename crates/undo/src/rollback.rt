@@ -14,8 +14,8 @@ ghost use Rattle.wal.specs.Undo.{undone_by};
 ghost use Rattle.wal.specs.Store.{NamesPages, Lawful};
 ghost use Rattle.analysis.specs.Lawful.{AreTrue};
 ghost use Rattle.analysis.specs.Tables.{losers_in};
-ghost use Rattle.undo.specs.Undone.{NoBadHop, undone_page, MetExist, UndoFault, AreCounted, AreSpelled};
-ghost use Rattle.undo.specs.Rollback.{Places, IsUpdate, IsUpdateAt, Compensated, CompensationFault, Taken, AreBelow, AreUpdates, Rolls};
+ghost use Rattle.undo.specs.Undone.{NoBadHop, undone_page, MetExist, UndoFault, HasNoTransaction0, AreWritable};
+ghost use Rattle.undo.specs.Rollback.{Places, IsUpdate, IsUpdateAt, Compensated, CompensationFault, Taken, AreBelow, AreUpdates, RollbackInvariant};
 
 use crate::losers::{Loser, begin, resolve, take_newest};
 use analysis::Tables;
@@ -37,13 +37,17 @@ fn compensate(
 ) -> Result<u64, Fault>
     requires update { IsUpdate (record_at (history log.now) place) }
     requires lsn { lsn ≡ last_lsn (history log.now) + vec_len appended.old + 1 }
-    ensures ok { IfOk result (λ prev. (u : UpdateRecord) → record_at (history log.now) place ≡ Some (Update u)
-        → Compensated u last (length pages.old) prev (map content appended.old.items) (map content appended.new.items)) }
+    ensures ok { IfOk result (λ prev. (u : UpdateRecord)
+        → record_at (history log.now) place ≡ Some (Update u)
+        → Compensated u last (length pages.old) prev (map content appended.old.items)
+        (map content appended.new.items)) }
     ensures pages { OnOk result ((given : List Page) → AreNumbered given
         → pages.old ≡ map (undone_page (history log.now) (map content appended.old.items)) given
         → pages.new ≡ map (undone_page (history log.now) (map content appended.new.items)) given) }
-    ensures spelled { OnOk result (AreSpelled appended.old.items → AreSpelled appended.new.items) }
-    ensures counted { (u : UpdateRecord) → record_at (history log.now) place ≡ Some (Update u) → 0 < u.tx }
+    ensures writable { OnOk result (AreWritable appended.old.items
+        → AreWritable appended.new.items) }
+    ensures counted { (u : UpdateRecord) → record_at (history log.now) place ≡ Some (Update u)
+        → 0 < u.tx }
     ensures fault { IfErr result (CompensationFault (history log.now) place (length pages.old)) }
 {
     let Some(
@@ -85,19 +89,30 @@ fn undo_at(
 ) -> Result<(), Fault>
     requires update { IsUpdateAt (history log.now) loser.tx place }
     requires room { vec_len appended.old ≤ 2 * length log.now.records + 2 ^ 32 }
-    ensures rolls { OnOk result ((losers : List TableEntry) (at : Places) → Taken place loser at (get nat_cmp places.old)
-        → Rolls (history log.now) losers (length pages.old) at (map content appended.old.items)
-        → Rolls (history log.now) losers (length pages.old) (get nat_cmp places.new) (map content appended.new.items)) }
-    ensures updates { OnOk result (AreUpdates (history log.now) (get nat_cmp places.old) → AreUpdates (history log.now) (get nat_cmp places.new)) }
-    ensures falls { OnOk result (AreBelow place (get nat_cmp places.old) → AreBelow place (get nat_cmp places.new)) }
+    ensures rolls { OnOk result ((losers : List TableEntry) (at : Places)
+        → Taken place loser at (get nat_cmp places.old)
+        → RollbackInvariant (history log.now) losers (length pages.old) at
+        (map content appended.old.items)
+        → RollbackInvariant (history log.now) losers (length pages.old) (get nat_cmp places.new)
+        (map content appended.new.items)) }
+    ensures updates { OnOk result (AreUpdates (history log.now) (get nat_cmp places.old)
+        → AreUpdates (history log.now) (get nat_cmp places.new)) }
+    ensures falls { OnOk result (AreBelow place (get nat_cmp places.old)
+        → AreBelow place (get nat_cmp places.new)) }
     ensures few { OnOk result (length appended.new.items ≤ length appended.old.items + 2) }
-    ensures exist { OnOk result (All (NamesPages (length pages.old)) (map content appended.old.items) → All (NamesPages (length pages.old)) (map content appended.new.items)) }
+    ensures exist { OnOk result (All (NamesPages (length pages.old))
+        (map content appended.old.items)
+        → All (NamesPages (length pages.old)) (map content appended.new.items)) }
     ensures pages { OnOk result ((given : List Page) → AreNumbered given
         → pages.old ≡ map (undone_page (history log.now) (map content appended.old.items)) given
         → pages.new ≡ map (undone_page (history log.now) (map content appended.new.items)) given) }
-    ensures spelled { OnOk result (AreSpelled appended.old.items → AreSpelled appended.new.items) }
-    ensures fault { IfErr result (λ e. (losers : List TableEntry) (at : Places) → Taken place loser at (get nat_cmp places.old)
-        → Rolls (history log.now) losers (length pages.old) at (map content appended.old.items) → UndoFault (history log.now) losers (length pages.old) e) }
+    ensures writable { OnOk result (AreWritable appended.old.items
+        → AreWritable appended.new.items) }
+    ensures fault { IfErr result (λ e. (losers : List TableEntry) (at : Places)
+        → Taken place loser at (get nat_cmp places.old)
+        → RollbackInvariant (history log.now) losers (length pages.old) at
+        (map content appended.old.items)
+        → UndoFault (history log.now) losers (length pages.old) e) }
 {
     let lsn = log.next_lsn() + appended.len() as u64;
     let prev = compensate(log, place, loser.last, lsn, appended, pages)?;
@@ -117,19 +132,31 @@ fn undo_all(
 ) -> Result<(), Fault>
     requires updates { AreUpdates (history log.now) (get nat_cmp places.old) }
     requires room { vec_len appended.old ≤ 2 ^ 32 }
-    ensures appended { OnOk result ((losers : List TableEntry) → Rolls (history log.now) losers (length pages.old) (get nat_cmp places.old) (map content appended.old.items)
+    ensures appended { OnOk result ((losers : List TableEntry)
+        → RollbackInvariant (history log.now) losers (length pages.old) (get nat_cmp places.old)
+        (map content appended.old.items)
         → map content appended.new.items ≡ undone_by (history log.now) losers) }
-    ensures ends { OnOk result ((losers : List TableEntry) → Rolls (history log.now) losers (length pages.old) (get nat_cmp places.old) (map content appended.old.items)
+    ensures ends { OnOk result ((losers : List TableEntry)
+        → RollbackInvariant (history log.now) losers (length pages.old) (get nat_cmp places.old)
+        (map content appended.old.items)
         → NoBadHop (history log.now) losers) }
-    ensures met { OnOk result ((losers : List TableEntry) → Rolls (history log.now) losers (length pages.old) (get nat_cmp places.old) (map content appended.old.items)
+    ensures met { OnOk result ((losers : List TableEntry)
+        → RollbackInvariant (history log.now) losers (length pages.old) (get nat_cmp places.old)
+        (map content appended.old.items)
         → MetExist (history log.now) losers (length pages.old) 0) }
-    ensures few { OnOk result (length appended.new.items ≤ length appended.old.items + 2 * length log.now.records) }
-    ensures exist { OnOk result (All (NamesPages (length pages.old)) (map content appended.old.items) → All (NamesPages (length pages.old)) (map content appended.new.items)) }
+    ensures few { OnOk result
+        (length appended.new.items ≤ length appended.old.items + 2 * length log.now.records) }
+    ensures exist { OnOk result (All (NamesPages (length pages.old))
+        (map content appended.old.items)
+        → All (NamesPages (length pages.old)) (map content appended.new.items)) }
     ensures pages { OnOk result ((given : List Page) → AreNumbered given
         → pages.old ≡ map (undone_page (history log.now) (map content appended.old.items)) given
         → pages.new ≡ map (undone_page (history log.now) (map content appended.new.items)) given) }
-    ensures spelled { OnOk result (AreSpelled appended.old.items → AreSpelled appended.new.items) }
-    ensures fault { IfErr result (λ e. (losers : List TableEntry) → Rolls (history log.now) losers (length pages.old) (get nat_cmp places.old) (map content appended.old.items)
+    ensures writable { OnOk result (AreWritable appended.old.items
+        → AreWritable appended.new.items) }
+    ensures fault { IfErr result (λ e. (losers : List TableEntry)
+        → RollbackInvariant (history log.now) losers (length pages.old) (get nat_cmp places.old)
+        (map content appended.old.items)
         → UndoFault (history log.now) losers (length pages.old) e) }
 {
     while let Some((place, loser)) = take_newest(places) {
@@ -165,24 +192,31 @@ pub fn undo(
 ) -> Result<(Vec<Page>, Vec<Record>), Fault>
     requires { AreNumbered pages.items }
     // What is appended: the rollback of the losers, each by the updates that its hops meet.
-    ensures appended { IfOk result (λ x. map content x.1.items ≡ undone_by (history log.now) (losers_in tables.now)) }
-    ensures pages { IfOk result (λ x. x.0.items ≡ map (undone_page (history log.now) (map content x.1.items)) pages.items) }
+    ensures appended { IfOk result (λ x. map content x.1.items
+        ≡ undone_by (history log.now) (losers_in tables.now)) }
+    ensures pages { IfOk result (λ x. x.0.items
+        ≡ map (undone_page (history log.now) (map content x.1.items)) pages.items) }
 
     // For each record of the log at most two are appended, and for each loser one; losers have numbers of 32 bits.
-    ensures few { IfOk result (λ x. length x.1.items ≤ 2 * length log.now.records + length (losers_in tables.now)) }
+    ensures few { IfOk result (λ x. length x.1.items ≤ 2 * length log.now.records + length
+        (losers_in tables.now)) }
     ensures numbers { OnOk result (length (losers_in tables.now) ≤ 2 ^ 32) }
 
     // Each appended record has a spelling, where no loser has the number 0.
-    ensures spelled { IfOk result (λ x. AreCounted tables.now → AreSpelled x.1.items) }
+    ensures writable { IfOk result (λ x. HasNoTransaction0 tables.now → AreWritable x.1.items) }
 
     // An answer means that no hop is bad and no page is missing, a refusal the contrary, and which comes first, memory aside.
     ensures ends { OnOk result (NoBadHop (history log.now) (losers_in tables.now)) }
-    ensures met { OnOk result (MetExist (history log.now) (losers_in tables.now) (length pages.items) 0) }
-    ensures exist { IfOk result (λ x. All (NamesPages (length pages.items)) (map content x.1.items)) }
-    ensures fault { IfErr result (UndoFault (history log.now) (losers_in tables.now) (length pages.items)) }
+    ensures met { OnOk result (MetExist (history log.now) (losers_in tables.now)
+        (length pages.items) 0) }
+    ensures exist { IfOk result (λ x. All (NamesPages (length pages.items))
+        (map content x.1.items)) }
+    ensures fault { IfErr result (UndoFault (history log.now) (losers_in tables.now)
+        (length pages.items)) }
 
     // On a lawful log and its store, with true tables: the log's tail, unless memory runs out.
-    ensures lawful { (base : BasePages) (store : StoreContent) → Lawful base log.now store → AreTrue log.now store tables.now → length pages.items ≡ length store.pages
+    ensures lawful { (base : BasePages) (store : StoreContent) → Lawful base log.now store
+        → AreTrue log.now store tables.now → length pages.items ≡ length store.pages
         → MatchResult result (λ x. map content x.1.items ≡ tail_of log.now) (λ e. e ≡ NoResource) }
 {
     let (mut places, mut appended) = begin(alloc, log, tables)?;

@@ -1,6 +1,6 @@
 -- The actions of a rollback: whose they are, and what is written of them.
 use Rattle.std.proofs.Common.{ℕ, suc, zero, ◌≡◌, ◌+◌, ◌<◌, ◌≤◌, Bool, true, cond, ◌||◌, List, [], ◌∷◌, ◌++◌, map, refl, sym, ap, ap₂, ◌∙◌, inl, inr, arith, eq-eqb, eqb-true, eqb}
-use Rattle.std.specs.Prelude.{filter, flat_map}
+use Rattle.std.specs.Prelude.{filter, flat_map, ⊤}
 use Rattle.std.proofs.lemmas.Bool.{cases_Bool, cases_eq, false≢true, or_cases, or_left, or_right, cond_both, both_ways, false_from_ne_true}
 use Rattle.wal.specs.Records.{UpdateRecord, Update, History, start, ◌▸◌, last_lsn}
 use Rattle.wal.specs.Meaning.{is_of, has, is_loser}
@@ -61,7 +61,7 @@ among_is p log of_log t =
 -- ACTIONS
 -- each action is of such a transaction
 abbrev pub AllFor : (ℕ → Type 0) → List Action → Type 0
-AllFor P [] = Unit {0}
+AllFor P [] = ⊤
 AllFor P (a ∷ actions) = P (tx_for a) × AllFor P actions
 
 -- what is written hangs on the last records of the transactions concerned

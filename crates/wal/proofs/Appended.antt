@@ -1,6 +1,6 @@
 -- What a tail is made of, and what its records take over from the log.
 use Rattle.std.proofs.Common.{ℕ, suc, zero, ◌≡◌, ◌+◌, ◌^◌, ◌<◌, ◌≤◌, true, cond, List, [], ◌∷◌, ◌++◌, length, take, Some, sym, subst, inl, inr, arith, eqb-true, eqb}
-use Rattle.std.specs.Prelude.{All}
+use Rattle.std.specs.Prelude.{All, ⊤}
 use Rattle.std.specs.List.{AllByRecursion}
 use Rattle.std.proofs.lemmas.Bool.{cases_Bool, cond_both, false≢true, or_cases}
 use Rattle.std.proofs.lemmas.List.Elements.{All-from_recursion}
@@ -70,7 +70,7 @@ each_after P log [] p h = p
 each_after P log (r ∷ rs) p h = each_after P (log ▸ r) rs (each_more P log r p h.0) h.1
 
 -- PAGES
-names_next : (base : BasePages) (count : ℕ) (log : History) (r : LogRecord) → Obeys base log r → EachRecord (NamesPages count) log → IsRollback (λ _. Unit {0}) r → NamesPages count r
+names_next : (base : BasePages) (count : ℕ) (log : History) (r : LogRecord) → Obeys base log r → EachRecord (NamesPages count) log → IsRollback (λ _. ⊤) r → NamesPages count r
 names_next base count log (Compensation c) o p q = (let k = o.compensation in subst (λ page. page < count) (sym k.page) (p k.lsn (Update k.update) k.found))
 names_next base count log (End s) o p q = tt
 names_next base count log r o p q = absurd q
@@ -79,7 +79,7 @@ names_next base count log r o p q = absurd q
 pub tail_names : (base : BasePages) (count : ℕ) (log : LogContent) (k : ℕ) → IsLawful base (history log) → EachRecord (NamesPages count) (history log) → EachRecord (NamesPages count) (history log ▸▸ take k (tail_of log))
 tail_names base count log k h p =
     each_after (NamesPages count) (history log) (take k (tail_of log)) p
-    (tail_has base (NamesPages count) (λ _. Unit {0}) (last_lsn (history log) + length (take k (tail_of log))) (λ log r _ o each q. names_next base count log r o each q) log k (omega arith) h (λ t l. tt) p)
+    (tail_has base (NamesPages count) (λ _. ⊤) (last_lsn (history log) + length (take k (tail_of log))) (λ log r _ o each q. names_next base count log r o each q) log k (omega arith) h (λ t l. tt) p)
 
 -- SPELLINGS
 abbrev FitsTx : ℕ → Type 0

@@ -3,7 +3,7 @@ use Rattle.std.proofs.Common.{ℕ, ◌≡◌, ◌+◌, ◌<◌, ◌≤◌, Bool,
 use Rattle.std.proofs.Math.Bool.{and-false}
 use Rattle.std.proofs.lemmas.Bool.{cases_Bool, false≢true, le-leb, lt-leb}
 use Rattle.wal.specs.Records.{TableEntry, LogRecord, CheckpointBegin, CheckpointEnd, History, start, ◌▸◌, ◌▸▸◌, last_lsn, record_at, first, base_lsn}
-use Rattle.wal.specs.Store.{first_end, is_begin, checkpoint_at}
+use Rattle.wal.specs.Checkpoint.{first_end, is_begin, checkpoint_at}
 use Rattle.wal.proofs.Histories.{record_within, size_of_first, record_above}
 
 -- THE FIRST END that names a begin

@@ -8,7 +8,9 @@ use Rattle.wal.specs.Tail.{with_tail}
 use Rattle.wal.specs.Hops.{hops}
 use Rattle.wal.specs.Redo.{redo_of}
 use Rattle.wal.specs.Undo.{lost_in, doubtful_in, undone_by}
-use Rattle.wal.specs.Store.{DirtyLaw, PageLaw, true_table, store_out}
+use Rattle.wal.specs.Pages.{PageLaw}
+use Rattle.wal.specs.Checkpoint.{DirtyLaw, true_table}
+use Rattle.wal.specs.Store.{store_out}
 use Rattle.wal.specs.Theorems.{replayed_page}
 use Rattle.wal.proofs.Rows.{L, a, b, c, U, C, K, A, E, holding, store_of, active}
 use Rattle.wal.proofs.PreparedRows.{P, prepared}

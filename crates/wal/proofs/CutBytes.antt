@@ -12,7 +12,9 @@ use Rattle.wal.specs.Spelling.{body, frame, Fits}
 use Rattle.wal.specs.Headers.{header_of, FitsStart}
 use Rattle.wal.specs.Frames.{next_at}
 use Rattle.wal.specs.Reads.{spellings, log_text, IsTorn}
-use Rattle.wal.specs.Store.{PageLaw, Lawful, Cut}
+use Rattle.wal.specs.Pages.{PageLaw}
+use Rattle.wal.specs.Store.{Lawful}
+use Rattle.wal.specs.Cut.{Cut}
 use Rattle.wal.specs.Theorems.{Interrupted, GoesOn, CutsSettle, CutsCompose}
 use Rattle.wal.proofs.Histories.{size_of_log}
 use Rattle.wal.proofs.Headers.{one_start}

@@ -1,6 +1,6 @@
 -- Transaction tables as lists: in rising number, one entry for each transaction.
 use Rattle.std.proofs.Common.{ℕ, suc, zero, ◌≡◌, ◌<◌, ◌≤◌, Bool, true, false, cond, ◌||◌, List, [], ◌∷◌, map, Some, None, refl, sym, ap, ap₂, ◌∙◌, subst, inl, inr, arith, eq-eqb, ne_eqb, eqb, ltb}
-use Rattle.std.specs.Prelude.{filter, option_map}
+use Rattle.std.specs.Prelude.{filter, option_map, ⊤}
 use Rattle.std.specs.Ordering.{is_eq, nat_cmp}
 use Rattle.std.specs.declared.cmp.Ordering.TheVariants.{Equal, Greater}
 use Rattle.std.specs.Map.{lookup, keys_of}
@@ -13,7 +13,7 @@ use Rattle.wal.specs.Records.{TableEntry, tx_in, History}
 use Rattle.wal.specs.Tail.{is_among, numbers_from, above_all}
 use Rattle.wal.specs.Meaning.{is_unfinished}
 use Rattle.wal.specs.Undo.{entry_for}
-use Rattle.wal.specs.Store.{true_entry, true_table}
+use Rattle.wal.specs.Checkpoint.{true_entry, true_table}
 
 -- KEYS
 is_eq-cond : (b : Bool) → is_eq (cond b Equal Greater) ≡ b
@@ -56,12 +56,12 @@ entry_own t e (x ∷ es) h =
 
 -- DISTINCT TRANSACTIONS
 abbrev pub AreDistinct : List ℕ → Type 0
-AreDistinct [] = Unit {0}
+AreDistinct [] = ⊤
 AreDistinct (t ∷ ts) = (is_among t ts ≡ false) × AreDistinct ts
 
 -- each is at least the bound, and they rise
 abbrev pub Rise : ℕ → List TableEntry → Type 0
-Rise b [] = Unit {0}
+Rise b [] = ⊤
 Rise b (e ∷ es) = (b ≤ e.tx) × Rise (suc e.tx) es
 
 -- those below are not there
@@ -82,7 +82,7 @@ distinct b (e ∷ es) r = (none_among (suc e.tx) e.tx es r.1 (omega arith), dist
 
 -- the entries of a map rise
 abbrev IsFrom : ℕ → List (ℕ × Entry) → Type 0
-IsFrom b [] = Unit {0}
+IsFrom b [] = ⊤
 IsFrom b (e ∷ es) = b ≤ e.0
 
 rise_from : (b : ℕ) (es : List (ℕ × Entry)) → IsStrictlySortedBy nat_cmp (keys_of es) → IsFrom b es → Rise b (map entry_of es)

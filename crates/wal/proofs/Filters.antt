@@ -1,6 +1,6 @@
 -- The lists that a restart goes by: the losers with nothing pending, and the pending updates.
 use Rattle.std.proofs.Common.{ℕ, suc, zero, ◌≡◌, ◌≢◌, ◌+◌, ◌<◌, ◌≤◌, Bool, true, false, cond, List, [], ◌∷◌, Option, Some, None, refl, sym, ap, ap₂, ◌∙◌, subst, inl, inr, arith, eq-eqb, ne_eqb, eqb-true, eqb}
-use Rattle.std.specs.Prelude.{filter}
+use Rattle.std.specs.Prelude.{filter, ⊤}
 use Rattle.std.proofs.lemmas.Bool.{cond_both, cases_Bool, cases_eq, false≢true, or_cases, or_from, both_ways, false_from_ne_true}
 use Rattle.wal.specs.Records.{UpdateRecord, LogRecord, Update, Compensation, History, start, ◌▸◌, last_lsn, record_at}
 use Rattle.wal.specs.Meaning.{owner, is_owned_by, is_of, has}
@@ -124,7 +124,7 @@ not_among n (m ∷ ms) f = or_from (eqb n m) (is_among n ms) (ne_eqb n m (λ e. 
 -- UPDATES THAT PASS A TEST
 -- each of the list is so
 abbrev pub Each : (ℕ → UpdateRecord → Type 0) → List (ℕ × UpdateRecord) → Type 0
-Each P [] = Unit {0}
+Each P [] = ⊤
 Each P (x ∷ xs) = P x.0 x.1 × Each P xs
 
 pub Each-more : (P Q : ℕ → UpdateRecord → Type 0) (xs : List (ℕ × UpdateRecord)) → ((n : ℕ) (u : UpdateRecord) → P n u → Q n u) → Each P xs → Each Q xs

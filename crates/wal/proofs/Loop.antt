@@ -107,7 +107,7 @@ is_done front limit i lsn offset bytes total le so_far =
 
 -- ---- the loop's invariant
 
--- so many frames of a log that begins so were read, and this offset stands behind them
+-- this number of frames of a log that begins so were read, and this offset stands behind them
 pub record SoFar (begins : LogStart) (bytes : List ℕ) (offsets : List ℕ) (i offset : ℕ) : Type 0 where
   pub room : offset ≤ length bytes
   pub long : 8 + 13 * length offsets ≤ offset

@@ -8,7 +8,7 @@ use Rattle.page.specs.Image.{Image}
 use Rattle.wal.specs.Records.{LogRecord, Update, Compensation, History, start, ◌▸◌, last_lsn, record_at, first}
 use Rattle.wal.specs.Meaning.{BasePages, BaseLaw, Cells, replay, writes, is_on, last_on}
 use Rattle.wal.specs.Redo.{slots_in}
-use Rattle.wal.specs.Store.{PageLaw}
+use Rattle.wal.specs.Pages.{PageLaw}
 use Rattle.wal.specs.Theorems.{replayed_page}
 use Rattle.wal.proofs.Histories.{record_last, record_more, record_within, first_older}
 

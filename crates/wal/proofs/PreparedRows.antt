@@ -11,7 +11,9 @@ use Rattle.wal.specs.Laws.{IsLawful}
 use Rattle.wal.specs.Tail.{is_clr, is_end, in_doubt_of, losers_of, tail_of, with_tail}
 use Rattle.wal.specs.Undo.{lost_in, doubtful_in, undone_by}
 use Rattle.wal.specs.Redo.{applied, rec_lsn_of}
-use Rattle.wal.specs.Store.{PageLaw, DirtyLaw, NamesPages, Lawful, true_table, store_out}
+use Rattle.wal.specs.Pages.{PageLaw}
+use Rattle.wal.specs.Checkpoint.{DirtyLaw, true_table}
+use Rattle.wal.specs.Store.{NamesPages, Lawful, store_out}
 use Rattle.wal.specs.Reads.{log_text}
 use Rattle.wal.proofs.Histories.{each_found}
 use Rattle.wal.proofs.Rows.{a, b, U, C, K, A, E, L, holding, store_of, active, dirty_from_first}

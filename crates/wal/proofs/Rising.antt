@@ -1,6 +1,6 @@
 -- Numbers that rise, and a loop that looks whether they do.
 use Rattle.std.proofs.Common.{◌≡◌, ℕ, ◌+◌, ◌<◌, ◌≤◌, List, [], ◌∷◌, length, get_or, take, drop, map, refl, sym, ap, subst, suc, drop-cons, ◌∙◌, arith}
-use Rattle.std.specs.Prelude.{All, ◌↔◌}
+use Rattle.std.specs.Prelude.{All, ◌↔◌, ⊤}
 use Rattle.std.proofs.lemmas.List.{take_more, drop_all, take_all, get_or-map, length-map}
 use Rattle.std.proofs.lemmas.List.Elements.{All-push}
 use Rattle.std.specs.List.{AllByRecursion}
@@ -12,7 +12,7 @@ use Rattle.wal.specs.Spelling.{FitsEntry, FitsDirty, FitsTable, IsRising}
 
 -- each number is smaller than the next, and the first is at least `low`
 abbrev pub RisesFrom : ℕ → List ℕ → Type 0
-RisesFrom low [] = Unit {0}
+RisesFrom low [] = ⊤
 RisesFrom low (n ∷ ns) = (low ≤ n) × RisesFrom (n + 1) ns
 
 pub rises_rising : (low : ℕ) (ns : List ℕ) → RisesFrom low ns → IsRising ns
@@ -35,7 +35,7 @@ module _ {X : Type 0} (number : X → ℕ) (P : X → Type 0) (xs : List X) wher
   abbrev pub AreRight : Type 0
   AreRight = All P xs × IsRising (map number xs)
 
-  -- so many were looked at, and the next number is to be at least `low`
+  -- this many were looked at, and the next number is to be at least `low`
   pub record Looked (i low : ℕ) : Type 0 where
     pub each : All P (take i xs)
     pub rising : RisesFrom 0 (map number xs) ↔ RisesFrom low (drop i (map number xs))
@@ -73,7 +73,7 @@ module _ {X : Type 0} (number : X → ℕ) (P : X → Type 0) (xs : List X) wher
 
 -- ---- the tables of a record
 
--- so many entries at most, each right and in rising order
+-- this number of entries at most, each right and in rising order
 abbrev pub IsTable : {X : Type 0} → ℕ → (X → ℕ) → (X → Type 0) → List X → Type 0
 IsTable most number P xs = (length xs ≤ most) × (All P xs × IsRising (map number xs))
 

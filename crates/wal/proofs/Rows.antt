@@ -16,7 +16,10 @@ use Rattle.wal.specs.Tail.{tail_of}
 use Rattle.wal.specs.Hops.{hops}
 use Rattle.wal.specs.Undo.{undone_by}
 use Rattle.wal.specs.Redo.{redo_of, applied, rec_lsn_of}
-use Rattle.wal.specs.Store.{PageLaw, DirtyLaw, NamesPages, Lawful, Cut, first_end, store_out}
+use Rattle.wal.specs.Pages.{PageLaw}
+use Rattle.wal.specs.Checkpoint.{DirtyLaw, first_end}
+use Rattle.wal.specs.Store.{NamesPages, Lawful, store_out}
+use Rattle.wal.specs.Cut.{Cut}
 use Rattle.wal.specs.Reads.{log_text, Reads}
 use Rattle.wal.specs.Spelling.{frame, Fits}
 use Rattle.wal.specs.Theorems.{GoesOn}

@@ -10,7 +10,9 @@ use Rattle.wal.specs.Records.{LogRecord, CheckpointBegin, History, ◌▸▸◌,
 use Rattle.wal.specs.Meaning.{BasePages, BaseLaw, Cells, replay, winners, last_on}
 use Rattle.wal.specs.Tail.{tail_of, with_tail}
 use Rattle.wal.specs.Redo.{slots_in, rec_lsn_of}
-use Rattle.wal.specs.Store.{PageLaw, DirtyLaw, CheckpointLaw, NamesPages, Lawful, true_table, page_out, store_out}
+use Rattle.wal.specs.Pages.{PageLaw}
+use Rattle.wal.specs.Checkpoint.{DirtyLaw, CheckpointLaw, true_table}
+use Rattle.wal.specs.Store.{NamesPages, Lawful, page_out, store_out}
 use Rattle.wal.specs.Theorems.{replayed_page, Interrupted, GoesOn, RestartGoesOn, Settled, StoreSettles}
 use Rattle.wal.proofs.Histories.{base_after, record_in_front, record_within, first_in_front, after-append, size_of_log}
 use Rattle.wal.proofs.Checkpoints.{checkpoint_begins, checkpoint_ends, checkpoint_there, first_end_after}

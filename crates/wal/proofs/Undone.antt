@@ -7,7 +7,7 @@ use Rattle.wal.specs.Records.{TableEntry, tx_in, History, last_lsn, history}
 use Rattle.wal.specs.Meaning.{BasePages, is_of, has, is_unfinished, in_doubt, is_loser, aborted, prepared, state_by, pending, last_of}
 use Rattle.wal.specs.Laws.{IsLawful}
 use Rattle.wal.specs.Tail.{written, numbers_from, above_all, transactions_of, in_doubt_of, losers_of, left_of, is_among, rollback, left_to_do, tail}
-use Rattle.wal.specs.Store.{true_entry, true_table}
+use Rattle.wal.specs.Checkpoint.{true_entry, true_table}
 use Rattle.wal.specs.Undo.{entry_for, walk_of, last_in, is_prepared, is_lost, lost_in, undone_by}
 use Rattle.wal.specs.Theorems.{UndoIsTail, TableTellsDoubt}
 use Rattle.wal.proofs.Holders.{unfinished_has}

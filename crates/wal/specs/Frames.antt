@@ -1,5 +1,5 @@
 -- Reading the frames of a log from left to right, with the first fault that is met (own).
-use Rattle.std.specs.Prelude.{◌≡◌, ℕ, zero, suc, ◌+◌, ◌*◌, ◌≤◌, true, All, ◌||◌, List, [], ◌∷◌, length, take, drop, Option, Some, None, Result, Ok, Err, nat_lt, ◌==◌, if◌then◌else◌, is_some, option_map, unwrap_or}
+use Rattle.std.specs.Prelude.{◌≡◌, ℕ, zero, suc, ◌+◌, ◌*◌, ◌≤◌, true, All, ◌||◌, List, [], ◌∷◌, length, take, drop, Option, Some, None, Result, Ok, Err, nat_lt, ◌==◌, if◌then◌else◌, is_some, option_map, unwrap_or, ⊤}
 use Rattle.std.specs.Int.{w32, from_be_bytes}
 use Rattle.page.specs.declared.fault.Fault.{Fault}
 use Rattle.page.specs.declared.fault.Fault.TheVariants.{NoResource, BadLogHeader, BadLength, BadRecord, BadLsn}
@@ -65,7 +65,7 @@ abbrev pub followed : List ℕ → (ℕ → Result (List LogRecord × ℕ) Fault
 followed bytes others None = Ok ([], length bytes)
 followed bytes others (Some x) = others x.1 >>= λ y. Ok (x.0 ∷ y.0, y.1)
 
--- the records of at most so many frames, and how many bytes are left; the first frame has this LSN and stands at this offset
+-- the records of at most this number of frames, and how many bytes are left; the first frame has this LSN and stands at this offset
 unfoldable pub frames_at : (limit lsn offset : ℕ) → List ℕ → Result (List LogRecord × ℕ) Fault
 frames_at zero lsn offset bytes = Ok ([], length bytes)
 frames_at (suc limit) lsn offset bytes = next_at lsn offset bytes >>= followed bytes (λ size. frames_at limit (lsn + 1) (offset + size) (drop size bytes))
@@ -88,7 +88,7 @@ log_at bytes = log_from bytes (start_at bytes)
 
 -- What a function returned, seen by view, is what reading gives, unless memory ran out.
 abbrev pub Fails : {Y : Type 0} → Fault → Result Y Fault → Type 0
-Fails NoResource read = Unit {0}
+Fails NoResource read = ⊤
 Fails e read = read ≡ Err e
 
 abbrev pub Gives : {X Y : Type 0} → (X → Y) → Result X Fault → Result Y Fault → Type 0

@@ -1,5 +1,5 @@
 -- The header of a log file. Own.
-use Rattle.std.specs.Prelude.{ℕ, ◌≤◌, List, [], ◌∷◌, ◌++◌, drop, Option, Some, None, nat_lt, nat_eq, if◌then◌else◌}
+use Rattle.std.specs.Prelude.{ℕ, ◌≤◌, List, [], ◌∷◌, ◌++◌, drop, Option, Some, None, nat_lt, nat_eq, if◌then◌else◌, ⊤}
 use Rattle.std.specs.List.{starts_with}
 use Rattle.std.specs.Int.{w64, to_be_bytes}
 use Rattle.wal.specs.declared.header.LogStart.{LogStart}
@@ -26,7 +26,7 @@ header_bytes (Version2 base) = BASED_HEADER_BYTES
 
 -- a base LSN is not so large that LSNs could run out
 abbrev pub FitsStart : LogStart → Type 0
-FitsStart Version1 = Unit {0}
+FitsStart Version1 = ⊤
 FitsStart (Version2 base) = base ≤ LARGEST_BASE
 
 -- READING. How the log in these bytes begins, or None where they begin with no header.

@@ -1,5 +1,5 @@
 -- The laws that each record keeps after the log before it. They are those of ARIES in normal running.
-use Rattle.std.specs.Prelude.{◌≡◌, ◌≢◌, ℕ, List, [], ◌∷◌, Some, IfSome, true, false}
+use Rattle.std.specs.Prelude.{◌≡◌, ◌≢◌, ℕ, List, [], ◌∷◌, Some, IfSome, true, false, ⊤}
 use Rattle.wal.specs.Records.{UpdateRecord, CompensationRecord, LogRecord, Update, Compensation, Commit, Abort, End, Prepare, CheckpointBegin, CheckpointEnd, History, start, ◌▸◌, record_at}
 use Rattle.wal.specs.Meaning.{BasePages, owner, prev_of, committed, aborted, ended, finished, prepared, in_doubt, replay, touches, pending, last_of}
 
@@ -16,8 +16,8 @@ FinishLaw log (Commit s) = (finished s.tx log ≡ false) × (aborted s.tx log �
 FinishLaw log (Abort s) = (finished s.tx log ≡ false) × (aborted s.tx log ≡ false)
 FinishLaw log (End s) = (ended s.tx log ≡ false) × (in_doubt s.tx log ≡ false)
 FinishLaw log (Prepare s) = (finished s.tx log ≡ false) × (aborted s.tx log ≡ false) × (prepared s.tx log ≡ false)
-FinishLaw log CheckpointBegin = Unit {0}
-FinishLaw log (CheckpointEnd begin transactions dirty) = Unit {0}
+FinishLaw log CheckpointBegin = ⊤
+FinishLaw log (CheckpointEnd begin transactions dirty) = ⊤
 
 -- the CLR undoes the newest pending update of its transaction: it names its cell, brings back its before image, and points
 -- to its PrevLSN
@@ -36,18 +36,18 @@ pub record Compensates (log : History) (c : CompensationRecord) : Type 0 where
 abbrev pub CompensationLaw : History → LogRecord → Type 0
 CompensationLaw log (Compensation c) = Compensates log c
 CompensationLaw log (End s) = committed s.tx log ≡ false → pending s.tx log ≡ []
-CompensationLaw log _ = Unit {0}
+CompensationLaw log _ = ⊤
 
 -- BEFORE. A before image is what the log so far leaves in the cell, over the base pages. ARIES, section 4.1 (undo information).
 abbrev pub BeforeLaw : BasePages → History → LogRecord → Type 0
 BeforeLaw base log (Update u) = u.before ≡ replay base log u.page u.slot
-BeforeLaw base log _ = Unit {0}
+BeforeLaw base log _ = ⊤
 
 -- STRICTNESS. Nobody updates a cell in which another transaction that has not finished has an update or a CLR. ARIES,
 -- section 1.2 (locks held to the end), here as a law of the log: own.
 abbrev pub Strictness : History → LogRecord → Type 0
 Strictness log (Update u) = (other : ℕ) → other ≢ u.tx → touches other u.page u.slot log ≡ true → finished other log ≡ true
-Strictness log _ = Unit {0}
+Strictness log _ = ⊤
 
 pub record Obeys (base : BasePages) (log : History) (r : LogRecord) : Type 0 where
   pub chain : ChainLaw log r
@@ -58,5 +58,5 @@ pub record Obeys (base : BasePages) (log : History) (r : LogRecord) : Type 0 whe
 
 -- LAWFUL LOG over base pages. Each record obeys them after the log before it.
 abbrev pub IsLawful : BasePages → History → Type 0
-IsLawful base (start _) = Unit {0}
+IsLawful base (start _) = ⊤
 IsLawful base (log ▸ r) = IsLawful base log × Obeys base log r

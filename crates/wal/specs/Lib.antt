@@ -4,7 +4,10 @@ pub mod Laws
 pub mod Tail
 pub mod Hops
 pub mod Redo
+pub mod Pages
+pub mod Checkpoint
 pub mod Store
+pub mod Cut
 pub mod Undo
 pub mod Spelling
 pub mod Reading

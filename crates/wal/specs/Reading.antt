@@ -108,7 +108,7 @@ dirty_at bytes = do
   rec_lsn ← number_at w64 page.1
   Some ((page.0, rec_lsn.0), rec_lsn.1)
 
--- so many entries in rising order of number, none of them below `low`
+-- this number of entries, rising, none of them below `low`
 unfoldable pub table_at : {E : Type 0} (number : E → ℕ) (entry : List ℕ → Option (E × List ℕ)) (count low : ℕ) → List ℕ → Option (List E × List ℕ)
 table_at number entry zero low bytes = Some ([], bytes)
 table_at number entry (suc count) low bytes = do
@@ -116,13 +116,13 @@ table_at number entry (suc count) low bytes = do
   others ← if nat_lt (number first.0) low then None else table_at number entry count (number first.0 + 1) first.1
   Some (first.0 ∷ others.0, others.1)
 
--- a count that a transaction table may have, and so many entries
+-- a count that a transaction table may have, and that number of entries
 unfoldable pub transactions_at : List ℕ → Option (List TableEntry × List ℕ)
 transactions_at bytes = do
   count ← number_at w32 bytes
   if nat_lt TRANSACTIONS count.0 then None else table_at tx_in entry_at count.0 0 count.1
 
--- a count that a dirty page table may have, and so many entries
+-- a count that a dirty page table may have, and that number of entries
 unfoldable pub dirties_at : List ℕ → Option (List (ℕ × ℕ) × List ℕ)
 dirties_at bytes = do
   count ← number_at w32 bytes
@@ -162,11 +162,11 @@ body_at (kind ∷ bytes) = do
 unfoldable pub entry_there : {E : Type 0} (entry : List ℕ → Option (E × List ℕ)) (other : E) → List ℕ → E
 entry_there entry other bytes = unwrap_or (option_map (λ x. x.0) (entry bytes)) other
 
--- so many entries of this size, the one behind the other
+-- this number of entries of this size, one after the other
 abbrev pub table_in : {E : Type 0} (entry : List ℕ → Option (E × List ℕ)) (other : E) (size count : ℕ) → List ℕ → List E
 table_in entry other size count bytes = map (λ place. entry_there entry other (drop (size * place) bytes)) (range_with_len 0 count)
 
--- there is room for so many, and each of them can be read
+-- there is room for this number of them, and each can be read
 pub record IsTable {E : Type 0} (entry : List ℕ → Option (E × List ℕ)) (size count : ℕ) (bytes : List ℕ) : Type 0 where
   pub room : size * count ≤ length bytes
   pub each : (place : ℕ) → place < count → is_some (entry (drop (size * place) bytes)) ≡ true

@@ -1,5 +1,5 @@
 -- What a log file is: the header, the spellings of its records with the LSNs behind its base LSN, and a torn tail (own).
-use Rattle.std.specs.Prelude.{◌≡◌, ◌≢◌, ℕ, ◌+◌, ◌<◌, ◌≤◌, ◌^◌, List, [], ◌∷◌, ◌++◌, length, drop, ◌⊎◌}
+use Rattle.std.specs.Prelude.{◌≡◌, ◌≢◌, ℕ, ◌+◌, ◌<◌, ◌≤◌, ◌^◌, List, [], ◌∷◌, ◌++◌, length, drop, ◌⊎◌, ⊤}
 use Rattle.std.specs.List.{AllByRecursion}
 use Rattle.wal.specs.declared.header.LogStart.{LogStart}
 use Rattle.wal.specs.Records.{LogRecord, lsn_before, LogContent, history, last_lsn}
@@ -65,7 +65,7 @@ pub record HasFaultBehind (bytes : List ℕ) (e : Fault) : Type 0 where
 
 -- why a log is refused, memory aside
 abbrev pub Cause : List ℕ → Fault → Type 0
-Cause bytes NoResource = Unit {0}
+Cause bytes NoResource = ⊤
 Cause bytes BadLogHeader = (begins : LogStart) (rest : List ℕ) → FitsStart begins → bytes ≢ header_of begins ++ rest
 Cause bytes e = HasFaultBehind bytes e
 

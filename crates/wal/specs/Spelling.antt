@@ -1,5 +1,5 @@
 -- The one spelling of each record, and what has one (own).
-use Rattle.std.specs.Prelude.{ℕ, ◌<◌, ◌≤◌, ◌^◌, List, [], ◌∷◌, ◌++◌, length, map, flat_map, Some, None}
+use Rattle.std.specs.Prelude.{ℕ, ◌<◌, ◌≤◌, ◌^◌, List, [], ◌∷◌, ◌++◌, length, map, flat_map, Some, None, ⊤}
 use Rattle.std.specs.List.{AllByRecursion}
 use Rattle.std.specs.Int.{w32, w64, to_be_bytes}
 use Rattle.page.specs.Image.{Image, FitsSlot}
@@ -107,11 +107,11 @@ pub record FitsDirty (d : ℕ × ℕ) : Type 0 where
 
 -- each number is smaller than the next
 abbrev pub IsRising : List ℕ → Type 0
-IsRising [] = Unit {0}
-IsRising (m ∷ []) = Unit {0}
+IsRising [] = ⊤
+IsRising (m ∷ []) = ⊤
 IsRising (m ∷ n ∷ ns) = (m < n) × IsRising (n ∷ ns)
 
--- at most so many entries, each with a spelling, in rising order of number
+-- at most this number of entries, each with a spelling, in rising order of number
 pub record FitsTable {E : Type 0} (most : ℕ) (number : E → ℕ) (Fit : E → Type 0) (entries : List E) : Type 0 where
   pub few : length entries ≤ most
   pub each : AllByRecursion Fit entries
@@ -129,5 +129,5 @@ Fits (Commit r) = FitsPlain r
 Fits (Abort r) = FitsPlain r
 Fits (End r) = FitsPlain r
 Fits (Prepare r) = FitsPlain r
-Fits CheckpointBegin = Unit {0}
+Fits CheckpointBegin = ⊤
 Fits (CheckpointEnd begin transactions dirty) = FitsCheckpoint begin transactions dirty

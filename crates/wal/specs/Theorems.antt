@@ -9,7 +9,10 @@ use Rattle.wal.specs.Tail.{is_end, in_doubt_of, losers_of, tail, tail_of, with_t
 use Rattle.wal.specs.Hops.{hops}
 use Rattle.wal.specs.Redo.{rec_lsn_of, is_redone, slots_in, redo_of}
 use Rattle.wal.specs.Undo.{entry_for, walk_of, lost_in, doubtful_in, undone_by}
-use Rattle.wal.specs.Store.{PageLaw, true_table, Lawful, store_out, Cut}
+use Rattle.wal.specs.Pages.{PageLaw}
+use Rattle.wal.specs.Checkpoint.{true_table}
+use Rattle.wal.specs.Store.{Lawful, store_out}
+use Rattle.wal.specs.Cut.{Cut}
 use Rattle.wal.specs.Reads.{Reads}
 
 -- A log is lawful where each record obeys the laws after those before it.

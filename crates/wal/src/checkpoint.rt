@@ -3,7 +3,7 @@
 ghost use Rattle.std.specs.Prelude.{◌≡◌, ◌≤◌, option_map, IfSome};
 ghost use Rattle.wal.specs.Records.{CheckpointEnd, history, base_lsn, record_at};
 ghost use Rattle.wal.specs.Spelling.{Fits};
-ghost use Rattle.wal.specs.Store.{is_begin, first_end, checkpoint_at};
+ghost use Rattle.wal.specs.Checkpoint.{is_begin, first_end, checkpoint_at};
 
 use crate::log::Log;
 use crate::view::{DirtyTable, RecordView, TransactionTable};
@@ -20,7 +20,7 @@ impl<'a> Log<'a> {
     }
 
     /// The tables of the first checkpoint end behind the LSN `master` that names it.
-    fn end_naming(&self, master: u64) -> Option<(TransactionTable<'a>, DirtyTable<'a>)>
+    fn checkpoint_end(&self, master: u64) -> Option<(TransactionTable<'a>, DirtyTable<'a>)>
         requires { base_lsn (history self.now) ≤ master }
         ensures found { option_map (λ x. (x.0, x.1)) result ≡ first_end master (history self.now) }
         ensures fits { IfSome result (λ x. Fits (CheckpointEnd master x.0 x.1)) }
@@ -44,11 +44,12 @@ impl<'a> Log<'a> {
     /// later checkpoint end that names it. None where no checkpoint begin stands there, or no later
     /// end names it. The entries stay in the log's bytes, and no memory is taken.
     pub fn checkpoint(&self, master: u64) -> Option<(TransactionTable<'a>, DirtyTable<'a>)>
-        ensures tables { option_map (λ x. (x.0, x.1)) result ≡ checkpoint_at master (history self.now) }
+        ensures tables { option_map (λ x. (x.0, x.1)) result
+            ≡ checkpoint_at master (history self.now) }
         ensures fits { IfSome result (λ x. Fits (CheckpointEnd master x.0 x.1)) }
     {
         if self.begins(master) {
-            self.end_naming(master)
+            self.checkpoint_end(master)
         } else {
             None
         }

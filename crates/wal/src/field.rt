@@ -94,7 +94,8 @@ pub fn image_at(bytes: &[u8]) -> Option<(Option<&[u8]>, &[u8])>
 #[inline]
 #[tactic(auto, unfolding(crate::specs::Reading::plain_at))]
 pub fn plain_at(bytes: &[u8]) -> Option<(u32, u64, &[u8])>
-    ensures { option_map (λ x. (record { tx = x.0; prev = x.1 }, x.2.now)) result ≡ plain_at bytes.now }
+    ensures { option_map (λ x. (record { tx = x.0; prev = x.1 }, x.2.now)) result
+        ≡ plain_at bytes.now }
 {
     let (tx, rest) = tx_at(bytes)?;
     let (prev, rest) = u64_at(rest)?;
@@ -175,7 +176,8 @@ pub fn put_image<A: Allocator>(
 
 #[tactic(auto, using(crate::proofs::Keeping::keeps_same, crate::proofs::Keeping::keeps_if))]
 pub fn put_plain<A: Allocator>(out: &mut Vec<u8, A>, tx: u32, prev: u64) -> Result<(), AllocError>
-    ensures ok { OnOk result (out.new.items ≡ out.old.items ++ (to_be_bytes w32 tx ++ to_be_bytes w64 prev)) }
+    ensures ok { OnOk result (out.new.items
+        ≡ out.old.items ++ (to_be_bytes w32 tx ++ to_be_bytes w64 prev)) }
     ensures kept { Keeps out.old.items out.new.items }
 {
     out.extend_from_slice(&tx.to_be_bytes())?;
@@ -185,7 +187,8 @@ pub fn put_plain<A: Allocator>(out: &mut Vec<u8, A>, tx: u32, prev: u64) -> Resu
 
 #[tactic(auto, using(crate::proofs::Keeping::keeps_same, crate::proofs::Keeping::keeps_if))]
 pub fn put_cell<A: Allocator>(out: &mut Vec<u8, A>, page: u32, slot: u8) -> Result<(), AllocError>
-    ensures ok { OnOk result (out.new.items ≡ out.old.items ++ (to_be_bytes w32 page ++ (slot ∷ []))) }
+    ensures ok { OnOk result (out.new.items
+        ≡ out.old.items ++ (to_be_bytes w32 page ++ (slot ∷ []))) }
     ensures kept { Keeps out.old.items out.new.items }
 {
     out.extend_from_slice(&page.to_be_bytes())?;
@@ -225,7 +228,8 @@ pub fn put_entries<A: Allocator>(
     entries: &[(u32, Entry)],
 ) -> Result<(), AllocError>
     requires { length entries.now < 2 ^ 32 }
-    ensures ok { OnOk result (out.new.items ≡ out.old.items ++ table entry_text (map entry_of entries.now)) }
+    ensures ok { OnOk result (out.new.items
+        ≡ out.old.items ++ table entry_text (map entry_of entries.now)) }
     ensures kept { Keeps out.old.items out.new.items }
 {
     out.extend_from_slice(&(entries.len() as u32).to_be_bytes())?;

@@ -1,6 +1,6 @@
 //! Frames: a record in bytes, read and written.
 
-ghost use Rattle.std.specs.Prelude.{◌≡◌, ◌++◌, ◌∷◌, [], ◌<◌, OnOk, OnErr, IfErr, length, option_map};
+ghost use Rattle.std.specs.Prelude.{◌≡◌, ◌++◌, ◌∷◌, [], ◌<◌, OnOk, OnErr, length, option_map, IsOkUnless};
 ghost use Rattle.page.specs.declared.fault.Fault.TheVariants.{NoResource};
 ghost use Rattle.std.specs.Int.{w32, w64, to_be_bytes};
 ghost use Rattle.wal.specs.Records.{CompensationRecord, PlainRecord, UpdateRecord};
@@ -180,7 +180,8 @@ pub fn body_at(bytes: &[u8]) -> Option<(RecordView, u64)>
 #[inline]
 #[tactic(auto, unfolding(crate::specs::Frames::next_at))]
 pub fn next_at(lsn: u64, offset: usize, bytes: &[u8]) -> Result<Option<(RecordView, usize)>, Fault>
-    ensures { Gives (λ next. option_map (λ x. (shown x.0, x.1)) next) result (next_at lsn offset bytes.now) }
+    ensures { Gives (λ next. option_map (λ x. (shown x.0, x.1)) next) result
+        (next_at lsn offset bytes.now) }
 {
     if bytes.len() < 4 {
         return Ok(None);
@@ -324,7 +325,7 @@ pub fn write_frame<A: Allocator>(
     requires lsn { 0 < lsn }
     ensures ok { OnOk result (out.new.items ≡ out.old.items ++ frame (content entry.now) lsn) }
     ensures kept { OnErr result (out.new.items ≡ out.old.items) }
-    ensures err { IfErr result (λ e. e ≡ NoResource) }
+    ensures err { IsOkUnless result NoResource }
 {
     let len = out.len();
     match put_frame(out, entry, lsn) {

@@ -174,7 +174,8 @@ pub fn body_here(bytes: &[u8], offset: usize) -> &[u8]
 pub fn glance_here(bytes: &[u8], offset: usize) -> Option<Glance>
     requires { IsPlace bytes.now offset }
     ensures seen { result ≡ option_map (λ x. glance_of x.0) (frame_at (drop offset bytes.now)) }
-    ensures fits { (r : LogRecord) (lsn : ℕ) → frame_at (drop offset bytes.now) ≡ Some (r, lsn) → Fits r }
+    ensures fits { (r : LogRecord) (lsn : ℕ) → frame_at (drop offset bytes.now) ≡ Some (r, lsn)
+        → Fits r }
 {
     body_glance(body_here(bytes, offset))
 }

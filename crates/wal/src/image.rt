@@ -13,7 +13,8 @@ use page::Value;
 #[inline(always)]
 #[tactic(auto, unfolding(crate::specs::Reading::update_at))]
 fn update_image(bytes: &[u8]) -> Option<&[u8]>
-    ensures { option_map (λ s. s.now) result ≡ image_in (option_map (λ x. x.0) (update_at bytes.now)) }
+    ensures { option_map (λ s. s.now) result
+        ≡ image_in (option_map (λ x. x.0) (update_at bytes.now)) }
 {
     let (_, _, rest) = plain_at(bytes)?;
     let (_, rest) = u32_at(rest)?;
@@ -26,7 +27,8 @@ fn update_image(bytes: &[u8]) -> Option<&[u8]>
 #[inline(always)]
 #[tactic(auto, unfolding(crate::specs::Reading::compensation_at))]
 fn compensation_image(bytes: &[u8]) -> Option<&[u8]>
-    ensures { option_map (λ s. s.now) result ≡ image_in (option_map (λ x. x.0) (compensation_at bytes.now)) }
+    ensures { option_map (λ s. s.now) result
+        ≡ image_in (option_map (λ x. x.0) (compensation_at bytes.now)) }
 {
     let (_, _, rest) = plain_at(bytes)?;
     let (_, rest) = u32_at(rest)?;
@@ -39,7 +41,8 @@ fn compensation_image(bytes: &[u8]) -> Option<&[u8]>
 #[inline(always)]
 #[tactic(auto, using(crate::proofs::Images::others_put), unfolding(crate::specs::Reading::fields_at))]
 fn fields_image(kind: u8, bytes: &[u8]) -> Option<&[u8]>
-    ensures { option_map (λ s. s.now) result ≡ image_in (option_map (λ x. x.0) (fields_at kind bytes.now)) }
+    ensures { option_map (λ s. s.now) result
+        ≡ image_in (option_map (λ x. x.0) (fields_at kind bytes.now)) }
 {
     match kind {
         1 => update_image(bytes),
@@ -52,7 +55,8 @@ fn fields_image(kind: u8, bytes: &[u8]) -> Option<&[u8]>
 #[tactic(auto, unfolding(crate::specs::Reading::body_at))]
 fn body_image(bytes: &[u8]) -> Option<&[u8]>
     requires { is_some (body_at bytes.now) ≡ true }
-    ensures { option_map (λ s. s.now) result ≡ image_in (option_map (λ x. x.0) (body_at bytes.now)) }
+    ensures { option_map (λ s. s.now) result
+        ≡ image_in (option_map (λ x. x.0) (body_at bytes.now)) }
 {
     match bytes {
         [] => None,

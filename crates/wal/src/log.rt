@@ -107,7 +107,8 @@ impl<'a> Log<'a> {
         requires to { lsn < last_lsn (history self.now) }
         ensures there { record_at (history self.now) (lsn + 1) ≡ Some (shown result) }
         ensures fits { Fits (shown result) }
-        ensures next { first (lsn + 1) (history self.now) ≡ first lsn (history self.now) ▸ shown result }
+        ensures next { first (lsn + 1) (history self.now)
+            ≡ first lsn (history self.now) ▸ shown result }
     {
         let _last = self.last();
         match self.get(lsn + 1) {
@@ -133,7 +134,8 @@ impl<'a> Log<'a> {
 
 fn record_in<'a>(bytes: &'a [u8], offsets: &Offsets, base: u64, lsn: u64) -> Option<RecordView<'a>>
     requires { All (IsPlace bytes.now) offsets.now }
-    ensures found { option_map shown result ≡ record_at (start base ▸▸ map (record_of bytes.now) offsets.now) lsn }
+    ensures found { option_map shown result
+        ≡ record_at (start base ▸▸ map (record_of bytes.now) offsets.now) lsn }
     ensures fits { IfSome result (λ view. Fits (shown view)) }
 {
     if lsn <= base {
@@ -148,7 +150,8 @@ fn record_in<'a>(bytes: &'a [u8], offsets: &Offsets, base: u64, lsn: u64) -> Opt
 
 fn record_here(bytes: &[u8], offset: usize) -> Option<RecordView>
     requires { IsPlace bytes.now offset }
-    ensures found { option_map shown result ≡ option_map (λ x. x.0) (frame_at (drop offset bytes.now)) }
+    ensures found { option_map shown result
+        ≡ option_map (λ x. x.0) (frame_at (drop offset bytes.now)) }
     ensures fits { IfSome result (λ view. Fits (shown view)) }
 {
     match body_at(body_here(bytes, offset)) {
@@ -161,7 +164,8 @@ fn offsets_of(alloc: Global, begins: LogStart, bytes: &[u8]) -> Result<(Offsets,
     requires starts { FitsStart begins }
     requires room { header_bytes begins ≤ length bytes.now }
     ensures places { IfOk result (λ x. ArePlaces bytes.now x.0) }
-    ensures read { Gives (λ x. (map (record_of bytes.now) x.0, x.1)) result (frames_behind begins bytes.now) }
+    ensures read { Gives (λ x. (map (record_of bytes.now) x.0, x.1)) result
+        (frames_behind begins bytes.now) }
 {
     let mut offsets = Offsets::new(alloc);
     let mut offset = begins.header_bytes();
@@ -209,10 +213,11 @@ fn read_in<'a>(alloc: Global, bytes: &'a [u8]) -> Result<(Log<'a>, usize), Fault
 /// - BadLsn(offset): the body spells a record with another LSN than the sum of the base LSN and the
 ///   frame's number from 1.
 pub fn read_log<'a>(alloc: Global, bytes: &'a [u8]) -> Result<(Log<'a>, usize), Fault>
-    // What is read stands there.
+    // What is answered is what the bytes spell.
     ensures found { IfOk result (λ x. Reads bytes.now x.0 x.1) }
-    // What stands there is read, unless memory runs out.
-    ensures only { (log : LogContent) (torn : ℕ) → Reads bytes.now log torn → Gives (λ x. x) result (Ok (log, torn)) }
+    // What the bytes spell is answered, unless memory runs out.
+    ensures only { (log : LogContent) (torn : ℕ) → Reads bytes.now log torn
+        → Gives (λ x. x) result (Ok (log, torn)) }
     // A refusal has its cause in the bytes, memory aside.
     ensures fault { IfErr result (Cause bytes.now) }
 {

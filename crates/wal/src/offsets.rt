@@ -1,6 +1,6 @@
 //! Offsets of frames.
 
-ghost use Rattle.std.specs.Prelude.{◌≡◌, ◌<◌, ◌++◌, ◌∷◌, [], ℕ, List, length, slice_index_or, OnOk, IfErr};
+ghost use Rattle.std.specs.Prelude.{◌≡◌, ◌<◌, ◌++◌, ◌∷◌, [], ℕ, List, length, slice_index_or, OnOk, IsOkUnless};
 ghost use Rattle.page.specs.declared.fault.Fault.TheVariants.{NoResource};
 
 use page::Fault;
@@ -56,7 +56,7 @@ impl Offsets {
     /// Puts one behind the others. The only error is `NoResource`.
     pub fn push(&mut self, offset: usize) -> Result<(), Fault>
         ensures ok { OnOk result (self.new ≡ self.old ++ offset ∷ []) }
-        ensures err { IfErr result (λ e. e ≡ NoResource) }
+        ensures err { IsOkUnless result NoResource }
     {
         if self.long.is_empty() && offset < 1 << 32 {
             self.short.push(offset as u32)?;

@@ -184,7 +184,8 @@ fn is_dirty_table(entries: &[(u32, u64)]) -> bool
 }
 
 fn are_entries(entries: &[(u32, Entry)]) -> bool
-    ensures { result ≡ true ↔ All (λ x. FitsEntry (entry_of x)) entries.now × IsRising (map (λ x. x.0) entries.now) }
+    ensures { result ≡ true ↔ All (λ x. FitsEntry (entry_of x)) entries.now
+        × IsRising (map (λ x. x.0) entries.now) }
 {
     let mut low = 0;
     for (tx, entry) in entries {

@@ -1,6 +1,6 @@
 //! A record as it lies in the bytes of a log.
 
-ghost use Rattle.std.specs.Prelude.{ℕ, slice_index_or, ◌≡◌, ◌<◌, ◌*◌, ◌≤◌, length, map, option_map, IfSome, IfOk, IfErr};
+ghost use Rattle.std.specs.Prelude.{ℕ, slice_index_or, ◌≡◌, ◌<◌, ◌*◌, ◌≤◌, length, map, option_map, IfSome, IfOk, IsOkUnless};
 ghost use Rattle.std.specs.List.{slice_get};
 ghost use Rattle.wal.specs.Records.{TableEntry, tx_in, page_in};
 ghost use Rattle.wal.specs.Reading.{entry_at, dirty_at, table_at, entries_in, AreEntries, dirties_in, AreDirties};
@@ -138,7 +138,7 @@ fn dirty_in(bytes: &[u8], count: usize, place: usize) -> Option<(u32, u64)>
     Some((page, rec_lsn))
 }
 
-/// The table of so many entries in front, in rising order of transaction, and the bytes behind it.
+/// A table of `count` entries at the front, in rising order of transaction, and the bytes after it.
 pub fn entries_at(count: u32, bytes: &[u8]) -> Option<(TransactionTable, &[u8])>
     ensures { option_map (λ x. (x.0, x.1.now)) result ≡ table_at tx_in entry_at count 0 bytes.now }
 {
@@ -160,9 +160,10 @@ pub fn entries_at(count: u32, bytes: &[u8]) -> Option<(TransactionTable, &[u8])>
     Some((table, rest))
 }
 
-/// The table of so many entries in front, in rising order of page, and the bytes behind it.
+/// A table of `count` entries at the front, in rising order of page, and the bytes after it.
 pub fn dirties_at(count: u32, bytes: &[u8]) -> Option<(DirtyTable, &[u8])>
-    ensures { option_map (λ x. (x.0, x.1.now)) result ≡ table_at page_in dirty_at count 0 bytes.now }
+    ensures { option_map (λ x. (x.0, x.1.now)) result
+        ≡ table_at page_in dirty_at count 0 bytes.now }
 {
     let mut low = 0u64;
     let mut rest = bytes;
@@ -239,7 +240,7 @@ impl<'a> RecordView<'a> {
     pub fn to_record(&self, alloc: Global) -> Result<Record, Fault>
         requires { Fits (shown self.now) }
         ensures ok { IfOk result (λ r. content r ≡ shown self.now) }
-        ensures err { IfErr result (λ e. e ≡ NoResource) }
+        ensures err { IsOkUnless result NoResource }
     {
         let record = match self {
             RecordView::Update {

@@ -15,8 +15,8 @@ returns-then-master-eq0-clause-found c = record {
   pages_are = λ p. ap (λ (es : List (ℕ × ℕ)). rec_lsn_of p es) c.new-then-master-eq0.ensures.empty;
 }
 
-pub returns-then-master-eq0-clause-numbered : goal.returns-then-master-eq0-clause-numbered
-returns-then-master-eq0-clause-numbered c = ap (λ (es : List (ℕ × Entry)). entry_at 0 es) c.new.ensures.empty
+pub returns-then-master-eq0-clause-no_transaction_0 : goal.returns-then-master-eq0-clause-no_transaction_0
+returns-then-master-eq0-clause-no_transaction_0 c = ap (λ (es : List (ℕ × Entry)). entry_at 0 es) c.new.ensures.empty
 
-pub returns-clause-numbered : goal.returns-clause-numbered
-returns-clause-numbered c = c.in_ok-transactions.ensures.ok 0 ∙ none_listed _ c.in-Some.ensures.fits.transactions_fit.each
+pub returns-clause-no_transaction_0 : goal.returns-clause-no_transaction_0
+returns-clause-no_transaction_0 c = c.in_ok-transactions.ensures.ok 0 ∙ none_listed _ c.in-Some.ensures.fits.transactions_fit.each

@@ -25,5 +25,5 @@ returns-clause-lawful c = λ over store lawful own.
     let made : TablesContent = record { transactions = map entry_of c.scan.new.transactions.entries; dirty = c.scan.new.dirty.entries; redo_lsn = c.redo_lsn_of-redo_lsn.result } in
     tables_true over c.args.log.now store made lawful (subst (λ m. AreTablesOf c.args.log.now m made) (sym own) (returns-clause-tables c))
 
-pub returns-clause-numbered : goal.returns-clause-numbered
-returns-clause-numbered c = c.in_ok-scan.ensures.numbered c.in_ok-transactions.ensures.numbered
+pub returns-clause-no_transaction_0 : goal.returns-clause-no_transaction_0
+returns-clause-no_transaction_0 c = c.in_ok-scan.ensures.no_transaction_0 c.in_ok-transactions.ensures.no_transaction_0

@@ -2,7 +2,7 @@ use Rattle.std.proofs.Common.{◌≡◌, ◌≤◌, ◌<◌, ◌∙◌, ap, subs
 use Rattle.std.specs.Prelude.{IsTrue, ◌↔◌, option_map}
 use Rattle.page.specs.Image.{Image}
 use Rattle.wal.specs.Records.{history, record_at}
-use Rattle.wal.specs.Store.{base_pages}
+use Rattle.wal.specs.Pages.{base_pages}
 use Rattle.audit.specs.Cells.{image_or}
 use Rattle.audit.proofs.Deciding.{cell_value}
 use Rattle.audit.proofs.decide.keeps_before.Goals as goal

@@ -2,7 +2,7 @@ use Rattle.std.proofs.Common.{◌≡◌, ◌≤◌, ◌<◌, ◌∙◌, ap, subs
 use Rattle.std.specs.Prelude.{IsTrue, ◌↔◌}
 use Rattle.wal.specs.Records.{UpdateRecord, LogRecord, history, record_at}
 use Rattle.audit.specs.Cells.{last_write}
-use Rattle.audit.specs.Standings.{standing_in}
+use Rattle.audit.specs.Statuses.{status_in}
 use Rattle.audit.specs.Passing.{IsFreeFor}
 use Rattle.audit.proofs.Cells.{last_write_within}
 use Rattle.audit.proofs.Deciding.{free_strict, strict_free}
@@ -17,8 +17,8 @@ returns-in-Update c =
     let w : c.last_writer.result ≡ last_write c.in-Update.page c.in-Update.slot so_far = c.last_writer.ensures ∙ cells.each c.in-Update.page c.in-Update.slot named slot in
     let found : record_at (history c.args.log.now) c.last_writer.result ≡ record_at so_far (last_write c.in-Update.page c.in-Update.slot so_far) =
     ap (record_at (history c.args.log.now)) w ∙ begins (last_write c.in-Update.page c.in-Update.slot so_far) (last_write_within c.in-Update.page c.in-Update.slot so_far) in
-    let is : IsTrue c.is_free_for.result ↔ IsFreeFor (standing_in c.args.table.now) (record_at so_far (last_write c.in-Update.page c.in-Update.slot so_far)) c.in-Update.tx =
-    subst (λ (o : Option LogRecord). IsTrue c.is_free_for.result ↔ IsFreeFor (standing_in c.args.table.now) o c.in-Update.tx) found c.is_free_for.ensures in (
-      λ t. free_strict base so_far lawful links (standing_in c.args.table.now) stands u (record_at so_far (last_write u.page u.slot so_far)) refl (is.0 t),
-      λ s. is.1 (strict_free base so_far lawful links (standing_in c.args.table.now) stands u (record_at so_far (last_write u.page u.slot so_far)) refl s),
+    let is : IsTrue c.is_free_for.result ↔ IsFreeFor (status_in c.args.table.now) (record_at so_far (last_write c.in-Update.page c.in-Update.slot so_far)) c.in-Update.tx =
+    subst (λ (o : Option LogRecord). IsTrue c.is_free_for.result ↔ IsFreeFor (status_in c.args.table.now) o c.in-Update.tx) found c.is_free_for.ensures in (
+      λ t. free_strict base so_far lawful links (status_in c.args.table.now) stands u (record_at so_far (last_write u.page u.slot so_far)) refl (is.0 t),
+      λ s. is.1 (strict_free base so_far lawful links (status_in c.args.table.now) stands u (record_at so_far (last_write u.page u.slot so_far)) refl s),
     ))

@@ -7,7 +7,7 @@ use Rattle.wal.specs.Tail.{tx_of}
 use Rattle.wal.specs.Content.{shown}
 use Rattle.wal.proofs.Histories.{record_within, record_above, size_of_first, base_of_first}
 use Rattle.wal.proofs.Holders.{unfinished_has}
-use Rattle.audit.specs.Standings.{Stands}
+use Rattle.audit.specs.Statuses.{IsStatusOf}
 use Rattle.audit.proofs.Unfinished.{last_found, last_within}
 use Rattle.audit.proofs.Passing.{begins_first}
 use Rattle.audit.proofs.master.unfinished_are_listed.Goals as goal
@@ -21,7 +21,7 @@ loop-lsn-init c = λ links stands t le live.
 pub loop-lsn-preserved : goal.loop-lsn-preserved
 loop-lsn-preserved c = λ links stands t le live.
     let log : History = first c.args.upto (history c.args.log.now) in
-    let s = subst (λ x. Stands links c.transaction_of-tx.result log x) (sym c.standing_of.ensures) (stands c.transaction_of-tx.result) in
+    let s = subst (λ x. IsStatusOf links c.transaction_of-tx.result log x) (sym c.status_of.ensures) (stands c.transaction_of-tx.result) in
     elim (cases_eq (last_of t log) (c.loop-lsn.lsn + 1)) [
       | inl e ↦
           (let p = last_found t log (unfinished_has t log live) in

@@ -4,7 +4,7 @@ use Rattle.std.proofs.lemmas.List.{take_all}
 use Rattle.std.proofs.lemmas.List.Elements.{All-more}
 use Rattle.page.specs.declared.page.Page.{Page}
 use Rattle.wal.specs.Records.{History, history}
-use Rattle.wal.specs.Store.{PageLaw, base_pages}
+use Rattle.wal.specs.Pages.{PageLaw, base_pages}
 use Rattle.audit.specs.Cells.{KeepsCells}
 use Rattle.audit.specs.Pages.{log_at}
 use Rattle.audit.proofs.PageImages.{keeps_page}

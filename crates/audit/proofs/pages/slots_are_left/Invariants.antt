@@ -1,4 +1,4 @@
-use Rattle.wal.specs.Store.{base_pages}
+use Rattle.wal.specs.Pages.{base_pages}
 use Rattle.audit.specs.Cells.{image_or}
 use Rattle.std.proofs.Common.{◌≡◌, ◌<◌, ◌+◌, ◌*◌, ℕ, None, get_or}
 use Rattle.wal.specs.Records.{history, record_at}

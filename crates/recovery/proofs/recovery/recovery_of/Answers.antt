@@ -10,7 +10,7 @@ use Rattle.wal.specs.Tail.{with_tail}
 use Rattle.wal.specs.Reads.{Reads, spellings, log_text}
 use Rattle.recovery.specs.Text.{ReportContent}
 use Rattle.restart.specs.Restart.{IsPartingOf, IsSettled}
-use Rattle.recovery.specs.Recovery.{Are, Recovered}
+use Rattle.recovery.specs.Recovery.{Decoded, Recovered}
 use Rattle.recovery.proofs.Bytes.{kept_text, text_extended, restart_cause, is_lawful, read_alone, read_same, dealt_by_number}
 use Rattle.recovery.proofs.Resuming.{reads_extended}
 use Rattle.recovery.proofs.recovery.recovery_of.Goals as goal
@@ -19,15 +19,15 @@ pub returns-in_err-records-clause-lawful : goal.returns-in_err-records-clause-la
 returns-in_err-records-clause-lawful g c = λ base bytes.
     let exit = err_from_is_err_and c.from_residual.result c.from_residual.ensures.1 in
     rw (exit.1, exit.2)
-    (read_alone (λ x. x) c.in_err-records.field-0.0 (bytes.are.read, bytes.are.torn) (c.in_err-records.ensures.only bytes.are.read bytes.are.torn bytes.are.reads))
+    (read_alone (λ x. x) c.in_err-records.field-0.0 (bytes.decoded.read, bytes.decoded.torn) (c.in_err-records.ensures.only bytes.decoded.read bytes.decoded.torn bytes.decoded.reads))
 
 pub returns-in_err-outcome-clause-lawful : goal.returns-in_err-outcome-clause-lawful
 returns-in_err-outcome-clause-lawful g c = λ base bytes.
     let exit = err_from_is_err_and c.from_residual-in_err-outcome.result c.from_residual-in_err-outcome.ensures.1 in
     let read = c.in_ok-records.records in
     let before = c.in_ok-before.before in
-    let one = read_same (read, c.in_ok-records.torn) (bytes.are.read, bytes.are.torn) (c.in_ok-records.ensures.only bytes.are.read bytes.are.torn bytes.are.reads) in
-    let same : before ≡ bytes.are.before = c.in_ok-before.ensures.only bytes.are.before (subst (λ (text : List ℕ). SpellsStore text bytes.are.before) (sym c.deref.ensures.value) bytes.are.spells) in
+    let one = read_same (read, c.in_ok-records.torn) (bytes.decoded.read, bytes.decoded.torn) (c.in_ok-records.ensures.only bytes.decoded.read bytes.decoded.torn bytes.decoded.reads) in
+    let same : before ≡ bytes.decoded.before = c.in_ok-before.ensures.only bytes.decoded.before (subst (λ (text : List ℕ). SpellsStore text bytes.decoded.before) (sym c.deref.ensures.value) bytes.decoded.spells) in
     let dealt : IsPartingOf (length before.pages) c.in_ok-parting.parting =
     dealt_by_number c.len.result c.args.options.now.parts c.in_ok-parting.parting.part_of c.in_ok-parting.ensures.ok.1
     ∙ (c.len.ensures ∙ (c.before-2.inside.pages.ok.0 ∙ ap (λ (s : StoreContent). length s.pages) c.before-2.view_is)) in
@@ -38,12 +38,12 @@ returns-in_err-outcome-clause-cause g c =
     let exit = err_from_is_err_and c.from_residual-in_err-outcome.result c.from_residual-in_err-outcome.ensures.1 in
     let before = c.in_ok-before.before in
     let range = c.requires in
-    let are : Are c.args.log.now c.args.store.items = record { read = c.in_ok-records.records; torn = c.in_ok-records.torn; before = before; reads = c.in_ok-records.ensures.found; spells = subst (λ (text : List ℕ). SpellsStore text c.in_ok-before.before) c.deref.ensures.value c.in_ok-before.ensures.found } in
+    let decoded : Decoded c.args.log.now c.args.store.items = record { read = c.in_ok-records.records; torn = c.in_ok-records.torn; before = before; reads = c.in_ok-records.ensures.found; spells = subst (λ (text : List ℕ). SpellsStore text c.in_ok-before.before) c.deref.ensures.value c.in_ok-before.ensures.found } in
     let dealt : IsPartingOf (length before.pages) c.in_ok-parting.parting =
     dealt_by_number c.len.result c.args.options.now.parts c.in_ok-parting.parting.part_of c.in_ok-parting.ensures.ok.1
     ∙ (c.len.ensures ∙ (c.before-2.inside.pages.ok.0 ∙ ap (λ (s : StoreContent). length s.pages) c.before-2.view_is)) in
     rw (exit.1, exit.2)
-    (restart_cause c.args.log.now c.args.store.items c.args.options.now c.in_ok-parting.parting c.in_err-outcome.field-0.0 range are (record { fit = c.requires.workers; dealt = dealt }) c.in_err-outcome.ensures.fault)
+    (restart_cause c.args.log.now c.args.store.items c.args.options.now c.in_ok-parting.parting c.in_err-outcome.field-0.0 range decoded (record { fit = c.requires.workers; dealt = dealt }) c.in_err-outcome.ensures.fault)
 
 pub frames_of-requires-clause-room : goal.frames_of-requires-clause-room
 frames_of-requires-clause-room g c = omega (arith, size_of_log c.in_ok-records.records, base_of_log c.in_ok-records.records, c.next_lsn.ensures.next, c.next_lsn.ensures.low, c.next_lsn.ensures.room, c.in_ok-outcome.ensures.few, ap length c.deref-2.ensures.value)
@@ -61,11 +61,11 @@ returns-clause-answer g c =
     let few : last_lsn (history read) + length c.in_ok-outcome.outcome.appended.items < 2 ^ 64 =
     omega (arith, c.in_ok-outcome.ensures.few, c.next_lsn.ensures.low, c.next_lsn.ensures.room, size_of_log read, base_of_log read) in
     record {
-      are = record { read = read; torn = torn; before = c.in_ok-before.before; reads = c.in_ok-records.ensures.found; spells = subst (λ (text : List ℕ). SpellsStore text c.in_ok-before.before) c.deref.ensures.value c.in_ok-before.ensures.found };
+      decoded = record { read = read; torn = torn; before = c.in_ok-before.before; reads = c.in_ok-records.ensures.found; spells = subst (λ (text : List ℕ). SpellsStore text c.in_ok-before.before) c.deref.ensures.value c.in_ok-before.ensures.found };
       outcome = c.in_ok-outcome.outcome;
       restarts = c.in_ok-outcome.ensures.restarts;
       log_is = log_is;
-      reads = reads_extended bytes read c.in_ok-outcome.outcome.appended.items log_is c.in_ok-records.ensures.found.starts c.in_ok-records.ensures.found.each c.in_ok-outcome.ensures.spelled few;
+      reads = reads_extended bytes read c.in_ok-outcome.outcome.appended.items log_is c.in_ok-records.ensures.found.starts c.in_ok-records.ensures.found.each c.in_ok-outcome.ensures.writable few;
       store_is = c.in_ok-encode_store_into.ensures.ok;
       report_is = c.report_of.ensures;
     }
@@ -76,8 +76,8 @@ returns-clause-lawful g c = λ base bytes.
     let read = c.in_ok-records.records in
     let before = c.in_ok-before.before in
     let outcome = c.in_ok-outcome.outcome in
-    let one = read_same (read, c.in_ok-records.torn) (bytes.are.read, bytes.are.torn) (c.in_ok-records.ensures.only bytes.are.read bytes.are.torn bytes.are.reads) in
-    let same : before ≡ bytes.are.before = c.in_ok-before.ensures.only bytes.are.before (subst (λ (text : List ℕ). SpellsStore text bytes.are.before) (sym c.deref.ensures.value) bytes.are.spells) in
+    let one = read_same (read, c.in_ok-records.torn) (bytes.decoded.read, bytes.decoded.torn) (c.in_ok-records.ensures.only bytes.decoded.read bytes.decoded.torn bytes.decoded.reads) in
+    let same : before ≡ bytes.decoded.before = c.in_ok-before.ensures.only bytes.decoded.before (subst (λ (text : List ℕ). SpellsStore text bytes.decoded.before) (sym c.deref.ensures.value) bytes.decoded.spells) in
     let dealt : IsPartingOf (length before.pages) c.in_ok-parting.parting =
     dealt_by_number c.len.result c.args.options.now.parts c.in_ok-parting.parting.part_of c.in_ok-parting.ensures.ok.1
     ∙ (c.len.ensures ∙ (c.before-2.inside.pages.ok.0 ∙ ap (λ (s : StoreContent). length s.pages) c.before-2.view_is)) in
@@ -103,5 +103,5 @@ returns-clause-lawful g c = λ base bytes.
       };
       compensated_are = ap (λ (r : ReportContent). r.compensated) c.report_of.ensures ∙ restored.compensated;
     } in
-    subst (λ rs. Recovered base rs bytes.are.before log store c.report_of.result) (ap (λ x. x.0) one)
+    subst (λ rs. Recovered base rs bytes.decoded.before log store c.report_of.result) (ap (λ x. x.0) one)
     (subst (λ b. Recovered base read b log store c.report_of.result) same here)

@@ -1,7 +1,7 @@
 use Rattle.std.proofs.Common.{rules, ◌≡◌, ◌<◌, [], ◌∷◌, ◌++◌, All, sym, ◌∙◌, subst, arith}
 use Rattle.std.proofs.lemmas.List.Elements.{All-push}
 use Rattle.redo.specs.declared.crew.Job.{Job}
-use Rattle.redo.specs.Rounds.{IsReady}
+use Rattle.redo.specs.Parts.{IsReady}
 use Rattle.redo.proofs.Reading.{both_empty}
 use Rattle.redo.proofs.crew.deal.Goals as goal
 

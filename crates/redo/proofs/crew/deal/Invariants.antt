@@ -1,5 +1,5 @@
 use Rattle.std.proofs.Common.{◌≡◌, ◌+◌, [], All, vec_len}
-use Rattle.redo.specs.Rounds.{IsReady}
+use Rattle.redo.specs.Parts.{IsReady}
 use Rattle.redo.proofs.crew.deal.Given as goal
 
 abbrev pub invariant-loop-home : goal.invariant-loop-home

@@ -1,67 +1,67 @@
 use Rattle.std.proofs.Common.{ℕ, ◌-◌, ◌<◌, List, All, Contains, vec_len, length, sym, ◌∙◌, subst, inl, inr, arith}
 use Rattle.std.proofs.lemmas.List.Elements.{All-take, Contains-append_left}
-use Rattle.redo.specs.Passes.{PassContent, pass_over}
+use Rattle.redo.specs.Inputs.{InputContent, input_over}
 use Rattle.redo.specs.declared.crew.Share.{Share}
-use Rattle.redo.specs.Rounds.{IsBack, IsDone, HasPage}
+use Rattle.redo.specs.Parts.{IsBack, IsDone, HasPage}
 use Rattle.redo.proofs.Reading.{popped, or_false}
 use Rattle.redo.proofs.Gathered.{share_put, both_put, done_below}
 use Rattle.redo.proofs.gather.gather.Goals as goal
 
 pub loop-share-init : goal.loop-share-init
 loop-share-init c =
-    let pass : PassContent = pass_over c.args.log.now c.args.pages.now c.args.tables.now c.args.parting.now in
+    let input : InputContent = input_over c.args.log.now c.args.pages.now c.args.tables.now c.args.parting.now in
     let board = c.args.board.now in
     let pop = c.in-Some.ensures in
     let share : Share = c.in-Some.last in
     let some_left : 0 < vec_len c.args.shares = c.requires.some in
-    let back = popped (IsBack pass board) c.args.shares.items (vec_len c.args.shares) share c.requires.each c.args.shares.ok.0 some_left pop.value in
-    let done : All (IsDone pass) c.deref.result.now = subst (All (IsDone pass)) (sym c.deref.ensures.value) back.done in (
+    let back = popped (IsBack input board) c.args.shares.items (vec_len c.args.shares) share c.requires.each c.args.shares.ok.0 some_left pop.value in
+    let done : All (IsDone input) c.deref.result.now = subst (All (IsDone input)) (sym c.deref.ensures.value) back.done in (
       back.at_board,
       (let a = pop.len in let b = back.one_place in omega arith),
-      subst (All (IsBack pass board)) (sym pop.rest) (All-take (IsBack pass board) (vec_len c.args.shares - 1) c.args.shares.items c.requires.each),
+      subst (All (IsBack input board)) (sym pop.rest) (All-take (IsBack input board) (vec_len c.args.shares - 1) c.args.shares.items c.requires.each),
       c.place.ensures.pages_count,
       c.place.ensures.counts_count ∙ c.requires.count,
       (λ stopped told.
-          share_put pass board share c.place.new.pages c.place.new.counts back stopped told
-          (λ number has. c.place.ensures.put pass done number (inr (subst (λ ps. HasPage ps number) (sym c.deref.ensures.value) has)))),
+          share_put input board share c.place.new.pages c.place.new.counts back stopped told
+          (λ number has. c.place.ensures.put input done number (inr (subst (λ ps. HasPage ps number) (sym c.deref.ensures.value) has)))),
       back.ended,
     )
 
 pub place-requires-in-Some-pop-clause-below : goal.place-requires-in-Some-pop-clause-below
 place-requires-in-Some-pop-clause-below c =
-    let pass : PassContent = pass_over c.args.log.now c.args.pages.now c.args.tables.now c.args.parting.now in
+    let input : InputContent = input_over c.args.log.now c.args.pages.now c.args.tables.now c.args.parting.now in
     let old = c.loop-share.invariant in
     let pop = c.in-Some-pop.ensures in
     let share : Share = c.in-Some-pop.share in
     let some_left : 0 < vec_len c.loop-share.shares = (let a = pop.len in omega arith) in
-    let back = popped (IsBack pass c.args.board.now) c.loop-share.shares.items (vec_len c.loop-share.shares) share old.2 c.loop-share.shares.ok.0 some_left pop.value in
-    subst (All (λ p. p.page.number < length c.loop-share.pages)) (sym c.deref-in-Some-pop.ensures.value) (done_below pass share.pages.items (length c.loop-share.pages) old.3 back.done)
+    let back = popped (IsBack input c.args.board.now) c.loop-share.shares.items (vec_len c.loop-share.shares) share old.2 c.loop-share.shares.ok.0 some_left pop.value in
+    subst (All (λ p. p.page.number < length c.loop-share.pages)) (sym c.deref-in-Some-pop.ensures.value) (done_below input share.pages.items (length c.loop-share.pages) old.3 back.done)
 
 pub loop-share-preserved : goal.loop-share-preserved
 loop-share-preserved c =
-    let pass : PassContent = pass_over c.args.log.now c.args.pages.now c.args.tables.now c.args.parting.now in
+    let input : InputContent = input_over c.args.log.now c.args.pages.now c.args.tables.now c.args.parting.now in
     let board = c.args.board.now in
     let old = c.loop-share.invariant in
     let pop = c.in-Some-pop.ensures in
     let share : Share = c.in-Some-pop.share in
     let some_left : 0 < vec_len c.loop-share.shares = (let a = pop.len in omega arith) in
-    let back = popped (IsBack pass board) c.loop-share.shares.items (vec_len c.loop-share.shares) share old.2 c.loop-share.shares.ok.0 some_left pop.value in
-    let done : All (IsDone pass) c.deref-in-Some-pop.result.now = subst (All (IsDone pass)) (sym c.deref-in-Some-pop.ensures.value) back.done in
+    let back = popped (IsBack input board) c.loop-share.shares.items (vec_len c.loop-share.shares) share old.2 c.loop-share.shares.ok.0 some_left pop.value in
+    let done : All (IsDone input) c.deref-in-Some-pop.result.now = subst (All (IsDone input)) (sym c.deref-in-Some-pop.ensures.value) back.done in
     let step = c.join-seat.ensures in
     let put = c.place-in-Some-pop.ensures in
     let pages = c.place-in-Some-pop.new.pages in
     let counts = c.place-in-Some-pop.new.counts in (
       step.board,
       (let a = pop.len in let b = step.places in let d = back.one_place in let e = old.1 in omega arith),
-      subst (All (IsBack pass board)) (sym pop.rest) (All-take (IsBack pass board) (vec_len c.loop-share.shares - 1) c.loop-share.shares.items old.2),
+      subst (All (IsBack input board)) (sym pop.rest) (All-take (IsBack input board) (vec_len c.loop-share.shares - 1) c.loop-share.shares.items old.2),
       put.pages_count ∙ old.3,
       put.counts_count ∙ old.4,
       (λ not_stopped not_told.
           let s = or_false c.loop-share.seat.stopped share.seat.stopped (sym step.notes.0 ∙ not_stopped) in
           let t = or_false c.loop-share.seat.told share.seat.told (sym step.notes.1 ∙ not_told) in
-          both_put pass pages counts c.loop-share.seat.drawn share.seat.drawn c.join-seat.result.drawn step.drawn
-          (λ number part given has. put.put pass done number (inl (old.5 s.0 t.0 number part given has)))
-          (share_put pass board share pages counts back s.1 t.1 (λ number has. put.put pass done number (inr (subst (λ ps. HasPage ps number) (sym c.deref-in-Some-pop.ensures.value) has))))),
+          both_put input pages counts c.loop-share.seat.drawn share.seat.drawn c.join-seat.result.drawn step.drawn
+          (λ number part given has. put.put input done number (inl (old.5 s.0 t.0 number part given has)))
+          (share_put input board share pages counts back s.1 t.1 (λ number has. put.put input done number (inr (subst (λ ps. HasPage ps number) (sym c.deref-in-Some-pop.ensures.value) has))))),
       (λ not_stopped not_told.
           let s = or_false c.loop-share.seat.stopped share.seat.stopped (sym step.notes.0 ∙ not_stopped) in
           let t = or_false c.loop-share.seat.told share.seat.told (sym step.notes.1 ∙ not_told) in

@@ -5,7 +5,8 @@ use Rattle.wal.specs.Records.{history, last_lsn, first, base_lsn}
 use Rattle.redo.specs.declared.progress.Progress.{Progress}
 use Rattle.redo.specs.declared.tally.Tally.{Tally}
 use Rattle.redo.specs.Changes.{on_part, lsns_where, step, lsn_in}
-use Rattle.redo.specs.Rounds.{boundary_in, skipped_in, IsUpTo, Stands, numbers_of, resolved}
+use Rattle.redo.specs.Routes.{boundary_in, skipped_in, Stands}
+use Rattle.redo.specs.Parts.{IsUpTo, numbers_of, resolved}
 use Rattle.redo.proofs.Reading.{written_back}
 use Rattle.redo.proofs.Stretches.{boundary_first, boundary_last, skipped_within}
 use Rattle.redo.proofs.Counting.{sound, stretch}
@@ -16,80 +17,80 @@ use Rattle.wal.proofs.Histories.{base_within}
 
 pub loop-route-init : goal.loop-route-init
 loop-route-init c =
-    let pass = c.args.pass.now in
-    let known = sound _ pass c.last-last.result c.pass.view_is c.pass.invariant c.last-last.ensures c.last-last.type_inv in
-    let ps = map (resolved pass) c.in_ok-tallies.tallies.items in
-    subst (λ n. IsUpTo pass c.args.part n ps) (sym (boundary_first (skipped_in pass) (last_lsn (history pass.log)) (length c.args.routes.now)))
-    (begins pass c.args.part known.numbered known.dealt known.fits ps c.in_ok-tallies.ensures.begun)
+    let input = c.args.input.now in
+    let known = sound _ input c.last-last.result c.input.view_is c.input.invariant c.last-last.ensures c.last-last.type_inv in
+    let ps = map (resolved input) c.in_ok-tallies.tallies.items in
+    subst (λ n. IsUpTo input c.args.part n ps) (sym (boundary_first (skipped_in input) (last_lsn (history input.log)) (length c.args.routes.now)))
+    (begins input c.args.part known.numbered known.dealt known.fits ps c.in_ok-tallies.ensures.begun)
 
 pub replay-requires-clause-stand : goal.replay-requires-clause-stand
 replay-requires-clause-stand c =
-    let pass = c.args.pass.now in
-    let known = sound _ pass c.last-last.result c.pass.view_is c.pass.invariant c.last-last.ensures c.last-last.type_inv in
+    let input = c.args.input.now in
+    let known = sound _ input c.last-last.result c.input.view_is c.input.invariant c.last-last.ensures c.last-last.type_inv in
     let workers = length c.args.routes.now in
     let k = c.loop-route.route-index in
-    let from = boundary_in pass workers k in
-    let to = boundary_in pass workers (k + 1) in
+    let from = boundary_in input workers k in
+    let to = boundary_in input workers (k + 1) in
     let notes = c.notes.result.now in
-    let walked = stretch pass c.args.routes.now c.args.part k c.route-item.result notes c.requires.routes c.requires.part c.loop-route-test.true c.route-item.is c.notes.ensures in
-    let ps = map (resolved pass) c.loop-route.tallies.items in
-    let lent : map (resolved pass) c.deref_mut.result.now ≡ ps = ap (map (resolved pass)) c.deref_mut.ensures.value in
-    subst (λ (qs : List Progress). All (Stands (history pass.log) pass.parting.place_of (numbers_of qs)) notes) (sym lent)
-    (all_stand pass c.args.part known.numbered known.dealt known.fits from to ps notes (omega (arith, walked.begun, walked.next)) walked.within c.loop-route.invariant walked.lsns walked.are)
+    let walked = stretch input c.args.routes.now c.args.part k c.route-item.result notes c.requires.routes c.requires.part c.loop-route-test.true c.route-item.is c.notes.ensures in
+    let ps = map (resolved input) c.loop-route.tallies.items in
+    let lent : map (resolved input) c.deref_mut.result.now ≡ ps = ap (map (resolved input)) c.deref_mut.ensures.value in
+    subst (λ (qs : List Progress). All (Stands (history input.log) input.parting.place_of (numbers_of qs)) notes) (sym lent)
+    (all_stand input c.args.part known.numbered known.dealt known.fits from to ps notes (omega (arith, walked.begun, walked.next)) walked.within c.loop-route.invariant walked.lsns walked.are)
 
 pub replay-requires-clause-room : goal.replay-requires-clause-room
 replay-requires-clause-room c =
-    let pass = c.args.pass.now in
-    let known = sound _ pass c.last-last.result c.pass.view_is c.pass.invariant c.last-last.ensures c.last-last.type_inv in
+    let input = c.args.input.now in
+    let known = sound _ input c.last-last.result c.input.view_is c.input.invariant c.last-last.ensures c.last-last.type_inv in
     let workers = length c.args.routes.now in
     let k = c.loop-route.route-index in
-    let from = boundary_in pass workers k in
-    let to = boundary_in pass workers (k + 1) in
+    let from = boundary_in input workers k in
+    let to = boundary_in input workers (k + 1) in
     let notes = c.notes.result.now in
-    let walked = stretch pass c.args.routes.now c.args.part k c.route-item.result notes c.requires.routes c.requires.part c.loop-route-test.true c.route-item.is c.notes.ensures in
-    let ps = map (resolved pass) c.loop-route.tallies.items in
-    let lent : map (resolved pass) c.deref_mut.result.now ≡ ps = ap (map (resolved pass)) c.deref_mut.ensures.value in
-    let count : length (lsns_where (on_part pass.parting.part_of c.args.part) from (first to (history pass.log))) ≡ length notes = sym (ap (λ (xs : List ℕ). length xs) walked.lsns) ∙ length-map notes lsn_in in
+    let walked = stretch input c.args.routes.now c.args.part k c.route-item.result notes c.requires.routes c.requires.part c.loop-route-test.true c.route-item.is c.notes.ensures in
+    let ps = map (resolved input) c.loop-route.tallies.items in
+    let lent : map (resolved input) c.deref_mut.result.now ≡ ps = ap (map (resolved input)) c.deref_mut.ensures.value in
+    let count : length (lsns_where (on_part input.parting.part_of c.args.part) from (first to (history input.log))) ≡ length notes = sym (ap (λ (xs : List ℕ). length xs) walked.lsns) ∙ length-map notes lsn_in in
     subst (All (λ p. p.applied + length notes < 2 ^ 64)) (sym lent)
     (subst (λ n. All (λ p. p.applied + n < 2 ^ 64) ps) count
-    (all_room pass c.args.part known.numbered known.dealt known.fits from to ps walked.begun walked.next walked.within c.loop-route.invariant))
+    (all_room input c.args.part known.numbered known.dealt known.fits from to ps walked.begun walked.next walked.within c.loop-route.invariant))
 
 pub loop-route-preserved : goal.loop-route-preserved
 loop-route-preserved c =
-    let pass = c.args.pass.now in
-    let known = sound _ pass c.last-last.result c.pass.view_is c.pass.invariant c.last-last.ensures c.last-last.type_inv in
+    let input = c.args.input.now in
+    let known = sound _ input c.last-last.result c.input.view_is c.input.invariant c.last-last.ensures c.last-last.type_inv in
     let workers = length c.args.routes.now in
     let k = c.loop-route.route-index in
-    let from = boundary_in pass workers k in
-    let to = boundary_in pass workers (k + 1) in
+    let from = boundary_in input workers k in
+    let to = boundary_in input workers (k + 1) in
     let notes = c.notes.result.now in
-    let walked = stretch pass c.args.routes.now c.args.part k c.route-item.result notes c.requires.routes c.requires.part c.loop-route-test.true c.route-item.is c.notes.ensures in
-    let ps = map (resolved pass) c.loop-route.tallies.items in
-    let lent : map (resolved pass) c.deref_mut.result.now ≡ ps = ap (map (resolved pass)) c.deref_mut.ensures.value in
-    let log = (history pass.log) in
-    let run : List ℕ → Progress → Progress = λ xs p. fold (step log pass.redo_lsn) p xs in
-    let new = map (resolved pass) c.replay.new.tallies in
-    let replayed : new ≡ map (run (map lsn_in notes)) (map (resolved pass) c.deref_mut.result.now) = c.replay.ensures in
-    let is : new ≡ map (run (lsns_where (on_part pass.parting.part_of c.args.part) from (first to (history pass.log)))) ps =
-    replayed ∙ (ap (λ (xs : List ℕ). map (run xs) (map (resolved pass) c.deref_mut.result.now)) walked.lsns ∙ ap (map (run (lsns_where (on_part pass.parting.part_of c.args.part) from (first to (history pass.log))))) lent) in
-    let count : length c.replay.new.tallies ≡ c.loop-route.tallies.len = omega (arith, ap (λ (qs : List Progress). length qs) replayed, length-map (map (resolved pass) c.deref_mut.result.now) (run (map lsn_in notes)), length-map c.replay.new.tallies (resolved pass), length-map c.deref_mut.result.now (resolved pass), ap (λ (ts : List Tally). length ts) c.deref_mut.ensures.value, c.loop-route.tallies.ok.0) in
-    subst (λ (ts : List Tally). IsUpTo pass c.args.part to (map (resolved pass) ts)) (sym (written_back c.loop-route.tallies.len c.loop-route.tallies.items c.replay.new.tallies count))
-    (further pass c.args.part known.numbered known.dealt known.fits from to ps new walked.begun walked.next walked.within c.loop-route.invariant is)
+    let walked = stretch input c.args.routes.now c.args.part k c.route-item.result notes c.requires.routes c.requires.part c.loop-route-test.true c.route-item.is c.notes.ensures in
+    let ps = map (resolved input) c.loop-route.tallies.items in
+    let lent : map (resolved input) c.deref_mut.result.now ≡ ps = ap (map (resolved input)) c.deref_mut.ensures.value in
+    let log = (history input.log) in
+    let run : List ℕ → Progress → Progress = λ xs p. fold (step log input.redo_lsn) p xs in
+    let new = map (resolved input) c.replay.new.tallies in
+    let replayed : new ≡ map (run (map lsn_in notes)) (map (resolved input) c.deref_mut.result.now) = c.replay.ensures in
+    let is : new ≡ map (run (lsns_where (on_part input.parting.part_of c.args.part) from (first to (history input.log)))) ps =
+    replayed ∙ (ap (λ (xs : List ℕ). map (run xs) (map (resolved input) c.deref_mut.result.now)) walked.lsns ∙ ap (map (run (lsns_where (on_part input.parting.part_of c.args.part) from (first to (history input.log))))) lent) in
+    let count : length c.replay.new.tallies ≡ c.loop-route.tallies.len = omega (arith, ap (λ (qs : List Progress). length qs) replayed, length-map (map (resolved input) c.deref_mut.result.now) (run (map lsn_in notes)), length-map c.replay.new.tallies (resolved input), length-map c.deref_mut.result.now (resolved input), ap (λ (ts : List Tally). length ts) c.deref_mut.ensures.value, c.loop-route.tallies.ok.0) in
+    subst (λ (ts : List Tally). IsUpTo input c.args.part to (map (resolved input) ts)) (sym (written_back c.loop-route.tallies.len c.loop-route.tallies.items c.replay.new.tallies count))
+    (further input c.args.part known.numbered known.dealt known.fits from to ps new walked.begun walked.next walked.within c.loop-route.invariant is)
 
 pub returns-clause-done : goal.returns-clause-done
 returns-clause-done c =
-    let pass = c.args.pass.now in
-    let known = sound _ pass c.last-last.result c.pass.view_is c.pass.invariant c.last-last.ensures c.last-last.type_inv in
+    let input = c.args.input.now in
+    let known = sound _ input c.last-last.result c.input.view_is c.input.invariant c.last-last.ensures c.last-last.type_inv in
     let workers = length c.args.routes.now in
-    let last : boundary_in pass workers c.loop-route.route-index ≡ last_lsn (history pass.log) =
-    ap (boundary_in pass workers) (omega (arith, c.loop-route.auto.route-index-end, c.loop-route-test.false))
-    ∙ boundary_last (skipped_in pass) (last_lsn (history pass.log)) workers (skipped_within (base_lsn (history pass.log)) pass.redo_lsn (last_lsn (history pass.log)) (base_within (history pass.log))) c.requires.routes.some in
-    let ps = map (resolved pass) c.loop-route.tallies.items in
-    all_done pass c.args.part known.numbered known.dealt known.fits ps (subst (λ n. IsUpTo pass c.args.part n ps) last c.loop-route.invariant)
+    let last : boundary_in input workers c.loop-route.route-index ≡ last_lsn (history input.log) =
+    ap (boundary_in input workers) (omega (arith, c.loop-route.auto.route-index-end, c.loop-route-test.false))
+    ∙ boundary_last (skipped_in input) (last_lsn (history input.log)) workers (skipped_within (base_lsn (history input.log)) input.redo_lsn (last_lsn (history input.log)) (base_within (history input.log))) c.requires.routes.some in
+    let ps = map (resolved input) c.loop-route.tallies.items in
+    all_done input c.args.part known.numbered known.dealt known.fits ps (subst (λ n. IsUpTo input c.args.part n ps) last c.loop-route.invariant)
 
 pub returns-clause-all : goal.returns-clause-all
 returns-clause-all c =
-    let pass = c.args.pass.now in
-    let known = sound _ pass c.last-last.result c.pass.view_is c.pass.invariant c.last-last.ensures c.last-last.type_inv in
-    let ps = map (resolved pass) c.loop-route.tallies.items in
-    all_there pass c.args.part known.numbered known.dealt known.fits (boundary_in pass (length c.args.routes.now) c.loop-route.route-index) ps c.loop-route.invariant
+    let input = c.args.input.now in
+    let known = sound _ input c.last-last.result c.input.view_is c.input.invariant c.last-last.ensures c.last-last.type_inv in
+    let ps = map (resolved input) c.loop-route.tallies.items in
+    all_there input c.args.part known.numbered known.dealt known.fits (boundary_in input (length c.args.routes.now) c.loop-route.route-index) ps c.loop-route.invariant

@@ -1,6 +1,7 @@
 use Rattle.std.proofs.Common.{length, map}
-use Rattle.redo.specs.Rounds.{IsUpTo, boundary_in, resolved}
+use Rattle.redo.specs.Routes.{boundary_in}
+use Rattle.redo.specs.Parts.{IsUpTo, resolved}
 use Rattle.redo.proofs.part.count_part.Given as goal
 
 abbrev pub invariant-loop-route : goal.invariant-loop-route
-invariant-loop-route l = IsUpTo l.pass l.part (boundary_in l.pass (length l.routes) l.route-index) (map (resolved l.pass) l.tallies.items)
+invariant-loop-route l = IsUpTo l.input l.part (boundary_in l.input (length l.routes) l.route-index) (map (resolved l.input) l.tallies.items)

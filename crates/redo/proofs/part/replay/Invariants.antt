@@ -2,11 +2,11 @@ use Rattle.std.proofs.Common.{◌≡◌, ◌+◌, ◌-◌, ◌<◌, ◌^◌, All
 use Rattle.std.specs.List.{fold}
 use Rattle.wal.specs.Records.{history}
 use Rattle.redo.specs.Changes.{step, lsn_in}
-use Rattle.redo.specs.Rounds.{numbers_of, resolved}
+use Rattle.redo.specs.Parts.{numbers_of, resolved}
 use Rattle.redo.proofs.part.replay.Given as goal
 
 abbrev pub invariant-loop-index : goal.invariant-loop-index
 invariant-loop-index l =
-    (map (resolved l.pass) l.tallies ≡ map (λ p. fold (step (history l.pass.log) l.pass.redo_lsn) p (take l.index (map lsn_in l.notes))) (map (resolved l.pass) l.fn.tallies))
-    × (numbers_of (map (resolved l.pass) l.tallies) ≡ numbers_of (map (resolved l.pass) l.fn.tallies))
-    × All (λ p. p.applied + (length l.notes - l.index) < 2 ^ 64) (map (resolved l.pass) l.tallies)
+    (map (resolved l.input) l.tallies ≡ map (λ p. fold (step (history l.input.log) l.input.redo_lsn) p (take l.index (map lsn_in l.notes))) (map (resolved l.input) l.fn.tallies))
+    × (numbers_of (map (resolved l.input) l.tallies) ≡ numbers_of (map (resolved l.input) l.fn.tallies))
+    × All (λ p. p.applied + (length l.notes - l.index) < 2 ^ 64) (map (resolved l.input) l.tallies)

@@ -25,14 +25,14 @@ loop-result-preserved c =
 pub returns-in-Err-clause-fault : goal.returns-in-Err-clause-fault
 returns-in-Err-clause-fault c =
     let first : c.loop-result.result-iterator.rest.items ≡ c.in-Some.result ∷ c.next.new.self.rest.items = c.in-Some.ensures.steps.0 in
-    first_refused c.args.pass.now c.args.results.items c.requires.each c.loop-result.routes.items c.in-Err.fault c.next.new.self.rest.items
+    first_refused c.args.input.now c.args.results.items c.requires.each c.loop-result.routes.items c.in-Err.fault c.next.new.self.rest.items
     (c.loop-result.invariant.0 ∙ ap (λ xs. map answered c.loop-result.routes.items ++ xs) (first ∙ ap (λ x. x ∷ c.next.new.self.rest.items) c.in-Err.is))
 
 pub returns-clause-ok : goal.returns-clause-ok
 returns-clause-ok c =
     let none : c.loop-result.result-iterator.rest.items ≡ [] = nil_from_length c.loop-result.result-iterator.rest.items (sym c.loop-result.invariant.1 ∙ c.in-None.ensures.steps.0) in
     let some = c.requires.some in
-    routes_are c.args.pass.now c.args.results.items c.requires.each c.loop-result.routes.items (omega (arith, c.args.results.ok.0, some))
+    routes_are c.args.input.now c.args.results.items c.requires.each c.loop-result.routes.items (omega (arith, c.args.results.ok.0, some))
     (c.loop-result.invariant.0 ∙ (ap (λ xs. map answered c.loop-result.routes.items ++ xs) none ∙ append-nil (map answered c.loop-result.routes.items)))
 
 pub returns-clause-len : goal.returns-clause-len

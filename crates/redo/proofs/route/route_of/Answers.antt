@@ -1,18 +1,18 @@
 use Rattle.std.proofs.Common.{◌+◌, arith}
 use Rattle.wal.specs.Records.{history, last_lsn, base_lsn}
-use Rattle.redo.specs.Rounds.{skipped_in}
+use Rattle.redo.specs.Routes.{skipped_in}
 use Rattle.redo.proofs.Stretches.{boundary_within, skipped_within, skipped_from}
 use Rattle.redo.proofs.route.route_of.Goals as goal
 use Rattle.wal.proofs.Histories.{base_within}
 
 pub route_through-requires-clause-within : goal.route_through-requires-clause-within
 route_through-requires-clause-within c =
-    let pass = c.args.pass.now in
-    let last = last_lsn (history pass.log) in
+    let input = c.args.input.now in
+    let last = last_lsn (history input.log) in
     let lt = c.requires in
-    omega (arith, c.boundary-to.ensures, boundary_within (skipped_in pass) last c.args.workers (c.args.worker + 1) (skipped_within (base_lsn (history pass.log)) pass.redo_lsn last (base_within (history pass.log))) (omega arith) (omega arith))
+    omega (arith, c.boundary-to.ensures, boundary_within (skipped_in input) last c.args.workers (c.args.worker + 1) (skipped_within (base_lsn (history input.log)) input.redo_lsn last (base_within (history input.log))) (omega arith) (omega arith))
 
 pub route_through-requires-clause-begun : goal.route_through-requires-clause-begun
 route_through-requires-clause-begun c =
-    let log = history c.args.pass.now.log in
-    omega (arith, c.boundary-from.ensures, skipped_from (base_lsn log) c.args.pass.now.redo_lsn (last_lsn log) (base_within log))
+    let log = history c.args.input.now.log in
+    omega (arith, c.boundary-from.ensures, skipped_from (base_lsn log) c.args.input.now.redo_lsn (last_lsn log) (base_within log))

@@ -90,6 +90,6 @@ returns-clause-fault g c =
     ))
     c.roll_back.ensures.fault
 
-pub returns-clause-spelled : goal.returns-clause-spelled
-returns-clause-spelled g c =
-    IfOk-weaker c.roll_back.result _ _ (λ x spelled. spelled (lost_none 0 c.in_ok-tables.tables.transactions c.in_ok-tables.ensures.numbered)) c.roll_back.ensures.spelled
+pub returns-clause-writable : goal.returns-clause-writable
+returns-clause-writable g c =
+    IfOk-weaker c.roll_back.result _ _ (λ x writable. writable (lost_none 0 c.in_ok-tables.tables.transactions c.in_ok-tables.ensures.no_transaction_0)) c.roll_back.ensures.writable

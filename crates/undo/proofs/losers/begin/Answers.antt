@@ -78,7 +78,7 @@ loop-tx-preserved-in-Continue-1 c =
       numbers =
           subst (All (λ n. n < 2 ^ 32)) (sym (ap (map tx_in) more ∙ map_push tx_in (lost_in done) e))
           (All-push (λ n. n < 2 ^ 32) (map tx_in (lost_in done)) c.in-Some.tx.now c.loop-tx.invariant.numbers (omega arith));
-      spelled = λ counted. c.in_ok-resolve.ensures.spelled (some_tx c.in-Some.tx.now e (losers_in c.args.tables.now) counted found) (c.loop-tx.invariant.spelled counted);
+      writable = λ counted. c.in_ok-resolve.ensures.writable (some_tx c.in-Some.tx.now e (losers_in c.args.tables.now) counted found) (c.loop-tx.invariant.writable counted);
     }
 
 -- one in doubt is passed over
@@ -90,7 +90,7 @@ loop-tx-preserved c =
     record {
       begun = subst (λ es. Begun (history c.args.log.now) (losers_in c.args.tables.now) es (get nat_cmp c.loop-tx.places) (map content c.loop-tx.appended.items)) (sym more) c.loop-tx.invariant.begun;
       numbers = subst (λ es. All (λ n. n < 2 ^ 32) (map tx_in es)) (sym more) c.loop-tx.invariant.numbers;
-      spelled = c.loop-tx.invariant.spelled;
+      writable = c.loop-tx.invariant.writable;
     }
 
 -- at the end all losers have been taken

@@ -7,7 +7,7 @@ use Rattle.wal.specs.Records.{tx_in, history}
 use Rattle.wal.specs.Content.{entry_of, content}
 use Rattle.wal.specs.Undo.{lost_in}
 use Rattle.analysis.specs.Tables.{losers_in}
-use Rattle.undo.specs.Undone.{AreCounted, AreSpelled}
+use Rattle.undo.specs.Undone.{HasNoTransaction0, AreWritable}
 use Rattle.undo.specs.Rollback.{Begun}
 use Rattle.undo.proofs.losers.begin.Given as goal
 
@@ -16,5 +16,5 @@ invariant-loop-tx l =
     record {
       begun : Begun (history l.log) (losers_in l.tables) (lost_in (map entry_of (map deref_pair l.yielded))) (get nat_cmp l.places) (map content l.appended.items);
       numbers : All (λ n. n < 2 ^ 32) (map tx_in (lost_in (map entry_of (map deref_pair l.yielded))));
-      spelled : AreCounted l.tables → AreSpelled l.appended.items;
+      writable : HasNoTransaction0 l.tables → AreWritable l.appended.items;
     }

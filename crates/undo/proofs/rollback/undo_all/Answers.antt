@@ -7,7 +7,7 @@ use Rattle.wal.specs.Content.{content}
 use Rattle.wal.specs.Store.{NamesPages}
 use Rattle.wal.proofs.Histories.{size_of_log, base_of_log}
 use Rattle.undo.specs.Undone.{UndoFault}
-use Rattle.undo.specs.Rollback.{Rolls}
+use Rattle.undo.specs.Rollback.{RollbackInvariant}
 use Rattle.undo.proofs.Placed.{height, height_least, height_above, left_below, taken_updates}
 use Rattle.undo.proofs.Rolling.{place_above, all_appended, all_end, all_exist}
 use Rattle.undo.proofs.Few.{height_within, turn_few}
@@ -20,7 +20,7 @@ loop-place-init c =
       rolls = λ losers rolls. rolls;
       exist = λ all. all;
       few = omega (arith, height_within (history c.args.log.now) c.args.places.now.entries c.requires.updates, size_of_log c.args.log.now, base_of_log c.args.log.now);
-      spelled = λ all. all;
+      writable = λ all. all;
       pages_are = λ given numbered same. same;
     }
 
@@ -37,7 +37,7 @@ returns-in_err-undo_at-clause-fault c =
     (λ losers rolls.
     subst (λ count. UndoFault (history c.args.log.now) losers count c.in_err-undo_at.field-0.0) c.loop-place.auto.pages
     (c.in_err-undo_at.ensures.fault losers (get nat_cmp c.loop-place.places) c.in-Some.ensures.taken
-    (subst (λ count. Rolls (history c.args.log.now) losers count (get nat_cmp c.loop-place.places) (map content c.loop-place.appended.items)) (sym c.loop-place.auto.pages)
+    (subst (λ count. RollbackInvariant (history c.args.log.now) losers count (get nat_cmp c.loop-place.places) (map content c.loop-place.appended.items)) (sym c.loop-place.auto.pages)
     (c.loop-place.invariant.rolls losers rolls))))
 
 -- the place that is taken is below the height, and at or above the height behind it
@@ -57,9 +57,9 @@ loop-place-preserved c =
     record {
       updates = done.updates (taken_updates (history c.args.log.now) c.in-Some.place c.in-Some.loser _ _ taken c.loop-place.invariant.updates);
       rolls = λ losers rolls.
-          subst (λ count. Rolls (history c.args.log.now) losers count (get nat_cmp c.undo_at.new.places) (map content c.undo_at.new.appended.items)) c.loop-place.auto.pages
+          subst (λ count. RollbackInvariant (history c.args.log.now) losers count (get nat_cmp c.undo_at.new.places) (map content c.undo_at.new.appended.items)) c.loop-place.auto.pages
           (done.rolls losers (get nat_cmp c.loop-place.places) taken
-          (subst (λ count. Rolls (history c.args.log.now) losers count (get nat_cmp c.loop-place.places) (map content c.loop-place.appended.items)) (sym c.loop-place.auto.pages)
+          (subst (λ count. RollbackInvariant (history c.args.log.now) losers count (get nat_cmp c.loop-place.places) (map content c.loop-place.appended.items)) (sym c.loop-place.auto.pages)
           (c.loop-place.invariant.rolls losers rolls)));
       exist = λ all.
           subst (λ count. All (NamesPages count) (map content c.undo_at.new.appended.items)) c.loop-place.auto.pages
@@ -68,7 +68,7 @@ loop-place-preserved c =
           turn_few (base_lsn (history c.args.log.now)) c.in-Some.place (height c.loop-place.places.entries) (height c.undo_at.new.places.entries) (length c.loop-place.appended.items) (length c.undo_at.new.appended.items) _
           (place_above (history c.args.log.now) c.in-Some.loser.tx c.in-Some.place (c.loop-place.invariant.updates c.in-Some.place c.in-Some.loser taken.there))
           (above c) (below c) done.few c.loop-place.invariant.few;
-      spelled = λ all. done.spelled (c.loop-place.invariant.spelled all);
+      writable = λ all. done.writable (c.loop-place.invariant.writable all);
       pages_are = λ given numbered same. done.pages given numbered (c.loop-place.invariant.pages_are given numbered same);
     }
 

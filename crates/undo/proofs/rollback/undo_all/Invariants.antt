@@ -6,8 +6,8 @@ use Rattle.page.specs.Store.{AreNumbered}
 use Rattle.wal.specs.Records.{TableEntry, history, base_lsn}
 use Rattle.wal.specs.Content.{content}
 use Rattle.wal.specs.Store.{NamesPages}
-use Rattle.undo.specs.Undone.{undone_page, AreSpelled}
-use Rattle.undo.specs.Rollback.{AreUpdates, Rolls}
+use Rattle.undo.specs.Undone.{undone_page, AreWritable}
+use Rattle.undo.specs.Rollback.{AreUpdates, RollbackInvariant}
 use Rattle.undo.proofs.Placed.{height}
 use Rattle.undo.proofs.rollback.undo_all.Given as goal
 
@@ -15,11 +15,11 @@ abbrev pub invariant-loop-place : goal.invariant-loop-place
 invariant-loop-place l =
     record {
       updates : AreUpdates (history l.log) (get nat_cmp l.places);
-      rolls : (losers : List TableEntry) → Rolls (history l.log) losers (length l.fn.pages) (get nat_cmp l.fn.places) (map content l.fn.appended.items)
-          → Rolls (history l.log) losers (length l.fn.pages) (get nat_cmp l.places) (map content l.appended.items);
+      rolls : (losers : List TableEntry) → RollbackInvariant (history l.log) losers (length l.fn.pages) (get nat_cmp l.fn.places) (map content l.fn.appended.items)
+          → RollbackInvariant (history l.log) losers (length l.fn.pages) (get nat_cmp l.places) (map content l.appended.items);
       exist : All (NamesPages (length l.fn.pages)) (map content l.fn.appended.items) → All (NamesPages (length l.fn.pages)) (map content l.appended.items);
       few : length l.appended.items + 2 * (height l.places.entries - 1 - base_lsn (history l.log)) ≤ length l.fn.appended.items + 2 * length l.log.records;
-      spelled : AreSpelled l.fn.appended.items → AreSpelled l.appended.items;
+      writable : AreWritable l.fn.appended.items → AreWritable l.appended.items;
       pages_are : (given : List Page) → AreNumbered given → l.fn.pages ≡ map (undone_page (history l.log) (map content l.fn.appended.items)) given
           → l.pages ≡ map (undone_page (history l.log) (map content l.appended.items)) given;
     }

@@ -63,10 +63,10 @@ returns-clause-fault c =
     broken_walk (history c.args.log.now) losers (length c.args.pages.now) at _ (map content c.args.appended.now.items) c.args.place c.args.loser taken rolls u c.requires.update.found done.exists c.in_ok-prev.prev done.goes_on e h)
     c.resolve.ensures.fault
 
-pub returns-clause-spelled : goal.returns-clause-spelled
-returns-clause-spelled c =
+pub returns-clause-writable : goal.returns-clause-writable
+returns-clause-writable c =
     let some : 0 < c.args.loser.tx = subst (λ t. 0 < t) c.requires.update.own (c.in_ok-prev.ensures.counted c.requires.update.update c.requires.update.found) in
-    on_ok_weaker c.resolve.result (λ more all. more some (c.in_ok-prev.ensures.spelled all)) c.resolve.ensures.spelled
+    on_ok_weaker c.resolve.result (λ more all. more some (c.in_ok-prev.ensures.writable all)) c.resolve.ensures.writable
 
 pub returns-clause-few : goal.returns-clause-few
 returns-clause-few c =

@@ -1,0 +1,23 @@
+-- What reading, writing or flushing all of a device tells (own).
+use Rattle.std.specs.Prelude.{◌≡◌, ℕ, List, ◌≤◌, length, take, IfSome}
+use Rattle.std.specs.declared.option.Option.{Option}
+use Rattle.std.specs.Io.KnownBytes.{Appends, Consumes}
+use Rattle.device.specs.declared.transfer.ReadFault.{ReadFault}
+use Rattle.device.specs.declared.transfer.ReadFault.TheVariants.{Failed, NoMemory}
+
+-- how often the device failed in a read that was answered by this fault
+abbrev pub failures_of : ReadFault → ℕ
+failures_of Failed = 1
+failures_of NoMemory = 0
+
+-- a beginning of what was left has been read
+abbrev pub ReadBeginning : Option (List ℕ) → Option (List ℕ) → Type 0
+ReadBeginning old new = (bytes : List ℕ) × Consumes old new bytes
+
+-- a beginning of these bytes has been taken
+abbrev pub TookBeginning : Option (List ℕ) → Option (List ℕ) → List ℕ → Type 0
+TookBeginning old new bytes = (count : ℕ) × (count ≤ length bytes) × Appends old new (take count bytes)
+
+-- where a device told what it had flushed, that is now all that it has taken
+abbrev pub Flushes : (before after taken : Option (List ℕ)) → Type 0
+Flushes before after taken = IfSome before (λ _. after ≡ taken)

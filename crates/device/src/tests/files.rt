@@ -1,0 +1,181 @@
+//! Files that are interrupted, fail or take nothing, and one of the system.
+
+ghost use Rattle.std.specs.Prelude.{IfOk, ◌≤◌};
+
+use crate::{Failed, FileSink, FileSource, ReadFault, Sink, read_all, write_all};
+use std::fs::{File, Metadata, OpenFile};
+use std::io::{Error, ErrorKind, Read, Write};
+use std::test::Fail;
+use std::{fs, io};
+
+/// What a file does at a call.
+#[derive(Clone, Copy)]
+enum Turn {
+    /// It passes this number of bytes.
+    Pass(usize),
+    /// A signal interrupts it.
+    Interrupted,
+    /// It fails.
+    Broken,
+    /// It fails, but for a sync.
+    Unflushed,
+}
+
+/// A file that has these turns before it, and then passes no byte. It is not synced where it is
+/// about to fail, and not before it was asked to flush what was written.
+#[derive(Drop)]
+struct Fake<'a> {
+    turns: &'a [Turn],
+    is_asked_to_flush: bool,
+}
+
+impl<'a> Fake<'a> {
+    /// The answer of one call for this number of bytes.
+    fn turn(&mut self, bytes: usize) -> io::Result<usize>
+        ensures { IfOk result (λ count. count ≤ bytes) }
+    {
+        let turn = match self.turns.split_first() {
+            Some((first, rest)) => {
+                self.turns = rest;
+                *first
+            }
+            None => Turn::Pass(0),
+        };
+        match turn {
+            Turn::Pass(count) => Ok(count.min(bytes)),
+            Turn::Interrupted => Err(Error::from(ErrorKind::Interrupted)),
+            Turn::Broken | Turn::Unflushed => Err(Error::from(ErrorKind::Other)),
+        }
+    }
+}
+
+impl<'a> Read for Fake<'a> {
+    fn read(&mut self, buf: &mut [u8]) -> io::Result<usize> {
+        let count = self.turn(buf.len())?;
+        buf[..count].fill(b'x');
+        Ok(count)
+    }
+}
+
+impl<'a> Write for Fake<'a> {
+    fn write(&mut self, buf: &[u8]) -> io::Result<usize> {
+        self.is_asked_to_flush = false;
+        self.turn(buf.len())
+    }
+
+    fn flush(&mut self) -> io::Result<()> {
+        self.is_asked_to_flush = true;
+        match self.turns.first() {
+            Some(Turn::Unflushed) => Err(Error::from(ErrorKind::Other)),
+            _ => Ok(()),
+        }
+    }
+}
+
+impl<'a> OpenFile for Fake<'a> {
+    fn metadata(&self) -> io::Result<Metadata> {
+        Err(Error::from(ErrorKind::Unsupported))
+    }
+
+    fn set_len(&self, _size: u64) -> io::Result<()> {
+        Err(Error::from(ErrorKind::Unsupported))
+    }
+
+    fn sync_all(&self) -> io::Result<()> {
+        match self.turns.first() {
+            Some(Turn::Broken) => Err(Error::from(ErrorKind::Other)),
+            _ if !self.is_asked_to_flush => Err(Error::from(ErrorKind::Other)),
+            _ => Ok(()),
+        }
+    }
+
+    fn sync_data(&self) -> io::Result<()> {
+        self.sync_all()
+    }
+}
+
+/// A file with these turns, to be read.
+fn source<'a>(turns: &'a [Turn]) -> FileSource<Fake<'a>> {
+    FileSource::new(Fake {
+        turns,
+        is_asked_to_flush: false,
+    })
+}
+
+/// A file with these turns, to be written.
+fn sink<'a>(turns: &'a [Turn]) -> FileSink<Fake<'a>> {
+    FileSink::new(Fake {
+        turns,
+        is_asked_to_flush: false,
+    })
+}
+
+#[test]
+fn interruptions_are_no_failures(rt: HostRuntime) -> Result<(), Fail> {
+    let turns = [
+        Turn::Interrupted,
+        Turn::Pass(2),
+        Turn::Interrupted,
+        Turn::Pass(1),
+    ];
+    assert!(rt; read_all(rt.alloc(), &mut source(&turns))?.as_slice() == b"xxx".as_slice());
+    write_all(&mut sink(&turns), b"abc")?;
+    Ok(())
+}
+
+#[test]
+fn reads_fail_in_mid_stream(rt: HostRuntime) -> Result<(), Fail> {
+    let turns = [Turn::Pass(2), Turn::Broken, Turn::Pass(1)];
+    let read = read_all(rt.alloc(), &mut source(&turns));
+    assert!(rt; matches!(read, Err(ReadFault::Failed)));
+    Ok(())
+}
+
+#[test]
+fn writes_fail_in_mid_stream(rt: HostRuntime) -> Result<(), Fail> {
+    let turns = [Turn::Pass(2), Turn::Broken, Turn::Pass(1)];
+    assert_eq!(rt; write_all(&mut sink(&turns), b"abc"), Err(Failed));
+    Ok(())
+}
+
+#[test]
+fn a_write_that_takes_nothing_fails(rt: HostRuntime) -> Result<(), Fail> {
+    assert_eq!(rt;
+        write_all(&mut sink(&[Turn::Pass(2), Turn::Pass(0)]), b"abc"),
+        Err(Failed)
+    );
+    assert_eq!(rt; sink(&[Turn::Pass(0)]).write(b""), Ok(0));
+    Ok(())
+}
+
+#[test]
+fn flush_syncs(rt: HostRuntime) -> Result<(), Fail> {
+    assert_eq!(rt; sink(&[]).flush(), Ok(()));
+    assert_eq!(rt; sink(&[Turn::Broken]).flush(), Err(Failed));
+    Ok(())
+}
+
+#[test]
+fn a_file_is_flushed_before_it_is_synced(rt: HostRuntime) -> Result<(), Fail> {
+    let turns = [Turn::Pass(3), Turn::Pass(2)];
+    let mut out = sink(&turns);
+    for bytes in [b"abc".as_slice(), b"de".as_slice()] {
+        write_all(&mut out, bytes)?;
+        assert_eq!(rt; out.flush(), Ok(()));
+    }
+    assert_eq!(rt; sink(&[Turn::Unflushed]).flush(), Err(Failed));
+    Ok(())
+}
+
+#[test]
+fn a_file_of_the_system(rt: HostRuntime) -> Result<(), Fail> {
+    let path = "device-of-the-tests";
+    let _ = fs::remove_file(&rt, path);
+    let mut out = FileSink::new(File::create_new(&rt, path)?);
+    write_all(&mut out, b"bytes")?;
+    out.flush()?;
+    let read = read_all(rt.alloc(), &mut FileSource::new(File::open(&rt, path)?));
+    fs::remove_file(&rt, path)?;
+    assert!(rt; read?.as_slice() == b"bytes".as_slice());
+    Ok(())
+}

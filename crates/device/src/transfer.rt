@@ -1,0 +1,96 @@
+//! Reading all of a source, writing all to a sink.
+
+ghost use Rattle.std.specs.Prelude.{◌≡◌, ◌+◌, ◌≤◌, ◌<◌, take, drop, length, vec_len, IfErr, IfOk, IfSome, OnErr, OnOk};
+ghost use Rattle.std.specs.Io.KnownBytes.{Appends, Consumes, IsAtEnd, Keeps};
+ghost use Rattle.device.specs.Failures.{Counts};
+ghost use Rattle.device.specs.Transfer.{failures_of, ReadBeginning, TookBeginning};
+
+use crate::{Failed, Sink, Source};
+use std::alloc::{AllocError, Global};
+
+/// Why a source was not read to its end.
+#[derive(Clone, Copy, Debug, PartialEq, Eq)]
+pub enum ReadFault {
+    /// The source failed.
+    Failed,
+    /// Memory for the bytes was refused.
+    NoMemory,
+}
+
+/// How many bytes a read is given room for.
+const PIECE: usize = 64 * 1024;
+
+/// Makes room for one read more in a buffer of which this many bytes are read.
+fn make_room(bytes: &mut Vec<u8>, filled: usize) -> Result<(), AllocError>
+    requires { filled ≤ vec_len bytes.old }
+    ensures front { take filled bytes.new.items ≡ take filled bytes.old.items }
+    ensures within { filled ≤ vec_len bytes.new }
+    ensures room { OnOk result (filled < vec_len bytes.new) }
+{
+    match filled.checked_add(PIECE) {
+        Some(length) => bytes.resize(length, 0),
+        None => Err(AllocError),
+    }
+}
+
+/// One read behind the bytes that were read before it.
+fn read_behind<S: Source>(source: &mut S, bytes: &mut [u8], filled: usize) -> Result<usize, Failed>
+    requires { filled < length bytes.old }
+    ensures front { take filled bytes.new ≡ take filled bytes.old }
+    ensures within { IfOk result (λ count. filled + count ≤ length bytes.new) }
+    ensures bytes { IfOk result (λ count. Consumes (S.left source.old) (S.left source.new)
+        (take count (drop filled bytes.new))) }
+    ensures end { IfOk result (λ count. count ≡ 0 → IsAtEnd (S.left source.new)) }
+    ensures none_read { OnErr result (Keeps (S.left source.old) (S.left source.new)) }
+    ensures cause { Counts (S.failures source.old) (S.failures source.new) result }
+{
+    source.read(&mut bytes[filled..])
+}
+
+/// All bytes that a source has left, by reads of up to 64 KiB. A source without end ends in want of
+/// memory.
+///
+/// `Failed` where the source failed; its count of failures has risen by one. `NoMemory` where
+/// memory for the bytes was refused; no failure is counted. After either a beginning of the bytes
+/// that were left has been read, and is dropped.
+pub fn read_all<S: Source>(alloc: Global, source: &mut S) -> Result<Vec<u8>, ReadFault>
+    ensures all { IfOk result (λ bytes. IfSome (S.left source.old) (λ left. bytes.items ≡ left)) }
+    ensures read { IfOk result (λ bytes. Consumes (S.left source.old)
+        (S.left source.new) bytes.items) }
+    ensures end { OnOk result (IsAtEnd (S.left source.new)) }
+    ensures no_failure { OnOk result (S.failures source.new ≡ S.failures source.old) }
+    ensures cause { IfErr result (λ fault. S.failures source.new
+        ≡ S.failures source.old + failures_of fault) }
+    ensures beginning { OnErr result (ReadBeginning (S.left source.old) (S.left source.new)) }
+{
+    let mut bytes = Vec::new(alloc);
+    let mut filled = 0;
+    loop {
+        make_room(&mut bytes, filled).map_err(|_| ReadFault::NoMemory)?;
+        let count = read_behind(source, &mut bytes, filled).map_err(|_| ReadFault::Failed)?;
+        if count == 0 {
+            bytes.truncate(filled);
+            return Ok(bytes);
+        }
+        filled += count;
+    }
+}
+
+/// Writes all bytes to a sink, behind those that it took before. The sink is not flushed.
+///
+/// `Failed` where the sink failed; its count of failures has risen by one, and it has taken a
+/// beginning of the bytes.
+pub fn write_all<S: Sink>(sink: &mut S, bytes: &[u8]) -> Result<(), Failed>
+    ensures all { OnOk result (Appends (S.taken sink.old) (S.taken sink.new) bytes.now) }
+    ensures cause { Counts (S.failures sink.old) (S.failures sink.new) result }
+    ensures beginning { OnErr result
+        (TookBeginning (S.taken sink.old) (S.taken sink.new) bytes.now) }
+    ensures unflushed { Keeps (S.flushed sink.old) (S.flushed sink.new) }
+{
+    let mut rest = bytes;
+    while !rest.is_empty() {
+        let count = sink.write(rest)?;
+        rest = &rest[count..];
+    }
+    Ok(())
+}

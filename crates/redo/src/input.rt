@@ -1,0 +1,54 @@
+//! What both rounds of redo look at.
+
+ghost use Rattle.std.specs.Prelude.{◌≡◌, length};
+ghost use Rattle.redo.specs.Routes.{skipped_in};
+
+use crate::Parting;
+use analysis::Tables;
+use page::Store;
+use std::marker::Model;
+use wal::Log;
+
+/// A log, a store, what analysis found and a parting of the store's pages, lent to all workers.
+/// Contracts see the log, the pages, the dirty page table with redo_lsn, and the parting.
+#[derive(Drop)]
+pub struct RedoInput<'a> {
+    pub log: &'a Log<'a>,
+    pub store: &'a Store,
+    pub tables: &'a Tables,
+    pub parting: &'a Parting,
+}
+
+impl<'a> Model for RedoInput<'a> {
+    ghost use Rattle.redo.specs.Inputs.{InputContent, input_of, IsInput};
+
+    ghost Value = { InputContent };
+
+    ghost view = { input_of };
+
+    ghost invariant = { IsInput };
+}
+
+impl<'a> RedoInput<'a> {
+    /// The LSN from which redo looks at records, 0 where it looks at none.
+    pub fn redo_lsn(&self) -> u64
+        ensures { result ≡ self.now.redo_lsn }
+    {
+        let tables = self.tables;
+        tables.redo_lsn
+    }
+
+    /// The LSN up to which redo does not look at records: the one below redo_lsn; the log's base LSN
+    /// where redo_lsn is not above that; the log's last where redo_lsn is 0 or behind it.
+    pub fn skipped(&self) -> u64
+        ensures { result ≡ skipped_in self.now }
+    {
+        let redo_lsn = self.redo_lsn();
+        let last = self.log.last();
+        if redo_lsn == 0 {
+            last
+        } else {
+            last.min(redo_lsn - 1).max(self.log.base())
+        }
+    }
+}

@@ -1,0 +1,5 @@
+//! Recovery over devices and files, and its gate.
+
+mod devices;
+mod gate;
+mod recoveries;

@@ -1,7 +1,0 @@
-use Rattle.std.proofs.Common.{◌≡◌, None}
-use Rattle.wal.specs.Records.{history, first}
-use Rattle.wal.specs.Store.{first_end}
-use Rattle.wal.proofs.log.Log.end_naming.Given as goal
-
-abbrev pub invariant-loop-lsn : goal.invariant-loop-lsn
-invariant-loop-lsn l = first_end l.master (first l.lsn (history l.self)) ≡ None
