@@ -332,7 +332,7 @@ def check_refusals(tally, room):
         check_refused_growth(tally, f"{name}, slow devices", refuser, job, lambda *ran: is_right_slow(name, *ran))
 
 
-# Documents: the code, the links and the tables that they show.
+# Documents: that the code, the links and the tables in them are true.
 
 def text_of(path):
     with open(os.path.join(TOP, path), encoding="utf-8") as file:
@@ -344,28 +344,38 @@ def documents():
     yield from (os.path.join("docs", name) for name in sorted(os.listdir(os.path.join(TOP, "docs"))) if name.endswith(".md"))
 
 
+def is_readme_code_tested():
+    """Whether each part of the code in README stands in a file whose function the tests of `rows` call."""
+    tested, shown = text_of("crates/rows/src/in_memory.rt"), re.findall(r"```rust\n(.*?)```", text_of("README.md"), re.S)
+    return bool(shown) and all(part.strip() in tested for code in shown for part in code.split("\n\n"))
+
+
 def broken_links(document):
     """The links of a document that lead to no file of this repository."""
-    targets = (it.partition("#")[0] for it in re.findall(r"\]\(([^)\s]+)\)", text_of(document)))
-    return [it for it in targets if it and not os.path.exists(os.path.join(TOP, os.path.dirname(document), it))]
+    targets = (target.partition("#")[0] for target in re.findall(r"\]\(([^)\s]+)\)", text_of(document)))
+    return [target for target in targets if target and not os.path.exists(os.path.join(TOP, os.path.dirname(document), target))]
+
+
+def faults_of_the_source():
+    """The number and the text of each fault, by its name."""
+    source = text_of("crates/page/src/fault.rt")
+    texts = {name: text for text, name in re.findall(r'#\[error\("([^"]*)"\)\]\s*(\w+)', source)}
+    return {name: (number, texts[name]) for name, number in re.findall(r"Fault::(\w+)(?:\(_\))? => (\d+)", source)}
+
+
+def faults_of_the_documents():
+    rows = re.findall(r"^\| (\d+) \| `(\w+)` \| ([^|]*) \|", text_of("docs/FORMATS.md"), re.M)
+    return {name: (number, text.replace("<n>", "{0}")) for number, name, text in rows}
 
 
 def check_documents(tally):
-    shown = re.findall(r"```rust\n(.*?)```", text_of("README.md"), re.S)
-    code = text_of("crates/rows/src/in_memory.rt")
-    tally.say("README's code is that of crates/rows", shown and all(part.strip() in code for it in shown for part in it.split("\n\n")))
+    tally.say("README's code is tested", is_readme_code_tested())
     for document in documents():
         tally.say(f"links of {document}", not broken_links(document), broken_links(document))
-    # number, name and text of each fault, as FORMATS has them
-    told = re.findall(r"^\| (\d+) \| `(\w+)` \| ([^|]*) \|", text_of("docs/FORMATS.md"), re.M)
-    faults = text_of("crates/page/src/fault.rt")
-    texts = {name: text for text, name in re.findall(r'#\[error\("([^"]*)"\)\]\s*(\w+)', faults)}
-    numbers = dict(re.findall(r"Fault::(\w+)(?:\(_\))? => (\d+)", faults))
-    is_told = {name: (number, text.replace("<n>", "{0}")) for number, name, text in told}
-    tally.say("faults in docs/FORMATS.md", is_told == {name: (numbers[name], texts[name]) for name in numbers})
-    rows = re.findall(r"^\| `([\w-]+)` \|", text_of("crates/rows/data/README.md").partition("## The rows")[2], re.M)
-    folders = [it for it in sorted(os.listdir(SMALL_ROWS)) if os.path.isdir(os.path.join(SMALL_ROWS, it))]
-    tally.say("rows in crates/rows/data/README.md", rows == folders, set(rows) ^ set(folders))
+    tally.say("faults in docs/FORMATS.md", faults_of_the_documents() == faults_of_the_source())
+    listed = re.findall(r"^\| `([\w-]+)` \|", text_of("crates/rows/data/README.md").partition("## The rows")[2], re.M)
+    folders = [name for name in sorted(os.listdir(SMALL_ROWS)) if os.path.isdir(os.path.join(SMALL_ROWS, name))]
+    tally.say("rows in crates/rows/data/README.md", listed == folders, set(listed) ^ set(folders))
 
 
 def main():
