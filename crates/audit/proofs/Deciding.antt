@@ -1,4 +1,4 @@
--- What the state that is kept decides of the laws.
+-- What is decided of the laws by what an audit keeps.
 use Rattle.std.proofs.Common.{◌≡◌, ◌<◌, ◌≤◌, ◌&&◌, ◌||◌, not, ℕ, Bool, true, false, List, [], ◌∷◌, length, Option, Some, None, refl, sym, ap, ap₂, subst, ◌∙◌, inl, inr, arith, ◌+◌}
 use Rattle.std.proofs.lemmas.Bool.{cases_eq, both_ways, and_parts, not-true}
 use Rattle.wal.specs.Records.{UpdateRecord, CompensationRecord, LogRecord, Update, History, history, last_lsn, record_at, LogContent, base_lsn}

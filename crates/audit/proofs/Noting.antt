@@ -11,7 +11,7 @@ use Rattle.wal.specs.Spelling.{Fits}
 use Rattle.wal.specs.Tail.{number_or_0, tx_of}
 use Rattle.audit.specs.declared.status.Status.{Status}
 use Rattle.audit.specs.Statuses.{unknown, Linked, IsStatusOf, IsTop}
-use Rattle.audit.specs.Cells.{last_write, KeepsCells, HasCell, written}
+use Rattle.audit.specs.Cells.{last_write, KeepsCells, HasCell, writers_after}
 use Rattle.audit.proofs.Statuses.{stands_other}
 
 -- STANDINGS
@@ -95,7 +95,7 @@ put_there count before after ws p s lsn lp ls follows keeps =
 left_there : (count : ℕ) (before after : ℕ → History) (ws : List ℕ) → ((page slot : ℕ) → last_write page slot (after page) ≡ last_write page slot (before page)) → KeepsCells count before ws → KeepsCells count after ws
 left_there count before after ws same keeps = record { size_is = keeps.size_is; each = λ page slot lt lt'. keeps.each page slot lt lt' ∙ sym (same page slot) }
 
-pub keeps_written : (count : ℕ) (before after : ℕ → History) (ws : List ℕ) (r : LogRecord) (lsn : ℕ) → NamesPages count r → Fits r → Follows before after r lsn → KeepsCells count before ws → KeepsCells count after (written ws r lsn)
+pub keeps_written : (count : ℕ) (before after : ℕ → History) (ws : List ℕ) (r : LogRecord) (lsn : ℕ) → NamesPages count r → Fits r → Follows before after r lsn → KeepsCells count before ws → KeepsCells count after (writers_after ws r lsn)
 keeps_written count before after ws (Update u) lsn named fits follows keeps =
     let s : u.slot ≤ 15 = fits.slot in
     put_there count before after ws u.page u.slot lsn named (omega arith) follows keeps
@@ -104,7 +104,7 @@ keeps_written count before after ws (Compensation u) lsn named fits follows keep
     put_there count before after ws u.page u.slot lsn named (omega arith) follows keeps
 keeps_written count before after ws r lsn named fits follows keeps = left_there count before after ws follows keeps
 
-pub keeps_more : (count : ℕ) (log : History) (ws : List ℕ) (r : LogRecord) (lsn : ℕ) → last_lsn log + 1 ≡ lsn → NamesPages count r → Fits r → KeepsCells count (λ _. log) ws → KeepsCells count (λ _. log ▸ r) (written ws r lsn)
+pub keeps_more : (count : ℕ) (log : History) (ws : List ℕ) (r : LogRecord) (lsn : ℕ) → last_lsn log + 1 ≡ lsn → NamesPages count r → Fits r → KeepsCells count (λ _. log) ws → KeepsCells count (λ _. log ▸ r) (writers_after ws r lsn)
 keeps_more count log ws r lsn at named fits keeps =
     let n : suc (last_lsn log) ≡ lsn = omega arith in
     keeps_written count (λ _. log) (λ _. log ▸ r) ws r lsn named fits (λ page slot. ap (λ k. cond (writes page slot r) k (last_write page slot log)) n) keeps

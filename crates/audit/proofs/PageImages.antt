@@ -11,7 +11,7 @@ use Rattle.wal.specs.Meaning.{BasePages, Change, change_of, is_in_cell, replay, 
 use Rattle.wal.specs.Redo.{slots_in}
 use Rattle.wal.specs.Store.{NamesPages}
 use Rattle.wal.specs.Spelling.{Fits}
-use Rattle.audit.specs.Cells.{image_or, last_write, KeepsCells, written}
+use Rattle.audit.specs.Cells.{image_or, last_write, KeepsCells, writers_after}
 use Rattle.audit.specs.Pages.{page_lsn, log_at, counts_for, KeepsPage}
 use Rattle.audit.proofs.Cells.{last_write_within, image_in_last}
 use Rattle.audit.proofs.Noting.{Follows, keeps_written}
@@ -71,7 +71,7 @@ module _ (pages : List Page) (log : History) (r : LogRecord) (lsn : ℕ) (at : l
         | inr w ↦ rw w refl
       ])
 
-  pub cells_counted : (ws : List ℕ) → counts_for (page_lsn pages) r lsn ≡ true → NamesPages (length pages) r → Fits r → KeepsCells (length pages) (log_at pages log) ws → KeepsCells (length pages) (log_at pages (log ▸ r)) (written ws r lsn)
+  pub cells_counted : (ws : List ℕ) → counts_for (page_lsn pages) r lsn ≡ true → NamesPages (length pages) r → Fits r → KeepsCells (length pages) (log_at pages log) ws → KeepsCells (length pages) (log_at pages (log ▸ r)) (writers_after ws r lsn)
   cells_counted ws c named fits keeps = keeps_written (length pages) (log_at pages log) (log_at pages (log ▸ r)) ws r lsn named fits (counted c) keeps
 
   pub cells_skipped : (ws : List ℕ) → counts_for (page_lsn pages) r lsn ≡ false → KeepsCells (length pages) (log_at pages log) ws → KeepsCells (length pages) (log_at pages (log ▸ r)) ws

@@ -26,5 +26,5 @@ abbrev pub HasCell : ℕ → LogRecord → Type 0
 HasCell cells r = IfSome (change_of r) (λ c. SLOTS * c.page + c.slot < cells)
 
 -- the writers after the record at an LSN
-abbrev pub written : List ℕ → LogRecord → ℕ → List ℕ
-written writers r lsn = option_map_or (λ c. slice_set writers (SLOTS * c.page + c.slot) lsn) (change_of r) writers
+abbrev pub writers_after : List ℕ → LogRecord → ℕ → List ℕ
+writers_after writers r lsn = option_map_or (λ c. slice_set writers (SLOTS * c.page + c.slot) lsn) (change_of r) writers

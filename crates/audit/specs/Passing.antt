@@ -4,16 +4,16 @@ use Rattle.page.specs.Image.{Image}
 use Rattle.wal.specs.Records.{LogRecord, Update, History, LogContent, history, last_lsn, record_at, base_lsn}
 use Rattle.wal.specs.Tail.{tx_of}
 use Rattle.audit.specs.declared.status.Status.{Status}
-use Rattle.audit.specs.declared.state.AuditState.{AuditState}
+use Rattle.audit.specs.declared.audit_state.AuditState.{AuditState}
 use Rattle.audit.specs.Statuses.{IsStatusOf, status_in}
 use Rattle.audit.specs.Cells.{KeepsCells}
 
 -- it tells how each transaction stands and who wrote each cell last
-pub record IsStateOf (count : ℕ) (log : History) (state : AuditState) : Type 0 where
-  pub base : state.base ≡ base_lsn log
-  pub links : base_lsn log + length state.links.items ≡ last_lsn log
-  pub stands : (t : ℕ) → IsStatusOf state.links.items t log (status_in state.table t)
-  pub cells : KeepsCells count (λ _. log) state.writers.items
+pub record IsAuditStateOf (count : ℕ) (log : History) (audit_state : AuditState) : Type 0 where
+  pub base : audit_state.base ≡ base_lsn log
+  pub links : base_lsn log + length audit_state.links.items ≡ last_lsn log
+  pub stands : (t : ℕ) → IsStatusOf audit_state.links.items t log (status_in audit_state.table t)
+  pub cells : KeepsCells count (λ _. log) audit_state.writers.items
 
 -- it is a beginning of the log
 abbrev pub Begins : History → LogContent → Type 0

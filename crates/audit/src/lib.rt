@@ -1,6 +1,7 @@
 //! Whether a log and a store are lawful: the laws of a log, of pages and of a checkpoint, decided.
 #![tactic(auto)]
 
+mod audit_state;
 mod base;
 mod decide;
 mod dirty;
@@ -8,7 +9,6 @@ mod laws;
 mod master;
 mod pages;
 mod records;
-mod state;
 mod status;
 mod verdict;
 

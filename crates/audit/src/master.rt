@@ -12,13 +12,13 @@ ghost use Rattle.wal.specs.Spelling.{IsRising, Fits};
 ghost use Rattle.wal.specs.Content.{entry_of, shown};
 ghost use Rattle.audit.specs.Statuses.{IsStatusOf, status_in};
 ghost use Rattle.page.specs.Store.{AreNumbered};
-ghost use Rattle.audit.specs.Passing.{IsStateOf};
+ghost use Rattle.audit.specs.Passing.{IsAuditStateOf};
 ghost use Rattle.audit.specs.FirstFault.{MasterFault};
 ghost use Rattle.audit.specs.Checkpoints.{IsTrueEntry, Lists};
 ghost use Rattle.page.specs.declared.sizes.TheConstants.{PAGES};
 
+use crate::audit_state::AuditState;
 use crate::dirty::check_dirty;
-use crate::state::AuditState;
 use crate::status::{Status, status_of, transaction_of};
 use page::{Fault, Page};
 use std::alloc::Global;
@@ -136,22 +136,22 @@ fn unfinished_are_listed(
 }
 
 /// How each transaction stands after the records up to an LSN. The only error is `NoResource`.
-fn state_at(alloc: Global, log: &Log, upto: u64, pages: usize) -> Result<AuditState, Fault>
+fn audit_state_at(alloc: Global, log: &Log, upto: u64, pages: usize) -> Result<AuditState, Fault>
     requires from { base_lsn (history log.now) ≤ upto }
     requires to { upto ≤ last_lsn (history log.now) }
     requires few { pages ≤ PAGES }
     requires named { EachRecord (NamesPages pages) (history log.now) }
-    ensures ok { IfOk result (IsStateOf pages (first upto (history log.now))) }
+    ensures ok { IfOk result (IsAuditStateOf pages (first upto (history log.now))) }
     ensures err { IsOkUnless result NoResource }
 {
     let base = log.base();
-    let mut state = AuditState::start(alloc, base, pages)?;
+    let mut audit_state = AuditState::start(alloc, base, pages)?;
     let _last = log.last();
     for lsn in base..upto {
         let view = log.after(lsn);
-        state.note(&view, lsn + 1)?;
+        audit_state.note(&view, lsn + 1)?;
     }
-    Ok(state)
+    Ok(audit_state)
 }
 
 /// Whether the table is exactly that of the unfinished transactions at the begin `master`. The only
@@ -172,12 +172,12 @@ fn is_true_table(
         ≡ true_table (first master (history log.now))) }
     ensures err { IsOkUnless result NoResource }
 {
-    let state = state_at(alloc, log, master, pages)?;
-    if !entries_are_true(&state.table, transactions) {
+    let audit_state = audit_state_at(alloc, log, master, pages)?;
+    if !entries_are_true(&audit_state.table, transactions) {
         return Ok(false);
     }
     let listed = listed_in(alloc, transactions)?;
-    Ok(unfinished_are_listed(log, master, &state.table, &listed))
+    Ok(unfinished_are_listed(log, master, &audit_state.table, &listed))
 }
 
 /// Refuses the master for the first law that its checkpoint breaks. `NoResource`, where memory is

@@ -13,9 +13,9 @@ ghost use Rattle.audit.specs.Pages.{page_lsn, counts_for, log_at, KeepsPage};
 ghost use Rattle.audit.specs.FirstFault.{BrokenPage, PagesFault};
 ghost use Rattle.page.specs.declared.sizes.TheConstants.{PAGES, SLOTS};
 
+use crate::audit_state::note_write;
 use crate::base::{base_page_lsn, base_value};
 use crate::decide::leaves;
-use crate::state::note_write;
 use page::{Fault, Page, SLOTS, Value};
 use std::alloc::Global;
 use wal::{Log, RecordView};

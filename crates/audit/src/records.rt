@@ -9,14 +9,14 @@ ghost use Rattle.wal.specs.Pages.{base_pages};
 ghost use Rattle.wal.specs.Store.{NamesPages};
 ghost use Rattle.wal.specs.Spelling.{Fits};
 ghost use Rattle.wal.specs.Content.{shown};
-ghost use Rattle.audit.specs.Passing.{IsStateOf, Begins};
+ghost use Rattle.audit.specs.Passing.{IsAuditStateOf, Begins};
 ghost use Rattle.audit.specs.FirstFault.{BrokenAt, AreSound, RecordFault};
 ghost use Rattle.page.specs.declared.sizes.TheConstants.{PAGES, SLOTS};
 
+use crate::audit_state::AuditState;
 use crate::decide::{
     keeps_before, keeps_chain, keeps_compensation, keeps_finish, keeps_strictness, names_pages,
 };
-use crate::state::AuditState;
 use crate::status::{status_of, transaction_of};
 use page::{Fault, Page};
 use std::alloc::Global;
@@ -37,25 +37,25 @@ fn wrong_compensation(view: &RecordView, lsn: u64) -> Fault
 fn check_record(
     log: &Log,
     base: &[Page],
-    state: &AuditState,
+    audit_state: &AuditState,
     count: usize,
     view: &RecordView,
     lsn: u64,
 ) -> Result<(), Fault>
-    requires size { length state.now.writers.items ≡ SLOTS * count }
+    requires size { length audit_state.now.writers.items ≡ SLOTS * count }
     requires fits { Fits (shown view.now) }
     ensures ok { OnOk result ((so_far : History) → last_lsn so_far + 1 ≡ lsn → Begins so_far log.now
-        → IsLawful (base_pages base.now) so_far → IsStateOf count so_far state.now
+        → IsLawful (base_pages base.now) so_far → IsAuditStateOf count so_far audit_state.now
         → NamesPages count (shown view.now) × Obeys (base_pages base.now) so_far (shown view.now)) }
     ensures err { IfErr result (λ e. (so_far : History) → last_lsn so_far + 1 ≡ lsn
         → Begins so_far log.now → IsLawful (base_pages base.now) so_far
-        → IsStateOf count so_far state.now
+        → IsAuditStateOf count so_far audit_state.now
         → BrokenAt (base_pages base.now) count so_far (shown view.now) e) }
 {
     if !names_pages(view, count) {
         return Err(Fault::NoSuchPage(lsn));
     }
-    let status = status_of(&state.table, transaction_of(view));
+    let status = status_of(&audit_state.table, transaction_of(view));
     if !keeps_chain(view, status) {
         return Err(Fault::Chain(lsn));
     }
@@ -65,10 +65,10 @@ fn check_record(
     if !keeps_compensation(log, view, status) {
         return Err(wrong_compensation(view, lsn));
     }
-    if !keeps_strictness(log, &state.table, &state.writers, view) {
+    if !keeps_strictness(log, &audit_state.table, &audit_state.writers, view) {
         return Err(Fault::DirtyWrite(lsn));
     }
-    if !keeps_before(log, base, &state.writers, view) {
+    if !keeps_before(log, base, &audit_state.writers, view) {
         return Err(Fault::BeforeImage(lsn));
     }
     Ok(())
@@ -82,13 +82,13 @@ pub fn check_records(alloc: Global, log: &Log, base: &[Page], count: usize) -> R
     ensures err { IfErr result (RecordFault (base_pages base.now) count (history log.now)) }
 {
     let begins = log.base();
-    let mut state = AuditState::start(alloc, begins, count)?;
+    let mut audit_state = AuditState::start(alloc, begins, count)?;
     for lsn in begins..log.last() {
         let view = log.after(lsn);
-        if let Err(fault) = check_record(log, base, &state, count, &view, lsn + 1) {
+        if let Err(fault) = check_record(log, base, &audit_state, count, &view, lsn + 1) {
             return Err(fault);
         }
-        state.note(&view, lsn + 1)?;
+        audit_state.note(&view, lsn + 1)?;
     }
     Ok(())
 }

@@ -12,7 +12,7 @@ use wal::{Record, write_frame};
 pub fn ten_updates(alloc: Global) -> Result<Vec<u8>, Fault> {
     let mut log = Vec::from_slice(alloc, b"ARIESLG1")?;
     for page in 0..10 {
-        let entry = Record::Update {
+        let logged = Record::Update {
             tx: 1,
             prev: page as u64,
             page,
@@ -20,7 +20,7 @@ pub fn ten_updates(alloc: Global) -> Result<Vec<u8>, Fault> {
             before: None,
             after: Value::new(b"a"),
         };
-        write_frame(&entry, page as u64 + 1, &mut log)?;
+        write_frame(&logged, page as u64 + 1, &mut log)?;
     }
     write_frame(&Record::Commit { tx: 1, prev: 10 }, 11, &mut log)?;
     Ok(log)

@@ -37,10 +37,10 @@ impl Text {
     }
 
     /// Appends a record that has a spelling.
-    pub fn put(&mut self, entry: &Record) -> Result<(), Fault> {
-        if self.lsn < u64::MAX && entry.is_writable() {
+    pub fn put(&mut self, logged: &Record) -> Result<(), Fault> {
+        if self.lsn < u64::MAX && logged.is_writable() {
             self.lsn += 1;
-            write_frame(entry, self.lsn, &mut self.bytes)?;
+            write_frame(logged, self.lsn, &mut self.bytes)?;
         }
         Ok(())
     }
@@ -291,6 +291,16 @@ pub fn one_commit(alloc: Global, page: u32) -> Result<Text, Fault> {
     let mut text = Text::new(alloc)?;
     text.first_update(page)?;
     text.commit(1, 1)?;
+    Ok(text)
+}
+
+/// Two updates of one slot and the CLR of the second, and the commit.
+pub fn partial_rollback_commit(alloc: Global) -> Result<Text, Fault> {
+    let mut text = Text::new(alloc)?;
+    text.first_update(0)?;
+    text.update(1, 1, 0, Some(b'a'), Some(b'b'))?;
+    text.clr(1, 2, 1, 0, Some(b'a'))?;
+    text.commit(1, 3)?;
     Ok(text)
 }
 

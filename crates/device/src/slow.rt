@@ -1,7 +1,7 @@
 //! Devices for tests: over memory, they pass a few bytes a call and fail at a call that is said
 //! beforehand. They tell their bytes.
 
-ghost use Rattle.std.specs.Prelude.{◌≡◌, Some, None, false, [], IfOk, ◌<◌, ◌≤◌};
+ghost use Rattle.std.specs.Prelude.{◌≡◌, Some, None, true, false, [], IfOk, ◌<◌, ◌≤◌, ◌-◌, ◌^◌};
 ghost use Rattle.device.specs.Slow.{bytes_left, bytes_taken, bytes_flushed, read_failures, write_failures};
 
 use crate::kept::Kept;
@@ -28,6 +28,28 @@ impl Pace {
             step,
             fails_at: None,
             fails_flush: false,
+        }
+    }
+
+    /// A device that passes this many bytes a call and fails at this call.
+    pub fn failing(step: usize, call: u32) -> Pace
+        ensures { result ≡ record { step = step; fails_at = Some call; fails_flush = false } }
+    {
+        Pace {
+            step,
+            fails_at: Some(call),
+            fails_flush: false,
+        }
+    }
+
+    /// A device that passes all bytes in one call, and whose flushes fail.
+    pub fn unflushed() -> Pace
+        ensures { result ≡ record { step = 2 ^ 64 - 1; fails_at = None; fails_flush = true } }
+    {
+        Pace {
+            step: usize::MAX,
+            fails_at: None,
+            fails_flush: true,
         }
     }
 

@@ -16,7 +16,7 @@ use redo::{Gate, Parting};
 use restart::{Options, Outcome, restart_in_place};
 use std::alloc::Global;
 use std::thread::Threads;
-use wal::{Log, Record, read_log, write_frame};
+use wal::{Log, Record, read_log_by, write_frame};
 
 /// The frames of records, the first of which has this LSN.
 fn frames_of(alloc: Global, records: &[Record], first: u64) -> Result<Vec<u8>, Fault>
@@ -92,7 +92,7 @@ pub fn recovery_of<'a, G: Gate, R: Threads + Sync>(
     // A refusal has its cause in the input, memory aside.
     ensures cause { IfErr result (Cause log.now store.items options.now) }
 {
-    let (records, torn) = read_log(alloc, log)?;
+    let (records, torn) = read_log_by(rt, alloc, log, options.workers as usize)?;
     let before = decode_store(alloc, &store)?;
     let parting = Parting::by_number(alloc, before.pages.len() as u32, options.parts)?;
     let outcome = restart_in_place(rt, alloc, &records, before, &parting, options.workers, gate)?;

@@ -13,8 +13,7 @@ use Rattle.page.specs.declared.page.Page.{Page}
 use Rattle.wal.specs.Records.{LogRecord, Update, Compensation, History, start, ◌▸◌, last_lsn}
 use Rattle.wal.specs.Meaning.{Change, change_of, effects, writes, is_on, image_of}
 use Rattle.wal.specs.Redo.{is_redone, slots_in, held_by, last_where, applied}
-use Rattle.redo.specs.declared.progress.Progress.{Progress}
-use Rattle.redo.specs.Changes.{page_named, progress_at, put, changed_by, advance}
+use Rattle.redo.specs.Changes.{RedoPage, page_named, redo_page_at, put, changed_by, advance}
 use Rattle.redo.proofs.Slots.{set-tabulated, map-same, same_below}
 
 -- what is redone has an LSN above the image's
@@ -54,7 +53,7 @@ module _ (rec_lsn : Option ℕ) (redo_lsn : ℕ) (log : History) (r : LogRecord)
 
   -- a record that changes over cell of the page
   unchanged : ((s : ℕ) → (writes image.number s r && is_redone rec_lsn redo_lsn image.lsn (suc (last_lsn log))) ≡ false) → (is_on image.number r && is_redone rec_lsn redo_lsn image.lsn (suc (last_lsn log))) ≡ false
-      → progress_at rec_lsn redo_lsn (log ▸ r) image ≡ progress_at rec_lsn redo_lsn log image
+      → redo_page_at rec_lsn redo_lsn (log ▸ r) image ≡ redo_page_at rec_lsn redo_lsn log image
   unchanged none off =
       let same_lsn : last_where (is_redone rec_lsn redo_lsn image.lsn) image.number image.lsn (log ▸ r) ≡ last_where (is_redone rec_lsn redo_lsn image.lsn) image.number image.lsn log =
       ap (λ b. cond b (suc (last_lsn log)) (last_where (is_redone rec_lsn redo_lsn image.lsn) image.number image.lsn log)) off in
@@ -68,18 +67,18 @@ module _ (rec_lsn : Option ℕ) (redo_lsn : ℕ) (log : History) (r : LogRecord)
 
   module _ (page slot : ℕ) (value : Image) (puts : Puts r page slot value) where
     -- on another page
-    elsewhere : eqb page image.number ≡ false → progress_at rec_lsn redo_lsn (log ▸ r) image ≡ progress_at rec_lsn redo_lsn log image
+    elsewhere : eqb page image.number ≡ false → redo_page_at rec_lsn redo_lsn (log ▸ r) image ≡ redo_page_at rec_lsn redo_lsn log image
     elsewhere off = unchanged (λ s. rw (puts.writes_is image.number s, off) refl) (rw (puts.on_is image.number, off) refl)
 
     -- on this page, but not redone
-    had : is_redone rec_lsn redo_lsn image.lsn (suc (last_lsn log)) ≡ false → progress_at rec_lsn redo_lsn (log ▸ r) image ≡ progress_at rec_lsn redo_lsn log image
+    had : is_redone rec_lsn redo_lsn image.lsn (suc (last_lsn log)) ≡ false → redo_page_at rec_lsn redo_lsn (log ▸ r) image ≡ redo_page_at rec_lsn redo_lsn log image
     had over = unchanged
         (λ s. ap (λ b. writes image.number s r && b) over ∙ and_right (writes image.number s r) false refl)
         (ap (λ b. is_on image.number r && b) over ∙ and_right (is_on image.number r) false refl)
 
     -- on this page, and redone
     changed : eqb page image.number ≡ true → is_redone rec_lsn redo_lsn image.lsn (suc (last_lsn log)) ≡ true
-        → progress_at rec_lsn redo_lsn (log ▸ r) image
+        → redo_page_at rec_lsn redo_lsn (log ▸ r) image
         ≡ record {
           page = record { number = image.number; lsn = suc (last_lsn log); slots = set (slots_in (effects (λ n _. is_redone rec_lsn redo_lsn image.lsn n) (held_by image) log) image.number) slot value };
           rec_lsn = rec_lsn;
@@ -105,8 +104,8 @@ module _ (rec_lsn : Option ℕ) (redo_lsn : ℕ) (log : History) (r : LogRecord)
         ∙ ap (λ a. record { page = record { number = image.number; lsn = suc (last_lsn log); slots = set (slots_in (effects (λ n _. is_redone rec_lsn redo_lsn image.lsn n) (held_by image) log) image.number) slot value }; rec_lsn = rec_lsn; applied = a }) one_more
 
     -- so it does what the record says
-    pub put_more : progress_at rec_lsn redo_lsn (log ▸ r) image
-        ≡ cond (eqb page image.number) (put redo_lsn (suc (last_lsn log)) slot value (progress_at rec_lsn redo_lsn log image)) (progress_at rec_lsn redo_lsn log image)
+    pub put_more : redo_page_at rec_lsn redo_lsn (log ▸ r) image
+        ≡ cond (eqb page image.number) (put redo_lsn (suc (last_lsn log)) slot value (redo_page_at rec_lsn redo_lsn log image)) (redo_page_at rec_lsn redo_lsn log image)
     put_more =
         elim (cases_Bool (eqb page image.number)) [
           | inl here ↦
@@ -118,12 +117,12 @@ module _ (rec_lsn : Option ℕ) (redo_lsn : ℕ) (log : History) (r : LogRecord)
         ]
 
   -- a record on no page
-  pub idle : ((p s : ℕ) → writes p s r ≡ false) → ((p : ℕ) → is_on p r ≡ false) → progress_at rec_lsn redo_lsn (log ▸ r) image ≡ progress_at rec_lsn redo_lsn log image
+  pub idle : ((p s : ℕ) → writes p s r ≡ false) → ((p : ℕ) → is_on p r ≡ false) → redo_page_at rec_lsn redo_lsn (log ▸ r) image ≡ redo_page_at rec_lsn redo_lsn log image
   idle none off = unchanged (λ s. rw (none image.number s) refl) (rw (off image.number) refl)
 
 -- A page redone up to the end of a longer log is what the record makes of it.
 pub advanced : (rec_lsn : Option ℕ) (redo_lsn : ℕ) (log : History) (r : LogRecord) (image : Page)
-    → progress_at rec_lsn redo_lsn (log ▸ r) image ≡ advance redo_lsn (suc (last_lsn log)) r (progress_at rec_lsn redo_lsn log image)
+    → redo_page_at rec_lsn redo_lsn (log ▸ r) image ≡ advance redo_lsn (suc (last_lsn log)) r (redo_page_at rec_lsn redo_lsn log image)
 advanced rec_lsn redo_lsn log (Update u) image =
     put_more rec_lsn redo_lsn log (Update u) image u.page u.slot u.after (record { writes_is = λ p s. refl; on_is = λ p. refl; image_is = refl })
 advanced rec_lsn redo_lsn log (Compensation c) image =
@@ -131,11 +130,11 @@ advanced rec_lsn redo_lsn log (Compensation c) image =
 advanced rec_lsn redo_lsn log r image = idle rec_lsn redo_lsn log r image (λ p t. refl) (λ p. refl)
 
 -- WHERE NOTHING IS DONE
-put_idle : (redo_lsn lsn slot : ℕ) (value : Image) (p : Progress) → is_redone p.rec_lsn redo_lsn p.page.lsn lsn ≡ false → put redo_lsn lsn slot value p ≡ p
+put_idle : (redo_lsn lsn slot : ℕ) (value : Image) (p : RedoPage) → is_redone p.rec_lsn redo_lsn p.page.lsn lsn ≡ false → put redo_lsn lsn slot value p ≡ p
 put_idle redo_lsn lsn slot value p over = rw over refl
 
 -- a record that is not redone
-pub advance_had : (redo_lsn lsn : ℕ) (r : LogRecord) (p : Progress) → is_redone p.rec_lsn redo_lsn p.page.lsn lsn ≡ false → advance redo_lsn lsn r p ≡ p
+pub advance_had : (redo_lsn lsn : ℕ) (r : LogRecord) (p : RedoPage) → is_redone p.rec_lsn redo_lsn p.page.lsn lsn ≡ false → advance redo_lsn lsn r p ≡ p
 advance_had redo_lsn lsn r p over = by (change_of r)
   where
     by : (o : Option Change) → changed_by redo_lsn lsn o p ≡ p
@@ -143,7 +142,7 @@ advance_had redo_lsn lsn r p over = by (change_of r)
     by (Some c) = cond_both (eqb c.page p.page.number) (put redo_lsn lsn c.slot c.image p) p (λ q. q ≡ p) (λ _. put_idle redo_lsn lsn c.slot c.image p over) (λ _. refl)
 
 -- a record on another page
-pub advance_elsewhere : (redo_lsn lsn : ℕ) (r : LogRecord) (p : Progress) → ((page : ℕ) → page_named r ≡ Some page → p.page.number ≢ page) → advance redo_lsn lsn r p ≡ p
+pub advance_elsewhere : (redo_lsn lsn : ℕ) (r : LogRecord) (p : RedoPage) → ((page : ℕ) → page_named r ≡ Some page → p.page.number ≢ page) → advance redo_lsn lsn r p ≡ p
 advance_elsewhere redo_lsn lsn r p = by (change_of r)
   where
     by : (o : Option Change) → ((page : ℕ) → option_map (λ (x : ℕ × ℕ). x.0) (option_map (λ c. (c.page, c.slot)) o) ≡ Some page → p.page.number ≢ page) → changed_by redo_lsn lsn o p ≡ p
@@ -151,16 +150,16 @@ advance_elsewhere redo_lsn lsn r p = by (change_of r)
     by (Some c) other = ap (λ b. cond b (put redo_lsn lsn c.slot c.image p) p) (ne_eqb c.page p.page.number (λ e. other c.page refl (sym e)))
 
 -- WHAT A RECORD LEAVES
-put_number : (redo_lsn lsn slot : ℕ) (value : Image) (p : Progress) → (put redo_lsn lsn slot value p).page.number ≡ p.page.number
+put_number : (redo_lsn lsn slot : ℕ) (value : Image) (p : RedoPage) → (put redo_lsn lsn slot value p).page.number ≡ p.page.number
 put_number redo_lsn lsn slot value p =
-    elim (cases_Bool (is_redone p.rec_lsn redo_lsn p.page.lsn lsn)) [ inl lacking ↦ rw lacking refl | inr over ↦ ap (λ (q : Progress). q.page.number) (put_idle redo_lsn lsn slot value p over) ]
+    elim (cases_Bool (is_redone p.rec_lsn redo_lsn p.page.lsn lsn)) [ inl lacking ↦ rw lacking refl | inr over ↦ ap (λ (q : RedoPage). q.page.number) (put_idle redo_lsn lsn slot value p over) ]
 
-put_count : (redo_lsn lsn slot : ℕ) (value : Image) (p : Progress) → (put redo_lsn lsn slot value p).applied ≤ suc p.applied
+put_count : (redo_lsn lsn slot : ℕ) (value : Image) (p : RedoPage) → (put redo_lsn lsn slot value p).applied ≤ suc p.applied
 put_count redo_lsn lsn slot value p =
-    elim (cases_Bool (is_redone p.rec_lsn redo_lsn p.page.lsn lsn)) [ inl lacking ↦ rw lacking (omega arith) | inr over ↦ omega (arith, ap (λ (q : Progress). q.applied) (put_idle redo_lsn lsn slot value p over)) ]
+    elim (cases_Bool (is_redone p.rec_lsn redo_lsn p.page.lsn lsn)) [ inl lacking ↦ rw lacking (omega arith) | inr over ↦ omega (arith, ap (λ (q : RedoPage). q.applied) (put_idle redo_lsn lsn slot value p over)) ]
 
 -- its number
-pub advance_number : (redo_lsn lsn : ℕ) (r : LogRecord) (p : Progress) → (advance redo_lsn lsn r p).page.number ≡ p.page.number
+pub advance_number : (redo_lsn lsn : ℕ) (r : LogRecord) (p : RedoPage) → (advance redo_lsn lsn r p).page.number ≡ p.page.number
 advance_number redo_lsn lsn r p = by (change_of r)
   where
     by : (o : Option Change) → (changed_by redo_lsn lsn o p).page.number ≡ p.page.number
@@ -168,7 +167,7 @@ advance_number redo_lsn lsn r p = by (change_of r)
     by (Some c) = cond_both (eqb c.page p.page.number) (put redo_lsn lsn c.slot c.image p) p (λ q. q.page.number ≡ p.page.number) (λ _. put_number redo_lsn lsn c.slot c.image p) (λ _. refl)
 
 -- and the count, but for one
-pub advance_count : (redo_lsn lsn : ℕ) (r : LogRecord) (p : Progress) → (advance redo_lsn lsn r p).applied ≤ suc p.applied
+pub advance_count : (redo_lsn lsn : ℕ) (r : LogRecord) (p : RedoPage) → (advance redo_lsn lsn r p).applied ≤ suc p.applied
 advance_count redo_lsn lsn r p = by (change_of r)
   where
     by : (o : Option Change) → (changed_by redo_lsn lsn o p).applied ≤ suc p.applied

@@ -15,13 +15,12 @@ use Rattle.wal.specs.Meaning.{cell_of}
 use Rattle.std.proofs.lemmas.List.FromFn.{length-map-range_with_len, get_or-map-range_with_len}
 use Rattle.wal.specs.Redo.{is_redone, applied, rec_lsn_of, slots_in, held_by}
 use Rattle.wal.proofs.Histories.{behind, size_of_first, size_of_first_le, first_none, record_in_first, record_more, record_last, record_within, base_within, first_base}
-use Rattle.redo.specs.declared.progress.Progress.{Progress}
 use Rattle.redo.specs.declared.note.Note.{Note}
-use Rattle.redo.specs.Changes.{page_named, lsn_in, IsNote, part_of_page, is_part, on_part, lsns_where, progress_at, advance, advance_by, step}
+use Rattle.redo.specs.Changes.{RedoPage, page_named, lsn_in, IsNote, part_of_page, is_part, on_part, lsns_where, redo_page_at, advance, advance_by, step}
 use Rattle.redo.specs.Parting.{AreMembers}
 use Rattle.redo.specs.Inputs.{InputContent}
 use Rattle.redo.specs.Routes.{skipped, skipped_in, Stands}
-use Rattle.redo.specs.Parts.{progress_in, image_at, numbers_of, IsUpTo}
+use Rattle.redo.specs.Parts.{redo_page_in, image_at, numbers_of, IsUpTo}
 use Rattle.redo.proofs.Reading.{get_same}
 use Rattle.redo.proofs.Routes.{lsns_none}
 use Rattle.redo.proofs.Stretches.{skipped_within}
@@ -36,7 +35,7 @@ pub lsns_more : (test : LogRecord → Bool) (from : ℕ) (log : History) (r : Lo
 lsns_more test from log r le = ap (λ b. cond (b && test r) (lsns_where test from log ++ suc (last_lsn log) ∷ []) (lsns_where test from log)) (le-leb from (last_lsn log) le)
 
 -- a record on no page of a part changes none of them
-off_part : (part_of : List ℕ) (part redo_lsn lsn : ℕ) (r : LogRecord) (p : Progress) → slice_get part_of p.page.number ≡ Some part → on_part part_of part r ≡ false → advance redo_lsn lsn r p ≡ p
+off_part : (part_of : List ℕ) (part redo_lsn lsn : ℕ) (r : LogRecord) (p : RedoPage) → slice_get part_of p.page.number ≡ Some part → on_part part_of part r ≡ false → advance redo_lsn lsn r p ≡ p
 off_part part_of part redo_lsn lsn r p here off =
     advance_elsewhere redo_lsn lsn r p
     (λ page named same.
@@ -45,7 +44,7 @@ off_part part_of part redo_lsn lsn r p here off =
     false≢true (sym off ∙ given))
 
 -- the image itself, before any record
-pub image_begun : (input : InputContent) (base : ℕ) (image : Page) → length image.slots ≡ 16 → progress_in input (start base) image ≡ record { page = image; rec_lsn = rec_lsn_of image.number input.dirty; applied = 0 }
+pub image_begun : (input : InputContent) (base : ℕ) (image : Page) → length image.slots ≡ 16 → redo_page_in input (start base) image ≡ record { page = image; rec_lsn = rec_lsn_of image.number input.dirty; applied = 0 }
 image_begun input base image count =
     let slots : slots_in (held_by image) image.number ≡ image.slots =
     ext_get_or None (slots_in (held_by image) image.number) image.slots (length-map-range_with_len (held_by image image.number) 0 16 ∙ sym count)
@@ -56,38 +55,38 @@ image_begun input base image count =
 module _ (input : InputContent) (part : ℕ) (image : Page) (here : slice_get input.parting.part_of image.number ≡ Some part) where
   -- the LSNs of the stretch from the first m records to the first m + k, applied in order
   pub stretch : (m k : ℕ) → base_lsn (history input.log) ≤ m → m + k ≤ last_lsn (history input.log)
-      → fold (step (history input.log) input.redo_lsn) (progress_in input (first m (history input.log)) image) (lsns_where (on_part input.parting.part_of part) m (first (m + k) (history input.log)))
-      ≡ progress_in input (first (m + k) (history input.log)) image
+      → fold (step (history input.log) input.redo_lsn) (redo_page_in input (first m (history input.log)) image) (lsns_where (on_part input.parting.part_of part) m (first (m + k) (history input.log)))
+      ≡ redo_page_in input (first (m + k) (history input.log)) image
   stretch m zero from le =
       let same : first (m + zero) (history input.log) ≡ first m (history input.log) = ap (λ n. first n (history input.log)) (omega arith) in
       let none : lsns_where (on_part input.parting.part_of part) m (first (m + zero) (history input.log)) ≡ [] =
       lsns_none (on_part input.parting.part_of part) m (first (m + zero) (history input.log)) (omega (arith, size_of_first_le (m + zero) (history input.log) (omega (arith, from)))) in
-      ap (fold (step (history input.log) input.redo_lsn) (progress_in input (first m (history input.log)) image)) none ∙ ap (λ h. progress_in input h image) (sym same)
+      ap (fold (step (history input.log) input.redo_lsn) (redo_page_in input (first m (history input.log)) image)) none ∙ ap (λ h. redo_page_in input h image) (sym same)
   stretch m (suc k) from le =
       let whole = (history input.log) in
       let log = first (m + k) (history input.log) in
       let found = behind (history input.log) (m + k) (omega (arith, from)) (omega (arith, le)) in
       let r = found.entry in
-      let begun = progress_in input (first m (history input.log)) image in
+      let begun = redo_page_in input (first m (history input.log)) image in
       let test = on_part input.parting.part_of part in
       let f = step whole input.redo_lsn in
       let count : last_lsn log ≡ m + k = size_of_first (m + k) (history input.log) (omega (arith, from)) (omega (arith, le)) in
       let next : first (m + suc k) (history input.log) ≡ log ▸ r = ap (λ n. first n (history input.log)) (omega arith) ∙ found.next in
       let lsns : lsns_where test m (first (m + suc k) (history input.log)) ≡ cond (test r) (lsns_where test m log ++ suc (last_lsn log) ∷ []) (lsns_where test m log) =
       ap (lsns_where test m) next ∙ lsns_more test m log r (omega (arith, count)) in
-      let before : fold f begun (lsns_where test m log) ≡ progress_in input log image = stretch m k from (omega (arith, le)) in
-      let after : progress_in input (log ▸ r) image ≡ advance input.redo_lsn (suc (last_lsn log)) r (progress_in input log image) = advanced (rec_lsn_of image.number input.dirty) input.redo_lsn log r image in
+      let before : fold f begun (lsns_where test m log) ≡ redo_page_in input log image = stretch m k from (omega (arith, le)) in
+      let after : redo_page_in input (log ▸ r) image ≡ advance input.redo_lsn (suc (last_lsn log)) r (redo_page_in input log image) = advanced (rec_lsn_of image.number input.dirty) input.redo_lsn log r image in
       let there : record_at whole (suc (last_lsn log)) ≡ Some r = ap (record_at whole) (omega (arith, count)) ∙ found.there in
       elim (cases_Bool (test r)) [
         | inl is ↦
             (ap (fold f begun) (lsns ∙ ap (λ b. cond b (lsns_where test m log ++ suc (last_lsn log) ∷ []) (lsns_where test m log)) is)
             ∙ (fold_push f begun (lsns_where test m log) (suc (last_lsn log))
             ∙ (ap (λ p. f p (suc (last_lsn log))) before
-            ∙ (ap (λ o. advance_by input.redo_lsn (suc (last_lsn log)) o (progress_in input log image)) there ∙ (sym after ∙ ap (λ h. progress_in input h image) (sym next))))))
+            ∙ (ap (λ o. advance_by input.redo_lsn (suc (last_lsn log)) o (redo_page_in input log image)) there ∙ (sym after ∙ ap (λ h. redo_page_in input h image) (sym next))))))
         | inr off ↦
             (ap (fold f begun) (lsns ∙ ap (λ b. cond b (lsns_where test m log ++ suc (last_lsn log) ∷ []) (lsns_where test m log)) off)
             ∙ (before
-            ∙ (sym (off_part input.parting.part_of part input.redo_lsn (suc (last_lsn log)) r (progress_in input log image) here off) ∙ (sym after ∙ ap (λ h. progress_in input h image) (sym next)))))
+            ∙ (sym (off_part input.parting.part_of part input.redo_lsn (suc (last_lsn log)) r (redo_page_in input log image) here off) ∙ (sym after ∙ ap (λ h. redo_page_in input h image) (sym next)))))
       ]
 
 -- a record of the log that passes a test
@@ -114,8 +113,8 @@ not_looked_at (Some x) base redo_lsn len k n le some =
 
 -- a record that redo skips changes nothing
 skips_one : (input : InputContent) (image : Page) (n : ℕ) → base_lsn (history input.log) ≤ n → suc n ≤ skipped_in input → suc n ≤ last_lsn (history input.log)
-    → progress_in input (first n (history input.log)) image ≡ progress_in input (start (base_lsn (history input.log))) image
-    → progress_in input (first (suc n) (history input.log)) image ≡ progress_in input (start (base_lsn (history input.log))) image
+    → redo_page_in input (first n (history input.log)) image ≡ redo_page_in input (start (base_lsn (history input.log))) image
+    → redo_page_in input (first (suc n) (history input.log)) image ≡ redo_page_in input (start (base_lsn (history input.log))) image
 skips_one input image n from le within before =
     let log = first n (history input.log) in
     let found = behind (history input.log) n from (omega (arith, within)) in
@@ -123,19 +122,19 @@ skips_one input image n from le within before =
     let count : last_lsn log ≡ n = size_of_first n (history input.log) from (omega (arith, within)) in
     let same : suc n ≡ n + 1 = omega arith in
     let next : first (suc n) (history input.log) ≡ log ▸ r = ap (λ k. first k (history input.log)) same ∙ found.next in
-    ap (λ h. progress_in input h image) next
+    ap (λ h. redo_page_in input h image) next
     ∙ (advanced (rec_lsn_of image.number input.dirty) input.redo_lsn log r image
-    ∙ (advance_had input.redo_lsn (suc (last_lsn log)) r (progress_in input log image)
-    (not_looked_at (rec_lsn_of image.number input.dirty) (base_lsn (history input.log)) input.redo_lsn (last_lsn (history input.log)) (progress_in input log image).page.lsn (suc (last_lsn log)) (omega (arith, count, le)) (omega (arith, count, from)))
+    ∙ (advance_had input.redo_lsn (suc (last_lsn log)) r (redo_page_in input log image)
+    (not_looked_at (rec_lsn_of image.number input.dirty) (base_lsn (history input.log)) input.redo_lsn (last_lsn (history input.log)) (redo_page_in input log image).page.lsn (suc (last_lsn log)) (omega (arith, count, le)) (omega (arith, count, from)))
     ∙ before))
 
 -- the records that redo skips change nothing
-pub skips_none : (input : InputContent) (image : Page) (n : ℕ) → n ≤ skipped_in input → n ≤ last_lsn (history input.log) → progress_in input (first n (history input.log)) image ≡ progress_in input (start (base_lsn (history input.log))) image
-skips_none input image zero le within = ap (λ h. progress_in input h image) (first_none (history input.log))
+pub skips_none : (input : InputContent) (image : Page) (n : ℕ) → n ≤ skipped_in input → n ≤ last_lsn (history input.log) → redo_page_in input (first n (history input.log)) image ≡ redo_page_in input (start (base_lsn (history input.log))) image
+skips_none input image zero le within = ap (λ h. redo_page_in input h image) (first_none (history input.log))
 skips_none input image (suc n) le within =
     elim (cases_lt (base_lsn (history input.log)) (suc n)) [
       | inl above ↦ skips_one input image n (omega (arith, above)) le within (skips_none input image n (omega (arith, le)) (omega (arith, within)))
-      | inr low ↦ ap (λ h. progress_in input h image) (first_base (history input.log) (suc n) low)
+      | inr low ↦ ap (λ h. redo_page_in input h image) (first_base (history input.log) (suc n) low)
     ]
 
 -- COUNTS
@@ -143,8 +142,8 @@ pub applied_within : (rec_lsn : Option ℕ) (redo_lsn : ℕ) (image : Page) (log
 applied_within rec_lsn redo_lsn image (start _) = omega arith
 applied_within rec_lsn redo_lsn image (log ▸ r) =
     let fewer = applied_within rec_lsn redo_lsn image log in
-    let more : (progress_at rec_lsn redo_lsn (log ▸ r) image).applied ≤ suc (applied rec_lsn redo_lsn image log) =
-    subst (λ (p : Progress). p.applied ≤ suc (applied rec_lsn redo_lsn image log)) (sym (advanced rec_lsn redo_lsn log r image)) (advance_count redo_lsn (suc (last_lsn log)) r (progress_at rec_lsn redo_lsn log image)) in
+    let more : (redo_page_at rec_lsn redo_lsn (log ▸ r) image).applied ≤ suc (applied rec_lsn redo_lsn image log) =
+    subst (λ (p : RedoPage). p.applied ≤ suc (applied rec_lsn redo_lsn image log)) (sym (advanced rec_lsn redo_lsn log r image)) (advance_count redo_lsn (suc (last_lsn log)) r (redo_page_at rec_lsn redo_lsn log image)) in
     omega (arith, more, fewer)
 
 pub lsns_few : (test : LogRecord → Bool) (from : ℕ) (log : History) → length (lsns_where test from log) ≤ last_lsn log - from
@@ -188,17 +187,17 @@ module _ (input : InputContent) (part : ℕ) (numbered : AreNumbered input.image
       )
 
   -- the pages have the members' numbers
-  numbers_are : (members : List ℕ) (log : History) → AreMembers input.parting.part_of input.parting.place_of part members → numbers_of (map (λ number. progress_in input log (image_at input.images number)) members) ≡ members
+  numbers_are : (members : List ℕ) (log : History) → AreMembers input.parting.part_of input.parting.place_of part members → numbers_of (map (λ number. redo_page_in input log (image_at input.images number)) members) ≡ members
   numbers_are members log are =
-      let at : ℕ → Progress = λ number. progress_in input log (image_at input.images number) in
-      ext_get_or 0 (numbers_of (map at members)) members (length-map (map at members) (λ (p : Progress). p.page.number) ∙ length-map members at)
+      let at : ℕ → RedoPage = λ number. redo_page_in input log (image_at input.images number) in
+      ext_get_or 0 (numbers_of (map at members)) members (length-map (map at members) (λ (p : RedoPage). p.page.number) ∙ length-map members at)
       (λ k lt.
-      let below : k < length members = omega (arith, length-map (map at members) (λ (p : Progress). p.page.number), length-map members at) in
-      get_or-map (λ (p : Progress). p.page.number) (map at members) k (at 0) 0 (omega (arith, length-map members at))
-      ∙ (ap (λ (p : Progress). p.page.number) (get_or-map at members k 0 (at 0) below) ∙ image_number input.images (get_or members k 0) numbered (member_image members are k 0 below).0))
+      let below : k < length members = omega (arith, length-map (map at members) (λ (p : RedoPage). p.page.number), length-map members at) in
+      get_or-map (λ (p : RedoPage). p.page.number) (map at members) k (at 0) 0 (omega (arith, length-map members at))
+      ∙ (ap (λ (p : RedoPage). p.page.number) (get_or-map at members k 0 (at 0) below) ∙ image_number input.images (get_or members k 0) numbered (member_image members are k 0 below).0))
 
   -- the page of each noted record of the part stands among them
-  pub all_stand : (m n : ℕ) (ps : List Progress) (notes : List Note) → base_lsn (history input.log) ≤ n → n ≤ last_lsn (history input.log) → IsUpTo input part m ps
+  pub all_stand : (m n : ℕ) (ps : List RedoPage) (notes : List Note) → base_lsn (history input.log) ≤ n → n ≤ last_lsn (history input.log) → IsUpTo input part m ps
       → map lsn_in notes ≡ lsns_where (on_part input.parting.part_of part) m (first n (history input.log)) → All (IsNote (history input.log) input.parting.place_of) notes
       → All (Stands (history input.log) input.parting.place_of (numbers_of ps)) notes
   all_stand m n ps notes from le up are noted k d lt =
@@ -234,15 +233,15 @@ module _ (input : InputContent) (part : ℕ) (numbered : AreNumbered input.image
       part_is (Some x) e = ap Some (eqb-true x part e)
 
   -- no count of theirs can overflow
-  pub all_room : (m n : ℕ) (ps : List Progress) → base_lsn (history input.log) ≤ m → m ≤ n → n ≤ last_lsn (history input.log) → IsUpTo input part m ps
+  pub all_room : (m n : ℕ) (ps : List RedoPage) → base_lsn (history input.log) ≤ m → m ≤ n → n ≤ last_lsn (history input.log) → IsUpTo input part m ps
       → All (λ p. p.applied + length (lsns_where (on_part input.parting.part_of part) m (first n (history input.log))) < 2 ^ 64) ps
   all_room m n ps from less le up k d lt =
-      let at : ℕ → Progress = λ number. progress_in input (first m (history input.log)) (image_at input.images number) in
+      let at : ℕ → RedoPage = λ number. redo_page_in input (first m (history input.log)) (image_at input.images number) in
       let below : k < length up.members = omega (arith, ap length up.redone, length-map up.members at) in
       let is : get_or ps k d ≡ at (get_or up.members k 0) = ap (λ xs. get_or xs k d) up.redone ∙ get_or-map at up.members k 0 d below in
       let image = image_at input.images (get_or up.members k 0) in
       let few = applied_within (rec_lsn_of image.number input.dirty) input.redo_lsn image (first m (history input.log)) in
-      let count : (get_or ps k d).applied ≡ applied (rec_lsn_of image.number input.dirty) input.redo_lsn image (first m (history input.log)) = ap (λ (p : Progress). p.applied) is in
+      let count : (get_or ps k d).applied ≡ applied (rec_lsn_of image.number input.dirty) input.redo_lsn image (first m (history input.log)) = ap (λ (p : RedoPage). p.applied) is in
       omega (
         arith,
         few,
@@ -254,12 +253,12 @@ module _ (input : InputContent) (part : ℕ) (numbered : AreNumbered input.image
       )
 
   -- one stretch further
-  pub further : (m n : ℕ) (old new : List Progress) → base_lsn (history input.log) ≤ m → m ≤ n → n ≤ last_lsn (history input.log) → IsUpTo input part m old
+  pub further : (m n : ℕ) (old new : List RedoPage) → base_lsn (history input.log) ≤ m → m ≤ n → n ≤ last_lsn (history input.log) → IsUpTo input part m old
       → new ≡ map (λ p. fold (step (history input.log) input.redo_lsn) p (lsns_where (on_part input.parting.part_of part) m (first n (history input.log)))) old → IsUpTo input part n new
   further m n old new from less le up is =
       let lsns = lsns_where (on_part input.parting.part_of part) m (first n (history input.log)) in
-      let run : Progress → Progress = λ p. fold (step (history input.log) input.redo_lsn) p lsns in
-      let at : ℕ → ℕ → Progress = λ i number. progress_in input (first i (history input.log)) (image_at input.images number) in
+      let run : RedoPage → RedoPage = λ p. fold (step (history input.log) input.redo_lsn) p lsns in
+      let at : ℕ → ℕ → RedoPage = λ i number. redo_page_in input (first i (history input.log)) (image_at input.images number) in
       let sum : m + (n - m) ≡ n = omega (arith, less) in
       record {
         members = up.members;
@@ -280,9 +279,9 @@ module _ (input : InputContent) (part : ℕ) (numbered : AreNumbered input.image
       }
 
   -- redo begins with the images
-  pub begins : (ps : List Progress) → IsUpTo input part 0 ps → IsUpTo input part (skipped_in input) ps
+  pub begins : (ps : List RedoPage) → IsUpTo input part 0 ps → IsUpTo input part (skipped_in input) ps
   begins ps up =
-      let at : ℕ → ℕ → Progress = λ i number. progress_in input (first i (history input.log)) (image_at input.images number) in
+      let at : ℕ → ℕ → RedoPage = λ i number. redo_page_in input (first i (history input.log)) (image_at input.images number) in
       let same : at 0 ≡ at (skipped_in input) =
-      fun_ext (λ number. ap (λ h. progress_in input h (image_at input.images number)) (first_none (history input.log)) ∙ sym (skips_none input (image_at input.images number) (skipped_in input) (omega arith) (skipped_within (base_lsn (history input.log)) input.redo_lsn (last_lsn (history input.log)) (base_within (history input.log))))) in
+      fun_ext (λ number. ap (λ h. redo_page_in input h (image_at input.images number)) (first_none (history input.log)) ∙ sym (skips_none input (image_at input.images number) (skipped_in input) (omega arith) (skipped_within (base_lsn (history input.log)) input.redo_lsn (last_lsn (history input.log)) (base_within (history input.log))))) in
       record { members = up.members; are = up.are; all = up.all; redone = up.redone ∙ ap (λ f. map f up.members) same }

@@ -10,13 +10,12 @@ use Rattle.wal.specs.Records.{LogRecord, History, start, history, record_at}
 use Rattle.wal.specs.Meaning.{cell_of, Change, change_of, image_put, image_of, image_in}
 use Rattle.wal.specs.Redo.{is_redone, rec_lsn_of}
 use Rattle.wal.proofs.Histories.{record_none}
-use Rattle.redo.specs.declared.progress.Progress.{Progress}
 use Rattle.redo.specs.declared.tally.Tally.{Tally}
 use Rattle.redo.specs.declared.note.Note.{Note}
-use Rattle.redo.specs.Changes.{put, changed_by, advance, advance_by, step, counted, held_after, slots_after}
+use Rattle.redo.specs.Changes.{RedoPage, put, changed_by, advance, advance_by, step, counted, held_after, slots_after}
 use Rattle.redo.specs.Inputs.{InputContent}
 use Rattle.redo.specs.Routes.{Stands}
-use Rattle.redo.specs.Parts.{numbers_of, progress_in, image_at, resolved}
+use Rattle.redo.specs.Parts.{numbers_of, redo_page_in, image_at, resolved}
 use Rattle.redo.proofs.Alone.{alone_within, put_alone}
 use Rattle.redo.proofs.Replay.{image_begun, page_of_cell}
 
@@ -29,7 +28,7 @@ positive log zero r there = absurd (none (sym (record_none log zero (inl (omega 
 positive log (suc n) r there = ne_eqb (suc n) 0 (λ e. omega (arith, e))
 
 -- a record in a cell of a page puts its image there
-does : (redo_lsn lsn : ℕ) (r : LogRecord) (page slot : ℕ) → cell_of r ≡ Some (page, slot) → (p : Progress) → page ≡ p.page.number → advance redo_lsn lsn r p ≡ put redo_lsn lsn slot (image_of r) p
+does : (redo_lsn lsn : ℕ) (r : LogRecord) (page slot : ℕ) → cell_of r ≡ Some (page, slot) → (p : RedoPage) → page ≡ p.page.number → advance redo_lsn lsn r p ≡ put redo_lsn lsn slot (image_of r) p
 does redo_lsn lsn r page slot e p here = by (change_of r) e
   where
     by : (o : Option Change) → ◌≡◌ {A = Option (ℕ × ℕ)} (option_map (λ c. (c.page, c.slot)) o) (Some (page, slot)) → changed_by redo_lsn lsn o p ≡ put redo_lsn lsn slot (image_put o) p
@@ -91,7 +90,7 @@ counted_alone input (q ∷ qs) new n stands is =
     let noted : slice_get input.parting.place_of stands.page ≡ Some n.place = stands.alone.noted ∙ ap Some (sym stands.place) in
     let one : resolved input (counted input.redo_lsn n.lsn n.slot (get_or ts n.place q)) ≡ put input.redo_lsn n.lsn n.slot value (resolved input (get_or ts n.place q)) =
     counted_put input input.redo_lsn n.lsn n.slot r (get_or ts n.place q) stands.there in
-    let written : (d : Progress) → map (resolved input) new ≡ set ps n.place (put input.redo_lsn n.lsn n.slot value (get_or ps n.place d)) =
+    let written : (d : RedoPage) → map (resolved input) new ≡ set ps n.place (put input.redo_lsn n.lsn n.slot value (get_or ps n.place d)) =
     λ d. ap (map (resolved input)) (is q)
     ∙ (map-set (resolved input) ts n.place (counted input.redo_lsn n.lsn n.slot (get_or ts n.place q))
     ∙ ap (λ p. set ps n.place p) (one ∙ ap (put input.redo_lsn n.lsn n.slot value) (sym (get_or-map (resolved input) ts n.place q d long)))) in
@@ -101,7 +100,7 @@ counted_alone input (q ∷ qs) new n stands is =
 
 -- AT THE BEGINNING
 pub begun_page : (input : InputContent) (base number : ℕ) (rec_lsn : Option ℕ) → (image_at input.images number).number ≡ number → length (image_at input.images number).slots ≡ 16 → rec_lsn ≡ rec_lsn_of number input.dirty
-    → resolved input (record { number = number; lsn = (image_at input.images number).lsn; rec_lsn = rec_lsn; applied = 0; lasts = replicate 16 0 }) ≡ progress_in input (start base) (image_at input.images number)
+    → resolved input (record { number = number; lsn = (image_at input.images number).lsn; rec_lsn = rec_lsn; applied = 0; lasts = replicate 16 0 }) ≡ redo_page_in input (start base) (image_at input.images number)
 begun_page input base number rec_lsn own count listed =
     let image = image_at input.images number in
     let slots : slots_after (history input.log) (replicate 16 0) image.slots ≡ image.slots =

@@ -6,7 +6,6 @@ use Rattle.page.specs.declared.page.Page.{Page}
 use Rattle.wal.specs.Records.{LogRecord, History, start, ◌▸◌, last_lsn, record_at}
 use Rattle.wal.specs.Meaning.{Change, change_of, cell_of, image_in}
 use Rattle.wal.specs.Redo.{is_redone, redo_of, applied}
-use Rattle.redo.specs.declared.progress.Progress.{Progress}
 use Rattle.redo.specs.declared.tally.Tally.{Tally}
 use Rattle.redo.specs.declared.note.Note.{Note}
 use Rattle.page.specs.declared.sizes.TheConstants.{SLOTS}
@@ -51,32 +50,38 @@ pub record IsNote (log : History) (place_of : List ℕ) (n : Note) : Type 0 wher
   pub small : n.slot < SLOTS
   pub place : slice_get place_of page ≡ Some n.place
 
--- a page as redo has it when it has come to the end of a log, with how many records it applied
-abbrev pub progress_at : (rec_lsn : Option ℕ) (redo_lsn : ℕ) → History → Page → Progress
-progress_at rec_lsn redo_lsn log image = record { page = redo_of rec_lsn redo_lsn log image; rec_lsn = rec_lsn; applied = applied rec_lsn redo_lsn image log }
+-- a page on its way through redo, with its RecLSN, None where it is not listed as dirty, and how many records were applied to it
+pub record RedoPage : Type 0 where
+  pub page : Page
+  pub rec_lsn : Option ℕ
+  pub applied : ℕ
+
+-- a page as redo has it when it has come to the end of a log
+abbrev pub redo_page_at : (rec_lsn : Option ℕ) (redo_lsn : ℕ) → History → Page → RedoPage
+redo_page_at rec_lsn redo_lsn log image = record { page = redo_of rec_lsn redo_lsn log image; rec_lsn = rec_lsn; applied = applied rec_lsn redo_lsn image log }
 
 -- a value put into a slot, where the page lacks the record at this LSN
-abbrev pub put : (redo_lsn lsn slot : ℕ) → Image → Progress → Progress
+abbrev pub put : (redo_lsn lsn slot : ℕ) → Image → RedoPage → RedoPage
 put redo_lsn lsn slot image p =
     if is_redone p.rec_lsn redo_lsn p.page.lsn lsn
     then record { page = record { number = p.page.number; lsn = lsn; slots = slice_set p.page.slots slot image }; rec_lsn = p.rec_lsn; applied = suc p.applied }
     else p
 
 -- what a change by the record at an LSN makes of a page, if there is one
-abbrev pub changed_by : (redo_lsn lsn : ℕ) → Option Change → Progress → Progress
+abbrev pub changed_by : (redo_lsn lsn : ℕ) → Option Change → RedoPage → RedoPage
 changed_by redo_lsn lsn None p = p
 changed_by redo_lsn lsn (Some c) p = if c.page == p.page.number then put redo_lsn lsn c.slot c.image p else p
 
 -- what the record at an LSN does to a page
-abbrev pub advance : (redo_lsn lsn : ℕ) → LogRecord → Progress → Progress
+abbrev pub advance : (redo_lsn lsn : ℕ) → LogRecord → RedoPage → RedoPage
 advance redo_lsn lsn r p = changed_by redo_lsn lsn (change_of r) p
 
-abbrev pub advance_by : (redo_lsn lsn : ℕ) → Option LogRecord → Progress → Progress
+abbrev pub advance_by : (redo_lsn lsn : ℕ) → Option LogRecord → RedoPage → RedoPage
 advance_by redo_lsn lsn None p = p
 advance_by redo_lsn lsn (Some r) p = advance redo_lsn lsn r p
 
 -- the same by its LSN in a log
-abbrev pub step : History → (redo_lsn : ℕ) → Progress → (lsn : ℕ) → Progress
+abbrev pub step : History → (redo_lsn : ℕ) → RedoPage → (lsn : ℕ) → RedoPage
 step log redo_lsn p lsn = advance_by redo_lsn lsn (record_at log lsn) p
 
 -- BY LSNS ALONE
@@ -96,3 +101,7 @@ abbrev pub slots_after : History → (lasts : List ℕ) → List Image → List 
 slots_after log lasts [] = []
 slots_after log [] (x ∷ xs) = []
 slots_after log (l ∷ ls) (x ∷ xs) = held_after log l x ∷ slots_after log ls xs
+
+-- the page that a tally tells of, by its image in the store
+abbrev pub finished : History → Tally → Page → Page
+finished log t image = record { number = t.number; lsn = t.lsn; slots = slots_after log t.lasts image.slots }

@@ -1,16 +1,15 @@
-//! The second round: workers draw parts and redo them.
+//! The second round: workers draw parts and redo them, by LSNs alone.
 
-ghost use Rattle.std.specs.Prelude.{◌≡◌, ℕ, ◌+◌, ◌<◌, ◌≤◌, [], false, length, vec_len, All, IfOk, OnOk, IsOkUnless};
+ghost use Rattle.std.specs.Prelude.{◌≡◌, ◌+◌, ◌<◌, ◌≤◌, [], vec_len, All, IfOk, IsOkUnless};
 ghost use Rattle.page.specs.declared.fault.Fault.TheVariants.{NoResource};
-ghost use Rattle.board.specs.Drawn.{AllEnded};
 ghost use Rattle.redo.specs.Routes.{AreRoutes};
-ghost use Rattle.redo.specs.Parts.{IsReady, IsBack, IsDone, HasPart};
+ghost use Rattle.redo.specs.Parts.{IsReady, IsBack};
 
 use crate::gate::{Gate, enter};
 use crate::input::RedoInput;
 use crate::part::redo_part;
-use crate::progress::Progress;
 use crate::route::Route;
+use crate::tally::Tally;
 use board::{Board, Draw, Seat};
 use page::Fault;
 use std::alloc::Global;
@@ -24,11 +23,11 @@ pub struct Job {
     pub seat: Seat,
 }
 
-/// What a worker brings back: its seat, and the pages of the parts that it drew.
+/// What a worker brings back: its seat, and the tallies of the pages of the parts that it drew.
 #[derive(Drop)]
 pub struct Share {
     pub seat: Seat,
-    pub pages: Vec<Progress>,
+    pub tallies: Vec<Tally>,
 }
 
 /// A job for each worker. The only error is `NoResource`.
@@ -69,15 +68,15 @@ fn work<G: Gate>(
     ensures { IsBack input.now board.now result }
 {
     let Job { home, mut seat } = job;
-    let mut pages = Vec::new(alloc);
+    let mut tallies = Vec::new(alloc);
     while let Draw::Part(part) = board.draw_or_stop(&mut seat, home) {
         let entered = enter(gate, home, part);
-        if redo_part(alloc, input, routes, entered, &mut pages).is_err() {
+        if redo_part(alloc, input, routes, entered, &mut tallies).is_err() {
             board.stop(&mut seat);
-            return Share { seat, pages };
+            return Share { seat, tallies };
         }
     }
-    Share { seat, pages }
+    Share { seat, tallies }
 }
 
 /// Each job in a thread of its own. The only error is `NoResource`.

@@ -1,61 +1,42 @@
-//! After the second round: the pages of all workers, each at its place.
+//! After the second round: the tallies of all workers, each at the number of its page.
 
-ghost use Rattle.std.specs.Prelude.{◌≡◌, ℕ, ◌+◌, ◌<◌, ◌≤◌, ◌^◌, ◌⊎◌, Some, false, length, vec_len, map, sum, All, Contains, IfOk, IsOkUnless};
+ghost use Rattle.std.specs.Prelude.{◌≡◌, ℕ, ◌<◌, ◌⊎◌, false, length, vec_len, map, All, IfOk, IsOkUnless};
 ghost use Rattle.page.specs.declared.fault.Fault.TheVariants.{NoResource};
-ghost use Rattle.page.specs.Store.{AreNumbered};
-ghost use Rattle.std.specs.List.{slice_get};
 ghost use Rattle.board.specs.Drawn.{AllEnded};
-ghost use Rattle.redo.specs.Inputs.{InputContent, input_over};
-ghost use Rattle.redo.specs.Redone.{redone_page, applied_to};
-ghost use Rattle.redo.specs.Parts.{IsBack, IsDone, HasPage, IsPut, ArePut};
+ghost use Rattle.redo.specs.Inputs.{InputContent};
+ghost use Rattle.redo.specs.Parts.{IsBack, IsDone, HasPage, IsTallied, AreTallied, resolved};
 
 use crate::crew::Share;
-use crate::progress::Progress;
-use crate::{Parting, Redone};
-use analysis::Tables;
+use crate::input::RedoInput;
+use crate::tally::Tally;
 use board::{Board, Seat};
-use page::{Fault, Page};
+use page::Fault;
 use std::alloc::Global;
-use wal::Log;
 
-/// Puts redone pages to their places, and beside them how many records were applied to each.
-fn place(done: &[Progress], pages: &mut [Page], counts: &mut [u64])
-    requires count { length counts.old ≡ length pages.old }
-    requires below { All (λ p. p.page.number < length pages.old) done.now }
-    ensures pages_count { length pages.new ≡ length pages.old }
-    ensures counts_count { length counts.new ≡ length counts.old }
-    ensures put { (input : InputContent) → All (IsDone input) done.now → (number : ℕ)
-        → (IsPut input pages.old counts.old number) ⊎ (HasPage done.now number)
-        → IsPut input pages.new counts.new number }
+/// Puts tallies to the numbers of their pages.
+fn place(done: &[Tally], tallies: &mut [Tally])
+    requires below { All (λ t. t.number < length tallies.old) done.now }
+    ensures count { length tallies.new ≡ length tallies.old }
+    ensures put { (input : InputContent)
+        → All (IsDone input) (map (resolved input) done.now) → (number : ℕ)
+        → (IsTallied input tallies.old number) ⊎ (HasPage (map (resolved input) done.now) number)
+        → IsTallied input tallies.new number }
 {
-    for progress in done {
-        let number = progress.page.number as usize;
-        pages[number] = progress.page;
-        counts[number] = progress.applied;
+    for tally in done {
+        tallies[tally.number as usize] = *tally;
     }
 }
 
-/// Takes in what the workers bring back: one seat with all places, and the pages.
-fn gather(
-    log: &Log,
-    tables: &Tables,
-    parting: &Parting,
-    board: &Board,
-    mut shares: Vec<Share>,
-    pages: &mut [Page],
-    counts: &mut [u64],
-) -> Seat
+/// Takes in what the workers bring back: one seat with all places, and the tallies.
+fn gather(input: &RedoInput, board: &Board, mut shares: Vec<Share>, tallies: &mut [Tally]) -> Seat
     requires some { 0 < vec_len shares }
-    requires each { All
-        (IsBack (input_over log.now pages.old tables.now parting.now) board.now) shares.items }
-    requires count { length counts.old ≡ length pages.old }
+    requires each { All (IsBack input.now board.now) shares.items }
+    requires count { length tallies.old ≡ length input.now.images }
     ensures board { result.board ≡ board.now }
     ensures places { result.places ≡ vec_len shares }
-    ensures pages_count { length pages.new ≡ length pages.old }
-    ensures counts_count { length counts.new ≡ length pages.old }
-    ensures put { result.stopped ≡ false → result.told ≡ false
-        → ArePut
-        (input_over log.now pages.old tables.now parting.now) pages.new counts.new result.drawn }
+    ensures count { length tallies.new ≡ length input.now.images }
+    ensures tallied { result.stopped ≡ false → result.told ≡ false
+        → AreTallied input.now tallies.new result.drawn }
     ensures ended { result.stopped ≡ false → result.told ≡ false
         → AllEnded board.now.ranges result.ended }
 {
@@ -63,62 +44,39 @@ fn gather(
         unreachable!()
     };
     let mut seat = last.seat;
-    place(&last.pages, pages, counts);
+    place(&last.tallies, tallies);
     while let Some(share) = shares.pop() {
         seat = board.join(seat, share.seat);
-        place(&share.pages, pages, counts);
+        place(&share.tallies, tallies);
     }
     shares.destroy_empty();
     seat
 }
 
-/// How many records were applied to all pages.
-fn total(counts: &[u64]) -> u64
-    requires { sum counts.now < 2 ^ 64 }
-    ensures { result ≡ sum counts.now }
-{
-    counts.iter().sum()
-}
-
-/// What the workers bring back as an answer, put into the pages that they redid, if no worker was
-/// refused memory. The only error is `NoResource`.
-pub fn assemble(
+/// The tallies of all pages by what the workers bring back, if none was refused memory. The only
+/// error is `NoResource`.
+pub fn tallies_of(
     alloc: Global,
-    log: &Log,
-    tables: &Tables,
-    parting: &Parting,
+    input: &RedoInput,
     board: Board,
-    mut pages: Vec<Page>,
     shares: Vec<Share>,
-) -> Result<Redone, Fault>
-    requires numbered { AreNumbered pages.items }
-    requires dealt { length parting.now.part_of ≡ length pages.items }
+) -> Result<Vec<Tally>, Fault>
+    requires dealt { length input.now.parting.part_of ≡ length input.now.images }
     requires some { 0 < vec_len shares }
     requires seats { board.seats ≡ vec_len shares }
-    requires parts { board.parts ≡ parting.now.parts }
-    requires each { All
-        (IsBack (input_over log.now pages.items tables.now parting.now) board) shares.items }
-    ensures pages { IfOk result (λ redone. redone.pages.items
-        ≡ map (redone_page log.now tables.now) pages.items) }
-    ensures applied { IfOk result (λ redone. redone.applied
-        ≡ sum (map (applied_to log.now tables.now) pages.items)) }
+    requires parts { board.parts ≡ input.now.parting.parts }
+    requires each { All (IsBack input.now board) shares.items }
+    ensures count { IfOk result (λ tallies. length tallies.items ≡ length input.now.images) }
+    ensures tallied { IfOk result (λ tallies. (number : ℕ) → number < length input.now.images
+        → IsTallied input.now tallies.items number) }
     ensures err { IsOkUnless result NoResource }
 {
-    let _parts = parting.parts();
-    let _last = log.last();
-    let mut counts = vec![in alloc; 0; pages.len()]?;
-    let seat = gather(
-        log,
-        tables,
-        parting,
-        &board,
-        shares,
-        &mut pages,
-        &mut counts,
-    );
+    let _parts = input.parting.parts();
+    let store = input.store;
+    let mut tallies = vec![in alloc; Tally::begin(0, 0, None); store.pages.len()]?;
+    let seat = gather(input, &board, shares, &mut tallies);
     if board.close(seat).stopped() {
         return Err(Fault::NoResource);
     }
-    let applied = total(&counts);
-    Ok(Redone { pages, applied })
+    Ok(tallies)
 }

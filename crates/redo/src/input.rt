@@ -1,4 +1,4 @@
-//! What both rounds of redo look at.
+//! What the first two rounds of redo look at.
 
 ghost use Rattle.std.specs.Prelude.{◌≡◌, length};
 ghost use Rattle.redo.specs.Routes.{skipped_in};

@@ -3,6 +3,7 @@
 #![tactic(auto)]
 
 mod crew;
+mod finish;
 mod gate;
 mod gather;
 mod input;
@@ -11,7 +12,6 @@ mod lists;
 mod note;
 mod part;
 mod parting;
-mod progress;
 mod redone;
 mod rounds;
 mod route;

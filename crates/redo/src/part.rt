@@ -1,24 +1,22 @@
-//! The work on one part: its pages with the records that they lack.
+//! The work on one part: for each of its pages which records it lacks, by LSNs alone.
 
-ghost use Rattle.std.specs.Prelude.{◌≡◌, ℕ, ◌+◌, ◌<◌, ◌≤◌, ◌^◌, ◌++◌, All, length, map, take, slice_set, slice_index_or, IfOk, OnOk, Some, IsOkUnless};
+ghost use Rattle.std.specs.Prelude.{◌≡◌, ℕ, ◌+◌, ◌<◌, ◌^◌, All, length, map, slice_set, slice_index_or, IfOk, OnOk, Some, IsOkUnless};
 ghost use Rattle.std.specs.List.{fold};
 ghost use Rattle.page.specs.declared.fault.Fault.TheVariants.{NoResource};
-ghost use Rattle.wal.specs.Records.{start, history, record_at, base_lsn};
-ghost use Rattle.redo.specs.Changes.{counted, step, lsn_in, held_after, slots_after};
+ghost use Rattle.wal.specs.Records.{start, history, base_lsn};
+ghost use Rattle.redo.specs.Changes.{counted, step, lsn_in};
 ghost use Rattle.redo.specs.Routes.{AreRoutes, Stands};
-ghost use Rattle.redo.specs.Parts.{IsUpTo, IsDone, HasPart, numbers_of, progress_in, image_at, resolved};
+ghost use Rattle.redo.specs.Parts.{IsUpTo, IsDone, HasPart, numbers_of, redo_page_in, image_at, resolved};
 ghost use Rattle.redo.specs.declared.tally.Tally.{Tally};
 ghost use Rattle.page.specs.declared.sizes.TheConstants.{SLOTS};
 
 use crate::gate::Entered;
 use crate::input::RedoInput;
 use crate::note::{Note, NoteList};
-use crate::progress::Progress;
 use crate::route::Route;
 use crate::tally::Tally;
-use page::{Fault, Page, SLOTS, Value};
+use page::{Fault, SLOTS, Value};
 use std::alloc::Global;
-use wal::Log;
 
 /// How many slots a page has.
 fn count_slots(slots: &[Option<Value>; SLOTS]) -> usize
@@ -27,29 +25,33 @@ fn count_slots(slots: &[Option<Value>; SLOTS]) -> usize
     slots.len()
 }
 
-/// A page as it is in the store; an empty one where the store has none of this number.
-fn image(input: &RedoInput, number: u32) -> Page
-    ensures image { result ≡ image_at input.now.images number }
-    ensures number { result.number ≡ number }
-    ensures slots { length result.slots ≡ SLOTS }
+/// The PageLSN that a page has in the store; 0 where the store has none of this number.
+fn page_lsn(input: &RedoInput, number: u32) -> u64
+    ensures lsn { result ≡ (image_at input.now.images number).lsn }
+    ensures number { (image_at input.now.images number).number ≡ number }
+    ensures slots { length (image_at input.now.images number).slots ≡ SLOTS }
 {
     let store = input.store;
-    let page = match store.pages.get(number as usize) {
-        Some(page) => *page,
-        None => Page::empty(number),
-    };
-    let _count = count_slots(&page.slots);
-    page
+    match store.pages.get(number as usize) {
+        Some(page) => {
+            let _count = count_slots(&page.slots);
+            page.lsn
+        }
+        None => 0,
+    }
 }
 
 /// A page to which no record was applied.
 fn begin_page(input: &RedoInput, number: u32) -> Tally
     ensures { resolved input.now result
-        ≡ progress_in input.now (start (base_lsn (history input.now.log)))
+        ≡ redo_page_in input.now (start (base_lsn (history input.now.log)))
         (image_at input.now.images number) }
 {
-    let image = image(input, number);
-    Tally::begin(number, image.lsn, input.tables.rec_lsn(number))
+    Tally::begin(
+        number,
+        page_lsn(input, number),
+        input.tables.rec_lsn(number),
+    )
 }
 
 /// The pages of a part, to which no record was applied. The only error is `NoResource`.
@@ -113,36 +115,6 @@ fn replay(input: &RedoInput, notes: &NoteList, tallies: &mut [Tally])
     }
 }
 
-/// What a slot holds by the LSN of its last record, where 0 says that there is none.
-fn held(log: &Log, lsn: u64, image: Option<Value>) -> Option<Value>
-    ensures { result ≡ held_after (history log.now) lsn image }
-{
-    if lsn == 0 { image } else { log.image(lsn) }
-}
-
-/// Puts the values of the last records into their slots.
-fn fill(log: &Log, lasts: &[u64; SLOTS], slots: &mut [Option<Value>; SLOTS])
-    ensures { slots.new ≡ slots_after (history log.now) lasts.now slots.old }
-{
-    for slot in 0..SLOTS {
-        slots[slot] = held(log, lasts[slot], slots[slot]);
-    }
-}
-
-/// The page that a tally tells of.
-fn finish_page(input: &RedoInput, tally: &Tally) -> Progress
-    ensures { result ≡ resolved input.now tally.now }
-{
-    let mut page = image(input, tally.number);
-    fill(input.log, &tally.lasts, &mut page.slots);
-    page.lsn = tally.lsn;
-    Progress {
-        page,
-        rec_lsn: tally.rec_lsn,
-        applied: tally.applied,
-    }
-}
-
 /// The tallies of the pages of a part, by the routes in their order. The only error is
 /// `NoResource`.
 fn count_part(
@@ -167,45 +139,27 @@ fn count_part(
     Ok(tallies)
 }
 
-/// Puts the pages that tallies tell of behind others. The only error is `NoResource`.
-fn finish(input: &RedoInput, tallies: &[Tally], pages: &mut Vec<Progress>) -> Result<(), Fault>
-    requires tallied { All (IsDone input.now) (map (resolved input.now) tallies.now) }
-    requires done { All (IsDone input.now) pages.old.items }
-    ensures done { All (IsDone input.now) pages.new.items }
-    ensures added { OnOk result (pages.new.items
-        ≡ pages.old.items ++ map (resolved input.now) tallies.now) }
-    ensures err { IsOkUnless result NoResource }
-{
-    for tally in tallies {
-        let done = finish_page(input, tally);
-        // Taken apart, since the check has to see the type of a slot where a page is pushed.
-        let slots = done.page.slots;
-        let page = Page { slots, ..done.page };
-        pages.push(Progress { page, ..done })?;
-    }
-    Ok(())
-}
-
-/// Redoes the pages of a part that the gate was told of, by the routes in their order, and puts
-/// them behind those that are done. Of all records in one slot the value of the last alone is
-/// fetched. The only error is `NoResource`.
+/// Redoes, by LSNs, the pages of a part that the gate was told of, by the routes in their order, and
+/// puts their tallies behind others. The only error is `NoResource`.
 pub(crate) fn redo_part(
     alloc: Global,
     input: &RedoInput,
     routes: &[Route],
     entered: Entered,
-    pages: &mut Vec<Progress>,
+    tallies: &mut Vec<Tally>,
 ) -> Result<(), Fault>
     requires part { entered.part < input.now.parting.parts }
     requires routes { AreRoutes input.now routes.now }
-    requires done { All (IsDone input.now) pages.old.items }
-    ensures done { All (IsDone input.now) pages.new.items }
-    ensures kept { OnOk result ((other : ℕ) → HasPart input.now other pages.old.items
-        → HasPart input.now other pages.new.items) }
-    ensures added { OnOk result (HasPart input.now entered.part pages.new.items) }
+    requires done { All (IsDone input.now) (map (resolved input.now) tallies.old.items) }
+    ensures done { All (IsDone input.now) (map (resolved input.now) tallies.new.items) }
+    ensures kept { OnOk result ((other : ℕ)
+        → HasPart input.now other (map (resolved input.now) tallies.old.items)
+        → HasPart input.now other (map (resolved input.now) tallies.new.items)) }
+    ensures added { OnOk result
+        (HasPart input.now entered.part (map (resolved input.now) tallies.new.items)) }
     ensures err { IsOkUnless result NoResource }
 {
-    let tallies = count_part(alloc, input, routes, entered.part())?;
-    finish(input, &tallies, pages)?;
+    let mut counted = count_part(alloc, input, routes, entered.part())?;
+    tallies.append(&mut counted)?;
     Ok(())
 }

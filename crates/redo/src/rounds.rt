@@ -1,17 +1,19 @@
-//! Redo: two rounds of workers.
+//! Redo: three rounds of workers.
 
-ghost use Rattle.std.specs.Prelude.{◌≡◌, ◌≤◌, Ok, Err, length, map, sum, IfOk, OnOk, IfErr, IsTrue, ◌↔◌, ◌<◌, All, vec_len, IsOkUnless};
+ghost use Rattle.std.specs.Prelude.{◌≡◌, ℕ, Ok, Err, length, map, sum, IfOk, OnOk, IfErr, IsTrue, ◌↔◌, ◌<◌, All, vec_len, IsOkUnless};
 ghost use Rattle.page.specs.declared.fault.Fault.TheVariants.{NoResource, BadWorkers};
 ghost use Rattle.redo.specs.Inputs.{input_over};
 ghost use Rattle.redo.specs.Routes.{AreRoutes};
-ghost use Rattle.redo.specs.Parts.{IsBack};
+ghost use Rattle.redo.specs.Parts.{IsBack, IsTallied};
 ghost use Rattle.redo.specs.Redone.{redone_page, applied_to, AreWorkers, AllExist, RedoFault};
 
 use crate::crew::{Share, deal, run};
+use crate::finish::{finish_pages, total};
 use crate::gate::Gate;
-use crate::gather::assemble;
+use crate::gather::tallies_of;
 use crate::input::RedoInput;
 use crate::route::{Route, routes};
+use crate::tally::Tally;
 use crate::{Parting, Redone};
 use analysis::Tables;
 use board::Board;
@@ -54,8 +56,34 @@ fn second_round<G: Gate, R: Threads + Sync>(
     Ok((board, shares))
 }
 
-/// Both rounds of workers, who leave the store as it is: the board, and what they bring back.
-fn shares_of<G: Gate, R: Threads + Sync>(
+/// The first two rounds of workers, who leave the store as it is: the tallies of its pages.
+fn tallied<G: Gate, R: Threads + Sync>(
+    rt: &R,
+    alloc: Global,
+    input: &RedoInput,
+    workers: u32,
+    gate: &G,
+) -> Result<Vec<Tally>, Fault>
+    requires dealt { length input.now.parting.part_of ≡ length input.now.images }
+    requires workers { AreWorkers workers }
+    ensures count { IfOk result (λ tallies. length tallies.items ≡ length input.now.images) }
+    ensures tallied { IfOk result (λ tallies. (number : ℕ) → number < length input.now.images
+        → IsTallied input.now tallies.items number) }
+    ensures exist { OnOk result (AllExist input.now.log (length input.now.images) input.now.redo_lsn) }
+    ensures fault { IfErr result
+        (RedoFault input.now.log (length input.now.images) input.now.redo_lsn workers) }
+{
+    let routes = match routes(rt, alloc, input, workers) {
+        Ok(routes) => routes,
+        Err(fault) => return Err(fault),
+    };
+    let (board, shares) = second_round(rt, alloc, input, &routes, gate)?;
+    let tallies = tallies_of(alloc, input, board, shares)?;
+    Ok(tallies)
+}
+
+/// The first two rounds on a store.
+fn tallies_over<G: Gate, R: Threads + Sync>(
     rt: &R,
     alloc: Global,
     log: &Log,
@@ -64,14 +92,13 @@ fn shares_of<G: Gate, R: Threads + Sync>(
     parting: &Parting,
     workers: u32,
     gate: &G,
-) -> Result<(Board, Vec<Share>), Fault>
+) -> Result<Vec<Tally>, Fault>
     requires pages { length parting.now.part_of ≡ length store.now.pages }
     requires workers { AreWorkers workers }
-    ensures some { IfOk result (λ x. 0 < vec_len x.1) }
-    ensures seats { IfOk result (λ x. x.0.seats ≡ vec_len x.1) }
-    ensures parts { IfOk result (λ x. x.0.parts ≡ parting.now.parts) }
-    ensures each { IfOk result (λ x. All
-        (IsBack (input_over log.now store.now.pages tables.now parting.now) x.0) x.1.items) }
+    ensures count { IfOk result (λ tallies. length tallies.items ≡ length store.now.pages) }
+    ensures tallied { IfOk result (λ tallies. (number : ℕ) → number < length store.now.pages
+        → IsTallied (input_over log.now store.now.pages tables.now parting.now)
+        tallies.items number) }
     ensures exist { OnOk result (AllExist log.now (length store.now.pages) tables.now.redo_lsn) }
     ensures fault { IfErr result (RedoFault log.now
         (length store.now.pages) tables.now.redo_lsn workers) }
@@ -83,12 +110,10 @@ fn shares_of<G: Gate, R: Threads + Sync>(
         tables,
         parting,
     };
-    let routes = match routes(rt, alloc, &input, workers) {
-        Ok(routes) => routes,
-        Err(fault) => return Err(fault),
-    };
-    let shares = second_round(rt, alloc, &input, &routes, gate)?;
-    Ok(shares)
+    match tallied(rt, alloc, &input, workers, gate) {
+        Ok(tallies) => Ok(tallies),
+        Err(fault) => Err(fault),
+    }
 }
 
 /// [`redo`] of a store that is given away: its pages are changed in place and not copied. With an
@@ -119,12 +144,15 @@ pub fn redo_in_place<G: Gate, R: Threads + Sync>(
     if !are_workers(workers) {
         return Err(Fault::BadWorkers);
     }
-    let (board, shares) = match shares_of(rt, alloc, log, &store, tables, parting, workers, gate) {
-        Ok(answer) => answer,
+    let tallies = match tallies_over(rt, alloc, log, &store, tables, parting, workers, gate) {
+        Ok(tallies) => tallies,
         Err(fault) => return Err(fault),
     };
-    let redone = assemble(alloc, log, tables, parting, board, store.pages, shares)?;
-    Ok(redone)
+    let _last = log.last();
+    let applied = total(&tallies);
+    let mut pages = store.pages;
+    finish_pages(rt, log, &tallies, &mut pages, workers as usize);
+    Ok(Redone { pages, applied })
 }
 
 /// Repeats history on the pages of a store (ARIES, section 6.2): to each page that is listed in the
@@ -132,10 +160,11 @@ pub fn redo_in_place<G: Gate, R: Threads + Sync>(
 /// order, where their LSN is at least its RecLSN, at least `redo_lsn`, and above its PageLSN; a
 /// `redo_lsn` of 0 applies none. The pages are given back, the store stays as it is.
 ///
-/// The work is done by `workers` threads at most, in two rounds. In the first each goes through its
-/// stretch of the log and notes, for each part of the parting, the LSNs of the records on that
-/// part's pages. In the second each draws parts from a board, calls the gate once for each, and
-/// applies the records noted for it. Whatever the workers, the parting and the gate, the outcome is
+/// The work is done by `workers` threads at most, in three rounds. In the first each goes through
+/// its stretch of the log and notes, for each part of the parting, the LSNs of the records on that
+/// part's pages. In the second each draws parts from a board, calls the gate once for each, and finds
+/// which of the records noted for it each page lacks. In the third each puts the values of the last
+/// of these into a share of the pages. Whatever the workers, the parting and the gate, the outcome is
 /// the same.
 ///
 /// Refuses by [`Fault::BadWorkers`] where `workers` is outside 1 to 64; then by

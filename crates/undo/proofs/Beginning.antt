@@ -7,15 +7,15 @@ use Rattle.page.specs.declared.fault.Fault.{Fault}
 use Rattle.page.specs.declared.fault.Fault.TheVariants.{NoResource, BrokenChain}
 use Rattle.wal.specs.Records.{TableEntry, tx_in, LogRecord, Update, End, History, last_lsn, record_at, first}
 use Rattle.wal.specs.Hops.{hops}
-use Rattle.wal.specs.Tail.{Action, Finish, tx_for, record_for, written, is_among, is_empty}
+use Rattle.wal.specs.Tail.{Action, Finish, tx_for, record_for, records_for, is_among, is_empty}
 use Rattle.wal.specs.Store.{NamesPages}
 use Rattle.wal.specs.Undo.{entry_for, walk_of, last_in}
 use Rattle.wal.proofs.Actions.{AllFor}
 use Rattle.undo.specs.declared.losers.Loser.{Loser}
 use Rattle.undo.specs.Undone.{EndsBadly, last_met, lowest, UndoFault}
-use Rattle.undo.specs.Rollback.{walk_from, WalkFault, Places, Ends, Stays, Resolved, Waits, IsDone, HasPlace, undos, RollbackInvariant, met_by, last_by, meets_nothing, end_of, AreEnds, Begun}
+use Rattle.undo.specs.Rollback.{walk_from, WalkFault, Waiting, Ends, Stays, Resolved, Waits, IsDone, IsWaiting, undos, RollbackInvariant, met_by, last_by, meets_nothing, end_of, AreEnds, Begun}
 use Rattle.undo.proofs.Lowest.{lowest_most}
-use Rattle.undo.proofs.Rolling.{place_within, last_within}
+use Rattle.undo.proofs.Rolling.{update_within, last_within}
 use Rattle.wal.proofs.Histories.{first_all}
 use Rattle.wal.proofs.Entries.{AreDistinct, Rise, entry_own, none_for}
 use Rattle.wal.proofs.Histories.{record_within}
@@ -25,17 +25,17 @@ after : (ℕ → ℕ) → ℕ → List Action → ℕ → ℕ
 after f n [] = f
 after f n (a ∷ actions) = after (λ t. cond (eqb (tx_for a) t) n (f t)) (suc n) actions
 
-written-append : (f : ℕ → ℕ) (n : ℕ) (xs ys : List Action) → written f n (xs ++ ys) ≡ written f n xs ++ written (after f n xs) (n + length xs) ys
+records_for-append : (f : ℕ → ℕ) (n : ℕ) (xs ys : List Action) → records_for f n (xs ++ ys) ≡ records_for f n xs ++ records_for (after f n xs) (n + length xs) ys
 unfolding after
-written-append f n [] ys = ap (λ m. written f m ys) (omega arith)
-written-append f n (a ∷ xs) ys =
+records_for-append f n [] ys = ap (λ m. records_for f m ys) (omega arith)
+records_for-append f n (a ∷ xs) ys =
     ap (λ rs. record_for f a ∷ rs)
-    (written-append (λ t. cond (eqb (tx_for a) t) n (f t)) (suc n) xs ys
-    ∙ ap (λ m. written (λ t. cond (eqb (tx_for a) t) n (f t)) (suc n) xs ++ written (after (λ t. cond (eqb (tx_for a) t) n (f t)) (suc n) xs) m ys) (omega arith))
+    (records_for-append (λ t. cond (eqb (tx_for a) t) n (f t)) (suc n) xs ys
+    ∙ ap (λ m. records_for (λ t. cond (eqb (tx_for a) t) n (f t)) (suc n) xs ++ records_for (after (λ t. cond (eqb (tx_for a) t) n (f t)) (suc n) xs) m ys) (omega arith))
 
-length-written : (f : ℕ → ℕ) (n : ℕ) (xs : List Action) → length (written f n xs) ≡ length xs
-length-written f n [] = refl
-length-written f n (a ∷ xs) = ap suc (length-written (λ t. cond (eqb (tx_for a) t) n (f t)) (suc n) xs)
+length-records_for : (f : ℕ → ℕ) (n : ℕ) (xs : List Action) → length (records_for f n xs) ≡ length xs
+length-records_for f n [] = refl
+length-records_for f n (a ∷ xs) = ap suc (length-records_for (λ t. cond (eqb (tx_for a) t) n (f t)) (suc n) xs)
 
 after_other : (f : ℕ → ℕ) (n : ℕ) (xs : List Action) (t : ℕ) → AllFor (λ x. eqb x t ≡ false) xs → after f n xs t ≡ f t
 unfolding after
@@ -70,7 +70,7 @@ own_entries (x ∷ es) d = (
 )
 
 ends_are : (f : ℕ → ℕ) (n : ℕ) (p : ℕ → Bool) (q : TableEntry → Bool) (es : List TableEntry) → AreDistinct (map tx_in es) → EachEntry (λ e. (p e.tx ≡ q e) × (f e.tx ≡ e.last)) es
-    → written f n (map Finish (filter p (map tx_in es))) ≡ map end_of (filter q es)
+    → records_for f n (map Finish (filter p (map tx_in es))) ≡ map end_of (filter q es)
 ends_are f n p q [] d h = refl
 ends_are f n p q (x ∷ es) d h =
     elim (cases_Bool (q x)) [
@@ -82,13 +82,13 @@ ends_are f n p q (x ∷ es) d h =
           (EachEntry-both (λ e. eqb x.tx e.tx ≡ false) (λ e. (p e.tx ≡ q e) × (f e.tx ≡ e.last)) es (others x.tx es d.0) h.1) in
           let a : filter p (map tx_in (x ∷ es)) ≡ x.tx ∷ filter p (map tx_in es) = ap (λ b. cond b (x.tx ∷ filter p (map tx_in es)) (filter p (map tx_in es))) (h.0.0 ∙ e) in
           let b : filter q (x ∷ es) ≡ x ∷ filter q es = rw e in
-          ap (λ ts. written f n (map Finish ts)) a
+          ap (λ ts. records_for f n (map Finish ts)) a
           ∙ ap₂ (λ m rs. End (record { tx = x.tx; prev = m }) ∷ rs) h.0.1 (ends_are g (suc n) p q es d.1 rest)
           ∙ sym (ap (map end_of) b))
       | inr e ↦
           (let a : filter p (map tx_in (x ∷ es)) ≡ filter p (map tx_in es) = ap (λ b. cond b (x.tx ∷ filter p (map tx_in es)) (filter p (map tx_in es))) (h.0.0 ∙ e) in
           let b : filter q (x ∷ es) ≡ filter q es = rw e in
-          ap (λ ts. written f n (map Finish ts)) a ∙ ends_are f n p q es d.1 h.1 ∙ sym (ap (map end_of) b))
+          ap (λ ts. records_for f n (map Finish ts)) a ∙ ends_are f n p q es d.1 h.1 ∙ sym (ap (map end_of) b))
     ]
 
 idle_others : (p : ℕ → Bool) (t : ℕ) → p t ≡ false → (ts : List ℕ) → AllFor (λ x. eqb x t ≡ false) (map Finish (filter p ts))
@@ -99,19 +99,19 @@ idle_others p t h (x ∷ ts) =
     (λ _. idle_others p t h ts)
 
 -- ALL LOSERS HAVE BEEN RESOLVED
-pub begun_rolls : (log : History) (losers : List TableEntry) (at : Places) (appended : List LogRecord) → AreDistinct (map tx_in losers) → Begun log losers losers at appended
+pub begun_rolls : (log : History) (losers : List TableEntry) (at : Waiting) (appended : List LogRecord) → AreDistinct (map tx_in losers) → Begun log losers losers at appended
     → (count : ℕ) → RollbackInvariant log losers count at appended
 begun_rolls log losers at appended distinct b count = record {
   left = met_by log losers;
   last = after (last_by losers) n0 idles;
   whole =
-      ap₂ (λ rs m. rs ++ written (after (last_by losers) n0 idles) m (undos (met_by log losers) log)) (b.ends ∙ sym ends) len
-      ∙ sym (written-append (last_by losers) n0 idles (undos (met_by log losers) log));
+      ap₂ (λ rs m. rs ++ records_for (after (last_by losers) n0 idles) m (undos (met_by log losers) log)) (b.ends ∙ sym ends) len
+      ∙ sym (records_for-append (last_by losers) n0 idles (undos (met_by log losers) log));
   waits = λ n l e.
       (let w = b.waits n l e in
       let some : is_empty (met_by log losers l.tx) ≡ false = ap is_empty w.left_is in
       record {
-        at_place = w.at_place;
+        is_update = w.is_update;
         left_is = w.left_is;
         last_is = after_other (last_by losers) n0 idles l.tx (idle_others (λ t. is_empty (met_by log losers t)) l.tx some (map tx_in losers)) ∙ w.last_is;
         ends = w.ends;
@@ -127,16 +127,16 @@ begun_rolls log losers at appended distinct b count = record {
     idles : List Action
     idles = map Finish (filter (λ t. is_empty (met_by log losers t)) (map tx_in losers))
 
-    ends : written (last_by losers) n0 idles ≡ map end_of (filter (meets_nothing log) losers)
+    ends : records_for (last_by losers) n0 idles ≡ map end_of (filter (meets_nothing log) losers)
     ends =
         ends_are (last_by losers) n0 (λ t. is_empty (met_by log losers t)) (meets_nothing log) losers distinct
         (EachEntry-more (λ e. entry_for e.tx losers ≡ Some e) (λ e. (is_empty (met_by log losers e.tx) ≡ meets_nothing log e) × (last_by losers e.tx ≡ e.last)) losers
         (λ e k. (ap (λ o. is_empty (walk_of log o).met) k, ap last_in k)) (own_entries losers distinct))
 
     len : suc (last_lsn log + length appended) ≡ n0 + length idles
-    len = (let e : length appended ≡ length idles = ap length (b.ends ∙ sym ends) ∙ length-written (last_by losers) n0 idles in ap (λ k. suc (last_lsn log + k)) e ∙ omega arith)
+    len = (let e : length appended ≡ length idles = ap length (b.ends ∙ sym ends) ∙ length-records_for (last_by losers) n0 idles in ap (λ k. suc (last_lsn log + k)) e ∙ omega arith)
 
-    by_entry : (t : ℕ) (o : Option TableEntry) → entry_for t losers ≡ o → IsDone log losers (met_by log losers) t ⊎ HasPlace at t
+    by_entry : (t : ℕ) (o : Option TableEntry) → entry_for t losers ≡ o → IsDone log losers (met_by log losers) t ⊎ IsWaiting at t
     by_entry t None e = inl (record { nothing = ap (λ x. (walk_of log x).met) e; ends = ap (λ x. (walk_of log x).ends) e })
     by_entry t (Some x) e = b.each t (entry_own t x losers e).1
 
@@ -169,7 +169,7 @@ among_more t (x ∷ es) e h =
           ]
     ]
 
-module _ (log : History) (losers done : List TableEntry) (at new : Places) (appended after_ : List LogRecord) (end : ℕ) (at_end : end ≡ last_lsn log + 1) (e : TableEntry) (own : entry_for e.tx losers ≡ Some e)
+module _ (log : History) (losers done : List TableEntry) (at new : Waiting) (appended after_ : List LogRecord) (end : ℕ) (at_end : end ≡ last_lsn log + 1) (e : TableEntry) (own : entry_for e.tx losers ≡ Some e)
     (b : Begun log losers done at appended) where
   abbrev loser : Loser
   loser = record { tx = e.tx; last = e.last }
@@ -193,9 +193,9 @@ module _ (log : History) (losers done : List TableEntry) (at new : Places) (appe
             elim (b.each t (earlier t x lt some)) [
               | inl d ↦ absurd (bad d.ends)
               | inr p ↦
-                  (let w = b.waits p.place p.loser p.there in
+                  (let w = b.waits p.update_lsn p.loser p.there in
                   subst (λ k. last_met log losers k ≤ last_lsn log) p.own
-                  (omega (arith, last_within log losers (met_by log losers) (last_by losers) p.place p.loser w, place_within log p.loser.tx p.place w.at_place)))
+                  (omega (arith, last_within log losers (met_by log losers) (last_by losers) p.update_lsn p.loser w, update_within log p.loser.tx p.update_lsn w.is_update)))
             ]
 
     pub broken_start : (count : ℕ) (f : Fault) → WalkFault (walk_from log e.tx end e.undo_next) f → UndoFault log losers count f
@@ -226,13 +226,13 @@ module _ (log : History) (losers done : List TableEntry) (at new : Places) (appe
         (let i : meets_nothing log e ≡ true = ap is_empty own_walk ∙ ap (λ w. is_empty w.met) (sym walk_is ∙ s.nothing) in
         s.appended ∙ ap (λ rs. rs ++ end_of e ∷ []) b.ends
         ∙ sym (ends_more log done e ∙ ap (λ c. map end_of (filter (meets_nothing log) done) ++ cond c (end_of e ∷ []) []) i));
-    waits = λ n l there. b.waits n l (sym (s.places n) ∙ there);
+    waits = λ n l there. b.waits n l (sym (s.waiting n) ∙ there);
     each = λ t h.
         elim (among_more t done e h) [
           | inl i ↦
               elim (b.each t i) [
                 | inl d ↦ inl d
-                | inr p ↦ inr (record { place = p.place; loser = p.loser; there = s.places p.place ∙ p.there; own = p.own })
+                | inr p ↦ inr (record { update_lsn = p.update_lsn; loser = p.loser; there = s.waiting p.update_lsn ∙ p.there; own = p.own })
               ]
           | inr i ↦
               inl (record {
@@ -249,11 +249,11 @@ module _ (log : History) (losers done : List TableEntry) (at new : Places) (appe
         s.appended ∙ b.ends ∙ sym (append-nil (map end_of (filter (meets_nothing log) done)))
         ∙ sym (ends_more log done e ∙ ap (λ c. map end_of (filter (meets_nothing log) done) ++ cond c (end_of e ∷ []) []) i));
     waits = λ n l there.
-        elim (cases_eq n s.place) [
+        elim (cases_eq n s.update_lsn) [
           | inl i ↦
               (let f : Some loser ≡ Some l = sym here ∙ ap new (sym i) ∙ there in
               let g : ◌≡◌ {A = Loser} loser l = cc in
-              subst (λ k. Waits log losers (met_by log losers) (last_by losers) k l) (sym i) (subst (λ x. Waits log losers (met_by log losers) (last_by losers) s.place x) g waits_here))
+              subst (λ k. Waits log losers (met_by log losers) (last_by losers) k l) (sym i) (subst (λ x. Waits log losers (met_by log losers) (last_by losers) s.update_lsn x) g waits_here))
           | inr d ↦ b.waits n l (sym (elsewhere n d) ∙ there)
         ];
     each = λ t h.
@@ -262,29 +262,29 @@ module _ (log : History) (losers done : List TableEntry) (at new : Places) (appe
               elim (b.each t i) [
                 | inl d ↦ inl d
                 | inr p ↦
-                    elim (cases_eq p.place s.place) [
+                    elim (cases_eq p.update_lsn s.update_lsn) [
                       | inl j ↦
-                          (let w = b.waits p.place p.loser p.there in
-                          let f : record_at log p.place ≡ Some (Update w.at_place.update) = w.at_place.found in
-                          let g : record_at log p.place ≡ Some (Update s.meets.at_place.update) = ap (record_at log) j ∙ s.meets.at_place.found in
-                          let k : w.at_place.update ≡ s.meets.at_place.update = cc in
-                          inr (record { place = s.place; loser = loser; there = here; own = sym s.meets.at_place.own ∙ ap (λ x. x.tx) (sym k) ∙ w.at_place.own ∙ p.own }))
-                      | inr j ↦ inr (record { place = p.place; loser = p.loser; there = elsewhere p.place j ∙ p.there; own = p.own })
+                          (let w = b.waits p.update_lsn p.loser p.there in
+                          let f : record_at log p.update_lsn ≡ Some (Update w.is_update.update) = w.is_update.found in
+                          let g : record_at log p.update_lsn ≡ Some (Update s.meets.is_update.update) = ap (record_at log) j ∙ s.meets.is_update.found in
+                          let k : w.is_update.update ≡ s.meets.is_update.update = cc in
+                          inr (record { update_lsn = s.update_lsn; loser = loser; there = here; own = sym s.meets.is_update.own ∙ ap (λ x. x.tx) (sym k) ∙ w.is_update.own ∙ p.own }))
+                      | inr j ↦ inr (record { update_lsn = p.update_lsn; loser = p.loser; there = elsewhere p.update_lsn j ∙ p.there; own = p.own })
                     ]
               ]
-          | inr i ↦ inr (record { place = s.place; loser = loser; there = here; own = sym i })
+          | inr i ↦ inr (record { update_lsn = s.update_lsn; loser = loser; there = here; own = sym i })
         ];
   }
     where
-      here : new s.place ≡ Some loser
-      here = s.places s.place ∙ ap (λ c. cond c (Some loser) (at s.place)) (eq-eqb s.place s.place refl)
+      here : new s.update_lsn ≡ Some loser
+      here = s.waiting s.update_lsn ∙ ap (λ c. cond c (Some loser) (at s.update_lsn)) (eq-eqb s.update_lsn s.update_lsn refl)
 
-      elsewhere : (n : ℕ) → n ≢ s.place → new n ≡ at n
-      elsewhere n d = s.places n ∙ ap (λ c. cond c (Some loser) (at n)) (ne_eqb s.place n (λ i. d (sym i)))
+      elsewhere : (n : ℕ) → n ≢ s.update_lsn → new n ≡ at n
+      elsewhere n d = s.waiting n ∙ ap (λ c. cond c (Some loser) (at n)) (ne_eqb s.update_lsn n (λ i. d (sym i)))
 
-      waits_here : Waits log losers (met_by log losers) (last_by losers) s.place loser
+      waits_here : Waits log losers (met_by log losers) (last_by losers) s.update_lsn loser
       waits_here = record {
-        at_place = s.meets.at_place;
+        is_update = s.meets.is_update;
         left_is = ap (λ w. w.met) (sym walk_is ∙ s.meets.goes_on);
         last_is = ap last_in own;
         ends = ap (λ w. w.ends) (sym s.meets.goes_on ∙ walk_is);

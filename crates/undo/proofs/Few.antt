@@ -8,9 +8,9 @@ use Rattle.std.proofs.lemmas.List.{length-append}
 use Rattle.wal.specs.Records.{TableEntry, tx_in, LogRecord, End, History, last_lsn}
 use Rattle.wal.proofs.Entries.{Rise}
 use Rattle.undo.specs.declared.losers.Loser.{Loser}
-use Rattle.undo.specs.Rollback.{Places, IsUpdateAt, Resolved, meets_nothing, end_of}
+use Rattle.undo.specs.Rollback.{Waiting, IsUpdateAt, Resolved, meets_nothing, end_of}
 use Rattle.undo.proofs.Placed.{height, height_least}
-use Rattle.undo.proofs.Rolling.{place_within}
+use Rattle.undo.proofs.Rolling.{update_within}
 
 -- a list and one item more
 pub one_more : {X : Type 0} (old new : List X) (x : X) → new ≡ old ++ x ∷ [] → length new ≡ length old + 1
@@ -38,7 +38,7 @@ pub numbers_few : (es : List TableEntry) → Rise 0 es → All (λ n. n < 2 ^ 32
 numbers_few es rises below = omega (arith, risen_few 0 es rises below (omega arith))
 
 -- a loser that is resolved again ends, or waits
-pub resolved_few : (log : History) (l : Loser) (from lsn : ℕ) (old new : Places) (before after : List LogRecord) → Resolved log l from lsn old new before after → length after ≤ length before + 1
+pub resolved_few : (log : History) (l : Loser) (from lsn : ℕ) (old new : Waiting) (before after : List LogRecord) → Resolved log l from lsn old new before after → length after ≤ length before + 1
 resolved_few log l from lsn old new before after r =
     elim r [
       | inl e ↦ omega (arith, one_more before after (End (record { tx = l.tx; prev = l.last })) e.appended)
@@ -47,8 +47,8 @@ resolved_few log l from lsn old new before after r =
 
 -- losers that wait stand at most so high
 pub height_within : (log : History) (entries : List (ℕ × Loser)) → ((n : ℕ) (l : Loser) → lookup (λ k. is_eq (nat_cmp n k)) entries ≡ Some l → IsUpdateAt log l.tx n) → height entries ≤ last_lsn log + 1
-height_within log entries updates = height_least (last_lsn log + 1) entries (λ n l e. omega (arith, place_within log l.tx n (updates n l e)))
+height_within log entries updates = height_least (last_lsn log + 1) entries (λ n l e. omega (arith, update_within log l.tx n (updates n l e)))
 
--- a turn appends two records at most, and all that wait behind it stand below its place
-pub turn_few : (base place high low before after most : ℕ) → base < place → place < high → low ≤ place → after ≤ before + 2 → before + 2 * (high - 1 - base) ≤ most → after + 2 * (low - 1 - base) ≤ most
-turn_few base place high low before after most some above below two few = omega (arith, some, above, below, two, few)
+-- a turn appends two records at most, and all that wait behind it undo an earlier update next
+pub turn_few : (base update_lsn high low before after most : ℕ) → base < update_lsn → update_lsn < high → low ≤ update_lsn → after ≤ before + 2 → before + 2 * (high - 1 - base) ≤ most → after + 2 * (low - 1 - base) ≤ most
+turn_few base update_lsn high low before after most some above below two few = omega (arith, some, above, below, two, few)

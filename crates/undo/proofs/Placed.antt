@@ -1,4 +1,4 @@
--- How high the places stand: a measure of what is left to undo.
+-- How far behind the waiting losers' updates stand: a measure of what is left to undo.
 use Rattle.std.proofs.Common.{ℕ, suc, ◌≡◌, ◌≢◌, ◌<◌, ◌≤◌, Bool, true, false, ltb, cond, eqb, eq-eqb, ne_eqb, eqb-true, List, [], ◌∷◌, length, max, Some, None, IsSome, refl, sym, ap, ◌∙◌, inl, inr, arith}
 use Rattle.std.proofs.lemmas.Bool.{cases_Bool, false≢true, ltb-false}
 use Rattle.std.specs.Ordering.{is_eq, is_lt, nat_cmp}
@@ -8,9 +8,9 @@ use Rattle.std.specs.Map.{lookup}
 use Rattle.wal.proofs.Entries.{is_eq-nat_cmp}
 use Rattle.wal.specs.Records.{History}
 use Rattle.undo.specs.declared.losers.Loser.{Loser}
-use Rattle.undo.specs.Rollback.{Places, Taken, AreBelow, AreUpdates}
+use Rattle.undo.specs.Rollback.{Waiting, Taken, AreBelow, AreUpdates}
 
--- one above the largest place, 0 where there is none
+-- one above the largest LSN at which a loser waits, 0 where nobody waits
 abbrev pub height : List (ℕ × Loser) → ℕ
 height [] = 0
 height (e ∷ entries) = max (suc e.0) (height entries)
@@ -49,19 +49,19 @@ not_above x y h =
       | inr l ↦ omega (arith, ltb-false x y l)
     ]
 
-pub last_taken : (place : ℕ) (l : Loser) (old new : Places) → old place ≡ Some l → ((q : ℕ) → IsSome (old q) → is_lt (nat_cmp place q) ≡ false) → ((q : ℕ) → new q ≡ cond (is_eq (nat_cmp place q)) None (old q))
-    → Taken place l old new
-last_taken place l old new there greatest updates = record {
+pub last_taken : (update_lsn : ℕ) (l : Loser) (old new : Waiting) → old update_lsn ≡ Some l → ((q : ℕ) → IsSome (old q) → is_lt (nat_cmp update_lsn q) ≡ false) → ((q : ℕ) → new q ≡ cond (is_eq (nat_cmp update_lsn q)) None (old q))
+    → Taken update_lsn l old new
+last_taken update_lsn l old new there greatest updates = record {
   there = there;
-  newest = λ n m e. not_above place n (greatest n (ap is_some e));
-  gone = updates place ∙ ap (λ b. cond b None (old place)) (is_eq-nat_cmp place place ∙ eq-eqb place place refl);
-  others = λ n d. updates n ∙ ap (λ b. cond b None (old n)) (is_eq-nat_cmp place n ∙ ne_eqb place n (λ i. d (sym i)));
+  newest = λ n m e. not_above update_lsn n (greatest n (ap is_some e));
+  gone = updates update_lsn ∙ ap (λ b. cond b None (old update_lsn)) (is_eq-nat_cmp update_lsn update_lsn ∙ eq-eqb update_lsn update_lsn refl);
+  others = λ n d. updates n ∙ ap (λ b. cond b None (old n)) (is_eq-nat_cmp update_lsn n ∙ ne_eqb update_lsn n (λ i. d (sym i)));
 }
 
 -- those that are left stand below it
-pub left_below : (place : ℕ) (l : Loser) (old new : Places) → Taken place l old new → AreBelow place new
-left_below place l old new taken n m e =
-    let apart : n ≢ place = λ i. (let f : None ≡ Some m = sym taken.gone ∙ ap new (sym i) ∙ e in cc) in
+pub left_below : (update_lsn : ℕ) (l : Loser) (old new : Waiting) → Taken update_lsn l old new → AreBelow update_lsn new
+left_below update_lsn l old new taken n m e =
+    let apart : n ≢ update_lsn = λ i. (let f : None ≡ Some m = sym taken.gone ∙ ap new (sym i) ∙ e in cc) in
     omega (arith, apart, taken.newest n m (sym (taken.others n apart) ∙ e))
 
 -- where no entry is left nobody waits
@@ -70,7 +70,7 @@ nobody_waits [] none n = refl
 nobody_waits (x ∷ entries) none n = absurd (none (omega arith))
 
 -- and those that are left wait at updates
-pub taken_updates : (log : History) (place : ℕ) (l : Loser) (old new : Places) → Taken place l old new → AreUpdates log old → AreUpdates log new
-taken_updates log place l old new taken updates n m e =
-    let apart : n ≢ place = λ i. (let f : None ≡ Some m = sym taken.gone ∙ ap new (sym i) ∙ e in cc) in
+pub taken_updates : (log : History) (update_lsn : ℕ) (l : Loser) (old new : Waiting) → Taken update_lsn l old new → AreUpdates log old → AreUpdates log new
+taken_updates log update_lsn l old new taken updates n m e =
+    let apart : n ≢ update_lsn = λ i. (let f : None ≡ Some m = sym taken.gone ∙ ap new (sym i) ∙ e in cc) in
     updates n m (sym (taken.others n apart) ∙ e)

@@ -128,8 +128,8 @@ module _ (log : History) (t from lsn : ℕ) (some : lsn ≡ 0 → ⊥) (below : 
       ∙ (let e : eqb u.update.tx t ≡ true = eq-eqb u.update.tx t u.own in ap (λ b. cond b (meet lsn (hops t (first (lsn - 1) log) u.update.prev)) (record { met = []; ends = lsn })) e)
 
   pub first_met : hop_of t (record_at log lsn) ≡ Some hop.Update → Meets log t from lsn lsn
-  first_met h = record { at_place = update_there h; below = below; goes_on = walk_meets (update_there h) }
+  first_met h = record { is_update = update_there h; below = below; goes_on = walk_meets (update_there h) }
 
 -- an update met further on is the first met from the start
-pub met_further : (log : History) (t from lsn above next place : ℕ) → walk_from log t above next ≡ walk_from log t from lsn → above ≤ from → Meets log t above next place → Meets log t from lsn place
-met_further log t from lsn above next place same le m = record { at_place = m.at_place; below = omega (arith, m.below); goes_on = sym same ∙ m.goes_on }
+pub met_further : (log : History) (t from lsn above next update_lsn : ℕ) → walk_from log t above next ≡ walk_from log t from lsn → above ≤ from → Meets log t above next update_lsn → Meets log t from lsn update_lsn
+met_further log t from lsn above next update_lsn same le m = record { is_update = m.is_update; below = omega (arith, m.below); goes_on = sym same ∙ m.goes_on }

@@ -1,4 +1,4 @@
-//! The losers of a rollback, each at the place of the update that it undoes next.
+//! The losers of a rollback, each at the update that it undoes next.
 
 ghost use Rattle.std.specs.Prelude.{◌≡◌, ◌≤◌, ◌<◌, ◌+◌, ◌^◌, ℕ, length, map, OnOk, IfOk, IfErr, IfSome, IfNone};
 ghost use Rattle.std.specs.Ordering.{nat_cmp};
@@ -33,21 +33,21 @@ pub fn resolve(
     loser: Loser,
     from: u64,
     lsn: u64,
-    places: &mut BTreeMap<u64, Loser>,
+    waiting: &mut BTreeMap<u64, Loser>,
     appended: &mut Vec<Record>,
 ) -> Result<(), Fault>
     requires positive { 0 < from }
     requires within { from ≤ last_lsn (history log.now) + 1 }
     ensures ok { OnOk result (Resolved (history log.now) loser from lsn
-        (get nat_cmp places.old) (get nat_cmp places.new) (map content appended.old.items)
+        (get nat_cmp waiting.old) (get nat_cmp waiting.new) (map content appended.old.items)
         (map content appended.new.items)) }
     ensures writable { OnOk result (0 < loser.tx → AreWritable appended.old.items
         → AreWritable appended.new.items) }
     ensures fault { IfErr result (WalkFault (walk_from (history log.now) loser.tx from lsn)) }
 {
     match next_update(log, loser.tx, from, lsn)? {
-        Some(place) => {
-            places.insert(place, loser)?;
+        Some(update_lsn) => {
+            waiting.insert(update_lsn, loser)?;
         }
         None => appended.push(Record::End {
             tx: loser.tx,
@@ -57,14 +57,14 @@ pub fn resolve(
     Ok(())
 }
 
-/// Takes the loser that waits at the largest place; None where nobody waits.
+/// Takes the loser that waits at the newest update; None where nobody waits.
 #[tactic(auto, using(crate::proofs::Placed::last_taken, crate::proofs::Placed::nobody_waits))]
-pub fn take_newest(places: &mut BTreeMap<u64, Loser>) -> Option<(u64, Loser)>
-    ensures taken { IfSome result (λ x. Taken x.0 x.1 (get nat_cmp places.old)
-        (get nat_cmp places.new)) }
-    ensures nobody { IfNone result ((n : ℕ) → get nat_cmp places.old n ≡ None) }
+pub fn take_newest(waiting: &mut BTreeMap<u64, Loser>) -> Option<(u64, Loser)>
+    ensures taken { IfSome result (λ x. Taken x.0 x.1 (get nat_cmp waiting.old)
+        (get nat_cmp waiting.new)) }
+    ensures nobody { IfNone result ((n : ℕ) → get nat_cmp waiting.old n ≡ None) }
 {
-    places.pop_last()
+    waiting.pop_last()
 }
 
 /// Whether the transaction of an entry is rolled back: not where it is in doubt.
@@ -78,8 +78,8 @@ fn is_lost(entry: Entry) -> bool
     }
 }
 
-/// Resolves the losers, in rising number, each from its UndoNxtLSN. Gives them by their places, and
-/// the ends of those that have nothing left.
+/// Resolves the losers, in rising number, each from its UndoNxtLSN. Gives those that wait, by the
+/// LSNs of the updates that they undo next, and the ends of those that have nothing left.
 pub fn begin(
     alloc: Global,
     log: &Log,
@@ -95,7 +95,7 @@ pub fn begin(
     ensures fault { IfErr result (λ e. (count : ℕ)
         → UndoFault (history log.now) (losers_in tables.now) count e) }
 {
-    let mut places = BTreeMap::new(alloc);
+    let mut waiting = BTreeMap::new(alloc);
     let mut appended = Vec::new(alloc);
     let end = log.next_lsn();
     for (tx, entry) in &tables.transactions {
@@ -104,8 +104,15 @@ pub fn begin(
                 tx: *tx,
                 last: entry.last,
             };
-            resolve(log, loser, end, entry.undo_next, &mut places, &mut appended)?;
+            resolve(
+                log,
+                loser,
+                end,
+                entry.undo_next,
+                &mut waiting,
+                &mut appended,
+            )?;
         }
     }
-    Ok((places, appended))
+    Ok((waiting, appended))
 }

@@ -15,7 +15,7 @@ ghost use Rattle.wal.specs.Store.{NamesPages, Lawful};
 ghost use Rattle.analysis.specs.Lawful.{AreTrue};
 ghost use Rattle.analysis.specs.Tables.{losers_in};
 ghost use Rattle.undo.specs.Undone.{NoBadHop, undone_page, MetExist, UndoFault, HasNoTransaction0, AreWritable};
-ghost use Rattle.undo.specs.Rollback.{Places, IsUpdate, IsUpdateAt, Compensated, CompensationFault, Taken, AreBelow, AreUpdates, RollbackInvariant};
+ghost use Rattle.undo.specs.Rollback.{Waiting, IsUpdate, IsUpdateAt, Compensated, CompensationFault, Taken, AreBelow, AreUpdates, RollbackInvariant};
 
 use crate::losers::{Loser, begin, resolve, take_newest};
 use analysis::Tables;
@@ -24,21 +24,21 @@ use std::alloc::Global;
 use std::collections::BTreeMap;
 use wal::{Log, Record, RecordView, value_of};
 
-/// Undoes the update at a place: appends its CLR, which has this LSN, and puts the before image
+/// Undoes the update at an LSN: appends its CLR, which has this LSN, and puts the before image
 /// back into the page. `last` is the LSN of its transaction's last record. Gives the update's
 /// PrevLSN.
 fn compensate(
     log: &Log,
-    place: u64,
+    update_lsn: u64,
     last: u64,
     lsn: u64,
     appended: &mut Vec<Record>,
     pages: &mut [Page],
 ) -> Result<u64, Fault>
-    requires update { IsUpdate (record_at (history log.now) place) }
+    requires update { IsUpdate (record_at (history log.now) update_lsn) }
     requires lsn { lsn ≡ last_lsn (history log.now) + vec_len appended.old + 1 }
     ensures ok { IfOk result (λ prev. (u : UpdateRecord)
-        → record_at (history log.now) place ≡ Some (Update u)
+        → record_at (history log.now) update_lsn ≡ Some (Update u)
         → Compensated u last (length pages.old) prev (map content appended.old.items)
         (map content appended.new.items)) }
     ensures pages { OnOk result ((given : List Page) → AreNumbered given
@@ -46,9 +46,10 @@ fn compensate(
         → pages.new ≡ map (undone_page (history log.now) (map content appended.new.items)) given) }
     ensures writable { OnOk result (AreWritable appended.old.items
         → AreWritable appended.new.items) }
-    ensures counted { (u : UpdateRecord) → record_at (history log.now) place ≡ Some (Update u)
+    ensures counted { (u : UpdateRecord) → record_at (history log.now) update_lsn ≡ Some (Update u)
         → 0 < u.tx }
-    ensures fault { IfErr result (CompensationFault (history log.now) place (length pages.old)) }
+    ensures fault { IfErr result
+        (CompensationFault (history log.now) update_lsn (length pages.old)) }
 {
     let Some(
         RecordView::Update {
@@ -59,12 +60,12 @@ fn compensate(
             before,
             ..
         },
-    ) = log.get(place)
+    ) = log.get(update_lsn)
     else {
         unreachable!()
     };
     if page as usize >= pages.len() {
-        return Err(Fault::NoSuchPage(place));
+        return Err(Fault::NoSuchPage(update_lsn));
     }
     appended.push(Record::Compensation {
         tx,
@@ -78,27 +79,27 @@ fn compensate(
     Ok(prev)
 }
 
-/// Undoes the update at the newest place, at which this loser waited, and resolves the loser again.
+/// Undoes the newest update, at which this loser waited, and resolves the loser again.
 fn undo_at(
     log: &Log,
-    place: u64,
+    update_lsn: u64,
     loser: Loser,
-    places: &mut BTreeMap<u64, Loser>,
+    waiting: &mut BTreeMap<u64, Loser>,
     appended: &mut Vec<Record>,
     pages: &mut [Page],
 ) -> Result<(), Fault>
-    requires update { IsUpdateAt (history log.now) loser.tx place }
+    requires update { IsUpdateAt (history log.now) loser.tx update_lsn }
     requires room { vec_len appended.old ≤ 2 * length log.now.records + 2 ^ 32 }
-    ensures rolls { OnOk result ((losers : List TableEntry) (at : Places)
-        → Taken place loser at (get nat_cmp places.old)
+    ensures rolls { OnOk result ((losers : List TableEntry) (at : Waiting)
+        → Taken update_lsn loser at (get nat_cmp waiting.old)
         → RollbackInvariant (history log.now) losers (length pages.old) at
         (map content appended.old.items)
-        → RollbackInvariant (history log.now) losers (length pages.old) (get nat_cmp places.new)
+        → RollbackInvariant (history log.now) losers (length pages.old) (get nat_cmp waiting.new)
         (map content appended.new.items)) }
-    ensures updates { OnOk result (AreUpdates (history log.now) (get nat_cmp places.old)
-        → AreUpdates (history log.now) (get nat_cmp places.new)) }
-    ensures falls { OnOk result (AreBelow place (get nat_cmp places.old)
-        → AreBelow place (get nat_cmp places.new)) }
+    ensures updates { OnOk result (AreUpdates (history log.now) (get nat_cmp waiting.old)
+        → AreUpdates (history log.now) (get nat_cmp waiting.new)) }
+    ensures falls { OnOk result (AreBelow update_lsn (get nat_cmp waiting.old)
+        → AreBelow update_lsn (get nat_cmp waiting.new)) }
     ensures few { OnOk result (length appended.new.items ≤ length appended.old.items + 2) }
     ensures exist { OnOk result (All (NamesPages (length pages.old))
         (map content appended.old.items)
@@ -108,40 +109,40 @@ fn undo_at(
         → pages.new ≡ map (undone_page (history log.now) (map content appended.new.items)) given) }
     ensures writable { OnOk result (AreWritable appended.old.items
         → AreWritable appended.new.items) }
-    ensures fault { IfErr result (λ e. (losers : List TableEntry) (at : Places)
-        → Taken place loser at (get nat_cmp places.old)
+    ensures fault { IfErr result (λ e. (losers : List TableEntry) (at : Waiting)
+        → Taken update_lsn loser at (get nat_cmp waiting.old)
         → RollbackInvariant (history log.now) losers (length pages.old) at
         (map content appended.old.items)
         → UndoFault (history log.now) losers (length pages.old) e) }
 {
     let lsn = log.next_lsn() + appended.len() as u64;
-    let prev = compensate(log, place, loser.last, lsn, appended, pages)?;
+    let prev = compensate(log, update_lsn, loser.last, lsn, appended, pages)?;
     let rest = Loser {
         tx: loser.tx,
         last: lsn,
     };
-    resolve(log, rest, place, prev, places, appended)
+    resolve(log, rest, update_lsn, prev, waiting, appended)
 }
 
 /// Undoes all that is left, the newest update first.
 fn undo_all(
     log: &Log,
-    places: &mut BTreeMap<u64, Loser>,
+    waiting: &mut BTreeMap<u64, Loser>,
     appended: &mut Vec<Record>,
     pages: &mut [Page],
 ) -> Result<(), Fault>
-    requires updates { AreUpdates (history log.now) (get nat_cmp places.old) }
+    requires updates { AreUpdates (history log.now) (get nat_cmp waiting.old) }
     requires room { vec_len appended.old ≤ 2 ^ 32 }
     ensures appended { OnOk result ((losers : List TableEntry)
-        → RollbackInvariant (history log.now) losers (length pages.old) (get nat_cmp places.old)
+        → RollbackInvariant (history log.now) losers (length pages.old) (get nat_cmp waiting.old)
         (map content appended.old.items)
         → map content appended.new.items ≡ undone_by (history log.now) losers) }
     ensures ends { OnOk result ((losers : List TableEntry)
-        → RollbackInvariant (history log.now) losers (length pages.old) (get nat_cmp places.old)
+        → RollbackInvariant (history log.now) losers (length pages.old) (get nat_cmp waiting.old)
         (map content appended.old.items)
         → NoBadHop (history log.now) losers) }
     ensures met { OnOk result ((losers : List TableEntry)
-        → RollbackInvariant (history log.now) losers (length pages.old) (get nat_cmp places.old)
+        → RollbackInvariant (history log.now) losers (length pages.old) (get nat_cmp waiting.old)
         (map content appended.old.items)
         → MetExist (history log.now) losers (length pages.old) 0) }
     ensures few { OnOk result
@@ -155,12 +156,12 @@ fn undo_all(
     ensures writable { OnOk result (AreWritable appended.old.items
         → AreWritable appended.new.items) }
     ensures fault { IfErr result (λ e. (losers : List TableEntry)
-        → RollbackInvariant (history log.now) losers (length pages.old) (get nat_cmp places.old)
+        → RollbackInvariant (history log.now) losers (length pages.old) (get nat_cmp waiting.old)
         (map content appended.old.items)
         → UndoFault (history log.now) losers (length pages.old) e) }
 {
-    while let Some((place, loser)) = take_newest(places) {
-        undo_at(log, place, loser, places, appended, pages)?;
+    while let Some((update_lsn, loser)) = take_newest(waiting) {
+        undo_at(log, update_lsn, loser, waiting, appended, pages)?;
     }
     Ok(())
 }
@@ -219,7 +220,7 @@ pub fn undo(
         → AreTrue log.now store tables.now → length pages.items ≡ length store.pages
         → MatchResult result (λ x. map content x.1.items ≡ tail_of log.now) (λ e. e ≡ NoResource) }
 {
-    let (mut places, mut appended) = begin(alloc, log, tables)?;
-    undo_all(log, &mut places, &mut appended, &mut pages)?;
+    let (mut waiting, mut appended) = begin(alloc, log, tables)?;
+    undo_all(log, &mut waiting, &mut appended, &mut pages)?;
     Ok((pages, appended))
 }

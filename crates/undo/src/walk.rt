@@ -42,7 +42,7 @@ pub fn next_update(log: &Log, tx: u32, from: u64, lsn: u64) -> Result<Option<u64
     requires within { from ≤ last_lsn (history log.now) + 1 }
     ensures found { IfOk result (λ next. MatchOption next
         (MeetsNothing (history log.now) tx from lsn)
-        (λ place. Meets (history log.now) tx from lsn place)) }
+        (λ update_lsn. Meets (history log.now) tx from lsn update_lsn)) }
     ensures fault { IfErr result (WalkFault (walk_from (history log.now) tx from lsn)) }
 {
     let mut above = from;

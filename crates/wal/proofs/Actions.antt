@@ -4,7 +4,7 @@ use Rattle.std.specs.Prelude.{filter, flat_map, ⊤}
 use Rattle.std.proofs.lemmas.Bool.{cases_Bool, cases_eq, false≢true, or_cases, or_left, or_right, cond_both, both_ways, false_from_ne_true}
 use Rattle.wal.specs.Records.{UpdateRecord, Update, History, start, ◌▸◌, last_lsn}
 use Rattle.wal.specs.Meaning.{is_of, has, is_loser}
-use Rattle.wal.specs.Tail.{Action, Finish, Undo, tx_for, record_for, written, numbers_from, above_all, transactions_of, losers_of, left_of, updates_where, is_stacked, is_lowest, is_among, is_empty, undo_of, rollback, left_to_do}
+use Rattle.wal.specs.Tail.{Action, Finish, Undo, tx_for, record_for, records_for, numbers_from, above_all, transactions_of, losers_of, left_of, updates_where, is_stacked, is_lowest, is_among, is_empty, undo_of, rollback, left_to_do}
 use Rattle.wal.proofs.Filters.{Each, tx_below}
 use Rattle.wal.proofs.Steps.{left_loser}
 
@@ -65,11 +65,11 @@ AllFor P [] = ⊤
 AllFor P (a ∷ actions) = P (tx_for a) × AllFor P actions
 
 -- what is written hangs on the last records of the transactions concerned
-pub written_same : (f g : ℕ → ℕ) (lsn : ℕ) (actions : List Action) → AllFor (λ t. f t ≡ g t) actions → written f lsn actions ≡ written g lsn actions
-written_same f g lsn [] h = refl
-written_same f g lsn (a ∷ actions) h =
+pub records_for_same : (f g : ℕ → ℕ) (lsn : ℕ) (actions : List Action) → AllFor (λ t. f t ≡ g t) actions → records_for f lsn actions ≡ records_for g lsn actions
+records_for_same f g lsn [] h = refl
+records_for_same f g lsn (a ∷ actions) h =
     ap₂ (λ r rs. r ∷ rs) (first a h.0)
-    (written_same (λ t. cond (eqb (tx_for a) t) lsn (f t)) (λ t. cond (eqb (tx_for a) t) lsn (g t)) (suc lsn) actions (later actions h.1))
+    (records_for_same (λ t. cond (eqb (tx_for a) t) lsn (f t)) (λ t. cond (eqb (tx_for a) t) lsn (g t)) (suc lsn) actions (later actions h.1))
   where
     first : (b : Action) → f (tx_for b) ≡ g (tx_for b) → record_for f b ≡ record_for g b
     first (Finish t) e = ap (λ n. record_for (λ _. n) (Finish t)) e

@@ -7,7 +7,7 @@ use Rattle.std.proofs.lemmas.List.Elements.{All-from_recursion}
 use Rattle.wal.specs.Records.{LogRecord, Update, Compensation, End, CheckpointBegin, CheckpointEnd, History, start, ◌▸◌, ◌▸▸◌, LogContent, history, ◌⧺◌, last_lsn, EachRecord}
 use Rattle.wal.specs.Meaning.{BasePages, is_of, has, is_loser, last_of}
 use Rattle.wal.specs.Laws.{Obeys, IsLawful}
-use Rattle.wal.specs.Tail.{Action, Finish, Undo, tx_for, record_for, written, tx_of, left_to_do, tail, tail_of}
+use Rattle.wal.specs.Tail.{Action, Finish, Undo, tx_for, record_for, records_for, tx_of, left_to_do, tail, tail_of}
 use Rattle.wal.specs.Spelling.{Fits}
 use Rattle.wal.specs.Store.{NamesPages}
 use Rattle.wal.proofs.Histories.{record_last, record_more, each_found}
@@ -24,9 +24,9 @@ IsRollback P (End s) = P s.tx
 IsRollback P _ = ⊥
 
 -- what is written is CLRs and ends of the transactions of the actions
-pub written_rollback : (P : ℕ → Type 0) (last : ℕ → ℕ) (lsn : ℕ) (actions : List Action) → AllFor P actions → AllByRecursion (IsRollback P) (written last lsn actions)
-written_rollback P last lsn [] h = tt
-written_rollback P last lsn (a ∷ actions) h = (by_action a h.0, written_rollback P (λ t. cond (eqb (tx_for a) t) lsn (last t)) (suc lsn) actions h.1)
+pub records_for_rollback : (P : ℕ → Type 0) (last : ℕ → ℕ) (lsn : ℕ) (actions : List Action) → AllFor P actions → AllByRecursion (IsRollback P) (records_for last lsn actions)
+records_for_rollback P last lsn [] h = tt
+records_for_rollback P last lsn (a ∷ actions) h = (by_action a h.0, records_for_rollback P (λ t. cond (eqb (tx_for a) t) lsn (last t)) (suc lsn) actions h.1)
   where
     by_action : (b : Action) → P (tx_for b) → IsRollback P (record_for last b)
     by_action (Finish t) p = p
@@ -34,7 +34,7 @@ written_rollback P last lsn (a ∷ actions) h = (by_action a h.0, written_rollba
 
 -- the tail has CLRs and ends of losers alone
 pub tail_rollback : (P : ℕ → Type 0) (log : History) → ((t : ℕ) → is_loser t log ≡ true → P t) → AllByRecursion (IsRollback P) (tail log)
-tail_rollback P log h = written_rollback P (λ t. last_of t log) (suc (last_lsn log)) (left_to_do log) (left_is_of_losers P log h)
+tail_rollback P log h = records_for_rollback P (λ t. last_of t log) (suc (last_lsn log)) (left_to_do log) (left_is_of_losers P log h)
 
 -- what is so of each is so of each in front
 each_taken : (P : LogRecord → Type 0) (k : ℕ) (xs : List LogRecord) → AllByRecursion P xs → AllByRecursion P (take k xs)

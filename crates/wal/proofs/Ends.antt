@@ -4,7 +4,7 @@ use Rattle.std.specs.Prelude.{filter}
 use Rattle.std.proofs.lemmas.Bool.{cases_Bool, cases_eq}
 use Rattle.wal.specs.Records.{UpdateRecord, History, ◌▸◌, last_lsn, history}
 use Rattle.wal.specs.Meaning.{no_base, is_loser, last_of}
-use Rattle.wal.specs.Tail.{Action, Finish, Undo, tx_for, written, is_end, numbers_from, above_all, losers_of, left_to_do, tail}
+use Rattle.wal.specs.Tail.{Action, Finish, Undo, tx_for, records_for, is_end, numbers_from, above_all, losers_of, left_to_do, tail}
 use Rattle.wal.specs.Theorems.{LosersEnd}
 use Rattle.wal.proofs.Filters.{numbers_same, tx_below, above_all_same}
 use Rattle.wal.proofs.Steps.{next, next_record, loser_has, loser_after_end, gone_after_end, losers_after_clr}
@@ -51,7 +51,7 @@ losers_with log u l =
 -- THE ENDS, by recursion on what is left to do
 ends_by : (actions : List Action) (log : History) → left_to_do log ≡ actions → length (filter is_end (tail log)) ≡ length (losers_of log)
 ends_by [] log e =
-    let t : tail log ≡ [] = ap (written (λ x. last_of x log) (suc (last_lsn log))) e in
+    let t : tail log ≡ [] = ap (records_for (λ x. last_of x log) (suc (last_lsn log))) e in
     ap (λ rs. length (filter is_end rs)) t ∙ sym (ap length (none_pass (λ x. is_loser x log) (numbers_from 0 (above_all log)) (no_loser log t)))
 ends_by (a ∷ actions) log e =
     let own : is_loser (tx_for a) log ≡ true = (subst (λ xs. AllFor (λ t. is_loser t log ≡ true) xs) e (left_is_of_losers (λ t. is_loser t log ≡ true) log (λ t h. h))).0 in

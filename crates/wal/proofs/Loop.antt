@@ -1,6 +1,6 @@
 -- Reading frames one after the other, as a loop does.
-use Rattle.std.proofs.Common.{◌≡◌, ℕ, suc, ◌-◌, ◌+◌, ◌≤◌, ◌<◌, ◌⊎◌, inl, inr, Bool, true, false, ◌||◌, cond, eqb, ltb, List, [], ◌∷◌, ◌++◌, length, drop, Option, Some, None, Result, Ok, Err, refl, sym, ap, ap₂, ◌∙◌, append_assoc, arith, eqb-true, map, ◌*◌, length-append}
-use Rattle.std.specs.Prelude.{All, is_some, option_map, unwrap_or}
+use Rattle.std.proofs.Common.{◌≡◌, ℕ, suc, ◌-◌, ◌+◌, ◌≤◌, ◌<◌, ◌⊎◌, inl, inr, Bool, true, false, ◌||◌, cond, eqb, ltb, List, [], ◌∷◌, ◌++◌, length, drop, Option, Some, None, Result, Ok, Err, refl, sym, ap, ap₂, subst, ◌∙◌, append_assoc, arith, eqb-true, map, length-append}
+use Rattle.std.specs.Prelude.{is_some, option_map, unwrap_or}
 use Rattle.std.proofs.lemmas.Bool.{ltb-false, or_parts}
 use Rattle.std.proofs.lemmas.List.{append-nil, map_push, length-drop, drop-drop}
 use Rattle.std.proofs.lemmas.List.Elements.{All-push}
@@ -10,7 +10,8 @@ use Rattle.wal.specs.declared.header.LogStart.{LogStart}
 use Rattle.wal.specs.declared.header.LogStart.TheVariants.{Version1, Version2}
 use Rattle.wal.specs.Records.{LogRecord, CheckpointBegin, lsn_before}
 use Rattle.wal.specs.Headers.{header_bytes}
-use Rattle.wal.specs.Frames.{length_of, frame_at, judged, next_at, frames_at, frames_behind, ◌>>=◌, IsPlace, ArePlaces, record_of, Fails}
+use Rattle.wal.specs.Stretches.{with_front, ReadSoFar}
+use Rattle.wal.specs.Frames.{length_of, frame_at, frame_if_right, next_at, frames_at, frames_behind, ◌>>=◌, IsPlace, ArePlaces, record_of, Fails}
 
 pub chosen : {A : Type 0} (b : Bool) (x y z : A) → cond b x y ≡ z → ((b ≡ true) × (x ≡ z)) ⊎ ((b ≡ false) × (y ≡ z))
 chosen true x y z e = inl (refl, e)
@@ -29,7 +30,7 @@ pub record Found (lsn : ℕ) (bytes : List ℕ) (r : LogRecord) (size : ℕ) : T
   pub high : length_of bytes ≤ 70681
   pub spelled : frame_at bytes ≡ Some (r, lsn)
 
-judged_is : (lsn offset size : ℕ) (f : Option (LogRecord × ℕ)) (x : LogRecord × ℕ) → judged lsn offset size f ≡ Ok (Some x) → (f ≡ Some (x.0, lsn)) × (x.1 ≡ size)
+judged_is : (lsn offset size : ℕ) (f : Option (LogRecord × ℕ)) (x : LogRecord × ℕ) → frame_if_right lsn offset size f ≡ Ok (Some x) → (f ≡ Some (x.0, lsn)) × (x.1 ≡ size)
 judged_is lsn offset size None x e = absurd cc
 judged_is lsn offset size (Some y) x e =
     elim (chosen (eqb y.1 lsn) (Ok (Some (y.0, size))) (Err (BadLsn offset)) (Ok (Some x)) e) [
@@ -63,10 +64,6 @@ next_is lsn offset bytes r size e =
                 ]
           ]
     ]
-
--- what was read before, and what is still read
-abbrev pub with_front : List LogRecord → Result (List LogRecord × ℕ) Fault → Result (List LogRecord × ℕ) Fault
-with_front front read = read >>= λ x. Ok (front ++ x.0, x.1)
 
 regroup : (front : List LogRecord) (r : LogRecord) (read : Result (List LogRecord × ℕ) Fault) → with_front front (read >>= λ x. Ok (r ∷ x.0, x.1)) ≡ with_front (front ++ r ∷ []) read
 regroup front r (Ok x) = ap (λ (rs : List LogRecord). Ok (rs, x.1)) (simp append_assoc)
@@ -105,14 +102,7 @@ is_done front limit i lsn offset bytes total le so_far =
     let one : with_front front (frames_at (limit - i) lsn offset bytes) ≡ Ok (front, length bytes) = rw k (ap (λ (rs : List LogRecord). Ok (rs, length bytes)) (append-nil front)) in
     sym so_far ∙ one
 
--- ---- the loop's invariant
-
--- this number of frames of a log that begins so were read, and this offset stands behind them
-pub record SoFar (begins : LogStart) (bytes : List ℕ) (offsets : List ℕ) (i offset : ℕ) : Type 0 where
-  pub room : offset ≤ length bytes
-  pub long : 8 + 13 * length offsets ≤ offset
-  pub places : All (IsPlace bytes) offsets
-  pub read : with_front (map (record_of bytes) offsets) (frames_at (length bytes - i) (lsn_before begins + i + 1) offset (drop offset bytes)) ≡ frames_behind begins bytes
+-- ---- what was read so far
 
 nothing_in_front : (read : Result (List LogRecord × ℕ) Fault) → with_front [] read ≡ read
 nothing_in_front (Ok x) = refl
@@ -122,7 +112,7 @@ header_room : (begins : LogStart) → 8 ≤ header_bytes begins
 header_room Version1 = omega arith
 header_room (Version2 base) = omega arith
 
-pub at_header : (begins : LogStart) (bytes : List ℕ) → header_bytes begins ≤ length bytes → SoFar begins bytes [] 0 (header_bytes begins)
+pub at_header : (begins : LogStart) (bytes : List ℕ) → header_bytes begins ≤ length bytes → ReadSoFar begins bytes [] (header_bytes begins)
 at_header begins bytes h = record {
   room = h;
   long = omega (arith, header_room begins);
@@ -130,30 +120,40 @@ at_header begins bytes h = record {
   read = ap₂ (λ k lsn. with_front [] (frames_at k lsn (header_bytes begins) (drop (header_bytes begins) bytes))) (omega arith) (omega arith) ∙ nothing_in_front (frames_behind begins bytes);
 }
 
-pub placed : (begins : LogStart) (bytes offsets : List ℕ) (i offset : ℕ) → SoFar begins bytes offsets i offset → ArePlaces bytes offsets
-placed begins bytes offsets i offset so_far = record { each = so_far.places; room = omega (arith, so_far.long, so_far.room) }
+pub placed : (begins : LogStart) (bytes offsets : List ℕ) (offset : ℕ) → ReadSoFar begins bytes offsets offset → ArePlaces bytes offsets
+placed begins bytes offsets offset so_far = record { each = so_far.places; room = omega (arith, so_far.long, so_far.room) }
 
 record_read : (bytes : List ℕ) (offset lsn : ℕ) (r : LogRecord) → frame_at (drop offset bytes) ≡ Some (r, lsn) → record_of bytes offset ≡ r
 unfolding record_of
 record_read bytes offset lsn r e = ap (λ o. unwrap_or (option_map (λ x. x.0) o) CheckpointBegin) e
 
-pub more : (begins : LogStart) (bytes offsets : List ℕ) (i offset : ℕ) (r : LogRecord) (size : ℕ) → i < length bytes → SoFar begins bytes offsets i offset
-    → next_at (lsn_before begins + i + 1) offset (drop offset bytes) ≡ Ok (Some (r, size)) → SoFar begins bytes (offsets ++ offset ∷ []) (i + 1) (offset + size)
-more begins bytes offsets i offset r size lt so_far e =
-    let lsn = lsn_before begins + i + 1 in
+-- what is still read, by how many were
+pub still : (begins : LogStart) (bytes offsets : List ℕ) (offset number : ℕ) → ReadSoFar begins bytes offsets offset → length offsets ≡ number
+    → with_front (map (record_of bytes) offsets) (frames_at (length bytes - number) (lsn_before begins + number + 1) offset (drop offset bytes)) ≡ frames_behind begins bytes
+still begins bytes offsets offset number so_far count = subst (λ n. with_front (map (record_of bytes) offsets) (frames_at (length bytes - n) (lsn_before begins + n + 1) offset (drop offset bytes)) ≡ frames_behind begins bytes) count so_far.read
+
+-- there are fewer records than bytes
+pub few : (begins : LogStart) (bytes offsets : List ℕ) (offset : ℕ) → ReadSoFar begins bytes offsets offset → length offsets < length bytes
+few begins bytes offsets offset so_far = omega (arith, so_far.long, so_far.room)
+
+pub more : (begins : LogStart) (bytes offsets : List ℕ) (offset : ℕ) (r : LogRecord) (size : ℕ) → ReadSoFar begins bytes offsets offset
+    → next_at (lsn_before begins + length offsets + 1) offset (drop offset bytes) ≡ Ok (Some (r, size)) → ReadSoFar begins bytes (offsets ++ offset ∷ []) (offset + size)
+more begins bytes offsets offset r size so_far e =
+    let lsn = lsn_before begins + length offsets + 1 in
     let found = next_is lsn offset (drop offset bytes) r size e in
     let rest : length (drop offset bytes) ≡ length bytes - offset = length-drop offset bytes in
+    let count : length (offsets ++ offset ∷ []) ≡ length offsets + 1 = length-append offsets (offset ∷ []) in
     let front : map (record_of bytes) (offsets ++ offset ∷ []) ≡ map (record_of bytes) offsets ++ r ∷ [] = map_push (record_of bytes) offsets offset ∙ ap (λ (x : LogRecord). map (record_of bytes) offsets ++ x ∷ []) (record_read bytes offset lsn r found.spelled) in
     let behind : drop size (drop offset bytes) ≡ drop (offset + size) bytes = drop-drop size offset bytes in
     record {
       room = omega (arith, so_far.room, found.size_is, found.whole, rest);
-      long = omega (arith, so_far.long, found.size_is, found.low, length-append offsets (offset ∷ []));
+      long = omega (arith, so_far.long, found.size_is, found.low, count);
       places = All-push (IsPlace bytes) offsets offset so_far.places (record {
         room = omega (arith, so_far.room, found.whole, rest);
         whole = omega (arith, so_far.room, found.whole, rest);
         spelled = ap is_some found.spelled;
       });
-      read = ap₂ (λ rs b. with_front rs (frames_at (length bytes - (i + 1)) (lsn_before begins + (i + 1) + 1) (offset + size) b)) front (sym behind)
-          ∙ ap (λ n. with_front (map (record_of bytes) offsets ++ r ∷ []) (frames_at (length bytes - (i + 1)) n (offset + size) (drop size (drop offset bytes)))) (omega arith)
-          ∙ goes_on (map (record_of bytes) offsets) (length bytes) i lsn offset (drop offset bytes) r size (frames_behind begins bytes) lt e so_far.read;
+      read = ap₂ (λ rs b. with_front rs (frames_at (length bytes - length (offsets ++ offset ∷ [])) (lsn_before begins + length (offsets ++ offset ∷ []) + 1) (offset + size) b)) front (sym behind)
+          ∙ ap₂ (λ k n. with_front (map (record_of bytes) offsets ++ r ∷ []) (frames_at k n (offset + size) (drop size (drop offset bytes)))) (omega (arith, count)) (omega (arith, count))
+          ∙ goes_on (map (record_of bytes) offsets) (length bytes) (length offsets) lsn offset (drop offset bytes) r size (frames_behind begins bytes) (few begins bytes offsets offset so_far) e so_far.read;
     }

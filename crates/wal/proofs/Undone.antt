@@ -6,13 +6,13 @@ use Rattle.std.proofs.lemmas.Bool.{cases_Bool, cases_eq}
 use Rattle.wal.specs.Records.{TableEntry, tx_in, History, last_lsn, history}
 use Rattle.wal.specs.Meaning.{BasePages, is_of, has, is_unfinished, in_doubt, is_loser, aborted, prepared, state_by, pending, last_of}
 use Rattle.wal.specs.Laws.{IsLawful}
-use Rattle.wal.specs.Tail.{written, numbers_from, above_all, transactions_of, in_doubt_of, losers_of, left_of, is_among, rollback, left_to_do, tail}
+use Rattle.wal.specs.Tail.{records_for, numbers_from, above_all, transactions_of, in_doubt_of, losers_of, left_of, is_among, rollback, left_to_do, tail}
 use Rattle.wal.specs.Checkpoint.{true_entry, true_table}
 use Rattle.wal.specs.Undo.{entry_for, walk_of, last_in, is_prepared, is_lost, lost_in, undone_by}
 use Rattle.wal.specs.Theorems.{UndoIsTail, TableTellsDoubt}
 use Rattle.wal.proofs.Holders.{unfinished_has}
 use Rattle.wal.proofs.Steps.{filter-filter, loser_has}
-use Rattle.wal.proofs.Actions.{among_is, written_same, left_is_of_losers}
+use Rattle.wal.proofs.Actions.{among_is, records_for_same, left_is_of_losers}
 use Rattle.wal.proofs.Walks.{walk_meets_pending}
 
 -- THE TRUE TABLE
@@ -102,9 +102,9 @@ module _ (base : BasePages) (log : History) (h : IsLawful base log) where
 
   undone_is_tail : undone_by log lost ≡ tail log
   undone_is_tail =
-      ap₂ (λ ts s. written (λ t. last_in (entry_for t lost)) (suc (last_lsn log)) (rollback ts s log))
+      ap₂ (λ ts s. records_for (λ t. last_in (entry_for t lost)) (suc (last_lsn log)) (rollback ts s log))
       (ap (map tx_in) (lost_is log) ∙ txs_are log (losers_of log)) (fun_ext (λ t. ap (λ w. w.met) (walk_is t)))
-      ∙ written_same (λ t. last_in (entry_for t lost)) (λ t. last_of t log) (suc (last_lsn log)) (left_to_do log)
+      ∙ records_for_same (λ t. last_in (entry_for t lost)) (λ t. last_of t log) (suc (last_lsn log)) (left_to_do log)
       (left_is_of_losers (λ t. last_in (entry_for t lost) ≡ last_of t log) log last_is)
 
 pub undo_is_tail : UndoIsTail

@@ -14,7 +14,7 @@ use Rattle.wal.specs.declared.header.LogStart.{LogStart}
 use Rattle.wal.specs.Headers.{header_of, header_bytes, start_at}
 use Rattle.wal.specs.Spelling.{image, state, entry, dirty_page, table, body, frame, Fits}
 use Rattle.wal.specs.Reading.{body_at}
-use Rattle.wal.specs.Frames.{length_of, body_of, frame_at, judged, next_at, frames_at, followed, ◌>>=◌, frames_behind, as_log, log_from, log_at, Gives, Fails}
+use Rattle.wal.specs.Frames.{length_of, body_of, frame_at, frame_if_right, next_at, frames_at, frame_then, ◌>>=◌, frames_behind, as_log, log_from, log_at, Gives, Fails}
 use Rattle.wal.specs.Reads.{spellings, IsTorn, Reads, OneReading, IsWhole, HasFault, FaultBehind, HasFaultBehind, Cause}
 use Rattle.wal.proofs.Loop.{chosen, Found, next_is}
 use Rattle.page.proofs.BigEndian.{AreBytes, AreBytes-take, AreBytes-drop}
@@ -116,8 +116,8 @@ frame_next r lsn offset rest fits lt =
     let b : ltb (length_of bytes) 9 ≡ false = le-ltb _ _ (omega (arith, n, size.0)) in
     let c : ltb 70681 (length_of bytes) ≡ false = le-ltb _ _ (omega (arith, n, size.1)) in
     let d : ltb (length bytes) (4 + length_of bytes) ≡ false = le-ltb _ _ (omega (arith, n, all)) in
-    let e : judged lsn offset (4 + length_of bytes) (frame_at bytes) ≡ Ok (Some (r, 4 + length (body r lsn))) =
-    ap₂ (λ k f. judged lsn offset (4 + k) f) n (frame_spells r lsn rest fits lt) ∙ rw (eq-eqb lsn lsn refl) refl in
+    let e : frame_if_right lsn offset (4 + length_of bytes) (frame_at bytes) ≡ Ok (Some (r, 4 + length (body r lsn))) =
+    ap₂ (λ k f. frame_if_right lsn offset (4 + k) f) n (frame_spells r lsn rest fits lt) ∙ rw (eq-eqb lsn lsn refl) refl in
     rw (a, b, c, d) e
 
 -- ---- the end
@@ -140,7 +140,7 @@ none_torn lsn offset bytes e =
           ]
     ]
   where
-    never_none : (lsn offset size : ℕ) (f : Option (LogRecord × ℕ)) → judged lsn offset size f ≡ Ok None → ⊥
+    never_none : (lsn offset size : ℕ) (f : Option (LogRecord × ℕ)) → frame_if_right lsn offset size f ≡ Ok None → ⊥
     never_none lsn offset size None e = cc
     never_none lsn offset size (Some x) e = elim (chosen (eqb x.1 lsn) _ _ _ e) [ inl p ↦ absurd cc | inr p ↦ absurd cc ]
 
@@ -161,7 +161,7 @@ pub record Spelled (lsn : ℕ) (bytes : List ℕ) (records : List LogRecord) (to
 
 by_next : (limit lsn offset : ℕ) (bytes : List ℕ) (x : List LogRecord × ℕ) → AreBytes bytes → length bytes ≤ suc limit
     → ((size : ℕ) (z : List LogRecord × ℕ) → length (drop size bytes) ≤ limit → frames_at limit (lsn + 1) (offset + size) (drop size bytes) ≡ Ok z → Spelled (lsn + 1) (drop size bytes) z.0 z.1)
-    → (o : Option (LogRecord × ℕ)) → next_at lsn offset bytes ≡ Ok o → followed bytes (λ size. frames_at limit (lsn + 1) (offset + size) (drop size bytes)) o ≡ Ok x → Spelled lsn bytes x.0 x.1
+    → (o : Option (LogRecord × ℕ)) → next_at lsn offset bytes ≡ Ok o → frame_then bytes (λ size. frames_at limit (lsn + 1) (offset + size) (drop size bytes)) o ≡ Ok x → Spelled lsn bytes x.0 x.1
 by_next limit lsn offset bytes x fits short others_take None n e =
     subst (λ (y : List LogRecord × ℕ). Spelled lsn bytes y.0 y.1) (ok_is ([], length bytes) x e) (record { tail = bytes; text = refl; torn_tail = none_torn lsn offset bytes n; torn_count = refl; each = tt; few = omega arith })
 by_next limit lsn offset bytes x fits short others_take (Some y) n e =
@@ -179,7 +179,7 @@ unfolding frames_at
 frames_take zero lsn offset bytes x fits short e =
     subst (λ (y : List LogRecord × ℕ). Spelled lsn bytes y.0 y.1) (ok_is ([], length bytes) x e) (record { tail = bytes; text = refl; torn_tail = inl (omega (arith, short)); torn_count = refl; each = tt; few = omega arith })
 frames_take (suc limit) lsn offset bytes x fits short e =
-    let a = bind_ok (next_at lsn offset bytes) (followed bytes (λ size. frames_at limit (lsn + 1) (offset + size) (drop size bytes))) x e in
+    let a = bind_ok (next_at lsn offset bytes) (frame_then bytes (λ size. frames_at limit (lsn + 1) (offset + size) (drop size bytes))) x e in
     by_next limit lsn offset bytes x fits short (λ size z le f. frames_take limit (lsn + 1) (offset + size) (drop size bytes) z (AreBytes-drop size bytes fits) le f) a.0 a.1 a.2
 
 pub frames_again : (limit lsn offset : ℕ) (records : List LogRecord) (tail : List ℕ) → length records ≤ limit → AllByRecursion Fits records → lsn + length records ≤ 2 ^ 64 → IsTorn tail
@@ -194,7 +194,7 @@ frames_again (suc limit) lsn offset (r ∷ rs) tail le each few torn =
     let again : frames_at limit (lsn + 1) (offset + size) (drop size (frame r lsn ++ rest)) ≡ Ok (rs, length tail) =
     ap (frames_at limit (lsn + 1) (offset + size)) (frame_rest r lsn rest) ∙ frames_again limit (lsn + 1) (offset + size) rs tail (omega (arith, le)) each.1 (omega (arith, few)) torn in
     ap (frames_at (suc limit) lsn offset) (append_assoc (frame r lsn) (spellings (lsn + 1) rs) tail)
-    ∙ ap (λ n. n >>= followed (frame r lsn ++ rest) (λ k. frames_at limit (lsn + 1) (offset + k) (drop k (frame r lsn ++ rest)))) (frame_next r lsn offset rest each.0 (omega (arith, few)))
+    ∙ ap (λ n. n >>= frame_then (frame r lsn ++ rest) (λ k. frames_at limit (lsn + 1) (offset + k) (drop k (frame r lsn ++ rest)))) (frame_next r lsn offset rest each.0 (omega (arith, few)))
     ∙ ap (λ n. n >>= λ z. Ok (r ∷ z.0, z.1)) again
 
 -- ---- the log
@@ -268,7 +268,7 @@ bind_err {B = B} (Err d) f e h = inl (ap (λ (k : Fault). Err k) (err_is {B = B}
 none_some : (x : LogRecord × ℕ) → ◌≡◌ {A = Option (LogRecord × ℕ)} None (Some x) → ⊥
 none_some x p = cc
 
-judged_fault : (lsn offset : ℕ) (bytes : List ℕ) (e : Fault) → AreBytes bytes → IsWhole bytes → (f : Option (LogRecord × ℕ)) → frame_at bytes ≡ f → judged lsn offset (4 + length_of bytes) f ≡ Err e → HasFault e lsn offset bytes
+judged_fault : (lsn offset : ℕ) (bytes : List ℕ) (e : Fault) → AreBytes bytes → IsWhole bytes → (f : Option (LogRecord × ℕ)) → frame_at bytes ≡ f → frame_if_right lsn offset (4 + length_of bytes) f ≡ Err e → HasFault e lsn offset bytes
 judged_fault lsn offset bytes e fits whole None is h =
     subst (λ d. HasFault d lsn offset bytes) (err_is {B = Option (LogRecord × ℕ)} (BadRecord offset) e h)
     (refl, whole, λ r n fit lt same. none_some (r, n) (sym is ∙ ap body_at same ∙ body_again r n fit lt))
@@ -302,7 +302,7 @@ next_fault lsn offset bytes e fits h =
 
 fault_next : (limit lsn offset : ℕ) (bytes : List ℕ) (e : Fault) → AreBytes bytes → lsn + length bytes < 2 ^ 64
     → ((size : ℕ) → lsn + 1 + length (drop size bytes) < 2 ^ 64 → frames_at limit (lsn + 1) (offset + size) (drop size bytes) ≡ Err e → FaultBehind (lsn + 1) (offset + size) (drop size bytes) e)
-    → (o : Option (LogRecord × ℕ)) → next_at lsn offset bytes ≡ Ok o → followed bytes (λ size. frames_at limit (lsn + 1) (offset + size) (drop size bytes)) o ≡ Err e → FaultBehind lsn offset bytes e
+    → (o : Option (LogRecord × ℕ)) → next_at lsn offset bytes ≡ Ok o → frame_then bytes (λ size. frames_at limit (lsn + 1) (offset + size) (drop size bytes)) o ≡ Err e → FaultBehind lsn offset bytes e
 fault_next limit lsn offset bytes e fits room others None n h = absurd cc
 fault_next limit lsn offset bytes e fits room others (Some y) n h =
     let found = next_is lsn offset bytes y.0 y.1 n in
@@ -328,7 +328,7 @@ frames_fault : (limit lsn offset : ℕ) (bytes : List ℕ) (e : Fault) → AreBy
 unfolding frames_at
 frames_fault zero lsn offset bytes e fits room h = absurd cc
 frames_fault (suc limit) lsn offset bytes e fits room h =
-    elim (bind_err (next_at lsn offset bytes) (followed bytes (λ size. frames_at limit (lsn + 1) (offset + size) (drop size bytes))) e h) [
+    elim (bind_err (next_at lsn offset bytes) (frame_then bytes (λ size. frames_at limit (lsn + 1) (offset + size) (drop size bytes))) e h) [
       | inl p ↦ (let here = next_fault lsn offset bytes e fits p in
           record { records = []; rest = bytes; text = refl; each = tt; few = omega (arith, room); fault = subst (λ n. HasFault e n (offset + 0) bytes) (omega arith) (subst (λ o. HasFault e lsn o bytes) (omega arith) here) })
       | inr p ↦ fault_next limit lsn offset bytes e fits room (λ size more f. frames_fault limit (lsn + 1) (offset + size) (drop size bytes) e (AreBytes-drop size bytes fits) more f) p.0 p.1 p.2

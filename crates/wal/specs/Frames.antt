@@ -43,9 +43,9 @@ record_of bytes offset = unwrap_or (option_map (λ x. x.0) (frame_at (drop offse
 
 -- READING
 -- a body that was looked at: it spells no record, or has the wrong LSN, or is the frame
-abbrev pub judged : (lsn offset size : ℕ) → Option (LogRecord × ℕ) → Result (Option (LogRecord × ℕ)) Fault
-judged lsn offset size None = Err (BadRecord offset)
-judged lsn offset size (Some x) = if x.1 == lsn then Ok (Some (x.0, size)) else Err (BadLsn offset)
+abbrev pub frame_if_right : (lsn offset size : ℕ) → Option (LogRecord × ℕ) → Result (Option (LogRecord × ℕ)) Fault
+frame_if_right lsn offset size None = Err (BadRecord offset)
+frame_if_right lsn offset size (Some x) = if x.1 == lsn then Ok (Some (x.0, size)) else Err (BadLsn offset)
 
 -- the record of a frame in front and the bytes that the frame takes, or None where the whole frames have ended
 unfoldable pub next_at : (lsn offset : ℕ) → List ℕ → Result (Option (LogRecord × ℕ)) Fault
@@ -53,7 +53,7 @@ next_at lsn offset bytes =
     if nat_lt (length bytes) 4 then Ok None
     else if nat_lt (length_of bytes) SMALLEST_BODY || nat_lt LARGEST_BODY (length_of bytes) then Err (BadLength offset)
     else if nat_lt (length bytes) (4 + length_of bytes) then Ok None
-    else judged lsn offset (4 + length_of bytes) (frame_at bytes)
+    else frame_if_right lsn offset (4 + length_of bytes) (frame_at bytes)
 
 infixl 10 ◌>>=◌
 abbrev pub ◌>>=◌ : {A B : Type 0} → Result A Fault → (A → Result B Fault) → Result B Fault
@@ -61,14 +61,14 @@ abbrev pub ◌>>=◌ : {A B : Type 0} → Result A Fault → (A → Result B Fau
 (Err e) >>= f = Err e
 
 -- a frame, and what is read behind it
-abbrev pub followed : List ℕ → (ℕ → Result (List LogRecord × ℕ) Fault) → Option (LogRecord × ℕ) → Result (List LogRecord × ℕ) Fault
-followed bytes others None = Ok ([], length bytes)
-followed bytes others (Some x) = others x.1 >>= λ y. Ok (x.0 ∷ y.0, y.1)
+abbrev pub frame_then : List ℕ → (ℕ → Result (List LogRecord × ℕ) Fault) → Option (LogRecord × ℕ) → Result (List LogRecord × ℕ) Fault
+frame_then bytes others None = Ok ([], length bytes)
+frame_then bytes others (Some x) = others x.1 >>= λ y. Ok (x.0 ∷ y.0, y.1)
 
 -- the records of at most this number of frames, and how many bytes are left; the first frame has this LSN and stands at this offset
 unfoldable pub frames_at : (limit lsn offset : ℕ) → List ℕ → Result (List LogRecord × ℕ) Fault
 frames_at zero lsn offset bytes = Ok ([], length bytes)
-frames_at (suc limit) lsn offset bytes = next_at lsn offset bytes >>= followed bytes (λ size. frames_at limit (lsn + 1) (offset + size) (drop size bytes))
+frames_at (suc limit) lsn offset bytes = next_at lsn offset bytes >>= frame_then bytes (λ size. frames_at limit (lsn + 1) (offset + size) (drop size bytes))
 
 -- the frames behind the header of a log that begins so
 abbrev pub frames_behind : LogStart → List ℕ → Result (List LogRecord × ℕ) Fault

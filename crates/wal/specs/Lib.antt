@@ -17,3 +17,4 @@ pub mod Reads
 pub mod Content
 pub mod Glances
 pub mod Theorems
+pub mod Stretches

@@ -29,10 +29,10 @@ record_for last (Undo u) =
     })
 
 -- the records of these actions from an LSN on: PrevLSN is the transaction's record before it
-abbrev pub written : (ℕ → ℕ) → ℕ → List Action → List LogRecord
-written last lsn [] = []
-written last lsn (a ∷ actions) =
-    record_for last a ∷ written (λ t. if tx_for a == t then lsn else last t) (suc lsn) actions
+abbrev pub records_for : (ℕ → ℕ) → ℕ → List Action → List LogRecord
+records_for last lsn [] = []
+records_for last lsn (a ∷ actions) =
+    record_for last a ∷ records_for (λ t. if tx_for a == t then lsn else last t) (suc lsn) actions
 
 -- whether it is a CLR, and whether it is an end
 abbrev pub is_clr : LogRecord → Bool
@@ -119,7 +119,7 @@ left_to_do log = rollback (losers_of log) (left_of log) log
 
 -- TAIL. The losers of the log are rolled back, and these records written behind it.
 abbrev pub tail : History → List LogRecord
-tail log = written (λ t. last_of t log) (suc (last_lsn log)) (left_to_do log)
+tail log = records_for (λ t. last_of t log) (suc (last_lsn log)) (left_to_do log)
 
 -- the tail of this log
 abbrev pub tail_of : LogContent → List LogRecord

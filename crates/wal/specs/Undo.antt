@@ -4,7 +4,7 @@ use Rattle.wal.specs.declared.record.State.{State}
 use Rattle.wal.specs.declared.record.State.TheVariants.{Active, Prepared, Aborting}
 use Rattle.wal.specs.Records.{TableEntry, tx_in, LogRecord, History, last_lsn}
 use Rattle.wal.specs.Hops.{Walk, hops}
-use Rattle.wal.specs.Tail.{written, rollback}
+use Rattle.wal.specs.Tail.{records_for, rollback}
 
 -- a transaction's entry in a table
 abbrev pub entry_for : ℕ → List TableEntry → Option TableEntry
@@ -39,4 +39,4 @@ doubtful_in entries = map tx_in (filter (λ e. is_prepared e.state) entries)
 -- UNDONE. The transactions of the table are rolled back, each by the updates that its hops meet, and these records written.
 abbrev pub undone_by : History → List TableEntry → List LogRecord
 undone_by log entries =
-    written (λ t. last_in (entry_for t entries)) (suc (last_lsn log)) (rollback (map tx_in entries) (λ t. (walk_of log (entry_for t entries)).met) log)
+    records_for (λ t. last_in (entry_for t entries)) (suc (last_lsn log)) (rollback (map tx_in entries) (λ t. (walk_of log (entry_for t entries)).met) log)

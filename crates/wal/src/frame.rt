@@ -205,11 +205,11 @@ pub fn next_at(lsn: u64, offset: usize, bytes: &[u8]) -> Result<Option<(RecordVi
     }
 }
 
-fn body_len(entry: &Record) -> u32
-    requires { Fits (content entry.now) }
-    ensures { result ≡ length (body (content entry.now) 0) }
+fn body_len(logged: &Record) -> u32
+    requires { Fits (content logged.now) }
+    ensures { result ≡ length (body (content logged.now) 0) }
 {
-    match entry {
+    match logged {
         Record::Update { before, after, .. } => {
             (PLAIN_BODY + CELL_BYTES + image_len(before) + image_len(after)) as u32
         }
@@ -233,12 +233,12 @@ fn body_len(entry: &Record) -> u32
 }
 
 #[tactic(auto, using(crate::proofs::Keeping::keeps_same, crate::proofs::Keeping::keeps_then, crate::proofs::Keeping::keeps_if))]
-fn put_fields<A: Allocator>(out: &mut Vec<u8, A>, entry: &Record) -> Result<(), AllocError>
-    requires { Fits (content entry.now) }
-    ensures ok { OnOk result (out.new.items ≡ out.old.items ++ fields (content entry.now)) }
+fn put_fields<A: Allocator>(out: &mut Vec<u8, A>, logged: &Record) -> Result<(), AllocError>
+    requires { Fits (content logged.now) }
+    ensures ok { OnOk result (out.new.items ≡ out.old.items ++ fields (content logged.now)) }
     ensures kept { Keeps out.old.items out.new.items }
 {
-    match entry {
+    match logged {
         Record::Update {
             tx,
             prev,
@@ -283,10 +283,10 @@ fn put_fields<A: Allocator>(out: &mut Vec<u8, A>, entry: &Record) -> Result<(), 
     Ok(())
 }
 
-fn kind_of(entry: &Record) -> u8
-    ensures { result ≡ kind_of (content entry.now) }
+fn kind_of(logged: &Record) -> u8
+    ensures { result ≡ kind_of (content logged.now) }
 {
-    match entry {
+    match logged {
         Record::Update { .. } => 1,
         Record::Compensation { .. } => 2,
         Record::Commit { .. } => 3,
@@ -299,15 +299,19 @@ fn kind_of(entry: &Record) -> u8
 }
 
 #[tactic(auto, using(crate::proofs::Keeping::keeps_same, crate::proofs::Keeping::keeps_then, crate::proofs::Keeping::keeps_if))]
-fn put_frame<A: Allocator>(out: &mut Vec<u8, A>, entry: &Record, lsn: u64) -> Result<(), AllocError>
-    requires { Fits (content entry.now) }
-    ensures ok { OnOk result (out.new.items ≡ out.old.items ++ frame (content entry.now) lsn) }
+fn put_frame<A: Allocator>(
+    out: &mut Vec<u8, A>,
+    logged: &Record,
+    lsn: u64,
+) -> Result<(), AllocError>
+    requires { Fits (content logged.now) }
+    ensures ok { OnOk result (out.new.items ≡ out.old.items ++ frame (content logged.now) lsn) }
     ensures kept { Keeps out.old.items out.new.items }
 {
-    out.extend_from_slice(&body_len(entry).to_be_bytes())?;
-    out.push(kind_of(entry))?;
+    out.extend_from_slice(&body_len(logged).to_be_bytes())?;
+    out.push(kind_of(logged))?;
     out.extend_from_slice(&lsn.to_be_bytes())?;
-    put_fields(out, entry)?;
+    put_fields(out, logged)?;
     Ok(())
 }
 
@@ -317,18 +321,18 @@ fn put_frame<A: Allocator>(out: &mut Vec<u8, A>, entry: &Record, lsn: u64) -> Re
 /// NoResource, where a growth of the vector was refused, leaves in it what it had.
 #[tactic(auto, using(crate::proofs::Keeping::cut_back))]
 pub fn write_frame<A: Allocator>(
-    entry: &Record,
+    logged: &Record,
     lsn: u64,
     out: &mut Vec<u8, A>,
 ) -> Result<(), Fault>
-    requires writable { Fits (content entry.now) }
+    requires writable { Fits (content logged.now) }
     requires lsn { 0 < lsn }
-    ensures ok { OnOk result (out.new.items ≡ out.old.items ++ frame (content entry.now) lsn) }
+    ensures ok { OnOk result (out.new.items ≡ out.old.items ++ frame (content logged.now) lsn) }
     ensures kept { OnErr result (out.new.items ≡ out.old.items) }
     ensures err { IsOkUnless result NoResource }
 {
     let len = out.len();
-    match put_frame(out, entry, lsn) {
+    match put_frame(out, logged, lsn) {
         Ok(()) => Ok(()),
         Err(_) => {
             out.truncate(len);

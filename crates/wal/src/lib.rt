@@ -1,6 +1,6 @@
 //! The log: its records, their frames in bytes, and what a log means.
 //!
-//! `read_log` reads a log in place, `write_frame` appends a record's frame. The definitions of what
+//! `read_log` reads a log in place, `read_log_by` does so in several threads, `write_frame` appends a record's frame. The definitions of what
 //! a log means (replay, winners, pending, the laws, the tail of a restart) stand in `specs/`, and
 //! their laws are the functions of `laws`.
 #![tactic(auto)]
@@ -15,8 +15,10 @@ mod image;
 mod laws;
 mod log;
 mod offsets;
+mod reading;
 mod record;
 mod sizes;
+mod stretch;
 mod view;
 
 pub use change::Change;
@@ -28,7 +30,7 @@ pub use laws::{
     no_fault_of_a_log, one_log_fault, one_reading, redo_replays, redo_suffices, replay_is_winners,
     restart_goes_on, store_settles, table_tells_doubt, tail_settles, undo_is_tail,
 };
-pub use log::{Log, read_log};
+pub use log::{Log, read_log, read_log_by};
 pub use record::{Entry, Record, State};
 pub use sizes::TRANSACTIONS;
 pub use view::{DirtyTable, RecordView, TransactionTable, value_of};

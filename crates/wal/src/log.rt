@@ -3,23 +3,24 @@
 ghost use Rattle.std.specs.Prelude.{◌≡◌, ◌+◌, ◌<◌, ◌≤◌, ◌^◌, ℕ, All, length, map, drop, Some, option_map, IfErr, IfOk, IfSome, Ok, ◌*◌};
 ghost use Rattle.wal.specs.Glances.{IsGlanceBehind};
 ghost use Rattle.wal.specs.Meaning.{image_in};
-ghost use Rattle.wal.specs.Records.{LogContent, start, ◌▸◌, ◌▸▸◌, lsn_before, history, last_lsn, base_lsn, record_at, first};
-ghost use Rattle.wal.specs.Headers.{header_bytes, FitsStart};
-ghost use Rattle.wal.specs.Frames.{IsPlace, ArePlaces, record_of, length_of, frame_at, next_at, frames_behind, log_at, Gives, IsLog};
+ghost use Rattle.wal.specs.Records.{LogContent, start, ◌▸◌, ◌▸▸◌, history, last_lsn, base_lsn, record_at, first};
+ghost use Rattle.wal.specs.Frames.{IsPlace, record_of, frame_at, log_at, Gives, IsLog};
 ghost use Rattle.wal.specs.Reads.{Cause, Reads};
 ghost use Rattle.wal.specs.Spelling.{Fits};
 ghost use Rattle.wal.specs.Content.{shown};
 ghost use Rattle.wal.specs.declared.sizes.TheConstants.{HEADER_BYTES, LARGEST_BASE, SMALLEST_FRAME};
 
-use crate::frame::{body_at, next_at};
+use crate::frame::body_at;
 use crate::glance::{Glance, body_here, glance_here};
 use crate::header::{LogStart, start_at};
 use crate::image::image_here;
 use crate::offsets::Offsets;
+use crate::reading::{offsets_by, offsets_of};
 use crate::view::RecordView;
 use page::{Fault, Value};
 use std::alloc::Global;
 use std::marker::Model;
+use std::thread::Threads;
 
 /// A log that stays in the bytes that it was read from. Beside them it holds one offset for each
 /// record, of 4 bytes in the first 4 GiB and of 8 behind them. Contracts see its content: how it
@@ -160,28 +161,6 @@ fn record_here(bytes: &[u8], offset: usize) -> Option<RecordView>
     }
 }
 
-fn offsets_of(alloc: Global, begins: LogStart, bytes: &[u8]) -> Result<(Offsets, usize), Fault>
-    requires starts { FitsStart begins }
-    requires room { header_bytes begins ≤ length bytes.now }
-    ensures places { IfOk result (λ x. ArePlaces bytes.now x.0) }
-    ensures read { Gives (λ x. (map (record_of bytes.now) x.0, x.1)) result
-        (frames_behind begins bytes.now) }
-{
-    let mut offsets = Offsets::new(alloc);
-    let mut offset = begins.header_bytes();
-    for number in 0..bytes.len() {
-        let (_, rest) = bytes.split_at(offset);
-        match next_at(begins.base() + number as u64 + 1, offset, rest)? {
-            None => return Ok((offsets, rest.len())),
-            Some((_, size)) => {
-                offsets.push(offset)?;
-                offset += size;
-            }
-        }
-    }
-    Ok((offsets, bytes.len() - offset))
-}
-
 #[tactic(auto, unfolding(crate::specs::Frames::log_at))]
 fn read_in<'a>(alloc: Global, bytes: &'a [u8]) -> Result<(Log<'a>, usize), Fault>
     ensures { Gives (λ x. x) result (log_at bytes.now) }
@@ -190,6 +169,29 @@ fn read_in<'a>(alloc: Global, bytes: &'a [u8]) -> Result<(Log<'a>, usize), Fault
         return Err(Fault::BadLogHeader);
     };
     let (offsets, torn) = offsets_of(alloc, begins, bytes)?;
+    Ok((
+        Log {
+            bytes,
+            begins,
+            offsets,
+        },
+        torn,
+    ))
+}
+
+#[tactic(auto, unfolding(crate::specs::Frames::log_at))]
+fn read_in_by<'a, R: Threads + Sync>(
+    rt: &R,
+    alloc: Global,
+    bytes: &'a [u8],
+    threads: usize,
+) -> Result<(Log<'a>, usize), Fault>
+    ensures { Gives (λ x. x) result (log_at bytes.now) }
+{
+    let Some(begins) = start_at(bytes) else {
+        return Err(Fault::BadLogHeader);
+    };
+    let (offsets, torn) = offsets_by(rt, alloc, begins, bytes, threads)?;
     Ok((
         Log {
             bytes,
@@ -223,4 +225,23 @@ pub fn read_log<'a>(alloc: Global, bytes: &'a [u8]) -> Result<(Log<'a>, usize), 
 {
     let _len = bytes.len();
     read_in(alloc, bytes)
+}
+
+/// As [`read_log`], with its answers and errors, in as many threads as this where the log is long:
+/// each takes a stretch of the bytes, guesses where its first frame begins, and reads on from there.
+/// What it read counts where the frames in front of it end just there, with the LSN before; else
+/// those bytes are read again. More threads take more memory, by an offset for each record.
+pub fn read_log_by<'a, R: Threads + Sync>(
+    rt: &R,
+    alloc: Global,
+    bytes: &'a [u8],
+    threads: usize,
+) -> Result<(Log<'a>, usize), Fault>
+    ensures found { IfOk result (λ x. Reads bytes.now x.0 x.1) }
+    ensures only { (log : LogContent) (torn : ℕ) → Reads bytes.now log torn
+        → Gives (λ x. x) result (Ok (log, torn)) }
+    ensures fault { IfErr result (Cause bytes.now) }
+{
+    let _len = bytes.len();
+    read_in_by(rt, alloc, bytes, threads)
 }

@@ -65,4 +65,33 @@ impl Offsets {
         }
         Ok(())
     }
+
+    /// Puts others behind them. The only error is `NoResource`.
+    pub fn append(&mut self, others: Offsets) -> Result<(), Fault>
+        ensures ok { OnOk result (self.new ≡ self.old ++ others) }
+        ensures err { IsOkUnless result NoResource }
+    {
+        let Offsets {
+            mut short,
+            mut long,
+        } = others;
+        if self.long.is_empty() {
+            self.short.append(&mut short)?;
+        } else {
+            append_long(&mut self.long, &short)?;
+        }
+        self.long.append(&mut long)?;
+        Ok(())
+    }
+}
+
+/// Puts short offsets behind long ones. The only error is `NoResource`.
+fn append_long(long: &mut Vec<usize>, short: &[u32]) -> Result<(), Fault>
+    ensures ok { OnOk result (long.new.items ≡ long.old.items ++ short.now) }
+    ensures err { IsOkUnless result NoResource }
+{
+    for offset in short {
+        long.push(*offset as usize)?;
+    }
+    Ok(())
 }

@@ -60,24 +60,21 @@ fn is_undone(
 #[test]
 fn undoes_rows(rt: HostRuntime) -> Result<(), Fail> {
     let alloc = rt.alloc();
-    let row = one_loser(alloc)?;
-    let before = page_with(1, Some(b'a'), None);
-    assert!(rt; is_undone(alloc, &row, 0, before, &page_with(2, None, None))?);
-    let row = two_losers(alloc)?;
-    let before = page_with(3, Some(b'c'), Some(b'b'));
-    assert!(rt; is_undone(alloc, &row, 0, before, &page_with(7, None, None))?);
-    let row = partial_rollback_loser(alloc)?;
-    let before = page_with(4, Some(b'c'), None);
-    assert!(rt; is_undone(alloc, &row, 0, before, &page_with(6, None, None))?);
-    let row = rollback_interrupted(alloc)?;
-    let before = page_with(4, Some(b'a'), None);
-    assert!(rt; is_undone(alloc, &row, 0, before, &page_with(5, None, None))?);
-    let row = several_kinds_of_loser(alloc)?;
-    let before = page_with(4, None, Some(b'b'));
-    assert!(rt; is_undone(alloc, &row, 0, before, &page_with(8, None, None))?);
-    let row = checkpoint_loser(alloc)?;
-    let before = page_with(1, Some(b'a'), None);
-    assert!(rt; is_undone(alloc, &row, 2, before, &page_with(4, None, None))?);
+    let (a, b, c) = (Some(b'a'), Some(b'b'), Some(b'c'));
+    for (row, master, before, after) in [
+        (one_loser(alloc)?, 0, page_with(1, a, None), 2),
+        (two_losers(alloc)?, 0, page_with(3, c, b), 7),
+        (partial_rollback_loser(alloc)?, 0, page_with(4, c, None), 6),
+        (rollback_interrupted(alloc)?, 0, page_with(4, a, None), 5),
+        (several_kinds_of_loser(alloc)?, 0, page_with(4, None, b), 8),
+        (checkpoint_loser(alloc)?, 2, page_with(1, a, None), 4),
+    ] {
+        let after = page_with(after, None, None);
+        assert!(rt;
+            is_undone(alloc, &row, master, before, &after)?,
+            "master {master}"
+        );
+    }
     Ok(())
 }
 
@@ -98,34 +95,60 @@ fn missing(text: &mut Text, tx: u32, prev: u64) -> Result<(), Fault> {
     })
 }
 
-/// Bad hops and missing pages in one log: the first that is met is told.
-#[test]
-fn first_fault_met(rt: HostRuntime) -> Result<(), Fail> {
-    // An update's page comes before the walk goes on from it.
-    let mut text = Text::new(rt.alloc())?;
+/// An update's page comes before the walk goes on from it.
+fn page_before_hop(alloc: Global) -> Result<Text, Fault> {
+    let mut text = Text::new(alloc)?;
     missing(&mut text, 1, 9)?;
-    assert_eq!(rt; refused(rt.alloc(), &text, 0), Some(Fault::NoSuchPage(1)));
-    // The walk goes on from the newest update before the older one is looked at.
-    let mut text = Text::new(rt.alloc())?;
+    Ok(text)
+}
+
+/// The walk goes on from the newest update before the older one is looked at.
+fn hop_before_older_page(alloc: Global) -> Result<Text, Fault> {
+    let mut text = Text::new(alloc)?;
     missing(&mut text, 1, 0)?;
     text.update(2, 9, 0, None, None)?;
-    assert_eq!(rt; refused(rt.alloc(), &text, 0), Some(Fault::BrokenChain(9)));
-    // The newest update comes first, its page too.
-    let mut text = Text::new(rt.alloc())?;
+    Ok(text)
+}
+
+/// The newest update comes first, its page too.
+fn newest_page_first(alloc: Global) -> Result<Text, Fault> {
+    let mut text = Text::new(alloc)?;
     text.update(1, 9, 0, None, None)?;
     missing(&mut text, 2, 0)?;
-    assert_eq!(rt; refused(rt.alloc(), &text, 0), Some(Fault::NoSuchPage(2)));
-    // All losers are sent on their way before an update is looked at: a CLR sends transaction 3 to nowhere.
-    let mut text = Text::new(rt.alloc())?;
+    Ok(text)
+}
+
+/// All losers are sent on their way before an update is looked at: a CLR sends transaction 3 to
+/// nowhere.
+fn sent_before_page(alloc: Global) -> Result<Text, Fault> {
+    let mut text = Text::new(alloc)?;
     text.clr(3, 0, 9, 0, None)?;
     missing(&mut text, 1, 0)?;
-    assert_eq!(rt; refused(rt.alloc(), &text, 0), Some(Fault::BrokenChain(9)));
-    // Of two that are sent to nowhere the smaller number comes first, wherever its records stand.
-    let mut text = Text::new(rt.alloc())?;
+    Ok(text)
+}
+
+/// Of those that are sent to nowhere the smallest number comes first, wherever its records stand.
+fn smallest_number_first(alloc: Global) -> Result<Text, Fault> {
+    let mut text = Text::new(alloc)?;
     text.clr(3, 0, 9, 0, None)?;
     text.clr(2, 0, 8, 0, None)?;
     text.clr(4, 0, 7, 0, None)?;
-    assert_eq!(rt; refused(rt.alloc(), &text, 0), Some(Fault::BrokenChain(8)));
+    Ok(text)
+}
+
+/// Bad hops and missing pages in one log: the first that is met is told.
+#[test]
+fn first_fault_met(rt: HostRuntime) -> Result<(), Fail> {
+    let alloc = rt.alloc();
+    for (text, fault) in [
+        (page_before_hop(alloc)?, Fault::NoSuchPage(1)),
+        (hop_before_older_page(alloc)?, Fault::BrokenChain(9)),
+        (newest_page_first(alloc)?, Fault::NoSuchPage(2)),
+        (sent_before_page(alloc)?, Fault::BrokenChain(9)),
+        (smallest_number_first(alloc)?, Fault::BrokenChain(8)),
+    ] {
+        assert_eq!(rt; refused(alloc, &text, 0), Some(fault));
+    }
     Ok(())
 }
 

@@ -1,6 +1,7 @@
 //! Worked rows of redo.
 
 use crate::ten_pages::{HeldGate, are_all_changed, ten_pages, ten_updates};
+use crate::written::{checkpoint_loser, one_commit, one_loser, partial_rollback_commit};
 use analysis::analyse;
 use page::{Fault, Page, Store, Value, decode_store, encode_page};
 use redo::{Gate, OpenGate, Parting, Redone, redo};
@@ -34,22 +35,6 @@ fn redone<R: Threads + Sync, G: Gate>(
     }
     redo(rt, alloc, &log, store, &tables, parting, workers, gate)
 }
-
-/// An update of page 0, slot 0, to "a".
-const ONE_LOSER: &[u8] =
-    b"ARIESLG1\x00\x00\x00\x1d\x01\x00\x00\x00\x00\x00\x00\x00\x01\x00\x00\x00\x01\x00\x00\x00\x00\x00\x00\x00\x00\x00\x00\x00\x00\x00\xff\x01a";
-
-/// The same, and a checkpoint that lists its transaction and page.
-const CHECKPOINT_LOSER: &[u8] =
-    b"ARIESLG1\x00\x00\x00\x1d\x01\x00\x00\x00\x00\x00\x00\x00\x01\x00\x00\x00\x01\x00\x00\x00\x00\x00\x00\x00\x00\x00\x00\x00\x00\x00\xff\x01a\x00\x00\x00\x09\x06\x00\x00\x00\x00\x00\x00\x00\x02\x00\x00\x00:\x07\x00\x00\x00\x00\x00\x00\x00\x03\x00\x00\x00\x00\x00\x00\x00\x02\x00\x00\x00\x01\x00\x00\x00\x01\x00\x00\x00\x00\x00\x00\x00\x00\x01\x00\x00\x00\x00\x00\x00\x00\x01\x00\x00\x00\x01\x00\x00\x00\x00\x00\x00\x00\x00\x00\x00\x00\x01";
-
-/// The update, and its commit.
-const ONE_COMMIT: &[u8] =
-    b"ARIESLG1\x00\x00\x00\x1d\x01\x00\x00\x00\x00\x00\x00\x00\x01\x00\x00\x00\x01\x00\x00\x00\x00\x00\x00\x00\x00\x00\x00\x00\x00\x00\xff\x01a\x00\x00\x00\x15\x03\x00\x00\x00\x00\x00\x00\x00\x02\x00\x00\x00\x01\x00\x00\x00\x00\x00\x00\x00\x01";
-
-/// Two updates of one slot and the CLR of the second, and the commit.
-const PARTIAL_ROLLBACK_COMMIT: &[u8] =
-    b"ARIESLG1\x00\x00\x00\x1d\x01\x00\x00\x00\x00\x00\x00\x00\x01\x00\x00\x00\x01\x00\x00\x00\x00\x00\x00\x00\x00\x00\x00\x00\x00\x00\xff\x01a\x00\x00\x00\x1e\x01\x00\x00\x00\x00\x00\x00\x00\x02\x00\x00\x00\x01\x00\x00\x00\x00\x00\x00\x00\x01\x00\x00\x00\x00\x00\x01a\x01b\x00\x00\x00\x24\x02\x00\x00\x00\x00\x00\x00\x00\x03\x00\x00\x00\x01\x00\x00\x00\x00\x00\x00\x00\x02\x00\x00\x00\x00\x00\x00\x00\x00\x00\x00\x00\x00\x01\x01a\x00\x00\x00\x15\x03\x00\x00\x00\x00\x00\x00\x00\x04\x00\x00\x00\x01\x00\x00\x00\x00\x00\x00\x00\x03";
 
 /// The first page, and an empty one where there is none.
 fn first_page(answer: &Redone) -> Page {
@@ -98,7 +83,7 @@ fn workers_come_before_pages(rt: HostRuntime) -> Result<(), Fail> {
     let alloc = rt.alloc();
     let mut log = Vec::from_slice(alloc, b"ARIESLG1")?;
     for (lsn, page) in [(1, 0), (2, 3), (3, 1), (4, 5)] {
-        let entry = Record::Update {
+        let logged = Record::Update {
             tx: 1,
             prev: lsn - 1,
             page,
@@ -106,7 +91,7 @@ fn workers_come_before_pages(rt: HostRuntime) -> Result<(), Fail> {
             before: None,
             after: None,
         };
-        write_frame(&entry, lsn, &mut log)?;
+        write_frame(&logged, lsn, &mut log)?;
     }
     let store = one_page(alloc, 0, Page::empty(0))?;
     let parting = Parting::by_number(alloc, 1, 1)?;
@@ -132,8 +117,9 @@ fn what_an_image_has_is_not_applied(rt: HostRuntime) -> Result<(), Fail> {
     let parting = Parting::by_number(alloc, 1, 1)?;
     let mut flushed = Page::empty(0);
     flushed.set(0, Value::new(b"a"), 1);
-    for (log, master) in [(ONE_LOSER, 0), (CHECKPOINT_LOSER, 2)] {
+    for (row, master) in [(one_loser(alloc)?, 0), (checkpoint_loser(alloc)?, 2)] {
         let store = one_page(alloc, master, flushed)?;
+        let log = &row.given.bytes;
         let answer = redone(&rt, alloc, log, &store, &parting, 2, &OpenGate)?;
         let page = &first_page(&answer);
         assert_eq!(rt; (answer.applied, page.lsn), (0, 1));
@@ -148,28 +134,20 @@ fn what_an_image_lacks_is_applied(rt: HostRuntime) -> Result<(), Fail> {
     let parting = Parting::by_number(alloc, 1, 1)?;
     let mut foreign = Page::empty(0);
     foreign.set(5, Value::new(b"q"), 0);
-    let store = one_page(alloc, 0, foreign)?;
-    let answer = redone(&rt, alloc, ONE_COMMIT, &store, &parting, 2, &OpenGate)?;
-    let page = &first_page(&answer);
-    assert_eq!(rt; (answer.applied, page.lsn), (1, 1));
-    assert!(rt; holds(page, 0, Some(b"a")), "slot 0");
-    assert!(rt; holds(page, 5, Some(b"q")), "slot 5");
-    let store = one_page(alloc, 0, Page::empty(0))?;
-    let answer = redone(
-        &rt,
-        alloc,
-        PARTIAL_ROLLBACK_COMMIT,
-        &store,
-        &parting,
-        2,
-        &OpenGate,
-    )?;
-    let page = &first_page(&answer);
-    assert_eq!(rt; (answer.applied, page.lsn), (3, 3));
-    assert!(rt;
-        holds(page, 0, Some(b"a")),
-        "slot 0 after a partial rollback"
-    );
+    for (log, before, applied, other) in [
+        (one_commit(alloc, 0)?, foreign, 1, Some(b"q" as &[u8])),
+        (partial_rollback_commit(alloc)?, Page::empty(0), 3, None),
+    ] {
+        let store = one_page(alloc, 0, before)?;
+        let answer = redone(&rt, alloc, &log.bytes, &store, &parting, 2, &OpenGate)?;
+        let page = &first_page(&answer);
+        assert_eq!(rt; (answer.applied, page.lsn), (applied, applied));
+        assert!(rt;
+            holds(page, 0, Some(b"a")),
+            "slot 0 after {applied} records"
+        );
+        assert!(rt; holds(page, 5, other), "slot 5 after {applied} records");
+    }
     Ok(())
 }
 

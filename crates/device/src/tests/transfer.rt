@@ -45,22 +45,6 @@ fn read_in(alloc: Global, length: usize, pace: Pace) -> Result<Result<usize, Rea
     }
 }
 
-/// A pace with this step, at which this call fails.
-fn failing(step: usize, call: u32) -> Pace {
-    Pace {
-        fails_at: Some(call),
-        ..Pace::of_step(step)
-    }
-}
-
-/// A pace at which flushes alone fail.
-fn unflushed() -> Pace {
-    Pace {
-        fails_flush: true,
-        ..Pace::of_step(usize::MAX)
-    }
-}
-
 #[test]
 fn memory_gives_and_takes_all(rt: HostRuntime) -> Result<(), Fail> {
     let bytes = counted(rt.alloc(), 200_000)?;
@@ -78,7 +62,7 @@ fn memory_gives_and_takes_all(rt: HostRuntime) -> Result<(), Fail> {
 #[test]
 fn nothing_is_read_and_written(rt: HostRuntime) -> Result<(), Fail> {
     assert_eq!(rt; read_in(rt.alloc(), 0, Pace::of_step(1))?, Ok(0));
-    assert_eq!(rt; write_out(rt.alloc(), 0, failing(1, 2))?, (Ok(()), 0));
+    assert_eq!(rt; write_out(rt.alloc(), 0, Pace::failing(1, 2))?, (Ok(()), 0));
     Ok(())
 }
 
@@ -97,7 +81,7 @@ fn one_byte_a_call(rt: HostRuntime) -> Result<(), Fail> {
 #[test]
 fn log_sink_fails_at_40(rt: HostRuntime) -> Result<(), Fail> {
     assert_eq!(rt;
-        write_out(rt.alloc(), 105, failing(40, 2))?,
+        write_out(rt.alloc(), 105, Pace::failing(40, 2))?,
         (Err(Failed), 40)
     );
     Ok(())
@@ -106,7 +90,7 @@ fn log_sink_fails_at_40(rt: HostRuntime) -> Result<(), Fail> {
 #[test]
 fn store_sink_fails_at_24(rt: HostRuntime) -> Result<(), Fail> {
     assert_eq!(rt;
-        write_out(rt.alloc(), 1048, failing(24, 2))?,
+        write_out(rt.alloc(), 1048, Pace::failing(24, 2))?,
         (Err(Failed), 24)
     );
     Ok(())
@@ -116,7 +100,7 @@ fn store_sink_fails_at_24(rt: HostRuntime) -> Result<(), Fail> {
 fn flush_fails(rt: HostRuntime) -> Result<(), Fail> {
     for length in [105, 1048] {
         assert_eq!(rt;
-            write_out(rt.alloc(), length, unflushed())?,
+            write_out(rt.alloc(), length, Pace::unflushed())?,
             (Err(Failed), length)
         );
     }
@@ -131,7 +115,7 @@ fn flush_reaches_all_that_was_taken(rt: HostRuntime) -> Result<(), Fail> {
     memory.flush()?;
     write_all(&mut memory, b"de")?;
     assert!(rt; memory.flushed() == b"abc".as_slice());
-    let mut slow = SlowSink::new(rt.alloc(), 5, unflushed())?;
+    let mut slow = SlowSink::new(rt.alloc(), 5, Pace::unflushed())?;
     write_all(&mut slow, b"abcde")?;
     assert_eq!(rt; slow.flush(), Err(Failed));
     assert!(rt; slow.flushed().is_empty());
@@ -145,7 +129,7 @@ fn flush_reaches_all_that_was_taken(rt: HostRuntime) -> Result<(), Fail> {
 #[test]
 fn store_source_fails(rt: HostRuntime) -> Result<(), Fail> {
     assert_eq!(rt;
-        read_in(rt.alloc(), 1048, failing(1000, 2))?,
+        read_in(rt.alloc(), 1048, Pace::failing(1000, 2))?,
         Err(ReadFault::Failed)
     );
     Ok(())
@@ -158,15 +142,18 @@ fn each_call_fails_in_turn(rt: HostRuntime) -> Result<(), Fail> {
     for call in 1..17u32 {
         let taken = 7 * (call as usize - 1);
         assert_eq!(rt;
-            read_in(rt.alloc(), 105, failing(7, call))?,
+            read_in(rt.alloc(), 105, Pace::failing(7, call))?,
             Err(ReadFault::Failed)
         );
         assert_eq!(rt;
-            write_out(rt.alloc(), 105, failing(7, call))?,
+            write_out(rt.alloc(), 105, Pace::failing(7, call))?,
             (Err(Failed), taken)
         );
     }
-    assert_eq!(rt; read_in(rt.alloc(), 105, failing(7, 17))?, Ok(105));
-    assert_eq!(rt; write_out(rt.alloc(), 105, failing(7, 17))?, (Ok(()), 105));
+    assert_eq!(rt; read_in(rt.alloc(), 105, Pace::failing(7, 17))?, Ok(105));
+    assert_eq!(rt;
+        write_out(rt.alloc(), 105, Pace::failing(7, 17))?,
+        (Ok(()), 105)
+    );
     Ok(())
 }

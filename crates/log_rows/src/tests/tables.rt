@@ -287,11 +287,11 @@ fn refuses_a_master_that_is_no_begin(rt: HostRuntime) -> Result<(), Fail> {
 fn scans_a_million_records(rt: HostRuntime) -> Result<(), Fail> {
     let mut bytes = Vec::from_slice(rt.alloc(), b"ARIESLG1")?;
     for lsn in 1..1_000_001u64 {
-        let entry = Record::Abort {
+        let logged = Record::Abort {
             tx: (lsn % 1000) as u32 + 1,
             prev: 0,
         };
-        write_frame(&entry, lsn, &mut bytes)?;
+        write_frame(&logged, lsn, &mut bytes)?;
     }
     let (log, _) = read_log(rt.alloc(), &bytes)?;
     let tables = analyse(rt.alloc(), &log, 0)?;

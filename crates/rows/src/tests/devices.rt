@@ -44,22 +44,6 @@ impl Paces {
     }
 }
 
-/// A pace with this step, at which this call fails.
-fn failing(step: usize, call: u32) -> Pace {
-    Pace {
-        fails_at: Some(call),
-        ..Pace::of_step(step)
-    }
-}
-
-/// A pace at which flushes alone fail.
-fn unflushed() -> Pace {
-    Pace {
-        fails_flush: true,
-        ..Pace::of_step(usize::MAX)
-    }
-}
-
 /// What a recovery answers, and how many bytes its sinks have taken.
 type Seen = (Result<(), Fault>, usize, usize);
 
@@ -115,7 +99,7 @@ fn one_loser_over_devices(rt: HostRuntime) -> Result<(), Fail> {
         (
             "log-sink-fails-at-40",
             Paces {
-                log_sink: failing(40, 2),
+                log_sink: Pace::failing(40, 2),
                 ..fast
             },
             (Err(Fault::WriteLog), 40, 0),
@@ -123,7 +107,7 @@ fn one_loser_over_devices(rt: HostRuntime) -> Result<(), Fail> {
         (
             "log-flush-fails",
             Paces {
-                log_sink: unflushed(),
+                log_sink: Pace::unflushed(),
                 ..fast
             },
             (Err(Fault::WriteLog), 105, 0),
@@ -131,7 +115,7 @@ fn one_loser_over_devices(rt: HostRuntime) -> Result<(), Fail> {
         (
             "store-sink-fails-at-24",
             Paces {
-                store_sink: failing(24, 2),
+                store_sink: Pace::failing(24, 2),
                 ..fast
             },
             (Err(Fault::WriteStore), 105, 24),
@@ -139,7 +123,7 @@ fn one_loser_over_devices(rt: HostRuntime) -> Result<(), Fail> {
         (
             "store-flush-fails",
             Paces {
-                store_sink: unflushed(),
+                store_sink: Pace::unflushed(),
                 ..fast
             },
             (Err(Fault::WriteStore), 105, 1048),
@@ -147,7 +131,7 @@ fn one_loser_over_devices(rt: HostRuntime) -> Result<(), Fail> {
         (
             "store-source-fails",
             Paces {
-                store_source: failing(1000, 2),
+                store_source: Pace::failing(1000, 2),
                 ..fast
             },
             (Err(Fault::ReadStore), 0, 0),
@@ -155,8 +139,8 @@ fn one_loser_over_devices(rt: HostRuntime) -> Result<(), Fail> {
         (
             "both-sources-fail",
             Paces {
-                log_source: failing(usize::MAX, 1),
-                store_source: failing(usize::MAX, 1),
+                log_source: Pace::failing(usize::MAX, 1),
+                store_source: Pace::failing(usize::MAX, 1),
                 ..fast
             },
             (Err(Fault::ReadLog), 0, 0),
@@ -177,7 +161,7 @@ fn one_commit_over_devices(rt: HostRuntime) -> Result<(), Fail> {
     let after = page_with(1, Some(b'a'), None);
     let fast = Paces::fast();
     let log_writer_fails = Paces {
-        log_sink: failing(usize::MAX, 1),
+        log_sink: Pace::failing(usize::MAX, 1),
         ..fast
     };
     assert_eq!(rt;
@@ -185,7 +169,7 @@ fn one_commit_over_devices(rt: HostRuntime) -> Result<(), Fail> {
         (Err(Fault::WriteLog), 0, 0)
     );
     let log_flush_fails = Paces {
-        log_sink: unflushed(),
+        log_sink: Pace::unflushed(),
         ..fast
     };
     assert_eq!(rt;
@@ -193,7 +177,7 @@ fn one_commit_over_devices(rt: HostRuntime) -> Result<(), Fail> {
         (Err(Fault::WriteLog), 66, 0)
     );
     let store_writer_fails = Paces {
-        store_sink: failing(usize::MAX, 1),
+        store_sink: Pace::failing(usize::MAX, 1),
         ..fast
     };
     assert_eq!(rt;
@@ -216,7 +200,7 @@ impl Device {
     /// Four devices of seven bytes a call, of which this one fails at this call.
     fn failing_at(self, call: u32) -> Paces {
         let paces = Paces::of_step(7);
-        let pace = failing(7, call);
+        let pace = Pace::failing(7, call);
         match self {
             Device::LogSource => Paces {
                 log_source: pace,
@@ -307,7 +291,7 @@ fn log_left_at<R: Threads + Sync>(
     store: &[u8],
     call: u32,
 ) -> Result<Vec<u8>, Fail> {
-    let mut out_log = SlowSink::new(alloc, row.made.bytes.len(), failing(7, call))?;
+    let mut out_log = SlowSink::new(alloc, row.made.bytes.len(), Pace::failing(7, call))?;
     let answer = recover(
         rt,
         alloc,

@@ -3,60 +3,38 @@
 use crate::in_memory::recover_in_memory;
 use aries::{Options, audit_texts, audit_texts_over};
 use core_rows::written::{
-    Row, checkpoint_loser, clr_points_past_zero, one_loser, page_with, prepared_beside_loser,
-    store_of, two_losers,
+    Row, checkpoint_loser, clr_points_past_zero, one_commit, one_loser, page_with,
+    prepared_beside_loser, store_of, two_losers,
 };
 use page::{Fault, Page};
 use redo::OpenGate;
 use std::alloc::Global;
-use std::io;
 use std::test::Fail;
 
-/// One update of slot 0 of page 0 to "a", and its commit.
-const ONE_COMMIT: &[u8] =
-    b"ARIESLG1\x00\x00\x00\x1d\x01\x00\x00\x00\x00\x00\x00\x00\x01\x00\x00\x00\x01\x00\x00\x00\x00\x00\x00\x00\x00\x00\x00\x00\x00\x00\xff\x01a\x00\x00\x00\x15\x03\x00\x00\x00\x00\x00\x00\x00\x02\x00\x00\x00\x01\x00\x00\x00\x00\x00\x00\x00\x01";
-
 /// A store of one empty page.
-fn empty_store(alloc: Global) -> io::Result<Vec<u8>> {
-    let mut store = Vec::from_slice(alloc, b"ARIESPG1\x00\x00\x00\x01")?;
-    for _ in 0..1036 {
-        store.push(0)?;
-    }
-    Ok(store)
+fn empty_store(alloc: Global) -> Result<Vec<u8>, Fault> {
+    store_of(alloc, 0, &Page::empty(0))
 }
 
-/// The store after `ONE_COMMIT`: "a" in slot 0, PageLSN 1.
-fn store_with_a(alloc: Global) -> io::Result<Vec<u8>> {
-    let mut store = Vec::from_slice(alloc, b"ARIESPG1\x00\x00\x00\x01")?;
-    for offset in 12..1048 {
-        store.push(match offset {
-            39 => 1,
-            41 => 0x50,
-            43 => 1,
-            104 => b'a',
-            _ => 0,
-        })?;
-    }
-    Ok(store)
+/// The store after one commit: "a" in slot 0, PageLSN 1.
+fn store_with_a(alloc: Global) -> Result<Vec<u8>, Fault> {
+    store_of(alloc, 0, &page_with(1, Some(b'a'), None))
 }
 
 #[test]
 fn recovers_one_commit(rt: HostRuntime) -> Result<(), Fail> {
-    let store = empty_store(rt.alloc())?;
+    let alloc = rt.alloc();
+    let log = one_commit(alloc, 0)?.bytes;
+    let store = empty_store(alloc)?;
     let options = Options {
         workers: 4,
         parts: 16,
     };
     let (new_log, new_store, report) = recover_in_memory(
-        &rt,
-        rt.alloc(),
-        ONE_COMMIT,
-        &store,
-        &options,
-        &OpenGate,
+        &rt, alloc, &log, &store, &options, &OpenGate,
     )?;
-    assert_eq!(rt; new_log.as_slice(), ONE_COMMIT);
-    assert_eq!(rt; new_store.as_slice(), store_with_a(rt.alloc())?.as_slice());
+    assert_eq!(rt; new_log.as_slice(), log.as_slice());
+    assert_eq!(rt; new_store.as_slice(), store_with_a(alloc)?.as_slice());
     assert_eq!(rt;
         (
             report.records,
@@ -105,7 +83,9 @@ fn restarts_what_a_restart_wrote(rt: HostRuntime) -> Result<(), Fail> {
 
 #[test]
 fn refuses_options_out_of_range(rt: HostRuntime) -> Result<(), Fail> {
-    let store = empty_store(rt.alloc())?;
+    let alloc = rt.alloc();
+    let log = one_commit(alloc, 0)?.bytes;
+    let store = empty_store(alloc)?;
     for (workers, parts, fault) in [
         (0, 16, Fault::BadWorkers),
         (65, 0, Fault::BadWorkers),
@@ -113,7 +93,7 @@ fn refuses_options_out_of_range(rt: HostRuntime) -> Result<(), Fail> {
         (1, 4097, Fault::BadParting),
     ] {
         let options = Options { workers, parts };
-        match recover_in_memory(&rt, rt.alloc(), ONE_COMMIT, &store, &options, &OpenGate) {
+        match recover_in_memory(&rt, alloc, &log, &store, &options, &OpenGate) {
             Ok(_) => assert!(rt; false, "{workers} workers, {parts} parts"),
             Err(refusal) => assert!(rt; refusal == fault, "{workers} workers, {parts} parts"),
         }
@@ -124,31 +104,22 @@ fn refuses_options_out_of_range(rt: HostRuntime) -> Result<(), Fail> {
 #[test]
 fn texts_are_audited(rt: HostRuntime) -> Result<(), Fail> {
     let alloc = rt.alloc();
+    let log = one_commit(alloc, 0)?.bytes;
     let store = empty_store(alloc)?;
-    assert_eq!(rt; audit_texts(alloc, ONE_COMMIT, &store), Ok(()));
+    let after = store_with_a(alloc)?;
+    assert_eq!(rt; audit_texts(alloc, &log, &store), Ok(()));
+    assert_eq!(rt; audit_texts(alloc, &log, &after), Ok(()));
+    let past_zero = clr_points_past_zero(alloc)?;
     assert_eq!(rt;
-        audit_texts(alloc, ONE_COMMIT, &store_with_a(alloc)?),
-        Ok(())
-    );
-    let log = clr_points_past_zero(alloc)?;
-    assert_eq!(rt;
-        audit_texts(alloc, &log.bytes, &store),
+        audit_texts(alloc, &past_zero.bytes, &store),
         Err(Fault::WrongCompensation(2))
     );
+    assert_eq!(rt; audit_texts(alloc, &store, &log), Err(Fault::BadLogHeader));
+    assert_eq!(rt; audit_texts(alloc, &log, &log), Err(Fault::BadStoreHeader));
+    assert_eq!(rt; audit_texts_over(alloc, &log, &after, &store), Ok(()));
     assert_eq!(rt;
-        audit_texts(alloc, &store, ONE_COMMIT),
-        Err(Fault::BadLogHeader)
+        audit_texts_over(alloc, &log, &store, &after),
+        Err(Fault::BadBase)
     );
-    assert_eq!(rt;
-        audit_texts(alloc, ONE_COMMIT, ONE_COMMIT),
-        Err(Fault::BadStoreHeader)
-    );
-    let after = store_with_a(alloc)?;
-    for (store, base, answer) in [
-        (&after, &store, Ok(())),
-        (&store, &after, Err(Fault::BadBase)),
-    ] {
-        assert_eq!(rt; audit_texts_over(alloc, ONE_COMMIT, store, base), answer);
-    }
     Ok(())
 }

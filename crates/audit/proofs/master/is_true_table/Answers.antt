@@ -6,7 +6,7 @@ use Rattle.audit.proofs.master.is_true_table.Goals as goal
 pub returns-then-not-entries_are_true-clause-ok : goal.returns-then-not-entries_are_true-clause-ok
 returns-then-not-entries_are_true-clause-ok c =
     let log : History = first c.args.master (history c.args.log.now) in
-    let entries = c.entries_are_true.ensures log c.in_ok-state.state.links.items c.in_ok-state.ensures.ok.stands in (
+    let entries = c.entries_are_true.ensures log c.in_ok-audit_state.audit_state.links.items c.in_ok-audit_state.ensures.ok.stands in (
       λ impossible. absurd (false≢true impossible),
       λ e. absurd (iff_false entries c.if-not-entries_are_true.true (true_entries log c.args.transactions.now e)),
     )
@@ -14,8 +14,8 @@ returns-then-not-entries_are_true-clause-ok c =
 pub returns-clause-ok : goal.returns-clause-ok
 returns-clause-ok c =
     let log : History = first c.args.master (history c.args.log.now) in
-    let links = c.in_ok-state.state.links.items in
-    let stands = c.in_ok-state.ensures.ok.stands in
+    let links = c.in_ok-audit_state.audit_state.links.items in
+    let stands = c.in_ok-audit_state.ensures.ok.stands in
     let entries = (c.entries_are_true.ensures log links stands).0 c.if-not-entries_are_true.false in (
       λ yes. table_is log c.args.transactions.now c.requires.rising entries (λ t live. (c.in_ok-listed.ensures.ok t).0 ((c.unfinished_are_listed.ensures links stands).0 yes t live)),
       λ e. (c.unfinished_are_listed.ensures links stands).1 (λ t live. (c.in_ok-listed.ensures.ok t).1 (true_lists log c.args.transactions.now e t live)),

@@ -4,7 +4,7 @@ use Rattle.wal.proofs.Histories.{size_of_first, first_at_base, first_all}
 use Rattle.wal.specs.Records.{History, LogRecord, history, last_lsn, ◌▸◌, first}
 use Rattle.wal.specs.Store.{NamesPages}
 use Rattle.wal.specs.Content.{shown}
-use Rattle.audit.specs.Cells.{KeepsCells, written}
+use Rattle.audit.specs.Cells.{KeepsCells, writers_after}
 use Rattle.audit.specs.Pages.{log_at, counts_for, page_lsn}
 use Rattle.audit.proofs.Passing.{written_back}
 use Rattle.audit.proofs.PageImages.{cells_counted, cells_skipped}
@@ -25,7 +25,7 @@ loop-lsn-preserved c =
           let len : length c.loop-lsn.writers.items ≡ c.loop-lsn.writers.len = omega (arith, w.deref_mut.ensures.len, ap length w.deref_mut.ensures.value) in
           let len' : length w.note_write.new.writers ≡ c.loop-lsn.writers.len = omega (arith, w.note_write.auto.writers, w.deref_mut.ensures.len) in
           let back = written_back c.loop-lsn.writers.len c.loop-lsn.writers.items w.note_write.new.writers len len' in
-          let wrote : w.note_write.new.writers ≡ written c.loop-lsn.writers.items r (c.loop-lsn.lsn + 1) = w.note_write.ensures ∙ ap (λ xs. written xs r (c.loop-lsn.lsn + 1)) w.deref_mut.ensures.value in
+          let wrote : w.note_write.new.writers ≡ writers_after c.loop-lsn.writers.items r (c.loop-lsn.lsn + 1) = w.note_write.ensures ∙ ap (λ xs. writers_after xs r (c.loop-lsn.lsn + 1)) w.deref_mut.ensures.value in
           subst (λ xs. KeepsCells (length c.args.pages.now) (log_at c.args.pages.now (so_far ▸ r)) xs) (sym (ap (λ v. v.items) w.writers-is ∙ back ∙ wrote))
           (cells_counted c.args.pages.now so_far r (c.loop-lsn.lsn + 1) at c.loop-lsn.writers.items yes named c.after-view.ensures.fits c.loop-lsn.invariant))
       | else-counts w ↦

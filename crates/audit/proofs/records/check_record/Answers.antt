@@ -11,30 +11,30 @@ use Rattle.audit.proofs.records.check_record.Goals as goal
 
 pub returns-then-not-keeps_chain-clause-err : goal.returns-then-not-keeps_chain-clause-err
 returns-then-not-keeps_chain-clause-err c = λ so_far at begins lawful tells.
-    let s = at_transaction c.args.state.now.links.items so_far (status_in c.args.state.now.table) c.transaction_of.result (tx_of (shown c.args.view.now)) c.status_of-status.result tells.stands c.transaction_of.ensures c.status_of-status.ensures in
+    let s = at_transaction c.args.audit_state.now.links.items so_far (status_in c.args.audit_state.now.table) c.transaction_of.result (tx_of (shown c.args.view.now)) c.status_of-status.result tells.stands c.transaction_of.ensures c.status_of-status.ensures in
     (omega arith, c.names_pages.ensures.0 c.if-not-names_pages.false, iff_false (c.keeps_chain.ensures so_far _ s) c.if-not-keeps_chain.true)
 
 pub returns-then-not-keeps_finish-clause-err : goal.returns-then-not-keeps_finish-clause-err
 returns-then-not-keeps_finish-clause-err c = λ so_far at begins lawful tells.
-    let s = at_transaction c.args.state.now.links.items so_far (status_in c.args.state.now.table) c.transaction_of.result (tx_of (shown c.args.view.now)) c.status_of-status.result tells.stands c.transaction_of.ensures c.status_of-status.ensures in
+    let s = at_transaction c.args.audit_state.now.links.items so_far (status_in c.args.audit_state.now.table) c.transaction_of.result (tx_of (shown c.args.view.now)) c.status_of-status.result tells.stands c.transaction_of.ensures c.status_of-status.ensures in
     (omega arith, c.names_pages.ensures.0 c.if-not-names_pages.false, (c.keeps_chain.ensures so_far _ s).0 c.if-not-keeps_chain.false, iff_false (c.keeps_finish.ensures so_far _ s) c.if-not-keeps_finish.true)
 
 pub returns-then-not-keeps_compensation-clause-err : goal.returns-then-not-keeps_compensation-clause-err
 returns-then-not-keeps_compensation-clause-err c = λ so_far at begins lawful tells.
-    let s = at_transaction c.args.state.now.links.items so_far (status_in c.args.state.now.table) c.transaction_of.result (tx_of (shown c.args.view.now)) c.status_of-status.result tells.stands c.transaction_of.ensures c.status_of-status.ensures in
+    let s = at_transaction c.args.audit_state.now.links.items so_far (status_in c.args.audit_state.now.table) c.transaction_of.result (tx_of (shown c.args.view.now)) c.status_of-status.result tells.stands c.transaction_of.ensures c.status_of-status.ensures in
     wrong_end_or_clr (base_pages c.args.base.now) c.args.count so_far (shown c.args.view.now) c.args.lsn c.wrong_compensation.result c.wrong_compensation.ensures (omega arith) (c.names_pages.ensures.0 c.if-not-names_pages.false) ((c.keeps_chain.ensures so_far _ s).0 c.if-not-keeps_chain.false) ((c.keeps_finish.ensures so_far _ s).0 c.if-not-keeps_finish.false)
     (iff_false (c.keeps_compensation.ensures so_far _ begins tells.links s) c.if-not-keeps_compensation.true)
 
 pub returns-then-not-keeps_strictness-clause-err : goal.returns-then-not-keeps_strictness-clause-err
 returns-then-not-keeps_strictness-clause-err c = λ so_far at begins lawful tells.
-    let s = at_transaction c.args.state.now.links.items so_far (status_in c.args.state.now.table) c.transaction_of.result (tx_of (shown c.args.view.now)) c.status_of-status.result tells.stands c.transaction_of.ensures c.status_of-status.ensures in
+    let s = at_transaction c.args.audit_state.now.links.items so_far (status_in c.args.audit_state.now.table) c.transaction_of.result (tx_of (shown c.args.view.now)) c.status_of-status.result tells.stands c.transaction_of.ensures c.status_of-status.ensures in
     let named = c.names_pages.ensures.0 c.if-not-names_pages.false in
     let cells = subst (λ ws. KeepsCells c.args.count (λ _. so_far) ws) (sym c.deref.ensures.value) tells.cells in
     (omega arith, named, (c.keeps_chain.ensures so_far _ s).0 c.if-not-keeps_chain.false, (c.keeps_finish.ensures so_far _ s).0 c.if-not-keeps_finish.false, (c.keeps_compensation.ensures so_far _ begins tells.links s).0 c.if-not-keeps_compensation.false, iff_false (c.keeps_strictness.ensures (base_pages c.args.base.now) so_far _ c.args.count begins lawful tells.stands cells named c.requires.fits) c.if-not-keeps_strictness.true)
 
 pub returns-then-not-keeps_before-clause-err : goal.returns-then-not-keeps_before-clause-err
 returns-then-not-keeps_before-clause-err c = λ so_far at begins lawful tells.
-    let s = at_transaction c.args.state.now.links.items so_far (status_in c.args.state.now.table) c.transaction_of.result (tx_of (shown c.args.view.now)) c.status_of-status.result tells.stands c.transaction_of.ensures c.status_of-status.ensures in
+    let s = at_transaction c.args.audit_state.now.links.items so_far (status_in c.args.audit_state.now.table) c.transaction_of.result (tx_of (shown c.args.view.now)) c.status_of-status.result tells.stands c.transaction_of.ensures c.status_of-status.ensures in
     let named = c.names_pages.ensures.0 c.if-not-names_pages.false in
     let cells = subst (λ ws. KeepsCells c.args.count (λ _. so_far) ws) (sym c.deref.ensures.value) tells.cells in
     let cells' = subst (λ ws. KeepsCells c.args.count (λ _. so_far) ws) (sym c.deref-2.ensures.value) tells.cells in
@@ -42,7 +42,7 @@ returns-then-not-keeps_before-clause-err c = λ so_far at begins lawful tells.
 
 pub returns-clause-ok : goal.returns-clause-ok
 returns-clause-ok c = λ so_far at begins lawful tells.
-    let s = at_transaction c.args.state.now.links.items so_far (status_in c.args.state.now.table) c.transaction_of.result (tx_of (shown c.args.view.now)) c.status_of-status.result tells.stands c.transaction_of.ensures c.status_of-status.ensures in
+    let s = at_transaction c.args.audit_state.now.links.items so_far (status_in c.args.audit_state.now.table) c.transaction_of.result (tx_of (shown c.args.view.now)) c.status_of-status.result tells.stands c.transaction_of.ensures c.status_of-status.ensures in
     let named = c.names_pages.ensures.0 c.if-not-names_pages.false in
     let cells = subst (λ ws. KeepsCells c.args.count (λ _. so_far) ws) (sym c.deref.ensures.value) tells.cells in
     let cells' = subst (λ ws. KeepsCells c.args.count (λ _. so_far) ws) (sym c.deref-2.ensures.value) tells.cells in (

@@ -6,7 +6,7 @@ use Rattle.wal.specs.Content.{shown}
 use Rattle.wal.specs.Pages.{base_pages}
 use Rattle.audit.specs.FirstFault.{AreSound}
 use Rattle.audit.specs.Statuses.{status_in, IsTop}
-use Rattle.audit.specs.Passing.{IsStateOf}
+use Rattle.audit.specs.Passing.{IsAuditStateOf}
 use Rattle.audit.proofs.Noting.{has_cell, is_top}
 use Rattle.audit.proofs.Passing.{begins_first, sound_more, record_fault}
 use Rattle.audit.proofs.records.check_records.Goals as goal
@@ -28,14 +28,14 @@ pub note-requires-clause-cell : goal.note-requires-clause-cell
 note-requires-clause-cell c =
     let so_far : History = first c.loop-lsn.lsn (history c.args.log.now) in
     let at : last_lsn so_far + 1 ≡ c.loop-lsn.lsn + 1 = omega (arith, size_of_first c.loop-lsn.lsn (history c.args.log.now) (omega (arith, c.base-begins.ensures.is)) (omega arith)) in
-    has_cell c.args.count (length c.loop-lsn.state.writers.items) (shown c.after-view.result) c.loop-lsn.invariant.1.cells.size_is
+    has_cell c.args.count (length c.loop-lsn.audit_state.writers.items) (shown c.after-view.result) c.loop-lsn.invariant.1.cells.size_is
     (c.in_default.ensures.ok so_far at (begins_first c.args.log.now c.loop-lsn.lsn (omega (arith, c.base-begins.ensures.is))) c.loop-lsn.invariant.0.lawful c.loop-lsn.invariant.1).0 c.after-view.ensures.fits
 
 pub note-requires-clause-tops : goal.note-requires-clause-tops
 note-requires-clause-tops c = λ t.
     let so_far = first c.loop-lsn.lsn (history c.args.log.now) in
-    subst (λ b. IsTop b c.loop-lsn.state.links.items (status_in c.loop-lsn.state.table t).newest) (sym c.loop-lsn.invariant.1.base)
-    (is_top (base_lsn so_far) c.loop-lsn.state.links.items (pending t (first c.loop-lsn.lsn (history c.args.log.now))) (status_in c.loop-lsn.state.table t).newest (c.loop-lsn.invariant.1.stands t).pending)
+    subst (λ b. IsTop b c.loop-lsn.audit_state.links.items (status_in c.loop-lsn.audit_state.table t).newest) (sym c.loop-lsn.invariant.1.base)
+    (is_top (base_lsn so_far) c.loop-lsn.audit_state.links.items (pending t (first c.loop-lsn.lsn (history c.args.log.now))) (status_in c.loop-lsn.audit_state.table t).newest (c.loop-lsn.invariant.1.stands t).pending)
 
 pub loop-lsn-preserved : goal.loop-lsn-preserved
 loop-lsn-preserved c =
@@ -43,14 +43,14 @@ loop-lsn-preserved c =
     let at : last_lsn so_far + 1 ≡ c.loop-lsn.lsn + 1 = omega (arith, size_of_first c.loop-lsn.lsn (history c.args.log.now) (omega (arith, c.base-begins.ensures.is)) (omega arith)) in
     let kept = c.in_default.ensures.ok so_far at (begins_first c.args.log.now c.loop-lsn.lsn (omega (arith, c.base-begins.ensures.is))) c.loop-lsn.invariant.0.lawful c.loop-lsn.invariant.1 in (
       sound_more (base_pages c.args.base.now) c.args.count (history c.args.log.now) c.loop-lsn.lsn (shown c.after-view.result) c.after-view.ensures.next c.loop-lsn.invariant.0 kept.0 kept.1,
-      subst (λ (h : History). IsStateOf c.args.count h c.note.new.self) (sym c.after-view.ensures.next)
+      subst (λ (h : History). IsAuditStateOf c.args.count h c.note.new.self) (sym c.after-view.ensures.next)
           (c.in_ok-note.ensures.ok c.args.count so_far at kept.0 c.after-view.ensures.fits c.loop-lsn.invariant.1),
     )
 
 pub loop-lsn-init : goal.loop-lsn-init
 loop-lsn-init c =
-    subst (λ (h : History). AreSound (base_pages c.args.base.now) c.args.count h × IsStateOf c.args.count h c.in_ok-state.state) (sym (first_at_base (history c.args.log.now) c.base-begins.result c.base-begins.ensures.is))
-    (record { lawful = tt; named = λ lsn r there. absurd cc }, c.in_ok-state.ensures.ok)
+    subst (λ (h : History). AreSound (base_pages c.args.base.now) c.args.count h × IsAuditStateOf c.args.count h c.in_ok-audit_state.audit_state) (sym (first_at_base (history c.args.log.now) c.base-begins.result c.base-begins.ensures.is))
+    (record { lawful = tt; named = λ lsn r there. absurd cc }, c.in_ok-audit_state.ensures.ok)
 
 pub returns-clause-ok : goal.returns-clause-ok
 returns-clause-ok c =

@@ -1,6 +1,6 @@
-use Rattle.std.proofs.Common.{[], ◌∷◌, Contains, sym, ◌∙◌, subst, inl, inr}
+use Rattle.std.proofs.Common.{[], ◌∷◌, Contains, map, sym, ◌∙◌, subst, inl, inr}
 use Rattle.std.proofs.lemmas.List.Elements.{Contains-append_cases}
-use Rattle.redo.specs.Parts.{HasPart}
+use Rattle.redo.specs.Parts.{HasPart, resolved}
 use Rattle.redo.proofs.Reading.{contains_one, on_ok}
 use Rattle.redo.proofs.crew.work.Goals as goal
 
@@ -15,6 +15,6 @@ loop-part-preserved g c =
       (λ part has.
           elim (Contains-append_cases c.loop-part.seat.drawn (c.in-Part.part ∷ []) part (subst (λ xs. Contains xs part) drew.part.2 has)) [
             | inl h ↦ on_ok c.redo_part.result answered c.redo_part.ensures.kept part (old.3 part h)
-            | inr h ↦ subst (λ p. HasPart c.args.input.now p c.redo_part.new.pages.items) (c.enter-entered.ensures ∙ contains_one c.in-Part.part part h) (on_ok c.redo_part.result answered c.redo_part.ensures.added)
+            | inr h ↦ subst (λ p. HasPart c.args.input.now p (map (resolved c.args.input.now) c.redo_part.new.tallies.items)) (c.enter-entered.ensures ∙ contains_one c.in-Part.part part h) (on_ok c.redo_part.result answered c.redo_part.ensures.added)
           ]),
     )

@@ -1,13 +1,13 @@
-use Rattle.std.proofs.Common.{◌≡◌, ℕ, ◌-◌, All, Contains, length}
-use Rattle.redo.specs.Parts.{IsDone, HasPart}
+use Rattle.std.proofs.Common.{◌≡◌, ℕ, ◌-◌, All, Contains, length, map}
+use Rattle.redo.specs.Parts.{IsDone, HasPart, resolved}
 use Rattle.redo.proofs.crew.work.Given as goal
 
 abbrev pub invariant-loop-part : goal.invariant-loop-part
 invariant-loop-part g l =
     (l.seat.board ≡ l.initial.seat.board)
     × (l.seat.places ≡ l.initial.seat.places)
-    × All (IsDone l.input) l.pages.items
-    × ((part : ℕ) → Contains l.seat.drawn part → HasPart l.input part l.pages.items)
+    × All (IsDone l.input) (map (resolved l.input) l.tallies.items)
+    × ((part : ℕ) → Contains l.seat.drawn part → HasPart l.input part (map (resolved l.input) l.tallies.items))
 
 abbrev pub decreases-loop-part : goal.decreases-loop-part
 decreases-loop-part g l = l.board.parts - length l.seat.drawn

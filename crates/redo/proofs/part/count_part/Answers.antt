@@ -2,9 +2,8 @@ use Rattle.std.proofs.Common.{◌≡◌, ℕ, ◌+◌, ◌<◌, ◌^◌, List, A
 use Rattle.std.specs.List.{fold}
 use Rattle.std.proofs.lemmas.List.{length-map}
 use Rattle.wal.specs.Records.{history, last_lsn, first, base_lsn}
-use Rattle.redo.specs.declared.progress.Progress.{Progress}
 use Rattle.redo.specs.declared.tally.Tally.{Tally}
-use Rattle.redo.specs.Changes.{on_part, lsns_where, step, lsn_in}
+use Rattle.redo.specs.Changes.{RedoPage, on_part, lsns_where, step, lsn_in}
 use Rattle.redo.specs.Routes.{boundary_in, skipped_in, Stands}
 use Rattle.redo.specs.Parts.{IsUpTo, numbers_of, resolved}
 use Rattle.redo.proofs.Reading.{written_back}
@@ -35,7 +34,7 @@ replay-requires-clause-stand c =
     let walked = stretch input c.args.routes.now c.args.part k c.route-item.result notes c.requires.routes c.requires.part c.loop-route-test.true c.route-item.is c.notes.ensures in
     let ps = map (resolved input) c.loop-route.tallies.items in
     let lent : map (resolved input) c.deref_mut.result.now ≡ ps = ap (map (resolved input)) c.deref_mut.ensures.value in
-    subst (λ (qs : List Progress). All (Stands (history input.log) input.parting.place_of (numbers_of qs)) notes) (sym lent)
+    subst (λ (qs : List RedoPage). All (Stands (history input.log) input.parting.place_of (numbers_of qs)) notes) (sym lent)
     (all_stand input c.args.part known.numbered known.dealt known.fits from to ps notes (omega (arith, walked.begun, walked.next)) walked.within c.loop-route.invariant walked.lsns walked.are)
 
 pub replay-requires-clause-room : goal.replay-requires-clause-room
@@ -68,12 +67,12 @@ loop-route-preserved c =
     let ps = map (resolved input) c.loop-route.tallies.items in
     let lent : map (resolved input) c.deref_mut.result.now ≡ ps = ap (map (resolved input)) c.deref_mut.ensures.value in
     let log = (history input.log) in
-    let run : List ℕ → Progress → Progress = λ xs p. fold (step log input.redo_lsn) p xs in
+    let run : List ℕ → RedoPage → RedoPage = λ xs p. fold (step log input.redo_lsn) p xs in
     let new = map (resolved input) c.replay.new.tallies in
     let replayed : new ≡ map (run (map lsn_in notes)) (map (resolved input) c.deref_mut.result.now) = c.replay.ensures in
     let is : new ≡ map (run (lsns_where (on_part input.parting.part_of c.args.part) from (first to (history input.log)))) ps =
     replayed ∙ (ap (λ (xs : List ℕ). map (run xs) (map (resolved input) c.deref_mut.result.now)) walked.lsns ∙ ap (map (run (lsns_where (on_part input.parting.part_of c.args.part) from (first to (history input.log))))) lent) in
-    let count : length c.replay.new.tallies ≡ c.loop-route.tallies.len = omega (arith, ap (λ (qs : List Progress). length qs) replayed, length-map (map (resolved input) c.deref_mut.result.now) (run (map lsn_in notes)), length-map c.replay.new.tallies (resolved input), length-map c.deref_mut.result.now (resolved input), ap (λ (ts : List Tally). length ts) c.deref_mut.ensures.value, c.loop-route.tallies.ok.0) in
+    let count : length c.replay.new.tallies ≡ c.loop-route.tallies.len = omega (arith, ap (λ (qs : List RedoPage). length qs) replayed, length-map (map (resolved input) c.deref_mut.result.now) (run (map lsn_in notes)), length-map c.replay.new.tallies (resolved input), length-map c.deref_mut.result.now (resolved input), ap (λ (ts : List Tally). length ts) c.deref_mut.ensures.value, c.loop-route.tallies.ok.0) in
     subst (λ (ts : List Tally). IsUpTo input c.args.part to (map (resolved input) ts)) (sym (written_back c.loop-route.tallies.len c.loop-route.tallies.items c.replay.new.tallies count))
     (further input c.args.part known.numbered known.dealt known.fits from to ps new walked.begun walked.next walked.within c.loop-route.invariant is)
 

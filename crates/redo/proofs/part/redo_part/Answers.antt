@@ -1,18 +1,18 @@
-use Rattle.std.proofs.Common.{All, List, Some, map, sym, ap, ◌∙◌, subst}
-use Rattle.redo.specs.declared.progress.Progress.{Progress}
-use Rattle.redo.specs.declared.tally.Tally.{Tally}
-use Rattle.redo.specs.Parts.{IsDone, HasPage, resolved}
+use Rattle.std.proofs.Common.{◌≡◌, ◌++◌, List, Some, map, sym, ap, ◌∙◌, subst}
+use Rattle.std.proofs.lemmas.List.{map-append}
+use Rattle.redo.specs.Changes.{RedoPage}
+use Rattle.redo.specs.Parts.{HasPage, resolved}
 use Rattle.redo.proofs.Gathered.{has_left, has_right}
 use Rattle.redo.proofs.part.redo_part.Goals as goal
 
-pub finish-requires-clause-tallied : goal.finish-requires-clause-tallied
-finish-requires-clause-tallied c = subst (λ (ts : List Tally). All (IsDone c.args.input.now) (map (resolved c.args.input.now) ts)) (sym c.deref.ensures.value) c.in_ok-tallies.ensures.done
+-- the pages of the part, behind those that were there
+behind : (c : goal.After-drop-counted-2) → map (resolved c.args.input.now) c.append.new.self.items ≡ map (resolved c.args.input.now) c.args.tallies.now.items ++ map (resolved c.args.input.now) c.in_ok-counted.counted.items
+behind c = ap (map (resolved c.args.input.now)) c.in_ok-append.ensures.items ∙ map-append (resolved c.args.input.now) c.args.tallies.now.items c.in_ok-counted.counted.items
 
 pub returns-clause-kept : goal.returns-clause-kept
 returns-clause-kept c = λ other has page given.
-    subst (λ (ps : List Progress). HasPage ps page) (sym c.in_ok-finish.ensures.added) (has_left c.args.pages.now.items _ page (has page given))
+    subst (λ (ps : List RedoPage). HasPage ps page) (sym (behind c)) (has_left (map (resolved c.args.input.now) c.args.tallies.now.items) _ page (has page given))
 
 pub returns-clause-added : goal.returns-clause-added
 returns-clause-added c = λ page given.
-    let all : HasPage (map (resolved c.args.input.now) c.deref.result.now) page = subst (λ (ts : List Tally). HasPage (map (resolved c.args.input.now) ts) page) (sym c.deref.ensures.value) (c.in_ok-tallies.ensures.all page (given ∙ ap Some (sym c.part.ensures))) in
-    subst (λ (ps : List Progress). HasPage ps page) (sym c.in_ok-finish.ensures.added) (has_right c.args.pages.now.items _ page all)
+    subst (λ (ps : List RedoPage). HasPage ps page) (sym (behind c)) (has_right (map (resolved c.args.input.now) c.args.tallies.now.items) _ page (c.in_ok-counted.ensures.all page (given ∙ ap Some (sym c.part.ensures))))

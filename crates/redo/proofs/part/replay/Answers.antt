@@ -2,8 +2,7 @@ use Rattle.std.proofs.Common.{◌≡◌, suc, ◌+◌, ◌-◌, ◌<◌, ◌≤�
 use Rattle.std.specs.List.{fold}
 use Rattle.std.proofs.lemmas.List.{length-map, get_or-map, take_all}
 use Rattle.wal.specs.Records.{history}
-use Rattle.redo.specs.declared.progress.Progress.{Progress}
-use Rattle.redo.specs.Changes.{step, lsn_in}
+use Rattle.redo.specs.Changes.{RedoPage, step, lsn_in}
 use Rattle.redo.specs.Parts.{resolved}
 use Rattle.redo.proofs.Parts.{step_numbers, step_room, fold_none, fold_next}
 use Rattle.redo.proofs.part.replay.Goals as goal
@@ -31,7 +30,7 @@ loop-index-preserved c =
     let after = map (resolved input) c.redo_noted.new.tallies in
     let left : length c.args.notes.now - i ≡ suc (length c.args.notes.now - (i + 1)) = omega (arith, lt) in (
       fold_next log redo_lsn lsns i _ (map (resolved input) c.args.tallies.now) before after below (ap lsn_in c.get.ensures ∙ sym (get_or-map lsn_in c.args.notes.now i c.get.result 0 lt)) old.0 is,
-      ap (λ ps. map (λ (p : Progress). p.page.number) ps) is ∙ (step_numbers log redo_lsn _ before ∙ old.1),
+      ap (λ ps. map (λ (p : RedoPage). p.page.number) ps) is ∙ (step_numbers log redo_lsn _ before ∙ old.1),
       subst (All (λ p. p.applied + (length c.args.notes.now - (i + 1)) < 2 ^ 64)) (sym is)
           (step_room log redo_lsn _ (2 ^ 64) (length c.args.notes.now - (i + 1)) before (subst (λ n. All (λ p. p.applied + n < 2 ^ 64) before) left old.2)),
     )

@@ -53,7 +53,7 @@ returns-in_err-resolve-clause-fault c =
     let rises : Rise 0 (losers_in c.args.tables.now) = subst (Rise 0) same (lost_rise 0 (map entry_of c.tables.inside.transactions.entries) (rise c.tables.inside.transactions.entries gives.5)) in
     let earlier = stands_earlier 0 (lost_in done) (lost_in (map entry_of c.next.new.self)) e (subst (Rise 0) losers rises) in
     rw (exit.1, exit.2)
-    (λ count. broken_start (history c.args.log.now) (losers_in c.args.tables.now) (lost_in done) (get nat_cmp c.loop-tx.places) (get nat_cmp c.resolve.new.places)
+    (λ count. broken_start (history c.args.log.now) (losers_in c.args.tables.now) (lost_in done) (get nat_cmp c.loop-tx.waiting) (get nat_cmp c.resolve.new.waiting)
     (map content c.loop-tx.appended.items) (map content c.resolve.new.appended.items) c.next_lsn-end.result (omega (arith, c.next_lsn-end.ensures.next, size_of_log c.args.log.now))
     e (own c.in-Some.tx.now c.in-Some.entry.now c.tables.inside.transactions.entries (losers_in c.args.tables.now) same turn.1 lost) c.loop-tx.invariant.begun
     (λ t x lt some. earlier t x lt (sym (ap (entry_for t) losers) ∙ some)) count c.in_err-resolve.field-0.0 c.in_err-resolve.ensures.fault)
@@ -71,8 +71,8 @@ loop-tx-preserved-in-Continue-1 c =
     let more = ap lost_in (one_more c.loop-tx.yielded c.in-Some.tx c.in-Some.entry) ∙ one_lost done e lost in
     record {
       begun =
-          subst (λ es. Begun (history c.args.log.now) (losers_in c.args.tables.now) es (get nat_cmp c.resolve.new.places) (map content c.resolve.new.appended.items)) (sym more)
-          (begun_more (history c.args.log.now) (losers_in c.args.tables.now) (lost_in done) (get nat_cmp c.loop-tx.places) (get nat_cmp c.resolve.new.places)
+          subst (λ es. Begun (history c.args.log.now) (losers_in c.args.tables.now) es (get nat_cmp c.resolve.new.waiting) (map content c.resolve.new.appended.items)) (sym more)
+          (begun_more (history c.args.log.now) (losers_in c.args.tables.now) (lost_in done) (get nat_cmp c.loop-tx.waiting) (get nat_cmp c.resolve.new.waiting)
           (map content c.loop-tx.appended.items) (map content c.resolve.new.appended.items) c.next_lsn-end.result (omega (arith, c.next_lsn-end.ensures.next, size_of_log c.args.log.now))
           e found c.loop-tx.invariant.begun c.in_ok-resolve.ensures.ok);
       numbers =
@@ -88,7 +88,7 @@ loop-tx-preserved c =
     let kept : is_lost e ≡ false = sym (c.is_lost.ensures c.in-Some.tx.now) ∙ c.if-is_lost.false in
     let more = ap lost_in (one_more c.loop-tx.yielded c.in-Some.tx c.in-Some.entry) ∙ none_lost (map entry_of (map deref_pair c.loop-tx.yielded)) e kept in
     record {
-      begun = subst (λ es. Begun (history c.args.log.now) (losers_in c.args.tables.now) es (get nat_cmp c.loop-tx.places) (map content c.loop-tx.appended.items)) (sym more) c.loop-tx.invariant.begun;
+      begun = subst (λ es. Begun (history c.args.log.now) (losers_in c.args.tables.now) es (get nat_cmp c.loop-tx.waiting) (map content c.loop-tx.appended.items)) (sym more) c.loop-tx.invariant.begun;
       numbers = subst (λ es. All (λ n. n < 2 ^ 32) (map tx_in es)) (sym more) c.loop-tx.invariant.numbers;
       writable = c.loop-tx.invariant.writable;
     }
@@ -109,9 +109,9 @@ in_order c =
 
 pub returns-clause-ok : goal.returns-clause-ok
 returns-clause-ok c =
-    begun_rolls (history c.args.log.now) (losers_in c.args.tables.now) (get nat_cmp c.loop-tx.places) (map content c.loop-tx.appended.items)
+    begun_rolls (history c.args.log.now) (losers_in c.args.tables.now) (get nat_cmp c.loop-tx.waiting) (map content c.loop-tx.appended.items)
     (distinct 0 (losers_in c.args.tables.now) (in_order c))
-    (subst (λ es. Begun (history c.args.log.now) (losers_in c.args.tables.now) es (get nat_cmp c.loop-tx.places) (map content c.loop-tx.appended.items)) (all_taken c) c.loop-tx.invariant.begun)
+    (subst (λ es. Begun (history c.args.log.now) (losers_in c.args.tables.now) es (get nat_cmp c.loop-tx.waiting) (map content c.loop-tx.appended.items)) (all_taken c) c.loop-tx.invariant.begun)
 
 pub returns-clause-ends : goal.returns-clause-ends
 returns-clause-ends c =

@@ -14,7 +14,7 @@ use Rattle.undo.proofs.losers.begin.Given as goal
 abbrev pub invariant-loop-tx : goal.invariant-loop-tx
 invariant-loop-tx l =
     record {
-      begun : Begun (history l.log) (losers_in l.tables) (lost_in (map entry_of (map deref_pair l.yielded))) (get nat_cmp l.places) (map content l.appended.items);
+      begun : Begun (history l.log) (losers_in l.tables) (lost_in (map entry_of (map deref_pair l.yielded))) (get nat_cmp l.waiting) (map content l.appended.items);
       numbers : All (λ n. n < 2 ^ 32) (map tx_in (lost_in (map entry_of (map deref_pair l.yielded))));
       writable : HasNoTransaction0 l.tables → AreWritable l.appended.items;
     }

@@ -11,18 +11,18 @@ use Rattle.undo.specs.Rollback.{AreUpdates, RollbackInvariant}
 use Rattle.undo.proofs.Placed.{height}
 use Rattle.undo.proofs.rollback.undo_all.Given as goal
 
-abbrev pub invariant-loop-place : goal.invariant-loop-place
-invariant-loop-place l =
+abbrev pub invariant-loop-update_lsn : goal.invariant-loop-update_lsn
+invariant-loop-update_lsn l =
     record {
-      updates : AreUpdates (history l.log) (get nat_cmp l.places);
-      rolls : (losers : List TableEntry) → RollbackInvariant (history l.log) losers (length l.fn.pages) (get nat_cmp l.fn.places) (map content l.fn.appended.items)
-          → RollbackInvariant (history l.log) losers (length l.fn.pages) (get nat_cmp l.places) (map content l.appended.items);
+      updates : AreUpdates (history l.log) (get nat_cmp l.waiting);
+      rolls : (losers : List TableEntry) → RollbackInvariant (history l.log) losers (length l.fn.pages) (get nat_cmp l.fn.waiting) (map content l.fn.appended.items)
+          → RollbackInvariant (history l.log) losers (length l.fn.pages) (get nat_cmp l.waiting) (map content l.appended.items);
       exist : All (NamesPages (length l.fn.pages)) (map content l.fn.appended.items) → All (NamesPages (length l.fn.pages)) (map content l.appended.items);
-      few : length l.appended.items + 2 * (height l.places.entries - 1 - base_lsn (history l.log)) ≤ length l.fn.appended.items + 2 * length l.log.records;
+      few : length l.appended.items + 2 * (height l.waiting.entries - 1 - base_lsn (history l.log)) ≤ length l.fn.appended.items + 2 * length l.log.records;
       writable : AreWritable l.fn.appended.items → AreWritable l.appended.items;
       pages_are : (given : List Page) → AreNumbered given → l.fn.pages ≡ map (undone_page (history l.log) (map content l.fn.appended.items)) given
           → l.pages ≡ map (undone_page (history l.log) (map content l.appended.items)) given;
     }
 
-abbrev pub decreases-loop-place : goal.decreases-loop-place
-decreases-loop-place l = height l.places.entries
+abbrev pub decreases-loop-update_lsn : goal.decreases-loop-update_lsn
+decreases-loop-update_lsn l = height l.waiting.entries

@@ -1,0 +1,75 @@
+//! The third round: the pages of the store, with the values of the records that they lacked.
+
+ghost use Rattle.std.specs.Prelude.{◌≡◌, ℕ, ◌<◌, ◌^◌, length, slice_index_or};
+ghost use Rattle.std.specs.List.{sum_by};
+ghost use Rattle.page.specs.declared.page.Page.{Page};
+ghost use Rattle.wal.specs.Records.{history};
+ghost use Rattle.redo.specs.Changes.{held_after, slots_after, finished};
+ghost use Rattle.redo.specs.declared.tally.Tally.{Tally};
+
+use crate::tally::Tally;
+use page::{Page, SLOTS, Value};
+use std::thread;
+use std::thread::Threads;
+use wal::Log;
+
+/// What a slot holds by the LSN of its last record, where 0 says that there is none.
+fn held(log: &Log, lsn: u64, image: Option<Value>) -> Option<Value>
+    ensures { result ≡ held_after (history log.now) lsn image }
+{
+    if lsn == 0 { image } else { log.image(lsn) }
+}
+
+/// Puts the values of the last records into their slots.
+fn fill(log: &Log, lasts: &[u64; SLOTS], slots: &mut [Option<Value>; SLOTS])
+    ensures { slots.new ≡ slots_after (history log.now) lasts.now slots.old }
+{
+    for slot in 0..SLOTS {
+        slots[slot] = held(log, lasts[slot], slots[slot]);
+    }
+}
+
+/// Makes of a page's image in the store the page that a tally tells of. Of all records in one slot
+/// the value of the last alone is fetched.
+fn finish_page(log: &Log, tally: &Tally, page: &mut Page)
+    ensures { page.new ≡ finished (history log.now) tally.now page.old }
+{
+    page.number = tally.number;
+    page.lsn = tally.lsn;
+    fill(log, &tally.lasts, &mut page.slots);
+}
+
+/// Makes of the pages of the store those that their tallies tell of, in as many threads as this.
+pub fn finish_pages<R: Threads + Sync>(
+    rt: &R,
+    log: &Log,
+    tallies: &[Tally],
+    pages: &mut [Page],
+    threads: usize,
+)
+    requires count { length tallies.now ≡ length pages.old }
+    requires threads { 0 < threads }
+    ensures count { length pages.new ≡ length pages.old }
+    ensures each { (number : ℕ) (t : Tally) (image : Page) → number < length pages.old
+        → slice_index_or pages.new number image ≡ finished
+        (history log.now) (slice_index_or tallies.now number t) (slice_index_or pages.old number image) }
+{
+    let finish = |number: usize, page: &mut Page|
+        requires { number < length tallies.now }
+        ensures { (t : Tally) → page.exit.now ≡ finished (history log.entry.now)
+            (slice_index_or tallies.entry.now number t) page.entry.now }
+    { finish_page(log, &tallies[number], page) };
+    thread::for_each_mut(rt, pages, threads, &finish);
+}
+
+/// How many records were applied to all pages.
+pub fn total(tallies: &[Tally]) -> u64
+    requires { sum_by (λ t. t.applied) tallies.now < 2 ^ 64 }
+    ensures { result ≡ sum_by (λ t. t.applied) tallies.now }
+{
+    let mut total = 0;
+    for tally in tallies {
+        total += tally.applied;
+    }
+    total
+}

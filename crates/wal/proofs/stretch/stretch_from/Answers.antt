@@ -1,0 +1,39 @@
+use Rattle.std.proofs.Common.{◌≡◌, ◌+◌, ◌∷◌, [], length-append, drop, Ok, Some, option_map, refl, sym, ap, subst, ◌∙◌, arith}
+use Rattle.wal.specs.Frames.{next_at}
+use Rattle.wal.specs.Content.{shown}
+use Rattle.wal.proofs.Stretches.{frames_more, frame_takes}
+use Rattle.wal.proofs.stretch.stretch_from.Goals as goal
+
+pub loop-number-init : goal.loop-number-init
+loop-number-init c = rw c.new-offsets.ensures (refl, refl, omega arith, c.requires.begin)
+
+pub split_at-requires : goal.split_at-requires
+split_at-requires c = c.loop-number.invariant.3
+
+pub overflow_add-lsn : goal.overflow_add-lsn
+overflow_add-lsn c = omega (arith, c.requires.lsn, c.loop-number.invariant.2, c.loop-number.invariant.3)
+
+-- the frame that was read
+frame : (c : goal.In_ok-push) → next_at (c.args.lsn + c.loop-number.number) c.loop-number.end (drop c.loop-number.end c.args.bytes.now) ≡ Ok (Some (shown c.in-Ok-Some.field-0-0-0, c.in-Ok-Some.size))
+frame c = ap (next_at (c.args.lsn + c.loop-number.number) c.loop-number.end) (sym c.split_at.ensures.back) ∙ c.in-Ok-Some.ensures ∙ ap (λ o. Ok (option_map (λ x. (shown x.0, x.1)) o)) c.in-Ok-Some.field-0-is
+
+pub overflow_add-end : goal.overflow_add-end
+overflow_add-end c =
+    let takes = frame_takes c.args.bytes.now (c.args.lsn + c.loop-number.number) c.loop-number.end (shown c.in-Ok-Some.field-0-0-0) c.in-Ok-Some.size c.loop-number.invariant.3 (frame c) in
+    omega (arith, takes.1)
+
+pub loop-number-preserved : goal.loop-number-preserved
+loop-number-preserved c =
+    let is = c.loop-number.invariant in
+    let record_there = shown c.in-Ok-Some.field-0-0-0 in
+    let takes = frame_takes c.args.bytes.now (c.args.lsn + c.loop-number.number) c.loop-number.end record_there c.in-Ok-Some.size is.3 (frame c) in
+    let e = subst (λ n. next_at (c.args.lsn + n) c.loop-number.end (drop c.loop-number.end c.args.bytes.now) ≡ Ok (Some (record_there, c.in-Ok-Some.size))) (sym is.1) (frame c) in
+    rw c.in_ok-push.ensures.ok (
+      frames_more c.args.bytes.now c.args.lsn c.args.begin c.loop-number.offsets c.loop-number.end record_there c.in-Ok-Some.size is.0 e,
+      omega (arith, is.1, length-append c.loop-number.offsets (c.loop-number.end ∷ [])),
+      omega (arith, is.2, takes.0),
+      takes.1,
+    )
+
+pub returns-clause-frames : goal.returns-clause-frames
+returns-clause-frames c = record { frames = c.loop-number.invariant.0; room = c.loop-number.invariant.3 }

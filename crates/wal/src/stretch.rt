@@ -1,0 +1,159 @@
+//! Stretches of a log, which several threads read at once: each guesses where a frame begins.
+
+ghost use Rattle.std.specs.Prelude.{◌≡◌, ◌≤◌, ◌<◌, ◌+◌, All, length, IfOk, IfSome, IsOkUnless};
+ghost use Rattle.page.specs.declared.fault.Fault.TheVariants.{NoResource};
+ghost use Rattle.wal.specs.Headers.{header_bytes};
+ghost use Rattle.wal.specs.Stretches.{IsStretch, IfStretch, LeavesRoom};
+
+use crate::field::u64_at;
+use crate::frame::next_at;
+use crate::header::LogStart;
+use crate::offsets::Offsets;
+use page::Fault;
+use std::alloc::Global;
+use std::thread;
+use std::thread::Threads;
+
+/// A stretch of fewer bytes than this is not worth a thread.
+pub const SMALLEST_STRETCH: usize = 1 << 16;
+
+/// The largest LSN that a guess takes: each record behind it in a log has room for its LSN.
+const LARGEST_GUESS: u64 = 3 << 62;
+
+/// Frames one behind the other. The first begins at `begin` and has LSN `lsn`; behind the last
+/// stands `end`.
+#[derive(Drop)]
+pub struct Stretch {
+    pub lsn: u64,
+    pub begin: usize,
+    pub offsets: Offsets,
+    pub end: usize,
+}
+
+/// The frames from `begin` on, of which the first is to have this LSN: until one ends at `upto` or
+/// behind it, or what stands there is no frame. The only error is `NoResource`.
+pub fn stretch_from(
+    alloc: Global,
+    bytes: &[u8],
+    lsn: u64,
+    begin: usize,
+    upto: usize,
+) -> Result<Stretch, Fault>
+    requires begin { begin ≤ length bytes.now }
+    requires lsn { LeavesRoom lsn }
+    ensures frames { IfOk result (IsStretch bytes.now) }
+    ensures begins { IfOk result (λ stretch. (stretch.lsn ≡ lsn) × (stretch.begin ≡ begin)) }
+    ensures err { IsOkUnless result NoResource }
+{
+    let mut offsets = Offsets::new(alloc);
+    let mut end = begin;
+    for number in 0..bytes.len() {
+        if end >= upto {
+            break;
+        }
+        let (_, rest) = bytes.split_at(end);
+        let Ok(Some((_, size))) = next_at(lsn + number as u64, end, rest) else {
+            break;
+        };
+        offsets.push(end)?;
+        end += size;
+    }
+    Ok(Stretch {
+        lsn,
+        begin,
+        offsets,
+        end,
+    })
+}
+
+/// The LSN of the frame in front, if these bytes begin with one.
+fn lsn_in_front(bytes: &[u8]) -> Option<u64>
+    ensures { IfSome result LeavesRoom }
+{
+    let (_, body) = bytes.split_at_checked(5)?;
+    let (lsn, _) = u64_at(body)?;
+    if lsn > LARGEST_GUESS {
+        return None;
+    }
+    match next_at(lsn, 0, bytes) {
+        Ok(Some(_)) => Some(lsn),
+        _ => None,
+    }
+}
+
+/// The first place from `from` on, and in front of `upto`, that looks as if a frame began there, and
+/// that frame's LSN. Bytes of a value may look so too.
+fn guess(bytes: &[u8], from: usize, upto: usize) -> Option<(u64, usize)>
+    requires { upto ≤ length bytes.now }
+    ensures { IfSome result (λ x. LeavesRoom x.0 × (x.1 ≤ length bytes.now)) }
+{
+    for begin in from..upto {
+        let (_, rest) = bytes.split_at(begin);
+        if let Some(lsn) = lsn_in_front(rest) {
+            return Some((lsn, begin));
+        }
+    }
+    None
+}
+
+/// The stretch that a thread reads: of `count` about equal parts of what stands behind the header,
+/// the frames that begin in the one with this number, if a frame seems to begin there.
+fn guessed_stretch(
+    alloc: Global,
+    begins: LogStart,
+    bytes: &[u8],
+    count: usize,
+    number: usize,
+) -> Result<Option<Stretch>, Fault>
+    requires number { number < count }
+    requires room { header_bytes begins ≤ length bytes.now }
+    ensures { IfStretch bytes.now result }
+{
+    let header = begins.header_bytes();
+    let share = (bytes.len() - header) / count;
+    let from = header + share * number;
+    let Some((lsn, begin)) = guess(bytes, from, from + share) else {
+        return Ok(None);
+    };
+    Ok(Some(stretch_from(alloc, bytes, lsn, begin, from + share)?))
+}
+
+/// What the threads have read, if memory was there for all of it.
+fn all_of(
+    alloc: Global,
+    bytes: &[u8],
+    results: Vec<Result<Option<Stretch>, Fault>>,
+) -> Result<Vec<Stretch>, Fault>
+    requires { All (IfStretch bytes.now) results.items }
+    ensures each { IfOk result (λ stretches. All (IsStretch bytes.now) stretches.items) }
+    ensures err { IsOkUnless result NoResource }
+{
+    let mut stretches = Vec::new(alloc);
+    for result in results {
+        if let Some(stretch) = result? {
+            stretches.push(stretch)?;
+        }
+    }
+    Ok(stretches)
+}
+
+/// The stretches of a log that `threads` threads read, of about the same length, in their order.
+/// The only error is `NoResource`.
+pub fn stretches_of<R: Threads + Sync>(
+    rt: &R,
+    alloc: Global,
+    begins: LogStart,
+    bytes: &[u8],
+    threads: usize,
+) -> Result<Vec<Stretch>, Fault>
+    requires room { header_bytes begins ≤ length bytes.now }
+    ensures each { IfOk result (λ stretches. All (IsStretch bytes.now) stretches.items) }
+    ensures err { IsOkUnless result NoResource }
+{
+    let worker = |number: usize| -> Result<Option<Stretch>, Fault>
+        requires { (number < threads) × (header_bytes begins ≤ length bytes.now) }
+        ensures { IfStretch bytes.entry.now result }
+    { guessed_stretch(alloc, begins, bytes, threads, number) };
+    let results = thread::map_indices(rt, alloc, threads, &worker)?;
+    all_of(alloc, bytes, results)
+}
