@@ -2,24 +2,16 @@
 use Rattle.std.proofs.Common.{◌≡◌, ◌<◌, ◌≤◌, ◌&&◌, ◌||◌, not, ℕ, Bool, true, false, List, [], ◌∷◌, length, Option, Some, None, refl, sym, ap, ap₂, subst, ◌∙◌, inl, inr, arith, ◌+◌}
 use Rattle.std.proofs.lemmas.Bool.{cases_eq, both_ways, and_parts, not-true}
 use Rattle.wal.specs.Records.{UpdateRecord, CompensationRecord, LogRecord, Update, History, history, last_lsn, record_at, LogContent, base_lsn}
-use Rattle.wal.specs.Meaning.{BasePages, replay, is_of, has, pending, finished, aborted, prepared, in_doubt}
+use Rattle.wal.specs.Meaning.{BasePages, is_of, has, pending, finished, aborted, prepared, in_doubt}
 use Rattle.wal.specs.Laws.{IsLawful, Compensates, Strictness}
-use Rattle.wal.specs.Tail.{tx_of}
 use Rattle.wal.proofs.Histories.{record_none}
 use Rattle.wal.proofs.Holders.{held, strict_from_holder}
 use Rattle.audit.specs.declared.status.Status.{Status}
 use Rattle.audit.specs.Statuses.{Linked, IsStatusOf}
-use Rattle.audit.specs.Cells.{image_or, last_write}
+use Rattle.audit.specs.Cells.{last_writer}
 use Rattle.audit.specs.Passing.{Begins, Undoes, IsFreeFor}
 use Rattle.audit.proofs.Unfinished.{begun_already, prepared_has}
-use Rattle.audit.proofs.Cells.{last_write_within, image_in_last, last_touches, holder_wrote}
-
--- BEFORE IMAGES
-pub cell_value : (base : BasePages) (content : LogContent) (log : History) (page slot w : ℕ) → Begins log content → w ≡ last_write page slot log → image_or (base.cells page slot) (record_at (history content) w) ≡ replay base log page slot
-cell_value base content log page slot w begins e =
-    ap (λ n. image_or (base.cells page slot) (record_at (history content) n)) e
-    ∙ ap (image_or (base.cells page slot)) (begins (last_write page slot log) (last_write_within page slot log))
-    ∙ image_in_last base page slot log
+use Rattle.audit.proofs.Cells.{last_touches, holder_wrote}
 
 -- COMPENSATION
 module _ (content : LogContent) (log : History) (links : List ℕ) (c : CompensationRecord) (s : Status) (begins : Begins log content) (len : base_lsn log + length links ≡ last_lsn log) (h : IsStatusOf links c.tx log s) where
@@ -68,26 +60,24 @@ module _ (base : BasePages) (log : History) (lawful : IsLawful base log) (links 
   finished_is : (t : ℕ) → ((status t).committed || (status t).ended) ≡ finished t log
   finished_is t = ap₂ (λ x y. x || y) (stands t).committed (stands t).ended
 
-  pub free_strict : (o : Option LogRecord) → record_at log (last_write u.page u.slot log) ≡ o → IsFreeFor status o u.tx → Strictness log (Update u)
-  free_strict None e f = strict_from_holder base log lawful u (λ t held_by. let p = holder_wrote u.page u.slot t log held_by in let q : record_at log (last_write u.page u.slot log) ≡ Some p.0 = p.1 in absurd (cc))
-  free_strict (Some r) e f =
+  pub free_strict : (o : Option ℕ) → last_writer u.page u.slot log ≡ o → IsFreeFor status o u.tx → Strictness log (Update u)
+  free_strict None e f = strict_from_holder base log lawful u (λ t held_by. let p : last_writer u.page u.slot log ≡ Some t = holder_wrote u.page u.slot t log held_by in absurd (cc))
+  free_strict (Some w) e f =
       strict_from_holder base log lawful u
       (λ t held_by.
-      let p = holder_wrote u.page u.slot t log held_by in
-      let q : record_at log (last_write u.page u.slot log) ≡ Some p.0 = p.1 in
-      let same : r ≡ p.0 = cc in
-      let own : tx_of r ≡ t = ap tx_of same ∙ p.2 in
+      let p : last_writer u.page u.slot log ≡ Some t = holder_wrote u.page u.slot t log held_by in
+      let same : w ≡ t = cc in
       elim f [
-        | inl i ↦ sym own ∙ i
-        | inr i ↦ absurd (both_ways (finished t log) (held base log lawful u.page u.slot t held_by).0 (ap (λ x. finished x log) (sym own) ∙ sym (finished_is (tx_of r)) ∙ i))
+        | inl i ↦ sym same ∙ i
+        | inr i ↦ absurd (both_ways (finished t log) (held base log lawful u.page u.slot t held_by).0 (ap (λ x. finished x log) (sym same) ∙ sym (finished_is w) ∙ i))
       ])
 
-  pub strict_free : (o : Option LogRecord) → record_at log (last_write u.page u.slot log) ≡ o → Strictness log (Update u) → IsFreeFor status o u.tx
+  pub strict_free : (o : Option ℕ) → last_writer u.page u.slot log ≡ o → Strictness log (Update u) → IsFreeFor status o u.tx
   strict_free None e s = tt
-  strict_free (Some r) e s =
-      elim (cases_eq (tx_of r) u.tx) [
+  strict_free (Some w) e s =
+      elim (cases_eq w u.tx) [
         | inl i ↦ inl i
-        | inr n ↦ inr (finished_is (tx_of r) ∙ s (tx_of r) n (last_touches u.page u.slot log r e))
+        | inr n ↦ inr (finished_is w ∙ s w n (last_touches u.page u.slot w log e))
       ]
 
 -- FINISH

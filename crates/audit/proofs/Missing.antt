@@ -5,12 +5,12 @@ use Rattle.std.proofs.lemmas.List.{get_or-set_same, get_or-set_other}
 use Rattle.std.proofs.Math.ListN.{length-set}
 use Rattle.page.specs.declared.page.Page.{Page}
 use Rattle.wal.specs.Records.{LogRecord, Update, Compensation, History, start, ◌▸◌, history, last_lsn, record_at, LogContent, first, base_lsn}
-use Rattle.wal.specs.Meaning.{is_on}
+use Rattle.wal.specs.Meaning.{is_on, cell_of}
 use Rattle.wal.specs.Checkpoint.{DirtyLaw}
 use Rattle.wal.specs.Store.{NamesPages}
 use Rattle.wal.proofs.Histories.{record_last, record_more, record_in_first, size_of_first}
 use Rattle.audit.specs.Pages.{page_lsn}
-use Rattle.audit.specs.Dirty.{first_missing, KeepsMissing, noted_missing, IsInRange, IsCovered}
+use Rattle.audit.specs.Dirty.{first_missing, KeepsMissing, missing_after, IsInRange, IsCovered}
 
 -- ONE RECORD MORE
 module _ (pages : List Page) (log : History) (lsn p : ℕ) (r : LogRecord) (at : last_lsn log + 1 ≡ lsn) (on : (q : ℕ) → is_on q r ≡ eqb p q) (lt : p < length pages) (ms : List ℕ) (keeps : KeepsMissing pages log ms) where
@@ -75,7 +75,7 @@ idle pages log r ms off keeps =
           rw f refl);
     }
 
-pub missing_more : (pages : List Page) (log : History) (r : LogRecord) (ms : List ℕ) (lsn : ℕ) → last_lsn log + 1 ≡ lsn → NamesPages (length pages) r → KeepsMissing pages log ms → KeepsMissing pages (log ▸ r) (noted_missing (page_lsn pages) ms r lsn)
+pub missing_more : (pages : List Page) (log : History) (r : LogRecord) (ms : List ℕ) (lsn : ℕ) → last_lsn log + 1 ≡ lsn → NamesPages (length pages) r → KeepsMissing pages log ms → KeepsMissing pages (log ▸ r) (missing_after (page_lsn pages) ms (cell_of r) lsn)
 missing_more pages log (Update u) ms lsn at named keeps = status_after pages log lsn u.page (Update u) at (λ q. refl) named ms keeps
 missing_more pages log (Compensation u) ms lsn at named keeps = status_after pages log lsn u.page (Compensation u) at (λ q. refl) named ms keeps
 missing_more pages log r ms lsn at named keeps = idle pages log r ms (λ q. refl) keeps

@@ -1,17 +1,19 @@
 -- What is kept after one record more.
-use Rattle.std.proofs.Common.{◌≡◌, ◌<◌, ◌≤◌, ◌+◌, ◌*◌, ◌&&◌, ℕ, suc, true, false, cond, List, [], ◌∷◌, ◌++◌, length, get_or, set, Option, Some, None, unwrap_or, refl, sym, ap, subst, ◌∙◌, inl, inr, arith, eqb, eqb-true, eq-eqb, ne_eqb}
+use Rattle.std.proofs.Common.{◌≡◌, ◌<◌, ◌≤◌, ◌+◌, ◌*◌, ◌&&◌, ℕ, true, false, cond, List, [], ◌∷◌, ◌++◌, length, get_or, set, Option, Some, None, unwrap_or, refl, sym, ap, subst, ◌∙◌, inl, inr, arith, eqb, eqb-true, eq-eqb, ne_eqb}
 use Rattle.std.proofs.lemmas.Bool.{cases_Bool, cases_eq, and_left, and_right}
 use Rattle.std.proofs.lemmas.List.{get_or-set_other}
 use Rattle.std.proofs.lemmas.Grind.{get_or-set_at}
 use Rattle.std.proofs.Math.ListN.{length-set}
-use Rattle.wal.specs.Records.{LogRecord, Update, Compensation, History, ◌▸◌, last_lsn}
-use Rattle.wal.specs.Meaning.{owner, is_owned_by, is_of, writes}
+use Rattle.wal.specs.Records.{LogRecord, Update, Compensation, History, ◌▸◌}
+use Rattle.wal.specs.Meaning.{BasePages, owner, is_owned_by, is_of, writes, change_of, cell_of, image_of}
 use Rattle.wal.specs.Store.{NamesPages}
 use Rattle.wal.specs.Spelling.{Fits}
 use Rattle.wal.specs.Tail.{number_or_0, tx_of}
 use Rattle.audit.specs.declared.status.Status.{Status}
 use Rattle.audit.specs.Statuses.{unknown, Linked, IsStatusOf, IsTop}
-use Rattle.audit.specs.Cells.{last_write, KeepsCells, HasCell, writers_after}
+use Rattle.audit.specs.Cells.{KeepsCells, HasCell, cell_in, cells_after}
+use Rattle.audit.specs.declared.cell.Cell.{Cell}
+use Rattle.std.specs.Prelude.{IfSome}
 use Rattle.audit.proofs.Statuses.{stands_other}
 
 -- STANDINGS
@@ -56,55 +58,69 @@ has_cell count cells (Update u) e named fits = (let p : u.page < count = named i
 has_cell count cells (Compensation c) e named fits = (let p : c.page < count = named in let s : c.slot ≤ 15 = fits.slot in omega arith)
 has_cell count cells r e named fits = tt
 
--- what the record makes of the last writers
-abbrev pub Follows : (before after : ℕ → History) → LogRecord → ℕ → Type 0
-Follows before after r lsn = (page slot : ℕ) → last_write page slot (after page) ≡ cond (writes page slot r) lsn (last_write page slot (before page))
+pub page_below : (count : ℕ) (r : LogRecord) (cell : Option (ℕ × ℕ)) → cell ≡ cell_of r → NamesPages count r → IfSome cell (λ c. c.0 < count)
+page_below count (Update u) cell e named = subst (λ o. IfSome o (λ c. c.0 < count)) (sym e) named
+page_below count (Compensation c) cell e named = subst (λ o. IfSome o (λ c. c.0 < count)) (sym e) named
+page_below count r cell e named = subst (λ o. IfSome o (λ c. c.0 < count)) (sym e) tt
 
-put_there : (count : ℕ) (before after : ℕ → History) (ws : List ℕ) (p s lsn : ℕ) → p < count → s < 16
-    → ((page slot : ℕ) → last_write page slot (after page) ≡ cond (eqb p page && eqb s slot) lsn (last_write page slot (before page)))
-    → KeepsCells count before ws → KeepsCells count after (set ws (16 * p + s) lsn)
-put_there count before after ws p s lsn lp ls follows keeps =
-    record { size_is = length-set ws (16 * p + s) lsn ∙ keeps.size_is; each = each }
-  where
-    each : (page slot : ℕ) → page < count → slot < 16 → get_or (set ws (16 * p + s) lsn) (16 * page + slot) 0 ≡ last_write page slot (after page)
-    each page slot lt lt' =
-        elim (cases_eq p page) [
-          | inl e ↦
-              elim (cases_eq s slot) [
-                | inl f ↦
-                    (let size_is : length ws ≡ 16 * count = keeps.size_is in
-                    let room : 16 * p + s < length ws = omega arith in
-                    let at : get_or (set ws (16 * p + s) lsn) (16 * page + slot) 0 ≡ lsn = get_or-set_at ws (16 * p + s) (16 * page + slot) lsn 0 (omega arith) room in
-                    let a : eqb p page ≡ true = eq-eqb p page e in
-                    let b : eqb s slot ≡ true = eq-eqb s slot f in
-                    let c : last_write page slot (after page) ≡ lsn = follows page slot ∙ rw (a, b) refl in
-                    at ∙ sym c)
-                | inr d ↦
-                    (let at : get_or (set ws (16 * p + s) lsn) (16 * page + slot) 0 ≡ get_or ws (16 * page + slot) 0 = get_or-set_other ws (16 * p + s) (16 * page + slot) lsn 0 (λ x. d (omega arith)) in
-                    let b : (eqb p page && eqb s slot) ≡ false = and_right (eqb p page) (eqb s slot) (ne_eqb s slot d) in
-                    let c : last_write page slot (after page) ≡ last_write page slot (before page) = follows page slot ∙ rw b refl in
-                    at ∙ keeps.each page slot lt lt' ∙ sym c)
-              ]
-          | inr d ↦
-              (let at : get_or (set ws (16 * p + s) lsn) (16 * page + slot) 0 ≡ get_or ws (16 * page + slot) 0 = get_or-set_other ws (16 * p + s) (16 * page + slot) lsn 0 (λ x. d (omega arith)) in
-              let b : (eqb p page && eqb s slot) ≡ false = and_left (eqb p page) (eqb s slot) (ne_eqb p page d) in
-              let c : last_write page slot (after page) ≡ last_write page slot (before page) = follows page slot ∙ rw b refl in
-              at ∙ keeps.each page slot lt lt' ∙ sym c)
-        ]
+pub cell_below : (count cells : ℕ) (r : LogRecord) (cell : Option (ℕ × ℕ)) → cell ≡ cell_of r → cells ≡ 16 * count → NamesPages count r → Fits r → IfSome cell (λ c. 16 * c.0 + c.1 < cells)
+cell_below count cells (Update u) cell e size named fits = subst (λ o. IfSome o (λ c. 16 * c.0 + c.1 < cells)) (sym e) (has_cell count cells (Update u) size named fits)
+cell_below count cells (Compensation u) cell e size named fits = subst (λ o. IfSome o (λ c. 16 * c.0 + c.1 < cells)) (sym e) (has_cell count cells (Compensation u) size named fits)
+cell_below count cells r cell e size named fits = subst (λ o. IfSome o (λ c. 16 * c.0 + c.1 < cells)) (sym e) tt
 
-left_there : (count : ℕ) (before after : ℕ → History) (ws : List ℕ) → ((page slot : ℕ) → last_write page slot (after page) ≡ last_write page slot (before page)) → KeepsCells count before ws → KeepsCells count after ws
-left_there count before after ws same keeps = record { size_is = keeps.size_is; each = λ page slot lt lt'. keeps.each page slot lt lt' ∙ sym (same page slot) }
+-- one cell is put
+module _ {X : Type 0} (count : ℕ) (before after : ℕ → ℕ → X) (cells : List X) where
+  pub put_there : (p s : ℕ) (x : X) → p < count → s < 16
+      → ((page slot : ℕ) → after page slot ≡ cond (eqb p page && eqb s slot) x (before page slot))
+      → KeepsCells count before cells → KeepsCells count after (set cells (16 * p + s) x)
+  put_there p s x lp ls follows keeps =
+      record { size_is = length-set cells (16 * p + s) x ∙ keeps.size_is; each = each }
+    where
+      elsewhere : (page slot : ℕ) (d : X) → page < count → slot < 16 → (eqb p page && eqb s slot) ≡ false → (16 * page + slot ≡ 16 * p + s → ⊥) → get_or (set cells (16 * p + s) x) (16 * page + slot) d ≡ after page slot
+      elsewhere page slot d lt lt' off other =
+          get_or-set_other cells (16 * p + s) (16 * page + slot) x d other ∙ keeps.each page slot d lt lt' ∙ sym (follows page slot ∙ rw off refl)
 
-pub keeps_written : (count : ℕ) (before after : ℕ → History) (ws : List ℕ) (r : LogRecord) (lsn : ℕ) → NamesPages count r → Fits r → Follows before after r lsn → KeepsCells count before ws → KeepsCells count after (writers_after ws r lsn)
-keeps_written count before after ws (Update u) lsn named fits follows keeps =
+      each : (page slot : ℕ) (d : X) → page < count → slot < 16 → get_or (set cells (16 * p + s) x) (16 * page + slot) d ≡ after page slot
+      each page slot d lt lt' =
+          elim (cases_eq p page) [
+            | inl e ↦
+                elim (cases_eq s slot) [
+                  | inl f ↦
+                      (let size_is : length cells ≡ 16 * count = keeps.size_is in
+                      let room : 16 * p + s < length cells = omega arith in
+                      let at : get_or (set cells (16 * p + s) x) (16 * page + slot) d ≡ x = get_or-set_at cells (16 * p + s) (16 * page + slot) x d (omega arith) room in
+                      let a : eqb p page ≡ true = eq-eqb p page e in
+                      let b : eqb s slot ≡ true = eq-eqb s slot f in
+                      at ∙ sym (follows page slot ∙ rw (a, b) refl))
+                  | inr n ↦ elsewhere page slot d lt lt' (and_right (eqb p page) (eqb s slot) (ne_eqb s slot n)) (λ z. n (omega arith))
+                ]
+            | inr n ↦ elsewhere page slot d lt lt' (and_left (eqb p page) (eqb s slot) (ne_eqb p page n)) (λ z. n (omega arith))
+          ]
+
+  -- none is
+  pub left_there : ((page slot : ℕ) → after page slot ≡ before page slot) → KeepsCells count before cells → KeepsCells count after cells
+  left_there same keeps = record { size_is = keeps.size_is; each = λ page slot d lt lt'. keeps.each page slot d lt lt' ∙ sym (same page slot) }
+
+-- what a record makes of a cell
+cell_put : (base : BasePages) (log : History) (r : LogRecord) (p s : ℕ) → ((page slot : ℕ) → writes page slot r ≡ (eqb p page && eqb s slot)) → (page slot : ℕ)
+    → cell_in base (log ▸ r) page slot ≡ cond (eqb p page && eqb s slot) (record { writer = owner r; image = image_of r }) (cell_in base log page slot)
+cell_put base log r p s on page slot =
+    elim (cases_Bool (eqb p page && eqb s slot)) [
+      | inl e ↦ (let w : writes page slot r ≡ true = on page slot ∙ e in rw (w, e) refl)
+      | inr e ↦ (let w : writes page slot r ≡ false = on page slot ∙ e in rw (w, e) refl)
+    ]
+
+pub cells_noted : (base : BasePages) (count : ℕ) (log : History) (cells : List Cell) (r : LogRecord) → NamesPages count r → Fits r → KeepsCells count (cell_in base log) cells → KeepsCells count (cell_in base (log ▸ r)) (cells_after cells r)
+cells_noted base count log cells (Update u) named fits keeps =
     let s : u.slot ≤ 15 = fits.slot in
-    put_there count before after ws u.page u.slot lsn named (omega arith) follows keeps
-keeps_written count before after ws (Compensation u) lsn named fits follows keeps =
+    put_there count (cell_in base log) (cell_in base (log ▸ Update u)) cells u.page u.slot (record { writer = Some u.tx; image = u.after }) named (omega arith) (cell_put base log (Update u) u.page u.slot (λ page slot. refl)) keeps
+cells_noted base count log cells (Compensation u) named fits keeps =
     let s : u.slot ≤ 15 = fits.slot in
-    put_there count before after ws u.page u.slot lsn named (omega arith) follows keeps
-keeps_written count before after ws r lsn named fits follows keeps = left_there count before after ws follows keeps
+    put_there count (cell_in base log) (cell_in base (log ▸ Compensation u)) cells u.page u.slot (record { writer = Some u.tx; image = u.image }) named (omega arith) (cell_put base log (Compensation u) u.page u.slot (λ page slot. refl)) keeps
+cells_noted base count log cells r named fits keeps = left_there count (cell_in base log) (cell_in base (log ▸ r)) cells (λ page slot. refl) keeps
 
-pub keeps_more : (count : ℕ) (log : History) (ws : List ℕ) (r : LogRecord) (lsn : ℕ) → last_lsn log + 1 ≡ lsn → NamesPages count r → Fits r → KeepsCells count (λ _. log) ws → KeepsCells count (λ _. log ▸ r) (writers_after ws r lsn)
-keeps_more count log ws r lsn at named fits keeps =
-    let n : suc (last_lsn log) ≡ lsn = omega arith in
-    keeps_written count (λ _. log) (λ _. log ▸ r) ws r lsn named fits (λ page slot. ap (λ k. cond (writes page slot r) k (last_write page slot log)) n) keeps
+-- an image of a record that fits is short
+pub image_fits : (r : LogRecord) → Fits r → IfSome (change_of r) (λ c. IfSome c.image (λ bytes. length bytes ≤ 48))
+image_fits (Update u) fits = fits.after
+image_fits (Compensation u) fits = fits.image
+image_fits r fits = tt

@@ -1,20 +1,19 @@
 -- The law of a page, decided by the last writers of its cells.
-use Rattle.std.proofs.Common.{◌≡◌, ◌<◌, ◌≤◌, ◌+◌, ◌*◌, ◌&&◌, ℕ, suc, true, false, cond, List, [], length, get_or, Option, Some, None, refl, sym, ap, ap₂, ◌∙◌, inl, inr, arith, eqb, eqb-true, ltb, leb}
+use Rattle.std.proofs.Common.{◌≡◌, ◌<◌, ◌≤◌, ◌+◌, ◌*◌, ◌&&◌, ℕ, suc, Bool, true, false, cond, List, [], length, get_or, set, None, refl, sym, ap, ap₂, ◌∙◌, inl, inr, arith, eqb, eqb-true, ltb, leb}
 use Rattle.std.proofs.lemmas.Bool.{cases_Bool, ltb-true, ltb-false, le-leb, lt-leb, and_parts, cases_lt}
 use Rattle.std.proofs.lemmas.List.FromFn.{get_or-map-range_with_len, length-map-range_with_len}
 use Rattle.std.proofs.lemmas.List.{ext_get_or, get_or_default}
-use Rattle.std.specs.Option.{option_map_or}
 use Rattle.page.specs.Image.{Image}
 use Rattle.page.specs.declared.page.Page.{Page}
-use Rattle.wal.specs.Records.{LogRecord, History, ◌▸◌, first, last_lsn, record_at, base_lsn}
-use Rattle.wal.specs.Meaning.{BasePages, Change, change_of, is_in_cell, replay, writes}
+use Rattle.wal.specs.Records.{LogRecord, Update, Compensation, History, ◌▸◌, first, last_lsn, record_at, base_lsn}
+use Rattle.wal.specs.Meaning.{BasePages, cell_of, replay, writes}
 use Rattle.wal.specs.Redo.{slots_in}
 use Rattle.wal.specs.Store.{NamesPages}
 use Rattle.wal.specs.Spelling.{Fits}
-use Rattle.audit.specs.Cells.{image_or, last_write, KeepsCells, writers_after}
-use Rattle.audit.specs.Pages.{page_lsn, log_at, counts_for, KeepsPage}
+use Rattle.audit.specs.Cells.{image_or, last_write, KeepsWriters}
+use Rattle.audit.specs.Pages.{page_lsn, log_at, writers_after, KeepsPage}
 use Rattle.audit.proofs.Cells.{last_write_within, image_in_last}
-use Rattle.audit.proofs.Noting.{Follows, keeps_written}
+use Rattle.audit.proofs.Noting.{put_there, left_there}
 use Rattle.wal.proofs.Histories.{first_all, size_of_first_le, record_in_first, first_base}
 
 -- BEGINNINGS
@@ -39,43 +38,62 @@ step page slot k log r =
 le_is_lt : (n m k : ℕ) → n + 1 ≡ m → leb m k ≡ ltb n k
 le_is_lt n m k e = elim (cases_Bool (ltb n k)) [ inl h ↦ (let l : n < k = ltb-true n k h in le-leb m k (omega arith) ∙ sym h) | inr h ↦ (let l : k ≤ n = ltb-false n k h in lt-leb m k (omega arith) ∙ sym h) ]
 
--- whether a record that writes there counts
-counts_there : (lsn_of : ℕ → ℕ) (log : History) (r : LogRecord) (lsn page slot : ℕ) → last_lsn log + 1 ≡ lsn → writes page slot r ≡ true → counts_for lsn_of r lsn ≡ ltb (last_lsn log) (lsn_of page)
-counts_there lsn_of log r lsn page slot at = by (change_of r)
-  where
-    by : (o : Option Change) → is_in_cell page slot o ≡ true → option_map_or (λ c. leb lsn (lsn_of c.page)) o false ≡ ltb (last_lsn log) (lsn_of page)
-    by None w = absurd (cc)
-    by (Some c) w =
-        let (p, s) = and_parts (eqb c.page page) (eqb c.slot slot) w in
-        le_is_lt (last_lsn log) lsn (lsn_of c.page) at ∙ ap (λ x. ltb (last_lsn log) (lsn_of x)) (eqb-true c.page page p)
+-- the last writers after a record that is in a cell, and after one that is in none
+module _ (pages : List Page) (log : History) (r : LogRecord) (lsn : ℕ) (at : last_lsn log + 1 ≡ lsn) (ws : List ℕ) (keeps : KeepsWriters (length pages) (log_at pages log) ws) where
+  abbrev Written : (History) → (page slot : ℕ) → ℕ
+  Written h page slot = last_write page slot (log_at pages h page)
 
-module _ (pages : List Page) (log : History) (r : LogRecord) (lsn : ℕ) (at : last_lsn log + 1 ≡ lsn) where
-  counted : counts_for (page_lsn pages) r lsn ≡ true → Follows (log_at pages log) (log_at pages (log ▸ r)) r lsn
-  counted c page slot =
-      step page slot (page_lsn pages page) log r
-      ∙ elim (cases_Bool (writes page slot r)) [
-        | inl w ↦
-            (let k : ltb (last_lsn log) (page_lsn pages page) ≡ true = sym (counts_there (page_lsn pages) log r lsn page slot at w) ∙ c in
-            let n : suc (last_lsn log) ≡ lsn = omega arith in
-            rw (w, k) n)
-        | inr w ↦ rw w refl
+  -- whether it counts, by its page
+  counts_there : (p s page slot : ℕ) (b : Bool) → leb lsn (page_lsn pages p) ≡ b → (eqb p page && eqb s slot) ≡ true → ltb (last_lsn log) (page_lsn pages page) ≡ b
+  counts_there p s page slot b e w =
+      let same : p ≡ page = eqb-true p page (and_parts (eqb p page) (eqb s slot) w).0 in
+      ap (λ n. ltb (last_lsn log) (page_lsn pages n)) (sym same) ∙ sym (le_is_lt (last_lsn log) lsn (page_lsn pages p) at) ∙ e
+
+  in_cell : (p s : ℕ) → ((page slot : ℕ) → writes page slot r ≡ (eqb p page && eqb s slot)) → p < length pages → s < 16
+      → KeepsWriters (length pages) (log_at pages (log ▸ r)) (cond (leb lsn (page_lsn pages p)) (set ws (16 * p + s) lsn) ws)
+  in_cell p s on lp ls =
+      elim (cases_Bool (leb lsn (page_lsn pages p))) [
+        | inl b ↦
+            rw b
+            (put_there (length pages) (Written log) (Written (log ▸ r)) ws p s lsn lp ls
+            (λ page slot.
+            step page slot (page_lsn pages page) log r
+            ∙ elim (cases_Bool (eqb p page && eqb s slot)) [
+              | inl w ↦
+                  (let i : writes page slot r ≡ true = on page slot ∙ w in
+                  let k : ltb (last_lsn log) (page_lsn pages page) ≡ true = counts_there p s page slot true b w in
+                  let n : suc (last_lsn log) ≡ lsn = omega arith in
+                  rw (i, k, w) n)
+              | inr w ↦ (let i : writes page slot r ≡ false = on page slot ∙ w in rw (i, w) refl)
+            ])
+            keeps)
+        | inr b ↦
+            rw b
+            (left_there (length pages) (Written log) (Written (log ▸ r)) ws
+            (λ page slot.
+            step page slot (page_lsn pages page) log r
+            ∙ elim (cases_Bool (eqb p page && eqb s slot)) [
+              | inl w ↦
+                  (let i : writes page slot r ≡ true = on page slot ∙ w in
+                  let k : ltb (last_lsn log) (page_lsn pages page) ≡ false = counts_there p s page slot false b w in
+                  rw (i, k) refl)
+              | inr w ↦ (let i : writes page slot r ≡ false = on page slot ∙ w in rw i refl)
+            ])
+            keeps)
       ]
 
-  skipped : counts_for (page_lsn pages) r lsn ≡ false → (page slot : ℕ) → last_write page slot (log_at pages log page) ≡ last_write page slot (log_at pages (log ▸ r) page)
-  skipped c page slot =
-      sym (step page slot (page_lsn pages page) log r
-      ∙ elim (cases_Bool (writes page slot r)) [
-        | inl w ↦
-            (let k : ltb (last_lsn log) (page_lsn pages page) ≡ false = sym (counts_there (page_lsn pages) log r lsn page slot at w) ∙ c in
-            rw (w, k) refl)
-        | inr w ↦ rw w refl
-      ])
+  in_none : ((page slot : ℕ) → writes page slot r ≡ false) → KeepsWriters (length pages) (log_at pages (log ▸ r)) ws
+  in_none off = left_there (length pages) (Written log) (Written (log ▸ r)) ws (λ page slot. step page slot (page_lsn pages page) log r ∙ (let i = off page slot in rw i refl)) keeps
 
-  pub cells_counted : (ws : List ℕ) → counts_for (page_lsn pages) r lsn ≡ true → NamesPages (length pages) r → Fits r → KeepsCells (length pages) (log_at pages log) ws → KeepsCells (length pages) (log_at pages (log ▸ r)) (writers_after ws r lsn)
-  cells_counted ws c named fits keeps = keeps_written (length pages) (log_at pages log) (log_at pages (log ▸ r)) ws r lsn named fits (counted c) keeps
-
-  pub cells_skipped : (ws : List ℕ) → counts_for (page_lsn pages) r lsn ≡ false → KeepsCells (length pages) (log_at pages log) ws → KeepsCells (length pages) (log_at pages (log ▸ r)) ws
-  cells_skipped ws c keeps = record { size_is = keeps.size_is; each = λ page slot lt lt'. keeps.each page slot lt lt' ∙ skipped c page slot }
+pub writers_noted : (pages : List Page) (log : History) (r : LogRecord) (lsn : ℕ) (ws : List ℕ) → last_lsn log + 1 ≡ lsn → NamesPages (length pages) r → Fits r → KeepsWriters (length pages) (log_at pages log) ws
+    → KeepsWriters (length pages) (log_at pages (log ▸ r)) (writers_after (page_lsn pages) ws (cell_of r) lsn)
+writers_noted pages log (Update u) lsn ws at named fits keeps =
+    let s : u.slot ≤ 15 = fits.slot in
+    in_cell pages log (Update u) lsn at ws keeps u.page u.slot (λ page slot. refl) named (omega arith)
+writers_noted pages log (Compensation u) lsn ws at named fits keeps =
+    let s : u.slot ≤ 15 = fits.slot in
+    in_cell pages log (Compensation u) lsn at ws keeps u.page u.slot (λ page slot. refl) named (omega arith)
+writers_noted pages log r lsn ws at named fits keeps = in_none pages log r lsn at ws keeps (λ page slot. refl)
 
 -- what is written up to an LSN has none above
 write_low : (page slot lsn : ℕ) (log : History) → last_write page slot (first lsn log) ≤ lsn
@@ -111,10 +129,10 @@ module _ (base : BasePages) (log : History) (ws : List ℕ) (page : Page) (keeps
 
 -- the cells of a page at its place
 pub keeps_page : (pages : List Page) (log : History) (ws : List ℕ) (i : ℕ) (page : Page) → page ≡ get_or pages i page → i < length pages → page.number ≡ i
-    → KeepsCells (length pages) (log_at pages log) ws → KeepsPage log ws page
+    → KeepsWriters (length pages) (log_at pages log) ws → KeepsPage log ws page
 keeps_page pages log ws i page is lt number keeps slot lt' =
     let blank : Page = record { number = 0; lsn = 0; slots = [] } in
     let lsn : page_lsn pages i ≡ page.lsn = ap (λ (p : Page). p.lsn) (get_or_default pages i blank page lt ∙ sym is) in
     ap (λ n. get_or ws (16 * n + slot) 0) number
-    ∙ keeps.each i slot lt lt'
+    ∙ keeps.each i slot 0 lt lt'
     ∙ ap₂ (λ n k. last_write n slot (first k log)) (sym number) lsn

@@ -1,6 +1,7 @@
 -- The log so far, as a beginning of the log.
 use Rattle.std.proofs.Common.{◌≡◌, ◌+◌, cond, refl, inl, inr, suc, ℕ, List, ◌++◌, length, take, drop, sym, subst, ◌∙◌, arith, ◌≤◌}
 use Rattle.std.proofs.lemmas.List.{take_at}
+use Rattle.std.specs.Prelude.{Result, Ok, Err, Option, Some, None, OnOk, IfSome}
 use Rattle.page.specs.declared.fault.Fault.{Fault}
 use Rattle.page.specs.declared.fault.Fault.TheVariants.{NoResource, EndTooEarly, WrongCompensation}
 use Rattle.std.proofs.lemmas.Bool.{cases_Bool}
@@ -41,5 +42,14 @@ wrong_end_or_clr base count log r lsn e is at named chain finish broken =
     ]
 
 -- what a vector holds whose elements were lent and written
-pub written_back : (n : ℕ) (items ws : List ℕ) → length items ≡ n → length ws ≡ n → take n (ws ++ drop (length ws) items) ≡ ws
+pub written_back : {X : Type 0} (n : ℕ) (items ws : List X) → length items ≡ n → length ws ≡ n → take n (ws ++ drop (length ws) items) ≡ ws
 written_back n items ws e f = take_at ws (drop (length ws) items) n f
+
+-- what an answer, or a value, is said to keep says more of it
+pub on_ok : {T E : Type 0} {P Q : Type 0} (r : Result T E) → (P → Q) → OnOk r P → OnOk r Q
+on_ok (Ok x) f h = f h
+on_ok (Err e) f h = tt
+
+pub if_some : {T : Type 0} {P Q : T → Type 0} (o : Option T) → ((x : T) → P x → Q x) → IfSome o P → IfSome o Q
+if_some None f h = tt
+if_some (Some x) f h = f x h

@@ -1,25 +1,10 @@
 -- Unfinished transactions, and those in doubt, by what is known of each.
-use Rattle.std.proofs.Common.{◌≡◌, ◌≤◌, ◌&&◌, ◌||◌, not, ℕ, suc, Bool, true, false, List, Some, refl, sym, ap, ap₂, ◌∙◌, inl, inr, arith, eqb, eq-eqb}
+use Rattle.std.proofs.Common.{◌≡◌, ◌&&◌, ◌||◌, not, ℕ, suc, Bool, true, false, List, refl, sym, ap, ap₂, ◌∙◌, inl, inr, arith, eqb, eq-eqb}
 use Rattle.std.proofs.lemmas.Bool.{cases_Bool, or_cases, or_left, or_right, false≢true}
-use Rattle.wal.specs.Records.{LogRecord, Prepare, History, start, ◌▸◌, last_lsn, record_at}
+use Rattle.wal.specs.Records.{LogRecord, Prepare, History, start, ◌▸◌, last_lsn}
 use Rattle.wal.specs.Meaning.{is_of, is_prepare_of, has, prepared, is_unfinished, finished, last_of}
-use Rattle.wal.specs.Tail.{tx_of}
-use Rattle.wal.proofs.Histories.{record_last, record_more, record_within}
-use Rattle.wal.proofs.Filters.{is_of_tx}
 use Rattle.audit.specs.declared.status.Status.{Status}
 use Rattle.audit.specs.Statuses.{IsStatusOf}
-
--- the last record of a transaction
-pub last_found : (t : ℕ) (log : History) → has (is_of t) log ≡ true → (r : LogRecord) × (record_at log (last_of t log) ≡ Some r) × (tx_of r ≡ t)
-last_found t (start _) h = absurd (cc)
-last_found t (log ▸ r) h =
-    elim (cases_Bool (is_of t r)) [
-      | inl e ↦ (r, rw e (record_last log r), is_of_tx t r e)
-      | inr e ↦ (let p = last_found t log (rw e at h) in (p.0, rw e (record_more log r (last_of t log) p.0 p.1), p.2))
-    ]
-
-pub last_within : (t : ℕ) (log : History) → has (is_of t) log ≡ true → last_of t log ≤ last_lsn log
-last_within t log h = (let p = last_found t log h in record_within log (last_of t log) p.0 p.1)
 
 pub has_none : (t : ℕ) (log : History) → last_of t log ≡ 0 → has (is_of t) log ≡ false
 has_none t (start _) h = refl

@@ -2,8 +2,8 @@
 use Rattle.std.specs.Prelude.{◌≡◌, ◌<◌, ◌≤◌, ℕ, suc, List, length, Option, Some, ◌==◌, ◌&&◌, nat_lt, if◌then◌else◌, slice_index, slice_set}
 use Rattle.page.specs.declared.page.Page.{Page}
 use Rattle.std.specs.Option.{option_map_or}
-use Rattle.wal.specs.Records.{LogRecord, History, start, ◌▸◌, last_lsn}
-use Rattle.wal.specs.Meaning.{change_of, is_on}
+use Rattle.wal.specs.Records.{History, start, ◌▸◌, last_lsn}
+use Rattle.wal.specs.Meaning.{is_on}
 use Rattle.audit.specs.Pages.{page_lsn}
 
 -- the LSN of the first record on the page above its PageLSN, or 0
@@ -17,10 +17,10 @@ pub record KeepsMissing (pages : List Page) (log : History) (missing : List ℕ)
   pub size_is : length missing ≡ length pages
   pub each : (page : ℕ) → page < length pages → slice_index missing page ≡ first_missing page (page_lsn pages page) log
 
--- after the record at an LSN
-abbrev pub noted_missing : (ℕ → ℕ) → List ℕ → LogRecord → ℕ → List ℕ
-noted_missing lsn_of missing r lsn =
-    option_map_or (λ c. if slice_index missing c.page == 0 && nat_lt (lsn_of c.page) lsn then slice_set missing c.page lsn else missing) (change_of r) missing
+-- after the record at an LSN, which is in this cell or in none
+abbrev pub missing_after : (ℕ → ℕ) → List ℕ → Option (ℕ × ℕ) → ℕ → List ℕ
+missing_after lsn_of missing cell lsn =
+    option_map_or (λ c. if slice_index missing c.0 == 0 && nat_lt (lsn_of c.0) lsn then slice_set missing c.0 lsn else missing) cell missing
 
 -- a listed RecLSN lies in 1 to the master
 abbrev pub IsInRange : (base : ℕ) → Option ℕ → ℕ → Type 0

@@ -1,9 +1,8 @@
 -- The records that a page's image is to have (own).
-use Rattle.std.specs.Prelude.{◌≡◌, ◌<◌, ◌+◌, ◌*◌, ℕ, List, [], Bool, false, nat_le, slice_index, slice_index_or}
+use Rattle.std.specs.Prelude.{◌≡◌, ◌<◌, ◌+◌, ◌*◌, ℕ, List, [], Option, nat_le, if◌then◌else◌, slice_index, slice_index_or, slice_set}
 use Rattle.page.specs.declared.page.Page.{Page}
 use Rattle.std.specs.Option.{option_map_or}
-use Rattle.wal.specs.Records.{LogRecord, History, first}
-use Rattle.wal.specs.Meaning.{change_of}
+use Rattle.wal.specs.Records.{History, first}
 use Rattle.audit.specs.Cells.{last_write}
 use Rattle.page.specs.declared.sizes.TheConstants.{SLOTS}
 
@@ -15,9 +14,9 @@ page_lsn pages number = (slice_index_or pages number (record { number = 0; lsn =
 abbrev pub log_at : List Page → History → ℕ → History
 log_at pages log number = first (page_lsn pages number) log
 
--- whether the record at an LSN is on a page, at or before its PageLSN
-abbrev pub counts_for : (ℕ → ℕ) → LogRecord → ℕ → Bool
-counts_for lsn_of r lsn = option_map_or (λ c. nat_le lsn (lsn_of c.page)) (change_of r) false
+-- the last writers after the record at an LSN, which is in this cell or in none; it counts at or before its page's PageLSN
+abbrev pub writers_after : (ℕ → ℕ) → List ℕ → Option (ℕ × ℕ) → ℕ → List ℕ
+writers_after lsn_of writers cell lsn = option_map_or (λ c. if nat_le lsn (lsn_of c.0) then slice_set writers (SLOTS * c.0 + c.1) lsn else writers) cell writers
 
 -- the numbers tell who wrote each cell of the page last, up to its PageLSN
 abbrev pub KeepsPage : History → List ℕ → Page → Type 0

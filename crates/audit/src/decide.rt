@@ -1,23 +1,23 @@
 //! Whether a record keeps a law: one function a law, exact.
 
-ghost use Rattle.std.specs.Prelude.{◌≡◌, ◌+◌, ◌*◌, ◌≤◌, ◌<◌, ◌⊎◌, ◌||◌, ◌↔◌, ℕ, List, All, IsTrue, Some, true, length, option_map, slice_index, slice_index_or};
+ghost use Rattle.std.specs.Prelude.{◌≡◌, ◌+◌, ◌*◌, ◌≤◌, ◌<◌, ◌⊎◌, ◌||◌, ◌↔◌, ℕ, List, All, IsTrue, Some, true, length, option_map, slice_index_or};
 ghost use Rattle.page.specs.Image.{Image};
 ghost use Rattle.wal.specs.Records.{LogRecord, History, history, last_lsn, record_at, base_lsn};
-ghost use Rattle.wal.specs.Meaning.{BasePages, image_of};
+ghost use Rattle.wal.specs.Meaning.{BasePages};
 ghost use Rattle.wal.specs.Laws.{IsLawful, ChainLaw, FinishLaw, CompensationLaw, BeforeLaw, Strictness};
-ghost use Rattle.wal.specs.Pages.{base_pages};
 ghost use Rattle.wal.specs.Store.{NamesPages};
 ghost use Rattle.wal.specs.Spelling.{Fits};
 ghost use Rattle.wal.specs.Tail.{tx_of};
 ghost use Rattle.wal.specs.Content.{shown};
 ghost use Rattle.audit.specs.Statuses.{IsStatusOf, status_in};
-ghost use Rattle.audit.specs.Cells.{HasCell, KeepsCells, image_or};
+ghost use Rattle.audit.specs.Cells.{HasCell, KeepsCells, cell_in};
+ghost use Rattle.audit.specs.declared.cell.Cell.{Cell};
 ghost use Rattle.audit.specs.Passing.{Begins, Undoes, IsFreeFor};
 ghost use Rattle.page.specs.declared.sizes.TheConstants.{SLOTS};
 
-use crate::base::base_value;
+use crate::cell::Cell;
 use crate::status::{Status, status_of, transaction_of};
-use page::{Page, SLOTS, Value};
+use page::{SLOTS, Value};
 use std::collections::HashMap;
 use wal::{DirtyTable, Log, RecordView};
 
@@ -155,50 +155,39 @@ pub fn keeps_compensation(log: &Log, view: &RecordView, status: Status) -> bool
     }
 }
 
-/// The LSN of the last writer of a cell.
-fn last_writer(writers: &[u64], page: u32, slot: u8) -> u64
-    requires { SLOTS * page + slot < length writers.now }
-    ensures { result ≡ slice_index writers.now (SLOTS * page + slot) }
+/// What is kept of a cell.
+fn cell_at(cells: &[Cell], page: u32, slot: u8) -> Cell
+    requires { SLOTS * page + slot < length cells.now }
+    ensures { (default : Cell) → result
+        ≡ slice_index_or cells.now (SLOTS * page + slot) default }
 {
-    writers[SLOTS * page as usize + slot as usize]
+    cells[SLOTS * page as usize + slot as usize]
 }
 
-/// Whether no other transaction than this one wrote the record at an LSN, or it has finished.
-fn is_free_for(log: &Log, table: &HashMap<u32, Status>, writer: u64, tx: u32) -> bool
-    ensures { IsTrue result ↔ IsFreeFor (status_in table.now)
-        (record_at (history log.now) writer) tx }
+/// Whether the writer of a cell, if it has one, is this transaction or has finished.
+fn is_free_for(table: &HashMap<u32, Status>, writer: Option<u32>, tx: u32) -> bool
+    ensures { IsTrue result ↔ IsFreeFor (status_in table.now) writer tx }
 {
-    match log.get(writer) {
+    match writer {
         None => true,
-        Some(view) => {
-            let other = transaction_of(&view);
-            other == tx || status_of(table, other).is_finished()
-        }
+        Some(other) => other == tx || status_of(table, other).is_finished(),
     }
 }
 
 /// Whether no other unfinished transaction has an update or CLR in the cell of an update.
-pub fn keeps_strictness(
-    log: &Log,
-    table: &HashMap<u32, Status>,
-    writers: &[u64],
-    view: &RecordView,
-) -> bool
-    requires { HasCell (length writers.now) (shown view.now) }
+pub fn keeps_strictness(table: &HashMap<u32, Status>, cells: &[Cell], view: &RecordView) -> bool
+    requires { HasCell (length cells.now) (shown view.now) }
     ensures { (base : BasePages) (so_far : History) (links : List ℕ) (count : ℕ)
-        → Begins so_far log.now → IsLawful base so_far
+        → IsLawful base so_far
         → ((t : ℕ) → IsStatusOf links t so_far (status_in table.now t))
-        → KeepsCells count (λ _. so_far) writers.now → NamesPages count (shown view.now)
+        → KeepsCells count (cell_in base so_far) cells.now → NamesPages count (shown view.now)
         → Fits (shown view.now)
         → IsTrue result ↔ Strictness so_far (shown view.now) }
 {
     match view {
-        RecordView::Update { tx, page, slot, .. } => is_free_for(
-            log,
-            table,
-            last_writer(writers, *page, *slot),
-            *tx,
-        ),
+        RecordView::Update { tx, page, slot, .. } => {
+            is_free_for(table, cell_at(cells, *page, *slot).writer, *tx)
+        }
         RecordView::Compensation { .. }
         | RecordView::Commit { .. }
         | RecordView::Abort { .. }
@@ -210,7 +199,7 @@ pub fn keeps_strictness(
 }
 
 /// Whether an image is this value.
-fn is_value(image: Option<&[u8]>, value: Option<Value>) -> bool
+pub fn is_value(image: Option<&[u8]>, value: Option<Value>) -> bool
     ensures { IsTrue result ↔ option_map (λ s. s.now) image.entry ≡ value }
 {
     match value {
@@ -219,34 +208,13 @@ fn is_value(image: Option<&[u8]>, value: Option<Value>) -> bool
     }
 }
 
-/// Whether a record puts this image into its cell.
-fn puts(view: &RecordView, image: Option<&[u8]>) -> bool
-    ensures { IsTrue result ↔ option_map (λ s. s.now) image.entry ≡ image_of (shown view.now) }
-{
-    match view.change() {
-        Some(change) => are_same(image, change.image),
-        None => image.is_none(),
-    }
-}
-
-/// Whether the record at an LSN leaves this image or, where none is, what was there before.
-pub fn leaves(log: &Log, writer: u64, before: Option<Value>, image: Option<&[u8]>) -> bool
-    ensures { IsTrue result ↔ option_map (λ s. s.now) image.entry
-        ≡ image_or before (record_at (history log.now) writer) }
-{
-    match log.get(writer) {
-        None => is_value(image, before),
-        Some(view) => puts(&view, image),
-    }
-}
-
-/// Whether the before image of an update is its cell's value, over these base pages.
-pub fn keeps_before(log: &Log, base: &[Page], writers: &[u64], view: &RecordView) -> bool
-    requires { HasCell (length writers.now) (shown view.now) }
-    ensures { (so_far : History) (count : ℕ) → Begins so_far log.now
-        → KeepsCells count (λ _. so_far) writers.now → NamesPages count (shown view.now)
+/// Whether the before image of an update is its cell's value.
+pub fn keeps_before(cells: &[Cell], view: &RecordView) -> bool
+    requires { HasCell (length cells.now) (shown view.now) }
+    ensures { (base : BasePages) (so_far : History) (count : ℕ)
+        → KeepsCells count (cell_in base so_far) cells.now → NamesPages count (shown view.now)
         → Fits (shown view.now)
-        → IsTrue result ↔ BeforeLaw (base_pages base.now) so_far (shown view.now) }
+        → IsTrue result ↔ BeforeLaw base so_far (shown view.now) }
 {
     match view {
         RecordView::Update {
@@ -254,12 +222,7 @@ pub fn keeps_before(log: &Log, base: &[Page], writers: &[u64], view: &RecordView
             slot,
             before,
             ..
-        } => leaves(
-            log,
-            last_writer(writers, *page, *slot),
-            base_value(base, *page, *slot as usize),
-            *before,
-        ),
+        } => is_value(*before, cell_at(cells, *page, *slot).image),
         RecordView::Compensation { .. }
         | RecordView::Commit { .. }
         | RecordView::Abort { .. }

@@ -1,29 +1,28 @@
 //! The dirty page table of a checkpoint, against the log and the pages.
 
-ghost use Rattle.std.specs.Prelude.{◌≡◌, ◌+◌, ◌≤◌, ◌<◌, ◌↔◌, ℕ, All, IsTrue, Some, length, take, IfOk, OnOk, IfErr, IsOkUnless};
+ghost use Rattle.std.specs.Prelude.{◌≡◌, ◌+◌, ◌≤◌, ◌<◌, ◌↔◌, ℕ, All, IsTrue, Some, length, take, IfOk, OnOk, IfErr, IfSome, IsOkUnless};
 ghost use Rattle.page.specs.Store.{AreNumbered};
 ghost use Rattle.page.specs.declared.fault.Fault.TheVariants.{NoResource};
 ghost use Rattle.wal.specs.Records.{history, first, last_lsn, EachRecord, base_lsn};
 ghost use Rattle.wal.specs.Redo.{rec_lsn_of};
 ghost use Rattle.wal.specs.Checkpoint.{DirtyLaw};
 ghost use Rattle.wal.specs.Store.{NamesPages};
-ghost use Rattle.wal.specs.Content.{shown};
 ghost use Rattle.audit.specs.Pages.{page_lsn};
-ghost use Rattle.audit.specs.Dirty.{KeepsMissing, noted_missing, IsInRange, IsCovered};
+ghost use Rattle.audit.specs.Dirty.{KeepsMissing, missing_after, IsInRange, IsCovered};
 ghost use Rattle.audit.specs.FirstFault.{KeepsDirty, DirtyFault};
 
 use page::{Fault, Page};
 use std::alloc::Global;
-use wal::{DirtyTable, Log, RecordView};
+use wal::{DirtyTable, Log};
 
 /// Notes the record at an LSN, if it is the first on its page that the image lacks.
-fn note_missing(missing: &mut [u64], view: &RecordView, pages: &[Page], lsn: u64)
-    requires named { NamesPages (length pages.now) (shown view.now) }
+fn note_missing(missing: &mut [u64], cell: Option<(u32, u8)>, pages: &[Page], lsn: u64)
+    requires page { IfSome cell (λ c. c.0 < length pages.now) }
     requires size { length missing.old ≡ length pages.now }
-    ensures { missing.new ≡ noted_missing (page_lsn pages.now) missing.old (shown view.now) lsn }
+    ensures { missing.new ≡ missing_after (page_lsn pages.now) missing.old cell lsn }
 {
-    if let Some(change) = view.change() {
-        let number = change.page as usize;
+    if let Some((page, _)) = cell {
+        let number = page as usize;
         if missing[number] == 0 && pages[number].lsn < lsn {
             missing[number] = lsn;
         }
@@ -43,7 +42,8 @@ fn missing_in(alloc: Global, log: &Log, upto: u64, pages: &[Page]) -> Result<Vec
     let _last = log.last();
     let base = log.base();
     for lsn in base..upto {
-        note_missing(&mut missing, &log.after(lsn), pages, lsn + 1);
+        let cell = log.glance_after(lsn).cell();
+        note_missing(&mut missing, cell, pages, lsn + 1);
     }
     Ok(missing)
 }

@@ -3,6 +3,7 @@
 
 mod audit_state;
 mod base;
+mod cell;
 mod decide;
 mod dirty;
 mod laws;
@@ -10,6 +11,7 @@ mod master;
 mod pages;
 mod records;
 mod status;
+mod table;
 mod verdict;
 
 pub use laws::{

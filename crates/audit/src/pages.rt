@@ -1,6 +1,6 @@
 //! The law of pages, by number.
 
-ghost use Rattle.std.specs.Prelude.{◌≡◌, ◌+◌, ◌*◌, ◌≤◌, ◌<◌, ◌⊎◌, ◌↔◌, ℕ, All, IsTrue, Some, None, true, length, IfOk, OnOk, IfErr, slice_index, slice_index_or, IsOkUnless};
+ghost use Rattle.std.specs.Prelude.{◌≡◌, ◌+◌, ◌*◌, ◌≤◌, ◌<◌, ◌⊎◌, ◌↔◌, ℕ, All, IsTrue, Some, None, true, length, IfOk, OnOk, IfErr, IfSome, slice_index, slice_index_or, IsOkUnless};
 ghost use Rattle.page.specs.Store.{AreNumbered};
 ghost use Rattle.page.specs.declared.fault.Fault.TheVariants.{NoResource};
 ghost use Rattle.wal.specs.Records.{LogRecord, history, first, record_at, EachRecord};
@@ -8,26 +8,28 @@ ghost use Rattle.wal.specs.Meaning.{is_on};
 ghost use Rattle.wal.specs.Pages.{PageLaw, base_pages};
 ghost use Rattle.wal.specs.Store.{NamesPages};
 ghost use Rattle.wal.specs.Content.{shown};
-ghost use Rattle.audit.specs.Cells.{KeepsCells, image_or};
-ghost use Rattle.audit.specs.Pages.{page_lsn, counts_for, log_at, KeepsPage};
+ghost use Rattle.audit.specs.Cells.{KeepsWriters, image_or};
+ghost use Rattle.audit.specs.Pages.{page_lsn, writers_after, log_at, KeepsPage};
 ghost use Rattle.audit.specs.FirstFault.{BrokenPage, PagesFault};
 ghost use Rattle.page.specs.declared.sizes.TheConstants.{PAGES, SLOTS};
 
-use crate::audit_state::note_write;
 use crate::base::{base_page_lsn, base_value};
-use crate::decide::leaves;
+use crate::decide::is_value;
 use page::{Fault, Page, SLOTS, Value};
 use std::alloc::Global;
 use wal::{Log, RecordView};
 
-/// Whether the record at an LSN is at or before its page's PageLSN.
-fn counts(view: &RecordView, pages: &[Page], lsn: u64) -> bool
-    requires { NamesPages (length pages.now) (shown view.now) }
-    ensures { result ≡ counts_for (page_lsn pages.now) (shown view.now) lsn }
+/// Notes the record at an LSN as the last writer of its cell, if it has one and is at or before its
+/// page's PageLSN.
+fn note_writer(writers: &mut [u64], cell: Option<(u32, u8)>, pages: &[Page], lsn: u64)
+    requires page { IfSome cell (λ c. c.0 < length pages.now) }
+    requires cell { IfSome cell (λ c. SLOTS * c.0 + c.1 < length writers.old) }
+    ensures { writers.new ≡ writers_after (page_lsn pages.now) writers.old cell lsn }
 {
-    match view.change() {
-        Some(change) => lsn <= pages[change.page as usize].lsn,
-        None => false,
+    if let Some((page, slot)) = cell {
+        if lsn <= pages[page as usize].lsn {
+            writers[SLOTS * page as usize + slot as usize] = lsn;
+        }
     }
 }
 
@@ -36,17 +38,15 @@ fn counts(view: &RecordView, pages: &[Page], lsn: u64) -> bool
 fn writers_at(alloc: Global, log: &Log, pages: &[Page]) -> Result<Vec<u64>, Fault>
     requires few { length pages.now ≤ PAGES }
     requires named { EachRecord (NamesPages (length pages.now)) (history log.now) }
-    ensures ok { IfOk result (λ w. KeepsCells (length pages.now)
+    ensures ok { IfOk result (λ w. KeepsWriters (length pages.now)
         (log_at pages.now (history log.now)) w.items) }
     ensures err { IsOkUnless result NoResource }
 {
     let mut writers = vec![in alloc; 0; SLOTS * pages.len()]?;
     let base = log.base();
     for lsn in base..log.last() {
-        let view = log.after(lsn);
-        if counts(&view, pages, lsn + 1) {
-            note_write(&mut writers, &view, lsn + 1);
-        }
+        let cell = log.glance_after(lsn).cell();
+        note_writer(&mut writers, cell, pages, lsn + 1);
     }
     Ok(writers)
 }
@@ -76,13 +76,23 @@ fn lsn_is_on(log: &Log, base: &[Page], page: &Page) -> bool
     }
 }
 
-/// Whether the record at an LSN leaves this value or, where none is, what was there before.
-fn leaves_value(log: &Log, writer: u64, before: Option<Value>, value: Option<Value>) -> bool
-    ensures { IsTrue result ↔ value ≡ image_or before (record_at (history log.now) writer) }
+/// What the record at an LSN leaves in its cell or, where none is, what was there before.
+fn image_left(log: &Log, writer: u64, before: Option<Value>) -> Option<Value>
+    ensures { result ≡ image_or before (record_at (history log.now) writer) }
+{
+    if writer <= log.base() || writer > log.last() {
+        return before;
+    }
+    log.image(writer)
+}
+
+/// Whether both values are absent, or have the same bytes.
+fn are_same_values(value: Option<Value>, other: Option<Value>) -> bool
+    ensures { IsTrue result ↔ value ≡ other }
 {
     match value {
-        None => leaves(log, writer, before, None),
-        Some(value) => leaves(log, writer, before, Some(value.as_slice())),
+        None => other.is_none(),
+        Some(value) => is_value(Some(value.as_slice()), other),
     }
 }
 
@@ -103,7 +113,8 @@ fn slots_are_left(
 {
     for (slot, value) in slots.iter().enumerate() {
         let writer = writers[SLOTS * number as usize + slot];
-        if !leaves_value(log, writer, base_value(base, number, slot), *value) {
+        let left = image_left(log, writer, base_value(base, number, slot));
+        if !are_same_values(*value, left) {
             return false;
         }
     }

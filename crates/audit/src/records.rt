@@ -1,14 +1,17 @@
 //! The laws of the records, in LSN order.
 
-ghost use Rattle.std.specs.Prelude.{◌≡◌, ◌+◌, ◌*◌, ◌≤◌, length, OnOk, IfErr, if◌then◌else◌};
+ghost use Rattle.std.specs.Prelude.{◌≡◌, ℕ, ◌+◌, ◌*◌, ◌≤◌, ◌<◌, ◌↔◌, IsTrue, length, map, OnOk, IfOk, IfErr, IfSome, if◌then◌else◌};
 ghost use Rattle.page.specs.declared.fault.Fault.TheVariants.{WrongCompensation, EndTooEarly};
-ghost use Rattle.wal.specs.Records.{History, last_lsn, history};
+ghost use Rattle.wal.specs.Records.{History, last_lsn, history, base_lsn, tx_in, first};
+ghost use Rattle.wal.specs.Meaning.{BasePages};
 ghost use Rattle.wal.specs.Laws.{IsLawful, Obeys};
-ghost use Rattle.wal.specs.Tail.{is_end};
+ghost use Rattle.wal.specs.Tail.{is_end, tx_of};
+ghost use Rattle.wal.specs.Checkpoint.{true_table};
 ghost use Rattle.wal.specs.Pages.{base_pages};
 ghost use Rattle.wal.specs.Store.{NamesPages};
-ghost use Rattle.wal.specs.Spelling.{Fits};
+ghost use Rattle.wal.specs.Spelling.{Fits, IsRising};
 ghost use Rattle.wal.specs.Content.{shown};
+ghost use Rattle.audit.specs.Statuses.{status_in, IsTop};
 ghost use Rattle.audit.specs.Passing.{IsAuditStateOf, Begins};
 ghost use Rattle.audit.specs.FirstFault.{BrokenAt, AreSound, RecordFault};
 ghost use Rattle.page.specs.declared.sizes.TheConstants.{PAGES, SLOTS};
@@ -17,10 +20,11 @@ use crate::audit_state::AuditState;
 use crate::decide::{
     keeps_before, keeps_chain, keeps_compensation, keeps_finish, keeps_strictness, names_pages,
 };
-use crate::status::{status_of, transaction_of};
+use crate::status::{Status, status_of, transaction_of};
+use crate::table::is_true_if_any;
 use page::{Fault, Page};
 use std::alloc::Global;
-use wal::{Log, RecordView};
+use wal::{Log, RecordView, TransactionTable};
 
 /// The fault of a record that breaks the law of compensation.
 fn wrong_compensation(view: &RecordView, lsn: u64) -> Fault
@@ -33,29 +37,32 @@ fn wrong_compensation(view: &RecordView, lsn: u64) -> Fault
     }
 }
 
-/// Refuses the record at an LSN for the first law that it breaks after the log before it.
+/// Refuses the record at an LSN for the first law that it breaks after the log before it, by how
+/// its transaction stands there.
 fn check_record(
     log: &Log,
-    base: &[Page],
     audit_state: &AuditState,
     count: usize,
     view: &RecordView,
+    status: Status,
     lsn: u64,
 ) -> Result<(), Fault>
-    requires size { length audit_state.now.writers.items ≡ SLOTS * count }
+    requires size { length audit_state.now.cells.items ≡ SLOTS * count }
     requires fits { Fits (shown view.now) }
-    ensures ok { OnOk result ((so_far : History) → last_lsn so_far + 1 ≡ lsn → Begins so_far log.now
-        → IsLawful (base_pages base.now) so_far → IsAuditStateOf count so_far audit_state.now
-        → NamesPages count (shown view.now) × Obeys (base_pages base.now) so_far (shown view.now)) }
-    ensures err { IfErr result (λ e. (so_far : History) → last_lsn so_far + 1 ≡ lsn
-        → Begins so_far log.now → IsLawful (base_pages base.now) so_far
-        → IsAuditStateOf count so_far audit_state.now
-        → BrokenAt (base_pages base.now) count so_far (shown view.now) e) }
+    requires status { status ≡ status_in audit_state.now.table (tx_of (shown view.now)) }
+    ensures named { OnOk result (NamesPages count (shown view.now)) }
+    ensures ok { OnOk result ((base : BasePages) (so_far : History) → last_lsn so_far + 1 ≡ lsn
+        → Begins so_far log.now → IsLawful base so_far
+        → IsAuditStateOf base count so_far audit_state.now
+        → Obeys base so_far (shown view.now)) }
+    ensures err { IfErr result (λ e. (base : BasePages) (so_far : History)
+        → last_lsn so_far + 1 ≡ lsn → Begins so_far log.now → IsLawful base so_far
+        → IsAuditStateOf base count so_far audit_state.now
+        → BrokenAt base count so_far (shown view.now) e) }
 {
     if !names_pages(view, count) {
         return Err(Fault::NoSuchPage(lsn));
     }
-    let status = status_of(&audit_state.table, transaction_of(view));
     if !keeps_chain(view, status) {
         return Err(Fault::Chain(lsn));
     }
@@ -65,30 +72,70 @@ fn check_record(
     if !keeps_compensation(log, view, status) {
         return Err(wrong_compensation(view, lsn));
     }
-    if !keeps_strictness(log, &audit_state.table, &audit_state.writers, view) {
+    if !keeps_strictness(&audit_state.table, &audit_state.cells, view) {
         return Err(Fault::DirtyWrite(lsn));
     }
-    if !keeps_before(log, base, &audit_state.writers, view) {
+    if !keeps_before(&audit_state.cells, view) {
         return Err(Fault::BeforeImage(lsn));
     }
     Ok(())
 }
 
-/// Refuses the first record that breaks a law over these base pages, and names the law.
-/// `NoResource`, where memory is refused, may come in its place.
-pub fn check_records(alloc: Global, log: &Log, base: &[Page], count: usize) -> Result<(), Fault>
-    requires { count ≤ PAGES }
+/// Refuses the record behind an LSN if it breaks a law, else takes it in. `NoResource`, where
+/// memory is refused, may come in place of any answer.
+fn check_next(log: &Log, audit_state: &mut AuditState, count: usize, lsn: u64) -> Result<(), Fault>
+    requires from { base_lsn (history log.now) ≤ lsn }
+    requires to { lsn < last_lsn (history log.now) }
+    requires size { length audit_state.old.cells.items ≡ SLOTS * count }
+    requires top { (t : ℕ) → IsTop audit_state.old.base audit_state.old.links.items
+        (status_in audit_state.old.table t).newest }
+    ensures ok { OnOk result ((base : BasePages) → AreSound base count (first lsn (history log.now))
+        → IsAuditStateOf base count (first lsn (history log.now)) audit_state.old
+        → AreSound base count (first (lsn + 1) (history log.now))
+        × IsAuditStateOf base count (first (lsn + 1) (history log.now)) audit_state.new) }
+    ensures err { IfErr result (λ e. (base : BasePages)
+        → AreSound base count (first lsn (history log.now))
+        → IsAuditStateOf base count (first lsn (history log.now)) audit_state.old
+        → RecordFault base count (history log.now) e) }
+{
+    let _last = log.last();
+    let view = log.after(lsn);
+    let status = status_of(&audit_state.table, transaction_of(&view));
+    if let Err(fault) = check_record(log, audit_state, count, &view, status, lsn + 1) {
+        return Err(fault);
+    }
+    audit_state.note(&view, lsn + 1, status)
+}
+
+/// Refuses the first record that breaks a law over these base pages, and names the law. Else
+/// answers whether the transaction table, if there is one, is that of the unfinished transactions
+/// at the LSN `master`. `NoResource`, where memory is refused, may come in place of any answer.
+pub fn check_records(
+    alloc: Global,
+    log: &Log,
+    base: &[Page],
+    count: usize,
+    master: u64,
+    transactions: Option<&TransactionTable>,
+) -> Result<bool, Fault>
+    requires few { count ≤ PAGES }
+    requires begins { IfSome transactions (λ t. (base_lsn (history log.now) < master)
+        × (master ≤ last_lsn (history log.now)) × IsRising (map tx_in t.now)) }
     ensures ok { OnOk result (AreSound (base_pages base.now) count (history log.now)) }
+    ensures table { IfOk result (λ yes. IfSome transactions.entry (λ t. IsTrue yes
+        ↔ t.now ≡ true_table (first master (history log.now)))) }
     ensures err { IfErr result (RecordFault (base_pages base.now) count (history log.now)) }
 {
     let begins = log.base();
-    let mut audit_state = AuditState::start(alloc, begins, count)?;
+    let mut audit_state = AuditState::start(alloc, begins, base, count)?;
+    let mut is_true = true;
     for lsn in begins..log.last() {
-        let view = log.after(lsn);
-        if let Err(fault) = check_record(log, base, &audit_state, count, &view, lsn + 1) {
+        if let Err(fault) = check_next(log, &mut audit_state, count, lsn) {
             return Err(fault);
         }
-        audit_state.note(&view, lsn + 1)?;
+        if lsn + 1 == master {
+            is_true = is_true_if_any(alloc, &audit_state.table, transactions)?;
+        }
     }
-    Ok(())
+    Ok(is_true)
 }

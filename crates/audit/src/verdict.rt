@@ -1,6 +1,6 @@
 //! The audit: the base store, records, pages and the checkpoint in turn.
 
-ghost use Rattle.std.specs.Prelude.{OnOk, IfErr, IsOkUnless};
+ghost use Rattle.std.specs.Prelude.{◌≡◌, option_map, OnOk, IfErr, IsOkUnless};
 ghost use Rattle.page.specs.declared.fault.Fault.TheVariants.{NoResource};
 ghost use Rattle.wal.specs.Meaning.{BaseLaw, no_base};
 ghost use Rattle.wal.specs.Records.{history};
@@ -15,7 +15,19 @@ use crate::pages::check_pages;
 use crate::records::check_records;
 use page::{Fault, Page, Store};
 use std::alloc::Global;
-use wal::Log;
+use wal::{DirtyTable, Log, TransactionTable};
+
+/// The transaction table of a checkpoint, if there is one.
+fn transactions_in<'t, 'a>(
+    tables: &'t Option<(TransactionTable<'a>, DirtyTable<'a>)>,
+) -> Option<&'t TransactionTable<'a>>
+    ensures { option_map (λ t. t.now) result ≡ option_map (λ x. x.0) tables.now }
+{
+    match tables {
+        Some((transactions, _)) => Some(transactions),
+        None => None,
+    }
+}
 
 /// Refuses the first broken law over these base pages.
 fn first_fault(alloc: Global, log: &Log, base: &[Page], store: &Store) -> Result<(), Fault>
@@ -23,13 +35,14 @@ fn first_fault(alloc: Global, log: &Log, base: &[Page], store: &Store) -> Result
     ensures ok { OnOk result (Lawful (base_pages base.now) log.now store.now) }
     ensures fault { IfErr result (FirstFault (base_pages base.now) log.now store.now) }
 {
-    if let Err(fault) = check_records(alloc, log, base, store.pages.len()) {
-        return Err(fault);
-    }
+    let master = store.master;
+    let tables = log.checkpoint(master);
+    let transactions = transactions_in(&tables);
+    let is_true = check_records(alloc, log, base, store.pages.len(), master, transactions)?;
     if let Err(fault) = check_pages(alloc, log, base, &store.pages) {
         return Err(fault);
     }
-    check_master(alloc, log, store.master, &store.pages)
+    check_master(alloc, log, master, &tables, is_true, &store.pages)
 }
 
 /// Whether a log and a store are lawful over empty pages: what an ARIES system can leave behind

@@ -2,7 +2,7 @@ use Rattle.std.proofs.Common.{ℕ, ◌≡◌, ◌<◌, true, get_or, eqb}
 use Rattle.std.specs.HashSet.{contains}
 use Rattle.wal.specs.Records.{TableEntry}
 use Rattle.audit.specs.Checkpoints.{Lists}
-use Rattle.audit.proofs.master.listed_in.Given as goal
+use Rattle.audit.proofs.table.listed_in.Given as goal
 
 abbrev pub invariant-loop-place : goal.invariant-loop-place
 invariant-loop-place l =

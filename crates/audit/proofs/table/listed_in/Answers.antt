@@ -4,7 +4,7 @@ use Rattle.std.proofs.lemmas.Bool.{or_cases, or_left, or_right, cases_eq, eq-eqb
 use Rattle.std.specs.HashSet.{contains}
 use Rattle.wal.specs.Records.{TableEntry}
 use Rattle.wal.specs.Content.{entry_of}
-use Rattle.audit.proofs.master.listed_in.Goals as goal
+use Rattle.audit.proofs.table.listed_in.Goals as goal
 
 pub loop-place-preserved : goal.loop-place-preserved
 loop-place-preserved c =

@@ -1,5 +1,5 @@
 use Rattle.audit.proofs.Unfinished.{unfinished_then, unfinished_else}
-use Rattle.audit.proofs.master.is_unfinished.Goals as goal
+use Rattle.audit.proofs.table.is_unfinished.Goals as goal
 
 pub returns-then-status-ne0 : goal.returns-then-status-ne0
 returns-then-status-ne0 c = λ t log links h. unfinished_then t log links c.args.status h c.if-status-ne0.true c.is_finished.result c.is_finished.ensures

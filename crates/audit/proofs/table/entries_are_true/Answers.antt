@@ -3,7 +3,7 @@ use Rattle.std.proofs.lemmas.Bool.{iff_false, cases_eq, false≢true}
 use Rattle.wal.specs.Content.{entry_of}
 use Rattle.audit.specs.Statuses.{IsStatusOf}
 use Rattle.audit.specs.Checkpoints.{IsTrueEntry}
-use Rattle.audit.proofs.master.entries_are_true.Goals as goal
+use Rattle.audit.proofs.table.entries_are_true.Goals as goal
 
 pub returns-then-not-is_true_entry : goal.returns-then-not-is_true_entry
 returns-then-not-is_true_entry c = λ log links stands.

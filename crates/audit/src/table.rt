@@ -1,0 +1,142 @@
+//! The transaction table of a checkpoint, against how the transactions stand at its begin.
+
+ghost use Rattle.std.specs.Prelude.{◌≡◌, ◌||◌, ◌↔◌, ℕ, List, All, IsTrue, true, map, nat_eq, IfOk, OnOk, IfSome, IsOkUnless};
+ghost use Rattle.std.specs.HashSet.{contains};
+ghost use Rattle.page.specs.declared.fault.Fault.TheVariants.{NoResource};
+ghost use Rattle.wal.specs.Records.{tx_in, History};
+ghost use Rattle.wal.specs.Meaning.{state_by, is_unfinished};
+ghost use Rattle.wal.specs.Checkpoint.{true_table};
+ghost use Rattle.wal.specs.Spelling.{IsRising};
+ghost use Rattle.wal.specs.Content.{entry_of};
+ghost use Rattle.audit.specs.Statuses.{IsStatusOf, status_in};
+ghost use Rattle.audit.specs.Checkpoints.{IsTrueEntry, Lists};
+
+use crate::status::{Status, status_of};
+use page::Fault;
+use std::alloc::Global;
+use std::collections::{HashMap, HashSet};
+use wal::{Entry, State, TransactionTable};
+
+/// Whether a transaction that stands so has begun and has not finished.
+fn is_unfinished(status: Status) -> bool
+    ensures { (t : ℕ) (log : History) (links : List ℕ) → IsStatusOf links t log status
+        → result ≡ is_unfinished t log }
+{
+    status.last != 0 && !status.is_finished()
+}
+
+/// Whether a state is that of a transaction that has or has not aborted, and has or has not
+/// prepared.
+fn tells_state(state: State, aborted: bool, prepared: bool) -> bool
+    ensures { IsTrue result ↔ state ≡ state_by aborted prepared }
+{
+    match state {
+        State::Active => !aborted && !prepared,
+        State::Prepared => !aborted && prepared,
+        State::Aborting => aborted,
+    }
+}
+
+/// Whether a transaction that stands so is unfinished, and has this entry.
+fn is_true_entry(status: Status, entry: Entry) -> bool
+    ensures { (t : ℕ) (log : History) (links : List ℕ) → IsStatusOf links t log status
+        → IsTrue result ↔ IsTrueEntry log (entry_of (t, entry)) }
+{
+    is_unfinished(status)
+        && entry.last == status.last
+        && entry.undo_next == status.undo_next
+        && tells_state(entry.state, status.aborted, status.prepared)
+}
+
+/// Whether each entry is of an unfinished transaction, and true of it.
+fn entries_are_true(table: &HashMap<u32, Status>, transactions: &TransactionTable) -> bool
+    ensures { (log : History) (links : List ℕ)
+        → ((t : ℕ) → IsStatusOf links t log (status_in table.now t))
+        → IsTrue result ↔ All (IsTrueEntry log) transactions.now }
+{
+    for place in 0..transactions.len() {
+        let (tx, entry) = transactions.entry(place);
+        if !is_true_entry(status_of(table, tx), entry) {
+            return false;
+        }
+    }
+    true
+}
+
+/// Takes a transaction into the set. The only error is `NoResource`.
+fn list(listed: &mut HashSet<u32>, tx: u32) -> Result<(), Fault>
+    ensures ok { OnOk result ((t : ℕ) → contains nat_eq listed.new t
+        ≡ (nat_eq t tx || contains nat_eq listed.old t)) }
+    ensures err { IsOkUnless result NoResource }
+{
+    listed.insert(tx)?;
+    Ok(())
+}
+
+/// The transactions that have an entry. The only error is `NoResource`.
+fn listed_in(alloc: Global, transactions: &TransactionTable) -> Result<HashSet<u32>, Fault>
+    ensures ok { IfOk result (λ set. (t : ℕ) → IsTrue (contains nat_eq set t)
+        ↔ Lists transactions.now t) }
+    ensures err { IsOkUnless result NoResource }
+{
+    let mut listed = HashSet::new(alloc);
+    for place in 0..transactions.len() {
+        let (tx, _) = transactions.entry(place);
+        list(&mut listed, tx)?;
+    }
+    Ok(listed)
+}
+
+/// Whether each unfinished transaction is listed.
+fn unfinished_are_listed(table: &HashMap<u32, Status>, listed: &HashSet<u32>) -> bool
+    ensures { (log : History) (links : List ℕ)
+        → ((t : ℕ) → IsStatusOf links t log (status_in table.now t))
+        → IsTrue result ↔ ((t : ℕ) → is_unfinished t log ≡ true
+        → IsTrue (contains nat_eq listed.now t)) }
+{
+    for (tx, status) in table {
+        if is_unfinished(*status) && !listed.contains(tx) {
+            return false;
+        }
+    }
+    true
+}
+
+/// Whether the table is exactly that of the unfinished transactions. The only error is
+/// `NoResource`.
+fn is_true_table(
+    alloc: Global,
+    table: &HashMap<u32, Status>,
+    transactions: &TransactionTable,
+) -> Result<bool, Fault>
+    requires rising { IsRising (map tx_in transactions.now) }
+    ensures ok { IfOk result (λ yes. (log : History) (links : List ℕ)
+        → ((t : ℕ) → IsStatusOf links t log (status_in table.now t))
+        → IsTrue yes ↔ transactions.now ≡ true_table log) }
+    ensures err { IsOkUnless result NoResource }
+{
+    if !entries_are_true(table, transactions) {
+        return Ok(false);
+    }
+    let listed = listed_in(alloc, transactions)?;
+    Ok(unfinished_are_listed(table, &listed))
+}
+
+/// Whether the table, if there is one, is exactly that of the unfinished transactions. The only
+/// error is `NoResource`.
+pub fn is_true_if_any(
+    alloc: Global,
+    table: &HashMap<u32, Status>,
+    transactions: Option<&TransactionTable>,
+) -> Result<bool, Fault>
+    requires rising { IfSome transactions (λ t. IsRising (map tx_in t.now)) }
+    ensures ok { IfOk result (λ yes. IfSome transactions.entry (λ t. (log : History) (links : List ℕ)
+        → ((t : ℕ) → IsStatusOf links t log (status_in table.now t))
+        → IsTrue yes ↔ t.now ≡ true_table log)) }
+    ensures err { IsOkUnless result NoResource }
+{
+    match transactions {
+        None => Ok(true),
+        Some(transactions) => is_true_table(alloc, table, transactions),
+    }
+}
