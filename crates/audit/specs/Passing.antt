@@ -8,12 +8,12 @@ use Rattle.audit.specs.declared.audit_state.AuditState.{AuditState}
 use Rattle.audit.specs.Statuses.{IsStatusOf, status_in}
 use Rattle.audit.specs.Cells.{KeepsCells, cell_in}
 
--- it tells how each transaction stands and what the cells hold
-pub record IsAuditStateOf (below : BasePages) (count : ℕ) (log : History) (audit_state : AuditState) : Type 0 where
+-- it tells how each transaction stands, and what the cells hold over the base pages
+pub record IsAuditStateOf (pages : BasePages) (count : ℕ) (log : History) (audit_state : AuditState) : Type 0 where
   pub base : audit_state.base ≡ base_lsn log
   pub links : base_lsn log + length audit_state.links.items ≡ last_lsn log
   pub stands : (t : ℕ) → IsStatusOf audit_state.links.items t log (status_in audit_state.table t)
-  pub cells : KeepsCells count (cell_in below log) audit_state.cells.items
+  pub cells : KeepsCells count (cell_in pages log) audit_state.cells.items
 
 -- it is a beginning of the log
 abbrev pub Begins : History → LogContent → Type 0

@@ -21,7 +21,8 @@ use std::alloc::Global;
 use std::collections::HashMap;
 use wal::RecordView;
 
-/// What the records so far say: 8 bytes a record, a status a transaction, and what the cells hold.
+/// What the records so far say: a link of 8 bytes a record, a status a transaction, and what the
+/// cells hold.
 #[derive(Drop)]
 pub struct AuditState {
     /// How each transaction stands.

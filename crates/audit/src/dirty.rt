@@ -1,6 +1,6 @@
 //! The dirty page table of a checkpoint, against the log and the pages.
 
-ghost use Rattle.std.specs.Prelude.{◌≡◌, ◌+◌, ◌≤◌, ◌<◌, ◌↔◌, ℕ, All, IsTrue, Some, length, take, IfOk, OnOk, IfErr, IfSome, IsOkUnless};
+ghost use Rattle.std.specs.Prelude.{◌≡◌, ◌+◌, ◌≤◌, ◌<◌, ◌↔◌, ℕ, All, IsTrue, Option, Some, ◌==◌, if◌then◌else◌, length, slice_index_or, take, IfOk, OnOk, IfErr, IfSome, IsOkUnless};
 ghost use Rattle.page.specs.Store.{AreNumbered};
 ghost use Rattle.page.specs.declared.fault.Fault.TheVariants.{NoResource};
 ghost use Rattle.wal.specs.Records.{history, first, last_lsn, EachRecord, base_lsn};
@@ -48,17 +48,33 @@ fn missing_in(alloc: Global, log: &Log, upto: u64, pages: &[Page]) -> Result<Vec
     Ok(missing)
 }
 
-/// The RecLSN of a page, if the table lists it.
-fn rec_lsn_in(dirty: &DirtyTable, page: u32) -> Option<u64>
-    ensures { result ≡ rec_lsn_of page dirty.now }
+/// Puts the RecLSN of a page to its number, if there is such a page.
+fn put_rec_lsn(listed: &mut [Option<u64>], page: u32, rec_lsn: u64)
+    ensures count { length listed.new ≡ length listed.old }
+    ensures put { (number : ℕ) (default : Option ℕ) → number < length listed.old
+        → slice_index_or listed.new number default
+        ≡ (if page == number then Some rec_lsn else slice_index_or listed.old number default) }
 {
-    for place in 0..dirty.len() {
-        let (other, rec_lsn) = dirty.entry(place);
-        if other == page {
-            return Some(rec_lsn);
-        }
+    if (page as usize) < listed.len() {
+        listed[page as usize] = Some(rec_lsn);
     }
-    None
+}
+
+/// For each page its RecLSN, if the table lists it. The only error is `NoResource`.
+fn rec_lsns_in(alloc: Global, dirty: &DirtyTable, count: usize) -> Result<Vec<Option<u64>>, Fault>
+    ensures count { IfOk result (λ listed. length listed.items ≡ count) }
+    ensures each { IfOk result (λ listed. (number : ℕ) (default : Option ℕ) → number < count
+        → slice_index_or listed.items number default ≡ rec_lsn_of number dirty.now) }
+    ensures err { IsOkUnless result NoResource }
+{
+    let mut listed = vec![in alloc; None; count]?;
+    let last = dirty.len();
+    // From the last entry to the first, since of two for one page the first counts.
+    for behind in 0..last {
+        let (page, rec_lsn) = dirty.entry(last - 1 - behind);
+        put_rec_lsn(&mut listed, page, rec_lsn);
+    }
+    Ok(listed)
 }
 
 /// Whether a listed RecLSN lies above the base LSN and up to the master, and at or before the first
@@ -91,13 +107,9 @@ pub fn check_dirty(
     ensures err { IfErr result (DirtyFault (history log.now) master dirty.now pages.now) }
 {
     let missing = missing_in(alloc, log, master, pages)?;
+    let listed = rec_lsns_in(alloc, dirty, pages.len())?;
     for (number, page) in pages.iter().enumerate() {
-        if !is_covered(
-            log.base(),
-            rec_lsn_in(dirty, page.number),
-            missing[number],
-            master,
-        ) {
+        if !is_covered(log.base(), listed[number], missing[number], master) {
             return Err(Fault::DirtyTable(page.number));
         }
     }

@@ -35,8 +35,8 @@ returns-then-not-is_covered-clause-err c =
     let page = c.index-pages-number.result in
     let log : History = first c.args.master (history c.args.log.now) in
     let number = ap (λ (p : Page). p.number) c.index-pages-number.is ∙ c.requires.numbered.at_place i page (omega arith) in
-    let n = kept c.args.pages.now log c.in_ok-missing.missing.items i c.index.result.now c.index.result.now page c.index-pages-number.is (omega arith) number c.in_ok-missing.ensures.ok c.index.ensures refl in
-    let d = decided c.args.log.now c.base.result c.args.master c.index.result.now page c.args.dirty.now c.rec_lsn_in.result c.base.ensures.is c.requires.from c.requires.to c.rec_lsn_in.ensures n in
+    let n = kept c.args.pages.now log c.in_ok-missing.missing.items i c.index-in-loop-number.result.now c.index-in-loop-number.result.now page c.index-pages-number.is (omega arith) number c.in_ok-missing.ensures.ok c.index-in-loop-number.ensures refl in
+    let d = decided c.args.log.now c.base.result c.args.master c.index-in-loop-number.result.now page c.args.dirty.now c.index.result.now c.base.ensures.is c.requires.from c.requires.to (c.index.ensures ∙ c.in_ok-listed.ensures.each i c.index.result.now (omega arith) ∙ ap (λ k. rec_lsn_of k c.args.dirty.now) (sym number)) n in
     record {
       place = i;
       page = page;
@@ -52,8 +52,8 @@ loop-number-preserved c =
     let page = c.index-pages-number.result in
     let log : History = first c.args.master (history c.args.log.now) in
     let number = ap (λ (p : Page). p.number) c.index-pages-number.is ∙ c.requires.numbered.at_place i page (omega arith) in
-    let n = kept c.args.pages.now log c.in_ok-missing.missing.items i c.index.result.now c.index.result.now page c.index-pages-number.is (omega arith) number c.in_ok-missing.ensures.ok c.index.ensures refl in
-    let d = decided c.args.log.now c.base.result c.args.master c.index.result.now page c.args.dirty.now c.rec_lsn_in.result c.base.ensures.is c.requires.from c.requires.to c.rec_lsn_in.ensures n in
+    let n = kept c.args.pages.now log c.in_ok-missing.missing.items i c.index-in-loop-number.result.now c.index-in-loop-number.result.now page c.index-pages-number.is (omega arith) number c.in_ok-missing.ensures.ok c.index-in-loop-number.ensures refl in
+    let d = decided c.args.log.now c.base.result c.args.master c.index-in-loop-number.result.now page c.args.dirty.now c.index.result.now c.base.ensures.is c.requires.from c.requires.to (c.index.ensures ∙ c.in_ok-listed.ensures.each i c.index.result.now (omega arith) ∙ ap (λ k. rec_lsn_of k c.args.dirty.now) (sym number)) n in
     All-more (KeepsDirty (history c.args.log.now) c.args.master c.args.dirty.now) c.args.pages.now i page (omega arith) c.loop-number.invariant
     (subst (KeepsDirty (history c.args.log.now) c.args.master c.args.dirty.now) c.index-pages-number.is (d.0 (c.is_covered.ensures.0 c.if-not-is_covered.false)))
 
