@@ -14,9 +14,6 @@ use Rattle.audit.specs.Dirty.{first_missing, KeepsMissing, missing_after, IsInRa
 
 -- ONE RECORD MORE
 module _ (pages : List Page) (log : History) (lsn p : ℕ) (r : LogRecord) (at : last_lsn log + 1 ≡ lsn) (on : (q : ℕ) → is_on q r ≡ eqb p q) (lt : p < length pages) (ms : List ℕ) (keeps : KeepsMissing pages log ms) where
-  test : Bool
-  test = eqb (get_or ms p 0) 0 && ltb (page_lsn pages p) lsn
-
   abbrev Next : ℕ → ℕ
   Next q = first_missing q (page_lsn pages q) (log ▸ r)
 

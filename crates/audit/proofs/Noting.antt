@@ -118,9 +118,3 @@ cells_noted base count log cells (Compensation u) named fits keeps =
     let s : u.slot ≤ 15 = fits.slot in
     put_there count (cell_in base log) (cell_in base (log ▸ Compensation u)) cells u.page u.slot (record { writer = Some u.tx; image = u.image }) named (omega arith) (cell_put base log (Compensation u) u.page u.slot (λ page slot. refl)) keeps
 cells_noted base count log cells r named fits keeps = left_there count (cell_in base log) (cell_in base (log ▸ r)) cells (λ page slot. refl) keeps
-
--- an image of a record that fits is short
-pub image_fits : (r : LogRecord) → Fits r → IfSome (change_of r) (λ c. IfSome c.image (λ bytes. length bytes ≤ 48))
-image_fits (Update u) fits = fits.after
-image_fits (Compensation u) fits = fits.image
-image_fits r fits = tt
