@@ -5,7 +5,7 @@ use Rattle.std.proofs.lemmas.List.{get_or-set_other}
 use Rattle.std.proofs.lemmas.Grind.{get_or-set_at}
 use Rattle.std.proofs.Math.ListN.{length-set}
 use Rattle.wal.specs.Records.{LogRecord, Update, Compensation, History, ◌▸◌}
-use Rattle.wal.specs.Meaning.{BasePages, owner, is_owned_by, is_of, writes, change_of, cell_of, image_of}
+use Rattle.wal.specs.Meaning.{BasePages, owner, is_owned_by, is_of, writes, cell_of, image_of}
 use Rattle.wal.specs.Store.{NamesPages}
 use Rattle.wal.specs.Spelling.{Fits}
 use Rattle.wal.specs.Tail.{number_or_0, tx_of}
