@@ -8,5 +8,6 @@ pub mod Rolling
 pub mod Few
 pub mod Lost
 pub mod Beginning
+pub mod Told
 pub mod LawfulUndo
 pub mod OneCause

@@ -1,2 +1,3 @@
 pub mod Undone
 pub mod Rollback
+pub mod Appended

@@ -2,10 +2,12 @@
 //! under compensation records.
 #![tactic(auto)]
 
+mod appended;
 mod laws;
 mod losers;
 mod rollback;
 mod walk;
 
+pub use appended::{Appended, record_of, records_of};
 pub use laws::{no_fault_of_undo, one_undo_fault};
-pub use rollback::undo;
+pub use rollback::{undo, undo_in_brief};

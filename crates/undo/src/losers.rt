@@ -4,18 +4,20 @@ ghost use Rattle.std.specs.Prelude.{◌≡◌, ◌≤◌, ◌<◌, ◌+◌, ◌^
 ghost use Rattle.std.specs.Ordering.{nat_cmp};
 ghost use Rattle.std.specs.BTreeMap.{get};
 ghost use Rattle.wal.specs.Records.{history, last_lsn};
-ghost use Rattle.wal.specs.Content.{entry_of, content};
+ghost use Rattle.wal.specs.Content.{entry_of};
 ghost use Rattle.wal.specs.Undo.{is_lost};
 ghost use Rattle.analysis.specs.Tables.{losers_in};
-ghost use Rattle.undo.specs.Undone.{HasNoTransaction0, AreWritable, UndoFault};
+ghost use Rattle.undo.specs.Appended.{records_of, AreTold, AreFit};
+ghost use Rattle.undo.specs.Undone.{HasNoTransaction0, UndoFault};
 ghost use Rattle.undo.specs.Rollback.{walk_from, WalkFault, Resolved, Taken, AreEnds, RollbackInvariant};
 
+use crate::Appended;
 use crate::walk::next_update;
 use analysis::Tables;
 use page::Fault;
 use std::alloc::Global;
 use std::collections::BTreeMap;
-use wal::{Entry, Log, Record, State};
+use wal::{Entry, Log, State};
 
 /// A transaction that is rolled back.
 #[derive(Clone, Copy, Debug, PartialEq, Eq)]
@@ -34,22 +36,25 @@ pub fn resolve(
     from: u64,
     lsn: u64,
     waiting: &mut BTreeMap<u64, Loser>,
-    appended: &mut Vec<Record>,
+    appended: &mut Vec<Appended>,
 ) -> Result<(), Fault>
     requires positive { 0 < from }
     requires within { from ≤ last_lsn (history log.now) + 1 }
     ensures ok { OnOk result (Resolved (history log.now) loser from lsn
-        (get nat_cmp waiting.old) (get nat_cmp waiting.new) (map content appended.old.items)
-        (map content appended.new.items)) }
-    ensures writable { OnOk result (0 < loser.tx → AreWritable appended.old.items
-        → AreWritable appended.new.items) }
+        (get nat_cmp waiting.old) (get nat_cmp waiting.new)
+        (records_of (history log.now) appended.old.items)
+        (records_of (history log.now) appended.new.items)) }
+    ensures told { OnOk result (AreTold (history log.now) appended.old.items
+        → AreTold (history log.now) appended.new.items) }
+    ensures writable { OnOk result (0 < loser.tx → AreFit (history log.now) appended.old.items
+        → AreFit (history log.now) appended.new.items) }
     ensures fault { IfErr result (WalkFault (walk_from (history log.now) loser.tx from lsn)) }
 {
     match next_update(log, loser.tx, from, lsn)? {
         Some(update_lsn) => {
             waiting.insert(update_lsn, loser)?;
         }
-        None => appended.push(Record::End {
+        None => appended.push(Appended::End {
             tx: loser.tx,
             prev: loser.last,
         })?,
@@ -84,14 +89,16 @@ pub fn begin(
     alloc: Global,
     log: &Log,
     tables: &Tables,
-) -> Result<(BTreeMap<u64, Loser>, Vec<Record>), Fault>
+) -> Result<(BTreeMap<u64, Loser>, Vec<Appended>), Fault>
     ensures ok { IfOk result (λ x. (count : ℕ)
         → RollbackInvariant (history log.now) (losers_in tables.now) count (get nat_cmp x.0)
-        (map content x.1.items)) }
-    ensures ends { IfOk result (λ x. AreEnds (map content x.1.items)) }
+        (records_of (history log.now) x.1.items)) }
+    ensures ends { IfOk result (λ x. AreEnds (records_of (history log.now) x.1.items)) }
+    ensures told { IfOk result (λ x. AreTold (history log.now) x.1.items) }
     ensures few { IfOk result (λ x. length x.1.items ≤ length (losers_in tables.now)) }
     ensures numbers { OnOk result (length (losers_in tables.now) ≤ 2 ^ 32) }
-    ensures writable { IfOk result (λ x. HasNoTransaction0 tables.now → AreWritable x.1.items) }
+    ensures writable { IfOk result (λ x. HasNoTransaction0 tables.now
+        → AreFit (history log.now) x.1.items) }
     ensures fault { IfErr result (λ e. (count : ℕ)
         → UndoFault (history log.now) (losers_in tables.now) count e) }
 {

@@ -11,11 +11,12 @@ use Rattle.std.specs.BTreeMap.{get}
 use Rattle.std.specs.Map.Iter.{deref_pair}
 use Rattle.wal.specs.Records.{TableEntry, tx_in, history}
 use Rattle.wal.specs.declared.record.Entry.{Entry}
-use Rattle.wal.specs.Content.{entry_of, content}
+use Rattle.wal.specs.Content.{entry_of}
 use Rattle.wal.specs.Undo.{entry_for, is_lost, lost_in}
 use Rattle.wal.proofs.Histories.{size_of_log}
 use Rattle.wal.proofs.Entries.{Rise, entry_found, rise, distinct}
 use Rattle.analysis.specs.Tables.{losers_in}
+use Rattle.undo.specs.Appended.{record_of, records_of}
 use Rattle.undo.specs.Rollback.{AreEnds, Begun, meets_nothing}
 use Rattle.undo.proofs.Lost.{one_lost, none_lost, lost_about, lost_rise, lost_found}
 use Rattle.undo.proofs.Beginning.{broken_start, begun_more, begun_rolls, stands_earlier, are_ends, some_tx}
@@ -54,7 +55,7 @@ returns-in_err-resolve-clause-fault c =
     let earlier = stands_earlier 0 (lost_in done) (lost_in (map entry_of c.next.new.self)) e (subst (Rise 0) losers rises) in
     rw (exit.1, exit.2)
     (λ count. broken_start (history c.args.log.now) (losers_in c.args.tables.now) (lost_in done) (get nat_cmp c.loop-tx.waiting) (get nat_cmp c.resolve.new.waiting)
-    (map content c.loop-tx.appended.items) (map content c.resolve.new.appended.items) c.next_lsn-end.result (omega (arith, c.next_lsn-end.ensures.next, size_of_log c.args.log.now))
+    (records_of (history c.args.log.now) c.loop-tx.appended.items) (records_of (history c.args.log.now) c.resolve.new.appended.items) c.next_lsn-end.result (omega (arith, c.next_lsn-end.ensures.next, size_of_log c.args.log.now))
     e (own c.in-Some.tx.now c.in-Some.entry.now c.tables.inside.transactions.entries (losers_in c.args.tables.now) same turn.1 lost) c.loop-tx.invariant.begun
     (λ t x lt some. earlier t x lt (sym (ap (entry_for t) losers) ∙ some)) count c.in_err-resolve.field-0.0 c.in_err-resolve.ensures.fault)
 
@@ -71,13 +72,14 @@ loop-tx-preserved-in-Continue-1 c =
     let more = ap lost_in (one_more c.loop-tx.yielded c.in-Some.tx c.in-Some.entry) ∙ one_lost done e lost in
     record {
       begun =
-          subst (λ es. Begun (history c.args.log.now) (losers_in c.args.tables.now) es (get nat_cmp c.resolve.new.waiting) (map content c.resolve.new.appended.items)) (sym more)
+          subst (λ es. Begun (history c.args.log.now) (losers_in c.args.tables.now) es (get nat_cmp c.resolve.new.waiting) (records_of (history c.args.log.now) c.resolve.new.appended.items)) (sym more)
           (begun_more (history c.args.log.now) (losers_in c.args.tables.now) (lost_in done) (get nat_cmp c.loop-tx.waiting) (get nat_cmp c.resolve.new.waiting)
-          (map content c.loop-tx.appended.items) (map content c.resolve.new.appended.items) c.next_lsn-end.result (omega (arith, c.next_lsn-end.ensures.next, size_of_log c.args.log.now))
+          (records_of (history c.args.log.now) c.loop-tx.appended.items) (records_of (history c.args.log.now) c.resolve.new.appended.items) c.next_lsn-end.result (omega (arith, c.next_lsn-end.ensures.next, size_of_log c.args.log.now))
           e found c.loop-tx.invariant.begun c.in_ok-resolve.ensures.ok);
       numbers =
           subst (All (λ n. n < 2 ^ 32)) (sym (ap (map tx_in) more ∙ map_push tx_in (lost_in done) e))
           (All-push (λ n. n < 2 ^ 32) (map tx_in (lost_in done)) c.in-Some.tx.now c.loop-tx.invariant.numbers (omega arith));
+      told = c.in_ok-resolve.ensures.told c.loop-tx.invariant.told;
       writable = λ counted. c.in_ok-resolve.ensures.writable (some_tx c.in-Some.tx.now e (losers_in c.args.tables.now) counted found) (c.loop-tx.invariant.writable counted);
     }
 
@@ -88,8 +90,9 @@ loop-tx-preserved c =
     let kept : is_lost e ≡ false = sym (c.is_lost.ensures c.in-Some.tx.now) ∙ c.if-is_lost.false in
     let more = ap lost_in (one_more c.loop-tx.yielded c.in-Some.tx c.in-Some.entry) ∙ none_lost (map entry_of (map deref_pair c.loop-tx.yielded)) e kept in
     record {
-      begun = subst (λ es. Begun (history c.args.log.now) (losers_in c.args.tables.now) es (get nat_cmp c.loop-tx.waiting) (map content c.loop-tx.appended.items)) (sym more) c.loop-tx.invariant.begun;
+      begun = subst (λ es. Begun (history c.args.log.now) (losers_in c.args.tables.now) es (get nat_cmp c.loop-tx.waiting) (records_of (history c.args.log.now) c.loop-tx.appended.items)) (sym more) c.loop-tx.invariant.begun;
       numbers = subst (λ es. All (λ n. n < 2 ^ 32) (map tx_in es)) (sym more) c.loop-tx.invariant.numbers;
+      told = c.loop-tx.invariant.told;
       writable = c.loop-tx.invariant.writable;
     }
 
@@ -109,9 +112,9 @@ in_order c =
 
 pub returns-clause-ok : goal.returns-clause-ok
 returns-clause-ok c =
-    begun_rolls (history c.args.log.now) (losers_in c.args.tables.now) (get nat_cmp c.loop-tx.waiting) (map content c.loop-tx.appended.items)
+    begun_rolls (history c.args.log.now) (losers_in c.args.tables.now) (get nat_cmp c.loop-tx.waiting) (records_of (history c.args.log.now) c.loop-tx.appended.items)
     (distinct 0 (losers_in c.args.tables.now) (in_order c))
-    (subst (λ es. Begun (history c.args.log.now) (losers_in c.args.tables.now) es (get nat_cmp c.loop-tx.waiting) (map content c.loop-tx.appended.items)) (all_taken c) c.loop-tx.invariant.begun)
+    (subst (λ es. Begun (history c.args.log.now) (losers_in c.args.tables.now) es (get nat_cmp c.loop-tx.waiting) (records_of (history c.args.log.now) c.loop-tx.appended.items)) (all_taken c) c.loop-tx.invariant.begun)
 
 pub returns-clause-ends : goal.returns-clause-ends
 returns-clause-ends c =
@@ -119,7 +122,7 @@ returns-clause-ends c =
 
 pub returns-clause-few : goal.returns-clause-few
 returns-clause-few c =
-    omega (arith, ends_few (history c.args.log.now) (lost_in (map entry_of (map deref_pair c.loop-tx.yielded))), ap length c.loop-tx.invariant.begun.ends, length-map c.loop-tx.appended.items content, ap length (all_taken c))
+    omega (arith, ends_few (history c.args.log.now) (lost_in (map entry_of (map deref_pair c.loop-tx.yielded))), ap length c.loop-tx.invariant.begun.ends, length-map c.loop-tx.appended.items (record_of (history c.args.log.now)), ap length (all_taken c))
 
 pub returns-clause-numbers : goal.returns-clause-numbers
 returns-clause-numbers c = numbers_few (losers_in c.args.tables.now) (in_order c) (subst (λ ts. All (λ n. n < 2 ^ 32) (map tx_in ts)) (all_taken c) c.loop-tx.invariant.numbers)

@@ -4,17 +4,19 @@ use Rattle.std.specs.Ordering.{nat_cmp}
 use Rattle.std.specs.BTreeMap.{get}
 use Rattle.std.specs.Map.Iter.{deref_pair}
 use Rattle.wal.specs.Records.{tx_in, history}
-use Rattle.wal.specs.Content.{entry_of, content}
+use Rattle.wal.specs.Content.{entry_of}
 use Rattle.wal.specs.Undo.{lost_in}
 use Rattle.analysis.specs.Tables.{losers_in}
-use Rattle.undo.specs.Undone.{HasNoTransaction0, AreWritable}
+use Rattle.undo.specs.Appended.{records_of, AreTold, AreFit}
+use Rattle.undo.specs.Undone.{HasNoTransaction0}
 use Rattle.undo.specs.Rollback.{Begun}
 use Rattle.undo.proofs.losers.begin.Given as goal
 
 abbrev pub invariant-loop-tx : goal.invariant-loop-tx
 invariant-loop-tx l =
     record {
-      begun : Begun (history l.log) (losers_in l.tables) (lost_in (map entry_of (map deref_pair l.yielded))) (get nat_cmp l.waiting) (map content l.appended.items);
+      begun : Begun (history l.log) (losers_in l.tables) (lost_in (map entry_of (map deref_pair l.yielded))) (get nat_cmp l.waiting) (records_of (history l.log) l.appended.items);
       numbers : All (λ n. n < 2 ^ 32) (map tx_in (lost_in (map entry_of (map deref_pair l.yielded))));
-      writable : HasNoTransaction0 l.tables → AreWritable l.appended.items;
+      told : AreTold (history l.log) l.appended.items;
+      writable : HasNoTransaction0 l.tables → AreFit (history l.log) l.appended.items;
     }

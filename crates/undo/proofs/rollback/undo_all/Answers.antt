@@ -1,11 +1,11 @@
-use Rattle.std.proofs.Common.{◌<◌, ◌≤◌, All, length, map, sym, subst, arith}
+use Rattle.std.proofs.Common.{◌<◌, ◌≤◌, All, length, sym, subst, arith}
 use Rattle.std.proofs.lemmas.Result.{err_from_is_err_and}
 use Rattle.std.specs.Ordering.{nat_cmp}
 use Rattle.std.specs.BTreeMap.{get}
 use Rattle.wal.specs.Records.{history, base_lsn}
-use Rattle.wal.specs.Content.{content}
 use Rattle.wal.specs.Store.{NamesPages}
 use Rattle.wal.proofs.Histories.{size_of_log, base_of_log}
+use Rattle.undo.specs.Appended.{records_of}
 use Rattle.undo.specs.Undone.{UndoFault}
 use Rattle.undo.specs.Rollback.{RollbackInvariant}
 use Rattle.undo.proofs.Placed.{height, height_least, height_above, left_below, taken_updates}
@@ -20,6 +20,7 @@ loop-update_lsn-init c =
       rolls = λ losers rolls. rolls;
       exist = λ all. all;
       few = omega (arith, height_within (history c.args.log.now) c.args.waiting.now.entries c.requires.updates, size_of_log c.args.log.now, base_of_log c.args.log.now);
+      told = λ all. all;
       writable = λ all. all;
       pages_are = λ given numbered same. same;
     }
@@ -37,7 +38,7 @@ returns-in_err-undo_at-clause-fault c =
     (λ losers rolls.
     subst (λ count. UndoFault (history c.args.log.now) losers count c.in_err-undo_at.field-0.0) c.loop-update_lsn.auto.pages
     (c.in_err-undo_at.ensures.fault losers (get nat_cmp c.loop-update_lsn.waiting) c.in-Some.ensures.taken
-    (subst (λ count. RollbackInvariant (history c.args.log.now) losers count (get nat_cmp c.loop-update_lsn.waiting) (map content c.loop-update_lsn.appended.items)) (sym c.loop-update_lsn.auto.pages)
+    (subst (λ count. RollbackInvariant (history c.args.log.now) losers count (get nat_cmp c.loop-update_lsn.waiting) (records_of (history c.args.log.now) c.loop-update_lsn.appended.items)) (sym c.loop-update_lsn.auto.pages)
     (c.loop-update_lsn.invariant.rolls losers rolls))))
 
 -- the LSN that is taken is below the height, and at or above the height behind it
@@ -57,29 +58,30 @@ loop-update_lsn-preserved c =
     record {
       updates = done.updates (taken_updates (history c.args.log.now) c.in-Some.update_lsn c.in-Some.loser _ _ taken c.loop-update_lsn.invariant.updates);
       rolls = λ losers rolls.
-          subst (λ count. RollbackInvariant (history c.args.log.now) losers count (get nat_cmp c.undo_at.new.waiting) (map content c.undo_at.new.appended.items)) c.loop-update_lsn.auto.pages
+          subst (λ count. RollbackInvariant (history c.args.log.now) losers count (get nat_cmp c.undo_at.new.waiting) (records_of (history c.args.log.now) c.undo_at.new.appended.items)) c.loop-update_lsn.auto.pages
           (done.rolls losers (get nat_cmp c.loop-update_lsn.waiting) taken
-          (subst (λ count. RollbackInvariant (history c.args.log.now) losers count (get nat_cmp c.loop-update_lsn.waiting) (map content c.loop-update_lsn.appended.items)) (sym c.loop-update_lsn.auto.pages)
+          (subst (λ count. RollbackInvariant (history c.args.log.now) losers count (get nat_cmp c.loop-update_lsn.waiting) (records_of (history c.args.log.now) c.loop-update_lsn.appended.items)) (sym c.loop-update_lsn.auto.pages)
           (c.loop-update_lsn.invariant.rolls losers rolls)));
       exist = λ all.
-          subst (λ count. All (NamesPages count) (map content c.undo_at.new.appended.items)) c.loop-update_lsn.auto.pages
-          (done.exist (subst (λ count. All (NamesPages count) (map content c.loop-update_lsn.appended.items)) (sym c.loop-update_lsn.auto.pages) (c.loop-update_lsn.invariant.exist all)));
+          subst (λ count. All (NamesPages count) (records_of (history c.args.log.now) c.undo_at.new.appended.items)) c.loop-update_lsn.auto.pages
+          (done.exist (subst (λ count. All (NamesPages count) (records_of (history c.args.log.now) c.loop-update_lsn.appended.items)) (sym c.loop-update_lsn.auto.pages) (c.loop-update_lsn.invariant.exist all)));
       few =
           turn_few (base_lsn (history c.args.log.now)) c.in-Some.update_lsn (height c.loop-update_lsn.waiting.entries) (height c.undo_at.new.waiting.entries) (length c.loop-update_lsn.appended.items) (length c.undo_at.new.appended.items) _
           (update_above (history c.args.log.now) c.in-Some.loser.tx c.in-Some.update_lsn (c.loop-update_lsn.invariant.updates c.in-Some.update_lsn c.in-Some.loser taken.there))
           (above c) (below c) done.few c.loop-update_lsn.invariant.few;
+      told = λ all. done.told (c.loop-update_lsn.invariant.told all);
       writable = λ all. done.writable (c.loop-update_lsn.invariant.writable all);
       pages_are = λ given numbered same. done.pages given numbered (c.loop-update_lsn.invariant.pages_are given numbered same);
     }
 
 pub returns-clause-appended : goal.returns-clause-appended
 returns-clause-appended c = λ losers rolls.
-    all_appended (history c.args.log.now) losers (length c.args.pages.now) (get nat_cmp c.loop-update_lsn.waiting) (map content c.loop-update_lsn.appended.items) (c.loop-update_lsn.invariant.rolls losers rolls) c.in_default.ensures.nobody
+    all_appended (history c.args.log.now) losers (length c.args.pages.now) (get nat_cmp c.loop-update_lsn.waiting) (records_of (history c.args.log.now) c.loop-update_lsn.appended.items) (c.loop-update_lsn.invariant.rolls losers rolls) c.in_default.ensures.nobody
 
 pub returns-clause-ends : goal.returns-clause-ends
 returns-clause-ends c = λ losers rolls.
-    all_end (history c.args.log.now) losers (length c.args.pages.now) (get nat_cmp c.loop-update_lsn.waiting) (map content c.loop-update_lsn.appended.items) (c.loop-update_lsn.invariant.rolls losers rolls) c.in_default.ensures.nobody
+    all_end (history c.args.log.now) losers (length c.args.pages.now) (get nat_cmp c.loop-update_lsn.waiting) (records_of (history c.args.log.now) c.loop-update_lsn.appended.items) (c.loop-update_lsn.invariant.rolls losers rolls) c.in_default.ensures.nobody
 
 pub returns-clause-met : goal.returns-clause-met
 returns-clause-met c = λ losers rolls.
-    all_exist (history c.args.log.now) losers (length c.args.pages.now) (get nat_cmp c.loop-update_lsn.waiting) (map content c.loop-update_lsn.appended.items) (c.loop-update_lsn.invariant.rolls losers rolls) c.in_default.ensures.nobody
+    all_exist (history c.args.log.now) losers (length c.args.pages.now) (get nat_cmp c.loop-update_lsn.waiting) (records_of (history c.args.log.now) c.loop-update_lsn.appended.items) (c.loop-update_lsn.invariant.rolls losers rolls) c.in_default.ensures.nobody

@@ -1,0 +1,77 @@
+//! What undo appends, told in brief: a CLR by the LSN of the update that it compensates.
+
+ghost use Rattle.std.specs.Prelude.{◌≡◌, map, IfOk, IsOkUnless};
+ghost use Rattle.page.specs.declared.fault.Fault.TheVariants.{NoResource};
+ghost use Rattle.wal.specs.Records.{history, record_at};
+ghost use Rattle.wal.specs.Content.{content};
+ghost use Rattle.undo.specs.Rollback.{IsUpdate};
+ghost use Rattle.undo.specs.Appended.{clr_of, record_of, records_of, IsTold, AreTold};
+
+use page::Fault;
+use std::alloc::Global;
+use wal::{Log, Record, RecordView, value_of};
+
+/// A record that undo appends, told in brief. What else it holds stands in the log, in the update
+/// that it compensates: so a rollback takes 24 bytes for each record, and not those of a [`Record`].
+#[derive(Clone, Copy, Debug, PartialEq, Eq)]
+pub enum Appended {
+    /// The CLR of the update at the LSN `update`. `prev` is the LSN of the transaction's previous
+    /// record.
+    Compensation { update: u64, prev: u64 },
+    /// A transaction has ended.
+    End { tx: u32, prev: u64 },
+}
+
+/// The CLR of the update at an LSN. `last` is the LSN of its transaction's last record.
+fn clr_of(log: &Log, update_lsn: u64, last: u64) -> Record
+    requires { IsUpdate (record_at (history log.now) update_lsn) }
+    ensures { content result ≡ clr_of last (record_at (history log.now) update_lsn) }
+{
+    let Some(
+        RecordView::Update {
+            tx,
+            prev,
+            page,
+            slot,
+            before,
+            ..
+        },
+    ) = log.get(update_lsn)
+    else {
+        unreachable!()
+    };
+    Record::Compensation {
+        tx,
+        prev: last,
+        page,
+        slot,
+        undo_next: prev,
+        image: value_of(before),
+    }
+}
+
+/// The record that is told, with what it holds.
+pub fn record_of(log: &Log, appended: Appended) -> Record
+    requires { IsTold (history log.now) appended }
+    ensures { content result ≡ record_of (history log.now) appended }
+{
+    match appended {
+        Appended::Compensation { update, prev } => clr_of(log, update, prev),
+        Appended::End { tx, prev } => Record::End { tx, prev },
+    }
+}
+
+/// The records that are told, with what they hold. The only error is [`Fault::NoResource`], where
+/// memory was refused.
+pub fn records_of(alloc: Global, log: &Log, appended: &[Appended]) -> Result<Vec<Record>, Fault>
+    requires { AreTold (history log.now) appended.now }
+    ensures ok { IfOk result (λ x. map content x.items
+        ≡ records_of (history log.now) appended.now) }
+    ensures err { IsOkUnless result NoResource }
+{
+    let mut records = Vec::with_capacity(alloc, appended.len())?;
+    for entry in appended {
+        records.push(record_of(log, *entry))?;
+    }
+    Ok(records)
+}
