@@ -8,7 +8,7 @@ use Rattle.page.specs.File.{StoreFault, SpellsStore}
 use Rattle.page.specs.Store.{StoreContent}
 use Rattle.wal.specs.Records.{LogContent}
 use Rattle.wal.specs.Reads.{OneReading, OneLogFault, NoFaultOfALog, Reads, Cause as LogFault}
-use Rattle.restart.specs.declared.outcome.Outcome.{Outcome}
+use Rattle.restart.specs.Outcome.{OutcomeContent}
 use Rattle.restart.specs.declared.options.Options.{Options}
 use Rattle.restart.specs.Restart.{Restarts, InputFault}
 use Rattle.restart.specs.Options.{AreInRange, OptionsFault}
@@ -77,7 +77,7 @@ one_recovery_fault one_log no_log reading one_store no_store spelling one_input 
     ]
 
 pub no_fault_of_a_recovery : NoFaultOfALog → OneReading → NoFaultOfAStore → OneStoreSpelling
-    → ((read : LogContent) (before : StoreContent) (x : Outcome) → Restarts read before x → (e : Fault) → InputFault read before e → e ≡ NoResource) → NoFaultOfARecovery
+    → ((read : LogContent) (before : StoreContent) (x : OutcomeContent) → Restarts read before x → (e : Fault) → InputFault read before e → e ≡ NoResource) → NoFaultOfARecovery
 no_fault_of_a_recovery no_log reading no_store spelling no_input log store options new_log new_store report none r NoResource h = refl
 no_fault_of_a_recovery no_log reading no_store spelling no_input log store options new_log new_store report none r e h =
     elim (options_first log store options e (λ i. absurd cc) h) [

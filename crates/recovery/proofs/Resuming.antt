@@ -1,18 +1,16 @@
 -- What a recovery leaves of its log, when a sink fails: a beginning of the new log is a log, and beside the old store a cut.
-use Rattle.std.proofs.Common.{ℕ, zero, suc, ◌≡◌, ◌+◌, ◌^◌, ◌<◌, ◌≤◌, List, [], ◌∷◌, ◌++◌, length, map, take, drop, Option, refl, sym, ap, ◌∙◌, subst, inl, inr, arith, append_assoc, append-nil, length-append, take-append-drop}
+use Rattle.std.proofs.Common.{ℕ, zero, suc, ◌≡◌, ◌+◌, ◌^◌, ◌<◌, ◌≤◌, List, [], ◌∷◌, ◌++◌, All, length, take, drop, Option, refl, sym, ap, ◌∙◌, subst, inl, inr, arith, append_assoc, append-nil, length-append, take-append-drop}
 use Rattle.std.specs.List.{AllByRecursion}
 use Rattle.std.specs.Int.{w32, from_be_bytes, to_be_bytes}
 use Rattle.std.proofs.Math.Seq.{take-append-add}
 use Rattle.std.proofs.lemmas.Bool.{cases_lt}
-use Rattle.std.proofs.lemmas.List.{append_cancel_left, length-map, length-take, nil_from_length, take-append-le, take_at}
-use Rattle.std.proofs.lemmas.List.Elements.{All-append, All-from_recursion, All-map, recursion_from_All}
+use Rattle.std.proofs.lemmas.List.{append_cancel_left, length-take, nil_from_length, take-append-le, take_at}
+use Rattle.std.proofs.lemmas.List.Elements.{All-append, All-from_recursion, recursion_from_All}
 use Rattle.page.specs.declared.fault.Fault.{Fault}
 use Rattle.page.specs.declared.fault.Fault.TheVariants.{WriteLog, WriteStore}
 use Rattle.page.specs.declared.page.Page.{Page}
 use Rattle.page.specs.Store.{StoreContent}
-use Rattle.wal.specs.declared.record.Record.{Record}
 use Rattle.wal.specs.Records.{LogRecord, History, start, ◌▸▸◌, history, last_lsn, LogContent, ◌⧺◌, lsn_before}
-use Rattle.wal.specs.Content.{content}
 use Rattle.wal.specs.Meaning.{BasePages, replay}
 use Rattle.wal.specs.Redo.{slots_in}
 use Rattle.wal.specs.Tail.{tail_of, with_tail}
@@ -27,24 +25,23 @@ use Rattle.wal.proofs.Histories.{after-append, first_in_front, record_in_front, 
 use Rattle.wal.proofs.Whole.{body_size}
 use Rattle.recovery.specs.Devices.{AreCutOf, Leaves, LeavesCut}
 use Rattle.recovery.specs.Recovery.{AreLawful}
-use Rattle.undo.specs.Undone.{AreWritable}
 use Rattle.recovery.proofs.Bytes.{text_extended}
 use Rattle.wal.specs.Headers.{FitsStart}
 
 -- THE NEW LOG
 -- it is read whole, with nothing torn
-pub reads_extended : (bytes : List ℕ) (read : LogContent) (appended : List Record) → bytes ≡ log_text (read ⧺ map content appended) → FitsStart read.begins → AllByRecursion Fits read.records → AreWritable appended
-    → last_lsn (history read) + length appended < 2 ^ 64 → Reads bytes (read ⧺ map content appended) 0
+pub reads_extended : (bytes : List ℕ) (read : LogContent) (appended : List LogRecord) → bytes ≡ log_text (read ⧺ appended) → FitsStart read.begins → AllByRecursion Fits read.records → All Fits appended
+    → last_lsn (history read) + length appended < 2 ^ 64 → Reads bytes (read ⧺ appended) 0
 reads_extended bytes read appended text starts fits writable few =
-    let all = read ⧺ map content appended in
+    let all = read ⧺ appended in
     record {
       tail = [];
       text = text ∙ sym (append-nil (log_text all));
       torn_tail = inl (omega arith);
       torn_count = refl;
       starts = starts;
-      each = recursion_from_All Fits all.records (All-append Fits read.records (map content appended) (All-from_recursion Fits read.records fits) (All-map Fits content appended writable));
-      few = omega (arith, few, size_of_log all, size_of_log read, length-append read.records (map content appended), length-map appended content);
+      each = recursion_from_All Fits all.records (All-append Fits read.records appended (All-from_recursion Fits read.records fits) writable);
+      few = omega (arith, few, size_of_log all, size_of_log read, length-append read.records appended);
     }
 
 -- A BEGINNING OF FRAMES

@@ -10,8 +10,8 @@ use Rattle.wal.specs.Tail.{in_doubt_of, losers_of, tail_of, with_tail}
 use Rattle.wal.specs.Reads.{Reads, log_text, Cause as LogFault}
 use Rattle.wal.specs.Store.{Lawful, store_out}
 use Rattle.wal.specs.Cut.{Cut}
-use Rattle.restart.specs.declared.outcome.Outcome.{Outcome}
-use Rattle.restart.specs.Restart.{appended_by, clrs_in, Restarts, IsSettled, Redoes, InputFault}
+use Rattle.restart.specs.Outcome.{OutcomeContent}
+use Rattle.restart.specs.Restart.{clrs_in, Restarts, IsSettled, Redoes, InputFault}
 use Rattle.restart.specs.declared.options.Options.{Options}
 use Rattle.recovery.specs.declared.recovery.Recovery.{Recovery}
 use Rattle.recovery.specs.Text.{ReportContent}
@@ -31,7 +31,7 @@ abbrev pub new_log : Recovery → List ℕ
 new_log x = x.kept.now ++ x.frames.items
 
 -- the numbers of a restart
-abbrev pub report_of : LogContent → (torn : ℕ) → Outcome → ReportContent
+abbrev pub report_of : LogContent → (torn : ℕ) → OutcomeContent → ReportContent
 report_of read torn x = record {
   records = length read.records;
   torn = torn;
@@ -41,17 +41,17 @@ report_of read torn x = record {
   compensated = x.compensated;
   ended = x.ended;
   pages = length x.store.pages;
-  in_doubt = x.in_doubt.items;
+  in_doubt = x.in_doubt;
 }
 
 -- EVERY INPUT. The new log is the log without its torn tail and what a restart appends, and is read as such; the new store is
 -- that of the restart.
 pub record Recovers (log store new_log new_store : List ℕ) (report : ReportContent) : Type 0 where
   pub decoded : Decoded log store
-  pub outcome : Outcome
+  pub outcome : OutcomeContent
   pub restarts : Restarts decoded.read decoded.before outcome
-  pub log_is : new_log ≡ log_text (decoded.read ⧺ appended_by outcome)
-  pub reads : Reads new_log (decoded.read ⧺ appended_by outcome) 0
+  pub log_is : new_log ≡ log_text (decoded.read ⧺ outcome.appended)
+  pub reads : Reads new_log (decoded.read ⧺ outcome.appended) 0
   pub store_is : new_store ≡ store_text outcome.store
   pub report_is : report ≡ report_of decoded.read decoded.torn outcome
 

@@ -1,43 +1,49 @@
 //! Recovery in memory: from the bytes of a log and a store to the bytes of both after it.
 
-ghost use Rattle.std.specs.Prelude.{◌≡◌, ◌<◌, ◌+◌, ◌^◌, length, map, IfOk, IfErr, MatchResult, IsOkUnless};
+ghost use Rattle.std.specs.Prelude.{◌≡◌, ◌≤◌, ◌<◌, ◌+◌, ◌*◌, ◌^◌, length, IfOk, OnOk, IfErr, MatchResult, IsOkUnless};
 ghost use Rattle.page.specs.declared.fault.Fault.{Fault};
 ghost use Rattle.page.specs.declared.fault.Fault.TheVariants.{NoResource};
-ghost use Rattle.wal.specs.Content.{content};
+ghost use Rattle.wal.specs.Records.{history, last_lsn};
 ghost use Rattle.wal.specs.Reads.{spellings};
-ghost use Rattle.undo.specs.Undone.{AreWritable};
+ghost use Rattle.undo.specs.Appended.{records_of, AreTold, AreFit};
 ghost use Rattle.wal.specs.Meaning.{BasePages};
 ghost use Rattle.recovery.specs.Recovery.{report_of, new_log, Recovers, AreLawful, Recovered, Cause};
 ghost use Rattle.restart.specs.Options.{AreInRange};
+ghost use Rattle.restart.specs.Outcome.{outcome_in};
 
 use crate::Report;
 use page::{Fault, decode_store, encode_store_into};
 use redo::{Gate, Parting};
-use restart::{Options, Outcome, restart_in_place};
+use restart::{BriefOutcome, Options, restart_in_place};
 use std::alloc::Global;
 use std::thread::Threads;
-use wal::{Log, Record, read_log_by, write_frame};
+use undo::{Appended, record_of};
+use wal::{Log, read_log_by, write_frame};
 
-/// The frames of records, the first of which has this LSN.
-fn frames_of(alloc: Global, records: &[Record], first: u64) -> Result<Vec<u8>, Fault>
-    requires writable { AreWritable records.now }
-    requires some { 0 < first }
-    requires room { first + length records.now < 2 ^ 64 }
-    ensures frames { IfOk result (λ x. x.items ≡ spellings first (map content records.now)) }
+/// The frames of the records that are appended to a log. One record at a time is made of what is
+/// told of it.
+fn frames_of(alloc: Global, log: &Log, appended: &[Appended]) -> Result<Vec<u8>, Fault>
+    requires told { AreTold (history log.now) appended.now }
+    requires writable { AreFit (history log.now) appended.now }
+    requires few { length appended.now ≤ 2 * length log.now.records + 2 ^ 32 }
+    ensures frames { IfOk result (λ x. x.items ≡ spellings (last_lsn (history log.now) + 1)
+        (records_of (history log.now) appended.now)) }
+    ensures room { OnOk result (last_lsn (history log.now) + length appended.now < 2 ^ 64) }
     ensures err { IsOkUnless result NoResource }
 {
     let mut frames = Vec::new(alloc);
-    let mut lsn = first;
-    for record in records {
-        write_frame(record, lsn, &mut frames)?;
+    let mut lsn = log.next_lsn();
+    for entry in appended {
+        let record = record_of(log, *entry);
+        write_frame(&record, lsn, &mut frames)?;
         lsn += 1;
     }
     Ok(frames)
 }
 
 /// The report of a restart.
-fn report_of(log: &Log, torn: usize, outcome: Outcome) -> Report
-    ensures { result ≡ report_of log.now torn outcome }
+fn report_of(log: &Log, torn: usize, outcome: BriefOutcome) -> Report
+    ensures { result ≡ report_of log.now torn (outcome_in (history log.now) outcome) }
 {
     Report {
         records: log.len(),
@@ -99,7 +105,7 @@ pub fn recovery_of<'a, G: Gate, R: Threads + Sync>(
     encode_store_into(&outcome.store, &mut store)?;
     Ok(Recovery {
         kept: &log[..log.len() - torn],
-        frames: frames_of(alloc, &outcome.appended, records.next_lsn())?,
+        frames: frames_of(alloc, &records, &outcome.appended)?,
         store,
         report: report_of(&records, torn, outcome),
     })

@@ -7,7 +7,7 @@ use Rattle.wal.specs.Undo.{doubtful_in, undone_by}
 use Rattle.analysis.specs.Tables.{TablesContent, losers_in, OneTables}
 use Rattle.redo.specs.Redone.{redone_page, applied_to}
 use Rattle.undo.specs.Undone.{undone_page}
-use Rattle.restart.specs.Restart.{appended_by, clrs_in, ends_in}
+use Rattle.restart.specs.Restart.{clrs_in, ends_in}
 use Rattle.restart.specs.OneAnswer.{OneOutcome}
 
 pub one_outcome : OneTables → OneOutcome
@@ -15,7 +15,7 @@ one_outcome one_tables read before x y a b =
     let log = history read in
     let tables = one_tables read before.master a.tables b.tables a.are b.are in
     let losers : losers_in a.tables ≡ losers_in b.tables = ap losers_in tables in
-    let appended : appended_by x ≡ appended_by y = a.rolls_back.appended ∙ (ap (undone_by log) losers ∙ sym b.rolls_back.appended) in
+    let appended : x.appended ≡ y.appended = a.rolls_back.appended ∙ (ap (undone_by log) losers ∙ sym b.rolls_back.appended) in
     let pages : a.redone.pages.items ≡ b.redone.pages.items = a.redone_pages ∙ (ap (λ ts. map (redone_page read ts) before.pages) tables ∙ sym b.redone_pages) in
     record {
       appended = appended;

@@ -12,7 +12,7 @@ use Rattle.wal.specs.Records.{TableEntry, history, LogContent, last_lsn}
 use Rattle.analysis.specs.Tables.{TablesContent, losers_in, AreTablesOf, OneTables, base_of}
 use Rattle.redo.specs.Parting.{PartingContent}
 use Rattle.redo.specs.Redone.{AllExist, IsFirstMissing, redone_page}
-use Rattle.restart.specs.declared.outcome.Outcome.{Outcome}
+use Rattle.restart.specs.Outcome.{OutcomeContent}
 use Rattle.undo.specs.Undone.{MetExist, UndoFault, OneUndoFault, NoFaultOfUndo}
 use Rattle.restart.specs.Restart.{SettingsFault, NoneAhead, IsFirstAhead, PassFault, Finds, Restarts, InputFault}
 use Rattle.restart.specs.OneAnswer.{OneRestartFault, NoFaultOfARestart}
@@ -128,7 +128,7 @@ module _ (read : LogContent) (before : StoreContent) where
               ]
         ]
 
-    pub no_input_fault : NoFaultOfUndo → (x : Outcome) → Restarts read before x → (e : Fault) → InputFault read before e → e ≡ NoResource
+    pub no_input_fault : NoFaultOfUndo → (x : OutcomeContent) → Restarts read before x → (e : Fault) → InputFault read before e → e ≡ NoResource
     no_input_fault undo x r NoResource h = refl
     no_input_fault undo x r e h =
         elim (in_order read before e (λ i. absurd cc) h) [

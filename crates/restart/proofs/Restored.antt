@@ -30,10 +30,11 @@ use Rattle.analysis.specs.Lawful.{AreTrue}
 use Rattle.redo.specs.Changes.{NamesBelow}
 use Rattle.redo.specs.declared.redone.Redone.{Redone}
 use Rattle.redo.specs.Redone.{redone_page, IsFirstMissing, AreWorkers, RedoFault, applied_to}
-use Rattle.restart.specs.declared.outcome.Outcome.{Outcome}
+use Rattle.restart.specs.declared.outcome.BriefOutcome.{BriefOutcome}
+use Rattle.restart.specs.Outcome.{OutcomeContent, outcome_in}
 use Rattle.undo.specs.Undone.{undone_page}
 use Rattle.undo.proofs.UndonePages.{no_effects, no_last}
-use Rattle.restart.specs.Restart.{IsFirstAhead, AheadFault, appended_by, clrs_in, ends_in, RollsBack, IsSettled, Restores}
+use Rattle.restart.specs.Restart.{IsFirstAhead, AheadFault, clrs_in, ends_in, RollsBack, IsSettled, Restores}
 
 some_none : {X : Type 0} {x : X} → Some x ≡ None → ⊥
 some_none e = cc
@@ -121,8 +122,8 @@ module _ (base : BasePages) (read : LogContent) (before : StoreContent) (lawful 
         let end = tail_settles base read lawful.log in
         record { lawful = s.lawful; no_loser = end.no_loser; no_tail = end.no_tail; same_store = s.same_store }
 
-    restores : (redone : Redone) (x : Outcome) → redone.pages.items ≡ map (redone_page read tables) before.pages → redone.applied ≡ sum (map (applied_to read tables) before.pages) → RollsBack read before.master tables redone x
-        → appended_by x ≡ tail_of read → Restores base read before x
+    restores : (redone : Redone) (x : OutcomeContent) → redone.pages.items ≡ map (redone_page read tables) before.pages → redone.applied ≡ sum (map (applied_to read tables) before.pages) → RollsBack read before.master tables redone x
+        → x.appended ≡ tail_of read → Restores base read before x
     restores redone x redone_is applied back tail =
         let store : x.store ≡ store_out base read before =
         ap₂ (λ m (ps : List Page). record { master = m; pages = ps }) back.master_kept
@@ -130,7 +131,7 @@ module _ (base : BasePages) (read : LogContent) (before : StoreContent) (lawful 
         record {
           appended = tail;
           store = store;
-          settled = subst (λ s. IsSettled base (read ⧺ appended_by x) s) (sym store) (subst (λ rs. IsSettled base (read ⧺ rs) (store_out base read before)) (sym tail) settles);
+          settled = subst (λ s. IsSettled base (read ⧺ x.appended) s) (sym store) (subst (λ rs. IsSettled base (read ⧺ rs) (store_out base read before)) (sym tail) settles);
           redoes = record { tables = tables; are = are; begins = back.redo_from; applies = back.applied ∙ applied };
           losers = back.losers ∙ losers_count;
           in_doubt_are = back.in_doubt_are ∙ in_doubt_is;
@@ -139,9 +140,10 @@ module _ (base : BasePages) (read : LogContent) (before : StoreContent) (lawful 
           compensated = back.compensated ∙ ap clrs_in tail;
         }
 
-    pub outcome_restores : (redone : Redone) (r : Result Outcome Fault) → redone.pages.items ≡ map (redone_page read tables) before.pages → redone.applied ≡ sum (map (applied_to read tables) before.pages) → IfOk r (RollsBack read before.master tables redone)
-        → MatchResult r (λ x. appended_by x ≡ tail_of read) (λ e. e ≡ NoResource) → MatchResult r (Restores base read before) (λ e. e ≡ NoResource)
-    outcome_restores redone (Ok x) redone_is applied back tail = restores redone x redone_is applied back tail
+    pub outcome_restores : (redone : Redone) (r : Result BriefOutcome Fault) → redone.pages.items ≡ map (redone_page read tables) before.pages → redone.applied ≡ sum (map (applied_to read tables) before.pages)
+        → IfOk r (λ x. RollsBack read before.master tables redone (outcome_in (history read) x))
+        → MatchResult r (λ x. (outcome_in (history read) x).appended ≡ tail_of read) (λ e. e ≡ NoResource) → MatchResult r (λ x. Restores base read before (outcome_in (history read) x)) (λ e. e ≡ NoResource)
+    outcome_restores redone (Ok x) redone_is applied back tail = restores redone (outcome_in (history read) x) redone_is applied back tail
     outcome_restores redone (Err e) redone_is applied back alone = alone
 
   -- WHAT DOES NOT COME

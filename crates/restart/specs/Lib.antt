@@ -1,3 +1,4 @@
 pub mod Options
+pub mod Outcome
 pub mod Restart
 pub mod OneAnswer

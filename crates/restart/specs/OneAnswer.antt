@@ -6,23 +6,23 @@ use Rattle.page.specs.Causes.{HasOneCause, HasNoCause}
 use Rattle.page.specs.Store.{StoreContent}
 use Rattle.wal.specs.Records.{LogContent}
 use Rattle.redo.specs.Parting.{PartingContent}
-use Rattle.restart.specs.declared.outcome.Outcome.{Outcome}
-use Rattle.restart.specs.Restart.{appended_by, SettingsFault, Restarts, RestartFault}
+use Rattle.restart.specs.Outcome.{OutcomeContent}
+use Rattle.restart.specs.Restart.{SettingsFault, Restarts, RestartFault}
 
 -- ONE OUTCOME
 -- the same records are appended, the same store is left, the same numbers are told
-pub record AreSame (x y : Outcome) : Type 0 where
-  pub appended : appended_by x ≡ appended_by y
+pub record AreSame (x y : OutcomeContent) : Type 0 where
+  pub appended : x.appended ≡ y.appended
   pub store : x.store ≡ y.store
   pub redo_from : x.redo_from ≡ y.redo_from
   pub redone : x.redone ≡ y.redone
   pub losers : x.losers ≡ y.losers
-  pub in_doubt : x.in_doubt.items ≡ y.in_doubt.items
+  pub in_doubt : x.in_doubt ≡ y.in_doubt
   pub compensated : x.compensated ≡ y.compensated
   pub ended : x.ended ≡ y.ended
 
 abbrev pub OneOutcome : Type 0
-OneOutcome = (log : LogContent) (before : StoreContent) (x y : Outcome) → Restarts log before x → Restarts log before y → AreSame x y
+OneOutcome = (log : LogContent) (before : StoreContent) (x y : OutcomeContent) → Restarts log before x → Restarts log before y → AreSame x y
 
 -- ONE CAUSE
 abbrev pub OneRestartFault : Type 0
@@ -30,5 +30,5 @@ OneRestartFault = (log : LogContent) (before : StoreContent) (parting : PartingC
 
 -- NO CAUSE BESIDE AN ANSWER. Settings are refused wherever they can be: where there is an answer, they are not.
 abbrev pub NoFaultOfARestart : Type 0
-NoFaultOfARestart = (log : LogContent) (before : StoreContent) (parting : PartingContent) (workers : ℕ) (x : Outcome)
+NoFaultOfARestart = (log : LogContent) (before : StoreContent) (parting : PartingContent) (workers : ℕ) (x : OutcomeContent)
     → ((e : Fault) → SettingsFault (length before.pages) parting workers e → ⊥) → Restarts log before x → HasNoCause (RestartFault log before parting workers)

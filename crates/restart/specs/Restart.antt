@@ -6,7 +6,6 @@ use Rattle.page.specs.declared.fault.Fault.TheVariants.{NoResource, BadMaster, P
 use Rattle.page.specs.declared.page.Page.{Page}
 use Rattle.page.specs.Store.{StoreContent}
 use Rattle.wal.specs.Records.{LogRecord, LogContent, history, ◌⧺◌, last_lsn}
-use Rattle.wal.specs.Content.{content}
 use Rattle.wal.specs.Meaning.{BasePages, in_doubt, is_loser}
 use Rattle.wal.specs.Tail.{is_clr, is_end, in_doubt_of, losers_of, tail_of}
 use Rattle.wal.specs.Undo.{doubtful_in, undone_by}
@@ -15,7 +14,7 @@ use Rattle.analysis.specs.Tables.{TablesContent, losers_in, AreTablesOf, base_of
 use Rattle.redo.specs.Parting.{PartingContent}
 use Rattle.redo.specs.declared.redone.Redone.{Redone}
 use Rattle.redo.specs.Redone.{redone_page, applied_to, AreWorkers, AllExist, IsFirstMissing}
-use Rattle.restart.specs.declared.outcome.Outcome.{Outcome}
+use Rattle.restart.specs.Outcome.{OutcomeContent}
 use Rattle.undo.specs.Undone.{NoBadHop, undone_page, MetExist, MeetsMissing, Breaks}
 
 -- SETTINGS
@@ -53,9 +52,6 @@ AheadFault log pages (PageAheadOfLog number) = IsFirstAhead log pages number
 AheadFault log pages e = ⊥
 
 -- THE OUTCOME
-abbrev pub appended_by : Outcome → List LogRecord
-appended_by x = map content x.appended.items
-
 abbrev pub clrs_in : List LogRecord → ℕ
 clrs_in records = length (filter is_clr records)
 
@@ -63,23 +59,23 @@ abbrev pub ends_in : List LogRecord → ℕ
 ends_in records = length (filter is_end records)
 
 -- the losers of the tables are rolled back on the pages that redo made; no hop of theirs is bad, and no page is missing
-pub record RollsBack (log : LogContent) (master : ℕ) (tables : TablesContent) (redone : Redone) (x : Outcome) : Type 0 where
-  pub appended : appended_by x ≡ undone_by (history log) (losers_in tables)
-  pub pages : x.store.pages ≡ map (undone_page (history log) (appended_by x)) redone.pages.items
+pub record RollsBack (log : LogContent) (master : ℕ) (tables : TablesContent) (redone : Redone) (x : OutcomeContent) : Type 0 where
+  pub appended : x.appended ≡ undone_by (history log) (losers_in tables)
+  pub pages : x.store.pages ≡ map (undone_page (history log) x.appended) redone.pages.items
   pub no_bad_hop : NoBadHop (history log) (losers_in tables)
   pub met_exist : MetExist (history log) (losers_in tables) (length redone.pages.items) 0
-  pub exist : All (NamesPages (length redone.pages.items)) (appended_by x)
+  pub exist : All (NamesPages (length redone.pages.items)) x.appended
   pub master_kept : x.store.master ≡ master
   pub redo_from : x.redo_from ≡ tables.redo_lsn
   pub applied : x.redone ≡ redone.applied
   pub losers : x.losers ≡ length (losers_in tables)
-  pub in_doubt_are : x.in_doubt.items ≡ doubtful_in tables.transactions
-  pub compensated : x.compensated ≡ clrs_in (appended_by x)
-  pub ended : x.ended ≡ ends_in (appended_by x)
+  pub in_doubt_are : x.in_doubt ≡ doubtful_in tables.transactions
+  pub compensated : x.compensated ≡ clrs_in x.appended
+  pub ended : x.ended ≡ ends_in x.appended
 
 -- EVERY INPUT. By the tables that analysis finds, redo makes the pages, and their losers are rolled back; none of the causes
 -- of a refusal stands.
-pub record Restarts (log : LogContent) (before : StoreContent) (x : Outcome) : Type 0 where
+pub record Restarts (log : LogContent) (before : StoreContent) (x : OutcomeContent) : Type 0 where
   pub tables : TablesContent
   pub redone : Redone
   pub are : AreTablesOf log before.master tables
@@ -105,14 +101,14 @@ pub record Redoes (log : LogContent) (before : StoreContent) (redo_from redone :
   pub applies : redone ≡ sum (map (applied_to log tables) before.pages)
 
 -- the log's tail is appended, the store is what the winners leave; both together are settled; those in doubt are told, and stay so
-pub record Restores (base : BasePages) (log : LogContent) (before : StoreContent) (x : Outcome) : Type 0 where
-  pub appended : appended_by x ≡ tail_of log
+pub record Restores (base : BasePages) (log : LogContent) (before : StoreContent) (x : OutcomeContent) : Type 0 where
+  pub appended : x.appended ≡ tail_of log
   pub store : x.store ≡ store_out base log before
-  pub settled : IsSettled base (log ⧺ appended_by x) x.store
+  pub settled : IsSettled base (log ⧺ x.appended) x.store
   pub redoes : Redoes log before x.redo_from x.redone
   pub losers : x.losers ≡ length (losers_of (history log))
-  pub in_doubt_are : x.in_doubt.items ≡ in_doubt_of (history log)
-  pub still_in_doubt : (t : ℕ) → in_doubt t (history (log ⧺ appended_by x)) ≡ in_doubt t (history log)
+  pub in_doubt_are : x.in_doubt ≡ in_doubt_of (history log)
+  pub still_in_doubt : (t : ℕ) → in_doubt t (history (log ⧺ x.appended)) ≡ in_doubt t (history log)
   pub ended : x.ended ≡ length (losers_of (history log))
   pub compensated : x.compensated ≡ clrs_in (tail_of log)
 

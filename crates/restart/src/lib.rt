@@ -10,5 +10,5 @@ mod passes;
 
 pub use laws::{no_fault_of_a_restart, one_outcome, one_restart_fault};
 pub use options::{Options, check_options};
-pub use outcome::Outcome;
+pub use outcome::{BriefOutcome, Outcome};
 pub use passes::{restart, restart_in_place};

@@ -1,7 +1,15 @@
 //! What a restart answers.
 
-use page::Store;
-use wal::Record;
+ghost use Rattle.std.specs.Prelude.{◌≡◌, IfOk, IsOkUnless};
+ghost use Rattle.page.specs.declared.fault.Fault.TheVariants.{NoResource};
+ghost use Rattle.wal.specs.Records.{history};
+ghost use Rattle.undo.specs.Appended.{AreTold};
+ghost use Rattle.restart.specs.Outcome.{outcome_of, outcome_in};
+
+use page::{Fault, Store};
+use std::alloc::Global;
+use undo::{Appended, records_of};
+use wal::{Log, Record};
 
 /// What a restart makes of a log and its store.
 #[derive(Drop)]
@@ -24,4 +32,38 @@ pub struct Outcome {
     pub compensated: u64,
     /// How many end records are among the appended.
     pub ended: u64,
+}
+
+/// An [`Outcome`] of which the appended records are told in brief: what they hold stands in the
+/// log.
+#[derive(Drop)]
+pub struct BriefOutcome {
+    pub store: Store,
+    pub appended: Vec<Appended>,
+    pub redo_from: u64,
+    pub redone: u64,
+    pub losers: u64,
+    pub in_doubt: Vec<u32>,
+    pub compensated: u64,
+    pub ended: u64,
+}
+
+/// The outcome that is told in brief. The only error is [`Fault::NoResource`], where memory was
+/// refused.
+pub fn outcome_of(alloc: Global, log: &Log, brief: BriefOutcome) -> Result<Outcome, Fault>
+    requires { AreTold (history log.now) brief.appended.items }
+    ensures ok { IfOk result (λ x. outcome_of x ≡ outcome_in (history log.now) brief) }
+    ensures err { IsOkUnless result NoResource }
+{
+    let appended = records_of(alloc, log, &brief.appended)?;
+    Ok(Outcome {
+        store: brief.store,
+        appended,
+        redo_from: brief.redo_from,
+        redone: brief.redone,
+        losers: brief.losers,
+        in_doubt: brief.in_doubt,
+        compensated: brief.compensated,
+        ended: brief.ended,
+    })
 }

@@ -4,25 +4,26 @@ ghost use Rattle.std.specs.Prelude.{◌≡◌, ◌≤◌, ◌+◌, ◌*◌, ◌^
 ghost use Rattle.page.specs.declared.fault.Fault.{Fault};
 ghost use Rattle.page.specs.declared.fault.Fault.TheVariants.{NoResource};
 ghost use Rattle.page.specs.Store.{StoreContent, AreNumbered};
-ghost use Rattle.wal.specs.Records.{history, last_lsn};
+ghost use Rattle.wal.specs.Records.{History, history, last_lsn};
 ghost use Rattle.wal.specs.Meaning.{BasePages};
-ghost use Rattle.wal.specs.Content.{content};
 ghost use Rattle.wal.specs.Store.{Lawful};
 ghost use Rattle.wal.specs.Tail.{tail_of};
 ghost use Rattle.analysis.specs.Lawful.{AreTrue};
 ghost use Rattle.analysis.specs.Tables.{losers_in};
+ghost use Rattle.undo.specs.Appended.{records_of, AreTold, AreFit};
 ghost use Rattle.undo.specs.Undone.{HasNoTransaction0, AreWritable, UndoFault};
-ghost use Rattle.restart.specs.Restart.{AreSettings, SettingsFault, AheadFault, appended_by, clrs_in, ends_in, RollsBack, Restarts, Restores, RestartFault};
+ghost use Rattle.restart.specs.Outcome.{outcome_of, outcome_in};
+ghost use Rattle.restart.specs.Restart.{AreSettings, SettingsFault, AheadFault, clrs_in, ends_in, RollsBack, Restarts, Restores, RestartFault};
 
-use crate::Outcome;
 use crate::doubt::in_doubt;
+use crate::outcome::{BriefOutcome, Outcome, outcome_of};
 use analysis::{Tables, analyse};
 use page::{Fault, Page, Store};
 use redo::{Gate, Parting, Redone, are_workers, redo_in_place};
 use std::alloc::Global;
 use std::thread::Threads;
-use undo::undo;
-use wal::{Log, Record};
+use undo::{Appended, undo_in_brief};
+use wal::Log;
 
 /// Refuses a number of workers out of its range, then a parting of another number of pages.
 fn check_settings(store: &Store, parting: &Parting, workers: u32) -> Result<(), Fault>
@@ -54,17 +55,18 @@ fn check_lsns(log: &Log, pages: &[Page]) -> Result<(), Fault>
 }
 
 /// How many CLRs there are among records, and how many ends.
-fn tally(records: &[Record]) -> (u64, u64)
-    ensures clrs { result.0 ≡ clrs_in (map content records.now) }
-    ensures ends { result.1 ≡ ends_in (map content records.now) }
+fn tally(appended: &[Appended]) -> (u64, u64)
+    ensures clrs { (log : History) → AreTold log appended.now
+        → result.0 ≡ clrs_in (records_of log appended.now) }
+    ensures ends { (log : History) → AreTold log appended.now
+        → result.1 ≡ ends_in (records_of log appended.now) }
 {
     let mut clrs = 0;
     let mut ends = 0;
-    for record in records {
+    for record in appended {
         match record {
-            Record::Compensation { .. } => clrs += 1,
-            Record::End { .. } => ends += 1,
-            _ => {}
+            Appended::Compensation { .. } => clrs += 1,
+            Appended::End { .. } => ends += 1,
         }
     }
     (clrs, ends)
@@ -78,30 +80,33 @@ fn store_of(master: u64, pages: Vec<Page>) -> Store
     Store { master, pages }
 }
 
-/// RollbackInvariant the losers back on pages that were redone.
+/// Rolls the losers back on pages that were redone.
 fn roll_back(
     alloc: Global,
     log: &Log,
     master: u64,
     tables: &Tables,
     redone: Redone,
-) -> Result<Outcome, Fault>
+) -> Result<BriefOutcome, Fault>
     requires { AreNumbered redone.pages.items }
-    ensures rolls_back { IfOk result (RollsBack log.now master tables.now redone) }
+    ensures rolls_back { IfOk result (λ x. RollsBack log.now master tables.now redone
+        (outcome_in (history log.now) x)) }
+    ensures told { IfOk result (λ x. AreTold (history log.now) x.appended.items) }
     ensures writable { IfOk result (λ x. HasNoTransaction0 tables.now
-        → AreWritable x.appended.items) }
+        → AreFit (history log.now) x.appended.items) }
     ensures few { IfOk result (λ x. length x.appended.items ≤ 2 * length log.now.records + 2 ^ 32) }
     ensures fault { IfErr result (UndoFault (history log.now) (losers_in tables.now)
         (length redone.pages.items)) }
     ensures lawful { (base : BasePages) (store : StoreContent) → Lawful base log.now store
         → AreTrue log.now store tables.now → length redone.pages.items ≡ length store.pages
-        → MatchResult result (λ x. appended_by x ≡ tail_of log.now) (λ e. e ≡ NoResource) }
+        → MatchResult result (λ x. records_of (history log.now) x.appended.items ≡ tail_of log.now)
+        (λ e. e ≡ NoResource) }
 {
     let in_doubt = in_doubt(alloc, tables)?;
-    let (pages, appended) = undo(alloc, log, tables, redone.pages)?;
+    let (pages, appended) = undo_in_brief(alloc, log, tables, redone.pages)?;
     let (compensated, ended) = tally(&appended);
     let losers = tables.transactions.len() - in_doubt.len();
-    Ok(Outcome {
+    Ok(BriefOutcome {
         store: store_of(master, pages),
         appended,
         redo_from: tables.redo_lsn,
@@ -113,8 +118,8 @@ fn roll_back(
     })
 }
 
-/// [`restart`] on a store that is given away: its pages are changed in place and not copied. With
-/// an error they are gone.
+/// [`restart`] on a store that is given away: its pages are changed in place and not copied, and the
+/// appended records are told in brief. With an error the pages are gone.
 pub fn restart_in_place<G: Gate, R: Threads + Sync>(
     rt: &R,
     alloc: Global,
@@ -123,19 +128,23 @@ pub fn restart_in_place<G: Gate, R: Threads + Sync>(
     parting: &Parting,
     workers: u32,
     gate: &G,
-) -> Result<Outcome, Fault>
+) -> Result<BriefOutcome, Fault>
     // On a lawful log and its store, over any base pages: the log's tail and the store that the winners leave.
     ensures lawful { (base : BasePages) → Lawful base log.now store
         → AreSettings (length store.pages) parting.now workers
-        → MatchResult result (Restores base log.now store) (λ e. e ≡ NoResource) }
+        → MatchResult result (λ x. Restores base log.now store (outcome_in (history log.now) x))
+        (λ e. e ≡ NoResource) }
 
     // Wherever it answers: what analysis, redo and undo make of log and store, and no cause of a refusal stands.
-    ensures restarts { IfOk result (Restarts log.now store) }
+    ensures restarts { IfOk result (λ x. Restarts log.now store (outcome_in (history log.now) x)) }
     ensures settings { (e : Fault) → SettingsFault (length store.pages) parting.now workers e
         → result ≡ Err e }
 
+    // Each update that is named stands in the log.
+    ensures told { IfOk result (λ x. AreTold (history log.now) x.appended.items) }
+
     // Each appended record has a spelling; they are so few that there are LSNs for them behind the log.
-    ensures writable { IfOk result (λ x. AreWritable x.appended.items) }
+    ensures writable { IfOk result (λ x. AreFit (history log.now) x.appended.items) }
     ensures few { IfOk result (λ x. length x.appended.items ≤ 2 * length log.now.records + 2 ^ 32) }
 
     // A refusal has its cause in the input, memory aside.
@@ -179,10 +188,11 @@ pub fn restart<G: Gate, R: Threads + Sync>(
     // On a lawful log and its store, over any base pages: the log's tail and the store that the winners leave.
     ensures lawful { (base : BasePages) → Lawful base log.now store.now
         → AreSettings (length store.now.pages) parting.now workers
-        → MatchResult result (Restores base log.now store.now) (λ e. e ≡ NoResource) }
+        → MatchResult result (λ x. Restores base log.now store.now (outcome_of x))
+        (λ e. e ≡ NoResource) }
 
     // Wherever it answers: what analysis, redo and undo make of log and store, and no cause of a refusal stands.
-    ensures restarts { IfOk result (Restarts log.now store.now) }
+    ensures restarts { IfOk result (λ x. Restarts log.now store.now (outcome_of x)) }
     ensures settings { (e : Fault) → SettingsFault (length store.now.pages) parting.now workers e
         → result ≡ Err e }
 
@@ -196,5 +206,6 @@ pub fn restart<G: Gate, R: Threads + Sync>(
     check_settings(store, parting, workers)?;
     let pages = Vec::from_slice(alloc, &store.pages)?;
     let copy = store_of(store.master, pages);
-    restart_in_place(rt, alloc, log, copy, parting, workers, gate)
+    let brief = restart_in_place(rt, alloc, log, copy, parting, workers, gate)?;
+    outcome_of(alloc, log, brief)
 }

@@ -1,11 +1,12 @@
-use Rattle.std.proofs.Common.{◌≡◌, ◌+◌, map, take}
-use Rattle.wal.specs.Content.{content}
+use Rattle.std.proofs.Common.{◌≡◌, ◌+◌, take}
+use Rattle.wal.specs.Records.{history, last_lsn}
 use Rattle.wal.specs.Reads.{spellings}
+use Rattle.undo.specs.Appended.{records_of}
 use Rattle.recovery.proofs.recovery.frames_of.Given as goal
 
-abbrev pub invariant-loop-record : goal.invariant-loop-record
-invariant-loop-record l =
+abbrev pub invariant-loop-entry : goal.invariant-loop-entry
+invariant-loop-entry l =
     record {
-      lsn_is : l.lsn ≡ l.first + l.record-index;
-      frames_are : l.frames.items ≡ spellings l.first (map content (take l.record-index l.records));
+      lsn_is : l.lsn ≡ last_lsn (history l.log) + 1 + l.entry-index;
+      frames_are : l.frames.items ≡ spellings (last_lsn (history l.log) + 1) (records_of (history l.log) (take l.entry-index l.appended));
     }

@@ -1,16 +1,18 @@
-use Rattle.std.proofs.Common.{◌≡◌, ℕ, ◌-◌, ◌^◌, ◌<◌, ◌++◌, List, arith, length, take, map, sym, ap, ◌∙◌, subst, ◌+◌}
+use Rattle.std.proofs.Common.{◌≡◌, ℕ, ◌-◌, ◌^◌, ◌<◌, ◌++◌, List, arith, length, take, refl, sym, ap, ◌∙◌, subst, ◌+◌}
+use Rattle.std.proofs.lemmas.List.{length-map}
 use Rattle.std.proofs.lemmas.Result.{err_from_is_err_and}
 use Rattle.page.specs.Store.{StoreContent}
 use Rattle.page.specs.File.{store_text, SpellsStore}
-use Rattle.wal.proofs.Histories.{size_of_log, base_of_log}
 use Rattle.wal.specs.Records.{LogRecord, ◌⧺◌, last_lsn, history}
-use Rattle.wal.specs.Content.{content}
 use Rattle.wal.specs.Meaning.{in_doubt}
 use Rattle.wal.specs.Tail.{with_tail}
 use Rattle.wal.specs.Reads.{Reads, spellings, log_text}
 use Rattle.recovery.specs.Text.{ReportContent}
 use Rattle.restart.specs.Restart.{IsPartingOf, IsSettled}
 use Rattle.recovery.specs.Recovery.{Decoded, Recovered}
+use Rattle.restart.specs.Outcome.{outcome_in}
+use Rattle.undo.specs.Appended.{record_of, records_of}
+use Rattle.undo.proofs.Told.{told_fit}
 use Rattle.recovery.proofs.Bytes.{kept_text, text_extended, restart_cause, is_lawful, read_alone, read_same, dealt_by_number}
 use Rattle.recovery.proofs.Resuming.{reads_extended}
 use Rattle.recovery.proofs.recovery.recovery_of.Goals as goal
@@ -45,27 +47,25 @@ returns-in_err-outcome-clause-cause g c =
     rw (exit.1, exit.2)
     (restart_cause c.args.log.now c.args.store.items c.args.options.now c.in_ok-parting.parting c.in_err-outcome.field-0.0 range decoded (record { fit = c.requires.workers; dealt = dealt }) c.in_err-outcome.ensures.fault)
 
-pub frames_of-requires-clause-room : goal.frames_of-requires-clause-room
-frames_of-requires-clause-room g c = omega (arith, size_of_log c.in_ok-records.records, base_of_log c.in_ok-records.records, c.next_lsn.ensures.next, c.next_lsn.ensures.low, c.next_lsn.ensures.room, c.in_ok-outcome.ensures.few, ap length c.deref-2.ensures.value)
-
 pub returns-clause-answer : goal.returns-clause-answer
 returns-clause-answer g c =
     let read = c.in_ok-records.records in
     let torn = c.in_ok-records.torn in
-    let appended = map content c.in_ok-outcome.outcome.appended.items in
+    let log = history read in
+    let told = c.in_ok-outcome.outcome.appended.items in
+    let appended : List LogRecord = records_of log told in
     let bytes = take (length c.args.log.now - torn) c.args.log.now ++ c.in_ok-frames_of.field-0.items in
     let log_is : bytes ≡ log_text (read ⧺ appended) =
-    text_extended read appended (take (length c.args.log.now - torn) c.args.log.now) c.in_ok-frames_of.field-0.items c.next_lsn.result
-    (kept_text c.args.log.now read torn c.in_ok-records.ensures.found) c.next_lsn.ensures.next
-    (c.in_ok-frames_of.ensures.frames ∙ ap (λ rs. spellings c.next_lsn.result (map content rs)) c.deref-2.ensures.value) in
-    let few : last_lsn (history read) + length c.in_ok-outcome.outcome.appended.items < 2 ^ 64 =
-    omega (arith, c.in_ok-outcome.ensures.few, c.next_lsn.ensures.low, c.next_lsn.ensures.room, size_of_log read, base_of_log read) in
+    text_extended read appended (take (length c.args.log.now - torn) c.args.log.now) c.in_ok-frames_of.field-0.items (last_lsn log + 1)
+    (kept_text c.args.log.now read torn c.in_ok-records.ensures.found) refl
+    (c.in_ok-frames_of.ensures.frames ∙ ap (λ xs. spellings (last_lsn log + 1) (records_of log xs)) c.deref-2.ensures.value) in
+    let few : last_lsn log + length appended < 2 ^ 64 = omega (arith, c.in_ok-frames_of.ensures.room, ap length c.deref-2.ensures.value, length-map told (record_of log)) in
     record {
       decoded = record { read = read; torn = torn; before = c.in_ok-before.before; reads = c.in_ok-records.ensures.found; spells = subst (λ (text : List ℕ). SpellsStore text c.in_ok-before.before) c.deref.ensures.value c.in_ok-before.ensures.found };
-      outcome = c.in_ok-outcome.outcome;
+      outcome = outcome_in log c.in_ok-outcome.outcome;
       restarts = c.in_ok-outcome.ensures.restarts;
       log_is = log_is;
-      reads = reads_extended bytes read c.in_ok-outcome.outcome.appended.items log_is c.in_ok-records.ensures.found.starts c.in_ok-records.ensures.found.each c.in_ok-outcome.ensures.writable few;
+      reads = reads_extended bytes read appended log_is c.in_ok-records.ensures.found.starts c.in_ok-records.ensures.found.each (told_fit log told c.in_ok-outcome.ensures.writable) few;
       store_is = c.in_ok-encode_store_into.ensures.ok;
       report_is = c.report_of.ensures;
     }

@@ -9,6 +9,7 @@ use Rattle.analysis.specs.Tables.{losers_in, AreTablesOf}
 use Rattle.redo.specs.Redone.{redone_page}
 use Rattle.undo.specs.Undone.{UndoFault}
 use Rattle.undo.proofs.Lost.{lost_none}
+use Rattle.restart.specs.Outcome.{outcome_in}
 use Rattle.restart.specs.Restart.{AheadFault, NoneAhead, RollsBack}
 use Rattle.restart.proofs.Restored.{outcome_restores, redo_alone, ahead_alone, changed_numbered}
 use Rattle.restart.proofs.Causes.{redo_fault, undo_fault}
@@ -53,7 +54,7 @@ returns-clause-lawful g c = λ base lawful fit.
     let count : length redone.pages.items ≡ length c.args.store.pages = ap length c.in_ok-redone.ensures.pages ∙ length-map c.args.store.pages (redone_page c.args.log.now tables) in
     let are : AreTablesOf c.args.log.now c.args.store.master tables = subst (λ m. AreTablesOf c.args.log.now m tables) kept c.in_ok-tables.ensures.tables in
     outcome_restores base c.args.log.now c.args.store lawful numbered tables are truth redone c.roll_back.result c.in_ok-redone.ensures.pages c.in_ok-redone.ensures.applied
-    (subst (λ m. IfOk c.roll_back.result (RollsBack c.args.log.now m tables redone)) kept c.roll_back.ensures.rolls_back)
+    (subst (λ m. IfOk c.roll_back.result (λ x. RollsBack c.args.log.now m tables redone (outcome_in (history c.args.log.now) x))) kept c.roll_back.ensures.rolls_back)
     (c.roll_back.ensures.lawful base c.args.store lawful truth count)
 
 pub returns-clause-restarts : goal.returns-clause-restarts
@@ -70,7 +71,7 @@ returns-clause-restarts g c =
       exist = c.in_ok-redone.ensures.exist;
       redone_pages = c.in_ok-redone.ensures.pages;
       applied = c.in_ok-redone.ensures.applied;
-      rolls_back = subst (λ m. RollsBack c.args.log.now m tables c.in_ok-redone.redone x) kept back;
+      rolls_back = subst (λ m. RollsBack c.args.log.now m tables c.in_ok-redone.redone (outcome_in (history c.args.log.now) x)) kept back;
     })
     c.roll_back.ensures.rolls_back
 

@@ -1,5 +1,6 @@
-use Rattle.std.proofs.Common.{◌≡◌, ◌≤◌, map, take}
-use Rattle.wal.specs.Content.{content}
+use Rattle.std.proofs.Common.{◌≡◌, ◌≤◌, take}
+use Rattle.wal.specs.Records.{History}
+use Rattle.undo.specs.Appended.{records_of, AreTold}
 use Rattle.restart.specs.Restart.{clrs_in, ends_in}
 use Rattle.restart.proofs.passes.tally.Given as goal
 
@@ -8,6 +9,6 @@ invariant-loop-record l =
     record {
       few_clrs : l.clrs ≤ l.record-index;
       few_ends : l.ends ≤ l.record-index;
-      clrs_are : l.clrs ≡ clrs_in (map content (take l.record-index l.records));
-      ends_are : l.ends ≡ ends_in (map content (take l.record-index l.records));
+      clrs_are : (log : History) → AreTold log l.appended → l.clrs ≡ clrs_in (records_of log (take l.record-index l.appended));
+      ends_are : (log : History) → AreTold log l.appended → l.ends ≡ ends_in (records_of log (take l.record-index l.appended));
     }
