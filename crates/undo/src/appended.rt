@@ -11,8 +11,8 @@ use page::Fault;
 use std::alloc::Global;
 use wal::{Log, Record, RecordView, value_of};
 
-/// A record that undo appends, told in brief. What else it holds stands in the log, in the update
-/// that it compensates: so a rollback takes 24 bytes for each record, and not those of a [`Record`].
+/// A record that undo appends, told in brief: what else a CLR holds stands in the log, in the update
+/// that it compensates. It takes 24 bytes, of which there may be many; a [`Record`] has more.
 #[derive(Clone, Copy, Debug, PartialEq, Eq)]
 pub enum Appended {
     /// The CLR of the update at the LSN `update`. `prev` is the LSN of the transaction's previous

@@ -41,11 +41,14 @@ fn compensate(
     requires lsn { lsn ≡ last_lsn (history log.now) + vec_len appended.old + 1 }
     ensures ok { IfOk result (λ prev. (u : UpdateRecord)
         → record_at (history log.now) update_lsn ≡ Some (Update u)
-        → Compensated u last (length pages.old) prev (records_of (history log.now) appended.old.items)
+        → Compensated u last (length pages.old) prev
+        (records_of (history log.now) appended.old.items)
         (records_of (history log.now) appended.new.items)) }
     ensures pages { OnOk result ((given : List Page) → AreNumbered given
-        → pages.old ≡ map (undone_page (history log.now) (records_of (history log.now) appended.old.items)) given
-        → pages.new ≡ map (undone_page (history log.now) (records_of (history log.now) appended.new.items)) given) }
+        → pages.old
+        ≡ map (undone_page (history log.now) (records_of (history log.now) appended.old.items)) given
+        → pages.new
+        ≡ map (undone_page (history log.now) (records_of (history log.now) appended.new.items)) given) }
     ensures told { OnOk result (AreTold (history log.now) appended.old.items
         → AreTold (history log.now) appended.new.items) }
     ensures writable { OnOk result (AreFit (history log.now) appended.old.items
@@ -104,8 +107,10 @@ fn undo_at(
         (records_of (history log.now) appended.old.items)
         → All (NamesPages (length pages.old)) (records_of (history log.now) appended.new.items)) }
     ensures pages { OnOk result ((given : List Page) → AreNumbered given
-        → pages.old ≡ map (undone_page (history log.now) (records_of (history log.now) appended.old.items)) given
-        → pages.new ≡ map (undone_page (history log.now) (records_of (history log.now) appended.new.items)) given) }
+        → pages.old
+        ≡ map (undone_page (history log.now) (records_of (history log.now) appended.old.items)) given
+        → pages.new
+        ≡ map (undone_page (history log.now) (records_of (history log.now) appended.new.items)) given) }
     ensures told { OnOk result (AreTold (history log.now) appended.old.items
         → AreTold (history log.now) appended.new.items) }
     ensures writable { OnOk result (AreFit (history log.now) appended.old.items
@@ -152,8 +157,10 @@ fn undo_all(
         (records_of (history log.now) appended.old.items)
         → All (NamesPages (length pages.old)) (records_of (history log.now) appended.new.items)) }
     ensures pages { OnOk result ((given : List Page) → AreNumbered given
-        → pages.old ≡ map (undone_page (history log.now) (records_of (history log.now) appended.old.items)) given
-        → pages.new ≡ map (undone_page (history log.now) (records_of (history log.now) appended.new.items)) given) }
+        → pages.old
+        ≡ map (undone_page (history log.now) (records_of (history log.now) appended.old.items)) given
+        → pages.new
+        ≡ map (undone_page (history log.now) (records_of (history log.now) appended.new.items)) given) }
     ensures told { OnOk result (AreTold (history log.now) appended.old.items
         → AreTold (history log.now) appended.new.items) }
     ensures writable { OnOk result (AreFit (history log.now) appended.old.items
@@ -169,8 +176,8 @@ fn undo_all(
     Ok(())
 }
 
-/// [`undo`] with the appended records told in brief, each in 24 bytes: what they hold stands in the
-/// log.
+/// [`undo`] with the appended records told in brief, which takes 24 bytes for each: what else they
+/// hold stands in the log.
 pub fn undo_in_brief(
     alloc: Global,
     log: &Log,
@@ -224,8 +231,8 @@ pub fn undo_in_brief(
 /// CLR it goes on at the CLR's UndoNxtLSN; at 0 nothing is left, and its end is appended. Then the
 /// update with the largest LSN at which a loser waits is undone, again and again: its CLR is
 /// appended, slot and PageLSN of its page are set, and the loser is resolved again from the
-/// update's PrevLSN. Time is near linear in the records met; beside the records it takes one map
-/// entry for each loser.
+/// update's PrevLSN. Time is near linear in the records met; beside the records it takes 24 bytes
+/// for each and one map entry for each loser.
 ///
 /// Errors, of which the first met in this order is given, the page of an update before the walk
 /// goes on from it:
