@@ -41,11 +41,12 @@ fn frames_of(alloc: Global, log: &Log, appended: &[Appended]) -> Result<Vec<u8>,
     Ok(frames)
 }
 
-/// The report of a restart.
-fn report_of(log: &Log, torn: usize, outcome: BriefOutcome) -> Report
-    ensures { result ≡ report_of log.now torn (outcome_in (history log.now) outcome) }
+/// The report of a restart, and what it appends. Its pages are let go.
+fn report_of(log: &Log, torn: usize, outcome: BriefOutcome) -> (Report, Vec<Appended>)
+    ensures report { result.0 ≡ report_of log.now torn (outcome_in (history log.now) outcome) }
+    ensures appended { result.1.items ≡ outcome.appended.items }
 {
-    Report {
+    let report = Report {
         records: log.len(),
         torn: torn as u64,
         redo_from: outcome.redo_from,
@@ -55,7 +56,8 @@ fn report_of(log: &Log, torn: usize, outcome: BriefOutcome) -> Report
         ended: outcome.ended,
         pages: outcome.store.pages.len() as u64,
         in_doubt: outcome.in_doubt,
-    }
+    };
+    (report, outcome.appended)
 }
 
 /// What is made of a log and a store before any of it is written.
@@ -103,10 +105,11 @@ pub fn recovery_of<'a, G: Gate, R: Threads + Sync>(
     let parting = Parting::by_number(alloc, before.pages.len() as u32, options.parts)?;
     let outcome = restart_in_place(rt, alloc, &records, before, &parting, options.workers, gate)?;
     encode_store_into(&outcome.store, &mut store)?;
+    let (report, appended) = report_of(&records, torn, outcome);
     Ok(Recovery {
         kept: &log[..log.len() - torn],
-        frames: frames_of(alloc, &records, &outcome.appended)?,
+        frames: frames_of(alloc, &records, &appended)?,
         store,
-        report: report_of(&records, torn, outcome),
+        report,
     })
 }

@@ -54,12 +54,13 @@ returns-clause-answer g c =
     let log = history read in
     let told = c.in_ok-outcome.outcome.appended.items in
     let appended : List LogRecord = records_of log told in
+    let same : c.deref-2.result.now ≡ told = c.deref-2.ensures.value ∙ c.report_of-report.ensures.appended in
     let bytes = take (length c.args.log.now - torn) c.args.log.now ++ c.in_ok-frames_of.field-0.items in
     let log_is : bytes ≡ log_text (read ⧺ appended) =
     text_extended read appended (take (length c.args.log.now - torn) c.args.log.now) c.in_ok-frames_of.field-0.items (last_lsn log + 1)
     (kept_text c.args.log.now read torn c.in_ok-records.ensures.found) refl
-    (c.in_ok-frames_of.ensures.frames ∙ ap (λ xs. spellings (last_lsn log + 1) (records_of log xs)) c.deref-2.ensures.value) in
-    let few : last_lsn log + length appended < 2 ^ 64 = omega (arith, c.in_ok-frames_of.ensures.room, ap length c.deref-2.ensures.value, length-map told (record_of log)) in
+    (c.in_ok-frames_of.ensures.frames ∙ ap (λ xs. spellings (last_lsn log + 1) (records_of log xs)) same) in
+    let few : last_lsn log + length appended < 2 ^ 64 = omega (arith, c.in_ok-frames_of.ensures.room, ap length same, length-map told (record_of log)) in
     record {
       decoded = record { read = read; torn = torn; before = c.in_ok-before.before; reads = c.in_ok-records.ensures.found; spells = subst (λ (text : List ℕ). SpellsStore text c.in_ok-before.before) c.deref.ensures.value c.in_ok-before.ensures.found };
       outcome = outcome_in log c.in_ok-outcome.outcome;
@@ -67,7 +68,7 @@ returns-clause-answer g c =
       log_is = log_is;
       reads = reads_extended bytes read appended log_is c.in_ok-records.ensures.found.starts c.in_ok-records.ensures.found.each (told_fit log told c.in_ok-outcome.ensures.writable) few;
       store_is = c.in_ok-encode_store_into.ensures.ok;
-      report_is = c.report_of.ensures;
+      report_is = c.report_of-report.ensures.report;
     }
 
 pub returns-clause-lawful : goal.returns-clause-lawful
@@ -85,23 +86,23 @@ returns-clause-lawful g c = λ base bytes.
     let answer = returns-clause-answer g c in
     let log = take (length c.args.log.now - c.in_ok-records.torn) c.args.log.now ++ c.in_ok-frames_of.field-0.items in
     let store = c.encode_store_into.new.bytes.items in
-    let here : Recovered base read before log store c.report_of.result =
+    let here : Recovered base read before log store c.report_of-report.result.0 =
     record {
       log_is = answer.log_is ∙ ap (λ (rs : List LogRecord). log_text (read ⧺ rs)) restored.appended;
       reads = subst (λ (rs : List LogRecord). Reads log (read ⧺ rs) 0) restored.appended answer.reads;
       store_is = answer.store_is ∙ ap store_text restored.store;
       settled = subst (λ s. IsSettled base (with_tail read) s) restored.store (subst (λ (rs : List LogRecord). IsSettled base (read ⧺ rs) outcome.store) restored.appended restored.settled);
-      losers_are = ap (λ (r : ReportContent). r.losers) c.report_of.ensures ∙ restored.losers;
-      in_doubt_are = ap (λ (r : ReportContent). r.in_doubt) c.report_of.ensures ∙ restored.in_doubt_are;
+      losers_are = ap (λ (r : ReportContent). r.losers) c.report_of-report.ensures.report ∙ restored.losers;
+      in_doubt_are = ap (λ (r : ReportContent). r.in_doubt) c.report_of-report.ensures.report ∙ restored.in_doubt_are;
       still_in_doubt = λ t. sym (ap (λ (rs : List LogRecord). in_doubt t (history (read ⧺ rs))) restored.appended) ∙ restored.still_in_doubt t;
-      ended_are = ap (λ (r : ReportContent). r.ended) c.report_of.ensures ∙ restored.ended;
+      ended_are = ap (λ (r : ReportContent). r.ended) c.report_of-report.ensures.report ∙ restored.ended;
       redoes = record {
         tables = restored.redoes.tables;
         are = restored.redoes.are;
-        begins = ap (λ (r : ReportContent). r.redo_from) c.report_of.ensures ∙ restored.redoes.begins;
-        applies = ap (λ (r : ReportContent). r.redone) c.report_of.ensures ∙ restored.redoes.applies;
+        begins = ap (λ (r : ReportContent). r.redo_from) c.report_of-report.ensures.report ∙ restored.redoes.begins;
+        applies = ap (λ (r : ReportContent). r.redone) c.report_of-report.ensures.report ∙ restored.redoes.applies;
       };
-      compensated_are = ap (λ (r : ReportContent). r.compensated) c.report_of.ensures ∙ restored.compensated;
+      compensated_are = ap (λ (r : ReportContent). r.compensated) c.report_of-report.ensures.report ∙ restored.compensated;
     } in
-    subst (λ rs. Recovered base rs bytes.decoded.before log store c.report_of.result) (ap (λ x. x.0) one)
-    (subst (λ b. Recovered base read b log store c.report_of.result) same here)
+    subst (λ rs. Recovered base rs bytes.decoded.before log store c.report_of-report.result.0) (ap (λ x. x.0) one)
+    (subst (λ b. Recovered base read b log store c.report_of-report.result.0) same here)
