@@ -1,6 +1,6 @@
 //! The undo pass: the updates of all losers are undone, the newest first.
 
-ghost use Rattle.std.specs.Prelude.{◌≡◌, ◌≤◌, ◌<◌, ◌+◌, ◌*◌, ◌^◌, ℕ, List, All, Some, length, map, OnOk, IfOk, IfErr, MatchResult, vec_len};
+ghost use Rattle.std.specs.Prelude.{◌≡◌, ◌≤◌, ◌<◌, ◌+◌, ◌*◌, ◌^◌, List, All, Some, length, map, OnOk, IfOk, IfErr, MatchResult, vec_len};
 ghost use Rattle.std.specs.Ordering.{nat_cmp};
 ghost use Rattle.std.specs.BTreeMap.{get};
 ghost use Rattle.page.specs.declared.page.Page.{Page};
