@@ -1,4 +1,6 @@
 pub mod Statuses
+pub mod StandingAfter
+pub mod Finishing
 pub mod Cells
 pub mod Deciding
 pub mod Noting

@@ -1,56 +1,32 @@
 -- What is kept after one record more.
-use Rattle.std.proofs.Common.{◌≡◌, ◌<◌, ◌≤◌, ◌+◌, ◌*◌, ◌&&◌, ℕ, true, false, cond, List, [], ◌∷◌, ◌++◌, length, get_or, set, Option, Some, None, unwrap_or, refl, sym, ap, subst, ◌∙◌, inl, inr, arith, eqb, eqb-true, eq-eqb, ne_eqb}
+use Rattle.std.proofs.Common.{◌≡◌, ◌<◌, ◌≤◌, ◌+◌, ◌*◌, ◌&&◌, ℕ, true, false, cond, List, [], ◌∷◌, length, get_or, set, Option, Some, refl, sym, subst, ◌∙◌, inl, inr, arith, eqb, eq-eqb, ne_eqb}
 use Rattle.std.proofs.lemmas.Bool.{cases_Bool, cases_eq, and_left, and_right}
 use Rattle.std.proofs.lemmas.List.{get_or-set_other}
 use Rattle.std.proofs.lemmas.Grind.{get_or-set_at}
 use Rattle.std.proofs.Math.ListN.{length-set}
-use Rattle.wal.specs.Records.{LogRecord, Update, Compensation, History, ◌▸◌}
-use Rattle.wal.specs.Meaning.{BasePages, owner, is_owned_by, is_of, writes, cell_of, image_of}
+use Rattle.wal.specs.Records.{LogRecord, Update, Compensation, History, ◌▸◌, base_lsn}
+use Rattle.wal.specs.Meaning.{BasePages, owner, pending, writes, cell_of, image_of}
 use Rattle.wal.specs.Store.{NamesPages}
 use Rattle.wal.specs.Spelling.{Fits}
-use Rattle.wal.specs.Tail.{number_or_0, tx_of}
-use Rattle.audit.specs.declared.status.Status.{Status}
-use Rattle.audit.specs.Statuses.{unknown, Linked, IsStatusOf, IsTop}
+use Rattle.audit.specs.declared.standing.Standing.{Standing}
+use Rattle.audit.specs.declared.standing.Standing.TheVariants.{Unfinished, Finished}
+use Rattle.audit.specs.Statuses.{Linked, IsTop}
+use Rattle.audit.specs.Standings.{IsStandingOf, newest_of}
 use Rattle.audit.specs.Cells.{KeepsCells, HasCell, cell_in, cells_after}
 use Rattle.audit.specs.declared.cell.Cell.{Cell}
 use Rattle.std.specs.Prelude.{IfSome}
-use Rattle.audit.proofs.Statuses.{stands_other}
 
 -- STANDINGS
-of_another : (t : ℕ) (r : LogRecord) → eqb (tx_of r) t ≡ false → is_of t r ≡ false
-of_another t r = other (owner r)
-  where
-    other : (o : Option ℕ) → eqb (number_or_0 o) t ≡ false → is_owned_by t o ≡ false
-    other None e = refl
-    other (Some x) e = e
+pub at_transaction : (links : List ℕ) (log : History) (t : ℕ) (before : ℕ → Standing) (standing : Standing) → ((n : ℕ) → IsStandingOf links n log (before n)) → standing ≡ before t → IsStandingOf links t log standing
+at_transaction links log t before standing stands is = subst (λ s. IsStandingOf links t log s) (sym is) (stands t)
 
-abbrev pub looked : (ℕ → Option Status) → ℕ → Status
-looked found t = unwrap_or (found t) unknown
+linked_top : (base : ℕ) (links stack : List ℕ) (top : ℕ) → Linked base links stack top → IsTop base links top
+linked_top base links [] top l = inl l
+linked_top base links (n ∷ ns) top l = (let e : top ≡ n = l.0 in let a : base < n = l.1 in let b : n ≤ base + length links = l.2 in inr (omega arith, omega arith))
 
-module _ (links : List ℕ) (log : History) (r : LogRecord) (found found' : ℕ → Option Status) (tx : ℕ) (s' : Status) (x : ℕ) where
-  pub stands_all : tx ≡ tx_of r → ((t : ℕ) → found' t ≡ cond (eqb tx t) (Some s') (found t)) → IsStatusOf (links ++ x ∷ []) (tx_of r) (log ▸ r) s'
-      → ((t : ℕ) → IsStatusOf links t log (looked found t)) → (t : ℕ) → IsStatusOf (links ++ x ∷ []) t (log ▸ r) (looked found' t)
-  stands_all e updated own others t =
-      elim (cases_Bool (eqb tx t)) [
-        | inl i ↦
-            (let at : found' t ≡ Some s' = updated t ∙ rw i refl in
-            let is : looked found' t ≡ s' = ap (λ o. unwrap_or o unknown) at in
-            let here : tx_of r ≡ t = sym e ∙ eqb-true tx t i in
-            let k : IsStatusOf (links ++ x ∷ []) t (log ▸ r) s' = subst (λ n. IsStatusOf (links ++ x ∷ []) n (log ▸ r) s') here own in
-            subst (λ s. IsStatusOf (links ++ x ∷ []) t (log ▸ r) s) (sym is) k)
-        | inr i ↦
-            (let at : found' t ≡ found t = updated t ∙ rw i refl in
-            let is : looked found' t ≡ looked found t = ap (λ o. unwrap_or o unknown) at in
-            let k : IsStatusOf (links ++ x ∷ []) t (log ▸ r) (looked found t) = stands_other links x t log r (looked found t) (of_another t r (ap (λ n. eqb n t) (sym e) ∙ i)) (others t) in
-            subst (λ s. IsStatusOf (links ++ x ∷ []) t (log ▸ r) s) (sym is) k)
-      ]
-
-pub at_transaction : (links : List ℕ) (log : History) (status : ℕ → Status) (t' t : ℕ) (s : Status) → ((n : ℕ) → IsStatusOf links n log (status n)) → t' ≡ t → s ≡ status t' → IsStatusOf links t log s
-at_transaction links log status t' t s stands e is = subst (λ x. IsStatusOf links t log x) (sym (is ∙ ap status e)) (stands t)
-
-pub is_top : (base : ℕ) (links stack : List ℕ) (top : ℕ) → Linked base links stack top → IsTop base links top
-is_top base links [] top l = inl l
-is_top base links (n ∷ ns) top l = (let e : top ≡ n = l.0 in let a : base < n = l.1 in let b : n ≤ base + length links = l.2 in inr (omega arith, omega arith))
+pub is_top : (links : List ℕ) (t : ℕ) (log : History) (standing : Standing) → IsStandingOf links t log standing → IsTop (base_lsn log) links (newest_of standing)
+is_top links t log (Unfinished s) h = linked_top (base_lsn log) links (pending t log) s.newest h.pending
+is_top links t log (Finished finish) h = inl refl
 
 -- CELLS
 pub has_cell : (count cells : ℕ) (r : LogRecord) → cells ≡ 16 * count → NamesPages count r → Fits r → HasCell cells r

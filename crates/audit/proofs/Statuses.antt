@@ -1,12 +1,11 @@
--- How a transaction stands after one record more.
-use Rattle.std.proofs.Common.{◌≡◌, ◌+◌, ◌≤◌, ℕ, zero, suc, true, false, cond, Option, Some, None, List, [], ◌∷◌, ◌++◌, length, get_or, drop, refl, sym, ap, subst, ◌∙◌, arith, eqb, eq-eqb, length-append, ◌-◌, ◌<◌, ◌⊎◌, inl, inr}
+-- How an unfinished transaction stands after one record more.
+use Rattle.std.proofs.Common.{◌≡◌, ◌+◌, ◌≤◌, ℕ, zero, suc, true, false, List, [], ◌∷◌, ◌++◌, length, get_or, drop, refl, sym, ap, subst, ◌∙◌, arith, eqb, eq-eqb, length-append, ◌-◌, ◌<◌, ◌⊎◌, inl, inr}
 use Rattle.std.proofs.Math.Seq.{get_or-append_seam}
 use Rattle.std.proofs.lemmas.List.{get_or_append_left}
-use Rattle.wal.specs.Records.{LogRecord, Update, Compensation, Commit, Abort, End, Prepare, History, ◌▸◌, last_lsn, base_lsn}
-use Rattle.wal.specs.Meaning.{owner, is_owned_by, is_of, pending, last_of}
-use Rattle.wal.specs.Tail.{number_or_0, tx_of}
+use Rattle.wal.specs.Records.{UpdateRecord, CompensationRecord, PlainRecord, LogRecord, Update, Compensation, Commit, Abort, End, Prepare, History, ◌▸◌, last_lsn, base_lsn}
+use Rattle.wal.specs.Meaning.{is_of, pending, last_of}
 use Rattle.audit.specs.declared.status.Status.{Status}
-use Rattle.audit.specs.Statuses.{under, Linked, IsStatusOf, last_after, after}
+use Rattle.audit.specs.Statuses.{under, Linked, IsStatusOf, after}
 
 under_more : (base : ℕ) (links : List ℕ) (x n : ℕ) → (n ≡ 0) ⊎ (base < n) → n ≤ base + length links → under base (links ++ x ∷ []) n ≡ under base links n
 under_more base links x zero some h = refl
@@ -40,55 +39,43 @@ last_other t log r e = rw e refl
 
 pub stands_other : (links : List ℕ) (x t : ℕ) (log : History) (r : LogRecord) (s : Status) → is_of t r ≡ false → IsStatusOf links t log s → IsStatusOf (links ++ x ∷ []) t (log ▸ r) s
 stands_other links x t log (Update u) s e h =
-    record { last = rw e h.last; undo_next = rw e h.undo_next; committed = h.committed; aborted = h.aborted; ended = h.ended; prepared = h.prepared; pending = rw e (linked_more (base_lsn log) links x (pending t log) s.newest h.pending) }
+    record { unfinished = h.unfinished; last = rw e h.last; undo_next = rw e h.undo_next; aborted = h.aborted; prepared = h.prepared; pending = rw e (linked_more (base_lsn log) links x (pending t log) s.newest h.pending) }
 stands_other links x t log (Compensation u) s e h =
-    record { last = rw e h.last; undo_next = rw e h.undo_next; committed = h.committed; aborted = h.aborted; ended = h.ended; prepared = h.prepared; pending = rw e (linked_more (base_lsn log) links x (pending t log) s.newest h.pending) }
+    record { unfinished = h.unfinished; last = rw e h.last; undo_next = rw e h.undo_next; aborted = h.aborted; prepared = h.prepared; pending = rw e (linked_more (base_lsn log) links x (pending t log) s.newest h.pending) }
 stands_other links x t log (Commit u) s e h =
-    record { last = rw e h.last; undo_next = h.undo_next; committed = rw e h.committed; aborted = h.aborted; ended = h.ended; prepared = h.prepared; pending = linked_more (base_lsn log) links x (pending t log) s.newest h.pending }
+    record { unfinished = rw e h.unfinished; last = rw e h.last; undo_next = h.undo_next; aborted = h.aborted; prepared = h.prepared; pending = linked_more (base_lsn log) links x (pending t log) s.newest h.pending }
 stands_other links x t log (Abort u) s e h =
-    record { last = rw e h.last; undo_next = h.undo_next; committed = h.committed; aborted = rw e h.aborted; ended = h.ended; prepared = h.prepared; pending = linked_more (base_lsn log) links x (pending t log) s.newest h.pending }
+    record { unfinished = h.unfinished; last = rw e h.last; undo_next = h.undo_next; aborted = rw e h.aborted; prepared = h.prepared; pending = linked_more (base_lsn log) links x (pending t log) s.newest h.pending }
 stands_other links x t log (End u) s e h =
-    record { last = rw e h.last; undo_next = h.undo_next; committed = h.committed; aborted = h.aborted; ended = rw e h.ended; prepared = h.prepared; pending = linked_more (base_lsn log) links x (pending t log) s.newest h.pending }
+    record { unfinished = rw e h.unfinished; last = rw e h.last; undo_next = h.undo_next; aborted = h.aborted; prepared = h.prepared; pending = linked_more (base_lsn log) links x (pending t log) s.newest h.pending }
 stands_other links x t log (Prepare u) s e h =
-    record { last = rw e h.last; undo_next = h.undo_next; committed = h.committed; aborted = h.aborted; ended = h.ended; prepared = rw e h.prepared; pending = linked_more (base_lsn log) links x (pending t log) s.newest h.pending }
+    record { unfinished = h.unfinished; last = rw e h.last; undo_next = h.undo_next; aborted = h.aborted; prepared = rw e h.prepared; pending = linked_more (base_lsn log) links x (pending t log) s.newest h.pending }
 stands_other links x t log r s e h =
-    record { last = h.last ∙ sym (last_other t log r e); undo_next = h.undo_next; committed = h.committed; aborted = h.aborted; ended = h.ended; prepared = h.prepared; pending = linked_more (base_lsn log) links x (pending t log) s.newest h.pending }
+    record { unfinished = h.unfinished; last = h.last ∙ sym (last_other t log r e); undo_next = h.undo_next; aborted = h.aborted; prepared = h.prepared; pending = linked_more (base_lsn log) links x (pending t log) s.newest h.pending }
 
--- the last of the transaction of a record
-last_own : (log : History) (r : LogRecord) (old lsn : ℕ) → lsn ≡ suc (last_lsn log) → old ≡ last_of (tx_of r) log → last_after (owner r) lsn old ≡ last_of (tx_of r) (log ▸ r)
-last_own log r old lsn n h = by_owner (owner r) h
-  where
-    by_owner : (o : Option ℕ) → old ≡ last_of (number_or_0 o) log → last_after o lsn old ≡ cond (is_owned_by (number_or_0 o) o) (suc (last_lsn log)) (last_of (number_or_0 o) log)
-    by_owner None h = h
-    by_owner (Some t) h = rw (eq-eqb t t refl) n
+-- after a record of its own that does not finish it
+module _ (links : List ℕ) (log : History) (s : Status) (lsn below : ℕ) (at : last_lsn log + 1 ≡ lsn) (len : base_lsn log + length links ≡ last_lsn log) where
+  next_is : lsn ≡ suc (last_lsn log)
+  next_is = omega (arith, at)
 
-pub stands_own : (links : List ℕ) (log : History) (r : LogRecord) (s : Status) (lsn below : ℕ) → last_lsn log + 1 ≡ lsn → base_lsn log + length links ≡ last_lsn log → below ≡ under (base_lsn log) links s.newest
-    → IsStatusOf links (tx_of r) log s → IsStatusOf (links ++ s.newest ∷ []) (tx_of r) (log ▸ r) (after r lsn below s)
-stands_own links log (Update u) s lsn below at len b h =
-    let n : lsn ≡ suc (last_lsn log) = omega arith in
-    let e : eqb u.tx u.tx ≡ true = eq-eqb u.tx u.tx refl in
-    let p : Linked (base_lsn log) (links ++ s.newest ∷ []) (suc (last_lsn log) ∷ pending u.tx log) lsn = subst (λ k. Linked (base_lsn log) (links ++ s.newest ∷ []) (suc (last_lsn log) ∷ pending u.tx log) k) (sym n) (linked_push (base_lsn log) links (pending u.tx log) s.newest (last_lsn log) len h.pending) in
-    record { last = rw e n; undo_next = rw e n; committed = h.committed; aborted = h.aborted; ended = h.ended; prepared = h.prepared; pending = rw e p }
-stands_own links log (Compensation c) s lsn below at len b h =
-    let n : lsn ≡ suc (last_lsn log) = omega arith in
-    let e : eqb c.tx c.tx ≡ true = eq-eqb c.tx c.tx refl in
-    let p : Linked (base_lsn log) links (drop 1 (pending c.tx log)) below = subst (λ k. Linked (base_lsn log) links (drop 1 (pending c.tx log)) k) (sym b) (linked_drop (base_lsn log) links (pending c.tx log) s.newest h.pending) in
-    record { last = rw e n; undo_next = rw e refl; committed = h.committed; aborted = h.aborted; ended = h.ended; prepared = h.prepared; pending = rw e (linked_more (base_lsn log) links s.newest (drop 1 (pending c.tx log)) below p) }
-stands_own links log (Commit c) s lsn below at len b h =
-    let n : lsn ≡ suc (last_lsn log) = omega arith in
-    let e : eqb c.tx c.tx ≡ true = eq-eqb c.tx c.tx refl in
-    record { last = rw e n; undo_next = h.undo_next; committed = rw e refl; aborted = h.aborted; ended = h.ended; prepared = h.prepared; pending = linked_more (base_lsn log) links s.newest (pending c.tx log) s.newest h.pending }
-stands_own links log (Abort c) s lsn below at len b h =
-    let n : lsn ≡ suc (last_lsn log) = omega arith in
-    let e : eqb c.tx c.tx ≡ true = eq-eqb c.tx c.tx refl in
-    record { last = rw e n; undo_next = h.undo_next; committed = h.committed; aborted = rw e refl; ended = h.ended; prepared = h.prepared; pending = linked_more (base_lsn log) links s.newest (pending c.tx log) s.newest h.pending }
-stands_own links log (End c) s lsn below at len b h =
-    let n : lsn ≡ suc (last_lsn log) = omega arith in
-    let e : eqb c.tx c.tx ≡ true = eq-eqb c.tx c.tx refl in
-    record { last = rw e n; undo_next = h.undo_next; committed = h.committed; aborted = h.aborted; ended = rw e refl; prepared = h.prepared; pending = linked_more (base_lsn log) links s.newest (pending c.tx log) s.newest h.pending }
-stands_own links log (Prepare c) s lsn below at len b h =
-    let n : lsn ≡ suc (last_lsn log) = omega arith in
-    let e : eqb c.tx c.tx ≡ true = eq-eqb c.tx c.tx refl in
-    record { last = rw e n; undo_next = h.undo_next; committed = h.committed; aborted = h.aborted; ended = h.ended; prepared = rw e refl; pending = linked_more (base_lsn log) links s.newest (pending c.tx log) s.newest h.pending }
-stands_own links log r s lsn below at len b h =
-    record { last = last_own log r s.last lsn (omega arith) h.last; undo_next = h.undo_next; committed = h.committed; aborted = h.aborted; ended = h.ended; prepared = h.prepared; pending = linked_more (base_lsn log) links s.newest (pending (tx_of r) log) s.newest h.pending }
+  pub stands_update : (u : UpdateRecord) → IsStatusOf links u.tx log s → IsStatusOf (links ++ s.newest ∷ []) u.tx (log ▸ Update u) (after (Update u) lsn below s)
+  stands_update u h =
+      let e : eqb u.tx u.tx ≡ true = eq-eqb u.tx u.tx refl in
+      let p : Linked (base_lsn log) (links ++ s.newest ∷ []) (suc (last_lsn log) ∷ pending u.tx log) lsn = subst (λ k. Linked (base_lsn log) (links ++ s.newest ∷ []) (suc (last_lsn log) ∷ pending u.tx log) k) (sym next_is) (linked_push (base_lsn log) links (pending u.tx log) s.newest (last_lsn log) len h.pending) in
+      record { unfinished = h.unfinished; last = rw e next_is; undo_next = rw e next_is; aborted = h.aborted; prepared = h.prepared; pending = rw e p }
+
+  pub stands_compensation : (c : CompensationRecord) → below ≡ under (base_lsn log) links s.newest → IsStatusOf links c.tx log s → IsStatusOf (links ++ s.newest ∷ []) c.tx (log ▸ Compensation c) (after (Compensation c) lsn below s)
+  stands_compensation c b h =
+      let e : eqb c.tx c.tx ≡ true = eq-eqb c.tx c.tx refl in
+      let p : Linked (base_lsn log) links (drop 1 (pending c.tx log)) below = subst (λ k. Linked (base_lsn log) links (drop 1 (pending c.tx log)) k) (sym b) (linked_drop (base_lsn log) links (pending c.tx log) s.newest h.pending) in
+      record { unfinished = h.unfinished; last = rw e next_is; undo_next = rw e refl; aborted = h.aborted; prepared = h.prepared; pending = rw e (linked_more (base_lsn log) links s.newest (drop 1 (pending c.tx log)) below p) }
+
+  pub stands_abort : (c : PlainRecord) → IsStatusOf links c.tx log s → IsStatusOf (links ++ s.newest ∷ []) c.tx (log ▸ Abort c) (after (Abort c) lsn below s)
+  stands_abort c h =
+      let e : eqb c.tx c.tx ≡ true = eq-eqb c.tx c.tx refl in
+      record { unfinished = h.unfinished; last = rw e next_is; undo_next = h.undo_next; aborted = rw e refl; prepared = h.prepared; pending = linked_more (base_lsn log) links s.newest (pending c.tx log) s.newest h.pending }
+
+  pub stands_prepare : (c : PlainRecord) → IsStatusOf links c.tx log s → IsStatusOf (links ++ s.newest ∷ []) c.tx (log ▸ Prepare c) (after (Prepare c) lsn below s)
+  stands_prepare c h =
+      let e : eqb c.tx c.tx ≡ true = eq-eqb c.tx c.tx refl in
+      record { unfinished = h.unfinished; last = rw e next_is; undo_next = h.undo_next; aborted = h.aborted; prepared = rw e refl; pending = linked_more (base_lsn log) links s.newest (pending c.tx log) s.newest h.pending }

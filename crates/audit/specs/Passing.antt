@@ -1,18 +1,18 @@
 -- What is kept while the records are gone through (own).
-use Rattle.std.specs.Prelude.{◌≡◌, ◌≤◌, ◌⊎◌, ◌||◌, ℕ, length, Option, Some, None, true, ◌+◌, ⊤}
+use Rattle.std.specs.Prelude.{◌≡◌, ◌≤◌, ◌⊎◌, ℕ, length, Option, Some, None, ◌+◌, ⊤}
 use Rattle.page.specs.Image.{Image}
 use Rattle.wal.specs.Records.{LogRecord, Update, History, LogContent, history, last_lsn, record_at, base_lsn}
 use Rattle.wal.specs.Meaning.{BasePages}
 use Rattle.audit.specs.declared.status.Status.{Status}
 use Rattle.audit.specs.declared.audit_state.AuditState.{AuditState}
-use Rattle.audit.specs.Statuses.{IsStatusOf, status_in}
+use Rattle.audit.specs.Standings.{IsStandingOf, standing_in}
 use Rattle.audit.specs.Cells.{KeepsCells, cell_in}
 
 -- it tells how each transaction stands, and what the cells hold over the base pages
 pub record IsAuditStateOf (pages : BasePages) (count : ℕ) (log : History) (audit_state : AuditState) : Type 0 where
   pub base : audit_state.base ≡ base_lsn log
   pub links : base_lsn log + length audit_state.links.items ≡ last_lsn log
-  pub stands : (t : ℕ) → IsStatusOf audit_state.links.items t log (status_in audit_state.table t)
+  pub stands : (t : ℕ) → IsStandingOf audit_state.links.items t log (standing_in audit_state.standings t)
   pub cells : KeepsCells count (cell_in pages log) audit_state.cells.items
 
 -- it is a beginning of the log
@@ -24,7 +24,7 @@ abbrev pub Undoes : LogRecord → (page slot undo_next : ℕ) → Image → Type
 Undoes (Update u) page slot undo_next image = (page ≡ u.page) × (slot ≡ u.slot) × (undo_next ≡ u.prev) × (image ≡ u.before)
 Undoes _ page slot undo_next image = ⊥
 
--- the writer of a cell, if it has one, is this transaction or has finished
-abbrev pub IsFreeFor : (ℕ → Status) → Option ℕ → ℕ → Type 0
-IsFreeFor status None tx = ⊤
-IsFreeFor status (Some t) tx = (t ≡ tx) ⊎ (((status t).committed || (status t).ended) ≡ true)
+-- the writer of a cell, if it has one, is this transaction or not among the unfinished
+abbrev pub IsFreeFor : (unfinished : ℕ → Option Status) → Option ℕ → ℕ → Type 0
+IsFreeFor unfinished None tx = ⊤
+IsFreeFor unfinished (Some t) tx = (t ≡ tx) ⊎ (unfinished t ≡ None)

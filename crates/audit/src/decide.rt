@@ -1,6 +1,7 @@
 //! Whether a record keeps a law: one function a law, exact.
 
-ghost use Rattle.std.specs.Prelude.{◌≡◌, ◌+◌, ◌*◌, ◌≤◌, ◌<◌, ◌⊎◌, ◌||◌, ◌↔◌, ℕ, List, All, IsTrue, Some, true, length, option_map, slice_index_or};
+ghost use Rattle.std.specs.Prelude.{◌≡◌, ◌+◌, ◌*◌, ◌≤◌, ◌<◌, ◌↔◌, ℕ, List, All, IsTrue, Some, length, nat_eq, option_map, slice_index_or};
+ghost use Rattle.std.specs.HashMap.{get};
 ghost use Rattle.page.specs.Image.{Image};
 ghost use Rattle.wal.specs.Records.{LogRecord, History, history, last_lsn, record_at, base_lsn};
 ghost use Rattle.wal.specs.Meaning.{BasePages};
@@ -9,16 +10,16 @@ ghost use Rattle.wal.specs.Store.{NamesPages};
 ghost use Rattle.wal.specs.Spelling.{Fits};
 ghost use Rattle.wal.specs.Tail.{tx_of};
 ghost use Rattle.wal.specs.Content.{shown};
-ghost use Rattle.audit.specs.Statuses.{IsStatusOf, status_in};
+ghost use Rattle.audit.specs.Standings.{IsStandingOf, standing_in, finishes, is_some_with};
 ghost use Rattle.audit.specs.Cells.{HasCell, KeepsCells, cell_in};
 ghost use Rattle.audit.specs.declared.cell.Cell.{Cell};
 ghost use Rattle.audit.specs.Passing.{Begins, Undoes, IsFreeFor};
 ghost use Rattle.page.specs.declared.sizes.TheConstants.{SLOTS};
 
 use crate::cell::Cell;
-use crate::status::{Status, status_of, transaction_of};
+use crate::standing::{Finish, Standing, finishes};
+use crate::standings::Standings;
 use page::{SLOTS, Value};
-use std::collections::HashMap;
 use wal::{DirtyTable, Log, RecordView};
 
 /// Whether each page of the table is below the count.
@@ -53,31 +54,48 @@ pub fn names_pages(view: &RecordView, count: usize) -> bool
     }
 }
 
-/// Whether PrevLSN is the transaction's last record.
-pub fn keeps_chain(view: &RecordView, status: Status) -> bool
-    ensures { (log : History) (links : List ℕ)
-        → IsStatusOf links (tx_of (shown view.now)) log status
-        → IsTrue result ↔ ChainLaw log (shown view.now) }
+/// Whether a record stands at an LSN by which a transaction finishes so.
+fn finishes_at(log: &Log, lsn: u64, tx: u32, finish: Finish) -> bool
+    ensures { result ≡ is_some_with (finishes finish tx) (record_at (history log.now) lsn) }
 {
-    match view.tx() {
-        Some(_) => view.prev() == status.last,
-        None => true,
+    match log.get(lsn) {
+        Some(view) => finishes(&view, tx, finish),
+        None => false,
+    }
+}
+
+/// Whether PrevLSN is the transaction's last record, for the record at an LSN. The last one of a
+/// transaction that has finished is that by which it did.
+pub fn keeps_chain(log: &Log, view: &RecordView, standing: Standing, lsn: u64) -> bool
+    ensures { (base : BasePages) (so_far : History) (links : List ℕ) → IsLawful base so_far
+        → Begins so_far log.now → last_lsn so_far + 1 ≡ lsn
+        → IsStandingOf links (tx_of (shown view.now)) so_far standing
+        → IsTrue result ↔ ChainLaw so_far (shown view.now) }
+{
+    let Some(tx) = view.tx() else {
+        return true;
+    };
+    match standing {
+        Standing::Unfinished(status) => view.prev() == status.last,
+        Standing::Finished(finish) => {
+            view.prev() < lsn && finishes_at(log, view.prev(), tx, finish)
+        }
     }
 }
 
 /// Whether no commit, abort, end or prepare of its transaction forbids the record.
-pub fn keeps_finish(view: &RecordView, status: Status) -> bool
+pub fn keeps_finish(view: &RecordView, standing: Standing) -> bool
     ensures { (log : History) (links : List ℕ)
-        → IsStatusOf links (tx_of (shown view.now)) log status
+        → IsStandingOf links (tx_of (shown view.now)) log standing
         → IsTrue result ↔ FinishLaw log (shown view.now) }
 {
     match view {
-        RecordView::Update { .. } => status.is_active(),
-        RecordView::Compensation { .. } => !status.is_finished() && !status.is_in_doubt(),
-        RecordView::Commit { .. } => !status.is_finished() && !status.aborted,
-        RecordView::Abort { .. } => !status.is_finished() && !status.aborted,
-        RecordView::End { .. } => !status.ended && !status.is_in_doubt(),
-        RecordView::Prepare { .. } => status.is_active(),
+        RecordView::Update { .. } => standing.is_active(),
+        RecordView::Compensation { .. } => !standing.is_finished() && !standing.is_in_doubt(),
+        RecordView::Commit { .. } => standing.can_turn(),
+        RecordView::Abort { .. } => standing.can_turn(),
+        RecordView::End { .. } => !standing.is_ended() && !standing.is_in_doubt(),
+        RecordView::Prepare { .. } => standing.is_active(),
         RecordView::CheckpointBegin => true,
         RecordView::CheckpointEnd { .. } => true,
     }
@@ -130,11 +148,13 @@ fn undoes_at(log: &Log, lsn: u64, cell: (u32, u8), undo_next: u64, image: Option
     }
 }
 
-/// Whether a CLR undoes the newest pending update, and an end without a commit finds none.
-pub fn keeps_compensation(log: &Log, view: &RecordView, status: Status) -> bool
+/// Whether a CLR undoes the newest pending update, and an end without a commit finds none. The
+/// record keeps the law of finish.
+pub fn keeps_compensation(log: &Log, view: &RecordView, standing: Standing) -> bool
     ensures { (so_far : History) (links : List ℕ) → Begins so_far log.now
         → base_lsn so_far + length links ≡ last_lsn so_far
-        → IsStatusOf links (tx_of (shown view.now)) so_far status
+        → IsStandingOf links (tx_of (shown view.now)) so_far standing
+        → FinishLaw so_far (shown view.now)
         → IsTrue result ↔ CompensationLaw so_far (shown view.now) }
 {
     match view {
@@ -144,8 +164,8 @@ pub fn keeps_compensation(log: &Log, view: &RecordView, status: Status) -> bool
             undo_next,
             image,
             ..
-        } => undoes_at(log, status.newest, (*page, *slot), *undo_next, *image),
-        RecordView::End { .. } => status.committed || status.newest == 0,
+        } => undoes_at(log, standing.newest(), (*page, *slot), *undo_next, *image),
+        RecordView::End { .. } => standing.is_finished() || standing.newest() == 0,
         RecordView::Update { .. }
         | RecordView::Commit { .. }
         | RecordView::Abort { .. }
@@ -164,29 +184,30 @@ fn cell_at(cells: &[Cell], page: u32, slot: u8) -> Cell
     cells[SLOTS * page as usize + slot as usize]
 }
 
-/// Whether the writer of a cell, if it has one, is this transaction or has finished.
-fn is_free_for(table: &HashMap<u32, Status>, writer: Option<u32>, tx: u32) -> bool
-    ensures { IsTrue result ↔ IsFreeFor (status_in table.now) writer tx }
+/// Whether the writer of a cell, if it has one, is this transaction or not among the unfinished.
+fn is_free_for(standings: &Standings, writer: Option<u32>, tx: u32) -> bool
+    ensures { IsTrue result
+        ↔ IsFreeFor (get nat_eq standings.now.unfinished) writer tx }
 {
     match writer {
         None => true,
-        Some(other) => other == tx || status_of(table, other).is_finished(),
+        Some(other) => other == tx || !standings.has_unfinished(other),
     }
 }
 
 /// Whether no other unfinished transaction has an update or CLR in the cell of an update.
-pub fn keeps_strictness(table: &HashMap<u32, Status>, cells: &[Cell], view: &RecordView) -> bool
+pub fn keeps_strictness(standings: &Standings, cells: &[Cell], view: &RecordView) -> bool
     requires { HasCell (length cells.now) (shown view.now) }
     ensures { (base : BasePages) (so_far : History) (links : List ℕ) (count : ℕ)
         → IsLawful base so_far
-        → ((t : ℕ) → IsStatusOf links t so_far (status_in table.now t))
+        → ((t : ℕ) → IsStandingOf links t so_far (standing_in standings.now t))
         → KeepsCells count (cell_in base so_far) cells.now → NamesPages count (shown view.now)
         → Fits (shown view.now)
         → IsTrue result ↔ Strictness so_far (shown view.now) }
 {
     match view {
         RecordView::Update { tx, page, slot, .. } => {
-            is_free_for(table, cell_at(cells, *page, *slot).writer, *tx)
+            is_free_for(standings, cell_at(cells, *page, *slot).writer, *tx)
         }
         RecordView::Compensation { .. }
         | RecordView::Commit { .. }

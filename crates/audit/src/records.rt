@@ -11,7 +11,8 @@ ghost use Rattle.wal.specs.Pages.{base_pages};
 ghost use Rattle.wal.specs.Store.{NamesPages};
 ghost use Rattle.wal.specs.Spelling.{Fits, IsRising};
 ghost use Rattle.wal.specs.Content.{shown};
-ghost use Rattle.audit.specs.Statuses.{status_in, IsTop};
+ghost use Rattle.audit.specs.Statuses.{IsTop};
+ghost use Rattle.audit.specs.Standings.{newest_of, standing_in};
 ghost use Rattle.audit.specs.Passing.{IsAuditStateOf, Begins};
 ghost use Rattle.audit.specs.FirstFault.{BrokenAt, AreSound, RecordFault};
 ghost use Rattle.page.specs.declared.sizes.TheConstants.{PAGES, SLOTS};
@@ -20,7 +21,8 @@ use crate::audit_state::AuditState;
 use crate::decide::{
     keeps_before, keeps_chain, keeps_compensation, keeps_finish, keeps_strictness, names_pages,
 };
-use crate::status::{Status, status_of, transaction_of};
+use crate::standing::Standing;
+use crate::status::transaction_of;
 use crate::table::is_true_if_any;
 use page::{Fault, Page};
 use std::alloc::Global;
@@ -44,12 +46,13 @@ fn check_record(
     audit_state: &AuditState,
     count: usize,
     view: &RecordView,
-    status: Status,
+    standing: Standing,
     lsn: u64,
 ) -> Result<(), Fault>
     requires size { length audit_state.now.cells.items ≡ SLOTS * count }
     requires fits { Fits (shown view.now) }
-    requires status { status ≡ status_in audit_state.now.table (tx_of (shown view.now)) }
+    requires standing { standing
+        ≡ standing_in audit_state.now.standings (tx_of (shown view.now)) }
     ensures named { OnOk result (NamesPages count (shown view.now)) }
     ensures ok { OnOk result ((base : BasePages) (so_far : History) → last_lsn so_far + 1 ≡ lsn
         → Begins so_far log.now → IsLawful base so_far
@@ -63,16 +66,16 @@ fn check_record(
     if !names_pages(view, count) {
         return Err(Fault::NoSuchPage(lsn));
     }
-    if !keeps_chain(view, status) {
+    if !keeps_chain(log, view, standing, lsn) {
         return Err(Fault::Chain(lsn));
     }
-    if !keeps_finish(view, status) {
+    if !keeps_finish(view, standing) {
         return Err(Fault::AfterFinish(lsn));
     }
-    if !keeps_compensation(log, view, status) {
+    if !keeps_compensation(log, view, standing) {
         return Err(wrong_compensation(view, lsn));
     }
-    if !keeps_strictness(&audit_state.table, &audit_state.cells, view) {
+    if !keeps_strictness(&audit_state.standings, &audit_state.cells, view) {
         return Err(Fault::DirtyWrite(lsn));
     }
     if !keeps_before(&audit_state.cells, view) {
@@ -88,7 +91,7 @@ fn check_next(log: &Log, audit_state: &mut AuditState, count: usize, lsn: u64) -
     requires to { lsn < last_lsn (history log.now) }
     requires size { length audit_state.old.cells.items ≡ SLOTS * count }
     requires top { (t : ℕ) → IsTop audit_state.old.base audit_state.old.links.items
-        (status_in audit_state.old.table t).newest }
+        (newest_of (standing_in audit_state.old.standings t)) }
     ensures ok { OnOk result ((base : BasePages) → AreSound base count (first lsn (history log.now))
         → IsAuditStateOf base count (first lsn (history log.now)) audit_state.old
         → AreSound base count (first (lsn + 1) (history log.now))
@@ -100,11 +103,11 @@ fn check_next(log: &Log, audit_state: &mut AuditState, count: usize, lsn: u64) -
 {
     let _last = log.last();
     let view = log.after(lsn);
-    let status = status_of(&audit_state.table, transaction_of(&view));
-    if let Err(fault) = check_record(log, audit_state, count, &view, status, lsn + 1) {
+    let standing = audit_state.standings.get(transaction_of(&view));
+    if let Err(fault) = check_record(log, audit_state, count, &view, standing, lsn + 1) {
         return Err(fault);
     }
-    audit_state.note(&view, lsn + 1, status)
+    audit_state.note(&view, lsn + 1, standing)
 }
 
 /// Refuses the first record that breaks a law over these base pages, and names the law. Else
@@ -134,7 +137,7 @@ pub fn check_records(
             return Err(fault);
         }
         if lsn + 1 == master {
-            is_true = is_true_if_any(alloc, &audit_state.table, transactions)?;
+            is_true = is_true_if_any(alloc, &audit_state.standings, transactions)?;
         }
     }
     Ok(is_true)

@@ -1,15 +1,13 @@
-//! How a transaction stands after the records so far.
+//! How an unfinished transaction stands after the records so far.
 
-ghost use Rattle.std.specs.Prelude.{◌≡◌, ◌≤◌, length, nat_eq, ◌||◌, ◌&&◌, not};
-ghost use Rattle.std.specs.HashMap.{get};
+ghost use Rattle.std.specs.Prelude.{◌≡◌};
 ghost use Rattle.wal.specs.Tail.{tx_of};
 ghost use Rattle.wal.specs.Content.{shown};
-ghost use Rattle.audit.specs.Statuses.{under, unknown, status_in, after, IsTop};
+ghost use Rattle.audit.specs.Statuses.{under, unknown, after, IsTop};
 
-use std::collections::HashMap;
 use wal::RecordView;
 
-/// How a transaction stands: what its records so far say. LSNs are 0 for none.
+/// How an unfinished transaction stands: what its records so far say. LSNs are 0 for none.
 #[derive(Clone, Copy)]
 pub struct Status {
     /// The LSN of its last record.
@@ -18,9 +16,7 @@ pub struct Status {
     pub undo_next: u64,
     /// The LSN of its newest pending update.
     pub newest: u64,
-    pub committed: bool,
     pub aborted: bool,
-    pub ended: bool,
     pub prepared: bool,
 }
 
@@ -33,44 +29,9 @@ impl Status {
             last: 0,
             undo_next: 0,
             newest: 0,
-            committed: false,
             aborted: false,
-            ended: false,
             prepared: false,
         }
-    }
-
-    /// Whether it has committed or ended.
-    pub fn is_finished(&self) -> bool
-        ensures { result ≡ (self.now.committed || self.now.ended) }
-    {
-        self.committed || self.ended
-    }
-
-    /// Whether it has neither finished nor aborted nor prepared.
-    pub fn is_active(&self) -> bool
-        ensures { result ≡ (not (self.now.committed || self.now.ended) &&
-            (not self.now.aborted && not self.now.prepared)) }
-    {
-        !self.is_finished() && !self.aborted && !self.prepared
-    }
-
-    /// Whether it has prepared to commit, and neither turned back nor finished.
-    pub fn is_in_doubt(&self) -> bool
-        ensures { result ≡ (not (self.now.committed || self.now.ended) &&
-            (self.now.prepared && not self.now.aborted)) }
-    {
-        !self.is_finished() && self.prepared && !self.aborted
-    }
-}
-
-/// How this transaction stands by the table.
-pub fn status_of(table: &HashMap<u32, Status>, tx: u32) -> Status
-    ensures { result ≡ status_in table.now tx }
-{
-    match table.get(&tx) {
-        Some(status) => *status,
-        None => Status::unknown(),
     }
 }
 
@@ -96,8 +57,8 @@ pub fn below_top(base: u64, links: &[u64], top: u64) -> u64
     links[(top - base - 1) as usize]
 }
 
-/// How the transaction of a record stands after it. `below` is what stands below its newest pending
-/// update.
+/// How the unfinished transaction of a record that does not finish it stands after it. `below` is
+/// what stands below its newest pending update.
 pub fn status_after(status: Status, view: &RecordView, lsn: u64, below: u64) -> Status
     ensures { result ≡ after (shown view.now) lsn below status }
 {
@@ -114,19 +75,9 @@ pub fn status_after(status: Status, view: &RecordView, lsn: u64, below: u64) -> 
             newest: below,
             ..status
         },
-        RecordView::Commit { .. } => Status {
-            last: lsn,
-            committed: true,
-            ..status
-        },
         RecordView::Abort { .. } => Status {
             last: lsn,
             aborted: true,
-            ..status
-        },
-        RecordView::End { .. } => Status {
-            last: lsn,
-            ended: true,
             ..status
         },
         RecordView::Prepare { .. } => Status {
@@ -134,7 +85,9 @@ pub fn status_after(status: Status, view: &RecordView, lsn: u64, below: u64) -> 
             prepared: true,
             ..status
         },
-        RecordView::CheckpointBegin => status,
-        RecordView::CheckpointEnd { .. } => status,
+        RecordView::Commit { .. }
+        | RecordView::End { .. }
+        | RecordView::CheckpointBegin
+        | RecordView::CheckpointEnd { .. } => status,
     }
 }

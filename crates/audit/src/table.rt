@@ -8,21 +8,24 @@ ghost use Rattle.wal.specs.Meaning.{state_by, is_unfinished};
 ghost use Rattle.wal.specs.Checkpoint.{true_table};
 ghost use Rattle.wal.specs.Spelling.{IsRising};
 ghost use Rattle.wal.specs.Content.{entry_of};
-ghost use Rattle.audit.specs.Statuses.{IsStatusOf, status_in};
+ghost use Rattle.audit.specs.Statuses.{IsStatusOf};
+ghost use Rattle.audit.specs.Standings.{IsStandingOf, standing_in};
 ghost use Rattle.audit.specs.Checkpoints.{IsTrueEntry, Lists};
 
-use crate::status::{Status, status_of};
+use crate::standing::Standing;
+use crate::standings::Standings;
+use crate::status::Status;
 use page::Fault;
 use std::alloc::Global;
-use std::collections::{HashMap, HashSet};
+use std::collections::HashSet;
 use wal::{Entry, State, TransactionTable};
 
-/// Whether a transaction that stands so has begun and has not finished.
-fn is_unfinished(status: Status) -> bool
+/// Whether a transaction that has not finished, and stands so, has begun.
+fn has_begun(status: Status) -> bool
     ensures { (t : ℕ) (log : History) (links : List ℕ) → IsStatusOf links t log status
         → result ≡ is_unfinished t log }
 {
-    status.last != 0 && !status.is_finished()
+    status.last != 0
 }
 
 /// Whether a state is that of a transaction that has or has not aborted, and has or has not
@@ -38,25 +41,37 @@ fn tells_state(state: State, aborted: bool, prepared: bool) -> bool
 }
 
 /// Whether a transaction that stands so is unfinished, and has this entry.
-fn is_true_entry(status: Status, entry: Entry) -> bool
+fn is_true_of(status: Status, entry: Entry) -> bool
     ensures { (t : ℕ) (log : History) (links : List ℕ) → IsStatusOf links t log status
         → IsTrue result ↔ IsTrueEntry log (entry_of (t, entry)) }
 {
-    is_unfinished(status)
+    has_begun(status)
         && entry.last == status.last
         && entry.undo_next == status.undo_next
         && tells_state(entry.state, status.aborted, status.prepared)
 }
 
-/// Whether each entry is of an unfinished transaction, and true of it.
-fn entries_are_true(table: &HashMap<u32, Status>, transactions: &TransactionTable) -> bool
+/// Whether the transaction of an entry is unfinished, and the entry true of it.
+fn is_true_entry(standings: &Standings, tx: u32, entry: Entry) -> bool
     ensures { (log : History) (links : List ℕ)
-        → ((t : ℕ) → IsStatusOf links t log (status_in table.now t))
+        → IsStandingOf links tx log (standing_in standings.now tx)
+        → IsTrue result ↔ IsTrueEntry log (entry_of (tx, entry)) }
+{
+    match standings.get(tx) {
+        Standing::Unfinished(status) => is_true_of(status, entry),
+        Standing::Finished(_) => false,
+    }
+}
+
+/// Whether each entry is of an unfinished transaction, and true of it.
+fn entries_are_true(standings: &Standings, transactions: &TransactionTable) -> bool
+    ensures { (log : History) (links : List ℕ)
+        → ((t : ℕ) → IsStandingOf links t log (standing_in standings.now t))
         → IsTrue result ↔ All (IsTrueEntry log) transactions.now }
 {
     for place in 0..transactions.len() {
         let (tx, entry) = transactions.entry(place);
-        if !is_true_entry(status_of(table, tx), entry) {
+        if !is_true_entry(standings, tx, entry) {
             return false;
         }
     }
@@ -88,14 +103,14 @@ fn listed_in(alloc: Global, transactions: &TransactionTable) -> Result<HashSet<u
 }
 
 /// Whether each unfinished transaction is listed.
-fn unfinished_are_listed(table: &HashMap<u32, Status>, listed: &HashSet<u32>) -> bool
+fn unfinished_are_listed(standings: &Standings, listed: &HashSet<u32>) -> bool
     ensures { (log : History) (links : List ℕ)
-        → ((t : ℕ) → IsStatusOf links t log (status_in table.now t))
+        → ((t : ℕ) → IsStandingOf links t log (standing_in standings.now t))
         → IsTrue result ↔ ((t : ℕ) → is_unfinished t log ≡ true
         → IsTrue (contains nat_eq listed.now t)) }
 {
-    for (tx, status) in table {
-        if is_unfinished(*status) && !listed.contains(tx) {
+    for (tx, status) in &standings.unfinished {
+        if has_begun(*status) && !listed.contains(tx) {
             return false;
         }
     }
@@ -106,37 +121,37 @@ fn unfinished_are_listed(table: &HashMap<u32, Status>, listed: &HashSet<u32>) ->
 /// `NoResource`.
 fn is_true_table(
     alloc: Global,
-    table: &HashMap<u32, Status>,
+    standings: &Standings,
     transactions: &TransactionTable,
 ) -> Result<bool, Fault>
     requires rising { IsRising (map tx_in transactions.now) }
     ensures ok { IfOk result (λ yes. (log : History) (links : List ℕ)
-        → ((t : ℕ) → IsStatusOf links t log (status_in table.now t))
+        → ((t : ℕ) → IsStandingOf links t log (standing_in standings.now t))
         → IsTrue yes ↔ transactions.now ≡ true_table log) }
     ensures err { IsOkUnless result NoResource }
 {
-    if !entries_are_true(table, transactions) {
+    if !entries_are_true(standings, transactions) {
         return Ok(false);
     }
     let listed = listed_in(alloc, transactions)?;
-    Ok(unfinished_are_listed(table, &listed))
+    Ok(unfinished_are_listed(standings, &listed))
 }
 
 /// Whether the table, if there is one, is exactly that of the unfinished transactions. The only
 /// error is `NoResource`.
 pub fn is_true_if_any(
     alloc: Global,
-    table: &HashMap<u32, Status>,
+    standings: &Standings,
     transactions: Option<&TransactionTable>,
 ) -> Result<bool, Fault>
     requires rising { IfSome transactions (λ t. IsRising (map tx_in t.now)) }
     ensures ok { IfOk result (λ yes. IfSome transactions.entry (λ t. (log : History) (links : List ℕ)
-        → ((t : ℕ) → IsStatusOf links t log (status_in table.now t))
+        → ((t : ℕ) → IsStandingOf links t log (standing_in standings.now t))
         → IsTrue yes ↔ t.now ≡ true_table log)) }
     ensures err { IsOkUnless result NoResource }
 {
     match transactions {
         None => Ok(true),
-        Some(transactions) => is_true_table(alloc, table, transactions),
+        Some(transactions) => is_true_table(alloc, standings, transactions),
     }
 }

@@ -32,6 +32,6 @@ returns-clause-ok c =
     let obeys = c.in_default.ensures.ok base so_far at (begins_first c.args.log.now c.args.lsn c.requires.from) sound.lawful state in
     let named = c.in_default.ensures.named in (
       sound_more base c.args.count (history c.args.log.now) c.args.lsn (shown c.after-view.result) c.after-view.ensures.next sound named obeys,
-      subst (λ (h : History). IsAuditStateOf base c.args.count h c.note.new.self) (sym c.after-view.ensures.next) (noted base c.args.count so_far at named state),
+      subst (λ (h : History). IsAuditStateOf base c.args.count h c.note.new.self) (sym c.after-view.ensures.next) (noted base c.args.count so_far at named obeys.finish state),
     ))
     c.note.ensures.ok

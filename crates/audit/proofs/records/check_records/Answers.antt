@@ -1,12 +1,12 @@
 use Rattle.std.proofs.Common.{Bool, ◌≡◌, sym, subst, arith}
 use Rattle.std.specs.Prelude.{IfSome, IsTrue, ◌↔◌}
 use Rattle.wal.proofs.Histories.{first_at_base, first_all}
-use Rattle.wal.specs.Records.{History, start, history, first, base_lsn}
-use Rattle.wal.specs.Meaning.{pending}
+use Rattle.wal.specs.Records.{History, start, history, first}
 use Rattle.wal.specs.Checkpoint.{true_table}
 use Rattle.wal.specs.Pages.{base_pages}
 use Rattle.audit.specs.FirstFault.{AreSound}
-use Rattle.audit.specs.Statuses.{status_in, IsTop}
+use Rattle.audit.specs.Statuses.{IsTop}
+use Rattle.audit.specs.Standings.{newest_of, standing_in}
 use Rattle.audit.specs.Passing.{IsAuditStateOf}
 use Rattle.audit.proofs.Noting.{is_top}
 use Rattle.audit.proofs.Passing.{if_some}
@@ -17,8 +17,8 @@ pub check_next-requires-clause-top : goal.check_next-requires-clause-top
 check_next-requires-clause-top c = λ t.
     let so_far = first c.loop-lsn.lsn (history c.args.log.now) in
     let state = c.loop-lsn.invariant.state in
-    subst (λ b. IsTop b c.loop-lsn.audit_state.links.items (status_in c.loop-lsn.audit_state.table t).newest) (sym state.base)
-    (is_top (base_lsn so_far) c.loop-lsn.audit_state.links.items (pending t so_far) (status_in c.loop-lsn.audit_state.table t).newest (state.stands t).pending)
+    subst (λ b. IsTop b c.loop-lsn.audit_state.links.items (newest_of (standing_in c.loop-lsn.audit_state.standings t))) (sym state.base)
+    (is_top c.loop-lsn.audit_state.links.items t so_far (standing_in c.loop-lsn.audit_state.standings t) (state.stands t))
 
 pub returns-in-Err-clause-err : goal.returns-in-Err-clause-err
 returns-in-Err-clause-err c = c.in-Err.ensures.err (base_pages c.args.base.now) c.loop-lsn.invariant.sound c.loop-lsn.invariant.state

@@ -1,8 +1,8 @@
 use Rattle.std.proofs.Common.{ℕ, List, ◌<◌, get_or}
 use Rattle.wal.specs.Records.{History, TableEntry}
-use Rattle.audit.specs.Statuses.{IsStatusOf, status_in}
+use Rattle.audit.specs.Standings.{IsStandingOf, standing_in}
 use Rattle.audit.specs.Checkpoints.{IsTrueEntry}
 use Rattle.audit.proofs.table.entries_are_true.Given as goal
 
 abbrev pub invariant-loop-place : goal.invariant-loop-place
-invariant-loop-place l = (log : History) (links : List ℕ) → ((t : ℕ) → IsStatusOf links t log (status_in l.table t)) → (k : ℕ) (d : TableEntry) → k < l.place → IsTrueEntry log (get_or l.transactions k d)
+invariant-loop-place l = (log : History) (links : List ℕ) → ((t : ℕ) → IsStandingOf links t log (standing_in l.standings t)) → (k : ℕ) (d : TableEntry) → k < l.place → IsTrueEntry log (get_or l.transactions k d)

@@ -1,4 +1,4 @@
-use Rattle.std.proofs.Common.{ℕ, List, ◌≡◌, true, false, Some, None, Option, get_or, eqb, eqb-true, map, unwrap_or, refl, sym, ap, subst, ◌∙◌}
+use Rattle.std.proofs.Common.{ℕ, List, ◌≡◌, true, Some, None, Option, get_or, eqb, eqb-true, map, refl, sym, ap, subst, ◌∙◌}
 use Rattle.std.proofs.lemmas.Bool.{false≢true, both_ways}
 use Rattle.std.proofs.lemmas.Cmp.{nat_eq_equiv}
 use Rattle.std.proofs.lemmas.List.{map_push}
@@ -13,9 +13,9 @@ use Rattle.std.specs.Map.Iter.{deref_pair}
 use Rattle.wal.specs.Records.{History}
 use Rattle.wal.specs.Meaning.{is_unfinished}
 use Rattle.audit.specs.declared.status.Status.{Status}
-use Rattle.audit.specs.Statuses.{IsStatusOf, status_in, unknown}
-use Rattle.audit.proofs.Unfinished.{unfinished_else}
-use Rattle.audit.proofs.table.unfinished_are_listed.Goals.{else-is_unfinished-via-then-is_unfinished+else-not-contains, else-is_unfinished-via-else-is_unfinished}
+use Rattle.audit.specs.Standings.{IsStandingOf, standing_in, standing_by, finish_in}
+use Rattle.audit.proofs.Unfinished.{absent_not_unfinished}
+use Rattle.audit.proofs.table.unfinished_are_listed.Goals.{else-has_begun-via-then-has_begun+else-not-contains, else-has_begun-via-else-has_begun}
 use Rattle.audit.proofs.table.unfinished_are_listed.Goals as goal
 
 pub returns-then-not-contains : goal.returns-then-not-contains
@@ -23,9 +23,9 @@ returns-then-not-contains c = λ log links stands.
     let t : ℕ = c.in-Some.tx.now in
     let turn =
     hash_map_turn deref_pair c.loop-tx.yielded c.into_iter-tx-iterator.result c.loop-tx.tx-iterator c.next.new.self c.next.result (c.in-Some.tx, c.in-Some.status)
-    c.loop-tx.yielded_by c.in-Some.is c.next.ensures.steps {eq = eqb} nat_eq_equiv c.args.table.now c.into_iter-tx-iterator.ensures.into_iter_gives.0 c.into_iter-tx-iterator.ensures.into_iter_gives.4 in
-    let s = subst (λ x. IsStatusOf links t log x) (ap (λ (o : Option Status). unwrap_or o unknown) turn.1) (stands t) in
-    let live : is_unfinished t log ≡ true = sym (c.is_unfinished.ensures t log links s) ∙ c.if-is_unfinished.true in
+    c.loop-tx.yielded_by c.in-Some.is c.next.ensures.steps {eq = eqb} nat_eq_equiv c.args.standings.now.unfinished c.into_iter-tx-iterator.ensures.into_iter_gives.0 c.into_iter-tx-iterator.ensures.into_iter_gives.4 in
+    let s = subst (λ (o : Option Status). IsStandingOf links t log (standing_by o (finish_in c.args.standings.now.finished t))) turn.1 (stands t) in
+    let live : is_unfinished t log ≡ true = sym (c.has_begun.ensures t log links s) ∙ c.if-has_begun.true in
     (λ impossible. absurd (false≢true impossible), λ all. absurd (both_ways (contains eqb c.args.listed.now t) (sym c.contains.ensures ∙ c.if-not-contains.true) (all t live)))
 
 pub loop-tx-preserved : goal.loop-tx-preserved
@@ -33,26 +33,22 @@ loop-tx-preserved c = λ log links stands.
     let t : ℕ = c.in-Some.tx.now in
     let turn =
     hash_map_turn deref_pair c.loop-tx.yielded c.into_iter-tx-iterator.result c.loop-tx.tx-iterator c.next.new.self c.next.result (c.in-Some.tx, c.in-Some.status)
-    c.loop-tx.yielded_by c.in-Some.is c.next.ensures.steps {eq = eqb} nat_eq_equiv c.args.table.now c.into_iter-tx-iterator.ensures.into_iter_gives.0 c.into_iter-tx-iterator.ensures.into_iter_gives.4 in
-    let s = subst (λ x. IsStatusOf links t log x) (ap (λ (o : Option Status). unwrap_or o unknown) turn.1) (stands t) in
-    let is = c.is_unfinished.ensures t log links s in
+    c.loop-tx.yielded_by c.in-Some.is c.next.ensures.steps {eq = eqb} nat_eq_equiv c.args.standings.now.unfinished c.into_iter-tx-iterator.ensures.into_iter_gives.0 c.into_iter-tx-iterator.ensures.into_iter_gives.4 in
+    let s = subst (λ (o : Option Status). IsStandingOf links t log (standing_by o (finish_in c.args.standings.now.finished t))) turn.1 (stands t) in
+    let is = c.has_begun.ensures t log links s in
     let P = λ (e : ℕ × Status). is_unfinished e.0 log ≡ true → contains eqb c.args.listed.now e.0 ≡ true in
     subst (All P) (sym (map_push deref_pair c.loop-tx.yielded (c.in-Some.tx, c.in-Some.status)))
     (All-push P (map deref_pair c.loop-tx.yielded) (t, c.in-Some.status.now) (c.loop-tx.invariant log links stands)
     (λ live.
-    elim c.else-is_unfinished.branch [
-      | else-is_unfinished-via-then-is_unfinished+else-not-contains w ↦ sym w.contains.ensures ∙ w.if-not-contains.false
-      | else-is_unfinished-via-else-is_unfinished w ↦ absurd (both_ways (is_unfinished t log) (sym is ∙ w.if-is_unfinished.false) live)
+    elim c.else-has_begun.branch [
+      | else-has_begun-via-then-has_begun+else-not-contains w ↦ sym w.contains.ensures ∙ w.if-not-contains.false
+      | else-has_begun-via-else-has_begun w ↦ absurd (both_ways (is_unfinished t log) (sym is ∙ w.if-has_begun.false) live)
     ]))
-
--- whom the table does not have has not begun
-absent : (links : List ℕ) (t : ℕ) (log : History) → IsStatusOf links t log unknown → is_unfinished t log ≡ false
-absent links t log h = sym (unfinished_else t log links unknown h refl)
 
 pub returns : goal.returns
 returns c = λ log links stands.
     let gives = c.into_iter-tx-iterator.ensures.into_iter_gives in
-    let entries : List (ℕ × Status) = c.args.table.now.entries in
+    let entries : List (ℕ × Status) = c.args.standings.now.unfinished.entries in
     let all =
     iter_end deref_pair entries c.loop-tx.yielded c.into_iter-tx-iterator.result c.loop-tx.tx-iterator c.next.new.self c.next.result gives.0 c.loop-tx.yielded_by c.in-None.is c.next.ensures.steps in
     let P = λ (e : ℕ × Status). is_unfinished e.0 log ≡ true → contains eqb c.args.listed.now e.0 ≡ true in
@@ -61,14 +57,14 @@ returns c = λ log links stands.
       λ listed. refl,
     )
   where
-    known : (log : History) (links : List ℕ) → ((t : ℕ) → IsStatusOf links t log (status_in c.args.table.now t))
-        → All (λ (e : ℕ × Status). is_unfinished e.0 log ≡ true → contains eqb c.args.listed.now e.0 ≡ true) c.args.table.now.entries
-        → (t : ℕ) → is_unfinished t log ≡ true → (o : Option Status) → lookup (eqb t) c.args.table.now.entries ≡ o → contains eqb c.args.listed.now t ≡ true
+    known : (log : History) (links : List ℕ) → ((t : ℕ) → IsStandingOf links t log (standing_in c.args.standings.now t))
+        → All (λ (e : ℕ × Status). is_unfinished e.0 log ≡ true → contains eqb c.args.listed.now e.0 ≡ true) c.args.standings.now.unfinished.entries
+        → (t : ℕ) → is_unfinished t log ≡ true → (o : Option Status) → lookup (eqb t) c.args.standings.now.unfinished.entries ≡ o → contains eqb c.args.listed.now t ≡ true
     known log links stands each t live None e =
-        let s = subst (λ x. IsStatusOf links t log x) (ap (λ (o : Option Status). unwrap_or o unknown) e) (stands t) in
-        absurd (both_ways (is_unfinished t log) (absent links t log s) live)
+        let s = subst (λ (o : Option Status). IsStandingOf links t log (standing_by o (finish_in c.args.standings.now.finished t))) e (stands t) in
+        absurd (both_ways (is_unfinished t log) (absent_not_unfinished links t log (finish_in c.args.standings.now.finished t) s) live)
     known log links stands each t live (Some s) e =
-        let entries : List (ℕ × Status) = c.args.table.now.entries in
+        let entries : List (ℕ × Status) = c.args.standings.now.unfinished.entries in
         let p = place_from_lookup (eqb t) entries s e in
         let same : t ≡ p.1 = eqb-true t p.1 p.3 in
         let here = each p.0 (p.1, s) (slice_get_within entries p.0 (p.1, s) p.2) in

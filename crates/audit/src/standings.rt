@@ -1,0 +1,87 @@
+//! How the transactions stand: what is known of each unfinished one, and how the others finished.
+
+ghost use Rattle.std.specs.Prelude.{◌≡◌, ℕ, OnOk, IsOkUnless, if◌then◌else◌, is_some, nat_eq};
+ghost use Rattle.std.specs.HashMap.{get};
+ghost use Rattle.page.specs.declared.fault.Fault.TheVariants.{NoResource};
+ghost use Rattle.wal.specs.Meaning.{is_of};
+ghost use Rattle.wal.specs.Content.{shown};
+ghost use Rattle.audit.specs.Statuses.{unknown};
+ghost use Rattle.audit.specs.declared.standing.Standing.TheVariants.{Unfinished};
+ghost use Rattle.audit.specs.Standings.{standing_after, standing_in};
+
+use crate::finish_table::FinishTable;
+use crate::standing::{Standing, standing_after};
+use crate::status::Status;
+use page::Fault;
+use std::alloc::Global;
+use std::collections::HashMap;
+use wal::RecordView;
+
+/// How each transaction stands.
+#[derive(Drop)]
+pub struct Standings {
+    /// Those that have a record and have not finished.
+    pub unfinished: HashMap<u32, Status>,
+    /// Those that have finished.
+    pub finished: FinishTable,
+}
+
+impl Standings {
+    /// Before the first record.
+    pub fn start(alloc: Global) -> Standings
+        ensures { (t : ℕ) → standing_in result t ≡ Unfinished unknown }
+    {
+        Standings {
+            unfinished: HashMap::new(alloc),
+            finished: FinishTable::new(alloc),
+        }
+    }
+
+    /// How a transaction stands.
+    pub fn get(&self, tx: u32) -> Standing
+        ensures { result ≡ standing_in self.now tx }
+    {
+        match self.unfinished.get(&tx) {
+            Some(status) => Standing::Unfinished(*status),
+            None => match self.finished.get(tx) {
+                Some(finish) => Standing::Finished(finish),
+                None => Standing::Unfinished(Status::unknown()),
+            },
+        }
+    }
+
+    /// Whether a transaction is among the unfinished.
+    pub fn has_unfinished(&self, tx: u32) -> bool
+        ensures { result ≡ is_some (get nat_eq self.now.unfinished tx) }
+    {
+        self.unfinished.contains_key(&tx)
+    }
+
+    /// Takes in the record at an LSN, before which its transaction stands so. `below` is what stands
+    /// below its newest pending update. The only error is `NoResource`.
+    pub fn note(
+        &mut self,
+        view: &RecordView,
+        lsn: u64,
+        standing: Standing,
+        below: u64,
+    ) -> Result<(), Fault>
+        ensures ok { OnOk result ((t : ℕ) → standing_in self.new t ≡ (if is_of t (shown view.now)
+            then standing_after (shown view.now) lsn below standing else standing_in self.old t)) }
+        ensures err { IsOkUnless result NoResource }
+    {
+        let Some(tx) = view.tx() else {
+            return Ok(());
+        };
+        match standing_after(standing, view, lsn, below) {
+            Standing::Unfinished(status) => {
+                self.unfinished.insert(tx, status)?;
+            }
+            Standing::Finished(finish) => {
+                self.finished.note(tx, finish)?;
+                self.unfinished.remove(&tx);
+            }
+        }
+        Ok(())
+    }
+}
