@@ -1,6 +1,7 @@
 pub mod Histories
 pub mod Places
 pub mod Loop
+pub mod NextFrame
 pub mod Stretches
 pub mod Fields
 pub mod Rising

@@ -55,6 +55,11 @@ next_at lsn offset bytes =
     else if nat_lt (length bytes) (4 + length_of bytes) then Ok None
     else frame_if_right lsn offset (4 + length_of bytes) (frame_at bytes)
 
+-- the bytes that it takes, without its record
+abbrev pub size_in : Result (Option (LogRecord × ℕ)) Fault → Result (Option ℕ) Fault
+size_in (Ok next) = Ok (option_map (λ x. x.1) next)
+size_in (Err e) = Err e
+
 infixl 10 ◌>>=◌
 abbrev pub ◌>>=◌ : {A B : Type 0} → Result A Fault → (A → Result B Fault) → Result B Fault
 (Ok x) >>= f = f x

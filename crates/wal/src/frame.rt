@@ -5,7 +5,6 @@ ghost use Rattle.page.specs.declared.fault.Fault.TheVariants.{NoResource};
 ghost use Rattle.std.specs.Int.{w32, w64, to_be_bytes};
 ghost use Rattle.wal.specs.Records.{CompensationRecord, PlainRecord, UpdateRecord};
 ghost use Rattle.wal.specs.Reading.{update_at, compensation_at, commit_at, abort_at, end_at, prepare_at, transactions_at, dirties_at, checkpoint_at, fields_at, body_at};
-ghost use Rattle.wal.specs.Frames.{next_at, Gives};
 ghost use Rattle.wal.specs.Spelling.{image, plain, update, compensation, body, frame, checkpoint, table, entry, dirty_page, kind_of, fields, Fits, FitsCheckpoint, FitsTable};
 ghost use Rattle.wal.specs.Content.{content, Keeps, shown};
 ghost use Rattle.page.specs.Image.{FitsSlot};
@@ -125,7 +124,7 @@ fn dirties_at(bytes: &[u8]) -> Option<(DirtyTable, &[u8])>
 }
 
 #[tactic(auto, unfolding(crate::specs::Reading::checkpoint_at))]
-fn checkpoint_at(bytes: &[u8]) -> Option<(RecordView, &[u8])>
+pub fn checkpoint_at(bytes: &[u8]) -> Option<(RecordView, &[u8])>
     ensures { option_map (λ x. (shown x.0, x.1.now)) result ≡ checkpoint_at bytes.now }
 {
     let (begin, rest) = u64_at(bytes)?;
@@ -172,35 +171,6 @@ pub fn body_at(bytes: &[u8]) -> Option<(RecordView, u64)>
                 return None;
             }
             Some((view, lsn))
-        }
-    }
-}
-
-/// The frame in front and how many bytes it takes, None where the whole frames have ended.
-#[inline]
-#[tactic(auto, unfolding(crate::specs::Frames::next_at))]
-pub fn next_at(lsn: u64, offset: usize, bytes: &[u8]) -> Result<Option<(RecordView, usize)>, Fault>
-    ensures { Gives (λ next. option_map (λ x. (shown x.0, x.1)) next) result
-        (next_at lsn offset bytes.now) }
-{
-    if bytes.len() < 4 {
-        return Ok(None);
-    }
-    let (front, rest) = bytes.split_at(4);
-    let size = u32::from_be_bytes([front[0], front[1], front[2], front[3]]) as usize;
-    if size < SMALLEST_BODY || size > LARGEST_BODY {
-        return Err(Fault::BadLength(offset as u64));
-    }
-    if rest.len() < size {
-        return Ok(None);
-    }
-    match body_at(&rest[..size]) {
-        None => Err(Fault::BadRecord(offset as u64)),
-        Some((view, own)) => {
-            if own != lsn {
-                return Err(Fault::BadLsn(offset as u64));
-            }
-            Ok(Some((view, 4 + size)))
         }
     }
 }

@@ -14,6 +14,7 @@ mod header;
 mod image;
 mod laws;
 mod log;
+mod next;
 mod offsets;
 mod reading;
 mod record;

@@ -6,8 +6,8 @@ ghost use Rattle.wal.specs.Headers.{header_bytes, FitsStart};
 ghost use Rattle.wal.specs.Frames.{ArePlaces, record_of, frames_behind, Gives};
 ghost use Rattle.wal.specs.Stretches.{IsStretch, ReadSoFar};
 
-use crate::frame::next_at;
 use crate::header::LogStart;
+use crate::next::next_at;
 use crate::offsets::Offsets;
 use crate::stretch::{SMALLEST_STRETCH, Stretch, stretch_from, stretches_of};
 use page::Fault;
@@ -33,7 +33,7 @@ fn offsets_behind(
         let (_, rest) = bytes.split_at(offset);
         match next_at(begins.base() + number as u64 + 1, offset, rest)? {
             None => return Ok((offsets, rest.len())),
-            Some((_, size)) => {
+            Some(size) => {
                 offsets.push(offset)?;
                 offset += size;
             }

@@ -6,8 +6,8 @@ ghost use Rattle.wal.specs.Headers.{header_bytes};
 ghost use Rattle.wal.specs.Stretches.{IsStretch, IfStretch, LeavesRoom};
 
 use crate::field::u64_at;
-use crate::frame::next_at;
 use crate::header::LogStart;
+use crate::next::next_at;
 use crate::offsets::Offsets;
 use page::Fault;
 use std::alloc::Global;
@@ -52,7 +52,7 @@ pub fn stretch_from(
             break;
         }
         let (_, rest) = bytes.split_at(end);
-        let Ok(Some((_, size))) = next_at(lsn + number as u64, end, rest) else {
+        let Ok(Some(size)) = next_at(lsn + number as u64, end, rest) else {
             break;
         };
         offsets.push(end)?;

@@ -1,10 +1,10 @@
-use Rattle.std.proofs.Common.{◌≡◌, ◌+◌, ◌++◌, ◌∷◌, [], map, length, length-append, drop, ap, sym, subst, ◌∙◌, arith, Ok, None, Some, option_map}
+use Rattle.std.proofs.Common.{◌≡◌, ◌+◌, ◌++◌, ◌∷◌, [], map, length, length-append, drop, ap, sym, subst, ◌∙◌, arith, ℕ, Option, Ok, None, Some}
 use Rattle.std.proofs.lemmas.Result.{err_from_is_err_and}
 use Rattle.std.proofs.lemmas.List.{length-drop}
 use Rattle.wal.specs.Records.{lsn_before}
-use Rattle.wal.specs.Frames.{record_of, next_at, frames_behind, Fails}
+use Rattle.wal.specs.Frames.{record_of, next_at, size_in, frames_behind, Fails}
 use Rattle.wal.specs.Stretches.{ReadSoFar}
-use Rattle.wal.specs.Content.{shown}
+use Rattle.wal.proofs.NextFrame.{sized, unsized, fails_sized}
 use Rattle.wal.proofs.Loop.{more, fails, ends, is_done, still}
 use Rattle.wal.proofs.reading.offsets_behind.Goals as goal
 
@@ -13,7 +13,9 @@ returns-in_err-next_at-clause-read c =
     let l = c.loop-number in
     let bytes = c.args.bytes.now in
     let p = err_from_is_err_and c.from_residual.result c.from_residual.ensures.1 in
-    let e = subst (λ rest. Fails c.in_err-next_at.field-0.0 (next_at (lsn_before c.args.begins + l.number + 1) l.offset rest)) c.split_at.ensures.back (subst (λ b. Fails c.in_err-next_at.field-0.0 (next_at (b + l.number + 1) l.offset c.split_at.result.1.now)) c.base.ensures c.in_err-next_at.ensures) in
+    let e =
+    fails_sized (next_at (lsn_before c.args.begins + l.number + 1) l.offset (drop l.offset bytes)) c.in_err-next_at.field-0.0
+    (subst (λ rest. Fails c.in_err-next_at.field-0.0 (size_in (next_at (lsn_before c.args.begins + l.number + 1) l.offset rest))) c.split_at.ensures.back (subst (λ b. Fails c.in_err-next_at.field-0.0 (size_in (next_at (b + l.number + 1) l.offset c.split_at.result.1.now))) c.base.ensures c.in_err-next_at.ensures)) in
     rw (p.1, p.2) (fails c.in_err-next_at.field-0.0 (map (record_of bytes) l.offsets) (length bytes) l.number (lsn_before c.args.begins + l.number + 1) l.offset (drop l.offset bytes) (frames_behind c.args.begins bytes) c.loop-number-test.true e
     (still c.args.begins bytes l.offsets l.offset l.number l.invariant.0 l.invariant.1))
 
@@ -21,7 +23,9 @@ pub returns-in-None-clause-read : goal.returns-in-None-clause-read
 returns-in-None-clause-read c =
     let l = c.loop-number in
     let bytes = c.args.bytes.now in
-    let e : next_at (lsn_before c.args.begins + l.number + 1) l.offset (drop l.offset bytes) ≡ Ok None = ap (next_at (lsn_before c.args.begins + l.number + 1) l.offset) (sym c.split_at.ensures.back) ∙ ap (λ b. next_at (b + l.number + 1) l.offset c.split_at.result.1.now) (sym c.base.ensures) ∙ c.in_ok-next_at.ensures ∙ ap (λ o. Ok (option_map (λ x. (shown x.0, x.1)) o)) c.in-None.is in
+    let e : next_at (lsn_before c.args.begins + l.number + 1) l.offset (drop l.offset bytes) ≡ Ok None =
+    unsized (next_at (lsn_before c.args.begins + l.number + 1) l.offset (drop l.offset bytes))
+    (ap (λ rest. size_in (next_at (lsn_before c.args.begins + l.number + 1) l.offset rest)) (sym c.split_at.ensures.back) ∙ ap (λ b. size_in (next_at (b + l.number + 1) l.offset c.split_at.result.1.now)) (sym c.base.ensures) ∙ c.in_ok-next_at.ensures ∙ ap (λ (o : Option ℕ). Ok o) c.in-None.is) in
     ends (map (record_of bytes) l.offsets) (length bytes) l.number (lsn_before c.args.begins + l.number + 1) l.offset (drop l.offset bytes) (frames_behind c.args.begins bytes) c.loop-number-test.true e
     (still c.args.begins bytes l.offsets l.offset l.number l.invariant.0 l.invariant.1)
     ∙ ap (λ n. Ok (map (record_of bytes) l.offsets, n)) (ap length (sym c.split_at.ensures.back))
@@ -31,8 +35,10 @@ one_more : (c : goal.In_ok-push-in-Some) → ReadSoFar c.args.begins c.args.byte
 one_more c =
     let l = c.loop-number in
     let bytes = c.args.bytes.now in
-    let e : next_at (lsn_before c.args.begins + l.number + 1) l.offset (drop l.offset bytes) ≡ Ok (Some (shown c.in-Some.field-0-0, c.in-Some.size)) = ap (next_at (lsn_before c.args.begins + l.number + 1) l.offset) (sym c.split_at.ensures.back) ∙ ap (λ b. next_at (b + l.number + 1) l.offset c.split_at.result.1.now) (sym c.base.ensures) ∙ c.in_ok-next_at.ensures ∙ ap (λ o. Ok (option_map (λ x. (shown x.0, x.1)) o)) c.in-Some.is in
-    more c.args.begins bytes l.offsets l.offset (shown c.in-Some.field-0-0) c.in-Some.size l.invariant.0 (subst (λ n. next_at (lsn_before c.args.begins + n + 1) l.offset (drop l.offset bytes) ≡ Ok (Some (shown c.in-Some.field-0-0, c.in-Some.size))) (sym l.invariant.1) e)
+    let there =
+    sized (next_at (lsn_before c.args.begins + l.number + 1) l.offset (drop l.offset bytes)) c.in-Some.size
+    (ap (λ rest. size_in (next_at (lsn_before c.args.begins + l.number + 1) l.offset rest)) (sym c.split_at.ensures.back) ∙ ap (λ b. size_in (next_at (b + l.number + 1) l.offset c.split_at.result.1.now)) (sym c.base.ensures) ∙ c.in_ok-next_at.ensures ∙ ap (λ (o : Option ℕ). Ok o) c.in-Some.is) in
+    more c.args.begins bytes l.offsets l.offset there.0 c.in-Some.size l.invariant.0 (subst (λ n. next_at (lsn_before c.args.begins + n + 1) l.offset (drop l.offset bytes) ≡ Ok (Some (there.0, c.in-Some.size))) (sym l.invariant.1) there.1)
 
 pub overflow_add-offset : goal.overflow_add-offset
 overflow_add-offset c = omega (arith, (one_more c).room)

@@ -1,0 +1,124 @@
+//! The frame in front: whether there is one, and how many bytes it takes. All of it is read, and no
+//! more of the record kept than its LSN.
+
+ghost use Rattle.std.specs.Prelude.{◌≡◌, option_map};
+ghost use Rattle.wal.specs.Reading.{update_at, compensation_at, plain_at, checkpoint_at, fields_at, body_at};
+ghost use Rattle.wal.specs.Frames.{next_at, size_in, Gives};
+
+use crate::field::{image_at, plain_at, slot_at, u32_at, u64_at};
+use crate::frame::checkpoint_at;
+use crate::sizes::{LARGEST_BODY, SMALLEST_BODY};
+use page::Fault;
+
+/// What stands behind the fields of an update.
+#[inline(always)]
+#[tactic(auto, unfolding(crate::specs::Reading::update_at))]
+fn update_end(bytes: &[u8]) -> Option<&[u8]>
+    ensures { option_map (λ s. s.now) result ≡ option_map (λ x. x.1) (update_at bytes.now) }
+{
+    let (_, _, rest) = plain_at(bytes)?;
+    let (_, rest) = u32_at(rest)?;
+    let (_, rest) = slot_at(rest)?;
+    let (_, rest) = image_at(rest)?;
+    let (_, rest) = image_at(rest)?;
+    Some(rest)
+}
+
+/// What stands behind the fields of a CLR.
+#[inline(always)]
+#[tactic(auto, unfolding(crate::specs::Reading::compensation_at))]
+fn compensation_end(bytes: &[u8]) -> Option<&[u8]>
+    ensures { option_map (λ s. s.now) result
+        ≡ option_map (λ x. x.1) (compensation_at bytes.now) }
+{
+    let (_, _, rest) = plain_at(bytes)?;
+    let (_, rest) = u32_at(rest)?;
+    let (_, rest) = slot_at(rest)?;
+    let (_, rest) = u64_at(rest)?;
+    let (_, rest) = image_at(rest)?;
+    Some(rest)
+}
+
+/// What stands behind the fields of a commit, an abort, an end or a prepare.
+#[inline(always)]
+fn plain_end(bytes: &[u8]) -> Option<&[u8]>
+    ensures { option_map (λ s. s.now) result ≡ option_map (λ x. x.1) (plain_at bytes.now) }
+{
+    let (_, _, rest) = plain_at(bytes)?;
+    Some(rest)
+}
+
+/// What stands behind the fields of a checkpoint end.
+fn checkpoint_end(bytes: &[u8]) -> Option<&[u8]>
+    ensures { option_map (λ s. s.now) result ≡ option_map (λ x. x.1) (checkpoint_at bytes.now) }
+{
+    let (_, rest) = checkpoint_at(bytes)?;
+    Some(rest)
+}
+
+/// What stands behind the fields of a record of this kind.
+#[inline(always)]
+#[tactic(auto, unfolding(crate::specs::Reading::fields_at))]
+fn fields_end(kind: u8, bytes: &[u8]) -> Option<&[u8]>
+    ensures { option_map (λ s. s.now) result ≡ option_map (λ x. x.1) (fields_at kind bytes.now) }
+{
+    match kind {
+        1 => update_end(bytes),
+        2 => compensation_end(bytes),
+        3 => plain_end(bytes),
+        4 => plain_end(bytes),
+        5 => plain_end(bytes),
+        6 => Some(bytes),
+        7 => checkpoint_end(bytes),
+        8 => plain_end(bytes),
+        _ => None,
+    }
+}
+
+/// The LSN of the record that these bytes spell, all of them.
+#[inline(always)]
+#[tactic(auto, unfolding(crate::specs::Reading::body_at))]
+fn body_lsn(bytes: &[u8]) -> Option<u64>
+    ensures { result ≡ option_map (λ x. x.1) (body_at bytes.now) }
+{
+    match bytes {
+        [] => None,
+        [kind, rest @ ..] => {
+            let (lsn, rest) = u64_at(rest)?;
+            let rest = fields_end(*kind, rest)?;
+            if !rest.is_empty() {
+                return None;
+            }
+            Some(lsn)
+        }
+    }
+}
+
+/// How many bytes the frame in front takes, which is to have this LSN; None where the whole frames
+/// have ended.
+#[inline]
+#[tactic(auto, using(crate::proofs::NextFrame::size_of_none, crate::proofs::NextFrame::size_of_other, crate::proofs::NextFrame::size_of_right), unfolding(crate::specs::Frames::next_at))]
+pub fn next_at(lsn: u64, offset: usize, bytes: &[u8]) -> Result<Option<usize>, Fault>
+    ensures { Gives (λ size. size) result (size_in (next_at lsn offset bytes.now)) }
+{
+    if bytes.len() < 4 {
+        return Ok(None);
+    }
+    let (front, rest) = bytes.split_at(4);
+    let size = u32::from_be_bytes([front[0], front[1], front[2], front[3]]) as usize;
+    if size < SMALLEST_BODY || size > LARGEST_BODY {
+        return Err(Fault::BadLength(offset as u64));
+    }
+    if rest.len() < size {
+        return Ok(None);
+    }
+    match body_lsn(&rest[..size]) {
+        None => Err(Fault::BadRecord(offset as u64)),
+        Some(own) => {
+            if own != lsn {
+                return Err(Fault::BadLsn(offset as u64));
+            }
+            Ok(Some(4 + size))
+        }
+    }
+}
