@@ -1,12 +1,12 @@
 -- What the first round has seen, in the words of redo's contract.
-use Rattle.std.proofs.Common.{◌≡◌, ℕ, zero, suc, ◌-◌, ◌<◌, ◌≤◌, min, List, Some, length, refl, ap, ◌∙◌, cond, ne_eqb, arith, max}
+use Rattle.std.proofs.Common.{◌≡◌, ℕ, zero, suc, ◌-◌, ◌<◌, ◌≤◌, min, List, Some, length, refl, ap, ◌∙◌, subst, cond, ne_eqb, arith, max}
 use Rattle.page.specs.declared.fault.Fault.{Fault}
 use Rattle.page.specs.declared.fault.Fault.TheVariants.{NoResource, NoSuchPage}
 use Rattle.wal.specs.Records.{LogRecord, history, record_at, last_lsn, LogContent, base_lsn}
 use Rattle.wal.proofs.Histories.{record_within, base_within, record_above}
 use Rattle.redo.specs.declared.route.Route.{Route}
 use Rattle.redo.specs.Inputs.{InputContent}
-use Rattle.redo.specs.Routes.{skipped, skipped_in, RoundFault, AreRoutes}
+use Rattle.redo.specs.Routes.{skipped, skipped_in, ExistWithin, RoundFault, AreRoutes}
 use Rattle.redo.specs.Redone.{AreWorkers, IsLookedAt, AllExist, RedoFault}
 use Rattle.redo.proofs.Stretches.{boundary_last, skipped_within}
 use Rattle.redo.proofs.Routes.{all_exist}
@@ -27,12 +27,17 @@ not_skipped base (suc n) len lsn h above within = let from = h.1 in let e = skip
 in_log : (log : LogContent) (lsn : ℕ) (r : LogRecord) → record_at (history log) lsn ≡ Some r → lsn ≤ last_lsn (history log)
 in_log log lsn r e = record_within (history log) lsn r e
 
-pub exist_all : (input : InputContent) (routes : List Route) → AreRoutes input routes → AllExist input.log (length input.images) input.redo_lsn
-exist_all input routes are lsn r looked found =
+-- where all exist that are not skipped, all exist that are looked at
+pub exist_looked : (input : InputContent) → ExistWithin input.log (length input.images) (skipped_in input) (last_lsn (history input.log)) → AllExist input.log (length input.images) input.redo_lsn
+exist_looked input exist lsn r looked found =
     let within = in_log input.log lsn r found in
+    exist lsn r (not_skipped (base_lsn (history input.log)) input.redo_lsn (last_lsn (history input.log)) lsn looked (record_above (history input.log) lsn r found) within) within found
+
+pub exist_all : (input : InputContent) (routes : List Route) → AreRoutes input routes → AllExist input.log (length input.images) input.redo_lsn
+exist_all input routes are =
     let len = last_lsn (history input.log) in
     let last = boundary_last (skipped_in input) len (length routes) (skipped_within (base_lsn (history input.log)) input.redo_lsn len (base_within (history input.log))) are.some in
-    all_exist input routes are lsn r (not_skipped (base_lsn (history input.log)) input.redo_lsn len lsn looked (record_above (history input.log) lsn r found) within) (omega (arith, within, last)) found
+    exist_looked input (subst (ExistWithin input.log (length input.images) (skipped_in input)) last (all_exist input routes are))
 
 pub round_fault : (input : InputContent) (workers : ℕ) (e : Fault) → AreWorkers workers → RoundFault input e → RedoFault input.log (length input.images) input.redo_lsn workers e
 round_fault input workers NoResource fit cause = tt

@@ -1,6 +1,7 @@
 -- Tallies put to the numbers of their pages, and pages made by them.
-use Rattle.std.proofs.Common.{◌≡◌, ◌≢◌, ℕ, suc, ◌+◌, ◌<◌, ◌⊎◌, false, List, [], ◌∷◌, ◌++◌, All, Contains, Some, map, length, get_or, set, refl, sym, ap, ap₂, ◌∙◌, subst, inl, inr, arith, length-append}
-use Rattle.std.specs.List.{slice_get}
+use Rattle.std.proofs.Common.{◌≡◌, ◌≢◌, ℕ, suc, ◌+◌, ◌<◌, ◌⊎◌, false, List, [], ◌∷◌, ◌++◌, All, Contains, Some, map, sum, take, drop, length, get_or, set, refl, sym, ap, ap₂, ◌∙◌, subst, inl, inr, arith, length-append}
+use Rattle.std.specs.List.{slice_get, sum_by}
+use Rattle.std.proofs.lemmas.List.Sums.{sum-map}
 use Rattle.std.proofs.lemmas.Bool.{cases_eq}
 use Rattle.std.proofs.lemmas.List.{get_or-set_same, get_or-set_other, length-set, length-map, get_or-map, get_or-append-add}
 use Rattle.std.proofs.lemmas.List.Elements.{Contains-append_cases}
@@ -12,7 +13,7 @@ use Rattle.redo.specs.Inputs.{InputContent}
 use Rattle.redo.specs.declared.crew.Share.{Share}
 use Rattle.redo.specs.declared.tally.Tally.{Tally}
 use Rattle.redo.specs.Parts.{redo_page_in, image_at, resolved, IsDone, HasPage, IsTallied, AreTallied, IsBack}
-use Rattle.redo.proofs.Reading.{get_more, get_split, get_same}
+use Rattle.redo.proofs.Reading.{get_more, get_split, get_same, written_back}
 use Rattle.redo.specs.Changes.{RedoPage, finished}
 
 -- PLACES OF A LIST THAT IS WRITTEN
@@ -132,3 +133,19 @@ module _ (input : InputContent) (tallies : List Tally) (tallied : (number : ℕ)
       ∙ ap (λ (t : Tally). t.applied) (get_or_from_slice_get tallies k is.tally is.tally is.at)
       ∙ ap (λ p. p.applied) is.redone
       ∙ ap (λ i. (redo_page_in input (history input.log) i).applied) (get_same input.images k is.image image is.there e)))
+
+  -- so are all of them, where they were lent and written back
+  pub pages_back : (n : ℕ) (items lent pages : List Page) (told : List Tally) → items ≡ input.images → length items ≡ n → lent ≡ items → told ≡ tallies → length pages ≡ length lent
+      → ((number : ℕ) (t : Tally) (image : Page) → number < length lent → get_or pages number image ≡ finished (history input.log) (get_or told number t) (get_or lent number image))
+      → take n (pages ++ drop (length pages) items) ≡ map (λ image. (redo_page_in input (history input.log) image).page) input.images
+  pages_back n items lent pages told stored size written is count each =
+      let same : lent ≡ input.images = written ∙ stored in
+      written_back n items pages (count ∙ (ap (λ (xs : List Page). length xs) written ∙ size))
+      ∙ pages_are pages (count ∙ ap (λ (xs : List Page). length xs) same)
+      (λ number t image less.
+      each number t image (omega (arith, less, ap (λ (xs : List Page). length xs) same))
+      ∙ (ap (λ (ts : List Tally). finished (history input.log) (get_or ts number t) (get_or lent number image)) is ∙ ap (λ (xs : List Page). finished (history input.log) (get_or tallies number t) (get_or xs number image)) same))
+
+  -- and their counts, added up
+  pub total_is : (told : List Tally) → told ≡ tallies → length tallies ≡ length input.images → sum_by (λ t. t.applied) told ≡ sum (map (λ image. (redo_page_in input (history input.log) image).applied) input.images)
+  total_is told is same = ap (sum_by (λ (t : Tally). t.applied)) is ∙ (sym (sum-map (λ (t : Tally). t.applied) tallies) ∙ ap sum (counts_are same))

@@ -15,3 +15,4 @@ pub mod Gathered
 pub mod Totals
 pub mod Causes
 pub mod Missing
+pub mod OnePass

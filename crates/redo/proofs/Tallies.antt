@@ -28,7 +28,7 @@ positive log zero r there = absurd (none (sym (record_none log zero (inl (omega 
 positive log (suc n) r there = ne_eqb (suc n) 0 (λ e. omega (arith, e))
 
 -- a record in a cell of a page puts its image there
-does : (redo_lsn lsn : ℕ) (r : LogRecord) (page slot : ℕ) → cell_of r ≡ Some (page, slot) → (p : RedoPage) → page ≡ p.page.number → advance redo_lsn lsn r p ≡ put redo_lsn lsn slot (image_of r) p
+pub does : (redo_lsn lsn : ℕ) (r : LogRecord) (page slot : ℕ) → cell_of r ≡ Some (page, slot) → (p : RedoPage) → page ≡ p.page.number → advance redo_lsn lsn r p ≡ put redo_lsn lsn slot (image_of r) p
 does redo_lsn lsn r page slot e p here = by (change_of r) e
   where
     by : (o : Option Change) → ◌≡◌ {A = Option (ℕ × ℕ)} (option_map (λ c. (c.page, c.slot)) o) (Some (page, slot)) → changed_by redo_lsn lsn o p ≡ put redo_lsn lsn slot (image_put o) p

@@ -5,4 +5,5 @@ pub mod Changes
 pub mod Inputs
 pub mod Routes
 pub mod Parts
+pub mod OnePass
 pub mod Redone

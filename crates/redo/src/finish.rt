@@ -39,6 +39,19 @@ fn finish_page(log: &Log, tally: &Tally, page: &mut Page)
     fill(log, &tally.lasts, &mut page.slots);
 }
 
+/// Makes of the pages of the store those that their tallies tell of, in the thread of the caller.
+pub fn finish_alone(log: &Log, tallies: &[Tally], pages: &mut [Page])
+    requires count { length tallies.now ≡ length pages.old }
+    ensures count { length pages.new ≡ length pages.old }
+    ensures each { (number : ℕ) (t : Tally) (image : Page) → number < length pages.old
+        → slice_index_or pages.new number image ≡ finished
+        (history log.now) (slice_index_or tallies.now number t) (slice_index_or pages.old number image) }
+{
+    for number in 0..pages.len() {
+        finish_page(log, &tallies[number], &mut pages[number]);
+    }
+}
+
 /// Makes of the pages of the store those that their tallies tell of, in as many threads as this.
 pub fn finish_pages<R: Threads + Sync>(
     rt: &R,

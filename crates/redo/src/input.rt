@@ -1,7 +1,8 @@
 //! What the first two rounds of redo look at.
 
 ghost use Rattle.std.specs.Prelude.{◌≡◌, length};
-ghost use Rattle.redo.specs.Routes.{skipped_in};
+ghost use Rattle.wal.specs.Records.{history, base_lsn, last_lsn};
+ghost use Rattle.redo.specs.Routes.{skipped, skipped_in};
 
 use crate::Parting;
 use analysis::Tables;
@@ -29,6 +30,19 @@ impl<'a> Model for RedoInput<'a> {
     ghost invariant = { IsInput };
 }
 
+/// The LSN up to which redo does not look at records: the one below `redo_lsn`; the log's base LSN
+/// where `redo_lsn` is not above that; the log's last where `redo_lsn` is 0 or behind it.
+pub fn skipped(log: &Log, redo_lsn: u64) -> u64
+    ensures { result ≡ skipped (base_lsn (history log.now)) redo_lsn (last_lsn (history log.now)) }
+{
+    let last = log.last();
+    if redo_lsn == 0 {
+        last
+    } else {
+        last.min(redo_lsn - 1).max(log.base())
+    }
+}
+
 impl<'a> RedoInput<'a> {
     /// The LSN from which redo looks at records, 0 where it looks at none.
     pub fn redo_lsn(&self) -> u64
@@ -38,17 +52,10 @@ impl<'a> RedoInput<'a> {
         tables.redo_lsn
     }
 
-    /// The LSN up to which redo does not look at records: the one below redo_lsn; the log's base LSN
-    /// where redo_lsn is not above that; the log's last where redo_lsn is 0 or behind it.
+    /// The LSN up to which redo does not look at records.
     pub fn skipped(&self) -> u64
         ensures { result ≡ skipped_in self.now }
     {
-        let redo_lsn = self.redo_lsn();
-        let last = self.log.last();
-        if redo_lsn == 0 {
-            last
-        } else {
-            last.min(redo_lsn - 1).max(self.log.base())
-        }
+        skipped(self.log, self.redo_lsn())
     }
 }

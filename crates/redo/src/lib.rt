@@ -10,15 +10,18 @@ mod input;
 mod laws;
 mod lists;
 mod note;
+mod one_pass;
 mod part;
 mod parting;
 mod redone;
 mod rounds;
 mod route;
 mod tally;
+mod unthreaded;
 
 pub use gate::{Gate, OpenGate};
 pub use laws::{no_fault_of_redo, one_redo_fault};
 pub use parting::Parting;
 pub use redone::Redone;
 pub use rounds::{WORKERS, are_workers, redo, redo_in_place};
+pub use unthreaded::redo_alone;

@@ -42,7 +42,7 @@ fn page_lsn(input: &RedoInput, number: u32) -> u64
 }
 
 /// A page to which no record was applied.
-fn begin_page(input: &RedoInput, number: u32) -> Tally
+pub fn begin_page(input: &RedoInput, number: u32) -> Tally
     ensures { resolved input.now result
         ≡ redo_page_in input.now (start (base_lsn (history input.now.log)))
         (image_at input.now.images number) }
@@ -70,7 +70,7 @@ fn begin(alloc: Global, input: &RedoInput, part: u32) -> Result<Vec<Tally>, Faul
 }
 
 /// Counts the record at an LSN for the page at a place, if the page lacks it.
-fn count_at(tallies: &mut [Tally], place: usize, redo_lsn: u64, lsn: u64, slot: usize)
+pub fn count_at(tallies: &mut [Tally], place: usize, redo_lsn: u64, lsn: u64, slot: usize)
     requires place { place < length tallies.old }
     requires slot { slot < SLOTS }
     requires room { All (λ t. t.applied + 1 < 2 ^ 64) tallies.old }

@@ -9,9 +9,10 @@ ghost use Rattle.redo.specs.Redone.{redone_page, applied_to, AreWorkers, AllExis
 
 use crate::crew::{Share, deal, run};
 use crate::finish::{finish_pages, total};
-use crate::gate::Gate;
+use crate::gate::{Gate, enter_all};
 use crate::gather::tallies_of;
 use crate::input::RedoInput;
+use crate::one_pass::tallied_alone;
 use crate::route::{Route, routes};
 use crate::tally::Tally;
 use crate::{Parting, Redone};
@@ -57,7 +58,7 @@ fn second_round<G: Gate, R: Threads + Sync>(
 }
 
 /// The first two rounds of workers, who leave the store as it is: the tallies of its pages.
-fn tallied<G: Gate, R: Threads + Sync>(
+fn tallied_in_rounds<G: Gate, R: Threads + Sync>(
     rt: &R,
     alloc: Global,
     input: &RedoInput,
@@ -82,7 +83,35 @@ fn tallied<G: Gate, R: Threads + Sync>(
     Ok(tallies)
 }
 
-/// The first two rounds on a store.
+/// The tallies of the pages of the store, which is left as it is: by one pass over the records where
+/// there is one worker, whose gate is told of all parts before that, else by two rounds of workers.
+fn tallied<G: Gate, R: Threads + Sync>(
+    rt: &R,
+    alloc: Global,
+    input: &RedoInput,
+    workers: u32,
+    gate: &G,
+) -> Result<Vec<Tally>, Fault>
+    requires dealt { length input.now.parting.part_of ≡ length input.now.images }
+    requires workers { AreWorkers workers }
+    ensures count { IfOk result (λ tallies. length tallies.items ≡ length input.now.images) }
+    ensures tallied { IfOk result (λ tallies. (number : ℕ) → number < length input.now.images
+        → IsTallied input.now tallies.items number) }
+    ensures exist { OnOk result (AllExist input.now.log (length input.now.images) input.now.redo_lsn) }
+    ensures fault { IfErr result
+        (RedoFault input.now.log (length input.now.images) input.now.redo_lsn workers) }
+{
+    if workers == 1 {
+        enter_all(gate, input.parting.parts());
+        return match tallied_alone(alloc, input) {
+            Ok(tallies) => Ok(tallies),
+            Err(fault) => Err(fault),
+        };
+    }
+    tallied_in_rounds(rt, alloc, input, workers, gate)
+}
+
+/// The tallies of the pages of a store.
 fn tallies_over<G: Gate, R: Threads + Sync>(
     rt: &R,
     alloc: Global,
@@ -164,8 +193,9 @@ pub fn redo_in_place<G: Gate, R: Threads + Sync>(
 /// its stretch of the log and notes, for each part of the parting, the LSNs of the records on that
 /// part's pages. In the second each draws parts from a board, calls the gate once for each, and finds
 /// which of the records noted for it each page lacks. In the third each puts the values of the last
-/// of these into a share of the pages. Whatever the workers, the parting and the gate, the outcome is
-/// the same.
+/// of these into a share of the pages. One worker starts no thread, calls the gate for each part, and
+/// finds in one pass over the log what the first two rounds find. Whatever the workers, the parting
+/// and the gate, the outcome is the same.
 ///
 /// Refuses by [`Fault::BadWorkers`] where `workers` is outside 1 to 64; then by
 /// [`Fault::NoSuchPage`] with the LSN of the first record from `redo_lsn` on that is on a page

@@ -23,6 +23,16 @@ pub struct Tally {
     pub lasts: [u64; SLOTS],
 }
 
+/// Whether redo applies the record at an LSN to a page that has this RecLSN and PageLSN.
+pub fn is_redone(rec_lsn: Option<u64>, redo_lsn: u64, page_lsn: u64, lsn: u64) -> bool
+    ensures { result ≡ is_redone rec_lsn redo_lsn page_lsn lsn }
+{
+    match rec_lsn {
+        Some(rec_lsn) => rec_lsn <= lsn && redo_lsn != 0 && redo_lsn <= lsn && page_lsn < lsn,
+        None => false,
+    }
+}
+
 impl Tally {
     /// A page to which no record was applied.
     pub fn begin(number: u32, lsn: u64, rec_lsn: Option<u64>) -> Tally
@@ -38,25 +48,13 @@ impl Tally {
         }
     }
 
-    /// Whether the page lacks the record at this LSN and redo is to apply it.
-    fn lacks(&self, redo_lsn: u64, lsn: u64) -> bool
-        ensures { result ≡ is_redone self.now.rec_lsn redo_lsn self.now.lsn lsn }
-    {
-        match self.rec_lsn {
-            Some(rec_lsn) => {
-                rec_lsn <= lsn && redo_lsn != 0 && redo_lsn <= lsn && self.lsn < lsn
-            }
-            None => false,
-        }
-    }
-
     /// Counts the record at this LSN, which is in a slot, if the page lacks it.
     pub fn count(&mut self, redo_lsn: u64, lsn: u64, slot: usize)
         requires slot { slot < SLOTS }
         requires room { self.old.applied + 1 < 2 ^ 64 }
         ensures { self.new ≡ counted redo_lsn lsn slot self.old }
     {
-        if self.lacks(redo_lsn, lsn) {
+        if is_redone(self.rec_lsn, redo_lsn, self.lsn, lsn) {
             self.lasts[slot] = lsn;
             self.lsn = lsn;
             self.applied += 1;

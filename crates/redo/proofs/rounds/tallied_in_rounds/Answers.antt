@@ -1,5 +1,5 @@
 use Rattle.redo.proofs.Causes.{round_fault, exist_all}
-use Rattle.redo.proofs.rounds.tallied.Goals as goal
+use Rattle.redo.proofs.rounds.tallied_in_rounds.Goals as goal
 
 pub returns-in-Err-clause-fault : goal.returns-in-Err-clause-fault
 returns-in-Err-clause-fault g c = round_fault c.args.input.now c.args.workers c.in-Err.fault c.requires.workers c.in-Err.ensures.fault

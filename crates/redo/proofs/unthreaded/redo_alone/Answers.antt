@@ -1,0 +1,41 @@
+use Rattle.std.proofs.Common.{◌≡◌, ℕ, ◌%◌, List, length, sum, map, sym, ap, subst, ◌∙◌, arith}
+use Rattle.std.specs.List.{sum_by}
+use Rattle.std.proofs.lemmas.List.FromFn.{length-map-range_with_len}
+use Rattle.page.specs.Store.{AreNumbered}
+use Rattle.wal.specs.Records.{history}
+use Rattle.wal.proofs.Histories.{size_of_log}
+use Rattle.redo.specs.declared.tally.Tally.{Tally}
+use Rattle.redo.specs.Inputs.{InputContent, input_over}
+use Rattle.redo.specs.Redone.{applied_to}
+use Rattle.redo.proofs.Gathered.{pages_back, total_is}
+use Rattle.redo.proofs.Totals.{applied_once}
+use Rattle.redo.proofs.unthreaded.redo_alone.Goals as goal
+
+pub tallies_over-requires : goal.tallies_over-requires
+tallies_over-requires c = record {
+  pages = ap (λ (xs : List ℕ). length xs) c.in-Ok.ensures.ok.1
+      ∙ (length-map-range_with_len (λ page. page % 1) 0 c.len.result ∙ omega (arith, c.len.ensures, c.store.inside.pages.ok.0, ap (λ s. length s.pages) c.store.view_is));
+}
+
+pub total-applied-requires : goal.total-applied-requires
+total-applied-requires c =
+    let log = c.args.log.now in
+    let tables = c.args.tables.now in
+    let images = c.args.store.pages in
+    let input : InputContent = input_over log images tables c.in-Ok.parting in
+    let stored : c.store.inside.pages.items ≡ images = ap (λ s. s.pages) c.store.view_is in
+    let told : sum_by (λ (t : Tally). t.applied) c.deref.result.now ≡ sum (map (applied_to log tables) images) = total_is input c.in-Ok-tallies_over.tallies.items c.in-Ok-tallies_over.ensures.tallied c.deref.result.now c.deref.ensures.value c.in-Ok-tallies_over.ensures.count in
+    let few = applied_once tables.dirty tables.redo_lsn (history log) images (subst AreNumbered stored c.store.invariant) in
+    omega (arith, few, told, size_of_log log, c.last-last.ensures, c.last-last.type_inv)
+
+pub returns-clause-pages : goal.returns-clause-pages
+returns-clause-pages c =
+    let input : InputContent = input_over c.args.log.now c.args.store.pages c.args.tables.now c.in-Ok.parting in
+    let pages = c.store.inside.pages in
+    pages_back input c.in-Ok-tallies_over.tallies.items c.in-Ok-tallies_over.ensures.tallied pages.len pages.items c.deref_mut.result.now c.finish_alone.new.pages c.deref-2.result.now (ap (λ s. s.pages) c.store.view_is) (sym pages.ok.0) c.deref_mut.ensures.value
+    c.deref-2.ensures.value c.finish_alone.ensures.count c.finish_alone.ensures.each
+
+pub returns-clause-applied : goal.returns-clause-applied
+returns-clause-applied c =
+    let input : InputContent = input_over c.args.log.now c.args.store.pages c.args.tables.now c.in-Ok.parting in
+    c.total-applied.ensures ∙ total_is input c.in-Ok-tallies_over.tallies.items c.in-Ok-tallies_over.ensures.tallied c.deref.result.now c.deref.ensures.value c.in-Ok-tallies_over.ensures.count

@@ -1,0 +1,101 @@
+//! Which records each page lacks, found in one pass over the records by one thread, the caller's.
+
+ghost use Rattle.std.specs.Prelude.{◌≡◌, ℕ, ◌+◌, ◌<◌, ◌≤◌, All, Some, length, slice_index_or, IfOk, OnOk, IfErr, IsOkUnless};
+ghost use Rattle.page.specs.declared.fault.Fault.TheVariants.{NoResource};
+ghost use Rattle.wal.specs.Records.{LogRecord, history, record_at, last_lsn, base_lsn};
+ghost use Rattle.redo.specs.Changes.{NamesBelow, advance};
+ghost use Rattle.redo.specs.Routes.{skipped_in, NoteFault};
+ghost use Rattle.redo.specs.Redone.{AreWorkers, AllExist, RedoFault};
+ghost use Rattle.redo.specs.Parts.{IsTallied, resolved};
+ghost use Rattle.redo.specs.OnePass.{AreUpTo};
+ghost use Rattle.redo.specs.declared.tally.Tally.{Tally};
+
+use crate::input::RedoInput;
+use crate::part::{begin_page, count_at};
+use crate::tally::Tally;
+use page::Fault;
+use std::alloc::Global;
+
+/// The tallies of all pages, to which no record was applied. The only error is `NoResource`.
+fn begin(alloc: Global, input: &RedoInput) -> Result<Vec<Tally>, Fault>
+    ensures begun { IfOk result (λ tallies. AreUpTo input.now
+        (skipped_in input.now) tallies.items) }
+    ensures err { IsOkUnless result NoResource }
+{
+    let store = input.store;
+    let mut tallies = Vec::with_capacity(alloc, store.pages.len())?;
+    for number in 0..store.pages.len() {
+        tallies.push(begin_page(input, number as u32))?;
+    }
+    Ok(tallies)
+}
+
+/// Counts the record behind an LSN for its page, if it has one and the page lacks it. Refuses a
+/// page that there is not by `NoSuchPage`.
+fn count_next(input: &RedoInput, lsn: u64, tallies: &mut [Tally]) -> Result<(), Fault>
+    requires from { base_lsn (history input.now.log) ≤ lsn }
+    requires to { lsn < last_lsn (history input.now.log) }
+    requires numbered { (k : ℕ) (t : Tally) → k < length tallies.old
+        → (slice_index_or tallies.old k t).number ≡ k }
+    requires few { All (λ t. t.applied ≤ lsn) tallies.old }
+    ensures count { length tallies.new ≡ length tallies.old }
+    ensures each { OnOk result ((r : LogRecord) (k : ℕ) (t : Tally)
+        → record_at (history input.now.log) (lsn + 1) ≡ Some r → k < length tallies.old
+        → resolved input.now (slice_index_or tallies.new k t)
+        ≡ advance input.now.redo_lsn (lsn + 1) r
+        (resolved input.now (slice_index_or tallies.old k t))) }
+    ensures exists { OnOk result ((r : LogRecord)
+        → record_at (history input.now.log) (lsn + 1) ≡ Some r
+        → NamesBelow (length tallies.old) r) }
+    ensures fault { IfErr result (λ e. (r : LogRecord)
+        → record_at (history input.now.log) (lsn + 1) ≡ Some r
+        → NoteFault (length tallies.old) (lsn + 1) r e) }
+{
+    let _last = input.log.last();
+    let Some((page, slot)) = input.log.glance_after(lsn).cell() else {
+        return Ok(());
+    };
+    let place = page as usize;
+    if place >= tallies.len() {
+        return Err(Fault::NoSuchPage(lsn + 1));
+    }
+    count_at(tallies, place, input.redo_lsn(), lsn + 1, slot as usize);
+    Ok(())
+}
+
+/// Counts the records that redo does not skip. Refuses the first of them on a page that there is
+/// not by `NoSuchPage`.
+fn count_all(input: &RedoInput, tallies: &mut [Tally]) -> Result<(), Fault>
+    requires begun { AreUpTo input.now (skipped_in input.now) tallies.old }
+    ensures done { OnOk result (AreUpTo input.now (last_lsn (history input.now.log)) tallies.new) }
+    ensures exist { OnOk result
+        (AllExist input.now.log (length input.now.images) input.now.redo_lsn) }
+    ensures fault { IfErr result (λ e. (workers : ℕ) → AreWorkers workers
+        → RedoFault input.now.log (length input.now.images) input.now.redo_lsn workers e) }
+{
+    let last = input.log.last();
+    for lsn in input.skipped()..last {
+        if let Err(fault) = count_next(input, lsn, tallies) {
+            return Err(fault);
+        }
+    }
+    Ok(())
+}
+
+/// The tallies of all pages by one pass over the records, which leaves the store as it is.
+pub fn tallied_alone(alloc: Global, input: &RedoInput) -> Result<Vec<Tally>, Fault>
+    ensures count { IfOk result (λ tallies. length tallies.items ≡ length input.now.images) }
+    ensures tallied { IfOk result (λ tallies. (number : ℕ) → number < length input.now.images
+        → IsTallied input.now tallies.items number) }
+    ensures exist { OnOk result
+        (AllExist input.now.log (length input.now.images) input.now.redo_lsn) }
+    ensures fault { IfErr result (λ e. (workers : ℕ) → AreWorkers workers
+        → RedoFault input.now.log (length input.now.images) input.now.redo_lsn workers e) }
+{
+    let _last = input.log.last();
+    let mut tallies = begin(alloc, input)?;
+    if let Err(fault) = count_all(input, &mut tallies) {
+        return Err(fault);
+    }
+    Ok(tallies)
+}
