@@ -73,6 +73,15 @@ pub record RollsBack (log : LogContent) (master : ℕ) (tables : TablesContent) 
   pub compensated : x.compensated ≡ clrs_in x.appended
   pub ended : x.ended ≡ ends_in x.appended
 
+-- what analysis and redo have made of a log and a store, before losers are rolled back: analysis found these tables, no page is ahead
+-- of the log, and redo by the tables found all pages
+pub record IsRedone (log : LogContent) (before : StoreContent) (tables : TablesContent) (redone : Redone) : Type 0 where
+  pub are : AreTablesOf log before.master tables
+  pub none_ahead : NoneAhead log before
+  pub exist : AllExist log (length before.pages) tables.redo_lsn
+  pub redone_pages : redone.pages.items ≡ map (redone_page log tables) before.pages
+  pub applied : redone.applied ≡ sum (map (applied_to log tables) before.pages)
+
 -- EVERY INPUT. By the tables that analysis finds, redo makes the pages, and their losers are rolled back; none of the causes
 -- of a refusal stands.
 pub record Restarts (log : LogContent) (before : StoreContent) (x : OutcomeContent) : Type 0 where

@@ -13,7 +13,7 @@ ghost use Rattle.analysis.specs.Tables.{losers_in};
 ghost use Rattle.undo.specs.Appended.{records_of, AreTold, AreFit};
 ghost use Rattle.undo.specs.Undone.{HasNoTransaction0, AreWritable, UndoFault};
 ghost use Rattle.restart.specs.Outcome.{outcome_of, outcome_in};
-ghost use Rattle.restart.specs.Restart.{AreSettings, SettingsFault, AheadFault, clrs_in, ends_in, RollsBack, Restarts, Restores, RestartFault};
+ghost use Rattle.restart.specs.Restart.{AreSettings, SettingsFault, AheadFault, clrs_in, ends_in, RollsBack, IsRedone, Restarts, Restores, InputFault, RestartFault};
 
 use crate::doubt::in_doubt;
 use crate::outcome::{BriefOutcome, Outcome, outcome_of};
@@ -42,7 +42,7 @@ fn check_settings(store: &Store, parting: &Parting, workers: u32) -> Result<(), 
 }
 
 /// Refuses the first page whose PageLSN is above the log's length.
-fn check_lsns(log: &Log, pages: &[Page]) -> Result<(), Fault>
+pub fn check_lsns(log: &Log, pages: &[Page]) -> Result<(), Fault>
     ensures ok { OnOk result (All (λ page. page.lsn ≤ last_lsn (history log.now)) pages.now) }
     ensures fault { IfErr result (AheadFault log.now pages.now) }
 {
@@ -80,8 +80,8 @@ fn store_of(master: u64, pages: Vec<Page>) -> Store
     Store { master, pages }
 }
 
-/// Rolls the losers back on pages that were redone.
-fn roll_back(
+/// Rolls the losers of the tables back on pages that were redone.
+fn undone(
     alloc: Global,
     log: &Log,
     master: u64,
@@ -116,6 +116,33 @@ fn roll_back(
         compensated,
         ended,
     })
+}
+
+/// Rolls the losers back on the pages of a store that were redone, which ends the restart.
+pub fn roll_back(
+    alloc: Global,
+    log: &Log,
+    master: u64,
+    tables: &Tables,
+    redone: Redone,
+) -> Result<BriefOutcome, Fault>
+    requires numbered { AreNumbered redone.pages.items }
+    requires no_transaction_0 { HasNoTransaction0 tables.now }
+    ensures lawful { (base : BasePages) (before : StoreContent) → Lawful base log.now before
+        → AreNumbered before.pages → before.master ≡ master → AreTrue log.now before tables.now
+        → IsRedone log.now before tables.now redone
+        → MatchResult result (λ x. Restores base log.now before (outcome_in (history log.now) x))
+        (λ e. e ≡ NoResource) }
+    ensures restarts { (before : StoreContent) → before.master ≡ master
+        → IsRedone log.now before tables.now redone
+        → IfOk result (λ x. Restarts log.now before (outcome_in (history log.now) x)) }
+    ensures told { IfOk result (λ x. AreTold (history log.now) x.appended.items) }
+    ensures writable { IfOk result (λ x. AreFit (history log.now) x.appended.items) }
+    ensures few { IfOk result (λ x. length x.appended.items ≤ 2 * length log.now.records + 2 ^ 32) }
+    ensures fault { (before : StoreContent) → IsRedone log.now before tables.now redone
+        → IfErr result (InputFault log.now before) }
+{
+    undone(alloc, log, master, tables, redone)
 }
 
 /// [`restart`] on a store that is given away: its pages are changed in place and not copied, and the

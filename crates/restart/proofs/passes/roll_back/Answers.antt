@@ -1,50 +1,49 @@
-use Rattle.std.proofs.Common.{length, refl, sym, ap, ◌∙◌, subst, arith}
+use Rattle.std.proofs.Common.{◌≡◌, length, sym, ap, ◌∙◌, subst}
+use Rattle.std.specs.Prelude.{IfOk}
 use Rattle.std.proofs.lemmas.List.{length-map}
-use Rattle.std.proofs.lemmas.Result.{err_from_is_err_and}
-use Rattle.page.specs.Store.{StoreContent, AreNumbered}
+use Rattle.std.proofs.lemmas.Result.{IfOk-weaker, IfErr-weaker}
 use Rattle.wal.specs.Records.{history}
-use Rattle.wal.specs.Content.{entry_of}
-use Rattle.analysis.specs.Tables.{TablesContent}
-use Rattle.undo.specs.Appended.{records_of, AreTold}
-use Rattle.undo.specs.Undone.{undone_page}
-use Rattle.restart.specs.Restart.{clrs_in, ends_in}
-use Rattle.restart.proofs.Restored.{changed_numbered}
+use Rattle.analysis.specs.Tables.{losers_in}
+use Rattle.redo.specs.Redone.{redone_page}
+use Rattle.undo.specs.Undone.{UndoFault}
+use Rattle.restart.specs.Outcome.{outcome_in}
+use Rattle.restart.specs.Restart.{RollsBack}
+use Rattle.restart.proofs.Restored.{outcome_restores}
+use Rattle.restart.proofs.Causes.{undo_fault}
 use Rattle.restart.proofs.passes.roll_back.Goals as goal
 
-pub store_of-requires : goal.store_of-requires
-store_of-requires c =
-    subst AreNumbered (sym c.in_ok-pages.ensures.pages)
-    (changed_numbered (undone_page (history c.args.log.now) (records_of (history c.args.log.now) c.in_ok-pages.appended.items)) c.args.redone.pages.items (λ page. refl) c.requires)
+pub returns-clause-lawful : goal.returns-clause-lawful
+returns-clause-lawful c = λ base before lawful numbered kept truth made.
+    let tables = c.args.tables.now in
+    let redone = c.args.redone in
+    let count : length redone.pages.items ≡ length before.pages = ap length made.redone_pages ∙ length-map before.pages (redone_page c.args.log.now tables) in
+    outcome_restores base c.args.log.now before lawful numbered tables made.are truth redone c.undone.result made.redone_pages made.applied
+    (subst (λ m. IfOk c.undone.result (λ x. RollsBack c.args.log.now m tables redone (outcome_in (history c.args.log.now) x))) (sym kept) c.undone.ensures.rolls_back)
+    (c.undone.ensures.lawful base before lawful truth count)
 
-pub returns-in_err-pages-clause-lawful : goal.returns-in_err-pages-clause-lawful
-returns-in_err-pages-clause-lawful c = λ base store lawful are_true count.
-    let exit = err_from_is_err_and c.from_residual-in_err-pages.result c.from_residual-in_err-pages.ensures.1 in
-    rw (exit.1, exit.2) (c.in_err-pages.ensures.lawful base store lawful are_true count)
-
-pub returns-clause-rolls_back : goal.returns-clause-rolls_back
-returns-clause-rolls_back c =
-    let log = history c.args.log.now in
-    let made = c.in_ok-pages.ensures in
-    let told : AreTold log c.deref.result.now = subst (AreTold log) (sym c.deref.ensures.value) made.told in
-    record {
-      appended = made.appended;
-      pages = ap (λ (s : StoreContent). s.pages) c.store_of.ensures ∙ made.pages;
-      no_bad_hop = made.ends;
-      met_exist = made.met;
+pub returns-clause-restarts : goal.returns-clause-restarts
+returns-clause-restarts c = λ before kept made.
+    let tables = c.args.tables.now in
+    IfOk-weaker c.undone.result _ _
+    (λ x back. record {
+      tables = tables;
+      redone = c.args.redone;
+      are = made.are;
+      none_ahead = made.none_ahead;
       exist = made.exist;
-      master_kept = ap (λ (s : StoreContent). s.master) c.store_of.ensures;
-      redo_from = ap (λ (t : TablesContent). t.redo_lsn) c.tables.view_is;
-      applied = refl;
-      losers = omega (
-        arith,
-        c.in_ok-in_doubt.ensures.others,
-        c.len.ensures.len,
-        c.len-2.ensures,
-        c.in_ok-in_doubt.in_doubt.ok.0,
-        ap (λ (t : TablesContent). length t.transactions) c.tables.view_is,
-        length-map c.tables.inside.transactions.entries entry_of,
-      );
-      in_doubt_are = c.in_ok-in_doubt.ensures.ok;
-      compensated = c.tally-compensated.ensures.clrs log told ∙ ap (λ xs. clrs_in (records_of log xs)) c.deref.ensures.value;
-      ended = c.tally-compensated.ensures.ends log told ∙ ap (λ xs. ends_in (records_of log xs)) c.deref.ensures.value;
-    }
+      redone_pages = made.redone_pages;
+      applied = made.applied;
+      rolls_back = subst (λ m. RollsBack c.args.log.now m tables c.args.redone (outcome_in (history c.args.log.now) x)) (sym kept) back;
+    })
+    c.undone.ensures.rolls_back
+
+pub returns-clause-fault : goal.returns-clause-fault
+returns-clause-fault c = λ before made.
+    let tables = c.args.tables.now in
+    let count : length c.args.redone.pages.items ≡ length before.pages = ap length made.redone_pages ∙ length-map before.pages (redone_page c.args.log.now tables) in
+    IfErr-weaker c.undone.result _ _
+    (λ e h. undo_fault c.args.log.now before made.none_ahead tables made.are e made.exist (subst (λ n. UndoFault (history c.args.log.now) (losers_in tables) n e) count h))
+    c.undone.ensures.fault
+
+pub returns-clause-writable : goal.returns-clause-writable
+returns-clause-writable c = IfOk-weaker c.undone.result _ _ (λ x writable. writable c.requires.no_transaction_0) c.undone.ensures.writable

@@ -1,0 +1,46 @@
+//! Restart without threads.
+
+ghost use Rattle.std.specs.Prelude.{◌≡◌, ◌≤◌, ◌+◌, ◌*◌, ◌^◌, length, IfOk, IfErr, MatchResult};
+ghost use Rattle.page.specs.declared.fault.Fault.TheVariants.{NoResource};
+ghost use Rattle.wal.specs.Records.{history};
+ghost use Rattle.wal.specs.Meaning.{BasePages};
+ghost use Rattle.wal.specs.Store.{Lawful};
+ghost use Rattle.undo.specs.Appended.{AreTold, AreFit};
+ghost use Rattle.restart.specs.Outcome.{outcome_in};
+ghost use Rattle.restart.specs.Restart.{Restarts, Restores, InputFault};
+
+use crate::outcome::BriefOutcome;
+use crate::passes::{check_lsns, roll_back};
+use analysis::analyse;
+use page::{Fault, Store};
+use redo::redo_alone;
+use std::alloc::Global;
+use wal::Log;
+
+/// [`restart_in_place`](crate::restart_in_place) in the thread of the caller: no thread is started,
+/// no gate called and no parting asked for. It refuses by the faults of the former from
+/// [`Fault::PageAheadOfLog`] on.
+pub fn restart_alone(alloc: Global, log: &Log, store: Store) -> Result<BriefOutcome, Fault>
+    // On a lawful log and its store, over any base pages: the log's tail and the store that the winners leave.
+    ensures lawful { (base : BasePages) → Lawful base log.now store
+        → MatchResult result (λ x. Restores base log.now store (outcome_in (history log.now) x))
+        (λ e. e ≡ NoResource) }
+
+    // Wherever it answers: what analysis, redo and undo make of log and store, and no cause of a refusal stands.
+    ensures restarts { IfOk result (λ x. Restarts log.now store (outcome_in (history log.now) x)) }
+
+    // Each update that is named stands in the log; each appended record has a spelling, and they are so
+    // few that there are LSNs for them behind the log.
+    ensures told { IfOk result (λ x. AreTold (history log.now) x.appended.items) }
+    ensures writable { IfOk result (λ x. AreFit (history log.now) x.appended.items) }
+    ensures few { IfOk result (λ x. length x.appended.items ≤ 2 * length log.now.records + 2 ^ 32) }
+
+    // A refusal has its cause in the input, memory aside.
+    ensures fault { IfErr result (InputFault log.now store) }
+{
+    check_lsns(log, &store.pages)?;
+    let tables = analyse(alloc, log, store.master)?;
+    let master = store.master;
+    let redone = redo_alone(alloc, log, store, &tables)?;
+    roll_back(alloc, log, master, &tables, redone)
+}
