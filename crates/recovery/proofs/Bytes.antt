@@ -70,14 +70,15 @@ pub dealt_by_number : (pages parts : ℕ) (part_of : List ℕ) → part_of ≡ b
 dealt_by_number pages parts part_of is = ap length is ∙ length-map-range_with_len (λ page. page % parts) 0 pages
 
 -- WHY IT IS REFUSED
+-- where a restart is refused for its input, the recovery is
+pub input_cause : (log store : List ℕ) (options : Options) (e : Fault) → AreInRange options → (decoded : Decoded log store) → InputFault decoded.read decoded.before e → Cause log store options e
+input_cause log store options NoResource range decoded h = tt
+input_cause log store options BadWorkers range decoded h = absurd h.1.holds
+input_cause log store options BadParting range decoded h = absurd h.1.holds
+input_cause log store options e range decoded h = (range, inr (inr (decoded, h)))
+
 -- a refusal of the restart is one of the recovery
 pub restart_cause : (log store : List ℕ) (options : Options) (parting : PartingContent) (e : Fault) → AreInRange options → (decoded : Decoded log store) → AreSettings (length decoded.before.pages) parting options.workers
     → RestartFault decoded.read decoded.before parting options.workers e → Cause log store options e
 restart_cause log store options parting e range decoded fit (inl h) = absurd (settings_hold (length decoded.before.pages) parting options.workers e fit h)
-restart_cause log store options parting e range decoded fit (inr h) = by_input e h.1
-  where
-    by_input : (e : Fault) → InputFault decoded.read decoded.before e → Cause log store options e
-    by_input NoResource h = tt
-    by_input BadWorkers h = absurd h.1.holds
-    by_input BadParting h = absurd h.1.holds
-    by_input e h = (range, inr (inr (decoded, h)))
+restart_cause log store options parting e range decoded fit (inr h) = input_cause log store options e range decoded h.1

@@ -7,11 +7,14 @@ mod laws;
 mod recovery;
 mod report;
 mod texts;
+mod unthreaded;
 
 pub use devices::{read_source, recover};
 pub use laws::{
     no_fault_of_a_recovery, no_fault_of_lawful_texts, no_fault_of_lawful_texts_over,
     one_audit_fault, one_audit_fault_over, one_recovery, one_recovery_fault,
 };
+pub use recovery::Recovery;
 pub use report::{Report, report_text};
 pub use texts::{audit_texts, audit_texts_over};
+pub use unthreaded::recovery_alone;

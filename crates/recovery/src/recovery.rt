@@ -1,15 +1,18 @@
 //! Recovery in memory: from the bytes of a log and a store to the bytes of both after it.
 
-ghost use Rattle.std.specs.Prelude.{◌≡◌, ◌≤◌, ◌<◌, ◌+◌, ◌*◌, ◌^◌, length, IfOk, OnOk, IfErr, MatchResult, IsOkUnless};
+ghost use Rattle.std.specs.Prelude.{◌≡◌, ◌≤◌, ◌<◌, ◌+◌, ◌-◌, ◌*◌, ◌^◌, length, take, IfOk, OnOk, IfErr, MatchResult, IsOkUnless};
 ghost use Rattle.page.specs.declared.fault.Fault.{Fault};
 ghost use Rattle.page.specs.declared.fault.Fault.TheVariants.{NoResource};
 ghost use Rattle.wal.specs.Records.{history, last_lsn};
-ghost use Rattle.wal.specs.Reads.{spellings};
+ghost use Rattle.wal.specs.Reads.{Reads, spellings};
+ghost use Rattle.page.specs.Store.{StoreContent};
+ghost use Rattle.page.specs.File.{SpellsStore};
 ghost use Rattle.undo.specs.Appended.{records_of, AreTold, AreFit};
 ghost use Rattle.wal.specs.Meaning.{BasePages};
 ghost use Rattle.recovery.specs.Recovery.{report_of, new_log, Recovers, AreLawful, Recovered, Cause};
 ghost use Rattle.restart.specs.Options.{AreInRange};
 ghost use Rattle.restart.specs.Outcome.{outcome_in};
+ghost use Rattle.restart.specs.Restart.{Restarts, Restores};
 
 use crate::Report;
 use page::{Fault, decode_store, encode_store_into};
@@ -72,6 +75,42 @@ pub struct Recovery<'a> {
     pub report: Report,
 }
 
+/// What is to be written of what a restart made of a log and a store. The new store is made in the
+/// room of the old one's bytes. The only error is `NoResource`.
+pub fn recovery_made<'a>(
+    alloc: Global,
+    log: &'a [u8],
+    records: &Log,
+    torn: usize,
+    outcome: BriefOutcome,
+    mut store: Vec<u8>,
+) -> Result<Recovery<'a>, Fault>
+    requires reads { Reads log.now records.now torn }
+    requires told { AreTold (history records.now) outcome.appended.items }
+    requires writable { AreFit (history records.now) outcome.appended.items }
+    requires few { length outcome.appended.items ≤ 2 * length records.now.records + 2 ^ 32 }
+
+    // Where the outcome is that of a restart of a store, whose bytes these were.
+    ensures answer { IfOk result (λ x. (before : StoreContent) → SpellsStore store.items before
+        → Restarts records.now before (outcome_in (history records.now) outcome)
+        → Recovers log.now store.items (new_log x) x.store.items x.report) }
+    ensures lawful { IfOk result (λ x. (base : BasePages) (before : StoreContent)
+        → Restores base records.now before (outcome_in (history records.now) outcome)
+        → Recovered base records.now before (new_log x) x.store.items x.report) }
+    ensures kept { IfOk result (λ x. x.kept.now
+        ≡ take (length log.now - x.report.torn) log.now) }
+    ensures err { IsOkUnless result NoResource }
+{
+    encode_store_into(&outcome.store, &mut store)?;
+    let (report, appended) = report_of(records, torn, outcome);
+    Ok(Recovery {
+        kept: &log[..log.len() - torn],
+        frames: frames_of(alloc, records, &appended)?,
+        store,
+        report,
+    })
+}
+
 /// Recovers a store by its log, both read: [`restart`](restart::restart) on what their bytes spell,
 /// with the pages parted by number. The new store is made in the room of the bytes read.
 ///
@@ -82,7 +121,7 @@ pub fn recovery_of<'a, G: Gate, R: Threads + Sync>(
     rt: &R,
     alloc: Global,
     log: &'a [u8],
-    mut store: Vec<u8>,
+    store: Vec<u8>,
     options: &Options,
     gate: &G,
 ) -> Result<Recovery<'a>, Fault>
@@ -104,12 +143,5 @@ pub fn recovery_of<'a, G: Gate, R: Threads + Sync>(
     let before = decode_store(alloc, &store)?;
     let parting = Parting::by_number(alloc, before.pages.len() as u32, options.parts)?;
     let outcome = restart_in_place(rt, alloc, &records, before, &parting, options.workers, gate)?;
-    encode_store_into(&outcome.store, &mut store)?;
-    let (report, appended) = report_of(&records, torn, outcome);
-    Ok(Recovery {
-        kept: &log[..log.len() - torn],
-        frames: frames_of(alloc, &records, &appended)?,
-        store,
-        report,
-    })
+    recovery_made(alloc, log, &records, torn, outcome, store)
 }

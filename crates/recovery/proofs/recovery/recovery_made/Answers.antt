@@ -1,0 +1,72 @@
+use Rattle.std.proofs.Common.{◌≡◌, ◌-◌, ◌^◌, ◌<◌, ◌++◌, List, arith, length, take, refl, sym, ap, ◌∙◌, subst, ◌+◌}
+use Rattle.std.proofs.lemmas.List.{length-map}
+use Rattle.page.specs.File.{store_text}
+use Rattle.wal.specs.Records.{LogRecord, ◌⧺◌, last_lsn, history}
+use Rattle.wal.specs.Meaning.{in_doubt}
+use Rattle.wal.specs.Tail.{with_tail}
+use Rattle.wal.specs.Reads.{Reads, spellings, log_text}
+use Rattle.recovery.specs.Text.{ReportContent}
+use Rattle.restart.specs.Restart.{IsSettled}
+use Rattle.restart.specs.Outcome.{outcome_in}
+use Rattle.undo.specs.Appended.{record_of, records_of}
+use Rattle.undo.proofs.Told.{told_fit}
+use Rattle.recovery.proofs.Bytes.{kept_text, text_extended}
+use Rattle.recovery.proofs.Resuming.{reads_extended}
+use Rattle.recovery.proofs.recovery.recovery_made.Goals as goal
+
+pub returns-clause-answer : goal.returns-clause-answer
+returns-clause-answer c = λ before spells restarts.
+    let read = c.args.records.now in
+    let torn = c.args.torn in
+    let log = history read in
+    let told = c.args.outcome.appended.items in
+    let appended : List LogRecord = records_of log told in
+    let same : c.deref.result.now ≡ told = c.deref.ensures.value ∙ c.report_of-report.ensures.appended in
+    let bytes = take (length c.args.log.now - torn) c.args.log.now ++ c.in_ok-frames_of.field-0.items in
+    let log_is : bytes ≡ log_text (read ⧺ appended) =
+    text_extended read appended (take (length c.args.log.now - torn) c.args.log.now) c.in_ok-frames_of.field-0.items (last_lsn log + 1)
+    (kept_text c.args.log.now read torn c.requires.reads) refl
+    (c.in_ok-frames_of.ensures.frames ∙ ap (λ xs. spellings (last_lsn log + 1) (records_of log xs)) same) in
+    let few : last_lsn log + length appended < 2 ^ 64 = omega (arith, c.in_ok-frames_of.ensures.room, ap length same, length-map told (record_of log)) in
+    record {
+      decoded = record { read = read; torn = torn; before = before; reads = c.requires.reads; spells = spells };
+      outcome = outcome_in log c.args.outcome;
+      restarts = restarts;
+      log_is = log_is;
+      reads = reads_extended bytes read appended log_is c.requires.reads.starts c.requires.reads.each (told_fit log told c.requires.writable) few;
+      store_is = c.in_ok-encode_store_into.ensures.ok;
+      report_is = c.report_of-report.ensures.report;
+    }
+
+pub returns-clause-lawful : goal.returns-clause-lawful
+returns-clause-lawful c = λ base before restored.
+    let read = c.args.records.now in
+    let torn = c.args.torn in
+    let log = history read in
+    let told = c.args.outcome.appended.items in
+    let appended : List LogRecord = records_of log told in
+    let same : c.deref.result.now ≡ told = c.deref.ensures.value ∙ c.report_of-report.ensures.appended in
+    let bytes = take (length c.args.log.now - torn) c.args.log.now ++ c.in_ok-frames_of.field-0.items in
+    let log_is : bytes ≡ log_text (read ⧺ appended) =
+    text_extended read appended (take (length c.args.log.now - torn) c.args.log.now) c.in_ok-frames_of.field-0.items (last_lsn log + 1)
+    (kept_text c.args.log.now read torn c.requires.reads) refl
+    (c.in_ok-frames_of.ensures.frames ∙ ap (λ xs. spellings (last_lsn log + 1) (records_of log xs)) same) in
+    let few : last_lsn log + length appended < 2 ^ 64 = omega (arith, c.in_ok-frames_of.ensures.room, ap length same, length-map told (record_of log)) in
+    let reads = reads_extended bytes read appended log_is c.requires.reads.starts c.requires.reads.each (told_fit log told c.requires.writable) few in
+    record {
+      log_is = log_is ∙ ap (λ (rs : List LogRecord). log_text (read ⧺ rs)) restored.appended;
+      reads = subst (λ (rs : List LogRecord). Reads bytes (read ⧺ rs) 0) restored.appended reads;
+      store_is = c.in_ok-encode_store_into.ensures.ok ∙ ap store_text restored.store;
+      settled = subst (λ s. IsSettled base (with_tail read) s) restored.store (subst (λ (rs : List LogRecord). IsSettled base (read ⧺ rs) c.args.outcome.store) restored.appended restored.settled);
+      losers_are = ap (λ (r : ReportContent). r.losers) c.report_of-report.ensures.report ∙ restored.losers;
+      in_doubt_are = ap (λ (r : ReportContent). r.in_doubt) c.report_of-report.ensures.report ∙ restored.in_doubt_are;
+      still_in_doubt = λ t. sym (ap (λ (rs : List LogRecord). in_doubt t (history (read ⧺ rs))) restored.appended) ∙ restored.still_in_doubt t;
+      ended_are = ap (λ (r : ReportContent). r.ended) c.report_of-report.ensures.report ∙ restored.ended;
+      redoes = record {
+        tables = restored.redoes.tables;
+        are = restored.redoes.are;
+        begins = ap (λ (r : ReportContent). r.redo_from) c.report_of-report.ensures.report ∙ restored.redoes.begins;
+        applies = ap (λ (r : ReportContent). r.redone) c.report_of-report.ensures.report ∙ restored.redoes.applies;
+      };
+      compensated_are = ap (λ (r : ReportContent). r.compensated) c.report_of-report.ensures.report ∙ restored.compensated;
+    }

@@ -1,0 +1,46 @@
+//! Recovery in memory without threads.
+
+ghost use Rattle.std.specs.Prelude.{◌≡◌, ◌-◌, length, take, IfOk, IfErr, MatchResult};
+ghost use Rattle.page.specs.declared.fault.Fault.TheVariants.{NoResource};
+ghost use Rattle.wal.specs.Meaning.{BasePages};
+ghost use Rattle.recovery.specs.Recovery.{new_log, Recovers, AreLawful, Recovered, Cause};
+
+use crate::recovery::{Recovery, recovery_made};
+use page::{Fault, decode_store};
+use restart::restart_alone;
+use std::alloc::Global;
+use wal::read_log;
+
+/// Recovers a store by its log, both read, in the thread of the caller: no thread is started, and what
+/// is made is what [`recover`](crate::recover) writes, for every number of workers and parts. The new
+/// store is made in the room of the bytes read.
+///
+/// Refuses, in this order: the faults of [`wal::read_log`] for the log; those of
+/// [`page::decode_store`] for the store; those of [`restart`](restart::restart) from
+/// [`Fault::PageAheadOfLog`] on. [`Fault::NoResource`], where memory was refused, may come in place
+/// of any answer.
+pub fn recovery_alone<'a>(
+    alloc: Global,
+    log: &'a [u8],
+    store: Vec<u8>,
+) -> Result<Recovery<'a>, Fault>
+    // On the bytes of a log and its store that are lawful over any base pages.
+    ensures lawful { (base : BasePages) (bytes : AreLawful base log.now store.items)
+        → MatchResult result (λ x. Recovered base bytes.decoded.read bytes.decoded.before
+        (new_log x) x.store.items x.report) (λ e. e ≡ NoResource) }
+
+    // Wherever it answers.
+    ensures answer { IfOk result (λ x. Recovers log.now store.items
+        (new_log x) x.store.items x.report) }
+    ensures kept { IfOk result (λ x. x.kept.now
+        ≡ take (length log.now - x.report.torn) log.now) }
+
+    // A refusal has its cause in the input, memory aside; options that hold are none.
+    ensures cause { IfErr result
+        (Cause log.now store.items (record { workers = 1; parts = 1 })) }
+{
+    let (records, torn) = read_log(alloc, log)?;
+    let before = decode_store(alloc, &store)?;
+    let outcome = restart_alone(alloc, &records, before)?;
+    recovery_made(alloc, log, &records, torn, outcome, store)
+}
