@@ -12,9 +12,9 @@ pub use command::{Job, Refusal, command_of};
 pub use device::{Failed, FileSink, FileSource, MemorySink, MemorySource, Sink, Source};
 pub use page::{Fault, Page, Store};
 pub use recovery::{
-    Report, audit_texts, audit_texts_over, no_fault_of_a_recovery, no_fault_of_lawful_texts,
-    no_fault_of_lawful_texts_over, one_audit_fault, one_audit_fault_over, one_recovery,
-    one_recovery_fault, recover, report_text,
+    Recovery, Report, audit_texts, audit_texts_over, no_fault_of_a_recovery,
+    no_fault_of_lawful_texts, no_fault_of_lawful_texts_over, one_audit_fault, one_audit_fault_over,
+    one_recovery, one_recovery_fault, recover, recovery_alone, report_text,
 };
 pub use redo::{Gate, OpenGate, Parting};
 pub use restart::{

@@ -2,7 +2,10 @@
 
 use crate::verdict::Verdict;
 use anyhow::{Context, Result};
-use aries::{Fault, MemorySink, MemorySource, OpenGate, Options, Report, recover, report_text};
+use aries::{
+    Fault, MemorySink, MemorySource, OpenGate, Options, Report, recover, recovery_alone,
+    report_text,
+};
 use device::{Pace, SlowSink, SlowSource};
 use std::fs;
 use std::io::Write;
@@ -82,7 +85,20 @@ fn printed_of<R: AllocGlobal>(rt: &R, answer: Result<Report, Fault>) -> Result<V
     }
 }
 
-/// Whether a recovery of a row over memory does what the row says.
+/// Whether a recovery of a row without threads does what the row says.
+fn of_recovery_alone<R: AllocGlobal>(rt: &R, row: &Row) -> Result<Verdict> {
+    let store = Vec::from_slice(rt.alloc(), &row.store)?;
+    match recovery_alone(rt.alloc(), &row.log, store) {
+        Err(fault) => row.verdict_on(rt, Err(fault), &[], &[]),
+        Ok(recovery) => {
+            let mut log = Vec::from_slice(rt.alloc(), recovery.kept)?;
+            log.extend_from_slice(&recovery.frames)?;
+            row.verdict_on(rt, Ok(recovery.report), &log, &recovery.store)
+        }
+    }
+}
+
+/// Whether a recovery of a row over memory, and one without threads, do what the row says.
 pub fn of_recovery<R: Files + AllocGlobal + Threads + Sync>(
     rt: &R,
     row: &str,
@@ -101,7 +117,11 @@ pub fn of_recovery<R: Files + AllocGlobal + Threads + Sync>(
         options,
         &OpenGate,
     );
-    row.verdict_on(rt, answer, out_log.bytes(), out_store.bytes())
+    let verdict = row.verdict_on(rt, answer, out_log.bytes(), out_store.bytes())?;
+    if verdict != Verdict::Same {
+        return Ok(verdict);
+    }
+    of_recovery_alone(rt, &row)
 }
 
 /// How many bytes a slow device passes a call.
