@@ -3,3 +3,4 @@ pub mod Delivered
 pub mod Resuming
 pub mod OneAnswer
 pub mod OneTextCause
+pub mod TailLength

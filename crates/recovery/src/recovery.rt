@@ -97,6 +97,9 @@ pub fn recovery_made<'a>(
     ensures lawful { IfOk result (λ x. (base : BasePages) (before : StoreContent)
         → Restores base records.now before (outcome_in (history records.now) outcome)
         → Recovered base records.now before (new_log x) x.store.items x.report) }
+    ensures short { IfOk result (λ x. (base : BasePages) (before : StoreContent)
+        → Restores base records.now before (outcome_in (history records.now) outcome)
+        → length x.frames.items ≤ 2 * length log.now) }
     ensures kept { IfOk result (λ x. x.kept.now
         ≡ take (length log.now - x.report.torn) log.now) }
     ensures err { IsOkUnless result NoResource }

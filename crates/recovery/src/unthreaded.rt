@@ -1,6 +1,6 @@
 //! Recovery in memory without threads.
 
-ghost use Rattle.std.specs.Prelude.{◌≡◌, ◌-◌, length, take, IfOk, IfErr, MatchResult};
+ghost use Rattle.std.specs.Prelude.{◌≡◌, ◌-◌, ◌*◌, ◌≤◌, length, take, IfOk, IfErr, MatchResult};
 ghost use Rattle.page.specs.declared.fault.Fault.TheVariants.{NoResource};
 ghost use Rattle.wal.specs.Meaning.{BasePages};
 ghost use Rattle.recovery.specs.Recovery.{new_log, Recovers, AreLawful, Recovered, Cause};
@@ -34,6 +34,10 @@ pub fn recovery_alone<'a>(
         (new_log x) x.store.items x.report) }
     ensures kept { IfOk result (λ x. x.kept.now
         ≡ take (length log.now - x.report.torn) log.now) }
+
+    // What is appended to a lawful log takes at most twice its bytes.
+    ensures short { (base : BasePages) → AreLawful base log.now store.items
+        → IfOk result (λ x. length x.frames.items ≤ 2 * length log.now) }
 
     // A refusal has its cause in the input, memory aside; options that hold are none.
     ensures cause { IfErr result

@@ -1,15 +1,17 @@
-use Rattle.std.proofs.Common.{◌≡◌, ◌-◌, ◌^◌, ◌<◌, ◌++◌, List, arith, length, take, refl, sym, ap, ◌∙◌, subst, ◌+◌}
+use Rattle.std.proofs.Common.{◌≡◌, ℕ, ◌-◌, ◌^◌, ◌<◌, ◌++◌, List, arith, length, take, refl, sym, ap, ◌∙◌, subst, ◌+◌, length-append}
 use Rattle.std.proofs.lemmas.List.{length-map}
 use Rattle.page.specs.File.{store_text}
-use Rattle.wal.specs.Records.{LogRecord, ◌⧺◌, last_lsn, history}
+use Rattle.wal.specs.Records.{LogRecord, ◌⧺◌, last_lsn, history, lsn_before}
 use Rattle.wal.specs.Meaning.{in_doubt}
-use Rattle.wal.specs.Tail.{with_tail}
+use Rattle.wal.specs.Headers.{header_of}
+use Rattle.wal.specs.Tail.{with_tail, tail_of}
 use Rattle.wal.specs.Reads.{Reads, spellings, log_text}
 use Rattle.recovery.specs.Text.{ReportContent}
 use Rattle.restart.specs.Restart.{IsSettled}
 use Rattle.restart.specs.Outcome.{outcome_in}
 use Rattle.undo.specs.Appended.{record_of, records_of}
 use Rattle.undo.proofs.Told.{told_fit}
+use Rattle.recovery.proofs.TailLength.{tail_short}
 use Rattle.recovery.proofs.Bytes.{kept_text, text_extended}
 use Rattle.recovery.proofs.Resuming.{reads_extended}
 use Rattle.recovery.proofs.recovery.recovery_made.Goals as goal
@@ -70,3 +72,21 @@ returns-clause-lawful c = λ base before restored.
       };
       compensated_are = ap (λ (r : ReportContent). r.compensated) c.report_of-report.ensures.report ∙ restored.compensated;
     }
+
+pub returns-clause-short : goal.returns-clause-short
+returns-clause-short c = λ base before restored.
+    let read = c.args.records.now in
+    let log = history read in
+    let told = c.args.outcome.appended.items in
+    let same : c.deref.result.now ≡ told = c.deref.ensures.value ∙ c.report_of-report.ensures.appended in
+    let frames : c.in_ok-frames_of.field-0.items ≡ spellings (last_lsn log + 1) (tail_of read) =
+    c.in_ok-frames_of.ensures.frames ∙ ap (λ xs. spellings (last_lsn log + 1) (records_of log xs)) same ∙ ap (spellings (last_lsn log + 1)) restored.appended in
+    let read_bytes = c.requires.reads in
+    omega (
+      arith,
+      ap (λ (xs : List ℕ). length xs) frames,
+      tail_short read (last_lsn log + 1),
+      ap (λ (xs : List ℕ). length xs) read_bytes.text,
+      length-append (log_text read) read_bytes.tail,
+      length-append (header_of read.begins) (spellings (lsn_before read.begins + 1) read.records),
+    )

@@ -59,3 +59,12 @@ returns-clause-lawful c = λ base bytes.
     (subst (λ b. Recovered base read b (new_log x) x.store.items x.report) same (made base before restored)))
     c.recovery_made.ensures.lawful)
     c.recovery_made.ensures.err
+
+pub returns-clause-short : goal.returns-clause-short
+returns-clause-short c = λ base bytes.
+    let read = c.in_ok-records.records in
+    let before = c.in_ok-before.before in
+    let one = read_same (read, c.in_ok-records.torn) (bytes.decoded.read, bytes.decoded.torn) (c.in_ok-records.ensures.only bytes.decoded.read bytes.decoded.torn bytes.decoded.reads) in
+    let same : before ≡ bytes.decoded.before = c.in_ok-before.ensures.only bytes.decoded.before (subst (λ (text : List ℕ). SpellsStore text bytes.decoded.before) (sym c.deref.ensures.value) bytes.decoded.spells) in
+    let restored = c.in_ok-outcome.ensures.lawful base (is_lawful bytes read before (ap (λ x. x.0) one) same) in
+    IfOk-weaker c.recovery_made.result _ _ (λ x made. made base before restored) c.recovery_made.ensures.short
