@@ -1,0 +1,27 @@
+-- The records of a log as C is told them (own).
+use Rattle.std.specs.Prelude.{◌≡◌, ℕ, ◌+◌, ◌-◌, ◌<◌, List, length, drop, max, min, Some, slice_index_or}
+use Rattle.wal.specs.Records.{LogRecord, LogContent, History, history, base_lsn, last_lsn, record_at}
+use Rattle.aries_c.specs.declared.record.Record.{Record as Told}
+use Rattle.aries_c.specs.declared.dump.Read.{Read}
+use Rattle.aries_c.specs.Record.{Names}
+
+-- the record at this LSN is told
+pub record TellsRecord (log : History) (lsn : ℕ) (told : Told) : Type 0 where
+  pub content : LogRecord
+  pub there : record_at log lsn ≡ Some content
+  pub lsn_is : told.lsn ≡ lsn
+  pub names : Names told content
+
+-- the LSN of the first record that is asked for: this one, or the log's first where it begins behind it
+abbrev pub first_asked : History → ℕ → ℕ
+first_asked log first = max first (base_lsn log + 1)
+
+-- the log's numbers are told, and at the front of the buffer its records from that LSN on, as many as there are and have room;
+-- behind them the buffer is as before
+pub record Dumps (log : LogContent) (torn first : ℕ) (before after : List Told) (told : Read) : Type 0 where
+  pub base_is : told.base_lsn ≡ base_lsn (history log)
+  pub records_are : told.records ≡ length log.records
+  pub torn_is : told.torn ≡ torn
+  pub given_are : told.given ≡ min (length before) ((last_lsn (history log) + 1) - first_asked (history log) first)
+  pub each : (i : ℕ) (d : Told) → i < told.given → TellsRecord (history log) (first_asked (history log) first + i) (slice_index_or after i d)
+  pub behind : drop told.given after ≡ drop told.given before

@@ -1,0 +1,66 @@
+-- What C is told of a fault (own).
+use Rattle.std.specs.Prelude.{◌≡◌, ◌⊎◌, ℕ}
+use Rattle.page.specs.Fault.{number_of}
+use Rattle.page.specs.declared.fault.Fault.{Fault}
+use Rattle.page.specs.declared.fault.Fault.TheVariants.{NoResource, ReadLog, ReadStore, WriteLog, WriteStore, BadLogHeader, BadLength, BadRecord, BadLsn, BadStoreHeader, StoreSize, BadPage, BadMaster, NoSuchPage, PageAheadOfLog, BrokenChain, BadParting, BadWorkers, Chain, AfterFinish, WrongCompensation, BeforeImage, DirtyWrite, EndTooEarly, PageImage, TransactionTable, DirtyTable, BadBase}
+use Rattle.aries_c.specs.declared.fault.Fault.{Fault as Told}
+
+-- the place that a fault carries, 0 where it carries none
+abbrev pub place_of : Fault → ℕ
+place_of NoResource = 0
+place_of ReadLog = 0
+place_of ReadStore = 0
+place_of WriteLog = 0
+place_of WriteStore = 0
+place_of BadLogHeader = 0
+place_of (BadLength offset) = offset
+place_of (BadRecord offset) = offset
+place_of (BadLsn offset) = offset
+place_of BadStoreHeader = 0
+place_of StoreSize = 0
+place_of (BadPage number) = number
+place_of BadMaster = 0
+place_of (NoSuchPage lsn) = lsn
+place_of (PageAheadOfLog number) = number
+place_of (BrokenChain lsn) = lsn
+place_of BadParting = 0
+place_of BadWorkers = 0
+place_of (Chain lsn) = lsn
+place_of (AfterFinish lsn) = lsn
+place_of (WrongCompensation lsn) = lsn
+place_of (BeforeImage lsn) = lsn
+place_of (DirtyWrite lsn) = lsn
+place_of (EndTooEarly lsn) = lsn
+place_of (PageImage number) = number
+place_of TransactionTable = 0
+place_of (DirtyTable number) = number
+place_of BadBase = 0
+
+-- as C is told it
+abbrev pub told_of : Fault → Told
+told_of fault = record { number = number_of fault; place = place_of fault }
+
+-- C is told of a fault of which this holds
+abbrev pub Tells : (Fault → Type 0) → Told → Type 0
+Tells Holds told = (fault : Fault) × Holds fault × (told ≡ told_of fault)
+
+-- WHAT IS NO FAULT OF THE LIBRARY
+-- the call did what it was asked
+abbrev pub done : Told
+done = record { number = 0; place = 0 }
+
+-- memory was refused
+abbrev pub no_memory : Told
+no_memory = record { number = 1; place = 0 }
+
+-- a buffer is too short
+abbrev pub no_room : Told
+no_room = record { number = 64; place = 0 }
+
+-- what is named has no spelling, or does not stand there
+abbrev pub not_writable : Told
+not_writable = record { number = 65; place = 0 }
+
+-- the call was not refused but for want of memory
+abbrev pub IsOnlyMemory : Told → Type 0
+IsOnlyMemory told = (told ≡ done) ⊎ (told ≡ no_memory)

@@ -1,0 +1,23 @@
+-- Pages as C is told them, and what is written of a store (own).
+use Rattle.std.specs.Prelude.{◌≡◌, ℕ, ◌<◌, ◌≤◌, List, slice_index_or}
+use Rattle.page.specs.declared.page.Page.{Page}
+use Rattle.page.specs.declared.sizes.TheConstants.{PAGES, SLOTS}
+use Rattle.page.specs.Image.{Image, FitsPage, page_text}
+use Rattle.page.specs.File.{store_header}
+use Rattle.aries_c.specs.declared.image.Image.{Image as ToldImage}
+use Rattle.aries_c.specs.declared.pages.Page.{Page as Told}
+use Rattle.aries_c.specs.Image.{NamesImage}
+
+-- number, PageLSN, and slot by slot
+pub record NamesPage (told : Told) (page : Page) : Type 0 where
+  pub number : told.number ≡ page.number
+  pub lsn : told.lsn ≡ page.lsn
+  pub slots : (i : ℕ) (image : ToldImage) (slot : Image) → i < SLOTS → NamesImage (slice_index_or told.slots i image) (slice_index_or page.slots i slot)
+
+-- the header of a store of 1 to 4,096 pages
+abbrev pub IsStoreHeader : (pages master : ℕ) → List ℕ → Type 0
+IsStoreHeader pages master text = (0 < pages) × (pages ≤ PAGES) × (text ≡ store_header pages master)
+
+-- the one image of the page that this names
+abbrev pub IsPageImage : Told → List ℕ → Type 0
+IsPageImage told text = (page : Page) × NamesPage told page × FitsPage page × (text ≡ page_text page)

@@ -1,0 +1,59 @@
+-- Records as C is told them, and tells them (own).
+use Rattle.std.specs.Prelude.{◌≡◌, ◌<◌, ℕ, List, ⊤}
+use Rattle.wal.specs.Records.{UpdateRecord, CompensationRecord, PlainRecord, LogRecord, Update, Compensation, Commit, Abort, End, Prepare, CheckpointBegin, CheckpointEnd}
+use Rattle.wal.specs.Spelling.{kind_of, frame, Fits}
+use Rattle.aries_c.specs.declared.record.Record.{Record as Told}
+use Rattle.aries_c.specs.Image.{NamesImage}
+
+pub record NamesUpdate (told : Told) (u : UpdateRecord) : Type 0 where
+  pub tx : told.tx ≡ u.tx
+  pub prev : told.prev ≡ u.prev
+  pub page : told.page ≡ u.page
+  pub slot : told.slot ≡ u.slot
+  pub before : NamesImage told.before u.before
+  pub after : NamesImage told.after u.after
+
+-- the image that it put into its cell is told as the one after it
+pub record NamesCompensation (told : Told) (c : CompensationRecord) : Type 0 where
+  pub tx : told.tx ≡ c.tx
+  pub prev : told.prev ≡ c.prev
+  pub page : told.page ≡ c.page
+  pub slot : told.slot ≡ c.slot
+  pub next : told.next ≡ c.undo_next
+  pub after : NamesImage told.after c.image
+
+pub record NamesPlain (told : Told) (r : PlainRecord) : Type 0 where
+  pub tx : told.tx ≡ r.tx
+  pub prev : told.prev ≡ r.prev
+
+-- the fields of its kind
+abbrev pub NamesFields : Told → LogRecord → Type 0
+NamesFields told (Update u) = NamesUpdate told u
+NamesFields told (Compensation c) = NamesCompensation told c
+NamesFields told (Commit r) = NamesPlain told r
+NamesFields told (Abort r) = NamesPlain told r
+NamesFields told (End r) = NamesPlain told r
+NamesFields told (Prepare r) = NamesPlain told r
+NamesFields told CheckpointBegin = ⊤
+NamesFields told (CheckpointEnd begin transactions dirty) = told.next ≡ begin
+
+-- the kind as frames have it, and the fields of the kind; the tables of a checkpoint end are told apart from it
+pub record Names (told : Told) (r : LogRecord) : Type 0 where
+  pub kind : told.kind ≡ kind_of r
+  pub fields : NamesFields told r
+
+-- WRITING
+-- a record that is named as a whole: any but a checkpoint end
+abbrev pub IsWhole : LogRecord → Type 0
+IsWhole (CheckpointEnd begin transactions dirty) = ⊥
+IsWhole r = ⊤
+
+-- the record is named and has a spelling
+pub record IsWritable (told : Told) (r : LogRecord) : Type 0 where
+  pub names : Names told r
+  pub whole : IsWhole r
+  pub fits : Fits r
+
+-- the frame of the record that this names, at its LSN
+abbrev pub IsFrame : Told → List ℕ → Type 0
+IsFrame told text = (r : LogRecord) × IsWritable told r × (0 < told.lsn) × (text ≡ frame r told.lsn)

@@ -1,0 +1,43 @@
+//! The audit of bytes.
+
+ghost use Rattle.std.specs.Prelude.{◌≡◌, ◌≢◌};
+ghost use Rattle.wal.specs.Meaning.{no_base};
+ghost use Rattle.recovery.specs.Recovery.{AreLawful};
+ghost use Rattle.recovery.specs.Audit.{AuditFault, AreLawfulOver, AuditFaultOver};
+ghost use Rattle.aries_c.specs.Fault.{Tells, done, IsOnlyMemory};
+
+use crate::Fault;
+use recovery::{audit_texts, audit_texts_over};
+use std::alloc::Global;
+
+/// Whether the bytes of a log, with a torn tail or none, and of its store are lawful over empty
+/// pages. Number 0 exactly where they are, want of memory aside; else the number and the place of
+/// the fault of [`audit_texts`]: the first broken law.
+#[unsafe(no_mangle)]
+pub extern "C" fn aries_audit(alloc: Global, log: &[u8], store: &[u8]) -> Fault
+    ensures ok { result.number ≡ 0 → AreLawful no_base log.now store.now }
+    ensures fault { result.number ≢ 0 → Tells (AuditFault log.now store.now) result }
+    // Lawful bytes are refused for want of memory alone.
+    ensures lawful { AreLawful no_base log.now store.now → IsOnlyMemory result }
+{
+    match audit_texts(alloc, log, store) {
+        Ok(()) => Fault::none(),
+        Err(fault) => Fault::from(fault),
+    }
+}
+
+/// Whether the bytes of a log, with a torn tail or none, and of its store are lawful over the pages
+/// of a base store. Number 0 exactly where they are, want of memory aside; else the number and the
+/// place of the fault of [`audit_texts_over`].
+#[unsafe(no_mangle)]
+pub extern "C" fn aries_audit_from(alloc: Global, log: &[u8], store: &[u8], base: &[u8]) -> Fault
+    ensures ok { result.number ≡ 0 → AreLawfulOver log.now store.now base.now }
+    ensures fault { result.number ≢ 0 → Tells (AuditFaultOver log.now store.now base.now) result }
+    // Lawful bytes are refused for want of memory alone.
+    ensures lawful { AreLawfulOver log.now store.now base.now → IsOnlyMemory result }
+{
+    match audit_texts_over(alloc, log, store, base) {
+        Ok(()) => Fault::none(),
+        Err(fault) => Fault::from(fault),
+    }
+}

@@ -1,0 +1,88 @@
+//! Values as C is told them, and tells them.
+
+ghost use Rattle.std.specs.Prelude.{◌≡◌, ◌≤◌, length, option_map, IfOk, IfErr, IfSome, Some, None};
+ghost use Rattle.page.specs.Image.{Image as Content, FitsSlot};
+ghost use Rattle.page.specs.declared.sizes.TheConstants.{VALUE_BYTES};
+ghost use Rattle.aries_c.specs.Fault.{not_writable};
+ghost use Rattle.aries_c.specs.Image.{NamesImage};
+
+use crate::Fault;
+use page::{VALUE_BYTES, Value};
+
+/// The length that an absent value is told by.
+const ABSENT: u8 = 255;
+
+/// What a slot holds: the length of a value, 0 to 48, and its bytes at the front; or the length 255,
+/// for an absent value. Bytes behind a value are not looked at.
+#[repr(C)]
+#[derive(Clone, Copy)]
+pub struct Image {
+    pub length: u8,
+    pub bytes: [u8; VALUE_BYTES],
+}
+
+impl Image {
+    /// An absent value.
+    pub fn absent() -> Image
+        ensures { NamesImage result None }
+    {
+        Image {
+            length: ABSENT,
+            bytes: [0; VALUE_BYTES],
+        }
+    }
+
+    /// This value.
+    pub fn present(value: &[u8]) -> Image
+        requires { length value.now ≤ VALUE_BYTES }
+        ensures { NamesImage result (Some value.now) }
+    {
+        let mut bytes = [0; VALUE_BYTES];
+        bytes[..value.len()].copy_from_slice(value);
+        Image {
+            length: value.len() as u8,
+            bytes,
+        }
+    }
+
+    /// An image that a record lends.
+    pub fn lent(image: Option<&[u8]>) -> Image
+        requires { IfSome image (λ bytes. length bytes.now ≤ VALUE_BYTES) }
+        ensures { NamesImage result (option_map (λ bytes. bytes.now) image.entry) }
+    {
+        match image {
+            None => Image::absent(),
+            Some(value) => Image::present(value),
+        }
+    }
+
+    /// What a slot of a page holds.
+    pub fn of(slot: &Option<Value>) -> Image
+        ensures { NamesImage result slot.now }
+    {
+        match slot {
+            None => Image::absent(),
+            Some(value) => Image::present(value.as_slice()),
+        }
+    }
+
+    /// The value that it names; not writable where its length is 49 to 254.
+    pub fn value(&self) -> Result<Option<Value>, Fault>
+        ensures found { IfOk result (NamesImage self.now) }
+        ensures fits { IfOk result FitsSlot }
+        ensures err { IfErr result (λ e. e ≡ not_writable) }
+        ensures only { IfErr result (λ _. (image : Content) → NamesImage self.now image
+            → FitsSlot image → ⊥) }
+    {
+        if self.length == ABSENT {
+            return Ok(None);
+        }
+        match self.bytes.get(..self.length as usize) {
+            Some(bytes) => match Value::new(bytes) {
+                Some(value) => Ok(Some(value)),
+                None => Err(Fault::not_writable()),
+            },
+            None => Err(Fault::not_writable()),
+        }
+    }
+}

@@ -1,0 +1,161 @@
+//! What an engine writes of a log: its header, and the frames of its records.
+
+ghost use Rattle.std.specs.Prelude.{◌≡◌, ◌≢◌, ◌<◌, ◌≤◌, ℕ, List, ◌⊎◌, IfOk, IfErr};
+ghost use Rattle.wal.specs.declared.sizes.TheConstants.{LARGEST_BASE};
+ghost use Rattle.wal.specs.Headers.{header_of};
+ghost use Rattle.wal.specs.Spelling.{Fits, frame};
+ghost use Rattle.wal.specs.Content.{content};
+ghost use Rattle.wal.specs.declared.header.LogStart.TheVariants.{Version2};
+ghost use Rattle.aries_c.specs.Fault.{no_memory, not_writable};
+ghost use Rattle.aries_c.specs.LogHeader.{IsLogHeader};
+ghost use Rattle.aries_c.specs.Record.{IsFrame};
+ghost use Rattle.aries_c.specs.Tables.{IsEndFrame};
+ghost use Rattle.aries_c.specs.Writing.{Wrote, LacksRoom, IsAnswer, IsAnswerOrMemory};
+
+use crate::record::with_spelling;
+use crate::room::put;
+use crate::tables::{dirty_named, entries_named};
+use crate::{DirtyPage, Entry, Fault, Record};
+use std::alloc::Global;
+use wal::write_frame;
+
+/// The largest base LSN that a log may have: 2^63 - 1.
+const LARGEST_BASE: u64 = 9_223_372_036_854_775_807;
+
+/// How many bytes the header of a log takes in version 2.
+const BASED_HEADER_BYTES: usize = 16;
+
+/// The header of a log of version 2.
+fn based_header(base: u64) -> [u8; BASED_HEADER_BYTES]
+    ensures { result ≡ header_of (Version2 base) }
+{
+    let mut header = [0; BASED_HEADER_BYTES];
+    header[..8].copy_from_slice(b"ARIESLG2");
+    header[8..].copy_from_slice(&base.to_be_bytes());
+    header
+}
+
+/// Writes the header of a log to the front of a buffer: of version 1, with base LSN 0, 8 bytes; of
+/// version 2, with a base LSN of at most 2^63 - 1, 16 bytes. 65: any other version or base LSN; 64:
+/// the buffer is too short.
+#[unsafe(no_mangle)]
+pub extern "C" fn aries_write_log_header(
+    version: u32,
+    base_lsn: u64,
+    out: &mut [u8],
+    told: &mut usize,
+) -> Fault
+    ensures written { result.number ≡ 0
+        → Wrote (IsLogHeader version base_lsn) out.old out.new told.new }
+    ensures no_room { result.number ≡ 64
+        → LacksRoom (IsLogHeader version base_lsn) out.old told.new }
+    ensures not_writable { result.number ≡ 65
+        → (text : List ℕ) → ¬ IsLogHeader version base_lsn text }
+    ensures answer { IsAnswer result }
+    ensures kept { result.number ≢ 0 → out.new ≡ out.old }
+    ensures untold { result.number ≡ 65 → told.new ≡ told.old }
+{
+    match version {
+        1 if base_lsn == 0 => put(b"ARIESLG1", out, told),
+        2 if base_lsn <= LARGEST_BASE => put(&based_header(base_lsn), out, told),
+        _ => Fault::not_writable(),
+    }
+}
+
+/// The frame of a record at its LSN.
+fn frame_of(alloc: Global, logged: &wal::Record, lsn: u64) -> Result<Vec<u8>, Fault>
+    requires { Fits (content logged.now) }
+    ensures found { IfOk result (λ text. text.items ≡ frame (content logged.now) lsn) }
+    ensures lsn { IfOk result (λ _. 0 < lsn) }
+    ensures err { IfErr result (λ e. (e ≡ no_memory) ⊎ ((e ≡ not_writable) × (lsn ≡ 0))) }
+{
+    if lsn == 0 {
+        return Err(Fault::not_writable());
+    }
+    let mut frame = Vec::new(alloc);
+    write_frame(logged, lsn, &mut frame)?;
+    Ok(frame)
+}
+
+/// Writes the frame of a record, at its LSN, to the front of a buffer: any but that of a checkpoint
+/// end. 65: it has no spelling; 64: the buffer is too short; 1: memory was refused.
+#[unsafe(no_mangle)]
+pub extern "C" fn aries_write_record(
+    alloc: Global,
+    named: &Record,
+    out: &mut [u8],
+    told: &mut usize,
+) -> Fault
+    ensures written { result.number ≡ 0 → Wrote (IsFrame named.now) out.old out.new told.new }
+    ensures no_room { result.number ≡ 64 → LacksRoom (IsFrame named.now) out.old told.new }
+    ensures not_writable { result.number ≡ 65 → (text : List ℕ) → ¬ IsFrame named.now text }
+    ensures answer { IsAnswerOrMemory result }
+    ensures kept { result.number ≢ 0 → out.new ≡ out.old }
+    ensures untold { result.number ≢ 0 → result.number ≢ 64 → told.new ≡ told.old }
+{
+    match record_frame(alloc, named) {
+        Ok(frame) => put(&frame, out, told),
+        Err(fault) => fault,
+    }
+}
+
+/// The frame of the record that this names.
+fn record_frame(alloc: Global, named: &Record) -> Result<Vec<u8>, Fault>
+    ensures found { IfOk result (λ text. IsFrame named.now text.items) }
+    ensures err { IfErr result (λ e. (e ≡ no_memory)
+        ⊎ ((e ≡ not_writable) × ((text : List ℕ) → ¬ IsFrame named.now text))) }
+{
+    let record = named.writable()?;
+    frame_of(alloc, &record, named.lsn)
+}
+
+/// The frame of the checkpoint end with the tables that these name.
+fn end_frame(
+    alloc: Global,
+    lsn: u64,
+    begin: u64,
+    transactions: &[Entry],
+    dirty: &[DirtyPage],
+) -> Result<Vec<u8>, Fault>
+    ensures found { IfOk result (λ text.
+        IsEndFrame lsn begin transactions.now dirty.now text.items) }
+    ensures err { IfErr result (λ e. (e ≡ no_memory) ⊎ ((e ≡ not_writable)
+        × ((text : List ℕ) → ¬ IsEndFrame lsn begin transactions.now dirty.now text))) }
+{
+    let end = wal::Record::CheckpointEnd {
+        begin,
+        transactions: entries_named(alloc, transactions)?,
+        dirty: dirty_named(alloc, dirty)?,
+    };
+    let end = with_spelling(end)?;
+    frame_of(alloc, &end, lsn)
+}
+
+/// Writes the frame of a checkpoint end, at its LSN, to the front of a buffer: the LSN of its begin,
+/// and its tables, of at most 1,024 and 4,096 entries in rising order of transaction and of page. 65:
+/// it has no spelling; 64: the buffer is too short; 1: memory was refused.
+#[unsafe(no_mangle)]
+pub extern "C" fn aries_write_checkpoint_end(
+    alloc: Global,
+    lsn: u64,
+    begin: u64,
+    transactions: &[Entry],
+    dirty: &[DirtyPage],
+    out: &mut [u8],
+    told: &mut usize,
+) -> Fault
+    ensures written { result.number ≡ 0
+        → Wrote (IsEndFrame lsn begin transactions.now dirty.now) out.old out.new told.new }
+    ensures no_room { result.number ≡ 64
+        → LacksRoom (IsEndFrame lsn begin transactions.now dirty.now) out.old told.new }
+    ensures not_writable { result.number ≡ 65
+        → (text : List ℕ) → ¬ IsEndFrame lsn begin transactions.now dirty.now text }
+    ensures answer { IsAnswerOrMemory result }
+    ensures kept { result.number ≢ 0 → out.new ≡ out.old }
+    ensures untold { result.number ≢ 0 → result.number ≢ 64 → told.new ≡ told.old }
+{
+    match end_frame(alloc, lsn, begin, transactions, dirty) {
+        Ok(frame) => put(&frame, out, told),
+        Err(fault) => fault,
+    }
+}

@@ -1,0 +1,148 @@
+//! A store's header, and the images of its pages.
+
+ghost use Rattle.std.specs.Prelude.{◌≡◌, ◌≢◌, ◌<◌, ◌≤◌, ℕ, List, IfOk, IfErr, length};
+ghost use Rattle.page.specs.declared.page.Page.{Page as Content};
+ghost use Rattle.page.specs.declared.fault.Fault.TheVariants.{BadPage};
+ghost use Rattle.page.specs.Image.{FitsPage, SpellsPage};
+ghost use Rattle.page.specs.File.{store_header};
+ghost use Rattle.aries_c.specs.Fault.{done, told_of, not_writable};
+ghost use Rattle.aries_c.specs.Pages.{NamesPage, IsStoreHeader, IsPageImage};
+ghost use Rattle.aries_c.specs.Writing.{Wrote, LacksRoom, IsAnswer};
+
+use crate::room::put;
+use crate::{Fault, Image};
+use page::{PAGE_BYTES, PAGES, SLOTS, Value, decode_page, encode_page};
+
+/// How many bytes the header of a store takes.
+const STORE_HEADER_BYTES: usize = 24;
+
+/// A page: its number from 0, PageLSN, 0 for none, and what its 16 slots hold.
+#[repr(C)]
+#[derive(Clone, Copy)]
+pub struct Page {
+    pub lsn: u64,
+    pub number: u32,
+    pub slots: [Image; SLOTS],
+}
+
+impl Page {
+    /// This page.
+    fn of(page: &page::Page) -> Page
+        ensures { NamesPage result page.now }
+    {
+        let mut slots = [Image::absent(); SLOTS];
+        for (i, slot) in page.slots.iter().enumerate() {
+            slots[i] = Image::of(slot);
+        }
+        Page {
+            lsn: page.lsn,
+            number: page.number,
+            slots,
+        }
+    }
+
+    /// The page that it names; not writable where a slot names no value.
+    fn page(&self) -> Result<page::Page, Fault>
+        ensures found { IfOk result (NamesPage self.now) }
+        ensures err { IfErr result (λ e. e ≡ not_writable) }
+        ensures only { IfErr result (λ _. (page : Content) → NamesPage self.now page
+            → FitsPage page → ⊥) }
+    {
+        let mut slots: [Option<Value>; SLOTS] = [None; SLOTS];
+        for (i, image) in self.slots.iter().enumerate() {
+            slots[i] = image.value()?;
+        }
+        Ok(page::Page {
+            number: self.number,
+            lsn: self.lsn,
+            slots,
+        })
+    }
+}
+
+/// The first 24 bytes of a store file of this many pages with this master LSN.
+fn store_header(pages: u32, master: u64) -> [u8; STORE_HEADER_BYTES]
+    ensures { result ≡ store_header pages master }
+{
+    let mut header = [0; STORE_HEADER_BYTES];
+    header[..8].copy_from_slice(b"ARIESPG1");
+    header[8..12].copy_from_slice(&pages.to_be_bytes());
+    header[16..].copy_from_slice(&master.to_be_bytes());
+    header
+}
+
+/// Writes a store's header, 24 bytes, to the front of a buffer: its page count, 1 to 4,096, and its
+/// master LSN, 0 for none. 65: the page count is out of range; 64: the buffer is too short.
+#[unsafe(no_mangle)]
+pub extern "C" fn aries_write_store_header(
+    pages: u32,
+    master: u64,
+    out: &mut [u8],
+    told: &mut usize,
+) -> Fault
+    ensures written { result.number ≡ 0
+        → Wrote (IsStoreHeader pages master) out.old out.new told.new }
+    ensures no_room { result.number ≡ 64
+        → LacksRoom (IsStoreHeader pages master) out.old told.new }
+    ensures not_writable { result.number ≡ 65
+        → (text : List ℕ) → ¬ IsStoreHeader pages master text }
+    ensures answer { IsAnswer result }
+    ensures kept { result.number ≢ 0 → out.new ≡ out.old }
+    ensures untold { result.number ≡ 65 → told.new ≡ told.old }
+{
+    if pages == 0 || pages as usize > PAGES {
+        return Fault::not_writable();
+    }
+    put(&store_header(pages, master), out, told)
+}
+
+/// Writes the image of a page, 1,024 bytes, to the front of a buffer. 65: the length of a slot is 49
+/// to 254; 64: the buffer is too short.
+#[unsafe(no_mangle)]
+pub extern "C" fn aries_write_page(page: &Page, out: &mut [u8], told: &mut usize) -> Fault
+    ensures written { result.number ≡ 0 → Wrote (IsPageImage page.now) out.old out.new told.new }
+    ensures no_room { result.number ≡ 64 → LacksRoom (IsPageImage page.now) out.old told.new }
+    ensures not_writable { result.number ≡ 65
+        → (text : List ℕ) → ¬ IsPageImage page.now text }
+    ensures answer { IsAnswer result }
+    ensures kept { result.number ≢ 0 → out.new ≡ out.old }
+    ensures untold { result.number ≡ 65 → told.new ≡ told.old }
+{
+    match page.page() {
+        Ok(page) => put(&encode_page(&page), out, told),
+        Err(fault) => fault,
+    }
+}
+
+/// The page of this number whose image the bytes are. Any other bytes are number 12 with the page
+/// number, and leave `page` as it is.
+#[unsafe(no_mangle)]
+pub extern "C" fn aries_read_page(bytes: &[u8], number: u32, page: &mut Page) -> Fault
+    ensures read { result.number ≡ 0 → (content : Content) × SpellsPage bytes.now content
+        × (content.number ≡ number) × NamesPage page.new content }
+    ensures bad { result.number ≢ 0 → (result ≡ told_of (BadPage number))
+        × ((content : Content) → SpellsPage bytes.now content → content.number ≢ number) }
+    ensures kept { result.number ≢ 0 → page.new ≡ page.old }
+{
+    match page_in(bytes, number) {
+        Ok(read) => {
+            *page = Page::of(&read);
+            Fault::none()
+        }
+        Err(fault) => Fault::from(fault),
+    }
+}
+
+/// The page of this number that the bytes spell.
+fn page_in(bytes: &[u8], number: u32) -> Result<page::Page, page::Fault>
+    ensures found { IfOk result (λ page. SpellsPage bytes.now page × (page.number ≡ number)) }
+    ensures bad { IfErr result (λ e. (e ≡ BadPage number)
+        × ((page : Content) → SpellsPage bytes.now page → page.number ≢ number)) }
+{
+    if bytes.len() != PAGE_BYTES {
+        return Err(page::Fault::BadPage(number));
+    }
+    let mut image = [0; PAGE_BYTES];
+    image.copy_from_slice(bytes);
+    decode_page(&image, number)
+}

@@ -1,0 +1,33 @@
+//! Buffers of the caller.
+
+ghost use Rattle.std.specs.Prelude.{◌≡◌, ◌≢◌, ◌<◌, ◌≤◌, ◌++◌, drop, length};
+ghost use Rattle.aries_c.specs.Fault.{no_room};
+ghost use Rattle.aries_c.specs.Writing.{IsAnswer};
+
+use crate::Fault;
+
+/// Writes a text to the front of a buffer, and tells its length in bytes. A buffer that is too short
+/// is left as it is: number 64.
+pub fn put(text: &[u8], out: &mut [u8], told: &mut usize) -> Fault
+    ensures told { told.new ≡ length text.now }
+    ensures written { result.number ≡ 0
+        → out.new ≡ text.now ++ drop (length text.now) out.old }
+    ensures answer { IsAnswer result }
+    ensures short { result.number ≢ 0
+        → (result ≡ no_room) × (length out.old < length text.now) × (out.new ≡ out.old) }
+{
+    *told = text.len();
+    if out.len() < text.len() {
+        return Fault::no_room();
+    }
+    copy_to(text, out);
+    Fault::none()
+}
+
+/// Writes a text to the front of a buffer.
+pub fn copy_to(text: &[u8], out: &mut [u8])
+    requires { length text.now ≤ length out.old }
+    ensures { out.new ≡ text.now ++ drop (length text.now) out.old }
+{
+    out[..text.len()].copy_from_slice(text);
+}
