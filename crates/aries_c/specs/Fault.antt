@@ -1,5 +1,5 @@
 -- What C is told of a fault (own).
-use Rattle.std.specs.Prelude.{◌≡◌, ◌⊎◌, ℕ}
+use Rattle.std.specs.Prelude.{◌≡◌, ◌<◌, ◌^◌, ◌⊎◌, ℕ, ⊤}
 use Rattle.page.specs.Fault.{number_of}
 use Rattle.page.specs.declared.fault.Fault.{Fault}
 use Rattle.page.specs.declared.fault.Fault.TheVariants.{NoResource, ReadLog, ReadStore, WriteLog, WriteStore, BadLogHeader, BadLength, BadRecord, BadLsn, BadStoreHeader, StoreSize, BadPage, BadMaster, NoSuchPage, PageAheadOfLog, BrokenChain, BadParting, BadWorkers, Chain, AfterFinish, WrongCompensation, BeforeImage, DirtyWrite, EndTooEarly, PageImage, TransactionTable, DirtyTable, BadBase}
@@ -64,3 +64,48 @@ not_writable = record { number = 65; place = 0 }
 -- the call was not refused but for want of memory
 abbrev pub IsOnlyMemory : Told → Type 0
 IsOnlyMemory told = (told ≡ done) ⊎ (told ≡ no_memory)
+
+-- BY ITS PLACE
+-- no place
+abbrev pub IsBare : Fault → Type 0
+IsBare NoResource = ⊤
+IsBare ReadLog = ⊤
+IsBare ReadStore = ⊤
+IsBare WriteLog = ⊤
+IsBare WriteStore = ⊤
+IsBare BadLogHeader = ⊤
+IsBare BadStoreHeader = ⊤
+IsBare StoreSize = ⊤
+IsBare BadMaster = ⊤
+IsBare BadParting = ⊤
+IsBare BadWorkers = ⊤
+IsBare TransactionTable = ⊤
+IsBare BadBase = ⊤
+IsBare fault = ⊥
+
+-- a page
+abbrev pub IsOfPage : Fault → Type 0
+IsOfPage (BadPage number) = number < 2 ^ 32
+IsOfPage (PageAheadOfLog number) = number < 2 ^ 32
+IsOfPage (PageImage number) = number < 2 ^ 32
+IsOfPage (DirtyTable number) = number < 2 ^ 32
+IsOfPage fault = ⊥
+
+-- an offset or an LSN
+abbrev pub IsAtLsn : Fault → Type 0
+IsAtLsn (BadLength offset) = ⊤
+IsAtLsn (BadRecord offset) = ⊤
+IsAtLsn (BadLsn offset) = ⊤
+IsAtLsn (NoSuchPage lsn) = ⊤
+IsAtLsn (BrokenChain lsn) = ⊤
+IsAtLsn (Chain lsn) = ⊤
+IsAtLsn (AfterFinish lsn) = ⊤
+IsAtLsn (WrongCompensation lsn) = ⊤
+IsAtLsn (BeforeImage lsn) = ⊤
+IsAtLsn (DirtyWrite lsn) = ⊤
+IsAtLsn (EndTooEarly lsn) = ⊤
+IsAtLsn fault = ⊥
+
+-- a fault of the library, whose page is a number of 32 bits
+abbrev pub IsFault : Fault → Type 0
+IsFault fault = IsBare fault ⊎ (IsAtLsn fault ⊎ IsOfPage fault)

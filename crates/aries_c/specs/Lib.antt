@@ -4,5 +4,6 @@ pub mod Image
 pub mod LogHeader
 pub mod Pages
 pub mod Record
+pub mod Recovered
 pub mod Tables
 pub mod Writing

@@ -9,8 +9,10 @@ mod image;
 mod log_writing;
 mod pages;
 mod record;
+mod recovered;
 mod room;
 mod tables;
+mod text;
 
 pub use audited::{aries_audit, aries_audit_from};
 pub use dump::{Read, aries_checkpoint, aries_records};
@@ -19,4 +21,6 @@ pub use image::Image;
 pub use log_writing::{aries_write_checkpoint_end, aries_write_log_header, aries_write_record};
 pub use pages::{Page, aries_read_page, aries_write_page, aries_write_store_header};
 pub use record::Record;
+pub use recovered::{Recovered, aries_recover};
 pub use tables::{DirtyPage, Entry, Tables};
+pub use text::aries_fault_text;
