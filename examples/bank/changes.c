@@ -133,8 +133,8 @@ void bank_commit(struct bank *bank, struct transaction *transaction) {
 /* The store. */
 
 /* An image lies in its file across at most one border of 4,096 bytes, with just its last 24 bytes behind it. These are
- * always 0, so a kill in the midst of the write leaves the old or the new image. A power cut is another matter: against
- * one the device has to write 1,024 bytes as a whole, or pages have to be written twice, first to a place of their own. */
+ * always 0, so a kill in the midst of the write leaves the old or the new image. A power cut is another matter: there
+ * the device has to write 1,024 bytes as a whole, or pages have to be written twice, first to a place of their own. */
 void bank_flush_page(struct bank *bank, uint32_t number) {
     uint8_t image[ARIES_PAGE_BYTES];
     size_t length = 0;

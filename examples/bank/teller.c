@@ -4,7 +4,7 @@
  *   bank show FOLDER               opens the bank and prints what it holds
  *   bank audit FOLDER              prints `lawful` where its files are, and opens nothing
  *
- * An eighth of the pages are accounts, a cell each; the others are the ledger, in which each transfer has a cell, by its
+ * An eighth of the pages are accounts, a cell each; the others are the ledger, where each transfer has a cell, by its
  * number. An account that nobody has come to has no value, and holds OPENING_BALANCE. */
 #include "bank.h"
 
