@@ -12,7 +12,7 @@
 #include <string.h>
 #include <unistd.h>
 
-enum { BUFFER_ROOM = 4 * FRAME_ROOM, TAIL_ROOM = 64 * 1024 };
+enum { BUFFER_ROOM = 4 * FRAME_ROOM };
 
 static void base_name(char name[32], uint64_t base_lsn) {
     snprintf(name, 32, "base-%llu", (unsigned long long)base_lsn);
@@ -29,7 +29,6 @@ static void start_log(int folder, uint32_t version, uint64_t base_lsn) {
 
 struct recovery {
     struct aries_recovered made;
-    struct bytes tail, store;
     uint32_t in_doubt[TRANSACTIONS];
 };
 
@@ -47,37 +46,30 @@ static void make_files(int folder, uint32_t page_count) {
     start_log(folder, 1, 0);
 }
 
-/* Recovers these bytes; once more, with room, where the tail is longer than was thought. */
-static struct aries_fault recover_bytes(struct bytes log, struct bytes store, struct recovery *recovery) {
-    for (size_t room = TAIL_ROOM;; room = recovery->made.tail_length) {
-        recovery->tail = bytes_of(room);
-        recovery->store = bytes_of(store.length);
-        struct aries_fault fault = aries_recover(log.at, log.length, store.at, store.length, recovery->tail.at,
-            recovery->tail.length, recovery->store.at, recovery->store.length, recovery->in_doubt, TRANSACTIONS,
-            &recovery->made);
-        if (fault.number != ARIES_NO_ROOM || recovery->made.tail_length <= room) return fault;
-        free(recovery->tail.at);
-        free(recovery->store.at);
-    }
-}
-
-/* Recovers the files. The log comes first: until the new store is in place, the old one goes with the longer log. */
+/* Recovers the files. The log comes first: until the new store is in place, the old one goes with the longer log.
+ *
+ * No tail is more than twice as long as its log: a CLR has at most 7 bytes more than its update, which has 32 or more,
+ * and an end no more than the transaction's first record. */
 static struct recovery recover_files(int folder) {
     struct bytes log = read_file(folder, "log"), store = read_file(folder, "store");
-    struct recovery recovery;
-    stop_at(recover_bytes(log, store, &recovery));
-    size_t kept = log.length - recovery.made.torn;
+    struct bytes tail = bytes_of(2 * log.length), new_store = bytes_of(store.length);
+    struct recovery it;
+    stop_at(aries_recover(log.at, log.length, store.at, store.length, tail.at, tail.length, new_store.at,
+        new_store.length, it.in_doubt, TRANSACTIONS, &it.made));
+
+    size_t kept = log.length - it.made.torn;
     int file = open_file(folder, "log");
     cut_file(file, kept);
-    write_at(file, recovery.tail.at, recovery.made.tail_length, kept);
+    write_at(file, tail.at, it.made.tail_length, kept);
     sync_file(file);
-    replace_file(folder, "store", recovery.store.at, recovery.made.store_length);
+    replace_file(folder, "store", new_store.at, it.made.store_length);
+
     close(file);
     free(log.at);
     free(store.at);
-    free(recovery.tail.at);
-    free(recovery.store.at);
-    return recovery;
+    free(tail.at);
+    free(new_store.at);
+    return it;
 }
 
 struct records {

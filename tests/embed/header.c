@@ -66,8 +66,8 @@ static void make_store(struct text *store, uint64_t master, uint64_t lsn, const 
 }
 
 static void check_headers(void) {
-    static const uint8_t two[16] = "ARIESLG2\0\0\0\0\0\0\1\2";
-    static const uint8_t store[24] = "ARIESPG1\0\0\1\3\0\0\0\0\0\0\0\0\0\0\0\7";
+    static const uint8_t two[] = "ARIESLG2\0\0\0\0\0\0\1\2";
+    static const uint8_t store[] = "ARIESPG1\0\0\1\3\0\0\0\0\0\0\0\0\0\0\0\7";
     uint8_t out[32] = {0};
     size_t length = 0;
     need(is_done(aries_write_log_header(1, 0, out, 8, &length)) && length == 8 && memcmp(out, "ARIESLG1", 8) == 0);
@@ -86,7 +86,7 @@ static void check_headers(void) {
 }
 
 static void check_frames(void) {
-    static const uint8_t update[33] = "\0\0\0\x1d\1\0\0\0\0\0\0\0\1\0\0\0\1\0\0\0\0\0\0\0\0\0\0\0\0\0\xff\1" "a";
+    static const uint8_t update[] = "\0\0\0\x1d\1\0\0\0\0\0\0\0\1\0\0\0\1\0\0\0\0\0\0\0\0\0\0\0\0\0\xff\1" "a";
     static const uint8_t clr[] =
         "\0\0\0\x24\2\0\0\0\0\0\0\0\3\0\0\0\4\0\0\0\0\0\0\0\5\0\0\0\6\7\0\0\0\0\0\0\0\x08\1" "b";
     struct aries_record record = {.lsn = 1, .tx = 1, .kind = 1, .before = ABSENT, .after = A};

@@ -1,0 +1,45 @@
+#!/bin/sh
+# Installs the header, the proved archive with a heap over malloc, the program where it is built, and what CMake and
+# pkg-config ask for. Takes cc and ar, or what CC and AR name.
+#
+# usage: [ARIES_LIB=FOLDER] [DESTDIR=FOLDER] ./install.sh PREFIX
+#
+# PREFIX is a whole path, as /usr/local. ARIES_LIB is the folder of libaries_c.a, else where `rt lib` in crates/aries_c
+# puts it. Under DESTDIR everything is put, and nothing that is written tells of it.
+set -eu
+
+[ $# -eq 1 ] || { echo "usage: [ARIES_LIB=FOLDER] [DESTDIR=FOLDER] $0 PREFIX" >&2; exit 2; }
+case $1 in /*) ;; *) echo "$1: not a whole path" >&2; exit 2 ;; esac
+
+top=$(cd "$(dirname "$0")" && pwd)
+prefix=$1
+to=${DESTDIR:-}$prefix
+archive=${ARIES_LIB:-$top/crates/aries_c/out}/libaries_c.a
+program=$top/crates/aries_cli/out/aries_cli
+version=0.1.0
+
+[ -f "$archive" ] || { echo "$archive is missing: \`rt lib\` in crates/aries_c builds it" >&2; exit 1; }
+work=$(mktemp -d)
+trap 'rm -rf "$work"' EXIT
+
+"${CC:-cc}" -std=c11 -O2 -fPIC -c "$top/bindings/c/heap.c" -o "$work/heap.o"
+"${AR:-ar}" rcs "$work/libaries_heap.a" "$work/heap.o"
+sed -e "s|@prefix@|$prefix|" -e "s|@version@|$version|" "$top/cmake/aries.pc.in" > "$work/aries.pc"
+
+# put MODE FILE FOLDER [NAME]
+put() {
+    mkdir -p "$to/$3"
+    cp "$2" "$to/$3/${4:-$(basename "$2")}"
+    chmod "$1" "$to/$3/${4:-$(basename "$2")}"
+}
+
+put 644 "$top/include/aries.h" include
+put 644 "$archive" lib
+put 644 "$work/libaries_heap.a" lib
+put 644 "$work/aries.pc" lib/pkgconfig
+put 644 "$top/cmake/ariesConfig.cmake" lib/cmake/aries
+if [ -f "$program" ]; then
+    put 755 "$program" bin aries
+else
+    echo "$program is missing, so no program is installed: \`rt ci\` builds it" >&2
+fi

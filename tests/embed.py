@@ -1,0 +1,309 @@
+#!/usr/bin/env python3
+"""Runs the proved library as a program in C has it: every call of the header, the worked rows, a bank that is killed, what is installed, the wrapper in Rust.
+
+usage: tests/embed.py [--backend llvm|rattle|both] [--library FOLDER] [--kills N]      at the top of the repository, behind `rt ci` and `tests/run.py`
+
+Builds the archive from what `rt ci` left, through one back end or through both, which then have to agree on all rows; or takes libaries_c.a from a folder.
+Compiles and links C by the toolchain's own clang. Prints a line for each check, and at last `N passed, N failed`; the status is 1 where one failed. Takes
+python3 and the C library's headers; what is installed is tried by cc, pkg-config and cmake, and the wrapper by cargo, where they are there.
+"""
+import argparse
+import os
+import re
+import shutil
+import subprocess
+import sys
+import tempfile
+
+sys.dont_write_bytecode = True  # no folder of it beside the tests
+from run import ARIES, SMALL_ROWS, TOP, Tally, run, text_of  # noqa: E402
+
+CRATE = "aries_c"
+ARCHIVE = f"lib{CRATE}.a"
+INCLUDE = os.path.join(TOP, "include")
+BANK = os.path.join(TOP, "examples/bank")
+TARGET = "x86_64-unknown-linux-gnu"
+# The toolchain's clang has no headers of its own. The first three are for the C library's; `plain` makes do without that one.
+HEADERS = {
+    "compiler/stddef.h": """\
+#pragma once
+typedef __SIZE_TYPE__ size_t;
+typedef __PTRDIFF_TYPE__ ptrdiff_t;
+typedef __WCHAR_TYPE__ wchar_t;
+#define NULL ((void *)0)
+#define offsetof(type, member) __builtin_offsetof(type, member)
+""",
+    "compiler/stdarg.h": """\
+#pragma once
+typedef __builtin_va_list va_list;
+typedef __builtin_va_list __gnuc_va_list;
+#define va_start(list, last) __builtin_va_start(list, last)
+#define va_end(list) __builtin_va_end(list)
+#define va_arg(list, type) __builtin_va_arg(list, type)
+#define va_copy(to, from) __builtin_va_copy(to, from)
+""",
+    "compiler/stdbool.h": """\
+#pragma once
+#define bool _Bool
+#define true 1
+#define false 0
+""",
+    "plain/stddef.h": "#pragma once\ntypedef __SIZE_TYPE__ size_t;\n",
+    "plain/stdint.h": """\
+#pragma once
+typedef __UINT8_TYPE__ uint8_t;
+typedef __UINT32_TYPE__ uint32_t;
+typedef __UINT64_TYPE__ uint64_t;
+""",
+}
+
+
+def folder_of_toolchain():
+    return os.path.dirname(run(["rt", "doc"], text=True, check=True).stdout.strip())
+
+
+def has_run(words, **how):
+    """Whether a command ended with status 0; else what it said is put on standard error."""
+    ran = run(words, text=True, **how)
+    if ran.returncode != 0:
+        sys.stderr.write(ran.stdout + ran.stderr)
+    return ran.returncode == 0
+
+
+class Toolchain:
+    """Compiles and links C, with a folder for headers, objects and programs."""
+
+    def __init__(self, room):
+        self.kit, self.room = folder_of_toolchain(), room
+        for name, text in HEADERS.items():
+            path = os.path.join(room, name)
+            os.makedirs(os.path.dirname(path), exist_ok=True)
+            with open(path, "w") as file:
+                file.write(text)
+
+    def at(self, name):
+        return os.path.join(self.room, name)
+
+    def compiled(self, source, *flags):
+        """The object of a source, or None."""
+        made = self.at(os.path.basename(source) + ".o")
+        words = [f"{self.kit}/toolchain/bin/clang", "-O2", "-Wall", "-Wextra", "-Werror", "-I", INCLUDE, *flags]
+        return made if has_run([*words, "-c", source, "-o", made]) else None
+
+    def program(self, name, sources, archive, flags):
+        """The program, linked to the archive and to a heap over malloc; None where it cannot be made."""
+        objects = [self.compiled(source, *flags) for source in sources]
+        if None in objects:
+            return None
+        made = self.at(name)
+        words = [f"{self.kit}/bin/rattle-link", "--target", TARGET, "--toolchain", f"{self.kit}/toolchain", "-o", made]
+        return made if has_run([*words, *objects, archive, f"{self.kit}/c/liblibc_c.a"]) else None
+
+    def plain_flags(self):
+        return ["-std=c11", "-nostdinc", "-isystem", self.at("plain")]
+
+    def flags(self):
+        return ["-std=c11", "-D_POSIX_C_SOURCE=200809L", "-isystem", self.at("compiler")]
+
+
+# The archive.
+
+def crates_below():
+    """The crates that the static library names, from crates.txt."""
+    found = re.search(rf"^{CRATE} staticlib[^:]*:(.*)$", text_of("crates.txt"), re.M)
+    return found.group(1).split() if found else []
+
+
+def build_words(kit):
+    """What `rattle build` is told for the static library, over the libraries that `rt ci` built."""
+    words = ["--crate-name", CRATE, "src/lib.rt", "--extern", f"std={kit}/rlibs/std.rlib", "-L", f"dependency={kit}/rlibs"]
+    for name in crates_below():
+        own = os.path.join(TOP, f"crates/{name}/out/rlib/{name}.rlib")
+        words += ["--extern", f"{name}={own if os.path.exists(own) else f'{kit}/rlibs/{name}.rlib'}"]
+    for name in sorted(os.listdir(os.path.join(TOP, "crates"))):
+        words += ["-L", f"dependency={TOP}/crates/{name}/out/rlib"]
+    words += ["--antt-project", f"{kit}/rattle/logic/antt-project.json", "--logic-built", f"{kit}/logic_built"]
+    return [*words, "--links", f"{CRATE}=", "--crate-type", "staticlib", "--jobs", "2", "--toolchain", f"{kit}/toolchain"]
+
+
+def built_archive(toolchain, backend):
+    """Checks the library once more and builds it through this back end; None where that is refused."""
+    made = toolchain.at(f"{backend}/{ARCHIVE}")
+    os.makedirs(os.path.dirname(made))
+    words = [f"{toolchain.kit}/bin/rattle", "build", *build_words(toolchain.kit), "--backend", backend, "-o", made]
+    return made if has_run(words, cwd=os.path.join(TOP, "crates", CRATE), stdin=subprocess.DEVNULL) else None
+
+
+# The header: each call and each field of it stands in the test, and the test passes.
+
+def names_of_the_header():
+    """The calls, the fields and the constants that the header declares, its comments aside."""
+    header = re.sub(r"/\*.*?\*/", "", text_of("include/aries.h"), flags=re.S)
+    calls = set(re.findall(r"\b(aries_\w+)\(", header))
+    bodies = re.findall(r"struct \w+ \{(.*?)\}", header, re.S)
+    fields = {name for body in bodies for name in re.findall(r"(\w+)(?:\[\d+\])?\s*[,;]", body)}
+    constants = set(re.findall(r"\b(ARIES_[A-Z_]+)\s*=", header))
+    return calls | fields | constants
+
+
+def check_header(tally, toolchain, archive, how):
+    source = os.path.join(TOP, "tests/embed/header.c")
+    program = toolchain.program("header", [source], archive, toolchain.plain_flags())
+    status = run([program]).returncode if program else "not built"
+    tally.say(f"every call of the header{how}", status == 0, f"the first check that fails: {status}")
+
+
+def check_names(tally, toolchain):
+    tested = text_of("tests/embed/header.c")
+    missing = sorted(name for name in names_of_the_header() if not re.search(rf"\b{name}\b", tested))
+    tally.say("the test of the header has all its names", not missing, missing)
+    source = toolchain.at("header.cc")
+    with open(source, "w") as file:
+        file.write('#include "aries.h"\n')
+    flags = ["-x", "c++", "-std=c++17", "-nostdinc", "-isystem", toolchain.at("plain")]
+    tally.say("the header in C++", toolchain.compiled(source, *flags) is not None)
+
+
+# The rows.
+
+def check_rows(tally, toolchain, archive, how):
+    program = toolchain.program("rows", [os.path.join(TOP, "tests/embed/rows.c")], archive, toolchain.flags())
+    if not program:
+        tally.say(f"rows{how}", False, "not built")
+        return
+    ran = run([program, SMALL_ROWS], text=True)
+    for line in ran.stdout.splitlines():
+        row, _, answer = line.rpartition(": ")
+        tally.say(f"{row}{how}", answer == "ok")
+    lines = len(text_of("crates/rows/data/index").splitlines())
+    is_whole = len(ran.stdout.splitlines()) == lines and ran.returncode in (0, 1)
+    tally.say(f"all rows of the index{how}", is_whole, f"status {ran.returncode}, {ran.stderr}")
+
+
+# The bank.
+
+def check_bank(tally, toolchain, archive, kills):
+    sources = [os.path.join(BANK, name) for name in sorted(os.listdir(BANK)) if name.endswith(".c")]
+    engine = toolchain.program("bank", sources, archive, toolchain.flags())
+    if not engine:
+        tally.say("the bank", False, "not built")
+        return
+    words = [sys.executable, os.path.join(BANK, "drive.py"), "--kills", str(kills)]
+    words += ["--aries", ARIES] if os.path.exists(ARIES) else []
+    ran = run([*words, engine], text=True)
+    lines = ran.stdout.splitlines() or [""]
+    is_well = ran.returncode == 0 and lines[-1] == f"{kills} kills, nothing lost"
+    tally.say(f"the bank, {kills} kills", is_well, f"{lines[-1]}{ran.stderr}")
+
+
+def is_code_of_the_bank(document):
+    """Whether each part of the C in a document stands so in the bank."""
+    bank, shown = text_of("examples/bank/bank.c"), re.findall(r"```c\n(.*?)```", text_of(document), re.S)
+    return bool(shown) and all(part.strip("\n") in bank for code in shown for part in code.split("\n\n"))
+
+
+# What is installed, and the wrapper: by the machine's own tools, where they are there.
+
+USER = """\
+#include <aries.h>
+#include <stdio.h>
+int main(void) {
+    uint8_t header[8];
+    size_t length;
+    struct aries_fault fault = aries_write_log_header(1, 0, header, sizeof header, &length);
+    printf("%.*s\\n", (int)length, (const char *)header);
+    return (int)(fault.number + aries_audit(header, 0, header, 0).number);
+}
+"""
+CMAKE = """\
+cmake_minimum_required(VERSION 3.10)
+project(user C)
+find_package(aries REQUIRED)
+add_executable(user user.c)
+target_link_libraries(user aries::aries)
+"""
+
+
+def is_user_right(program):
+    """Whether the program writes a header, and is told fault 6 for a log without one."""
+    ran = run([program], text=True)
+    return ran.stdout == "ARIESLG1\n" and ran.returncode == 6
+
+
+def is_pkg_config_right(room, prefix):
+    settings = dict(os.environ, PKG_CONFIG_PATH=os.path.join(prefix, "lib/pkgconfig"))
+    flags = run(["pkg-config", "--cflags", "--libs", "aries"], text=True, env=settings).stdout.split()
+    program = os.path.join(room, "by-pkg-config")
+    is_built = has_run(["cc", os.path.join(room, "user.c"), *flags, "-o", program])
+    return is_built and is_user_right(program)
+
+
+def is_cmake_right(room, prefix):
+    build = os.path.join(room, "cmake-build")
+    is_made = has_run(["cmake", "-S", room, "-B", build, f"-DCMAKE_PREFIX_PATH={prefix}"])
+    return is_made and has_run(["cmake", "--build", build]) and is_user_right(os.path.join(build, "user"))
+
+
+def check_installed(tally, room, archive):
+    prefix, user = os.path.join(room, "prefix"), os.path.join(room, "user")
+    os.mkdir(user)
+    for name, text in (("user.c", USER), ("CMakeLists.txt", CMAKE)):
+        with open(os.path.join(user, name), "w") as file:
+            file.write(text)
+    settings = dict(os.environ, ARIES_LIB=os.path.dirname(archive))
+    ran = run([os.path.join(TOP, "install.sh"), prefix], env=settings, text=True)
+    tally.say("install.sh", ran.returncode == 0, ran.stderr)
+    if ran.returncode == 0 and shutil.which("pkg-config"):
+        tally.say("by pkg-config", is_pkg_config_right(user, prefix))
+    if ran.returncode == 0 and shutil.which("cmake"):
+        tally.say("by cmake", is_cmake_right(user, prefix))
+
+
+def check_wrapper(tally, room, archive):
+    """The tests of the wrapper in Rust; what cargo builds goes to the temporary folder."""
+    settings = dict(os.environ, ARIES_LIB=os.path.dirname(archive), CARGO_TARGET_DIR=os.path.join(room, "cargo"))
+    words = ["cargo", "test", "--offline", "--manifest-path", os.path.join(TOP, "bindings/rust/Cargo.toml")]
+    ran = run(words, env=settings, text=True)
+    tally.say("the wrapper in Rust", ran.returncode == 0, ran.stdout + ran.stderr)
+
+
+def asked_for():
+    parser = argparse.ArgumentParser(description="runs the proved library as a program in C has it")
+    parser.add_argument("--backend", choices=("llvm", "rattle", "both"), default="llvm")
+    parser.add_argument("--library", help=f"the folder of {ARCHIVE}, in place of building it")
+    parser.add_argument("--kills", type=int, default=20)
+    return parser.parse_args()
+
+
+def archives(asked, toolchain):
+    """The archives that are asked for, each with the words that tell it in a check's name."""
+    if asked.library:
+        return {"": os.path.join(os.path.abspath(asked.library), ARCHIVE)}
+    if asked.backend != "both":
+        return {"": built_archive(toolchain, asked.backend)}
+    return {f", back end {backend}": built_archive(toolchain, backend) for backend in ("llvm", "rattle")}
+
+
+def main():
+    asked, tally = asked_for(), Tally()
+    with tempfile.TemporaryDirectory(prefix="aries-embed-") as room:
+        toolchain = Toolchain(room)
+        check_names(tally, toolchain)
+        tally.say("README's code is the bank's", is_code_of_the_bank("README.md"))
+        made = archives(asked, toolchain)
+        for how, archive in made.items():
+            tally.say(f"the archive{how}", archive is not None)
+            if archive:
+                check_header(tally, toolchain, archive, how)
+                check_rows(tally, toolchain, archive, how)
+        first = next(iter(made.values()))
+        if first:
+            check_bank(tally, toolchain, first, asked.kills)
+            check_installed(tally, room, first)
+            if shutil.which("cargo"):
+                check_wrapper(tally, room, first)
+    print(f"{tally.passed} passed, {tally.failed} failed")
+    sys.exit(1 if tally.failed else 0)
+
+
+main()
