@@ -1,11 +1,14 @@
 #!/usr/bin/env python3
-"""Runs the proved library as a program in C has it: every call of the header, the worked rows, a bank that is killed, what is installed, the wrapper in Rust.
+"""Runs the proved library as a program in C has it: every call of the header, the worked rows, a bank that is killed,
+what is installed, and the wrapper in Rust.
 
-usage: tests/embed.py [--backend llvm|rattle|both] [--library FOLDER] [--kills N]      at the top of the repository, behind `rt ci` and `tests/run.py`
+usage: tests/embed.py [--backend llvm|rattle|both] [--library FOLDER] [--kills N]
+       at the top of the repository, behind `rt ci` and `tests/run.py`
 
-Builds the archive from what `rt ci` left, through one back end or through both, which then have to agree on all rows; or takes libaries_c.a from a folder.
-Compiles and links C by the toolchain's own clang. Prints a line for each check, and at last `N passed, N failed`; the status is 1 where one failed. Takes
-python3 and the C library's headers; what is installed is tried by cc, pkg-config and cmake, and the wrapper by cargo, where they are there.
+Builds the archive from what `rt ci` left, through one back end or through both, which then have to agree on all rows;
+or takes libaries_c.a from a folder. Compiles and links C by the toolchain's own clang. Prints a line for each check,
+and at last `N passed, N failed`; the status is 1 where one failed. Takes python3, cc and the C library's headers; what
+is installed is tried by pkg-config and cmake, and the wrapper by cargo, where they are there.
 """
 import argparse
 import os
@@ -16,14 +19,14 @@ import sys
 import tempfile
 
 sys.dont_write_bytecode = True  # no folder of it beside the tests
-from run import ARIES, SMALL_ROWS, TOP, Tally, run, text_of  # noqa: E402
+from run import ARIES, SMALL_ROWS, TOP, Tally, library_of, run, text_of  # noqa: E402
 
 CRATE = "aries_c"
 ARCHIVE = f"lib{CRATE}.a"
 INCLUDE = os.path.join(TOP, "include")
 BANK = os.path.join(TOP, "examples/bank")
 TARGET = "x86_64-unknown-linux-gnu"
-# The toolchain's clang has no headers of its own. The first three are for the C library's; `plain` makes do without that one.
+# The toolchain's clang has no headers of its own. The first three go with those of the C library, `plain` does without.
 HEADERS = {
     "compiler/stddef.h": """\
 #pragma once
@@ -116,14 +119,16 @@ def crates_below():
 
 def build_words(kit):
     """What `rattle build` is told for the static library, over the libraries that `rt ci` built."""
-    words = ["--crate-name", CRATE, "src/lib.rt", "--extern", f"std={kit}/rlibs/std.rlib", "-L", f"dependency={kit}/rlibs"]
+    words = ["--crate-name", CRATE, "src/lib.rt", "--extern", f"std={kit}/rlibs/std.rlib"]
+    words += ["-L", f"dependency={kit}/rlibs"]
     for name in crates_below():
         own = os.path.join(TOP, f"crates/{name}/out/rlib/{name}.rlib")
         words += ["--extern", f"{name}={own if os.path.exists(own) else f'{kit}/rlibs/{name}.rlib'}"]
     for name in sorted(os.listdir(os.path.join(TOP, "crates"))):
         words += ["-L", f"dependency={TOP}/crates/{name}/out/rlib"]
     words += ["--antt-project", f"{kit}/rattle/logic/antt-project.json", "--logic-built", f"{kit}/logic_built"]
-    return [*words, "--links", f"{CRATE}=", "--crate-type", "staticlib", "--jobs", "2", "--toolchain", f"{kit}/toolchain"]
+    words += ["--links", f"{CRATE}=", "--crate-type", "staticlib"]
+    return [*words, "--jobs", "2", "--toolchain", f"{kit}/toolchain"]
 
 
 def built_archive(toolchain, backend):
@@ -190,10 +195,11 @@ def check_bank(tally, toolchain, archive, kills):
         return
     words = [sys.executable, os.path.join(BANK, "drive.py"), "--kills", str(kills)]
     words += ["--aries", ARIES] if os.path.exists(ARIES) else []
+    words += ["--at-calls", library_of(toolchain.room, "embed/die_at_call")]
     ran = run([*words, engine], text=True)
     lines = ran.stdout.splitlines() or [""]
-    is_well = ran.returncode == 0 and lines[-1] == f"{kills} kills, nothing lost"
-    tally.say(f"the bank, {kills} kills", is_well, f"{lines[-1]}{ran.stderr}")
+    is_well = ran.returncode == 0 and lines[-1].endswith(" kills, nothing lost")
+    tally.say(f"the bank: {lines[-1]}", is_well, ran.stderr)
 
 
 def is_code_of_the_bank(document):

@@ -239,7 +239,7 @@ def check_prints(tally, room):
 # Libraries that are loaded before a program.
 
 def library_of(room, name):
-    library = os.path.join(room, f"{name}.so")
+    library = os.path.join(room, f"{os.path.basename(name)}.so")
     source = os.path.join(TOP, f"tests/{name}.c")
     subprocess.run(["cc", "-O1", "-shared", "-fPIC", "-o", library, source, "-ldl"], check=True)
     return library

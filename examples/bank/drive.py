@@ -1,9 +1,11 @@
 #!/usr/bin/env python3
 """Kills the bank at random moments, opens it again, and looks whether anything was lost.
 
-usage: drive.py [--kills N] [--seed S] [--aries PROGRAM] ENGINE
+usage: drive.py [--kills N] [--seed S] [--aries PROGRAM] [--at-calls LIBRARY] ENGINE
 
-ENGINE is the built example, PROGRAM is `aries`: its audit is asked too. Behind each kill:
+ENGINE is the built example, PROGRAM is `aries`: its audit is asked too. LIBRARY is tests/embed/die_at_call.c, built as
+a library that is loaded before a program: with it the bank is first killed at each call that changes a file while it
+is made, opened and archived, and then most of the N kills come at such calls. Behind each kill:
 
 - the files are lawful, before the bank is opened again and behind it, over the base store where the log was begun anew;
 - every transfer that was acknowledged is in the ledger;
@@ -18,14 +20,17 @@ import argparse
 import os
 import random
 import shutil
+import signal
 import subprocess
 import sys
 import tempfile
 import time
 
-PAGES = 512
+PAGES = 128
 OPENING_BALANCE = 1000
-MOST_ACKNOWLEDGED = 400
+# The calls that change files: a new bank has eight; an opening six or seven, and more where someone is in doubt; an
+# archive has nine from the opening of its base store on.
+CALLS_OF_A_NEW_BANK, CALLS_OF_AN_OPENING, CALLS_OF_AN_ARCHIVE = 8, 7, 9
 
 
 class Lost(Exception):
@@ -78,42 +83,68 @@ def check(old, new, acknowledged):
 
 
 class Driver:
-    def __init__(self, engine, aries, folder, seed):
-        self.engine, self.aries, self.folder = engine, aries, folder
-        self.random = random.Random(seed)
+    def __init__(self, asked, folder):
+        self.engine, self.aries, self.library, self.folder = asked.engine, asked.aries, asked.at_calls, folder
+        self.random = random.Random(asked.seed)
         self.held = Shown("")
         self.acknowledged = {}
         self.opening_seconds = 0.02
         self.kills = self.kills_at_opening = self.all_acknowledged = self.archives = self.torn = self.losers = 0
 
-    def killed(self, words, seconds, lines):
-        """Starts the engine, and kills it so many seconds behind so many lines. Its lines; whether it still ran."""
-        process = subprocess.Popen([self.engine, *words], stdout=subprocess.PIPE, stderr=subprocess.PIPE, text=True)
-        first = [line for _, line in zip(range(lines), process.stdout)]
-        time.sleep(seconds)
-        process.kill()
+    def ended(self, process, words, first=()):
+        """The lines of a process that was killed or has ended; whether it was killed."""
         rest, errors = process.communicate()
-        is_well = not errors and process.returncode <= 0
+        is_well = not errors and process.returncode in (0, -signal.SIGKILL)
         need(is_well, f"{' '.join(words)}: status {process.returncode}, {errors.strip()}")
-        self.kills += process.returncode < 0
-        return [*first, *rest.splitlines()], process.returncode < 0
-
-    def work(self):
-        """A day of the bank that ends by a kill: at its opening, or in the midst of its transfers."""
-        lines = self.random.choice((0, self.random.randrange(1, MOST_ACKNOWLEDGED)))
-        seconds = self.random.uniform(0, self.opening_seconds if lines == 0 else 0.01)
-        words = ["run", self.folder, str(self.random.randrange(1 << 32)), str(PAGES)]
-        printed, is_killed = self.killed(words, seconds, lines)
+        printed, is_killed = [*first, *rest.splitlines()], process.returncode < 0
+        self.kills += is_killed
         self.kills_at_opening += is_killed and not printed
+        return printed
+
+    def started(self, words, **more):
+        settings = dict(os.environ, **more)
+        return subprocess.Popen(
+            [self.engine, *words], stdout=subprocess.PIPE, stderr=subprocess.PIPE, text=True, env=settings)
+
+    def killed_at_time(self, words, lines):
+        """The lines of the engine, killed some time behind so many of them."""
+        process = self.started(words)
+        first = [line for _, line in zip(range(lines), process.stdout)]
+        time.sleep(self.random.uniform(0, 0.01 if lines else self.opening_seconds))
+        process.kill()
+        return self.ended(process, words, first)
+
+    def killed_at_call(self, words, call, **more):
+        """The lines of the engine, killed at this of its calls that change files."""
+        return self.ended(self.started(words, LD_PRELOAD=self.library, DIE_AT=str(call), **more), words)
+
+    def day(self):
+        return ["run", self.folder, str(self.random.randrange(1 << 32)), str(PAGES)]
+
+    def note(self, printed):
+        """Notes what was acknowledged."""
         for kind, *words in map(str.split, printed):
             if kind == "done":
                 number, *rest = map(int, words)
                 self.acknowledged[number] = tuple(rest)
             self.archives += kind == "archived"
 
-    def interrupt_opening(self):
-        printed, is_killed = self.killed(["show", self.folder], self.random.uniform(0, self.opening_seconds), 0)
-        self.kills_at_opening += is_killed and not printed
+    def work(self):
+        """A day of the bank that ends by a kill."""
+        how = self.random.choice(("at a time", "at a call", "behind a page") if self.library else ("at a time",))
+        if how == "at a time":
+            self.note(self.killed_at_time(self.day(), self.random.choice((0, 1, 10, 100, 400))))
+        elif how == "at a call":
+            self.note(self.killed_at_call(self.day(), self.random.randint(1, 1000)))
+        else:
+            self.note(self.killed_at_call(self.day(), self.random.randint(1, 200), DIE_PAGES="1"))
+
+    def interrupt_opening(self, call=None):
+        words = ["show", self.folder]
+        if call or (self.library and self.random.random() < 0.7):
+            self.killed_at_call(words, call or self.random.randint(1, CALLS_OF_AN_OPENING))
+        else:
+            self.killed_at_time(words, 0)
 
     def audit(self, when):
         """Whether the files are lawful: by the engine's library, and by the program."""
@@ -143,14 +174,35 @@ class Driver:
         self.all_acknowledged += len(self.acknowledged)
         self.held, self.acknowledged = shown, {}
 
-    def round(self, kills):
-        self.work()
-        self.audit("behind the kill")
-        while self.kills < kills and self.random.random() < 0.4:
-            self.interrupt_opening()
-            self.audit("behind a kill at the opening")
+    def each_call(self):
+        """Kills the bank at each call that changes a file while it is made, opened, and archived."""
+        for call in range(1, CALLS_OF_A_NEW_BANK + 1):
+            shutil.rmtree(self.folder)
+            self.interrupt_opening(call)
+            self.look(f"behind call {call} of a new bank")
+        for call in range(1, CALLS_OF_AN_OPENING + 1):
+            self.note(self.killed_at_time(self.day(), 10))
+            self.interrupt_opening(call)
+            self.look(f"behind call {call} of an opening")
+        # A day of so many lines has an archive, so each of the others has a base store in its way.
+        self.note(self.killed_at_time(self.day(), 400))
+        for call in range(1, CALLS_OF_AN_ARCHIVE + 1):
+            self.note(self.killed_at_call(self.day(), call, DIE_FROM="base-"))
+            self.look(f"behind call {call} of an archive")
+
+    def look(self, when):
+        """Audits, opens, checks, and audits again."""
+        self.audit(when)
         self.open_and_check()
-        self.audit("behind the opening")
+        self.audit(f"{when}, opened again")
+
+    def round(self, kills):
+        """A day, and at times kills at the opening behind it."""
+        self.work()
+        while self.kills < kills and self.random.random() < 0.4:
+            self.audit("behind the kill")
+            self.interrupt_opening()
+        self.look("behind the kill")
 
 
 def main():
@@ -158,13 +210,17 @@ def main():
     parser.add_argument("--kills", type=int, default=20)
     parser.add_argument("--seed", type=int, default=1)
     parser.add_argument("--aries", help="the program, whose audit is asked too")
-    parser.add_argument("engine")
+    parser.add_argument("--at-calls", help="tests/embed/die_at_call.c as a library that is loaded before a program")
+    parser.add_argument("engine", type=os.path.abspath)
     asked = parser.parse_args()
     folder = tempfile.mkdtemp(prefix="aries-bank-")
-    driver = Driver(os.path.abspath(asked.engine), asked.aries, folder, asked.seed)
+    driver = Driver(asked, folder)
     try:
-        while driver.kills < asked.kills:
-            driver.round(asked.kills)
+        if asked.at_calls:
+            driver.each_call()
+        kills = driver.kills + asked.kills
+        while driver.kills < kills:
+            driver.round(kills)
     except Lost as lost:
         print(f"{lost} (kill {driver.kills}, seed {asked.seed}; files in {folder})")
         sys.exit(1)

@@ -13,7 +13,7 @@
 #include <string.h>
 #include <unistd.h>
 
-enum { OPENING_BALANCE = 1000, PAGES = 512, STEPS_TO_CHECKPOINT = 300, CHECKPOINT_STEPS = 30, STEPS_TO_ARCHIVE = 1500 };
+enum { OPENING_BALANCE = 1000, PAGES = 128, STEPS_TO_CHECKPOINT = 100, CHECKPOINT_STEPS = 15, STEPS_TO_ARCHIVE = 700 };
 
 enum next { WITHDRAW, DEPOSIT, ENTER, FINISH, DECIDE, ROLL_BACK };
 
@@ -188,9 +188,11 @@ static bool is_idle(const struct teller *teller) {
     return true;
 }
 
-/* Pages go to the store in any order, also with what has not committed. */
+/* Pages go to the store in any order, also with what has not committed: here often those that are being changed. */
 static void flush_some_page(struct teller *teller) {
+    const struct transfer *transfer = &teller->transfers[draw(teller, TRANSACTIONS)];
     uint32_t page = (uint32_t)draw(teller, teller->bank.page_count);
+    if (draw(teller, 2) == 0) page = cell_at(transfer->to).page;
     if (teller->bank.rec_lsn[page] != 0) bank_flush_page(&teller->bank, page);
 }
 
