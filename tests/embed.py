@@ -16,10 +16,11 @@ import re
 import shutil
 import subprocess
 import sys
+import tarfile
 import tempfile
 
 sys.dont_write_bytecode = True  # no folder of it beside the tests
-from run import ARIES, SMALL_ROWS, TOP, Tally, library_of, run, text_of  # noqa: E402
+from run import ARIES, LARGE_ROWS, SMALL_ROWS, TOP, Tally, library_of, run, text_of  # noqa: E402
 
 CRATE = "aries_c"
 ARCHIVE = f"lib{CRATE}.a"
@@ -171,18 +172,40 @@ def check_names(tally, toolchain):
 
 # The rows.
 
+def large_rows(room):
+    """The folder with the rows of real size, and an index of what is run of them."""
+    folder = os.path.join(room, "large-rows")
+    if os.path.exists(folder):
+        return folder
+    for archive in sorted(os.listdir(LARGE_ROWS)):
+        with tarfile.open(os.path.join(LARGE_ROWS, archive)) as files:
+            files.extractall(folder)
+    with open(os.path.join(folder, "index"), "w") as index:
+        for name in sorted(os.listdir(folder)):
+            if os.path.isdir(os.path.join(folder, name)):
+                over = "-over" if os.path.exists(os.path.join(folder, name, "base")) else ""
+                index.write(f"{name} 1 1\n{name} audit{over}\n")
+    return folder
+
+
+def check_rows_in(tally, program, folder, how):
+    ran = run([program, folder], text=True)
+    printed = ran.stdout.splitlines()
+    for line in printed:
+        row, _, answer = line.rpartition(": ")
+        tally.say(f"{row}{how}", answer == "ok")
+    with open(os.path.join(folder, "index"), encoding="utf-8") as index:
+        is_whole = len(printed) == len(index.readlines()) and ran.returncode in (0, 1)
+    tally.say(f"all rows of {os.path.basename(folder)}{how}", is_whole, f"status {ran.returncode}, {ran.stderr}")
+
+
 def check_rows(tally, toolchain, archive, how):
     program = toolchain.program("rows", [os.path.join(TOP, "tests/embed/rows.c")], archive, toolchain.flags())
     if not program:
         tally.say(f"rows{how}", False, "not built")
         return
-    ran = run([program, SMALL_ROWS], text=True)
-    for line in ran.stdout.splitlines():
-        row, _, answer = line.rpartition(": ")
-        tally.say(f"{row}{how}", answer == "ok")
-    lines = len(text_of("crates/rows/data/index").splitlines())
-    is_whole = len(ran.stdout.splitlines()) == lines and ran.returncode in (0, 1)
-    tally.say(f"all rows of the index{how}", is_whole, f"status {ran.returncode}, {ran.stderr}")
+    for folder in (SMALL_ROWS, large_rows(toolchain.room)):
+        check_rows_in(tally, program, folder, how)
 
 
 # The bank.

@@ -11,7 +11,7 @@
 #include <stdlib.h>
 #include <string.h>
 
-enum { MOST_IN_DOUBT = 64, NAME_ROOM = 512 };
+enum { MOST_IN_DOUBT = 1024, NAME_ROOM = 512, TEXT_ROOM = 32 * 1024 };
 
 struct bytes {
     uint8_t *at;
@@ -46,7 +46,7 @@ static bool are_same(const uint8_t *one, size_t length, struct bytes other) {
 
 /* What `aries` would print. */
 struct text {
-    char at[4096];
+    char at[TEXT_ROOM];
     size_t length;
 };
 
