@@ -72,6 +72,12 @@ static struct recovery recover_files(int folder) {
     return it;
 }
 
+/* What a log is, without its records. A pointer has to be good, also where no room is behind it. */
+static struct aries_fault look_at(struct bytes log, struct aries_read *read) {
+    struct aries_record none = {0};
+    return aries_records(log.at, log.length, 0, &none, 0, read);
+}
+
 struct records {
     struct aries_record *at;
     struct aries_read read;
@@ -80,7 +86,7 @@ struct records {
 /* All records of a log; to be freed. */
 static struct records records_of(struct bytes log) {
     struct records records;
-    stop_at(aries_records(log.at, log.length, 0, NULL, 0, &records.read));
+    stop_at(look_at(log, &records.read));
     records.at = memory(records.read.records, sizeof *records.at);
     stop_at(aries_records(log.at, log.length, 0, records.at, records.read.records, &records.read));
     return records;
@@ -204,7 +210,7 @@ struct aries_fault bank_audit(const char *path) {
     int folder = open_folder(path);
     struct bytes log = read_file(folder, "log"), store = read_file(folder, "store");
     struct aries_read read;
-    struct aries_fault fault = aries_records(log.at, log.length, 0, NULL, 0, &read);
+    struct aries_fault fault = look_at(log, &read);
     if (fault.number == ARIES_OK && read.base_lsn == 0) {
         fault = aries_audit(log.at, log.length, store.at, store.length);
     } else if (fault.number == ARIES_OK) {

@@ -97,6 +97,8 @@ static void check_frames(void) {
     need(lacks_room(aries_write_record(&record, out, 32, &length)) && length == 33);
     record.slot = ARIES_SLOTS;
     need(is_unwritable(aries_write_record(&record, out, 64, &length)));
+    record = (struct aries_record){.lsn = 0, .tx = 1, .kind = 3};
+    need(is_unwritable(aries_write_record(&record, out, 64, &length)));
     record = (struct aries_record){.lsn = 1, .tx = 0, .kind = 3};
     need(is_unwritable(aries_write_record(&record, out, 64, &length)));
     record = (struct aries_record){.lsn = 1, .tx = 1, .kind = 9};

@@ -56,7 +56,7 @@ pub fn log_header(start: Start) -> Result<Vec<u8>, Error> {
 /// The frame of a record with this LSN, to be appended to a log whose last LSN is the one before.
 ///
 /// # Errors
-/// `NotWritable`: a transaction number of 0, a slot above 15, or a checkpoint's end.
+/// `NotWritable`: an LSN or a transaction number of 0, a slot above 15, or a checkpoint's end. `NoResource`.
 pub fn frame(lsn: u64, record: &Record) -> Result<Vec<u8>, Error> {
     let record = record.to_raw(lsn);
     // SAFETY: a struct as declared, and a buffer with its length.
@@ -68,7 +68,7 @@ pub fn frame(lsn: u64, record: &Record) -> Result<Vec<u8>, Error> {
 /// The frame of a checkpoint's end with this LSN.
 ///
 /// # Errors
-/// `NotWritable`: a table that is not in rising order or too long, or a transaction number of 0.
+/// `NotWritable`: a table that is not in rising order or too long, an LSN or a transaction number of 0. `NoResource`.
 pub fn checkpoint_end_frame(lsn: u64, checkpoint: &Checkpoint) -> Result<Vec<u8>, Error> {
     let transactions: Vec<raw::Entry> = checkpoint
         .transactions
