@@ -94,14 +94,15 @@ class Toolchain:
         words = [f"{self.kit}/toolchain/bin/clang", "-O2", "-Wall", "-Wextra", "-Werror", "-I", INCLUDE, *flags]
         return made if has_run([*words, "-c", source, "-o", made]) else None
 
-    def program(self, name, sources, archive, flags):
-        """The program, linked to the archive and to a heap over malloc; None where it cannot be made."""
+    def program(self, name, sources, archive, flags, has_heap=False):
+        """The program, linked to the archive and, where it has no heap, to one over malloc; None where that fails."""
         objects = [self.compiled(source, *flags) for source in sources]
         if None in objects:
             return None
         made = self.at(name)
         words = [f"{self.kit}/bin/rattle-link", "--target", TARGET, "--toolchain", f"{self.kit}/toolchain", "-o", made]
-        return made if has_run([*words, *objects, archive, f"{self.kit}/c/liblibc_c.a"]) else None
+        heap = [] if has_heap else [f"{self.kit}/c/liblibc_c.a"]
+        return made if has_run([*words, *objects, archive, *heap]) else None
 
     def plain_flags(self):
         return ["-std=c11", "-nostdinc", "-isystem", self.at("plain")]
@@ -157,6 +158,13 @@ def check_header(tally, toolchain, archive, how):
     program = toolchain.program("header", [source], archive, toolchain.plain_flags())
     status = run([program]).returncode if program else "not built"
     tally.say(f"every call of the header{how}", status == 0, f"the first check that fails: {status}")
+
+
+def check_refusals(tally, toolchain, archive, how):
+    source = os.path.join(TOP, "tests/embed/refusals.c")
+    program = toolchain.program("refusals", [source], archive, toolchain.flags(), has_heap=True)
+    status = run([program]).returncode if program else "not built"
+    tally.say(f"each growth of memory refused in turn{how}", status == 0, f"call {status}")
 
 
 def check_names(tally, toolchain):
@@ -324,6 +332,7 @@ def main():
             tally.say(f"the archive{how}", archive is not None)
             if archive:
                 check_header(tally, toolchain, archive, how)
+                check_refusals(tally, toolchain, archive, how)
                 check_rows(tally, toolchain, archive, how)
         first = next(iter(made.values()))
         if first:

@@ -32,7 +32,7 @@ impl Page {
     /// Its image, as it stands in a store.
     ///
     /// # Errors
-    /// None for a page of this type but those of a newer library.
+    /// None is expected: each page of this type has an image.
     pub fn image(&self) -> Result<[u8; PAGE_BYTES], Error> {
         let slots = self.slots.map(|slot| image::to_raw(&slot));
         let page = raw::Page {

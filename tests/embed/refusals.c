@@ -1,0 +1,139 @@
+/* A heap of the program's own, which refuses each growth of memory in turn: every call that takes memory then answers 1
+ * and leaves its buffers as they were, and lets go of all that it took, refused or not. The status is 0, or the number
+ * of the first call of this program's list that does not. */
+#include "aries.h"
+
+#include <stdbool.h>
+#include <stdlib.h>
+#include <string.h>
+
+struct tried {
+    bool ok;
+    void *at;
+};
+
+struct tried rattle_alloc(size_t size, size_t align);
+struct tried rattle_realloc(void *at, size_t kept, size_t size, size_t align);
+void rattle_dealloc(void *at);
+
+/* How many growths there were, which one is refused, 0 for none, and how many blocks are held. */
+static size_t growths, refused, held;
+
+static struct tried tried(void *at, bool is_new) {
+    static char nothing;
+    if (!at) return (struct tried){false, &nothing};
+    held += is_new;
+    return (struct tried){true, at};
+}
+
+struct tried rattle_alloc(size_t size, size_t align) {
+    return ++growths == refused ? tried(NULL, true) : tried(malloc(size ? size : align), true);
+}
+
+struct tried rattle_realloc(void *at, size_t kept, size_t size, size_t align) {
+    (void)kept;
+    return ++growths == refused ? tried(NULL, false) : tried(realloc(at, size ? size : align), false);
+}
+
+void rattle_dealloc(void *at) {
+    held--;
+    free(at);
+}
+
+/* A log with a loser, one in doubt and a checkpoint, and the store beside it. */
+static uint8_t log_bytes[4096], store_bytes[2048];
+static size_t log_length, store_length;
+
+/* What calls write, so much that none lacks room. */
+static struct outs {
+    uint8_t tail[4096], store[2048];
+    uint32_t in_doubt[8];
+    struct aries_record records[8];
+    struct aries_entry transactions[8];
+    struct aries_dirty dirty[8];
+} outs;
+
+static const struct aries_entry TRANSACTIONS[1] = {{.last = 2, .undo_next = 1, .tx = 1, .state = 2}};
+static const struct aries_dirty DIRTY[1] = {{.rec_lsn = 1, .page = 0}};
+
+static struct aries_fault do_recover(void) {
+    struct aries_recovered made;
+    return aries_recover(log_bytes, log_length, store_bytes, store_length, outs.tail, sizeof outs.tail, outs.store,
+        sizeof outs.store, outs.in_doubt, 8, &made);
+}
+
+static struct aries_fault do_audit(void) {
+    return aries_audit(log_bytes, log_length, store_bytes, store_length);
+}
+
+static struct aries_fault do_audit_from(void) {
+    return aries_audit_from(log_bytes, log_length, store_bytes, store_length, store_bytes, store_length);
+}
+
+static struct aries_fault do_records(void) {
+    struct aries_read read;
+    return aries_records(log_bytes, log_length, 0, outs.records, 8, &read);
+}
+
+static struct aries_fault do_checkpoint(void) {
+    struct aries_tables made;
+    return aries_checkpoint(log_bytes, log_length, 4, outs.transactions, 8, outs.dirty, 8, &made);
+}
+
+static struct aries_fault do_write_record(void) {
+    struct aries_record record = {.lsn = 1, .tx = 1, .kind = 3};
+    size_t length;
+    return aries_write_record(&record, outs.tail, sizeof outs.tail, &length);
+}
+
+static struct aries_fault do_write_checkpoint_end(void) {
+    size_t length;
+    return aries_write_checkpoint_end(4, 3, TRANSACTIONS, 1, DIRTY, 1, outs.tail, sizeof outs.tail, &length);
+}
+
+static struct aries_fault (*const calls[])(void) = {do_recover, do_audit, do_audit_from, do_records, do_checkpoint,
+    do_write_record, do_write_checkpoint_end};
+
+static void add(const struct aries_record *record) {
+    size_t length = 0;
+    aries_write_record(record, log_bytes + log_length, sizeof log_bytes - log_length, &length);
+    log_length += length;
+}
+
+static void make_files(void) {
+    const struct aries_image absent = {.length = ARIES_ABSENT}, a = {.length = 1, .bytes = "a"};
+    struct aries_page page = {.number = 0};
+    size_t length = 0;
+    aries_write_log_header(1, 0, log_bytes, sizeof log_bytes, &log_length);
+    add(&(struct aries_record){.lsn = 1, .tx = 1, .kind = 1, .before = absent, .after = a});
+    add(&(struct aries_record){.lsn = 2, .tx = 1, .prev = 1, .kind = 8});
+    add(&(struct aries_record){.lsn = 3, .kind = 6});
+    aries_write_checkpoint_end(4, 3, TRANSACTIONS, 1, DIRTY, 1, log_bytes + log_length,
+        sizeof log_bytes - log_length, &length);
+    log_length += length;
+    add(&(struct aries_record){.lsn = 5, .tx = 2, .slot = 1, .kind = 1, .before = absent, .after = a});
+    for (size_t slot = 0; slot < ARIES_SLOTS; slot++) page.slots[slot] = absent;
+    aries_write_store_header(1, 3, store_bytes, sizeof store_bytes, &store_length);
+    aries_write_page(&page, store_bytes + store_length, sizeof store_bytes - store_length, &length);
+    store_length += length;
+}
+
+/* Whether the call answers 1, with nothing written, as long as a growth is refused, and then 0. */
+static bool is_right(struct aries_fault (*call)(void)) {
+    static const struct outs untouched;
+    for (refused = 1;; refused++) {
+        growths = 0;
+        memset(&outs, 0, sizeof outs);
+        struct aries_fault fault = call();
+        if (held != 0) return false;
+        if (growths < refused) return fault.number == ARIES_OK;
+        if (fault.number != ARIES_NO_RESOURCE || memcmp(&outs, &untouched, sizeof outs) != 0) return false;
+    }
+}
+
+int main(void) {
+    make_files();
+    for (size_t i = 0; i < sizeof calls / sizeof calls[0]; i++)
+        if (!is_right(calls[i])) return (int)i + 1;
+    return 0;
+}
