@@ -5,7 +5,8 @@ usage: drive.py [--kills N] [--seed S] [--aries PROGRAM] [--at-calls LIBRARY] EN
 
 ENGINE is the built example, PROGRAM is `aries`: its audit is asked too. LIBRARY is tests/embed/die_at_call.c, built as
 a library that is loaded before a program: with it the bank is first killed at each call that changes a file while it
-is made, opened and archived, and then most of the N kills come at such calls. Behind each kill:
+is made, opened and archived, and then most of the N kills come at such calls; half of these lose what was not synced,
+as by a power cut. Behind each kill:
 
 - the files are lawful, before the bank is opened again and behind it, over the base store where the log was begun anew;
 - every transfer that was acknowledged is in the ledger;
@@ -129,20 +130,24 @@ class Driver:
                 self.acknowledged[number] = tuple(rest)
             self.archives += kind == "archived"
 
+    def loss(self):
+        """Half of the kills lose what was not synced, as a power cut does."""
+        return {"DIE_LOSES": "1"} if self.random.random() < 0.5 else {}
+
     def work(self):
         """A day of the bank that ends by a kill."""
         how = self.random.choice(("at a time", "at a call", "behind a page") if self.library else ("at a time",))
         if how == "at a time":
             self.note(self.killed_at_time(self.day(), self.random.choice((0, 1, 10, 100, 400))))
         elif how == "at a call":
-            self.note(self.killed_at_call(self.day(), self.random.randint(1, 1000)))
+            self.note(self.killed_at_call(self.day(), self.random.randint(1, 1000), **self.loss()))
         else:
-            self.note(self.killed_at_call(self.day(), self.random.randint(1, 200), DIE_PAGES="1"))
+            self.note(self.killed_at_call(self.day(), self.random.randint(1, 200), DIE_PAGES="1", **self.loss()))
 
     def interrupt_opening(self, call=None):
         words = ["show", self.folder]
         if call or (self.library and self.random.random() < 0.7):
-            self.killed_at_call(words, call or self.random.randint(1, CALLS_OF_AN_OPENING))
+            self.killed_at_call(words, call or self.random.randint(1, CALLS_OF_AN_OPENING), **self.loss())
         else:
             self.killed_at_time(words, 0)
 
