@@ -24,7 +24,9 @@ trap 'rm -rf "$work"' EXIT
 
 "${CC:-cc}" -std=c11 -O2 -fPIC -c "$top/bindings/c/heap.c" -o "$work/heap.o"
 "${AR:-ar}" rcs "$work/libaries_heap.a" "$work/heap.o"
-sed -e "s|@prefix@|$prefix|" -e "s|@version@|$version|" "$top/cmake/aries.pc.in" > "$work/aries.pc"
+for name in aries.pc ariesConfigVersion.cmake; do
+    sed -e "s|@prefix@|$prefix|" -e "s|@version@|$version|" "$top/cmake/$name.in" > "$work/$name"
+done
 
 # put MODE FILE FOLDER [NAME]
 put() {
@@ -38,6 +40,7 @@ put 644 "$archive" lib
 put 644 "$work/libaries_heap.a" lib
 put 644 "$work/aries.pc" lib/pkgconfig
 put 644 "$top/cmake/ariesConfig.cmake" lib/cmake/aries
+put 644 "$work/ariesConfigVersion.cmake" lib/cmake/aries
 if [ -f "$program" ]; then
     put 755 "$program" bin aries
 else

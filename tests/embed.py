@@ -255,7 +255,7 @@ int main(void) {
 CMAKE = """\
 cmake_minimum_required(VERSION 3.10)
 project(user C)
-find_package(aries REQUIRED)
+find_package(aries 0.1 REQUIRED)
 add_executable(user user.c)
 target_link_libraries(user aries::aries)
 """
