@@ -20,7 +20,7 @@ import tarfile
 import tempfile
 
 sys.dont_write_bytecode = True  # no folder of it beside the tests
-from run import ARIES, LARGE_ROWS, SMALL_ROWS, TOP, Tally, library_of, run, text_of  # noqa: E402
+from run import ARIES, LARGE_ROWS, SMALL_ROWS, TOP, Tally, library_of, run, text_of
 
 CRATE = "aries_c"
 ARCHIVE = f"lib{CRATE}.a"
