@@ -108,7 +108,7 @@ static void decide(int folder, const struct recovery *recovery) {
     size_t length = 0, end = 0;
     for (size_t i = 0; i < recovery->made.in_doubt; i++, end += length) {
         uint32_t number = recovery->in_doubt[i];
-        struct aries_record record = {.kind = number % 2 == 0 ? COMMIT : ABORT, .tx = number,
+        struct aries_record record = {.kind = number % 2 == 0 ? ARIES_COMMIT : ARIES_ABORT, .tx = number,
             .lsn = records.read.base_lsn + records.read.records + 1 + i, .prev = last_of(&records, number)};
         stop_at(aries_write_record(&record, frames + end, sizeof frames - end, &length));
     }

@@ -10,8 +10,7 @@ enum { TRANSACTIONS = 8, UPDATES = 4 };
 /* States of a transaction, as a checkpoint's table has them. */
 enum { ACTIVE = 0, ABORTING = 1, PREPARED = 2 };
 
-/* Kinds of records, and the largest frame in bytes. */
-enum { UPDATE = 1, CLR = 2, COMMIT = 3, ABORT = 4, END = 5, CHECKPOINT_BEGIN = 6, PREPARE = 8 };
+/* The largest frame in bytes: that of a checkpoint's end with tables of 1,024 and 4,096 entries. */
 enum { FRAME_ROOM = 70685 };
 
 struct cell {

@@ -90,7 +90,7 @@ bool bank_write(struct bank *bank, struct transaction *transaction, struct cell 
     struct update *update = &transaction->updates[transaction->pending++];
     *update = (struct update){.prev = transaction->last, .cell = cell, .before = *bank_read(bank, cell)};
     append_of(bank, transaction, (struct aries_record){
-        .kind = UPDATE, .page = cell.page, .slot = cell.slot, .before = update->before, .after = *after});
+        .kind = ARIES_UPDATE, .page = cell.page, .slot = cell.slot, .before = update->before, .after = *after});
     *owner = transaction->number;
     update->lsn = transaction->undo_next = transaction->last;
     put_image(bank, cell, after, update->lsn);
@@ -100,33 +100,33 @@ bool bank_write(struct bank *bank, struct transaction *transaction, struct cell 
 void bank_undo_one(struct bank *bank, struct transaction *transaction) {
     assert(transaction->state != PREPARED && transaction->pending > 0);
     const struct update *update = &transaction->updates[--transaction->pending];
-    append_of(bank, transaction, (struct aries_record){.kind = CLR, .page = update->cell.page,
+    append_of(bank, transaction, (struct aries_record){.kind = ARIES_CLR, .page = update->cell.page,
         .slot = update->cell.slot, .next = update->prev, .after = update->before});
     transaction->undo_next = update->prev;
     put_image(bank, update->cell, &update->before, transaction->last);
 }
 
 void bank_abort(struct bank *bank, struct transaction *transaction) {
-    append_of(bank, transaction, (struct aries_record){.kind = ABORT});
+    append_of(bank, transaction, (struct aries_record){.kind = ARIES_ABORT});
     transaction->state = ABORTING;
 }
 
 void bank_end(struct bank *bank, struct transaction *transaction) {
     assert(transaction->state == ABORTING && transaction->pending == 0);
-    append_of(bank, transaction, (struct aries_record){.kind = END});
+    append_of(bank, transaction, (struct aries_record){.kind = ARIES_END});
     transaction->number = 0;
 }
 
 void bank_prepare(struct bank *bank, struct transaction *transaction) {
-    append_of(bank, transaction, (struct aries_record){.kind = PREPARE});
+    append_of(bank, transaction, (struct aries_record){.kind = ARIES_PREPARE});
     transaction->state = PREPARED;
     sync_log(bank);
 }
 
 void bank_commit(struct bank *bank, struct transaction *transaction) {
-    append_of(bank, transaction, (struct aries_record){.kind = COMMIT});
+    append_of(bank, transaction, (struct aries_record){.kind = ARIES_COMMIT});
     sync_log(bank);
-    append_of(bank, transaction, (struct aries_record){.kind = END});
+    append_of(bank, transaction, (struct aries_record){.kind = ARIES_END});
     transaction->number = 0;
 }
 
@@ -182,7 +182,7 @@ static void tell_dirty_pages(const struct bank *bank, struct checkpoint *checkpo
 void bank_begin_checkpoint(struct bank *bank) {
     tell_transactions(bank, &bank->checkpoint);
     tell_dirty_pages(bank, &bank->checkpoint);
-    bank->checkpoint.begin = append(bank, (struct aries_record){.kind = CHECKPOINT_BEGIN});
+    bank->checkpoint.begin = append(bank, (struct aries_record){.kind = ARIES_CHECKPOINT_BEGIN});
     /* Redo will not look at pages that are not told: they must be in the store for good. */
     sync_file(bank->store_file);
 }

@@ -89,7 +89,7 @@ static void check_frames(void) {
     static const uint8_t update[] = "\0\0\0\x1d\1\0\0\0\0\0\0\0\1\0\0\0\1\0\0\0\0\0\0\0\0\0\0\0\0\0\xff\1" "a";
     static const uint8_t clr[] =
         "\0\0\0\x24\2\0\0\0\0\0\0\0\3\0\0\0\4\0\0\0\0\0\0\0\5\0\0\0\6\7\0\0\0\0\0\0\0\x08\1" "b";
-    struct aries_record record = {.lsn = 1, .tx = 1, .kind = 1, .before = ABSENT, .after = A};
+    struct aries_record record = {.lsn = 1, .tx = 1, .kind = ARIES_UPDATE, .before = ABSENT, .after = A};
     uint8_t out[64] = {0};
     size_t length = 0;
     need(is_done(aries_write_record(&record, out, 64, &length)) && length == 33 && memcmp(out, update, 33) == 0);
@@ -97,16 +97,16 @@ static void check_frames(void) {
     need(lacks_room(aries_write_record(&record, out, 32, &length)) && length == 33);
     record.slot = ARIES_SLOTS;
     need(is_unwritable(aries_write_record(&record, out, 64, &length)));
-    record = (struct aries_record){.lsn = 0, .tx = 1, .kind = 3};
+    record = (struct aries_record){.lsn = 0, .tx = 1, .kind = ARIES_COMMIT};
     need(is_unwritable(aries_write_record(&record, out, 64, &length)));
-    record = (struct aries_record){.lsn = 1, .tx = 0, .kind = 3};
+    record = (struct aries_record){.lsn = 1, .tx = 0, .kind = ARIES_COMMIT};
     need(is_unwritable(aries_write_record(&record, out, 64, &length)));
     record = (struct aries_record){.lsn = 1, .tx = 1, .kind = 9};
     need(is_unwritable(aries_write_record(&record, out, 64, &length)));
-    record = (struct aries_record){.lsn = 1, .tx = 1, .kind = 1, .before = ABSENT, .after = {.length = 49}};
+    record = (struct aries_record){.lsn = 1, .tx = 1, .kind = ARIES_UPDATE, .before = ABSENT, .after = {.length = 49}};
     need(is_unwritable(aries_write_record(&record, out, 64, &length)));
     record = (struct aries_record){
-        .lsn = 3, .tx = 4, .prev = 5, .page = 6, .slot = 7, .next = 8, .kind = 2, .after = B};
+        .lsn = 3, .tx = 4, .prev = 5, .page = 6, .slot = 7, .next = 8, .kind = ARIES_CLR, .after = B};
     need(is_done(aries_write_record(&record, out, 64, &length)) && length == 40 && memcmp(out, clr, 40) == 0);
 }
 
@@ -118,16 +118,17 @@ static void write_all_kinds(struct text *log) {
     size_t length = 0;
     begin_log(log, 2, 10);
     add(log, &(struct aries_record){
-        .lsn = 11, .tx = 1, .prev = 2, .page = 3, .slot = 4, .kind = 1, .before = ABSENT, .after = A});
+        .lsn = 11, .tx = 1, .prev = 2, .page = 3, .slot = 4, .kind = ARIES_UPDATE, .before = ABSENT, .after = A});
     add(log, &(struct aries_record){
-        .lsn = 12, .tx = 5, .prev = 6, .page = 7, .slot = 8, .next = 9, .kind = 2, .after = B});
-    for (uint8_t kind = 3; kind <= 5; kind++)
-        add(log, &(struct aries_record){.lsn = 10u + kind, .tx = 1, .prev = 11, .kind = kind});
-    add(log, &(struct aries_record){.lsn = 16, .kind = 6});
+        .lsn = 12, .tx = 5, .prev = 6, .page = 7, .slot = 8, .next = 9, .kind = ARIES_CLR, .after = B});
+    add(log, &(struct aries_record){.lsn = 13, .tx = 1, .prev = 11, .kind = ARIES_COMMIT});
+    add(log, &(struct aries_record){.lsn = 14, .tx = 1, .prev = 11, .kind = ARIES_ABORT});
+    add(log, &(struct aries_record){.lsn = 15, .tx = 1, .prev = 11, .kind = ARIES_END});
+    add(log, &(struct aries_record){.lsn = 16, .kind = ARIES_CHECKPOINT_BEGIN});
     need(is_done(aries_write_checkpoint_end(17, 16, transactions, 2, dirty, 1, log->bytes + log->length,
         sizeof log->bytes - log->length, &length)) && length == 4 + 25 + 2 * 21 + 12);
     log->length += length;
-    add(log, &(struct aries_record){.lsn = 18, .tx = 5, .prev = 12, .kind = 8});
+    add(log, &(struct aries_record){.lsn = 18, .tx = 5, .prev = 12, .kind = ARIES_PREPARE});
 }
 
 static void check_records(const struct text *log) {
@@ -142,7 +143,8 @@ static void check_records(const struct text *log) {
     need(is_image(&all[1].after, &B));
     need(all[2].tx == 1 && all[3].prev == 11 && all[6].next == 16 && all[7].tx == 5 && all[7].prev == 12);
     need(is_done(aries_records(log->bytes, log->length - 1, 17, last, 1, &read)));
-    need(read.records == 7 && read.torn == 24 && read.given == 1 && last[0].lsn == 17 && last[0].kind == 7);
+    need(read.records == 7 && read.torn == 24 && read.given == 1);
+    need(last[0].lsn == 17 && last[0].kind == ARIES_CHECKPOINT_END);
     need(is_done(aries_records(log->bytes, log->length, 18, all, 0, &read)) && read.records == 8 && read.given == 0);
     need(is_fault(aries_records(log->bytes, 7, 1, all, 9, &read), 6, 0));
 }
@@ -204,9 +206,9 @@ static void check_pages(void) {
 /* Transaction 1 is in doubt, 2 a loser, and the log ends with three torn bytes. */
 static void write_doubt(struct text *log) {
     begin_log(log, 1, 0);
-    add(log, &(struct aries_record){.lsn = 1, .tx = 1, .kind = 1, .before = ABSENT, .after = A});
-    add(log, &(struct aries_record){.lsn = 2, .tx = 1, .prev = 1, .kind = 8});
-    add(log, &(struct aries_record){.lsn = 3, .tx = 2, .slot = 1, .kind = 1, .before = ABSENT, .after = B});
+    add(log, &(struct aries_record){.lsn = 1, .tx = 1, .kind = ARIES_UPDATE, .before = ABSENT, .after = A});
+    add(log, &(struct aries_record){.lsn = 2, .tx = 1, .prev = 1, .kind = ARIES_PREPARE});
+    add(log, &(struct aries_record){.lsn = 3, .tx = 2, .slot = 1, .kind = ARIES_UPDATE, .before = ABSENT, .after = B});
     log->length += 3;
 }
 
@@ -218,8 +220,8 @@ static int is_report(const struct aries_recovered *made) {
 /* The tail of that log: a CLR and an end of transaction 2. */
 static void check_tail(const uint8_t *tail, const struct aries_recovered *made) {
     struct text expected = {.length = 0};
-    add(&expected, &(struct aries_record){.lsn = 4, .tx = 2, .prev = 3, .slot = 1, .kind = 2, .after = ABSENT});
-    add(&expected, &(struct aries_record){.lsn = 5, .tx = 2, .prev = 4, .kind = 5});
+    add(&expected, &(struct aries_record){.lsn = 4, .tx = 2, .prev = 3, .slot = 1, .kind = ARIES_CLR, .after = ABSENT});
+    add(&expected, &(struct aries_record){.lsn = 5, .tx = 2, .prev = 4, .kind = ARIES_END});
     need(made->tail_length == expected.length && memcmp(tail, expected.bytes, expected.length) == 0);
 }
 
@@ -272,10 +274,10 @@ static void check_audits(void) {
     make_store(&store, 0, 1, &A);
     need(is_done(aries_audit(log.bytes, log.length, store.bytes, store.length)));
     log.length -= 3;
-    add(&log, &(struct aries_record){.lsn = 4, .tx = 3, .kind = 1, .before = A, .after = B});
+    add(&log, &(struct aries_record){.lsn = 4, .tx = 3, .kind = ARIES_UPDATE, .before = A, .after = B});
     need(is_fault(aries_audit(log.bytes, log.length, store.bytes, store.length), 24, 4));
     begin_log(&log, 2, 5);
-    add(&log, &(struct aries_record){.lsn = 6, .tx = 1, .kind = 1, .before = A, .after = B});
+    add(&log, &(struct aries_record){.lsn = 6, .tx = 1, .kind = ARIES_UPDATE, .before = A, .after = B});
     make_store(&store, 0, 6, &B);
     make_store(&base, 0, 5, &A);
     need(is_done(aries_audit_from(log.bytes, log.length, store.bytes, store.length, base.bytes, base.length)));
@@ -293,6 +295,8 @@ static void check_texts(void) {
     length = 0;
     need(lacks_room(aries_fault_text(&fault, out, 19, &length)) && length == 20);
     fault.number = 19;
+    need(is_unwritable(aries_fault_text(&fault, out, 64, &length)));
+    fault = (struct aries_fault){.number = 12, .place = (uint64_t)1 << 32};
     need(is_unwritable(aries_fault_text(&fault, out, 64, &length)));
     fault = (struct aries_fault){.number = ARIES_NO_RESOURCE};
     need(is_done(aries_fault_text(&fault, out, 64, &length)) && length == 11 && memcmp(out, "no resource", 11) == 0);

@@ -81,7 +81,7 @@ static struct aries_fault do_checkpoint(void) {
 }
 
 static struct aries_fault do_write_record(void) {
-    struct aries_record record = {.lsn = 1, .tx = 1, .kind = 3};
+    struct aries_record record = {.lsn = 1, .tx = 1, .kind = ARIES_COMMIT};
     size_t length;
     return aries_write_record(&record, outs.tail, sizeof outs.tail, &length);
 }
@@ -91,8 +91,14 @@ static struct aries_fault do_write_checkpoint_end(void) {
     return aries_write_checkpoint_end(4, 3, TRANSACTIONS, 1, DIRTY, 1, outs.tail, sizeof outs.tail, &length);
 }
 
+static struct aries_fault do_fault_text(void) {
+    struct aries_fault fault = {.number = 24, .place = 7};
+    size_t length;
+    return aries_fault_text(&fault, outs.tail, sizeof outs.tail, &length);
+}
+
 static struct aries_fault (*const calls[])(void) = {do_recover, do_audit, do_audit_from, do_records, do_checkpoint,
-    do_write_record, do_write_checkpoint_end};
+    do_write_record, do_write_checkpoint_end, do_fault_text};
 
 static void add(const struct aries_record *record) {
     size_t length = 0;
@@ -105,13 +111,13 @@ static void make_files(void) {
     struct aries_page page = {.number = 0};
     size_t length = 0;
     aries_write_log_header(1, 0, log_bytes, sizeof log_bytes, &log_length);
-    add(&(struct aries_record){.lsn = 1, .tx = 1, .kind = 1, .before = absent, .after = a});
-    add(&(struct aries_record){.lsn = 2, .tx = 1, .prev = 1, .kind = 8});
-    add(&(struct aries_record){.lsn = 3, .kind = 6});
+    add(&(struct aries_record){.lsn = 1, .tx = 1, .kind = ARIES_UPDATE, .before = absent, .after = a});
+    add(&(struct aries_record){.lsn = 2, .tx = 1, .prev = 1, .kind = ARIES_PREPARE});
+    add(&(struct aries_record){.lsn = 3, .kind = ARIES_CHECKPOINT_BEGIN});
     aries_write_checkpoint_end(4, 3, TRANSACTIONS, 1, DIRTY, 1, log_bytes + log_length,
         sizeof log_bytes - log_length, &length);
     log_length += length;
-    add(&(struct aries_record){.lsn = 5, .tx = 2, .slot = 1, .kind = 1, .before = absent, .after = a});
+    add(&(struct aries_record){.lsn = 5, .tx = 2, .slot = 1, .kind = ARIES_UPDATE, .before = absent, .after = a});
     for (size_t slot = 0; slot < ARIES_SLOTS; slot++) page.slots[slot] = absent;
     aries_write_store_header(1, 3, store_bytes, sizeof store_bytes, &store_length);
     aries_write_page(&page, store_bytes + store_length, sizeof store_bytes - store_length, &length);
