@@ -341,6 +341,7 @@ def text_of(path):
 
 def documents():
     yield from ("README.md", "CONTRIBUTING.md", "CHANGELOG.md", "crates/rows/data/README.md")
+    yield from ("examples/bank/README.md", "bindings/rust/README.md")
     yield from (os.path.join("docs", name) for name in sorted(os.listdir(os.path.join(TOP, "docs"))) if name.endswith(".md"))
 
 
