@@ -73,9 +73,9 @@ struct aries_recovered {
  * has the numbers of the transactions in doubt, rising. Behind these the buffers are as they were. Put the new log in
  * place before the new store: an interrupted recovery is done again from what stands then, to the same end.
  *
- * The room for a store is known before: store_length. A CLR takes 39 to 87 bytes and an end 25; where the room for
- * the tail or for the numbers does not do, ARIES_NO_ROOM tells in `made` what a recovery needs, and a second call
- * does it.
+ * The room that is needed is known before: for the store store_length; for the tail of a lawful log twice log_length
+ * at most. Where the room for the tail or for the numbers does not do, ARIES_NO_ROOM tells in `made` what a recovery
+ * needs, and a second call does it.
  *
  * Faults: 6 to 9 of the log; 10 to 12 of the store; 15, 13, 14 and 16 of the restart; 1; 64. A lawful log and its
  * store are refused by 1 and 64 alone.

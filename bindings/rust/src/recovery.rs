@@ -3,8 +3,8 @@
 use crate::error::{checked, Error, NO_ROOM};
 use crate::raw;
 
-/// The room for a tail that is tried first, in bytes: that of some thousand CLRs.
-const TAIL_ROOM: usize = 64 * 1024;
+/// The room for transactions in doubt that is tried first: as many as a checkpoint's table has at most.
+const IN_DOUBT_ROOM: usize = 1024;
 
 /// What a recovery counted.
 #[derive(Clone, Copy, Debug, PartialEq, Eq)]
@@ -101,8 +101,9 @@ fn recover_into(
 }
 
 /// Recovers a store by its log: redo of all that is not in the pages, and undo of what no transaction committed or
-/// prepared. Where the tail is longer than 64 KiB, or someone is in doubt, it is done twice, the second time with the
-/// room that is needed.
+/// prepared. The tail of a lawful log has at most twice its bytes, so it is given that room, of which no more is touched
+/// than is written. Where more is needed, of an unlawful log or for more than 1,024 transactions in doubt, it is done
+/// twice.
 ///
 /// # Errors
 /// Why the bytes are no log or no store; `BadMaster`, `NoSuchPage`, `PageAheadOfLog`, `BrokenChain`: the first of these
@@ -110,9 +111,9 @@ fn recover_into(
 pub fn recover(log: &[u8], store: &[u8]) -> Result<Recovery, Error> {
     let mut made = raw::Recovered::default();
     let mut rooms = Rooms {
-        tail: vec![0; TAIL_ROOM],
+        tail: vec![0; 2 * log.len()],
         store: vec![0; store.len()],
-        in_doubt: Vec::new(),
+        in_doubt: vec![0; IN_DOUBT_ROOM],
     };
     let mut fault = recover_into(log, store, &mut rooms, &mut made);
     if fault.number == NO_ROOM {
@@ -123,6 +124,7 @@ pub fn recover(log: &[u8], store: &[u8]) -> Result<Recovery, Error> {
     }
     checked(fault)?;
     rooms.tail.truncate(made.tail_length as usize);
+    rooms.tail.shrink_to_fit();
     rooms.store.truncate(made.store_length as usize);
     rooms.in_doubt.truncate(made.in_doubt as usize);
     Ok(Recovery {
