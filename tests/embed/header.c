@@ -54,15 +54,24 @@ static void begin_log(struct text *log, uint32_t version, uint64_t base_lsn) {
     need(is_done(aries_write_log_header(version, base_lsn, log->bytes, sizeof log->bytes, &log->length)));
 }
 
-/* A store of one page, which holds this in slot 0. */
-static void make_store(struct text *store, uint64_t master, uint64_t lsn, const struct aries_image *image) {
-    struct aries_page page = {.lsn = lsn, .number = 0};
+static void begin_store(struct text *store, uint32_t pages, uint64_t master) {
+    need(is_done(aries_write_store_header(pages, master, store->bytes, sizeof store->bytes, &store->length)));
+}
+
+/* A page that holds this in slot 0. */
+static void add_page(struct text *store, uint32_t number, uint64_t lsn, const struct aries_image *image) {
+    struct aries_page page = {.lsn = lsn, .number = number};
     size_t length = 0;
     page.slots[0] = *image;
     for (int slot = 1; slot < ARIES_SLOTS; slot++) page.slots[slot] = ABSENT;
-    need(is_done(aries_write_store_header(1, master, store->bytes, sizeof store->bytes, &store->length)));
     need(is_done(aries_write_page(&page, store->bytes + store->length, sizeof store->bytes - store->length, &length)));
     store->length += length;
+}
+
+/* A store of one page, which holds this in slot 0. */
+static void make_store(struct text *store, uint64_t lsn, const struct aries_image *image) {
+    begin_store(store, 1, 0);
+    add_page(store, 0, lsn, image);
 }
 
 static void check_headers(void) {
@@ -110,6 +119,13 @@ static void check_frames(void) {
     need(is_done(aries_write_record(&record, out, 64, &length)) && length == 40 && memcmp(out, clr, 40) == 0);
 }
 
+/* The frame of the checkpoint end in the next log. */
+static const uint8_t CHECKPOINT[] =
+    "\0\0\0\x4f" "\7" "\0\0\0\0\0\0\0\x11" "\0\0\0\0\0\0\0\x10"
+    "\0\0\0\2" "\0\0\0\1" "\0" "\0\0\0\0\0\0\0\x0b" "\0\0\0\0\0\0\0\x0b"
+    "\0\0\0\5" "\2" "\0\0\0\0\0\0\0\x0c" "\0\0\0\0\0\0\0\x09"
+    "\0\0\0\1" "\0\0\0\3" "\0\0\0\0\0\0\0\x0b";
+
 /* Records of all kinds; the log is of version 2 with base LSN 10. */
 static void write_all_kinds(struct text *log) {
     struct aries_entry transactions[2] = {
@@ -126,7 +142,8 @@ static void write_all_kinds(struct text *log) {
     add(log, &(struct aries_record){.lsn = 15, .tx = 1, .prev = 11, .kind = ARIES_END});
     add(log, &(struct aries_record){.lsn = 16, .kind = ARIES_CHECKPOINT_BEGIN});
     need(is_done(aries_write_checkpoint_end(17, 16, transactions, 2, dirty, 1, log->bytes + log->length,
-        sizeof log->bytes - log->length, &length)) && length == 4 + 25 + 2 * 21 + 12);
+        sizeof log->bytes - log->length, &length)));
+    need(length == sizeof CHECKPOINT - 1 && memcmp(log->bytes + log->length, CHECKPOINT, length) == 0);
     log->length += length;
     add(log, &(struct aries_record){.lsn = 18, .tx = 5, .prev = 12, .kind = ARIES_PREPARE});
 }
@@ -185,7 +202,7 @@ static void check_pages(void) {
     struct aries_page page;
     uint8_t *image = store.bytes + ARIES_STORE_HEADER_BYTES;
     size_t length = 0;
-    make_store(&store, 0, 1, &A);
+    make_store(&store, 1, &A);
     need(store.length == ARIES_STORE_HEADER_BYTES + ARIES_PAGE_BYTES);
     need(memcmp(image, beginning, sizeof beginning) == 0 && image[80] == 'a' && image[81] == 0);
     need(is_done(aries_read_page(image, ARIES_PAGE_BYTES, 0, &page)));
@@ -203,30 +220,52 @@ static void check_pages(void) {
     need(page.slots[3].length == 0 && page.slots[4].length == ARIES_VALUE_BYTES);
 }
 
-/* Transaction 1 is in doubt, 2 a loser, and the log ends with three torn bytes. */
+/* Transaction 1 is in doubt, 2 and 3 are losers, and the log ends with three torn bytes. The numbers of its report
+ * differ, but for losers and ends, of which there always are as many. */
 static void write_doubt(struct text *log) {
     begin_log(log, 1, 0);
     add(log, &(struct aries_record){.lsn = 1, .tx = 1, .kind = ARIES_UPDATE, .before = ABSENT, .after = A});
     add(log, &(struct aries_record){.lsn = 2, .tx = 1, .prev = 1, .kind = ARIES_PREPARE});
-    add(log, &(struct aries_record){.lsn = 3, .tx = 2, .slot = 1, .kind = ARIES_UPDATE, .before = ABSENT, .after = B});
+    for (uint8_t slot = 1; slot <= 2; slot++)
+        add(log, &(struct aries_record){.lsn = 2u + slot, .tx = 2, .prev = slot == 1 ? 0 : 3, .slot = slot,
+            .kind = ARIES_UPDATE, .before = ABSENT, .after = B});
+    for (uint8_t slot = 0; slot <= 2; slot++)
+        add(log, &(struct aries_record){.lsn = 5u + slot, .tx = 3, .prev = slot == 0 ? 0 : 4u + slot, .page = 1,
+            .slot = slot, .kind = ARIES_UPDATE, .before = ABSENT, .after = A});
     log->length += 3;
 }
 
 static int is_report(const struct aries_recovered *made) {
-    return made->records == 3 && made->torn == 3 && made->redo_from == 1 && made->redone == 2 && made->losers == 1
-        && made->compensated == 1 && made->ended == 1 && made->pages == 1 && made->in_doubt == 1;
+    return made->records == 7 && made->torn == 3 && made->redo_from == 1 && made->redone == 6 && made->losers == 2
+        && made->compensated == 5 && made->ended == 2 && made->pages == 4 && made->in_doubt == 1;
 }
 
-/* The tail of that log: a CLR and an end of transaction 2. */
+/* The tail of that log: the updates of 3 and then of 2 undone, the newest first, and behind each of the two an end. */
 static void check_tail(const uint8_t *tail, const struct aries_recovered *made) {
     struct text expected = {.length = 0};
-    add(&expected, &(struct aries_record){.lsn = 4, .tx = 2, .prev = 3, .slot = 1, .kind = ARIES_CLR, .after = ABSENT});
-    add(&expected, &(struct aries_record){.lsn = 5, .tx = 2, .prev = 4, .kind = ARIES_END});
+    for (uint64_t lsn = 8; lsn <= 10; lsn++)
+        add(&expected, &(struct aries_record){.lsn = lsn, .tx = 3, .prev = lsn - 1, .page = 1,
+            .slot = (uint8_t)(10 - lsn), .next = lsn == 10 ? 0 : 14 - lsn, .kind = ARIES_CLR, .after = ABSENT});
+    add(&expected, &(struct aries_record){.lsn = 11, .tx = 3, .prev = 10, .kind = ARIES_END});
+    add(&expected, &(struct aries_record){
+        .lsn = 12, .tx = 2, .prev = 4, .slot = 2, .next = 3, .kind = ARIES_CLR, .after = ABSENT});
+    add(&expected, &(struct aries_record){
+        .lsn = 13, .tx = 2, .prev = 12, .slot = 1, .kind = ARIES_CLR, .after = ABSENT});
+    add(&expected, &(struct aries_record){.lsn = 14, .tx = 2, .prev = 13, .kind = ARIES_END});
     need(made->tail_length == expected.length && memcmp(tail, expected.bytes, expected.length) == 0);
 }
 
+/* A store of four pages, of which all but the first two are empty. */
+static void make_four_pages(struct text *store, uint64_t lsn, const struct aries_image *image, uint64_t next_lsn) {
+    begin_store(store, 4, 0);
+    add_page(store, 0, lsn, image);
+    add_page(store, 1, next_lsn, &ABSENT);
+    add_page(store, 2, 0, &ABSENT);
+    add_page(store, 3, 0, &ABSENT);
+}
+
 struct outs {
-    uint8_t tail[256], store[2048];
+    uint8_t tail[512], store[8192];
     uint32_t in_doubt[2];
     size_t tail_room, store_room, in_doubt_room;
     struct aries_recovered made;
@@ -244,10 +283,10 @@ static int is_nothing_out(const struct outs *outs) {
 /* Each room in turn is one too short; then each is just enough. */
 static void check_recovery(void) {
     struct text log = {.length = 0}, store = {.length = 0}, expected = {.length = 0};
-    struct outs outs = {.tail_room = 0, .store_room = 2048, .in_doubt_room = 2};
+    struct outs outs = {.tail_room = 0, .store_room = 8192, .in_doubt_room = 2};
     write_doubt(&log);
-    make_store(&store, 0, 0, &ABSENT);
-    make_store(&expected, 0, 4, &A);
+    make_four_pages(&store, 0, &ABSENT, 0);
+    make_four_pages(&expected, 13, &A, 10);
     need(lacks_room(recover(&log, &store, &outs)) && is_nothing_out(&outs));
     need(is_report(&outs.made) && outs.made.store_length == store.length);
     outs.tail_room = outs.made.tail_length - 1;
@@ -270,19 +309,19 @@ static void check_recovery(void) {
 
 static void check_audits(void) {
     struct text log = {.length = 0}, store = {.length = 0}, base = {.length = 0};
-    write_doubt(&log);
-    make_store(&store, 0, 1, &A);
+    begin_log(&log, 1, 0);
+    add(&log, &(struct aries_record){.lsn = 1, .tx = 1, .kind = ARIES_UPDATE, .before = ABSENT, .after = A});
+    make_store(&store, 1, &A);
     need(is_done(aries_audit(log.bytes, log.length, store.bytes, store.length)));
-    log.length -= 3;
-    add(&log, &(struct aries_record){.lsn = 4, .tx = 3, .kind = ARIES_UPDATE, .before = A, .after = B});
-    need(is_fault(aries_audit(log.bytes, log.length, store.bytes, store.length), 24, 4));
+    add(&log, &(struct aries_record){.lsn = 2, .tx = 2, .kind = ARIES_UPDATE, .before = A, .after = B});
+    need(is_fault(aries_audit(log.bytes, log.length, store.bytes, store.length), 24, 2));
     begin_log(&log, 2, 5);
     add(&log, &(struct aries_record){.lsn = 6, .tx = 1, .kind = ARIES_UPDATE, .before = A, .after = B});
-    make_store(&store, 0, 6, &B);
-    make_store(&base, 0, 5, &A);
+    make_store(&store, 6, &B);
+    make_store(&base, 5, &A);
     need(is_done(aries_audit_from(log.bytes, log.length, store.bytes, store.length, base.bytes, base.length)));
     need(is_fault(aries_audit(log.bytes, log.length, store.bytes, store.length), 23, 6));
-    make_store(&base, 0, 6, &A);
+    make_store(&base, 6, &A);
     need(is_fault(aries_audit_from(log.bytes, log.length, store.bytes, store.length, base.bytes, base.length), 29, 0));
 }
 

@@ -80,6 +80,56 @@ fn an_update_is_spelled() {
     assert_eq!(aries::log_header(Start::Version1), Ok(b"ARIESLG1".to_vec()));
 }
 
+/// A number in so many bytes, the largest first.
+fn bytes(number: u64, width: usize) -> Vec<u8> {
+    number.to_be_bytes()[8 - width..].to_vec()
+}
+
+#[test]
+fn a_clr_is_spelled() {
+    let clr = Record::Clr {
+        tx: 4,
+        prev: 5,
+        page: 6,
+        slot: 7,
+        undo_next: 8,
+        image: image(b"b"),
+    };
+    let body = [
+        vec![2],
+        bytes(3, 8),
+        bytes(4, 4),
+        bytes(5, 8),
+        bytes(6, 4),
+        vec![7],
+        bytes(8, 8),
+        vec![1, b'b'],
+    ];
+    assert_eq!(
+        aries::frame(3, &clr),
+        Ok([bytes(36, 4), body.concat()].concat())
+    );
+}
+
+#[test]
+fn a_checkpoint_end_is_spelled() {
+    let mut end = checkpoint();
+    end.transactions.truncate(2);
+    let entry = |tx, state: u8| [bytes(tx, 4), vec![state], bytes(11, 8), bytes(3, 8)].concat();
+    let body = [
+        vec![7],
+        bytes(18, 8),
+        bytes(17, 8),
+        bytes(2, 4),
+        entry(1, 0),
+        entry(2, 1),
+        bytes(1, 4),
+    ];
+    let dirty = [bytes(3, 4), bytes(11, 8)].concat();
+    let expected = [bytes(79, 4), body.concat(), dirty].concat();
+    assert_eq!(aries::checkpoint_end_frame(18, &end), Ok(expected));
+}
+
 #[test]
 fn records_are_read_back() {
     let read = aries::records(&log(), 0, usize::MAX).expect("a log");
