@@ -46,10 +46,8 @@ static void make_files(int folder, uint32_t page_count) {
     start_log(folder, 1, 0);
 }
 
-/* Recovers the files. The log comes first: until the new store is in place, the old one goes with the longer log.
- *
- * No tail is more than twice as long as its log: a CLR has at most 7 bytes more than its update, which has 32 or more,
- * and an end no more than the transaction's first record. */
+/* Recovers the files. The log comes first: until the new store is in place, the old one goes with the longer log. The
+ * tail of a lawful log has at most twice its bytes. */
 static struct recovery recover_files(int folder) {
     struct bytes log = read_file(folder, "log"), store = read_file(folder, "store");
     struct bytes tail = bytes_of(2 * log.length), new_store = bytes_of(store.length);
