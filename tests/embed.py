@@ -5,7 +5,7 @@ what is installed, and the wrapper in Rust.
 usage: tests/embed.py [--backend llvm|rattle|both] [--library FOLDER] [--kills N]
        at the top of the repository, behind `rt ci` and `tests/run.py`
 
-Builds the archive from what `rt ci` left, through one back end or through both, which then have to agree on all rows;
+Builds the archive from what `rt ci` left, through both back ends, which then have to agree on all rows, or through one;
 or takes libaries_c.a from a folder. Compiles and links C by the toolchain's own clang. Prints a line for each check,
 and at last `N passed, N failed`; the status is 1 where one failed. Takes python3, cc and the C library's headers; what
 is installed is tried by pkg-config and cmake, and the wrapper by cargo, where they are there.
@@ -306,7 +306,7 @@ def check_wrapper(tally, room, archive):
 
 def asked_for():
     parser = argparse.ArgumentParser(description="runs the proved library as a program in C has it")
-    parser.add_argument("--backend", choices=("llvm", "rattle", "both"), default="llvm")
+    parser.add_argument("--backend", choices=("llvm", "rattle", "both"), default="both")
     parser.add_argument("--library", help=f"the folder of {ARCHIVE}, in place of building it")
     parser.add_argument("--kills", type=int, default=20)
     return parser.parse_args()
