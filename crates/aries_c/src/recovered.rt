@@ -1,6 +1,6 @@
 //! Recovery from bytes to bytes.
 
-ghost use Rattle.std.specs.Prelude.{◌≡◌, ◌≢◌, ◌-◌, ◌++◌, ◌<◌, ◌≤◌, ◌⊎◌, length, take, drop, IfOk, IfErr, MatchResult};
+ghost use Rattle.std.specs.Prelude.{◌≡◌, ◌≢◌, ◌-◌, ◌*◌, ◌++◌, ◌<◌, ◌≤◌, ◌⊎◌, length, take, drop, IfOk, IfErr, MatchResult};
 ghost use Rattle.page.specs.declared.fault.Fault.TheVariants.{NoResource};
 ghost use Rattle.page.specs.File.{store_text};
 ghost use Rattle.wal.specs.Meaning.{BasePages};
@@ -85,6 +85,8 @@ fn recovery_in<'a>(alloc: Global, log: &'a [u8], store: &[u8]) -> Result<Recover
     ensures cause { IfErr result (Cause log.now store.now (record { workers = 1; parts = 1 })) }
     ensures kept { IfOk result (λ x. x.kept.now
         ≡ take (length log.now - x.report.torn) log.now) }
+    ensures short { (base : BasePages) → AreLawful base log.now store.now
+        → IfOk result (λ x. length x.frames.items ≤ 2 * length log.now) }
 {
     let store = Vec::from_slice(alloc, store)?;
     recovery_alone(alloc, log, store)
@@ -121,6 +123,9 @@ pub extern "C" fn aries_recover(
         (report_told made.new (take made.new.in_doubt in_doubt.new)) }
     ensures lawful_refused { (base : BasePages) → AreLawful base log.now store.now
         → (result ≡ done) ⊎ ((result ≡ no_memory) ⊎ (result ≡ no_room)) }
+    // The tail of a lawful log takes at most twice its bytes.
+    ensures lawful_tail { (base : BasePages) → AreLawful base log.now store.now
+        → (result ≡ done) ⊎ (result ≡ no_room) → made.new.tail_length ≤ 2 * length log.now }
 
     // On what a recovery of them may leave that was interrupted: what it would have made.
     ensures interrupted_log { (base : BasePages) (bytes : AreCut base log.now store.now)

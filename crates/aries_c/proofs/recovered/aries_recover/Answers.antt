@@ -1,17 +1,32 @@
-use Rattle.std.proofs.Common.{◌≡◌, ℕ, List, length, take, sym, ap, ◌∙◌, subst, inl, inr}
+use Rattle.std.proofs.Common.{◌≡◌, ℕ, List, length, take, sym, ap, ◌∙◌, subst, inl, inr, arith}
 use Rattle.page.specs.File.{store_text}
 use Rattle.wal.specs.Reads.{log_text}
 use Rattle.recovery.specs.declared.recovery.Recovery.{Recovery}
 use Rattle.recovery.specs.Text.{ReportContent}
 use Rattle.recovery.specs.Recovery.{Recovered as AreRecovered, new_log as log_made}
 use Rattle.recovery.proofs.Delivered.{goes_on, cut_lawful}
-use Rattle.aries_c.specs.Fault.{told_of}
+use Rattle.aries_c.specs.declared.fault.Fault.{Fault as Told}
+use Rattle.aries_c.specs.Fault.{told_of, no_memory}
 use Rattle.aries_c.specs.Recovered.{new_log, new_store, report_told}
 use Rattle.aries_c.proofs.Buffers.{taken_front, log_told}
 use Rattle.aries_c.proofs.recovered.aries_recover.Goals as goal
 
 pub returns-in-Err-clause-lawful_refused : goal.returns-in-Err-clause-lawful_refused
 returns-in-Err-clause-lawful_refused c = λ base bytes. inr (inl (c.from.ensures ∙ ap told_of (c.in-Err.ensures.lawful base bytes)))
+
+pub returns-in-Err-clause-lawful_tail : goal.returns-in-Err-clause-lawful_tail
+returns-in-Err-clause-lawful_tail c = λ base bytes answered.
+    let is : c.from.result ≡ no_memory = c.from.ensures ∙ ap told_of (c.in-Err.ensures.lawful base bytes) in
+    elim answered [
+      | inl answer ↦ absurd (omega (arith, ap (λ (told : Told). told.number) (sym is ∙ answer)))
+      | inr answer ↦ absurd (omega (arith, ap (λ (told : Told). told.number) (sym is ∙ answer)))
+    ]
+
+pub returns-then-tail-len-clause-lawful_tail : goal.returns-then-tail-len-clause-lawful_tail
+returns-then-tail-len-clause-lawful_tail c = λ base bytes _. omega (arith, c.recovered_of.ensures.tail, c.in-Ok.ensures.short base bytes)
+
+pub returns-clause-lawful_tail : goal.returns-clause-lawful_tail
+returns-clause-lawful_tail c = λ base bytes _. omega (arith, c.recovered_of.ensures.tail, c.in-Ok.ensures.short base bytes)
 
 pub returns-clause-lawful : goal.returns-clause-lawful
 returns-clause-lawful c = λ base bytes _.
