@@ -227,7 +227,7 @@ def check_bank(tally, toolchain, archive, kills):
     words = [sys.executable, os.path.join(BANK, "drive.py"), "--kills", str(kills)]
     words += ["--aries", ARIES] if os.path.exists(ARIES) else []
     words += ["--at-calls", library_of(toolchain.room, "embed/die_at_call")]
-    ran = run([*words, engine], text=True)
+    ran = run([*words, engine], text=True, timeout=900)
     lines = ran.stdout.splitlines() or [""]
     is_well = ran.returncode == 0 and lines[-1].endswith(" kills, nothing lost")
     tally.say(f"the bank: {lines[-1]}", is_well, ran.stderr)
