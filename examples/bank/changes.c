@@ -180,6 +180,7 @@ static void tell_dirty_pages(const struct bank *bank, struct checkpoint *checkpo
 }
 
 void bank_begin_checkpoint(struct bank *bank) {
+    assert(bank->checkpoint.begin == 0);
     tell_transactions(bank, &bank->checkpoint);
     tell_dirty_pages(bank, &bank->checkpoint);
     bank->checkpoint.begin = append(bank, (struct aries_record){.kind = ARIES_CHECKPOINT_BEGIN});
@@ -189,6 +190,7 @@ void bank_begin_checkpoint(struct bank *bank) {
 
 void bank_end_checkpoint(struct bank *bank) {
     struct checkpoint *checkpoint = &bank->checkpoint;
+    assert(checkpoint->begin != 0);
     uint8_t *frame = next_frame(bank);
     size_t length = 0;
     stop_at(aries_write_checkpoint_end(bank->last_lsn + 1, checkpoint->begin, checkpoint->transaction_table,

@@ -5,8 +5,8 @@ usage: drive.py [--kills N] [--seed S] [--aries PROGRAM] [--at-calls LIBRARY] EN
 
 ENGINE is the built example, PROGRAM is `aries`: its audit is asked too. LIBRARY is tests/embed/die_at_call.c, built as
 a library that is loaded before a program: with it the bank is first killed at each call that changes a file while it
-is made, opened and archived, and then most of the N kills come at such calls; half of these lose what was not synced,
-as by a power cut. Behind each kill:
+is made, opened, checkpointed and archived, and then most of the N kills come at such calls; half of these lose what
+was not synced, as by a power cut. Behind each kill:
 
 - the files are lawful, before the bank is opened again and behind it, over the base store where the log was begun anew;
 - every transfer that was acknowledged is in the ledger;
@@ -29,9 +29,11 @@ import time
 
 PAGES = 128
 OPENING_BALANCE = 1000
+# How a day is ended; half of the ends come behind a page's image, where it shows whether the log was there before.
+HOW = ("at a time", "at a call", "behind a page", "behind a page")
 # The calls that change files: a new bank has eight; an opening six or seven, and more where someone is in doubt; an
-# archive has nine from the opening of its base store on.
-CALLS_OF_A_NEW_BANK, CALLS_OF_AN_OPENING, CALLS_OF_AN_ARCHIVE = 8, 7, 9
+# archive has nine from the opening of its base store on, a checkpoint two from the writing of its master on.
+CALLS_OF_A_NEW_BANK, CALLS_OF_AN_OPENING, CALLS_OF_AN_ARCHIVE, CALLS_OF_A_CHECKPOINT = 8, 7, 9, 2
 
 
 class Lost(Exception):
@@ -136,7 +138,7 @@ class Driver:
 
     def work(self):
         """A day of the bank that ends by a kill."""
-        how = self.random.choice(("at a time", "at a call", "behind a page") if self.library else ("at a time",))
+        how = self.random.choice(HOW if self.library else HOW[:1])
         if how == "at a time":
             self.note(self.killed_at_time(self.day(), self.random.choice((0, 1, 10, 100, 400))))
         elif how == "at a call":
@@ -180,7 +182,7 @@ class Driver:
         self.held, self.acknowledged = shown, {}
 
     def each_call(self):
-        """Kills the bank at each call that changes a file while it is made, opened, and archived."""
+        """Kills the bank at each call that changes a file while it is made, opened, checkpointed, and archived."""
         for call in range(1, CALLS_OF_A_NEW_BANK + 1):
             shutil.rmtree(self.folder)
             self.interrupt_opening(call)
@@ -189,6 +191,11 @@ class Driver:
             self.note(self.killed_at_time(self.day(), 10))
             self.interrupt_opening(call)
             self.look(f"behind call {call} of an opening")
+        # Behind the last call of a checkpoint come those of the work that goes on.
+        for call in range(1, CALLS_OF_A_CHECKPOINT + 3):
+            for loss in ({}, {"DIE_LOSES": "1"}):
+                self.note(self.killed_at_call(self.day(), call, DIE_MASTER="1", **loss))
+                self.look(f"behind call {call} of a checkpoint")
         # A day of so many lines has an archive, so each of the others has a base store in its way.
         self.note(self.killed_at_time(self.day(), 400))
         for call in range(1, CALLS_OF_AN_ARCHIVE + 1):

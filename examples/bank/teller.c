@@ -197,8 +197,9 @@ static void flush_some_page(struct teller *teller) {
 }
 
 static void take_checkpoints(struct teller *teller, uint64_t step) {
+    bool has_begun = teller->bank.checkpoint.begin != 0;
     if (step % STEPS_TO_CHECKPOINT == 0) bank_begin_checkpoint(&teller->bank);
-    if (step % STEPS_TO_CHECKPOINT == CHECKPOINT_STEPS) bank_end_checkpoint(&teller->bank);
+    if (has_begun && step % STEPS_TO_CHECKPOINT == CHECKPOINT_STEPS) bank_end_checkpoint(&teller->bank);
 }
 
 static void archive(struct teller *teller) {

@@ -3,6 +3,7 @@
  *
  *   DIE_AT      at which of these calls, from 1 on
  *   DIE_FROM    counts only from the opening of the first file on whose name begins so
+ *   DIE_MASTER  counts only from the first write of a store's header on, which names its master
  *   DIE_PAGES   counts the images of pages alone, and kills behind the call
  *   DIE_LOSES   loses what was not synced, as by a power cut: of a file's growth some of the last bytes, all, or none;
  *               of the writes over what was there some, each as a whole */
@@ -17,7 +18,7 @@
 #include <sys/stat.h>
 #include <unistd.h>
 
-enum { PAGE_IMAGE = 1024, MOST_FILES = 64, MOST_WRITES = 1 << 16 };
+enum { PAGE_IMAGE = 1024, STORE_HEADER = 24, MOST_FILES = 64, MOST_WRITES = 1 << 16 };
 
 /* A write over what was there, not synced yet, and what was there. */
 struct write {
@@ -77,8 +78,9 @@ static void die(void) {
 }
 
 static int is_last(void) {
-    const char *at = getenv("DIE_AT"), *from = getenv("DIE_FROM");
-    if (!at || (from && !has_begun)) return 0;
+    const char *at = getenv("DIE_AT");
+    int is_to_begin = getenv("DIE_FROM") || getenv("DIE_MASTER");
+    if (!at || (is_to_begin && !has_begun)) return 0;
     return ++counted == atol(at);
 }
 
@@ -120,6 +122,7 @@ int openat(int folder, const char *name, int flags, ...) {
 
 ssize_t pwrite(int file, const void *bytes, size_t length, off_t offset) {
     int is_page = length == PAGE_IMAGE, are_pages_meant = getenv("DIE_PAGES") != NULL;
+    if (getenv("DIE_MASTER") && length == STORE_HEADER && offset == 0) has_begun = 1;
     note(file, length, offset);
     if ((is_page || !are_pages_meant) && is_last()) {
         if (are_pages_meant) NEXT(pwrite)(file, bytes, length, offset);
