@@ -133,8 +133,8 @@ class Driver:
             self.archives += kind == "archived"
 
     def loss(self):
-        """Half of the kills lose what was not synced, as a power cut does."""
-        return {"DIE_LOSES": "1"} if self.random.random() < 0.5 else {}
+        """Half of the kills lose what was not synced, as a power cut does, and always something else of it."""
+        return {"DIE_LOSES": str(self.random.randrange(1 << 32))} if self.random.random() < 0.5 else {}
 
     def work(self):
         """A day of the bank that ends by a kill."""
@@ -193,8 +193,8 @@ class Driver:
             self.look(f"behind call {call} of an opening")
         # Behind the last call of a checkpoint come those of the work that goes on.
         for call in range(1, CALLS_OF_A_CHECKPOINT + 3):
-            for loss in ({}, {"DIE_LOSES": "1"}):
-                self.note(self.killed_at_call(self.day(), call, DIE_MASTER="1", **loss))
+            for _ in range(5):
+                self.note(self.killed_at_call(self.day(), call, DIE_MASTER="1", **self.loss()))
                 self.look(f"behind call {call} of a checkpoint")
         # A day of so many lines has an archive, so each of the others has a base store in its way.
         self.note(self.killed_at_time(self.day(), 400))

@@ -43,10 +43,10 @@ typedef int renameat_call(int, const char *, int, const char *);
 typedef int unlinkat_call(int, const char *, int);
 #define NEXT(name) ((name##_call *)dlsym(RTLD_NEXT, #name))
 
-/* A number below `count`, another one at each call, the same ones in each run with this DIE_AT. */
+/* A number below `count`, another one at each call, the same ones in each run with this number in DIE_LOSES. */
 static uint64_t draw(uint64_t count) {
     static uint64_t state;
-    if (state == 0) state = (uint64_t)atol(getenv("DIE_AT")) * 2 + 1;
+    if (state == 0) state = (uint64_t)atol(getenv("DIE_LOSES")) * 2 + 1;
     state = state * 6364136223846793005u + 1442695040888963407u;
     return (state >> 33) % count;
 }
