@@ -14,6 +14,8 @@ import sys
 import tarfile
 import tempfile
 
+from dump import check_dump
+
 TOP = os.path.dirname(os.path.dirname(os.path.abspath(__file__)))
 ARIES = os.path.join(TOP, "crates/aries_cli/out/aries_cli")
 ROW_RUNNER = os.path.join(TOP, "crates/rows/out/rows")
@@ -394,6 +396,7 @@ def main():
         check_words(tally, room)
         check_prints(tally, room)
         check_refusals(tally, room)
+        check_dump(tally, room, SMALL_ROWS, LARGE_ROWS, Refuser(room))
     print(f"{tally.passed} passed, {tally.failed} failed")
     sys.exit(1 if tally.failed else 0)
 
