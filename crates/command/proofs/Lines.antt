@@ -6,13 +6,14 @@ use Rattle.clap.proofs.SimpleLemmas.{plain_fields}
 use Rattle.clap.specs.declared.builder.arg.Arg.{Arg}
 use Rattle.clap.specs.declared.builder.command.Command.{Command}
 use Rattle.clap.specs.declared.parser.matches.ArgMatches.{ArgMatches}
-use Rattle.clap.specs.Words.{AddsArg, AddsSubcommand, App, HasMatchesOf, IsAmong, Row, Rule, Shape, Text, app_of, fault_of, is_simple, is_simple_and_free, rule_of, shape_of, subcommand_name_of, subcommand_of, subcommand_rows_of, with_rule, with_subcommand}
+use Rattle.clap.specs.Words.{AddsArg, AddsSubcommand, App, HasMatchesOf, IsAmong, Row, Rule, Shape, Text, app_of, fault_of, is_simple, is_simple_and_free, one_of, rule_of, shape_of, subcommand_name_of, subcommand_of, subcommand_rows_of, with_rule, with_subcommand}
 use Rattle.clap.specs.declared.error.kind.ErrorKind.{ErrorKind}
 use Rattle.clap.specs.declared.error.kind.ErrorKind.TheVariants.{MissingRequiredArgument, OutOfMemory}
 use Rattle.command.specs.Job.{HasFiles, IsFaultless, NamesFiles}
 use Rattle.command.specs.Line.{aries_line, audit_line, recover_line}
 use Rattle.command.specs.declared.job.Job.{Job}
-use Rattle.command.specs.declared.job.Job.TheVariants.{Recover, Audit}
+use Rattle.command.specs.declared.job.Task.{Task}
+use Rattle.command.specs.declared.job.Task.TheVariants.{Recover, Audit}
 
 -- a command with one more option
 pub option_added : (old new : Command) (option : Arg) (line : App) (rule : Rule) → AddsArg old option new → option.global ≡ false
@@ -59,14 +60,14 @@ pub entered : (matches : ArgMatches) (words : List Text) (line : App) (name : Te
 entered matches words line name rows P line_is has name_is rows_are holds =
     subst (λ o. IsSomeAnd o P) (command_met matches words line name rows line_is has name_is rows_are) holds
 
--- a job's command
+-- a task's command
 abbrev IsCommand : Text → Type 0
 IsCommand name = (name ≡ codes "recover") ⊎ (name ≡ codes "audit")
 
--- what names a job's files is a job's command
-command_is : {B : Type 0} (o : Option B) (found : B → Text × List Row) (job : Job) → IsSomeAnd (option_map found o) (λ p. NamesFiles p.0 p.1 job)
+-- what names a task's files is a task's command
+command_is : {B : Type 0} (o : Option B) (found : B → Text × List Row) (task : Task) → IsSomeAnd (option_map found o) (λ p. NamesFiles p.0 p.1 task)
     → IsSomeAnd (option_map (λ b. (found b).0) o) IsCommand
-command_is None found job names = absurd names
+command_is None found task names = absurd names
 command_is (Some b) found (Recover log store out_log out_store options) names = inl names.0
 command_is (Some b) found (Audit log store base) names = inr names.0
 
@@ -76,7 +77,7 @@ pub job_command : (matches : ArgMatches) (words : List Text) (line : App) (job :
 job_command matches words line job name line_is has name_is files =
     let same : subcommand_rows_of matches ≡ subcommand_of aries_line words =
     (has (ap is_simple line_is ∙ is_simple-aries_line)).1 ∙ ap (λ a. subcommand_of a words) line_is in
-    subst (λ o. IsSomeAnd o IsCommand) name_is (command_is _ _ job (subst (λ o. IsSomeAnd o (λ p. NamesFiles p.0 p.1 job)) (sym same) files))
+    subst (λ o. IsSomeAnd o IsCommand) name_is (command_is _ _ job.task (subst (λ o. IsSomeAnd o (λ p. NamesFiles p.0 p.1 job.task)) (sym same) files))
 
 -- what holds of the error that `?` made, holds of the result's
 pub error_made : {T E : Type 0} (r : Result T E) (P Q : E → Type 0) → ((e : E) → P e → Q e) → IsErrAnd r P → IfErr r Q
@@ -109,3 +110,17 @@ words_without_fault = refl
 words_at_fault : fault_of aries_line (map codes ("aries" ∷ "audit" ∷ "--log" ∷ "a" ∷ [])) ≡ MissingRequiredArgument ∷ []
 unfolding clap_on_literals aries_line recover_line audit_line
 words_at_fault = refl
+
+-- a flag on the line has the value true
+flag_given : option_map (λ p. one_of (codes "verbose") p.1)
+    (subcommand_of aries_line (map codes ("aries" ∷ "audit" ∷ "--log" ∷ "a" ∷ "--verbose" ∷ "--store" ∷ "b" ∷ [])))
+    ≡ Some (Some (codes "true"))
+unfolding clap_on_literals aries_line recover_line audit_line
+flag_given = refl
+
+-- and one that is not on it the value false
+flag_left_out : option_map (λ p. one_of (codes "verbose") p.1)
+    (subcommand_of aries_line (map codes ("aries" ∷ "audit" ∷ "--log" ∷ "a" ∷ "--store" ∷ "b" ∷ [])))
+    ≡ Some (Some (codes "false"))
+unfolding clap_on_literals aries_line recover_line audit_line
+flag_left_out = refl

@@ -1,20 +1,21 @@
 -- What a command line may ask for.
-use Rattle.std.specs.Prelude.{◌≡◌, ℕ, ◌≤◌, List, [], Some, IsSomeAnd, codes, decimal, option_map, string_bytes, ⊤}
+use Rattle.std.specs.Prelude.{◌≡◌, ℕ, ◌≤◌, Bool, true, false, List, [], Some, IsSomeAnd, codes, decimal, option_map, string_bytes, ⊤}
 use Rattle.clap.specs.Words.{Row, Text, fault_of, first_of, one_of, subcommand_of}
 use Rattle.command.specs.declared.job.Job.{Job}
-use Rattle.command.specs.declared.job.Job.TheVariants.{Recover, Audit}
+use Rattle.command.specs.declared.job.Task.{Task}
+use Rattle.command.specs.declared.job.Task.TheVariants.{Recover, Audit}
 use Rattle.command.specs.Line.{aries_line}
 use Rattle.restart.specs.Options.{AreInRange}
 use Rattle.page.specs.declared.sizes.TheConstants.{PAGES}
 use Rattle.redo.specs.declared.rounds.TheConstants.{WORKERS}
 
 -- its numbers lie in their ranges
-abbrev pub HasRanges : Job → Type 0
+abbrev pub HasRanges : Task → Type 0
 HasRanges (Recover log store out_log out_store options) = AreInRange options
 HasRanges (Audit log store base) = ⊤
 
--- the command is the job's, and the values of its options name the job's files
-abbrev pub NamesFiles : (command : Text) → (values : List Row) → Job → Type 0
+-- the command is the task's, and the values of its options name the task's files
+abbrev pub NamesFiles : (command : Text) → (values : List Row) → Task → Type 0
 NamesFiles command values (Recover log store out_log out_store options) =
     (command ≡ codes "recover")
     × (first_of (codes "log") values ≡ Some (string_bytes log))
@@ -29,7 +30,7 @@ NamesFiles command values (Audit log store base) =
 
 -- the job has the command of the words, and the files that they name
 abbrev pub HasFiles : (words : List Text) → Job → Type 0
-HasFiles words job = IsSomeAnd (subcommand_of aries_line words) (λ found. NamesFiles found.0 found.1 job)
+HasFiles words job = IsSomeAnd (subcommand_of aries_line words) (λ found. NamesFiles found.0 found.1 job.task)
 
 -- by `clap`'s definition of a parse no word is wrong or missing, and none asks for help or the version
 abbrev pub IsFaultless : (words : List Text) → Type 0
@@ -39,13 +40,13 @@ IsFaultless words = fault_of aries_line words ≡ []
 abbrev pub AsksFor : (words : List Text) → Job → Type 0
 AsksFor words job = IsFaultless words × HasFiles words job
 
--- where the option's value is a number of 1 to `most` in decimal digits, n is that number
+-- where the option's value is a number of 1 to `most` in decimal digits, without a sign, n is that number
 abbrev pub IsNumberOf : (values : List Row) → (option : Text) → (most : ℕ) → (n : ℕ) → Type 0
 IsNumberOf values option most n =
     (given : ℕ) → 1 ≤ given → given ≤ most → one_of option values ≡ Some (decimal given) → n ≡ given
 
--- the values of the options give the job's numbers
-abbrev pub GivesNumbers : (values : List Row) → Job → Type 0
+-- the values of the options give the task's numbers
+abbrev pub GivesNumbers : (values : List Row) → Task → Type 0
 GivesNumbers values (Recover log store out_log out_store options) =
     IsNumberOf values (codes "workers") WORKERS options.workers
     × IsNumberOf values (codes "parts") PAGES options.parts
@@ -53,4 +54,14 @@ GivesNumbers values (Audit log store base) = ⊤
 
 -- the job has the numbers that the words give, or the defaults of the line
 abbrev pub HasNumbers : (words : List Text) → Job → Type 0
-HasNumbers words job = IsSomeAnd (subcommand_of aries_line words) (λ found. GivesNumbers found.1 job)
+HasNumbers words job = IsSomeAnd (subcommand_of aries_line words) (λ found. GivesNumbers found.1 job.task)
+
+-- the flag is set where its value is true, as that of a flag on the line is, and not where its value is false
+abbrev pub IsFlagOf : (values : List Row) → (option : Text) → (flag : Bool) → Type 0
+IsFlagOf values option flag =
+    (one_of option values ≡ Some (codes "true") → flag ≡ true)
+    × (one_of option values ≡ Some (codes "false") → flag ≡ false)
+
+-- the job is verbose as the words say
+abbrev pub HasFlag : (words : List Text) → Job → Type 0
+HasFlag words job = IsSomeAnd (subcommand_of aries_line words) (λ found. IsFlagOf found.1 (codes "verbose") job.verbose)

@@ -2,6 +2,7 @@
 use Rattle.std.specs.Prelude.{ℕ, [], ◌∷◌, Some, codes, pos, true, false}
 use Rattle.clap.specs.Words.{App, Rule, Shape, Text, new_rule}
 use Rattle.clap.specs.Simple.{new_shape}
+use Rattle.clap.specs.declared.builder.action.ArgAction.TheVariants.{SetTrue}
 use Rattle.clap.specs.declared.builder.value_parser.ValueParser.TheVariants.{Signed}
 use Rattle.page.specs.declared.sizes.TheConstants.{PAGES}
 use Rattle.redo.specs.declared.rounds.TheConstants.{WORKERS}
@@ -23,6 +24,10 @@ number_rule name most default = record (new_rule name) {
   defaults = default ∷ [];
 }
 
+-- `--name` without a value, which may be left out
+abbrev pub flag_rule : Text → Rule
+flag_rule name = record (new_rule name) { long = Some name; action = Some SetTrue }
+
 -- `aries recover`
 unfoldable pub recover_line : Shape
 recover_line = record (new_shape (codes "recover")) {
@@ -32,13 +37,18 @@ recover_line = record (new_shape (codes "recover")) {
       ∷ file_rule (codes "out-store")
       ∷ number_rule (codes "workers") WORKERS (codes "4")
       ∷ number_rule (codes "parts") PAGES (codes "16")
+      ∷ flag_rule (codes "verbose")
       ∷ [];
 }
 
 -- `aries audit`
 unfoldable pub audit_line : Shape
 audit_line = record (new_shape (codes "audit")) {
-  rules = file_rule (codes "log") ∷ file_rule (codes "store") ∷ free_file_rule (codes "base") ∷ [];
+  rules = file_rule (codes "log")
+      ∷ file_rule (codes "store")
+      ∷ free_file_rule (codes "base")
+      ∷ flag_rule (codes "verbose")
+      ∷ [];
 }
 
 -- the whole line: `aries --version`, or one of the two commands

@@ -4,14 +4,17 @@ ghost use Rattle.std.specs.Prelude.{◌≡◌, ◌≤◌, Some, IfErr, IfOk, cod
 ghost use Rattle.std.specs.Prelude.{OnOk, string_bytes, true};
 ghost use Rattle.clap.specs.Words.{app_of, first_of, found_of, kind_of, rows_of, rule_of, shape_of};
 ghost use Rattle.clap.specs.declared.error.kind.ErrorKind.TheVariants.{OutOfMemory};
-ghost use Rattle.command.specs.Job.{AsksFor, GivesNumbers, HasFiles, HasNumbers, HasRanges};
-ghost use Rattle.command.specs.Job.{IsFaultless, IsNumberOf, NamesFiles};
-ghost use Rattle.command.specs.Line.{aries_line, audit_line, file_rule, free_file_rule, number_rule, recover_line};
+ghost use Rattle.command.specs.Job.{AsksFor, GivesNumbers, HasFiles, HasFlag, HasNumbers, HasRanges};
+ghost use Rattle.command.specs.Job.{IsFaultless, IsFlagOf, IsNumberOf, NamesFiles};
+ghost use Rattle.command.specs.Line.{aries_line, audit_line, file_rule, flag_rule, free_file_rule, number_rule};
+ghost use Rattle.command.specs.Line.{recover_line};
 ghost use Rattle.command.specs.declared.job.Job.{Job};
+ghost use Rattle.command.specs.declared.job.Task.{Task};
 ghost use Rattle.command.specs.declared.job.Refusal.TheVariants.{Memory};
 
+use crate::help;
 use clap::error::ErrorKind;
-use clap::{Arg, ArgMatches, Command, value_parser};
+use clap::{Arg, ArgAction, ArgMatches, Command, value_parser};
 use page::PAGES;
 use redo::WORKERS;
 use restart::Options;
@@ -19,7 +22,17 @@ use std::alloc::{AllocError, Global};
 
 /// What a command line asks for.
 #[derive(Debug, Drop)]
-pub enum Job {
+pub struct Job {
+    /// What is to be done.
+    pub task: Task,
+    /// Whether standard error is to say more: after a refusal which file and which call, else how
+    /// long each part took.
+    pub verbose: bool,
+}
+
+/// What is to be done.
+#[derive(Debug, Drop)]
+pub enum Task {
     /// Recover the store `store` by the log `log`, into two files that are made anew.
     Recover {
         log: String,
@@ -107,12 +120,24 @@ fn number_option<'a>(
         .help(help)
 }
 
+/// An option without a value.
+fn flag_option<'a>(alloc: Global, name: &'a str, help: &'a str) -> Arg<'a>
+    ensures rule { rule_of result ≡ flag_rule name.entry.now }
+    ensures local { result.global ≡ false }
+{
+    Arg::new(alloc, name)
+        .long(name)
+        .action(ArgAction::SetTrue)
+        .help(help)
+}
+
 /// The command `recover`.
 fn recover_command<'a>(alloc: Global) -> Result<Command<'a>, AllocError>
     ensures { IfOk result (λ c. shape_of c ≡ recover_line) }
 {
     Command::new(alloc, "recover")
         .about("Restart after a crash: write log and store anew, and list transactions in doubt")
+        .after_help(help::RECOVER)
         .arg(file_option(alloc, "log", "The log to restart by"))?
         .arg(file_option(alloc, "store", "The store to recover"))?
         .arg(file_option(
@@ -138,7 +163,8 @@ fn recover_command<'a>(alloc: Global) -> Result<Command<'a>, AllocError>
             PAGES as u32,
             "16",
             "Into how many parts the pages are dealt, 1 to 4096",
-        ))
+        ))?
+        .arg(flag_option(alloc, "verbose", help::VERBOSE))
 }
 
 /// The command `audit`.
@@ -147,13 +173,15 @@ fn audit_command<'a>(alloc: Global) -> Result<Command<'a>, AllocError>
 {
     Command::new(alloc, "audit")
         .about("Say whether a log and its store are lawful, or the first law that is broken")
+        .after_help(help::AUDIT)
         .arg(file_option(alloc, "log", "The log to look at"))?
         .arg(file_option(alloc, "store", "The store to look at"))?
         .arg(free_file_option(
             alloc,
             "base",
             "The store as the log found it; without it all pages were empty (fault 23 or 26 mostly, where the log has a base LSN)",
-        ))
+        ))?
+        .arg(flag_option(alloc, "verbose", help::VERBOSE))
 }
 
 /// The whole command line.
@@ -163,6 +191,7 @@ fn aries_command<'a>(alloc: Global) -> Result<Command<'a>, AllocError>
     Command::new(alloc, "aries")
         .version("0.1.0")
         .about("Crash recovery that is proved")
+        .after_help(help::ARIES)
         .subcommand_required(true)
         .subcommand(recover_command(alloc)?)?
         .subcommand(audit_command(alloc)?)
@@ -216,15 +245,25 @@ fn number_of(matches: &ArgMatches, name: &str, most: u32, default: u32) -> u32
         .clamp(1, most)
 }
 
+/// Whether a flag is on the line.
+fn flag_of(matches: &ArgMatches, name: &str) -> bool
+    ensures { IsFlagOf (rows_of (found_of matches.now)) name.now result }
+{
+    matches.get_flag(name)
+}
+
 /// What the options of `recover` ask for.
 fn recover_job(alloc: Global, command: &mut Command, matches: &ArgMatches) -> Result<Job, Refusal>
-    ensures files { IfOk result (NamesFiles (codes "recover") (rows_of (found_of matches.now))) }
-    ensures numbers { IfOk result (GivesNumbers (rows_of (found_of matches.now))) }
-    ensures ranges { IfOk result HasRanges }
-    ensures refused { IfErr result (λ refusal. (job : Job)
-        → NamesFiles (codes "recover") (rows_of (found_of matches.now)) job → refusal ≡ Memory) }
+    ensures files { IfOk result (λ job.
+        NamesFiles (codes "recover") (rows_of (found_of matches.now)) job.task) }
+    ensures numbers { IfOk result (λ job. GivesNumbers (rows_of (found_of matches.now)) job.task) }
+    ensures verbose { IfOk result (λ job.
+        IsFlagOf (rows_of (found_of matches.now)) (codes "verbose") job.verbose) }
+    ensures ranges { IfOk result (λ job. HasRanges job.task) }
+    ensures refused { IfErr result (λ refusal. (task : Task)
+        → NamesFiles (codes "recover") (rows_of (found_of matches.now)) task → refusal ≡ Memory) }
 {
-    Ok(Job::Recover {
+    let task = Task::Recover {
         log: file_of(alloc, command, matches, "log")?,
         store: file_of(alloc, command, matches, "store")?,
         out_log: file_of(alloc, command, matches, "out-log")?,
@@ -233,21 +272,32 @@ fn recover_job(alloc: Global, command: &mut Command, matches: &ArgMatches) -> Re
             workers: number_of(matches, "workers", WORKERS, 4),
             parts: number_of(matches, "parts", PAGES as u32, 16),
         },
+    };
+    Ok(Job {
+        task,
+        verbose: flag_of(matches, "verbose"),
     })
 }
 
 /// What the options of `audit` ask for.
 fn audit_job(alloc: Global, command: &mut Command, matches: &ArgMatches) -> Result<Job, Refusal>
-    ensures files { IfOk result (NamesFiles (codes "audit") (rows_of (found_of matches.now))) }
-    ensures numbers { IfOk result (GivesNumbers (rows_of (found_of matches.now))) }
-    ensures ranges { IfOk result HasRanges }
-    ensures refused { IfErr result (λ refusal. (job : Job)
-        → NamesFiles (codes "audit") (rows_of (found_of matches.now)) job → refusal ≡ Memory) }
+    ensures files { IfOk result (λ job.
+        NamesFiles (codes "audit") (rows_of (found_of matches.now)) job.task) }
+    ensures numbers { IfOk result (λ job. GivesNumbers (rows_of (found_of matches.now)) job.task) }
+    ensures verbose { IfOk result (λ job.
+        IsFlagOf (rows_of (found_of matches.now)) (codes "verbose") job.verbose) }
+    ensures ranges { IfOk result (λ job. HasRanges job.task) }
+    ensures refused { IfErr result (λ refusal. (task : Task)
+        → NamesFiles (codes "audit") (rows_of (found_of matches.now)) task → refusal ≡ Memory) }
 {
-    Ok(Job::Audit {
+    let task = Task::Audit {
         log: file_of(alloc, command, matches, "log")?,
         store: file_of(alloc, command, matches, "store")?,
         base: given_file(alloc, matches, "base")?,
+    };
+    Ok(Job {
+        task,
+        verbose: flag_of(matches, "verbose"),
     })
 }
 
@@ -262,12 +312,14 @@ fn no_command(command: &mut Command) -> Refusal {
 /// What a command line asks for; the first word is the program's name. Refuses a line that is wrong
 /// or asks for help or the version by [`Refusal::Line`], and by [`Refusal::Memory`] where memory
 /// was refused. A line that asks for a job, since `clap` finds no fault in it and its words give
-/// the job's command and files, is refused by [`Refusal::Memory`] alone.
+/// the job's command and files, is refused by [`Refusal::Memory`] alone. `clap` reads a number as
+/// `u32` does, so `+4` is 4; what `numbers` says of digits is said of those without a sign.
 pub fn command_of<'a>(alloc: Global, words: &'a [&'a str]) -> Result<Job, Refusal>
     ensures faultless { OnOk result (IsFaultless (map (λ w. w.now) words.now)) }
     ensures files { IfOk result (HasFiles (map (λ w. w.now) words.now)) }
     ensures numbers { IfOk result (HasNumbers (map (λ w. w.now) words.now)) }
-    ensures ranges { IfOk result HasRanges }
+    ensures verbose { IfOk result (HasFlag (map (λ w. w.now) words.now)) }
+    ensures ranges { IfOk result (λ job. HasRanges job.task) }
     ensures refused { IfErr result (λ refusal. (job : Job)
         → AsksFor (map (λ w. w.now) words.now) job → refusal ≡ Memory) }
 {

@@ -18,8 +18,9 @@ returns c =
     let version_is : app_of c.version.result ≡ with_version (new_app (codes "aries")) =
     ap app_of_fields c.version.ensures ∙ ap with_version c.new.ensures.app in
     let about_is : app_of c.about.result ≡ with_version (new_app (codes "aries")) = ap app_of_fields c.about.ensures ∙ version_is in
+    let help_is : app_of c.after_help.result ≡ with_version (new_app (codes "aries")) = ap app_of_fields c.after_help.ensures ∙ about_is in
     let none : app_of c.subcommand_required.result ≡ with_need (with_version (new_app (codes "aries"))) =
-    ap app_of_fields c.subcommand_required.ensures ∙ ap with_need about_is in
+    ap app_of_fields c.subcommand_required.ensures ∙ ap with_need help_is in
     let one = command_added _ _ _ _ _ c.in_ok-subcommand.ensures refl none c.in_ok-recover_command.ensures in
     IfOk-weaker c.subcommand-2.result _ _ (λ command adds.
     command_added _ _ command _ _ adds refl one c.in_ok-audit_command.ensures) c.subcommand-2.ensures

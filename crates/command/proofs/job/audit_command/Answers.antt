@@ -9,8 +9,10 @@ use Rattle.command.proofs.job.audit_command.Goals as goal
 pub returns : goal.returns
 unfolding audit_line
 returns c =
-    let none : app_of c.about.result ≡ new_app (codes "audit") = ap app_of_fields c.about.ensures ∙ c.new.ensures.app in
+    let about_is : app_of c.about.result ≡ new_app (codes "audit") = ap app_of_fields c.about.ensures ∙ c.new.ensures.app in
+    let none : app_of c.after_help.result ≡ new_app (codes "audit") = ap app_of_fields c.after_help.ensures ∙ about_is in
     let one = option_added _ _ _ _ _ c.in_ok-arg.ensures c.file_option.ensures.local none c.file_option.ensures.rule in
     let two = option_added _ _ _ _ _ c.in_ok-arg-2.ensures c.file_option-2.ensures.local one c.file_option-2.ensures.rule in
-    IfOk-weaker c.arg-3.result _ _ (λ command adds. ap (λ (a : App). a.top)
-    (option_added _ command _ _ _ adds c.free_file_option.ensures.local two c.free_file_option.ensures.rule)) c.arg-3.ensures
+    let three = option_added _ _ _ _ _ c.in_ok-arg-3.ensures c.free_file_option.ensures.local two c.free_file_option.ensures.rule in
+    IfOk-weaker c.arg-4.result _ _ (λ command adds. ap (λ (a : App). a.top)
+    (option_added _ command _ _ _ adds c.flag_option.ensures.local three c.flag_option.ensures.rule)) c.arg-4.ensures
