@@ -1,11 +1,8 @@
 -- What a parse of the command line of `aries_dump` finds.
 use Rattle.std.proofs.Common.{ℕ, ◌≡◌, ◌⊎◌, ◌<◌, ◌^◌, inl, inr, refl, subst, sym, true, map, List, [], ◌∷◌, Option, Some, None, codes, option_map, IsSomeAnd}
-use Rattle.std.specs.Prelude.{Result, Ok, Err, decimal}
-use Rattle.std.specs.Str.Parse.{ParsesUnsigned}
-use Rattle.std.proofs.lemmas.Fmt.{parse-decimal}
 use Rattle.clap.proofs.OnLiterals.{clap_on_literals}
 use Rattle.clap.specs.declared.parser.matches.ArgMatches.{ArgMatches}
-use Rattle.clap.specs.Words.{App, HasMatchesOf, ReadsOne, Row, Text, fault_of, is_simple, is_simple_and_free, one_of, subcommand_name_of, subcommand_of, subcommand_rows_of}
+use Rattle.clap.specs.Words.{App, HasMatchesOf, Row, Text, fault_of, is_simple, is_simple_and_free, one_of, subcommand_name_of, subcommand_of, subcommand_rows_of}
 use Rattle.clap.specs.declared.error.kind.ErrorKind.TheVariants.{MissingRequiredArgument}
 use Rattle.words.proofs.Parses.{rows_met}
 use Rattle.dump_command.specs.Job.{HasFile, IsFaultless, NamesFile}
@@ -38,16 +35,6 @@ pub job_command : (matches : ArgMatches) (words : List Text) (line : App) (job :
 job_command matches words line job name line_is has name_is file =
     let same : subcommand_rows_of matches ≡ subcommand_of dump_line words = rows_met matches words line dump_line is_simple-dump_line line_is has in
     subst (λ o. IsSomeAnd o IsCommand) name_is (command_is _ _ job (subst (λ o. IsSomeAnd o (λ p. NamesFile p.0 p.1 job)) (sym same) file))
-
--- the decimal digits of a number are read as that number
-pub digits_read : (bits : ℕ) (E : Type 0) (G : List ℕ → Result ℕ E → Type 0) (n : ℕ) (r : Option ℕ) → ReadsOne G (decimal n) r
-    → ((text : List ℕ) (x : Result ℕ E) → G text x → ParsesUnsigned bits 10 text x) → n < 2 ^ bits → n < 2 ^ 64 → r ≡ Some n
-digits_read bits E G n (Some v) h parses fits small =
-    let is : ◌≡◌ {A = Result ℕ E} (Ok v) (Ok n) = parse-decimal bits n (decimal n) (Ok v) fits small refl (parses (decimal n) (Ok v) h) in
-    cc
-digits_read bits E G n None h parses fits small =
-    let is : ◌≡◌ {A = Result ℕ E} (Err h.0) (Ok n) = parse-decimal bits n (decimal n) (Err h.0) fits small refl (parses (decimal n) (Err h.0) h.1) in
-    cc
 
 -- there are faultless words
 words_without_fault : IsFaultless (map codes ("aries_dump" ∷ "log" ∷ "a" ∷ "--page" ∷ "7" ∷ "--json" ∷ []))

@@ -1,8 +1,9 @@
 -- What a command line of `aries_dump` may ask for.
-use Rattle.std.specs.Prelude.{◌≡◌, ℕ, ◌<◌, ◌^◌, List, [], Bool, true, false, Option, Some, None, IsSomeAnd, codes, decimal, string_bytes}
+use Rattle.std.specs.Prelude.{◌≡◌, ℕ, ◌<◌, ◌^◌, List, [], Option, Some, None, IsSomeAnd, codes, decimal, string_bytes}
 use Rattle.clap.specs.Words.{Row, Text, fault_of, first_of, one_of, subcommand_of}
 use Rattle.dump_command.specs.declared.job.Job.{Job}
 use Rattle.dump_command.specs.declared.job.Job.TheVariants.{Log, Store}
+use Rattle.words.specs.Flags.{IsFlagOf}
 use Rattle.dump_command.specs.Line.{dump_line}
 
 -- the command is the job's, and the value behind it names the job's file
@@ -15,11 +16,6 @@ pub record IsGiven (limit : ℕ) (values : List Row) (option : Text) (number : O
   pub none : one_of option values ≡ None → number ≡ None
   pub some : (given : ℕ) → given < limit → one_of option values ≡ Some (decimal given) → number ≡ Some given
 
--- whether the flag stands there
-pub record IsFlag (values : List Row) (flag : Text) (is_set : Bool) : Type 0 where
-  pub set : one_of flag values ≡ Some (codes "true") → is_set ≡ true
-  pub unset : one_of flag values ≡ Some (codes "false") → is_set ≡ false
-
 -- the values of the options give the job's numbers and its flag
 abbrev pub GivesNumbers : (values : List Row) → Job → Type 0
 GivesNumbers values (Log file from to transaction page is_json) =
@@ -27,8 +23,8 @@ GivesNumbers values (Log file from to transaction page is_json) =
     × IsGiven (2 ^ 64) values (codes "to") to
     × IsGiven (2 ^ 32) values (codes "transaction") transaction
     × IsGiven (2 ^ 32) values (codes "page") page
-    × IsFlag values (codes "json") is_json
-GivesNumbers values (Store file page is_json) = IsGiven (2 ^ 32) values (codes "page") page × IsFlag values (codes "json") is_json
+    × IsFlagOf values (codes "json") is_json
+GivesNumbers values (Store file page is_json) = IsGiven (2 ^ 32) values (codes "page") page × IsFlagOf values (codes "json") is_json
 
 -- the job has the command of the words, and the file that they name
 abbrev pub HasFile : (words : List Text) → Job → Type 0

@@ -2,8 +2,8 @@
 use Rattle.std.specs.Prelude.{[], ◌∷◌, Some, codes, pos, true, false}
 use Rattle.clap.specs.Words.{App, Rule, Shape, Text, new_rule}
 use Rattle.clap.specs.Simple.{new_shape}
-use Rattle.clap.specs.declared.builder.action.ArgAction.TheVariants.{SetTrue}
 use Rattle.clap.specs.declared.builder.value_parser.ValueParser.TheVariants.{Signed, Unsigned}
+use Rattle.words.specs.Flags.{flag_rule}
 
 -- `FILE`, which has to be given
 abbrev pub path_rule : Rule
@@ -16,10 +16,6 @@ lsn_rule name = record (new_rule name) { long = Some name; value_names = 1; pars
 -- `--name N`, with any number of 32 bits
 abbrev pub number_rule : Text → Rule
 number_rule name = record (new_rule name) { long = Some name; value_names = 1; parser = Some (Signed (pos 0) (pos 4294967295)) }
-
--- `--name`
-abbrev pub flag_rule : Text → Rule
-flag_rule name = record (new_rule name) { long = Some name; action = Some SetTrue }
 
 -- `aries_dump log`
 unfoldable pub log_line : Shape

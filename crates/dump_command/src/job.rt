@@ -4,14 +4,17 @@ ghost use Rattle.std.specs.Prelude.{◌≡◌, ◌^◌, ◌<◌, Some, IfErr, If
 ghost use Rattle.std.specs.Prelude.{OnOk, string_bytes, true, false};
 ghost use Rattle.clap.specs.Words.{app_of, first_of, found_of, kind_of, one_of, rows_of, rule_of, shape_of};
 ghost use Rattle.dump_command.specs.Job.{AsksFor, GivesNumbers, HasFile, HasNumbers, IsFaultless, NamesFile};
-ghost use Rattle.dump_command.specs.Job.{IsGiven, IsFlag};
-ghost use Rattle.dump_command.specs.Line.{dump_line, log_line, store_line, path_rule, lsn_rule, number_rule, flag_rule};
+ghost use Rattle.dump_command.specs.Job.{IsGiven};
+ghost use Rattle.dump_command.specs.Line.{dump_line, log_line, store_line, path_rule, lsn_rule, number_rule};
 ghost use Rattle.words.specs.declared.refusal.Refusal.TheVariants.{Memory};
 
 use clap::error::ErrorKind;
-use clap::{Arg, ArgAction, ArgMatches, Command, value_parser};
+use clap::{Arg, ArgMatches, Command, value_parser};
 use std::alloc::{AllocError, Global};
-use words::{Refusal, no_command};
+use words::{Refusal, flag_of, flag_option, no_command};
+
+/// What `--help` says of the flag that asks for JSON.
+const JSON: &str = "An object of JSON a line";
 
 /// What a command line of `aries_dump` asks for. A number that is None was not given.
 #[derive(Debug, Drop)]
@@ -66,17 +69,6 @@ fn number_option<'a>(alloc: Global, name: &'a str, help: &'a str) -> Arg<'a>
         .help(help)
 }
 
-/// The flag that asks for JSON.
-fn json_flag<'a>(alloc: Global) -> Arg<'a>
-    ensures rule { rule_of result ≡ flag_rule (codes "json") }
-    ensures local { result.global ≡ false }
-{
-    Arg::new(alloc, "json")
-        .long("json")
-        .action(ArgAction::SetTrue)
-        .help("An object of JSON a line")
-}
-
 /// The command `log`.
 fn log_command<'a>(alloc: Global) -> Result<Command<'a>, AllocError>
     ensures { IfOk result (λ c. shape_of c ≡ log_line) }
@@ -92,7 +84,7 @@ fn log_command<'a>(alloc: Global) -> Result<Command<'a>, AllocError>
             "The records of this transaction alone",
         ))?
         .arg(number_option(alloc, "page", "The updates and CLRs of this page alone"))?
-        .arg(json_flag(alloc))
+        .arg(flag_option(alloc, "json", JSON))
 }
 
 /// The command `store`.
@@ -103,7 +95,7 @@ fn store_command<'a>(alloc: Global) -> Result<Command<'a>, AllocError>
         .about("Say what a store holds")
         .arg(path(alloc, "The store"))?
         .arg(number_option(alloc, "page", "This page alone"))?
-        .arg(json_flag(alloc))
+        .arg(flag_option(alloc, "json", JSON))
 }
 
 /// The whole command line.
@@ -130,13 +122,6 @@ fn number_of(matches: &ArgMatches, name: &str) -> Option<u32>
     ensures { IsGiven (2 ^ 32) (rows_of (found_of matches.now)) name.now result }
 {
     matches.get_one::<u32>(name)
-}
-
-/// Whether a flag stands there.
-fn flag_of(matches: &ArgMatches, name: &str) -> bool
-    ensures { IsFlag (rows_of (found_of matches.now)) name.now result }
-{
-    matches.get_flag(name)
 }
 
 /// The name that stands behind the command. It is required, so a line without it was refused.

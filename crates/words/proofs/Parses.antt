@@ -1,11 +1,13 @@
 -- What a parse of a command line finds.
-use Rattle.std.proofs.Common.{◌≡◌, ◌∙◌, ◌⊎◌, inl, inr, ap, ap₂, subst, sym, true, false, List, [], Option, Some, None, option_map, IsSomeAnd}
-use Rattle.std.specs.Prelude.{Result, Ok, Err, IfErr, IsErrAnd}
+use Rattle.std.proofs.Common.{ℕ, ◌≡◌, ◌∙◌, ◌⊎◌, ◌<◌, ◌^◌, inl, inr, ap, ap₂, refl, subst, sym, true, false, List, [], Option, Some, None, option_map, IsSomeAnd}
+use Rattle.std.specs.Prelude.{Result, Ok, Err, IfErr, IsErrAnd, decimal}
+use Rattle.std.specs.Str.Parse.{ParsesUnsigned}
+use Rattle.std.proofs.lemmas.Fmt.{parse-decimal}
 use Rattle.clap.proofs.SimpleLemmas.{plain_fields}
 use Rattle.clap.specs.declared.builder.arg.Arg.{Arg}
 use Rattle.clap.specs.declared.builder.command.Command.{Command}
 use Rattle.clap.specs.declared.parser.matches.ArgMatches.{ArgMatches}
-use Rattle.clap.specs.Words.{AddsArg, AddsSubcommand, App, HasMatchesOf, IsAmong, Row, Rule, Shape, Text, app_of, fault_of, is_simple, is_simple_and_free, rule_of, shape_of, subcommand_name_of, subcommand_of, subcommand_rows_of, with_rule, with_subcommand}
+use Rattle.clap.specs.Words.{AddsArg, AddsSubcommand, App, HasMatchesOf, IsAmong, ReadsOne, Row, Rule, Shape, Text, app_of, fault_of, is_simple, is_simple_and_free, rule_of, shape_of, subcommand_name_of, subcommand_of, subcommand_rows_of, with_rule, with_subcommand}
 use Rattle.clap.specs.declared.error.kind.ErrorKind.{ErrorKind}
 use Rattle.clap.specs.declared.error.kind.ErrorKind.TheVariants.{OutOfMemory}
 
@@ -76,3 +78,14 @@ fails_by_memory line known words kind free line_is fails none =
       | inl is ↦ is
       | inr among ↦ absurd (subst (IsAmong kind) (ap (λ a. fault_of a words) line_is ∙ none) among)
     ]
+
+-- NUMBERS
+-- the decimal digits of a number are read as that number
+pub digits_read : (bits : ℕ) (E : Type 0) (G : List ℕ → Result ℕ E → Type 0) (n : ℕ) (r : Option ℕ) → ReadsOne G (decimal n) r
+    → ((text : List ℕ) (x : Result ℕ E) → G text x → ParsesUnsigned bits 10 text x) → n < 2 ^ bits → n < 2 ^ 64 → r ≡ Some n
+digits_read bits E G n (Some v) h parses fits small =
+    let is : ◌≡◌ {A = Result ℕ E} (Ok v) (Ok n) = parse-decimal bits n (decimal n) (Ok v) fits small refl (parses (decimal n) (Ok v) h) in
+    cc
+digits_read bits E G n None h parses fits small =
+    let is : ◌≡◌ {A = Result ℕ E} (Err h.0) (Ok n) = parse-decimal bits n (decimal n) (Err h.0) fits small refl (parses (decimal n) (Err h.0) h.1) in
+    cc

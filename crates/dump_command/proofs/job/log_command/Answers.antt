@@ -16,4 +16,4 @@ returns c =
     let four = option_added _ _ _ _ _ c.in_ok-arg-4.ensures c.number_option.ensures.local three c.number_option.ensures.rule in
     let five = option_added _ _ _ _ _ c.in_ok-arg-5.ensures c.number_option-2.ensures.local four c.number_option-2.ensures.rule in
     IfOk-weaker c.arg-6.result _ _ (λ command adds. ap (λ (a : App). a.top)
-    (option_added _ command _ _ _ adds c.json_flag.ensures.local five c.json_flag.ensures.rule)) c.arg-6.ensures
+    (option_added _ command _ _ _ adds c.flag_option.ensures.local five c.flag_option.ensures.rule)) c.arg-6.ensures

@@ -3,7 +3,7 @@ use Rattle.std.specs.Prelude.{decimal}
 use Rattle.std.specs.Str.Parse.{ParsesUnsigned, ExplainsUnsignedError, HasUnsignedDigitsIfOk}
 use Rattle.clap.proofs.WalkLemmas.{one_text-rows}
 use Rattle.clap.specs.Words.{found_of}
-use Rattle.dump_command.proofs.Lines.{digits_read}
+use Rattle.words.proofs.Parses.{digits_read}
 use Rattle.dump_command.proofs.job.number_of.Goals as goal
 
 pub returns : goal.returns

@@ -13,4 +13,4 @@ returns c =
     let one = option_added _ _ _ _ _ c.in_ok-arg.ensures c.path.ensures.local none c.path.ensures.rule in
     let two = option_added _ _ _ _ _ c.in_ok-arg-2.ensures c.number_option.ensures.local one c.number_option.ensures.rule in
     IfOk-weaker c.arg-3.result _ _ (λ command adds. ap (λ (a : App). a.top)
-    (option_added _ command _ _ _ adds c.json_flag.ensures.local two c.json_flag.ensures.rule)) c.arg-3.ensures
+    (option_added _ command _ _ _ adds c.flag_option.ensures.local two c.flag_option.ensures.rule)) c.arg-3.ensures
