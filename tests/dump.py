@@ -28,7 +28,7 @@ STORE_LINES = b"""\
 0: store, pages 1, master 0
 24: page, number 0, PageLSN 1, slot 0 "a" (61)
 """
-TEXTS = {6: "bad log header", 7: "bad length at byte {}", 8: "bad record at byte {}", 9: "bad LSN at byte {}"}
+TEXTS = {6: "bad log header", 7: "bad length at byte {}", 8: "bad record at byte {}", 9: "bad LSN at byte {}", 12: "bad image of page {}"}
 
 
 def dump(*words, **how):
@@ -66,7 +66,8 @@ def is_log_listed(path, style, **asked):
 
 
 def is_store_listed(path, style, **asked):
-    return has_listed(dump("store", path, *words_of(asked, style)), lines_of_store(bytes_of(path), STYLES[style], **asked), None)
+    lines, fault = lines_of_store(bytes_of(path), STYLES[style], **asked)
+    return has_listed(dump("store", path, *words_of(asked, style)), lines, fault)
 
 
 def is_row_listed(folder, style):
@@ -127,6 +128,11 @@ def check_damage(tally, room, rows):
         path = written(room, "damaged", whole[:at] + bytes([whole[at] ^ 0x80]) + whole[at + 1:])
         right = right and is_log_listed(path, "text") and is_log_listed(written(room, "cut", whole[:at]), "json")
     tally.say("dump of a log with each byte changed, and cut there", right)
+    store, right = bytes_of(os.path.join(rows, "ten-pages", "out-store")), True
+    for at in range(24, len(store), 101):
+        path = written(room, "damaged", store[:at] + bytes([store[at] ^ 0x01]) + store[at + 1:])
+        right = right and all(is_store_listed(path, style) for style in STYLES)
+    tally.say("dump of a store with bytes of its pages changed", right)
     missing = os.path.join(room, "no-such-file")
     ran = dump("log", missing)
     tally.say("dump of no log", ran.returncode == 1 and ran.stderr == b"fault 2: reading the log failed\n" and not ran.stdout)

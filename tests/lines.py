@@ -134,17 +134,29 @@ def lines_of_log(log, style, **asked):
     return "".join(lines).encode(), None
 
 
+def page_of(image, number):
+    """The fields of a page, None where the image spells no page of this number."""
+    own, zero, lsn = struct.unpack(">IIQ", image[:16])
+    slots, at = [], 80
+    for slot, (place, size) in enumerate(struct.iter_unpack(">HH", image[16:80])):
+        if (place, size) == (0, 0):
+            continue
+        if place != at or size > 48:
+            return None
+        slots.append((f"slot {slot}", image[place:place + size]))
+        at += size
+    is_page = (own, zero) == (number, 0) and not any(image[at:])
+    return [("number", number), ("PageLSN", lsn), *slots] if is_page else None
+
+
 def lines_of_store(store, style, page=None):
-    """The lines of a store that is not damaged."""
+    """The lines of a store whose header and size are right, and the number of its fault and of the page that is damaged, if there is one."""
     count, _, master = struct.unpack(">IIQ", store[8:24])
-    lines = [style("store", 0, [("pages", count), ("master", master)])]
-    for number in range(count) if page is None else [page][:page < count]:
-        at = 24 + 1024 * number
-        lsn = int.from_bytes(store[at + 8:at + 16], "big")
-        entries = [struct.unpack(">HH", store[at + 16 + 4 * slot:at + 20 + 4 * slot]) for slot in range(16)]
-        slots = [(f"slot {slot}", store[at + place:at + place + size]) for slot, (place, size) in enumerate(entries) if place]
-        lines.append(style("page", at, [("number", number), ("PageLSN", lsn), *slots]))
-    return "".join(lines).encode()
+    pages = [page_of(store[24 + 1024 * number:][:1024], number) for number in range(count)]
+    bad = [number for number in range(count) if pages[number] is None]
+    lines = [] if bad else [style("store", 0, [("pages", count), ("master", master)])]
+    lines += [style("page", 24 + 1024 * number, fields) for number, fields in enumerate(pages) if fields and page in (None, number)]
+    return "".join(lines).encode(), (12, bad[0]) if bad else None
 
 
 def quoted(value, lead):

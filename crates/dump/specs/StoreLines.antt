@@ -1,9 +1,11 @@
 -- The lines of a store (own): its header, and the pages that are asked for.
-use Rattle.std.specs.Prelude.{ℕ, ◌+◌, ◌*◌, List, [], ◌∷◌, ◌++◌, Option, Some, None, length, if◌then◌else◌, codes, decimal, ⊤}
+use Rattle.std.specs.Prelude.{◌≡◌, ◌≢◌, ◌⊎◌, ℕ, zero, suc, ◌+◌, ◌*◌, ◌/◌, List, [], ◌∷◌, ◌++◌, Option, Some, None, length, if◌then◌else◌, codes, decimal, ⊤}
 use Rattle.std.specs.List.{flat_map}
 use Rattle.std.specs.Io.KnownBytes.{Appends}
-use Rattle.page.specs.Image.{Image}
-use Rattle.page.specs.File.{SpellsStore, StoreFault}
+use Rattle.page.specs.Image.{Image, SpellsPage}
+use Rattle.page.specs.File.{SpellsStore, StoreFault, images_of}
+use Rattle.page.specs.Images.{image_of}
+use Rattle.page.specs.declared.fault.Fault.TheVariants.{NoResource, BadPage}
 use Rattle.page.specs.Store.{StoreContent}
 use Rattle.page.specs.declared.page.Page.{Page}
 use Rattle.page.specs.declared.sizes.TheConstants.{PAGE_BYTES, STORE_HEADER_BYTES}
@@ -57,7 +59,27 @@ pub record ListsStore (style : Style) (asked : Option ℕ) (bytes : List ℕ) (o
   pub spells : SpellsStore bytes store
   pub printed : Appends old new (store_lines style asked store)
 
--- a fault is why the bytes are refused
-abbrev pub IsStoreFault : List ℕ → Stop → Type 0
-IsStoreFault bytes (stop.Print error) = ⊤
-IsStoreFault bytes (stop.Fault e) = StoreFault bytes e
+-- WHAT IS LEFT OF A DAMAGED STORE. What is listed of an image: the page of this number that it spells, where it is asked for;
+-- nothing where it spells none.
+abbrev pub IsLineOf : Style → (asked : Option ℕ) → (image : List ℕ) → (number : ℕ) → (line : List ℕ) → Type 0
+IsLineOf style asked image number line =
+    ((page : Page) × SpellsPage image page × (page.number ≡ number) × (line ≡ page_if_asked style asked page))
+    ⊎ (((page : Page) → SpellsPage image page → page.number ≢ number) × (line ≡ []))
+
+-- and of the images of the pages below this number
+abbrev pub AreLinesOf : Style → (asked : Option ℕ) → (images : List ℕ) → (number : ℕ) → (text : List ℕ) → Type 0
+AreLinesOf style asked images zero text = text ≡ []
+AreLinesOf style asked images (suc number) text =
+    (front : List ℕ) × (line : List ℕ) × AreLinesOf style asked images number front × IsLineOf style asked (image_of images number) number line × (text ≡ front ++ line)
+
+-- the lines of the pages that are whole were printed
+abbrev pub ListsWholePages : Style → (asked : Option ℕ) → (bytes : List ℕ) → (old new : Option (List ℕ)) → Type 0
+ListsWholePages style asked bytes old new =
+    (text : List ℕ) × AreLinesOf style asked (images_of bytes) (length (images_of bytes) / PAGE_BYTES) text × Appends old new text
+
+-- a fault is why the bytes are refused; where it is a page's, the pages that are whole were listed
+abbrev pub ListsStoreToFault : Style → (asked : Option ℕ) → (bytes : List ℕ) → (old new : Option (List ℕ)) → Stop → Type 0
+ListsStoreToFault style asked bytes old new (stop.Print error) = ⊤
+ListsStoreToFault style asked bytes old new (stop.Fault NoResource) = ⊤
+ListsStoreToFault style asked bytes old new (stop.Fault (BadPage number)) = StoreFault bytes (BadPage number) × ListsWholePages style asked bytes old new
+ListsStoreToFault style asked bytes old new (stop.Fault e) = StoreFault bytes e
