@@ -1,6 +1,6 @@
 #!/bin/sh
-# Installs the header, the proved archive with a heap over malloc, the program where it is built, and what CMake and
-# pkg-config ask for. Takes cc and ar, or what CC and AR name.
+# Installs the header, the proved archive with a heap over malloc, the program where it is built, the man pages, and
+# what CMake and pkg-config ask for. Takes cc and ar, or what CC and AR name.
 #
 # usage: [ARIES_LIB=FOLDER] [DESTDIR=FOLDER] ./install.sh PREFIX
 #
@@ -41,6 +41,9 @@ put 644 "$work/libaries_heap.a" lib
 put 644 "$work/aries.pc" lib/pkgconfig
 put 644 "$top/cmake/ariesConfig.cmake" lib/cmake/aries
 put 644 "$work/ariesConfigVersion.cmake" lib/cmake/aries
+for page in aries.1 aries_dump.1 aries-formats.5; do
+    put 644 "$top/man/$page" "share/man/man${page##*.}"
+done
 if [ -f "$program" ]; then
     put 755 "$program" bin aries
 else

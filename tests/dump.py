@@ -5,8 +5,8 @@ import subprocess
 import tarfile
 
 from lines import STYLES, lines_of_log, lines_of_store
+from program import LARGE_ROWS, SMALL_ROWS, TOP, bytes_of, has_refused, run
 
-TOP = os.path.dirname(os.path.dirname(os.path.abspath(__file__)))
 DUMP = os.path.join(TOP, "crates/aries_dump/out/aries_dump")
 
 # A log of one update and one commit, and a store of one page, byte by byte as docs/FORMATS.md shows them.
@@ -32,12 +32,7 @@ TEXTS = {6: "bad log header", 7: "bad length at byte {}", 8: "bad record at byte
 
 
 def dump(*words, **how):
-    return subprocess.run([DUMP, *words], **{"capture_output": True, **how})
-
-
-def bytes_of(path):
-    with open(path, "rb") as file:
-        return file.read()
+    return run([DUMP, *words], **how)
 
 
 def written(room, name, text):
@@ -84,17 +79,17 @@ def check_by_hand(tally, room):
     tally.say("dump of a store, by hand", has_listed(dump("store", store), STORE_LINES, None))
 
 
-def check_rows(tally, rows):
-    for name in sorted(os.listdir(rows)):
-        folder = os.path.join(rows, name)
+def check_rows(tally):
+    for name in sorted(os.listdir(SMALL_ROWS)):
+        folder = os.path.join(SMALL_ROWS, name)
         if os.path.exists(os.path.join(folder, "log")):
             tally.say(f"dump of {name}", all(is_row_listed(folder, style) for style in STYLES))
 
 
-def check_large_rows(tally, room, archives):
-    for archive in sorted(os.listdir(archives)):
+def check_large_rows(tally, room):
+    for archive in sorted(os.listdir(LARGE_ROWS)):
         name = archive.partition(".")[0]
-        with tarfile.open(os.path.join(archives, archive)) as files:
+        with tarfile.open(os.path.join(LARGE_ROWS, archive)) as files:
             files.extractall(room)
         tally.say(f"dump of {name}", is_row_listed(os.path.join(room, name), "json"))
 
@@ -109,41 +104,41 @@ def every_byte(room):
     return written(room, "every-byte", log[:-9])
 
 
-def check_options(tally, room, rows):
+def check_options(tally, room):
     path = every_byte(room)
     for style in STYLES:
         tally.say(f"dump of every byte, {style}", is_log_listed(path, style))
-    log = os.path.join(rows, "two-losers", "log")
+    log = os.path.join(SMALL_ROWS, "two-losers", "log")
     for asked in ({"from": 2}, {"to": 3}, {"from": 2, "to": 2}, {"from": 3, "to": 2}, {"transaction": 1}, {"transaction": 9}, {"page": 0}, {"page": 1},
                   {"from": 2, "transaction": 2, "page": 0}):
         tally.say(f"dump of {asked}", all(is_log_listed(log, style, **asked) for style in STYLES))
-    store = os.path.join(rows, "ten-pages", "store")
+    store = os.path.join(SMALL_ROWS, "ten-pages", "store")
     tally.say("dump of one page", all(is_store_listed(store, style, page=page) for style in STYLES for page in (0, 9, 10)))
 
 
-def check_damage(tally, room, rows):
-    whole = bytes_of(os.path.join(rows, "two-losers", "log"))
+def check_damage(tally, room):
+    whole = bytes_of(os.path.join(SMALL_ROWS, "two-losers", "log"))
     right = True
     for at in range(len(whole)):
         path = written(room, "damaged", whole[:at] + bytes([whole[at] ^ 0x80]) + whole[at + 1:])
         right = right and is_log_listed(path, "text") and is_log_listed(written(room, "cut", whole[:at]), "json")
     tally.say("dump of a log with each byte changed, and cut there", right)
-    store, right = bytes_of(os.path.join(rows, "ten-pages", "out-store")), True
+    store, right = bytes_of(os.path.join(SMALL_ROWS, "ten-pages", "out-store")), True
     for at in range(24, len(store), 101):
         path = written(room, "damaged", store[:at] + bytes([store[at] ^ 0x01]) + store[at + 1:])
         right = right and all(is_store_listed(path, style) for style in STYLES)
     tally.say("dump of a store with bytes of its pages changed", right)
     missing = os.path.join(room, "no-such-file")
     ran = dump("log", missing)
-    tally.say("dump of no log", ran.returncode == 1 and ran.stderr == b"fault 2: reading the log failed\n" and not ran.stdout)
+    tally.say("dump of no log", has_refused(ran, b"fault 2: reading the log failed\n"))
     ran = dump("store", missing)
-    tally.say("dump of no store", ran.returncode == 1 and ran.stderr == b"fault 3: reading the store failed\n" and not ran.stdout)
-    ran = dump("store", os.path.join(rows, "two-losers", "log"))
-    tally.say("dump of a log as a store", ran.returncode == 1 and ran.stderr == b"fault 10: bad store header\n" and not ran.stdout)
+    tally.say("dump of no store", has_refused(ran, b"fault 3: reading the store failed\n"))
+    ran = dump("store", os.path.join(SMALL_ROWS, "two-losers", "log"))
+    tally.say("dump of a log as a store", has_refused(ran, b"fault 10: bad store header\n"))
 
 
-def check_words(tally, room, rows):
-    log = os.path.join(rows, "two-losers", "log")
+def check_words(tally, room):
+    log = os.path.join(SMALL_ROWS, "two-losers", "log")
     for what, words in (("no command", []), ("no file", ["log"]), ("two files", ["log", log, log]), ("an LSN too large", ["log", log, "--from", str(2**64)]),
                         ("a page of no number", ["store", log, "--page", "x"]), ("a transaction of a store", ["store", log, "--transaction", "1"])):
         ran = dump(*words)
@@ -155,8 +150,8 @@ def check_words(tally, room, rows):
         tally.say("a dump that cannot be printed", ran.returncode == 1 and not ran.stderr)
 
 
-def check_growth(tally, refuser, rows):
-    log = os.path.join(rows, "checkpoint-loser", "log")
+def check_growth(tally, refuser):
+    log = os.path.join(SMALL_ROWS, "checkpoint-loser", "log")
     lines, _ = lines_of_log(bytes_of(log), STYLES["text"])
     right, count = True, 0
     for ran, is_refused in refuser.in_turn(lambda **how: dump("log", log, **how)):
@@ -166,11 +161,11 @@ def check_growth(tally, refuser, rows):
     tally.say(f"dump, {count} growths refused in turn", right and count > 0)
 
 
-def check_dump(tally, room, rows, archives, refuser):
+def check_dump(tally, room, refuser):
     check_by_hand(tally, room)
-    check_rows(tally, rows)
-    check_large_rows(tally, room, archives)
-    check_options(tally, room, rows)
-    check_damage(tally, room, rows)
-    check_words(tally, room, rows)
-    check_growth(tally, refuser, rows)
+    check_rows(tally)
+    check_large_rows(tally, room)
+    check_options(tally, room)
+    check_damage(tally, room)
+    check_words(tally, room)
+    check_growth(tally, refuser)

@@ -20,7 +20,7 @@ import tarfile
 import tempfile
 
 sys.dont_write_bytecode = True  # no folder of it beside the tests
-from run import ARIES, LARGE_ROWS, SMALL_ROWS, TOP, Tally, library_of, run, text_of
+from program import ARIES, LARGE_ROWS, SMALL_ROWS, TOP, Tally, library_of, run, text_of
 
 CRATE = "aries_c"
 ARCHIVE = f"lib{CRATE}.a"
@@ -290,6 +290,8 @@ def check_installed(tally, room, archive):
     settings = dict(os.environ, ARIES_LIB=os.path.dirname(archive))
     ran = run([os.path.join(TOP, "install.sh"), prefix], env=settings, text=True)
     tally.say("install.sh", ran.returncode == 0, ran.stderr)
+    pages = [os.path.join(prefix, "share/man", f"man{name[-1]}", name) for name in os.listdir(os.path.join(TOP, "man"))]
+    tally.say("the man pages", len(pages) == 3 and all(os.path.exists(page) for page in pages))
     if ran.returncode == 0 and shutil.which("pkg-config"):
         tally.say("by pkg-config", is_pkg_config_right(user, prefix))
     if ran.returncode == 0 and shutil.which("cmake"):

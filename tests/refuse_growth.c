@@ -1,5 +1,5 @@
-/* Loaded before a program (LD_PRELOAD), refuses its k-th growth of memory, k in REFUSE_GROWTH, and then makes the file that
- * REFUSE_MARK names. Build: cc -O1 -shared -fPIC -o refuse_growth.so refuse_growth.c */
+/* Loaded before a program (LD_PRELOAD), refuses its k-th growth of memory, k in REFUSE_GROWTH, and all behind it where
+ * REFUSE_BEHIND is set, and then makes the file that REFUSE_MARK names. Build: cc -O1 -shared -fPIC -o refuse_growth.so refuse_growth.c */
 #include <errno.h>
 #include <fcntl.h>
 #include <stdatomic.h>
@@ -15,7 +15,10 @@ static atomic_long calls;
 
 static int is_refused(void) {
     const char *which = getenv("REFUSE_GROWTH");
-    if (!which || atomic_fetch_add(&calls, 1) + 1 != atol(which))
+    if (!which)
+        return 0;
+    long call = atomic_fetch_add(&calls, 1) + 1, first = atol(which);
+    if (call < first || (call > first && !getenv("REFUSE_BEHIND")))
         return 0;
     const char *mark = getenv("REFUSE_MARK");
     if (mark)

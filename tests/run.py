@@ -1,6 +1,7 @@
 #!/usr/bin/env python3
 """Runs the proved programs as they are: on rows of real size, on the small rows in version 2, with threads counted, with files that are missing or stand
-already, with wrong lines, with prints that fail, and with each growth of memory refused in turn. And looks whether the documents are true of them.
+already, with wrong lines, with --verbose, with prints that fail, and with each growth of memory refused in turn. And looks whether the documents and the man
+pages are true of them.
 
 usage: tests/run.py        at the top of the repository, behind `rt ci`, which builds the programs
 
@@ -14,80 +15,15 @@ import sys
 import tarfile
 import tempfile
 
+sys.dont_write_bytecode = True  # no folder of it beside the tests
 from dump import check_dump
+from operate import check_operation
+from pages import check_pages
+from program import ARIES, LARGE_ROWS, SMALL_ROWS, TOP, Row, Tally, bytes_of, has_printed, has_refused, in_doubt, library_of, run, text_of
 
-TOP = os.path.dirname(os.path.dirname(os.path.abspath(__file__)))
-ARIES = os.path.join(TOP, "crates/aries_cli/out/aries_cli")
 ROW_RUNNER = os.path.join(TOP, "crates/rows/out/rows")
-LARGE_ROWS = os.path.join(TOP, "tests/rows")
-SMALL_ROWS = os.path.join(TOP, "crates/rows/data")
 REFUSED_ROWS = ["one-commit", "two-losers", "checkpoint-loser", "prepared-beside-loser", "empty-and-full-values", "ten-pages"]
 NO_RESOURCE = b"fault 1: no resource\n"
-
-
-def bytes_of(path):
-    """What a file holds; nothing where there is none."""
-    if not os.path.exists(path):
-        return b""
-    with open(path, "rb") as file:
-        return file.read()
-
-
-class Row:
-    """The files of a row, and a folder in which the program makes new ones."""
-
-    def __init__(self, folder, new):
-        self.folder, self.new = folder, new
-
-    def at(self, name):
-        return os.path.join(self.folder, name)
-
-    def new_at(self, name):
-        return os.path.join(self.new, name)
-
-    def recover(self, log="log", store="store", workers=2, parts=3, **how):
-        """A recovery of these two files of the row, into new files."""
-        for name in ("log", "store"):
-            if os.path.exists(self.new_at(name)):
-                os.remove(self.new_at(name))
-        words = ["recover", "--log", self.at(log), "--store", self.at(store)]
-        words += ["--out-log", self.new_at("log"), "--out-store", self.new_at("store")]
-        return run([ARIES, *words, "--workers", str(workers), "--parts", str(parts)], **how)
-
-    def audit(self, log="log", store="store", more=(), **how):
-        return run([ARIES, "audit", "--log", self.at(log), "--store", self.at(store), *more], **how)
-
-    def is_recovered(self):
-        """Whether the new files are those of the row."""
-        return all(bytes_of(self.new_at(name)) == bytes_of(self.at(f"out-{name}")) for name in ("log", "store"))
-
-    def is_nothing_out(self):
-        return not bytes_of(self.new_at("log")) and not bytes_of(self.new_at("store"))
-
-
-def run(words, **how):
-    return subprocess.run(words, **{"capture_output": True, **how})
-
-
-def in_doubt(report):
-    """The lines of a report that list the transactions in doubt."""
-    return report.splitlines()[8:]
-
-
-def has_printed(ran, text):
-    """Whether a run did its job and printed this text alone."""
-    return ran.returncode == 0 and ran.stdout == text and not ran.stderr
-
-
-class Tally:
-    """Which checks passed."""
-
-    def __init__(self):
-        self.passed = self.failed = 0
-
-    def say(self, what, is_well, seen=""):
-        self.passed, self.failed = self.passed + is_well, self.failed + (not is_well)
-        print(f"{what}: {'ok' if is_well else 'FAILED'}{f' ({seen})' if seen and not is_well else ''}", flush=True)
 
 
 # Rows of real size: what is expected was worked by a model that shares no code with the program.
@@ -161,11 +97,6 @@ def check_version_2(tally, room):
 
 # Files and words: what the program prints, its status, and which files it makes.
 
-def has_refused(ran, line):
-    """Whether a run refused by this line alone."""
-    return ran.returncode == 1 and ran.stderr == line and not ran.stdout
-
-
 def check_files(tally, room):
     row = Row(os.path.join(SMALL_ROWS, "one-commit"), room)
     ran = row.recover()
@@ -205,6 +136,12 @@ def check_words(tally, room):
     row = Row(os.path.join(SMALL_ROWS, "one-commit"), room)
     ran = run([ARIES, "--help"])
     tally.say("help", ran.returncode == 0 and b"recover" in ran.stdout and not ran.stderr)
+    ran, names = run([ARIES, "recover", "--help"]), [line.split()[0] for line in bytes_of(row.at("printed")).splitlines()]
+    told = ran.stdout.partition(b"It prints eight lines:\n")[2].splitlines()[:len(names)]
+    is_well = ran.returncode == 0 and not ran.stderr and [line.split()[0] for line in told] == names
+    tally.say("help of a recovery tells the lines of its report", is_well, ran.stdout)
+    ran = row.recover(workers="+4")
+    tally.say("+4 workers", has_printed(ran, bytes_of(row.at("printed"))) and row.is_recovered(), ran.stderr)
     files = ["--log", row.at("log"), "--store", row.at("store")]
     made = [os.path.join(room, name) for name in ("made-log", "made-store")]
     recover = ["recover", *files, "--out-log", made[0], "--out-store", made[1]]
@@ -238,15 +175,6 @@ def check_prints(tally, room):
         tally.say("a fault that cannot be printed", ran.returncode == 1 and not ran.stdout)
 
 
-# Libraries that are loaded before a program.
-
-def library_of(room, name):
-    library = os.path.join(room, f"{os.path.basename(name)}.so")
-    source = os.path.join(TOP, f"tests/{name}.c")
-    subprocess.run(["cc", "-O1", "-shared", "-fPIC", "-o", library, source, "-ldl"], check=True)
-    return library
-
-
 # Threads: more of them where more workers are asked for. What is written does not tell.
 
 def check_threads(tally, room):
@@ -263,10 +191,11 @@ def check_threads(tally, room):
 # Each growth of memory refused in turn.
 
 class Refuser:
-    """Runs programs in which one growth of memory is refused."""
+    """Runs programs in which one growth of memory is refused, or one and all behind it."""
 
-    def __init__(self, room):
+    def __init__(self, room, behind=False):
         self.library, self.mark = library_of(room, "refuse_growth"), os.path.join(room, "mark")
+        self.behind = {"REFUSE_BEHIND": "1"} if behind else {}
 
     def in_turn(self, job):
         """What each run of the job gives, the first growth refused, then the second, until none is."""
@@ -275,7 +204,7 @@ class Refuser:
             growth += 1
             if os.path.exists(self.mark):
                 os.remove(self.mark)
-            more = {"LD_PRELOAD": self.library, "REFUSE_MARK": self.mark, "REFUSE_GROWTH": str(growth)}
+            more = {"LD_PRELOAD": self.library, "REFUSE_MARK": self.mark, "REFUSE_GROWTH": str(growth), **self.behind}
             ran = job(env=dict(os.environ, **more))
             is_refused = os.path.exists(self.mark)
             yield ran, is_refused
@@ -310,6 +239,11 @@ def is_right_slow(name, ran, is_refused):
     return is_refused and ran.returncode == 1 and not line
 
 
+def is_right_line(ran, is_refused):
+    """Fault 1, or what is said of a wrong line."""
+    return (is_no_resource(ran) and is_refused) or (ran.returncode == 2 and ran.stderr.startswith(b"error: ") and not ran.stdout)
+
+
 def check_refused_growth(tally, what, refuser, job, is_right):
     """One check: no run of the job may give another answer."""
     wrong, count = [], 0
@@ -321,7 +255,12 @@ def check_refused_growth(tally, what, refuser, job, is_right):
 
 
 def check_refusals(tally, room):
-    refuser = Refuser(room)
+    refuser, behind = Refuser(room), Refuser(room, behind=True)
+    line = [ARIES, "audit", "--log", "none", "--log", "none"]
+    check_refused_growth(tally, "a wrong line, and all behind", behind, lambda **how: run(line, **how), is_right_line)
+    row = Row(os.path.join(SMALL_ROWS, "one-commit"), room)
+    check_refused_growth(tally, "a recovery, and all behind", behind, row.recover, lambda *ran: is_right_recovery(row, *ran))
+    check_refused_growth(tally, "an audit, and all behind", behind, row.audit, lambda *ran: is_right_audit(row, *ran))
     for name in REFUSED_ROWS:
         row = Row(os.path.join(SMALL_ROWS, name), room)
         check_refused_growth(tally, f"{name}, recovery", refuser, row.recover, lambda *ran: is_right_recovery(row, *ran))
@@ -335,11 +274,6 @@ def check_refusals(tally, room):
 
 
 # Documents: that the code, the links and the tables in them are true.
-
-def text_of(path):
-    with open(os.path.join(TOP, path), encoding="utf-8") as file:
-        return file.read()
-
 
 def documents():
     yield from ("README.md", "CONTRIBUTING.md", "CHANGELOG.md", "crates/rows/data/README.md")
@@ -387,6 +321,7 @@ def main():
             sys.exit(f"{program} is missing: `rt ci` builds it")
     tally = Tally()
     check_documents(tally)
+    check_pages(tally)
     with tempfile.TemporaryDirectory(prefix="aries-tests-") as room:
         check_large_rows(tally, room)
         check_version_2(tally, room)
@@ -394,9 +329,10 @@ def main():
         check_files(tally, room)
         check_missing_files(tally, room)
         check_words(tally, room)
+        check_operation(tally, room)
         check_prints(tally, room)
         check_refusals(tally, room)
-        check_dump(tally, room, SMALL_ROWS, LARGE_ROWS, Refuser(room))
+        check_dump(tally, room, Refuser(room))
     print(f"{tally.passed} passed, {tally.failed} failed")
     sys.exit(1 if tally.failed else 0)
 

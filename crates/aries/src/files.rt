@@ -3,84 +3,173 @@
 ghost use Rattle.std.specs.Prelude.{◌≢◌};
 ghost use Rattle.page.specs.declared.fault.Fault.TheVariants.{NoResource};
 
+use crate::noted::{Call, NotedFile, Notes};
 use device::{FileSink, FileSource};
 use page::Fault;
 use recovery::{Report, audit_texts, audit_texts_over, read_source, recover};
 use redo::OpenGate;
 use restart::Options;
 use std::alloc::Global;
-use std::fs::File;
+use std::fs::{File, OpenFile, OpenOptions, Permissions};
 use std::io::{self, ErrorKind};
-use std::rt::Files;
+use std::os::unix::fs::{OpenOptionsExt, PermissionsExt};
+use std::path::Path;
+use std::rt::{Clock, Files};
 use std::thread::Threads;
 
-/// Where a recovery reads and writes.
-#[derive(Clone, Copy)]
-pub struct Paths<'a> {
-    pub log: &'a str,
-    pub store: &'a str,
-    pub out_log: &'a str,
-    pub out_store: &'a str,
+/// What a job reads.
+#[derive(Drop)]
+pub struct OldFiles<'a> {
+    pub log: Notes<'a>,
+    pub store: Notes<'a>,
+    /// The base store of an audit, where it is given.
+    pub base: Option<Notes<'a>>,
 }
 
-/// What a file that was not opened is: want of memory, or that file's fault.
-fn fault_of(error: io::Error, fault: Fault) -> Fault {
+impl<'a> OldFiles<'a> {
+    /// Files at these paths, of which nothing is noted yet.
+    pub fn new(log: &'a str, store: &'a str, base: Option<&'a str>) -> OldFiles<'a> {
+        OldFiles {
+            log: Notes::new("log", log),
+            store: Notes::new("store", store),
+            base: base.map(|path| Notes::new("base store", path)),
+        }
+    }
+}
+
+/// What a recovery writes.
+#[derive(Drop)]
+pub struct NewFiles<'a> {
+    pub log: Notes<'a>,
+    pub store: Notes<'a>,
+}
+
+impl<'a> NewFiles<'a> {
+    /// Files at these paths, of which nothing is noted yet.
+    pub fn new(log: &'a str, store: &'a str) -> NewFiles<'a> {
+        NewFiles {
+            log: Notes::new("new log", log),
+            store: Notes::new("new store", store),
+        }
+    }
+}
+
+/// Notes that a file was not opened or made, and gives its fault: want of memory, or that file's.
+fn refuse(file: &Notes, call: Call, error: io::Error, fault: Fault) -> Fault {
+    file.fail(call, error);
     match error.kind() {
         ErrorKind::OutOfMemory => Fault::NoResource,
         _ => fault,
     }
 }
 
-/// Recovers the store in a file by the log in another, into two files that are made anew. All four
-/// are opened, in the order of the paths, before the first is read; the new store is written when
-/// the new log is whole and synced. After a fault, new files made so far stay: empty, or a
-/// beginning.
-pub fn recover_files<R: Files + Threads + Sync>(
+/// Opens a file to be read; `fault` where that failed.
+fn open<R: Files>(rt: &R, file: &Notes, fault: Fault) -> Result<R::File, Fault> {
+    File::open(rt, file.path).map_err(|error| refuse(file, Call::Open, error, fault))
+}
+
+/// Who may read, write and run an open file; where that is not told, its owner alone may read and
+/// write it.
+fn mode_of<F: OpenFile>(file: &F) -> u32 {
+    match file.metadata() {
+        Ok(metadata) => metadata.permissions().mode() & 0o777,
+        Err(_) => 0o600,
+    }
+}
+
+/// Makes a file anew, which nobody but those who may read and write `old` may read and write.
+///
+/// The system takes the umask's bits away from the mode that a file is made with, so it is set once
+/// more; on a file system that keeps no modes that fails, and changes nothing.
+fn make_like<R: Files>(rt: &R, path: &str, old: &R::File) -> io::Result<R::File> {
+    let mode = mode_of(old);
+    let mut options = OpenOptions::new();
+    options.read(true).write(true).create_new(true).mode(mode);
+    let file = options.open(rt, path)?;
+    let _ = file.set_permissions(Permissions::from_mode(mode));
+    Ok(file)
+}
+
+/// Makes a new file with the mode of an old one; `fault` where that failed.
+fn make<R: Files>(rt: &R, file: &Notes, old: &R::File, fault: Fault) -> Result<R::File, Fault> {
+    make_like(rt, file.path, old).map_err(|error| refuse(file, Call::Make, error, fault))
+}
+
+/// The folder in which a file of this path stands.
+fn folder_of(path: &str) -> &str {
+    match Path::new(path).parent() {
+        Some(folder) if !folder.as_str().is_empty() => folder.as_str(),
+        _ => ".",
+    }
+}
+
+/// Asks that the name of a new file reaches the disk, which stands in its folder; `fault` where the
+/// folder could not be synced. Where the system lets nobody sync it, who may not read it or where a
+/// file system has no such thing, that is noted alone.
+fn sync_folder<R: Files>(rt: &R, file: &Notes, fault: Fault) -> Result<(), Fault> {
+    let synced = File::open(rt, folder_of(file.path)).and_then(|folder| folder.sync_all());
+    let Err(error) = synced else {
+        return Ok(());
+    };
+    file.fail(Call::SyncFolder, error);
+    match error.kind() {
+        ErrorKind::PermissionDenied | ErrorKind::InvalidInput | ErrorKind::Unsupported => Ok(()),
+        _ => Err(fault),
+    }
+}
+
+/// Recovers the store in a file by the log in another, into two files that are made anew, each with
+/// the mode of the one that it comes from. All four are opened, in the order log, store, new log,
+/// new store, before the first is read; the new store is written when the new log is whole and
+/// synced; the folders of the new files are synced last. After a fault, new files made so far stay:
+/// empty, or a beginning, or where a folder was not synced whole.
+pub fn recover_files<R: Files + Clock + Threads + Sync>(
     rt: &R,
     alloc: Global,
-    paths: &Paths,
+    old: &OldFiles,
+    new: &NewFiles,
     options: &Options,
 ) -> Result<Report, Fault> {
-    let log = File::open(rt, paths.log).map_err(|e| fault_of(e, Fault::ReadLog))?;
-    let store = File::open(rt, paths.store).map_err(|e| fault_of(e, Fault::ReadStore))?;
-    let out_log = File::create_new(rt, paths.out_log).map_err(|e| fault_of(e, Fault::WriteLog))?;
-    let out_store = File::create_new(rt, paths.out_store).map_err(|e| fault_of(
-        e,
-        Fault::WriteStore,
-    ))?;
-    recover(
+    let log = open(rt, &old.log, Fault::ReadLog)?;
+    let store = open(rt, &old.store, Fault::ReadStore)?;
+    let new_log = make(rt, &new.log, &log, Fault::WriteLog)?;
+    let new_store = make(rt, &new.store, &store, Fault::WriteStore)?;
+    let report = recover(
         rt,
         alloc,
-        &mut FileSource::new(log),
-        &mut FileSource::new(store),
-        &mut FileSink::new(out_log),
-        &mut FileSink::new(out_store),
+        &mut FileSource::new(NotedFile::new(log, rt, &old.log)),
+        &mut FileSource::new(NotedFile::new(store, rt, &old.store)),
+        &mut FileSink::new(NotedFile::new(new_log, rt, &new.log)),
+        &mut FileSink::new(NotedFile::new(new_store, rt, &new.store)),
         options,
         &OpenGate,
-    )
+    )?;
+    sync_folder(rt, &new.log, Fault::WriteLog)?;
+    sync_folder(rt, &new.store, Fault::WriteStore)?;
+    Ok(report)
 }
 
 /// The bytes of a file; `fault` where it cannot be opened or read to its end.
-fn read_file<R: Files>(rt: &R, alloc: Global, path: &str, fault: Fault) -> Result<Vec<u8>, Fault>
+fn read_file<R: Files + Clock>(
+    rt: &R,
+    alloc: Global,
+    file: &Notes,
+    fault: Fault,
+) -> Result<Vec<u8>, Fault>
     requires { fault ≢ NoResource }
 {
-    let file = File::open(rt, path).map_err(|e| fault_of(e, fault))?;
-    read_source(alloc, &mut FileSource::new(file), fault)
+    let opened = open(rt, file, fault)?;
+    let mut source = FileSource::new(NotedFile::new(opened, rt, file));
+    read_source(alloc, &mut source, fault)
 }
 
 /// Whether the log and the store in two files are lawful, over the pages of the base store in a
 /// third where there is one, else over empty pages. All are read to their ends, in this order,
 /// before the first is decoded.
-pub fn audit_files<R: Files>(
-    rt: &R,
-    alloc: Global,
-    log: &str,
-    store: &str,
-    base: Option<&str>,
-) -> Result<(), Fault> {
-    let log = read_file(rt, alloc, log, Fault::ReadLog)?;
-    let store = read_file(rt, alloc, store, Fault::ReadStore)?;
-    match base {
+pub fn audit_files<R: Files + Clock>(rt: &R, alloc: Global, files: &OldFiles) -> Result<(), Fault> {
+    let log = read_file(rt, alloc, &files.log, Fault::ReadLog)?;
+    let store = read_file(rt, alloc, &files.store, Fault::ReadStore)?;
+    match &files.base {
         Some(base) => {
             let base = read_file(rt, alloc, base, Fault::ReadStore)?;
             audit_texts_over(alloc, &log, &store, &base)

@@ -3,12 +3,14 @@
 #![tactic(auto)]
 
 mod files;
+mod noted;
 mod program;
+mod verbose;
 
 pub use program::run;
 
 // What a caller needs of the crates below.
-pub use command::{Job, Refusal, command_of};
+pub use command::{Job, Refusal, Task, command_of};
 pub use device::{Failed, FileSink, FileSource, MemorySink, MemorySource, Sink, Source};
 pub use page::{Fault, Page, Store};
 pub use recovery::{

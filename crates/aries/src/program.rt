@@ -1,13 +1,16 @@
 //! The program: from its words to its exit status.
 
-use crate::files::{Paths, audit_files, recover_files};
-use command::{Job, Refusal, command_of};
+use crate::files::{NewFiles, OldFiles, audit_files, recover_files};
+use crate::verbose::{tell_audit, tell_recovery, tell_why};
+use command::{Job, Refusal, Task, command_of};
 use page::Fault;
 use recovery::{Report, report_text};
+use restart::Options;
 use std::alloc::Global;
 use std::io::{self, Write};
-use std::rt::Files;
+use std::rt::{Clock, Files};
 use std::thread::Threads;
+use std::time::Instant;
 
 /// Prints a report.
 fn print_report<O: Write>(alloc: Global, report: &Report, out: &mut O) -> io::Result<()> {
@@ -34,50 +37,98 @@ fn explain<O: Write, E: Write>(error: clap::Error, out: &mut O, err: &mut E) -> 
     if printed.is_ok() { status } else { 1 }
 }
 
-/// The status of what was printed.
-fn status_of(printed: io::Result<()>) -> u8 {
-    match printed {
-        Ok(()) => 0,
-        Err(_) => 1,
+/// The status of what was printed; where it is to be verbose, says why it was not.
+fn status_of<E: Write>(printed: io::Result<()>, verbose: bool, err: &mut E) -> u8 {
+    let Err(error) = printed else {
+        return 0;
+    };
+    if verbose {
+        let _ = writeln!(err, "aries: printing: {error}");
+    }
+    1
+}
+
+/// Recovers, and prints the report or the fault; where it is to be verbose, before them what it did
+/// or why it was refused.
+fn run_recovery<R: Files + Clock + Threads + Sync, O: Write, E: Write>(
+    rt: &R,
+    alloc: Global,
+    files: (&OldFiles, &NewFiles),
+    options: &Options,
+    verbose: bool,
+    out: &mut O,
+    err: &mut E,
+) -> u8 {
+    let (old, new) = files;
+    match recover_files(rt, alloc, old, new, options) {
+        Ok(report) => {
+            if verbose {
+                tell_recovery(old, new, err);
+            }
+            status_of(print_report(alloc, &report, out), verbose, err)
+        }
+        Err(fault) => {
+            if verbose {
+                tell_why(fault, old, Some(new), err);
+            }
+            refuse(fault, err)
+        }
+    }
+}
+
+/// Audits, and prints `lawful` or the fault; where it is to be verbose, before them what it did or
+/// why it was refused.
+fn run_audit<R: Files + Clock, O: Write, E: Write>(
+    rt: &R,
+    alloc: Global,
+    files: &OldFiles,
+    verbose: bool,
+    out: &mut O,
+    err: &mut E,
+) -> u8 {
+    match audit_files(rt, alloc, files) {
+        Ok(()) => {
+            if verbose {
+                tell_audit(files, Instant::now(rt).ok(), err);
+            }
+            status_of(writeln!(out, "lawful"), verbose, err)
+        }
+        Err(fault) => {
+            if verbose {
+                tell_why(fault, files, None, err);
+            }
+            refuse(fault, err)
+        }
     }
 }
 
 /// Does the job.
-fn run_job<R: Files + Threads + Sync, O: Write, E: Write>(
+fn run_job<R: Files + Clock + Threads + Sync, O: Write, E: Write>(
     rt: &R,
     alloc: Global,
     job: &Job,
     out: &mut O,
     err: &mut E,
 ) -> u8 {
-    match job {
-        Job::Recover {
+    match &job.task {
+        Task::Recover {
             log,
             store,
             out_log,
             out_store,
             options,
         } => {
-            let paths = Paths {
-                log: log.as_str(),
-                store: store.as_str(),
-                out_log: out_log.as_str(),
-                out_store: out_store.as_str(),
-            };
-            match recover_files(rt, alloc, &paths, options) {
-                Ok(report) => status_of(print_report(alloc, &report, out)),
-                Err(fault) => refuse(fault, err),
-            }
+            let old = OldFiles::new(log.as_str(), store.as_str(), None);
+            let new = NewFiles::new(out_log.as_str(), out_store.as_str());
+            run_recovery(rt, alloc, (&old, &new), options, job.verbose, out, err)
         }
-        Job::Audit { log, store, base } => {
+        Task::Audit { log, store, base } => {
             let base = match base {
                 Some(base) => Some(base.as_str()),
                 None => None,
             };
-            match audit_files(rt, alloc, log.as_str(), store.as_str(), base) {
-                Ok(()) => status_of(writeln!(out, "lawful")),
-                Err(fault) => refuse(fault, err),
-            }
+            let files = OldFiles::new(log.as_str(), store.as_str(), base);
+            run_audit(rt, alloc, &files, job.verbose, out, err)
         }
     }
 }
@@ -85,8 +136,9 @@ fn run_job<R: Files + Threads + Sync, O: Write, E: Write>(
 /// Runs the program `aries`: `words` are its words, the first of which is its name; `out` stands
 /// for standard output and `err` for standard error. Answers the exit status: 0 where the job was
 /// done or help was asked for, 1 for a fault, printed to `err` as `fault N: text`, or a failed
-/// print, 2 for a line that is wrong.
-pub fn run<R: Files + Threads + Sync, O: Write, E: Write>(
+/// print, 2 for a line that is wrong. With `--verbose` lines that begin with `aries: ` stand before
+/// that, in `err`: why a fault came, or what was read and written, in which time.
+pub fn run<R: Files + Clock + Threads + Sync, O: Write, E: Write>(
     rt: &R,
     alloc: Global,
     words: &[&str],

@@ -4,7 +4,7 @@
 use std::env;
 use std::io::{self, ErrorKind, Write};
 use std::process::ExitCode;
-use std::rt::{Env, Files};
+use std::rt::{Clock, Env, Files};
 use std::thread::Threads;
 
 /// The words of the command line, each of them text.
@@ -13,8 +13,14 @@ fn words_of<R: Env + AllocGlobal>(rt: &R) -> io::Result<Vec<String>> {
     Ok(words)
 }
 
+/// Prints the line of a refusal for want of memory, and gives its status.
+fn refuse<E: Write>(err: &mut E) -> io::Result<u8> {
+    writeln!(err, "fault 1: no resource")?;
+    Ok(1)
+}
+
 /// Runs the program and gives its status. Words that are no text are a wrong line.
-fn status_of<R: Env + Files + AllocGlobal + Threads + Sync, O: Write, E: Write>(
+fn status_of<R: Clock + Env + Files + AllocGlobal + Threads + Sync, O: Write, E: Write>(
     rt: &R,
     out: &mut O,
     err: &mut E,
@@ -25,12 +31,12 @@ fn status_of<R: Env + Files + AllocGlobal + Threads + Sync, O: Write, E: Write>(
             writeln!(err, "error: a word of the command line is no text")?;
             return Ok(2);
         }
-        Err(_) => {
-            writeln!(err, "fault 1: no resource")?;
-            return Ok(1);
-        }
+        Err(_) => return refuse(err),
     };
-    let slices: Vec<&str> = words.iter().map(|word| word.as_str()).collect(rt.alloc())?;
+    let slices: Vec<&str> = match words.iter().map(|word| word.as_str()).collect(rt.alloc()) {
+        Ok(slices) => slices,
+        Err(_) => return refuse(err),
+    };
     Ok(aries::run(rt, rt.alloc(), &slices, out, err))
 }
 

@@ -12,20 +12,23 @@ use anyhow::{Context, Result};
 use aries::Options;
 use cuts::Cuts;
 use std::fs;
-use std::rt::Files;
+use std::rt::{Clock, Files};
 use std::str::SplitWhitespace;
 use std::thread::Threads;
 use verdict::Verdict;
 
 /// Prints whether the audit of a row is as the row says.
-fn run_audit<R: Files + Print + AllocGlobal + Threads + Sync>(rt: &R, row: &str) -> Result<()> {
+fn run_audit<R: Files + Clock + Print + AllocGlobal + Threads + Sync>(
+    rt: &R,
+    row: &str,
+) -> Result<()> {
     let verdict = verdict::of_audit(rt, row).context(format_args!("audit of {row}"))?;
     println!(rt; "{row}, audit: {verdict}")?;
     Ok(())
 }
 
 /// Prints whether the audit of a row over its base store is as the row says.
-fn run_audit_over<R: Files + Print + AllocGlobal + Threads + Sync>(
+fn run_audit_over<R: Files + Clock + Print + AllocGlobal + Threads + Sync>(
     rt: &R,
     row: &str,
 ) -> Result<()> {
@@ -35,7 +38,7 @@ fn run_audit_over<R: Files + Print + AllocGlobal + Threads + Sync>(
 }
 
 /// Prints whether a restart of a row is as the row says, over files and over memory.
-fn run_restart<R: Files + Print + AllocGlobal + Threads + Sync>(
+fn run_restart<R: Files + Clock + Print + AllocGlobal + Threads + Sync>(
     rt: &R,
     row: &str,
     workers: &str,
@@ -71,7 +74,7 @@ fn run_slow<R: Files + Print + AllocGlobal + Threads + Sync>(rt: &R, row: &str) 
 }
 
 /// Prints whether the restarts of a row whose log was cut short are as the row says.
-fn run_cuts<R: Files + Print + AllocGlobal + Threads + Sync>(
+fn run_cuts<R: Files + Clock + Print + AllocGlobal + Threads + Sync>(
     rt: &R,
     row: &str,
     over_base: bool,
@@ -95,7 +98,10 @@ fn run_cuts<R: Files + Print + AllocGlobal + Threads + Sync>(
 /// Runs what a line says of a row: the folder, and then `audit`; or `audit-over`; or `slow`; or
 /// `cuts`, the PageLSN of the page and the sizes of the shortest and the longest log; or `cuts-over`
 /// and the same; or the workers and the parts of a restart.
-fn run_line<R: Files + Print + AllocGlobal + Threads + Sync>(rt: &R, line: &str) -> Result<()> {
+fn run_line<R: Files + Clock + Print + AllocGlobal + Threads + Sync>(
+    rt: &R,
+    line: &str,
+) -> Result<()> {
     let mut words = line.split_whitespace();
     let row = words.next().context("a row without a name")?;
     let command = words.next().context("a row without a command")?;
@@ -119,7 +125,10 @@ fn run_line<R: Files + Print + AllocGlobal + Threads + Sync>(rt: &R, line: &str)
 }
 
 /// Runs the lines of the index.
-fn run_rows<R: Files + Print + AllocGlobal + Threads + Sync>(rt: &R, index: &str) -> Result<()> {
+fn run_rows<R: Files + Clock + Print + AllocGlobal + Threads + Sync>(
+    rt: &R,
+    index: &str,
+) -> Result<()> {
     for line in index.lines() {
         run_line(rt, line)?;
     }

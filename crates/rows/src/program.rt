@@ -2,7 +2,7 @@
 
 use anyhow::Result;
 use std::fs;
-use std::rt::Files;
+use std::rt::{Clock, Files};
 use std::thread::Threads;
 
 /// Where a restart writes the new log.
@@ -20,7 +20,7 @@ pub struct Printed {
 }
 
 /// Runs the program with these words.
-fn run<R: Files + AllocGlobal + Threads + Sync>(rt: &R, words: &[&str]) -> Printed {
+fn run<R: Files + Clock + AllocGlobal + Threads + Sync>(rt: &R, words: &[&str]) -> Printed {
     let mut out = Vec::new(rt.alloc());
     let mut err = Vec::new(rt.alloc());
     let status = aries::run(rt, rt.alloc(), words, &mut out, &mut err);
@@ -28,7 +28,7 @@ fn run<R: Files + AllocGlobal + Threads + Sync>(rt: &R, words: &[&str]) -> Print
 }
 
 /// Restarts on a log and a store, into `NEW_LOG` and `NEW_STORE`.
-pub fn recover<R: Files + AllocGlobal + Threads + Sync>(
+pub fn recover<R: Files + Clock + AllocGlobal + Threads + Sync>(
     rt: &R,
     log: &str,
     store: &str,
@@ -62,12 +62,16 @@ pub fn remove_new_files<R: Files>(rt: &R) -> Result<()> {
 }
 
 /// Audits a log and a store.
-pub fn audit<R: Files + AllocGlobal + Threads + Sync>(rt: &R, log: &str, store: &str) -> Printed {
+pub fn audit<R: Files + Clock + AllocGlobal + Threads + Sync>(
+    rt: &R,
+    log: &str,
+    store: &str,
+) -> Printed {
     run(rt, &["aries", "audit", "--log", log, "--store", store])
 }
 
 /// Audits a log and a store over a base store.
-pub fn audit_over<R: Files + AllocGlobal + Threads + Sync>(
+pub fn audit_over<R: Files + Clock + AllocGlobal + Threads + Sync>(
     rt: &R,
     log: &str,
     store: &str,

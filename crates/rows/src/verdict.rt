@@ -2,7 +2,7 @@
 
 use crate::program::{NEW_LOG, NEW_STORE, Printed, audit, audit_over, recover, remove_new_files};
 use anyhow::{Context, Result};
-use std::rt::Files;
+use std::rt::{Clock, Files};
 use std::thread::Threads;
 use std::{fmt, fs};
 
@@ -77,7 +77,7 @@ fn of_printed<R: Files + AllocGlobal>(rt: &R, row: &str, printed: &Printed) -> R
 
 /// Whether a restart on the row's log and store prints what the row says and, where it answers,
 /// makes the row's files. The new files are gone afterwards.
-pub fn of_restart<R: Files + AllocGlobal + Threads + Sync>(
+pub fn of_restart<R: Files + Clock + AllocGlobal + Threads + Sync>(
     rt: &R,
     row: &str,
     workers: &str,
@@ -102,14 +102,17 @@ fn of_audited<R: Files + AllocGlobal>(rt: &R, row: &str, printed: &Printed) -> R
 }
 
 /// Whether an audit of the row's log and store prints what the row says.
-pub fn of_audit<R: Files + AllocGlobal + Threads + Sync>(rt: &R, row: &str) -> Result<Verdict> {
+pub fn of_audit<R: Files + Clock + AllocGlobal + Threads + Sync>(
+    rt: &R,
+    row: &str,
+) -> Result<Verdict> {
     let log = format!(in rt.alloc(); "{row}/log")?;
     let store = format!(in rt.alloc(); "{row}/store")?;
     of_audited(rt, row, &audit(rt, log.as_str(), store.as_str()))
 }
 
 /// Whether an audit of them over the row's base store does.
-pub fn of_audit_over<R: Files + AllocGlobal + Threads + Sync>(
+pub fn of_audit_over<R: Files + Clock + AllocGlobal + Threads + Sync>(
     rt: &R,
     row: &str,
 ) -> Result<Verdict> {

@@ -1,0 +1,194 @@
+//! What is noted of a job's files: how much was read or written and when, and which call failed.
+
+ghost use Rattle.aries.specs.Noted.{inner_file};
+
+use std::cell::Cell;
+use std::fmt;
+use std::fs::{Metadata, OpenFile};
+use std::io::{self, ErrorKind, Read, Write};
+use std::rt::Clock;
+use std::time::{Duration, Instant};
+
+/// A call on a file.
+#[derive(Clone, Copy, Debug, PartialEq, Eq)]
+pub enum Call {
+    Open,
+    Make,
+    Read,
+    Write,
+    Sync,
+    SyncFolder,
+}
+
+impl fmt::Display for Call {
+    fn fmt<W: fmt::Write>(&self, f: &mut fmt::Formatter<W>) -> fmt::Result {
+        f.write_str(match self {
+            Call::Open => "opening",
+            Call::Make => "making",
+            Call::Read => "reading",
+            Call::Write => "writing",
+            Call::Sync => "syncing",
+            Call::SyncFolder => "syncing the folder of",
+        })
+    }
+}
+
+/// A call that failed, and what the system said.
+#[derive(Clone, Copy)]
+pub struct Failure {
+    pub call: Call,
+    pub error: io::Error,
+}
+
+/// A file of a job, and what is noted of it.
+#[derive(Drop)]
+pub struct Notes<'a> {
+    /// What the file is to the job, as `new log`.
+    pub role: &'a str,
+    pub path: &'a str,
+    bytes: Cell<u64>,
+    began: Cell<Option<Instant>>,
+    ended: Cell<Option<Instant>>,
+    failure: Cell<Option<Failure>>,
+}
+
+impl<'a> Notes<'a> {
+    /// A file of which nothing is noted yet.
+    pub fn new(role: &'a str, path: &'a str) -> Notes<'a> {
+        Notes {
+            role,
+            path,
+            bytes: Cell::new(0),
+            began: Cell::new(None),
+            ended: Cell::new(None),
+            failure: Cell::new(None),
+        }
+    }
+
+    /// How many bytes were read or written.
+    pub fn bytes(&self) -> u64 {
+        self.bytes.get()
+    }
+
+    /// When the first call on the open file began, where there was one and the clock told it.
+    pub fn began(&self) -> Option<Instant> {
+        self.began.get()
+    }
+
+    /// When the last call on the open file ended, where there was one and the clock told it.
+    pub fn ended(&self) -> Option<Instant> {
+        self.ended.get()
+    }
+
+    /// How long it took from the first call to the last.
+    pub fn duration(&self) -> Option<Duration> {
+        Some(self.ended()?.duration_since(self.began()?))
+    }
+
+    /// The last call that failed.
+    pub fn failure(&self) -> Option<Failure> {
+        self.failure.get()
+    }
+
+    /// Notes a call that failed. One that a signal interrupted is none: it is made again.
+    pub fn fail(&self, call: Call, error: io::Error) {
+        if error.kind() != ErrorKind::Interrupted {
+            self.failure.set(Some(Failure { call, error }));
+        }
+    }
+
+    /// Notes that a call on the open file begins.
+    fn begin<C: Clock>(&self, clock: &C) {
+        if self.began.get().is_none() {
+            self.began.set(Instant::now(clock).ok());
+        }
+    }
+
+    /// Notes that a call on the open file ended, and whether it failed.
+    fn end<T, C: Clock>(&self, clock: &C, call: Call, answer: &io::Result<T>) {
+        self.ended.set(Instant::now(clock).ok());
+        if let Err(error) = answer {
+            self.fail(call, *error);
+        }
+    }
+
+    /// Notes how many bytes a call passed.
+    fn pass(&self, answer: &io::Result<usize>) {
+        if let Ok(count) = answer {
+            self.bytes
+                .set(self.bytes.get().saturating_add(*count as u64));
+        }
+    }
+}
+
+/// An open file whose calls are noted. It gives and takes the bytes of the file.
+#[derive(Drop)]
+pub struct NotedFile<'a, F, C> {
+    file: F,
+    clock: &'a C,
+    notes: &'a Notes<'a>,
+}
+
+impl<'a, F, C> NotedFile<'a, F, C> {
+    /// Notes the calls on this file from now on.
+    pub fn new(file: F, clock: &'a C, notes: &'a Notes<'a>) -> NotedFile<'a, F, C> {
+        NotedFile { file, clock, notes }
+    }
+}
+
+impl<'a, F: Read, C: Clock> Read for NotedFile<'a, F, C> {
+    ghost remaining = { λ noted. F.remaining (inner_file noted) };
+
+    fn read(&mut self, buf: &mut [u8]) -> io::Result<usize> {
+        self.notes.begin(self.clock);
+        let answer = self.file.read(buf);
+        self.notes.end(self.clock, Call::Read, &answer);
+        self.notes.pass(&answer);
+        answer
+    }
+}
+
+impl<'a, F: Write, C: Clock> Write for NotedFile<'a, F, C> {
+    ghost contents = { λ noted. F.contents (inner_file noted) };
+
+    fn write(&mut self, buf: &[u8]) -> io::Result<usize> {
+        self.notes.begin(self.clock);
+        let answer = self.file.write(buf);
+        self.notes.end(self.clock, Call::Write, &answer);
+        self.notes.pass(&answer);
+        if matches!(answer, Ok(0)) && !buf.is_empty() {
+            let error = io::Error::from(ErrorKind::WriteZero);
+            self.notes.fail(Call::Write, error);
+        }
+        answer
+    }
+
+    fn flush(&mut self) -> io::Result<()> {
+        self.notes.begin(self.clock);
+        let answer = self.file.flush();
+        self.notes.end(self.clock, Call::Write, &answer);
+        answer
+    }
+}
+
+impl<'a, F: OpenFile, C: Clock> OpenFile for NotedFile<'a, F, C> {
+    fn metadata(&self) -> io::Result<Metadata> {
+        self.file.metadata()
+    }
+
+    fn set_len(&self, size: u64) -> io::Result<()> {
+        self.file.set_len(size)
+    }
+
+    fn sync_all(&self) -> io::Result<()> {
+        let answer = self.file.sync_all();
+        self.notes.end(self.clock, Call::Sync, &answer);
+        answer
+    }
+
+    fn sync_data(&self) -> io::Result<()> {
+        let answer = self.file.sync_data();
+        self.notes.end(self.clock, Call::Sync, &answer);
+        answer
+    }
+}

@@ -1,0 +1,164 @@
+//! What `--verbose` says on standard error: why a job was refused, or how long its parts took.
+
+use crate::files::{NewFiles, OldFiles};
+use crate::noted::{Failure, Notes};
+use page::Fault;
+use std::fmt;
+use std::io::{self, Write};
+use std::time::{Duration, Instant};
+
+/// A file as it is called in a line: what it is to the job, and its path in quotes.
+#[derive(Drop)]
+struct Name<'n, 'a>(&'n Notes<'a>);
+
+impl<'n, 'a> fmt::Display for Name<'n, 'a> {
+    fn fmt<W: fmt::Write>(&self, f: &mut fmt::Formatter<W>) -> fmt::Result {
+        let (role, path) = (self.0.role, self.0.path);
+        write!(f, "the {role} {path:?}")
+    }
+}
+
+/// A time in milliseconds, to the microsecond; nothing where the clock did not tell it.
+#[derive(Drop)]
+struct Took(Option<Duration>);
+
+impl fmt::Display for Took {
+    fn fmt<W: fmt::Write>(&self, f: &mut fmt::Formatter<W>) -> fmt::Result {
+        let Some(time) = self.0 else {
+            return Ok(());
+        };
+        let millis = time.as_millis();
+        let micros = time.subsec_micros() % 1000;
+        write!(f, " in {millis}.{micros:03} ms")
+    }
+}
+
+/// What a fault is of that no call on a file has brought.
+#[derive(Clone, Copy)]
+enum Place {
+    Memory,
+    Log,
+    Store,
+    /// The store or the base store: both are decoded.
+    AnyStore,
+    Base,
+    /// The two do not fit each other.
+    LogAndStore,
+    /// The fault of a call, or one that no command line brings.
+    Nowhere,
+}
+
+/// What a fault is of.
+fn place_of(fault: Fault) -> Place {
+    match fault {
+        Fault::NoResource => Place::Memory,
+        Fault::BadLogHeader
+        | Fault::BadLength(_)
+        | Fault::BadRecord(_)
+        | Fault::BadLsn(_)
+        | Fault::BrokenChain(_)
+        | Fault::Chain(_)
+        | Fault::AfterFinish(_)
+        | Fault::WrongCompensation(_)
+        | Fault::BeforeImage(_)
+        | Fault::DirtyWrite(_)
+        | Fault::EndTooEarly(_)
+        | Fault::TransactionTable
+        | Fault::DirtyTable(_) => Place::Log,
+        Fault::BadStoreHeader | Fault::StoreSize | Fault::BadPage(_) => Place::AnyStore,
+        Fault::PageImage(_) => Place::Store,
+        Fault::BadBase => Place::Base,
+        Fault::BadMaster | Fault::NoSuchPage(_) | Fault::PageAheadOfLog(_) => Place::LogAndStore,
+        Fault::ReadLog
+        | Fault::ReadStore
+        | Fault::WriteLog
+        | Fault::WriteStore
+        | Fault::BadParting
+        | Fault::BadWorkers => Place::Nowhere,
+    }
+}
+
+/// Says in which of the files a fault lies.
+fn tell_place<E: Write>(place: Place, old: &OldFiles, err: &mut E) -> io::Result<()> {
+    let (log, store) = (Name(&old.log), Name(&old.store));
+    match (place, &old.base) {
+        (Place::Memory, _) => writeln!(err, "aries: memory was refused"),
+        (Place::Log, _) => writeln!(err, "aries: in {log}"),
+        (Place::LogAndStore, _) => writeln!(err, "aries: between {log} and {store}"),
+        (Place::Store, _) | (Place::AnyStore, None) => writeln!(err, "aries: in {store}"),
+        (Place::AnyStore, Some(base)) => {
+            let base = Name(base);
+            writeln!(err, "aries: in {store} or {base}")
+        }
+        (Place::Base, Some(base)) => {
+            let base = Name(base);
+            writeln!(err, "aries: in {base}")
+        }
+        (Place::Base, None) | (Place::Nowhere, _) => Ok(()),
+    }
+}
+
+/// Says which call on a file failed and what the system said, where one has. Whether one has.
+fn tell_failure<E: Write>(file: &Notes, err: &mut E) -> bool {
+    let Some(Failure { call, error }) = file.failure() else {
+        return false;
+    };
+    let name = Name(file);
+    let _ = writeln!(err, "aries: {call} {name}: {error}");
+    true
+}
+
+/// Says why a job was refused: which call on which file failed, and what the system said of it;
+/// where none has, in which file the fault lies.
+pub fn tell_why<E: Write>(fault: Fault, old: &OldFiles, new: Option<&NewFiles>, err: &mut E) {
+    let mut is_told = tell_failure(&old.log, err) || tell_failure(&old.store, err);
+    if let Some(base) = &old.base {
+        is_told = is_told || tell_failure(base, err);
+    }
+    if let Some(new) = new {
+        is_told = is_told || tell_failure(&new.log, err) || tell_failure(&new.store, err);
+    }
+    if !is_told {
+        let _ = tell_place(place_of(fault), old, err);
+    }
+}
+
+/// Says how many bytes of a file were read or written, and how long it took.
+fn tell_file<E: Write>(done: &str, file: &Notes, err: &mut E) {
+    let (name, bytes, took) = (Name(file), file.bytes(), Took(file.duration()));
+    let _ = writeln!(err, "aries: {done} {name}: {bytes} bytes{took}");
+}
+
+/// The time between two instants, where the clock told both.
+fn between(from: Option<Instant>, to: Option<Instant>) -> Took {
+    match (from, to) {
+        (Some(from), Some(to)) => Took(Some(to.duration_since(from))),
+        _ => Took(None),
+    }
+}
+
+/// Says what a recovery read and wrote and how long each part took; and the folders that it could
+/// not sync, where the system lets nobody.
+pub fn tell_recovery<E: Write>(old: &OldFiles, new: &NewFiles, err: &mut E) {
+    tell_file("read", &old.log, err);
+    tell_file("read", &old.store, err);
+    let took = between(old.store.ended(), new.log.began());
+    let _ = writeln!(err, "aries: recovered in memory{took}");
+    tell_file("wrote and synced", &new.log, err);
+    tell_file("wrote and synced", &new.store, err);
+    tell_failure(&new.log, err);
+    tell_failure(&new.store, err);
+}
+
+/// Says what an audit that ended at `end` read, and how long each part took.
+pub fn tell_audit<E: Write>(old: &OldFiles, end: Option<Instant>, err: &mut E) {
+    tell_file("read", &old.log, err);
+    tell_file("read", &old.store, err);
+    let mut last = &old.store;
+    if let Some(base) = &old.base {
+        tell_file("read", base, err);
+        last = base;
+    }
+    let took = between(last.ended(), end);
+    let _ = writeln!(err, "aries: audited{took}");
+}

@@ -1,0 +1,81 @@
+"""Whether the man pages are true: their synopses against what the programs print for --help, their faults against docs/FORMATS.md.
+`tests/run.py` calls these."""
+import os
+import re
+import shutil
+
+from program import ARIES, TOP, run, text_of
+
+DUMP = os.path.join(TOP, "crates/aries_dump/out/aries_dump")
+COMMANDS = [("aries.1", ARIES, ("recover", "audit")), ("aries_dump.1", DUMP, ("log", "store"))]
+FORMATS = "man/aries-formats.5"
+
+
+def plain(text):
+    """Text of a page without what roff marks in it."""
+    return re.sub(r"\\f.", "", text).replace("\\-", "-").replace("\\e", "\\")
+
+
+def words_of_line(line):
+    """The words that a line of a page sets: those of .B and .I stand apart, those of .BR and the like without a space."""
+    macro, _, rest = line.partition(" ")
+    words = [word.strip('"') for word in re.findall(r'"[^"]*"|\S+', plain(rest))]
+    return " ".join(words) if macro in (".B", ".I") else "".join(words)
+
+
+def synopses(page):
+    """The synopses of a page, each the set of its words, `[..]` kept together, by its command."""
+    lines = text_of(os.path.join("man", page)).partition(".SH SYNOPSIS\n")[2].partition("\n.SH")[0]
+    found = {}
+    for part in lines.split("\n.PP\n"):
+        text = " ".join(words_of_line(line) for line in part.splitlines())
+        text = re.sub(r"\[(--[\w-]+) (\w+)\]", r"[\1=\2]", text)
+        text = re.sub(r"(?<= )(--[\w-]+) ([A-Z]+)", r"\1=\2", text)
+        words = text.split()
+        if len(words) > 2:
+            found[words[1]] = set(words[2:])
+    return found
+
+
+def synopsis_by_help(program, command):
+    """The same by what a program prints for --help of a command."""
+    text = run([program, command, "--help"], text=True).stdout
+    usage = re.search(r"^Usage: (.*)$", text, re.M)[1]
+    words = set(re.findall(r"<([A-Z]+)>", re.sub(r"--[\w-]+ <[A-Z]+>", "", usage)))
+    for name, value in re.findall(r"^\s+(?:-\w, )?--([\w-]+)(?: <([A-Z]+)>)?", text, re.M):
+        if name in ("help", "version"):
+            continue
+        word = f"--{name}={value}" if value else f"--{name}"
+        words.add(word if f"--{name}" in usage.split() else f"[{word}]")
+    return words
+
+
+def faults_of_the_page():
+    """The number and the text of each fault, and what it says."""
+    part = text_of(FORMATS).partition(".SH FAULTS\n")[2].partition("\n.SH")[0]
+    for entry in part.split(".TP\n")[1:]:
+        head, _, meaning = entry.partition("\n")
+        words = [word.strip('"') for word in re.findall(r'"[^"]*"|\S+', head.partition(" ")[2])]
+        text = "".join(words) if head.startswith(".BI") else " ".join(words)
+        number, _, text = text.partition(" ")
+        yield number, text, plain(meaning.strip())
+
+
+def faults_of_the_document():
+    rows = re.findall(r"^\| (\d+) \| `\w+` \| ([^|]*) \| [^|]* \| ([^|]*) \|", text_of("docs/FORMATS.md"), re.M)
+    for number, text, meaning in rows:
+        yield number, text.replace("<n>", "n"), meaning.replace("`", "")
+
+
+def check_pages(tally):
+    for page, program, commands in COMMANDS:
+        if os.path.exists(program):
+            told = synopses(page)
+            wrong = [(command, told.get(command), synopsis_by_help(program, command)) for command in commands]
+            wrong = [(command, here ^ there) for command, here, there in wrong if here != there]
+            tally.say(f"synopses of man/{page}", not wrong and set(told) == set(commands), wrong)
+    if shutil.which("groff"):
+        for page in (*(f"man/{page}" for page, _, _ in COMMANDS), FORMATS):
+            ran = run(["groff", "-man", "-Tutf8", "-ww", "-z", os.path.join(TOP, page)], text=True)
+            tally.say(f"{page} is set without a warning", ran.returncode == 0 and not ran.stderr, ran.stderr)
+    tally.say(f"faults in {FORMATS}", list(faults_of_the_page()) == list(faults_of_the_document()))

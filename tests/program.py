@@ -1,0 +1,90 @@
+"""What the tests of the programs have in common: where the programs and the rows are, how one is run on a row, and the tally."""
+import os
+import subprocess
+
+TOP = os.path.dirname(os.path.dirname(os.path.abspath(__file__)))
+ARIES = os.path.join(TOP, "crates/aries_cli/out/aries_cli")
+LARGE_ROWS = os.path.join(TOP, "tests/rows")
+SMALL_ROWS = os.path.join(TOP, "crates/rows/data")
+
+
+def text_of(path):
+    with open(os.path.join(TOP, path), encoding="utf-8") as file:
+        return file.read()
+
+
+def bytes_of(path):
+    """What a file holds; nothing where there is none."""
+    if not os.path.exists(path):
+        return b""
+    with open(path, "rb") as file:
+        return file.read()
+
+
+class Row:
+    """The files of a row, and a folder in which the program makes new ones."""
+
+    def __init__(self, folder, new):
+        self.folder, self.new = folder, new
+
+    def at(self, name):
+        return os.path.join(self.folder, name)
+
+    def new_at(self, name):
+        return os.path.join(self.new, name)
+
+    def recover(self, log="log", store="store", workers=2, parts=3, more=(), **how):
+        """A recovery of these two files of the row, into new files."""
+        for name in ("log", "store"):
+            if os.path.exists(self.new_at(name)):
+                os.remove(self.new_at(name))
+        words = ["recover", "--log", self.at(log), "--store", self.at(store)]
+        words += ["--out-log", self.new_at("log"), "--out-store", self.new_at("store")]
+        return run([ARIES, *words, "--workers", str(workers), "--parts", str(parts), *more], **how)
+
+    def audit(self, log="log", store="store", more=(), **how):
+        return run([ARIES, "audit", "--log", self.at(log), "--store", self.at(store), *more], **how)
+
+    def is_recovered(self):
+        """Whether the new files are those of the row."""
+        return all(bytes_of(self.new_at(name)) == bytes_of(self.at(f"out-{name}")) for name in ("log", "store"))
+
+    def is_nothing_out(self):
+        return not bytes_of(self.new_at("log")) and not bytes_of(self.new_at("store"))
+
+
+def run(words, **how):
+    return subprocess.run(words, **{"capture_output": True, **how})
+
+
+def in_doubt(report):
+    """The lines of a report that list the transactions in doubt."""
+    return report.splitlines()[8:]
+
+
+def has_printed(ran, text):
+    """Whether a run did its job and printed this text alone."""
+    return ran.returncode == 0 and ran.stdout == text and not ran.stderr
+
+
+def has_refused(ran, line):
+    """Whether a run refused by this line alone."""
+    return ran.returncode == 1 and ran.stderr == line and not ran.stdout
+
+
+class Tally:
+    """Which checks passed."""
+
+    def __init__(self):
+        self.passed = self.failed = 0
+
+    def say(self, what, is_well, seen=""):
+        self.passed, self.failed = self.passed + is_well, self.failed + (not is_well)
+        print(f"{what}: {'ok' if is_well else 'FAILED'}{f' ({seen})' if seen and not is_well else ''}", flush=True)
+
+
+def library_of(room, name):
+    library = os.path.join(room, f"{os.path.basename(name)}.so")
+    source = os.path.join(TOP, f"tests/{name}.c")
+    subprocess.run(["cc", "-O1", "-shared", "-fPIC", "-o", library, source, "-ldl"], check=True)
+    return library
