@@ -57,14 +57,14 @@ fn lsn_option<'a>(alloc: Global, name: &'a str, help: &'a str) -> Arg<'a>
         .help(help)
 }
 
-/// An option with the number of a transaction or a page.
-fn number_option<'a>(alloc: Global, name: &'a str, help: &'a str) -> Arg<'a>
+/// An option with the number of a transaction or a page; `--help` shows `shown` in its place.
+fn number_option<'a>(alloc: Global, name: &'a str, shown: &'a str, help: &'a str) -> Arg<'a>
     ensures rule { rule_of result ≡ number_rule name.entry.now }
     ensures local { result.global ≡ false }
 {
     Arg::new(alloc, name)
         .long(name)
-        .value_name("N")
+        .value_name(shown)
         .value_parser(value_parser!(u32))
         .help(help)
 }
@@ -81,9 +81,15 @@ fn log_command<'a>(alloc: Global) -> Result<Command<'a>, AllocError>
         .arg(number_option(
             alloc,
             "transaction",
+            "N",
             "The records of this transaction alone",
         ))?
-        .arg(number_option(alloc, "page", "The updates and CLRs of this page alone"))?
+        .arg(number_option(
+            alloc,
+            "page",
+            "P",
+            "The updates and CLRs of this page alone",
+        ))?
         .arg(flag_option(alloc, "json", JSON))
 }
 
@@ -94,7 +100,7 @@ fn store_command<'a>(alloc: Global) -> Result<Command<'a>, AllocError>
     Command::new(alloc, "store")
         .about("Say what a store holds")
         .arg(path(alloc, "The store"))?
-        .arg(number_option(alloc, "page", "This page alone"))?
+        .arg(number_option(alloc, "page", "P", "This page alone"))?
         .arg(flag_option(alloc, "json", JSON))
 }
 
