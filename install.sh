@@ -1,5 +1,5 @@
 #!/bin/sh
-# Installs the header, the proved archive with a heap over malloc, the program where it is built, the man pages, and
+# Installs the header, the proved archive with a heap over malloc, the programs where they are built, the man pages, and
 # what CMake and pkg-config ask for. Takes cc and ar, or what CC and AR name.
 #
 # usage: [ARIES_LIB=FOLDER] [DESTDIR=FOLDER] ./install.sh PREFIX
@@ -15,7 +15,6 @@ top=$(cd "$(dirname "$0")" && pwd)
 prefix=$1
 to=${DESTDIR:-}$prefix
 archive=${ARIES_LIB:-$top/crates/aries_c/out}/libaries_c.a
-program=$top/crates/aries_cli/out/aries_cli
 version=0.1.0
 
 [ -f "$archive" ] || { echo "$archive is missing: \`rt lib\` in crates/aries_c builds it" >&2; exit 1; }
@@ -44,8 +43,15 @@ put 644 "$work/ariesConfigVersion.cmake" lib/cmake/aries
 for page in aries.1 aries_dump.1 aries-formats.5; do
     put 644 "$top/man/$page" "share/man/man${page##*.}"
 done
-if [ -f "$program" ]; then
-    put 755 "$program" bin aries
-else
-    echo "$program is missing, so no program is installed: \`rt ci\` builds it" >&2
-fi
+
+# put_program FILE NAME
+put_program() {
+    if [ -f "$1" ]; then
+        put 755 "$1" bin "$2"
+    else
+        echo "$1 is missing, so no $2 is installed: \`rt ci\` builds it" >&2
+    fi
+}
+
+put_program "$top/crates/aries_cli/out/aries_cli" aries
+put_program "$top/crates/aries_dump/out/aries_dump" aries_dump

@@ -16,6 +16,7 @@ import tarfile
 import tempfile
 
 sys.dont_write_bytecode = True  # no folder of it beside the tests
+from dump import check_dump
 from operate import check_operation
 from pages import check_pages
 from program import ARIES, LARGE_ROWS, SMALL_ROWS, TOP, Row, Tally, bytes_of, has_printed, has_refused, in_doubt, library_of, run, text_of
@@ -331,6 +332,7 @@ def main():
         check_operation(tally, room)
         check_prints(tally, room)
         check_refusals(tally, room)
+        check_dump(tally, room, SMALL_ROWS, LARGE_ROWS, Refuser(room))
     print(f"{tally.passed} passed, {tally.failed} failed")
     sys.exit(1 if tally.failed else 0)
 

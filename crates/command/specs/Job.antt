@@ -4,6 +4,7 @@ use Rattle.clap.specs.Words.{Row, Text, fault_of, first_of, one_of, subcommand_o
 use Rattle.command.specs.declared.job.Job.{Job}
 use Rattle.command.specs.declared.job.Task.{Task}
 use Rattle.command.specs.declared.job.Task.TheVariants.{Recover, Audit}
+use Rattle.words.specs.Flags.{IsFlagOf}
 use Rattle.command.specs.Line.{aries_line}
 use Rattle.restart.specs.Options.{AreInRange}
 use Rattle.page.specs.declared.sizes.TheConstants.{PAGES}
@@ -55,12 +56,6 @@ GivesNumbers values (Audit log store base) = ⊤
 -- the job has the numbers that the words give, or the defaults of the line
 abbrev pub HasNumbers : (words : List Text) → Job → Type 0
 HasNumbers words job = IsSomeAnd (subcommand_of aries_line words) (λ found. GivesNumbers found.1 job.task)
-
--- the flag is set where its value is true, as that of a flag on the line is, and not where its value is false
-abbrev pub IsFlagOf : (values : List Row) → (option : Text) → (flag : Bool) → Type 0
-IsFlagOf values option flag =
-    (one_of option values ≡ Some (codes "true") → flag ≡ true)
-    × (one_of option values ≡ Some (codes "false") → flag ≡ false)
 
 -- the job is verbose as the words say
 abbrev pub HasFlag : (words : List Text) → Job → Type 0

@@ -2,8 +2,8 @@
 use Rattle.std.specs.Prelude.{ℕ, [], ◌∷◌, Some, codes, pos, true, false}
 use Rattle.clap.specs.Words.{App, Rule, Shape, Text, new_rule}
 use Rattle.clap.specs.Simple.{new_shape}
-use Rattle.clap.specs.declared.builder.action.ArgAction.TheVariants.{SetTrue}
 use Rattle.clap.specs.declared.builder.value_parser.ValueParser.TheVariants.{Signed}
+use Rattle.words.specs.Flags.{flag_rule}
 use Rattle.page.specs.declared.sizes.TheConstants.{PAGES}
 use Rattle.redo.specs.declared.rounds.TheConstants.{WORKERS}
 
@@ -23,10 +23,6 @@ number_rule name most default = record (new_rule name) {
   parser = Some (Signed (pos 1) (pos most));
   defaults = default ∷ [];
 }
-
--- `--name` without a value, which may be left out
-abbrev pub flag_rule : Text → Rule
-flag_rule name = record (new_rule name) { long = Some name; action = Some SetTrue }
 
 -- `aries recover`
 unfoldable pub recover_line : Shape

@@ -2,23 +2,24 @@
 
 ghost use Rattle.std.specs.Prelude.{◌≡◌, ◌≤◌, Some, IfErr, IfOk, codes, false, is_some, map, option_map};
 ghost use Rattle.std.specs.Prelude.{OnOk, string_bytes, true};
-ghost use Rattle.clap.specs.Words.{app_of, first_of, found_of, kind_of, rows_of, rule_of, shape_of};
-ghost use Rattle.clap.specs.declared.error.kind.ErrorKind.TheVariants.{OutOfMemory};
+ghost use Rattle.clap.specs.Words.{app_of, first_of, found_of, rows_of, rule_of, shape_of};
 ghost use Rattle.command.specs.Job.{AsksFor, GivesNumbers, HasFiles, HasFlag, HasNumbers, HasRanges};
-ghost use Rattle.command.specs.Job.{IsFaultless, IsFlagOf, IsNumberOf, NamesFiles};
-ghost use Rattle.command.specs.Line.{aries_line, audit_line, file_rule, flag_rule, free_file_rule, number_rule};
+ghost use Rattle.command.specs.Job.{IsFaultless, IsNumberOf, NamesFiles};
+ghost use Rattle.command.specs.Line.{aries_line, audit_line, file_rule, free_file_rule, number_rule};
 ghost use Rattle.command.specs.Line.{recover_line};
 ghost use Rattle.command.specs.declared.job.Job.{Job};
 ghost use Rattle.command.specs.declared.job.Task.{Task};
-ghost use Rattle.command.specs.declared.job.Refusal.TheVariants.{Memory};
+ghost use Rattle.words.specs.Flags.{IsFlagOf};
+ghost use Rattle.words.specs.declared.refusal.Refusal.TheVariants.{Memory};
 
 use crate::help;
 use clap::error::ErrorKind;
-use clap::{Arg, ArgAction, ArgMatches, Command, value_parser};
+use clap::{Arg, ArgMatches, Command, value_parser};
 use page::PAGES;
 use redo::WORKERS;
 use restart::Options;
 use std::alloc::{AllocError, Global};
+use words::{Refusal, flag_of, flag_option, no_command};
 
 /// What a command line asks for.
 #[derive(Debug, Drop)]
@@ -48,34 +49,6 @@ pub enum Task {
         store: String,
         base: Option<String>,
     },
-}
-
-/// Why a command line was not taken.
-#[derive(Debug, Drop)]
-pub enum Refusal {
-    /// The line is wrong, or asks for help or the version: the text to print, and where.
-    Line(clap::Error),
-    /// Memory was refused.
-    Memory,
-}
-
-impl From<AllocError> for Refusal {
-    ghost from_gives = { λ _ refusal. refusal ≡ Memory };
-
-    fn from(_e: AllocError) -> Refusal {
-        Refusal::Memory
-    }
-}
-
-impl From<clap::Error> for Refusal {
-    ghost from_gives = { λ error refusal. kind_of error ≡ OutOfMemory → refusal ≡ Memory };
-
-    fn from(error: clap::Error) -> Refusal {
-        match error.kind() {
-            ErrorKind::OutOfMemory => Refusal::Memory,
-            _ => Refusal::Line(error),
-        }
-    }
 }
 
 /// An option that names a file.
@@ -117,17 +90,6 @@ fn number_option<'a>(
         .value_name("N")
         .value_parser(value_parser!(u32).range(1..=i64::from(most)))
         .default_value(default)
-        .help(help)
-}
-
-/// An option without a value.
-fn flag_option<'a>(alloc: Global, name: &'a str, help: &'a str) -> Arg<'a>
-    ensures rule { rule_of result ≡ flag_rule name.entry.now }
-    ensures local { result.global ≡ false }
-{
-    Arg::new(alloc, name)
-        .long(name)
-        .action(ArgAction::SetTrue)
         .help(help)
 }
 
@@ -245,13 +207,6 @@ fn number_of(matches: &ArgMatches, name: &str, most: u32, default: u32) -> u32
         .clamp(1, most)
 }
 
-/// Whether a flag is on the line.
-fn flag_of(matches: &ArgMatches, name: &str) -> bool
-    ensures { IsFlagOf (rows_of (found_of matches.now)) name.now result }
-{
-    matches.get_flag(name)
-}
-
 /// What the options of `recover` ask for.
 fn recover_job(alloc: Global, command: &mut Command, matches: &ArgMatches) -> Result<Job, Refusal>
     ensures files { IfOk result (λ job.
@@ -299,14 +254,6 @@ fn audit_job(alloc: Global, command: &mut Command, matches: &ArgMatches) -> Resu
         task,
         verbose: flag_of(matches, "verbose"),
     })
-}
-
-/// Why a line with neither command is refused. `clap` refuses such a line before this is asked.
-fn no_command(command: &mut Command) -> Refusal {
-    match command.error(ErrorKind::MissingSubcommand, "a command is needed") {
-        Ok(error) => Refusal::Line(error),
-        Err(error) => Refusal::from(error),
-    }
 }
 
 /// What a command line asks for; the first word is the program's name. Refuses a line that is wrong

@@ -3,7 +3,7 @@ use Rattle.std.proofs.lemmas.Result.{IfOk-weaker}
 use Rattle.clap.specs.Simple.{app_of_fields}
 use Rattle.clap.specs.Words.{App, app_of, new_app}
 use Rattle.command.specs.Line.{aries_line, audit_line, recover_line}
-use Rattle.command.proofs.Lines.{command_added}
+use Rattle.words.proofs.Parses.{command_added}
 use Rattle.command.proofs.job.aries_command.Goals as goal
 
 abbrev with_version : App → App

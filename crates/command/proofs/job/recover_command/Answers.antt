@@ -3,7 +3,7 @@ use Rattle.std.proofs.lemmas.Result.{IfOk-weaker}
 use Rattle.clap.specs.Simple.{app_of_fields}
 use Rattle.clap.specs.Words.{App, app_of, new_app}
 use Rattle.command.specs.Line.{recover_line}
-use Rattle.command.proofs.Lines.{option_added}
+use Rattle.words.proofs.Parses.{option_added}
 use Rattle.command.proofs.job.recover_command.Goals as goal
 
 pub returns : goal.returns

@@ -1,7 +1,7 @@
 use Rattle.std.proofs.Common.{◌∙◌}
 use Rattle.clap.proofs.WalkLemmas.{one_text-rows}
 use Rattle.clap.specs.Words.{found_of}
-use Rattle.command.proofs.job.flag_of.Goals as goal
+use Rattle.words.proofs.flag.flag_of.Goals as goal
 
 pub returns : goal.returns
 returns c =

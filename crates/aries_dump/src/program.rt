@@ -1,0 +1,129 @@
+//! What the program does with its words.
+
+use device::{FileSource, ReadFault, read_all};
+use dump::{Choice, Stop, Style, list_log, list_store};
+use dump_command::{Job, dump_of};
+use page::Fault;
+use std::alloc::Global;
+use std::fs::File;
+use std::io::{self, BufWriter, ErrorKind, Write};
+use std::rt::Files;
+use words::Refusal;
+
+/// How many bytes of lines are held back before they are printed.
+const HELD_BACK: usize = 65_536;
+
+/// What a file that was not opened is: want of memory, or that file's fault.
+fn fault_of(error: io::Error, fault: Fault) -> Fault {
+    match error.kind() {
+        ErrorKind::OutOfMemory => Fault::NoResource,
+        _ => fault,
+    }
+}
+
+/// The bytes of a file; `fault` where it cannot be opened or read to its end.
+fn read_file<R: Files>(rt: &R, alloc: Global, path: &str, fault: Fault) -> Result<Vec<u8>, Fault> {
+    let file = File::open(rt, path).map_err(|error| fault_of(error, fault))?;
+    match read_all(alloc, &mut FileSource::new(file)) {
+        Ok(bytes) => Ok(bytes),
+        Err(ReadFault::Failed) => Err(fault),
+        Err(ReadFault::NoMemory) => Err(Fault::NoResource),
+    }
+}
+
+/// How lines are written.
+fn style_of(is_json: bool) -> Style {
+    if is_json { Style::Json } else { Style::Text }
+}
+
+/// Prints what the job asks for.
+fn list<R: Files, O: Write>(rt: &R, alloc: Global, job: &Job, out: &mut O) -> Result<(), Stop> {
+    match job {
+        Job::Log {
+            file,
+            from,
+            to,
+            transaction,
+            page,
+            is_json,
+        } => {
+            let choice = Choice {
+                from: from.unwrap_or(0),
+                to: to.unwrap_or(u64::MAX),
+                transaction: *transaction,
+                page: *page,
+            };
+            let bytes = read_file(rt, alloc, file.as_str(), Fault::ReadLog)?;
+            list_log(alloc, &bytes, style_of(*is_json), &choice, out)
+        }
+        Job::Store {
+            file,
+            page,
+            is_json,
+        } => {
+            let bytes = read_file(rt, alloc, file.as_str(), Fault::ReadStore)?;
+            list_store(alloc, &bytes, style_of(*is_json), *page, out)
+        }
+    }
+}
+
+/// Prints the line of a fault, and gives its status.
+fn refuse<E: Write>(fault: Fault, err: &mut E) -> u8 {
+    let number = fault.number();
+    let _ = writeln!(err, "fault {number}: {fault}");
+    1
+}
+
+/// Prints that memory was refused, and gives the status.
+pub fn refuse_memory<E: Write>(err: &mut E) -> u8 {
+    refuse(Fault::NoResource, err)
+}
+
+/// Does the job. What was listed in front of a fault is printed before the fault is.
+fn run_job<R: Files, O: Write, E: Write>(
+    rt: &R,
+    alloc: Global,
+    job: &Job,
+    out: &mut O,
+    err: &mut E,
+) -> u8 {
+    let Ok(mut held) = BufWriter::with_capacity(alloc, HELD_BACK, out) else {
+        return refuse_memory(err);
+    };
+    let listed = list(rt, alloc, job, &mut held);
+    let flushed = held.flush();
+    match listed {
+        Ok(()) if flushed.is_ok() => 0,
+        Ok(()) | Err(Stop::Print(_)) => 1,
+        Err(Stop::Fault(fault)) => refuse(fault, err),
+    }
+}
+
+/// Prints what clap says of a line, and gives the status: 2 for a mistake, 0 where help or the
+/// version was asked for, 1 where the print failed.
+fn explain<O: Write, E: Write>(error: clap::Error, out: &mut O, err: &mut E) -> u8 {
+    let (printed, status) = if error.use_stderr() {
+        (write!(err, "{error}"), 2)
+    } else {
+        (write!(out, "{error}"), 0)
+    };
+    if printed.is_ok() { status } else { 1 }
+}
+
+/// Runs the program: `words` are its words, the first of which is its name; `out` stands for standard
+/// output and `err` for standard error. Answers the exit status: 0 where all was listed or help was
+/// asked for, 1 for a fault, printed to `err` as `fault N: text`, or a failed print, 2 for a line that
+/// is wrong.
+pub fn run<R: Files, O: Write, E: Write>(
+    rt: &R,
+    alloc: Global,
+    words: &[&str],
+    out: &mut O,
+    err: &mut E,
+) -> u8 {
+    match dump_of(alloc, words) {
+        Ok(job) => run_job(rt, alloc, &job, out, err),
+        Err(Refusal::Line(error)) => explain(error, out, err),
+        Err(Refusal::Memory) => refuse_memory(err),
+    }
+}

@@ -1,0 +1,4 @@
+mod Texts
+mod Places
+mod Sizes
+mod Fronts

@@ -1,0 +1,6 @@
+use Rattle.std.proofs.Common.{◌≡◌, ◌++◌, take}
+use Rattle.dump.specs.Tables.{between, listed, transaction_entry}
+use Rattle.dump.proofs.tables.put_transactions.Given as goal
+
+abbrev pub invariant-loop-place : goal.invariant-loop-place
+invariant-loop-place l = l.line.items ≡ l.initial.line.items ++ listed (between l.style) (transaction_entry l.style) (take l.place l.table)

@@ -1,0 +1,49 @@
+-- The line of a record (own), in the words of the formats.
+use Rattle.std.specs.Prelude.{ℕ, List, [], ◌++◌, codes}
+use Rattle.wal.specs.Records.{LogRecord, Update, Compensation, Commit, Abort, End, Prepare, CheckpointBegin, CheckpointEnd}
+use Rattle.dump.specs.declared.style.Style.{Style}
+use Rattle.dump.specs.Line.{opening, closing, number_field, image_field}
+use Rattle.dump.specs.Tables.{table_field, transaction_entry, dirty_entry}
+
+abbrev pub kind_word : LogRecord → List ℕ
+kind_word (Update u) = codes "update"
+kind_word (Compensation c) = codes "CLR"
+kind_word (Commit r) = codes "commit"
+kind_word (Abort r) = codes "abort"
+kind_word (End r) = codes "end"
+kind_word (Prepare r) = codes "prepare"
+kind_word CheckpointBegin = codes "checkpoint begin"
+kind_word (CheckpointEnd begin transactions dirty) = codes "checkpoint end"
+
+-- whose record it is, and where its transaction's chain goes on
+abbrev pub plain_fields : Style → (tx prev : ℕ) → List ℕ
+plain_fields style tx prev = number_field style (codes "transaction") tx ++ number_field style (codes "PrevLSN") prev
+
+-- the cell that it changes
+abbrev pub cell_fields : Style → (page slot : ℕ) → List ℕ
+cell_fields style page slot = number_field style (codes "page") page ++ number_field style (codes "slot") slot
+
+abbrev pub fields : Style → LogRecord → List ℕ
+fields style (Update u) =
+    plain_fields style u.tx u.prev
+    ++ cell_fields style u.page u.slot
+    ++ image_field style (codes "before") u.before
+    ++ image_field style (codes "after") u.after
+fields style (Compensation c) =
+    plain_fields style c.tx c.prev
+    ++ cell_fields style c.page c.slot
+    ++ number_field style (codes "UndoNxtLSN") c.undo_next
+    ++ image_field style (codes "image") c.image
+fields style (Commit r) = plain_fields style r.tx r.prev
+fields style (Abort r) = plain_fields style r.tx r.prev
+fields style (End r) = plain_fields style r.tx r.prev
+fields style (Prepare r) = plain_fields style r.tx r.prev
+fields style CheckpointBegin = []
+fields style (CheckpointEnd begin transactions dirty) =
+    number_field style (codes "BeginLSN") begin
+    ++ table_field style (codes "transactions") transaction_entry transactions
+    ++ table_field style (codes "dirty") dirty_entry dirty
+
+-- a record with this LSN, whose frame stands at this offset
+abbrev pub record_line : Style → (offset lsn : ℕ) → LogRecord → List ℕ
+record_line style offset lsn r = opening style offset (kind_word r) ++ number_field style (codes "LSN") lsn ++ fields style r ++ closing style

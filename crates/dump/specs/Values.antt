@@ -1,0 +1,35 @@
+-- What a slot holds, as a line of a dump says it (own).
+use Rattle.std.specs.Prelude.{ℕ, List, [], ◌∷◌, ◌++◌, Some, None, ◌==◌, ◌||◌, nat_lt, if◌then◌else◌, codes}
+use Rattle.std.specs.List.{flat_map}
+use Rattle.hex.specs.Hex.{encode_lower}
+use Rattle.page.specs.Image.{Image}
+use Rattle.dump.specs.declared.style.Style.{Style}
+use Rattle.dump.specs.declared.style.Style.TheVariants.{Text, Json}
+
+-- what stands in front of the two digits of a byte that is not printable
+abbrev pub lead : Style → List ℕ
+lead Text = codes "\\x"
+lead Json = codes "\\u00"
+
+-- a byte between quotes: `"` and `\` behind a `\`, others that are not printable ASCII by their digits
+abbrev pub escaped : Style → ℕ → List ℕ
+escaped style byte =
+    if byte == 34 || byte == 92 then 92 ∷ byte ∷ []
+    else if nat_lt byte 32 || nat_lt 126 byte then lead style ++ encode_lower (byte ∷ [])
+    else byte ∷ []
+
+abbrev pub quoted : Style → List ℕ → List ℕ
+quoted style bytes = codes "\"" ++ flat_map (escaped style) bytes ++ codes "\""
+
+-- a value: its bytes as text between quotes, and in hexadecimal
+abbrev pub value : Style → List ℕ → List ℕ
+value Text bytes = quoted Text bytes ++ codes " (" ++ encode_lower bytes ++ codes ")"
+value Json bytes = codes "{\"text\":" ++ quoted Json bytes ++ codes ",\"hex\":\"" ++ encode_lower bytes ++ codes "\"}"
+
+abbrev pub absent : Style → List ℕ
+absent Text = codes "absent"
+absent Json = codes "null"
+
+abbrev pub image : Style → Image → List ℕ
+image style None = absent style
+image style (Some bytes) = value style bytes

@@ -1,0 +1,211 @@
+//! The lines of a log.
+
+ghost use Rattle.std.specs.Prelude.{◌≡◌, ◌+◌, ◌<◌, ◌≤◌, ◌^◌, ℕ, ◌++◌, OnOk, IfOk, IfErr, Some, length};
+ghost use Rattle.std.specs.Io.KnownBytes.{Appends};
+ghost use Rattle.page.specs.declared.fault.Fault.{Fault};
+ghost use Rattle.page.specs.declared.fault.Fault.TheVariants.{NoResource};
+ghost use Rattle.wal.specs.Content.{shown};
+ghost use Rattle.wal.specs.Headers.{header_bytes};
+ghost use Rattle.wal.specs.Reads.{Reads, Cause};
+ghost use Rattle.wal.specs.Records.{LogContent, history};
+ghost use Rattle.wal.specs.Spelling.{Fits};
+ghost use Rattle.dump.specs.LogLines.{log_line, place_behind, line_if_asked, record_lines, torn_line, log_lines, ListsLog, ListsFront, ListsToFault, fault_at, IsNoFault};
+
+use crate::line::{put_closing, put_number_field, put_opening};
+use crate::record::put_record;
+use crate::size::frame_bytes;
+use crate::{Choice, Stop, Style};
+use page::Fault;
+use std::alloc::{AllocError, Global};
+use std::io::Write;
+use wal::{Log, LogStart, RecordView, read_log};
+
+/// How the log begins that these bytes are.
+fn start_of(bytes: &[u8], log: &Log) -> LogStart
+    requires { (torn : ℕ) × Reads bytes.now log.now torn }
+    ensures { result ≡ log.now.begins }
+{
+    if bytes.starts_with(b"ARIESLG2") {
+        LogStart::Version2 { base: log.base() }
+    } else {
+        LogStart::Version1
+    }
+}
+
+/// Appends the line of a log's header.
+fn put_start(line: &mut Vec<u8>, style: Style, start: LogStart) -> Result<(), AllocError>
+    ensures { OnOk result (line.new.items ≡ line.old.items ++ log_line style start) }
+{
+    let version = match start {
+        LogStart::Version1 => 1,
+        LogStart::Version2 { .. } => 2,
+    };
+    put_opening(line, style, 0, "log")?;
+    put_number_field(line, style, "version", version)?;
+    put_number_field(line, style, "BaseLSN", start.base())?;
+    put_closing(line, style)
+}
+
+/// Prints the line of a record where it is asked for; its frame stands at this offset. What `line`
+/// holds counts for nothing.
+fn print_record<W: Write>(
+    view: &RecordView,
+    lsn: u64,
+    offset: u64,
+    style: Style,
+    choice: &Choice,
+    line: &mut Vec<u8>,
+    out: &mut W,
+) -> Result<(), Stop>
+    requires { Fits (shown view.now) }
+    ensures printed { OnOk result (Appends (W.contents out.old) (W.contents out.new)
+        (line_if_asked style choice.now offset lsn (shown view.now))) }
+    ensures err { IfErr result IsNoFault }
+{
+    if !choice.asks_for(lsn, view) {
+        return Ok(());
+    }
+    line.clear();
+    put_record(line, style, offset, lsn, view)?;
+    out.write_all(line)?;
+    Ok(())
+}
+
+/// Prints the lines of a log's records, the first of whose frames stands behind a header of so many
+/// bytes. Answers where the frame behind them would stand.
+fn print_records<W: Write>(
+    log: &Log,
+    header: u64,
+    style: Style,
+    choice: &Choice,
+    line: &mut Vec<u8>,
+    out: &mut W,
+) -> Result<u64, Stop>
+    requires { place_behind header (history log.now) < 2 ^ 64 }
+    ensures printed { OnOk result (Appends (W.contents out.old) (W.contents out.new)
+        (record_lines style choice.now header (history log.now))) }
+    ensures behind { IfOk result (λ place. place ≡ place_behind header (history log.now)) }
+    ensures err { IfErr result IsNoFault }
+{
+    let mut place = header;
+    for lsn in log.base()..log.last() {
+        let view = log.after(lsn);
+        print_record(&view, lsn + 1, place, style, choice, line, out)?;
+        place += frame_bytes(&view);
+    }
+    Ok(place)
+}
+
+/// Prints the line of a torn tail of so many bytes at this offset; none where it has no bytes.
+fn print_torn_tail<W: Write>(
+    torn: u64,
+    offset: u64,
+    style: Style,
+    line: &mut Vec<u8>,
+    out: &mut W,
+) -> Result<(), Stop>
+    ensures printed { OnOk result (Appends (W.contents out.old) (W.contents out.new)
+        (torn_line style offset torn)) }
+    ensures err { IfErr result IsNoFault }
+{
+    if torn == 0 {
+        return Ok(());
+    }
+    line.clear();
+    put_opening(line, style, offset, "torn tail")?;
+    put_number_field(line, style, "bytes", torn)?;
+    put_closing(line, style)?;
+    out.write_all(line)?;
+    Ok(())
+}
+
+/// Prints the lines of a log that was read from these bytes.
+fn print_log<W: Write>(
+    alloc: Global,
+    bytes: &[u8],
+    log: &Log,
+    torn: usize,
+    style: Style,
+    choice: &Choice,
+    out: &mut W,
+) -> Result<(), Stop>
+    requires { Reads bytes.now log.now torn }
+    ensures printed { OnOk result (Appends (W.contents out.old) (W.contents out.new)
+        (log_lines style choice.now log.now torn)) }
+    ensures err { IfErr result IsNoFault }
+{
+    let start = start_of(bytes, log);
+    let mut line = Vec::new(alloc);
+    put_start(&mut line, style, start)?;
+    out.write_all(&line)?;
+    let header = start.header_bytes() as u64;
+    let end = print_records(log, header, style, choice, &mut line, out)?;
+    print_torn_tail(torn as u64, end, style, &mut line, out)
+}
+
+/// Where the frame stands that a fault of a log is of.
+fn fault_at(fault: &Fault) -> Option<u64>
+    ensures { result ≡ fault_at fault.now }
+{
+    match fault {
+        Fault::BadLength(offset) => Some(*offset),
+        Fault::BadRecord(offset) => Some(*offset),
+        Fault::BadLsn(offset) => Some(*offset),
+        _ => None,
+    }
+}
+
+/// Prints the lines of what stands in front of the frame that a fault is of.
+fn print_front<W: Write>(
+    alloc: Global,
+    bytes: &[u8],
+    fault: &Fault,
+    style: Style,
+    choice: &Choice,
+    out: &mut W,
+) -> Result<(), Stop>
+    requires { Cause bytes.now fault.now }
+    ensures printed { OnOk result (ListsFront style choice.now bytes.now (W.contents out.old)
+        (W.contents out.new) (fault_at fault.now)) }
+    ensures err { IfErr result IsNoFault }
+{
+    let Some(offset) = fault_at(fault) else {
+        return Ok(());
+    };
+    let front = &bytes[..offset as usize];
+    match read_log(alloc, front) {
+        Ok((log, torn)) => print_log(alloc, front, &log, torn, style, choice, out),
+        Err(fault) => Err(Stop::Fault(fault)),
+    }
+}
+
+/// Prints what a log holds: a line for its header, one for each of its records that is asked for, in
+/// the order of the log, and one for its torn tail, where it has one. Each line begins with the
+/// offset in bytes at which stands what it tells of, and with what that is. The line of a record
+/// says its LSN and all of its fields; values are shown as text and in hexadecimal, and tables entry
+/// by entry. What people read separates fields by commas; in [`Style::Json`] each line is an object.
+///
+/// Errors: [`Stop::Fault`] with the fault of [`wal::read_log`] where the log is damaged, after all
+/// that stands in front of the damaged frame was listed; with `NoResource` where memory was refused,
+/// and [`Stop::Print`] where a line could not be printed. After these two a beginning of the lines
+/// is out. Memory is what `read_log` takes, and that of one line.
+pub fn list_log<W: Write>(
+    alloc: Global,
+    bytes: &[u8],
+    style: Style,
+    choice: &Choice,
+    out: &mut W,
+) -> Result<(), Stop>
+    ensures listed { OnOk result (ListsLog style choice.now bytes.now (W.contents out.old)
+        (W.contents out.new)) }
+    ensures damaged { IfErr result (ListsToFault style choice.now bytes.now (W.contents out.old)
+        (W.contents out.new)) }
+{
+    match read_log(alloc, bytes) {
+        Ok((log, torn)) => print_log(alloc, bytes, &log, torn, style, choice, out),
+        Err(fault) => {
+            print_front(alloc, bytes, &fault, style, choice, out)?;
+            Err(Stop::Fault(fault))
+        }
+    }
+}

@@ -1,0 +1,246 @@
+//! The lines of a store.
+
+ghost use Rattle.std.specs.Prelude.{ℕ, List, length, ◌≤◌, ◌*◌, ◌/◌, ◌≡◌, ◌<◌, ◌++◌, ◌^◌, OnOk, IfErr};
+ghost use Rattle.std.specs.List.{flat_map};
+ghost use Rattle.std.specs.Io.KnownBytes.{Appends};
+ghost use Rattle.page.specs.declared.sizes.TheConstants.{PAGES, PAGE_BYTES};
+ghost use Rattle.dump.specs.StoreLines.{store_line, store_lines, slot_name, slot_field, slot_fields, page_line, page_if_asked, ListsStore, IsLineOf, AreLinesOf, ListsWholePages, ListsStoreToFault};
+ghost use Rattle.page.specs.File.{StoreFault};
+ghost use Rattle.page.specs.Images.{image_of};
+ghost use Rattle.page.specs.declared.fault.Fault.{Fault};
+ghost use Rattle.dump.specs.LogLines.{IsNoFault};
+
+use crate::choice::meets;
+use crate::line::{put_closing, put_number, put_number_field, put_opening};
+use crate::value::put_value;
+use crate::{Stop, Style};
+use page::{Fault, PAGE_BYTES, Page, SLOTS, Store, Value, decode_page, decode_store};
+use std::alloc::{AllocError, Global};
+use std::io::Write;
+
+/// Where the image of the first page stands in a store, in bytes.
+const FIRST_IMAGE: u64 = 24;
+
+/// Appends the line of a store's header.
+fn put_store(line: &mut Vec<u8>, style: Style, store: &Store) -> Result<(), AllocError>
+    ensures { OnOk result (line.new.items ≡ line.old.items ++ store_line style store.now) }
+{
+    put_opening(line, style, 0, "store")?;
+    put_number_field(line, style, "pages", store.pages.len() as u64)?;
+    put_number_field(line, style, "master", store.master)?;
+    put_closing(line, style)
+}
+
+/// Appends the name of a slot's field.
+fn put_slot_name(line: &mut Vec<u8>, style: Style, slot: usize) -> Result<(), AllocError>
+    ensures { OnOk result (line.new.items ≡ line.old.items ++ slot_name style slot) }
+{
+    match style {
+        Style::Text => {
+            line.extend_from_slice(b", slot ")?;
+            put_number(line, slot as u64)?;
+            line.push(b' ')?;
+        }
+        Style::Json => {
+            line.extend_from_slice(b",\"slot ")?;
+            put_number(line, slot as u64)?;
+            line.extend_from_slice(b"\":")?;
+        }
+    }
+    Ok(())
+}
+
+/// Appends the field of a slot; of one that holds nothing, none.
+fn put_slot(
+    line: &mut Vec<u8>,
+    style: Style,
+    slot: usize,
+    held: &Option<Value>,
+) -> Result<(), AllocError>
+    ensures { OnOk result (line.new.items ≡ line.old.items ++ slot_field style slot held.now) }
+{
+    match held {
+        None => Ok(()),
+        Some(value) => {
+            put_slot_name(line, style, slot)?;
+            put_value(line, style, value.as_slice())
+        }
+    }
+}
+
+/// Appends the fields of a page's slots.
+fn put_slots(
+    line: &mut Vec<u8>,
+    style: Style,
+    slots: &[Option<Value>; SLOTS],
+) -> Result<(), AllocError>
+    ensures { OnOk result (line.new.items ≡ line.old.items ++ slot_fields style 0 slots.now) }
+{
+    for (slot, held) in slots.iter().enumerate() {
+        put_slot(line, style, slot, held)?;
+    }
+    Ok(())
+}
+
+/// Appends the line of a page.
+fn put_page(line: &mut Vec<u8>, style: Style, page: &Page) -> Result<(), AllocError>
+    ensures { OnOk result (line.new.items ≡ line.old.items ++ page_line style page.now) }
+{
+    let offset = FIRST_IMAGE + PAGE_BYTES as u64 * page.number as u64;
+    put_opening(line, style, offset, "page")?;
+    put_number_field(line, style, "number", page.number as u64)?;
+    put_number_field(line, style, "PageLSN", page.lsn)?;
+    put_slots(line, style, &page.slots)?;
+    put_closing(line, style)
+}
+
+/// Prints the line of a page where it is asked for. What `line` holds counts for nothing.
+fn print_page<W: Write>(
+    page: &Page,
+    style: Style,
+    asked: Option<u32>,
+    line: &mut Vec<u8>,
+    out: &mut W,
+) -> Result<(), Stop>
+    ensures printed { OnOk result (Appends (W.contents out.old) (W.contents out.new)
+        (page_if_asked style asked page.now)) }
+    ensures err { IfErr result IsNoFault }
+{
+    if !meets(asked, Some(page.number)) {
+        return Ok(());
+    }
+    line.clear();
+    put_page(line, style, page)?;
+    out.write_all(line)?;
+    Ok(())
+}
+
+/// Prints the lines of a store.
+fn print_store<W: Write>(
+    alloc: Global,
+    store: &Store,
+    style: Style,
+    asked: Option<u32>,
+    out: &mut W,
+) -> Result<(), Stop>
+    ensures printed { OnOk result (Appends (W.contents out.old) (W.contents out.new)
+        (store_lines style asked store.now)) }
+    ensures err { IfErr result IsNoFault }
+{
+    let mut line = Vec::new(alloc);
+    put_store(&mut line, style, store)?;
+    out.write_all(&line)?;
+    for page in &store.pages {
+        print_page(page, style, asked, &mut line, out)?;
+    }
+    Ok(())
+}
+
+/// Prints the line of the page of this number that an image spells, where it is asked for; nothing
+/// where the image spells none.
+fn print_image<W: Write>(
+    image: &[u8; PAGE_BYTES],
+    number: u32,
+    style: Style,
+    asked: Option<u32>,
+    line: &mut Vec<u8>,
+    out: &mut W,
+) -> Result<(), Stop>
+    ensures printed { OnOk result ((text : List ℕ)
+        × IsLineOf style asked image.now number text
+        × Appends (W.contents out.old) (W.contents out.new) text) }
+    ensures err { IfErr result IsNoFault }
+{
+    match decode_page(image, number) {
+        Ok(page) => print_page(&page, style, asked, line, out),
+        Err(_) => Ok(()),
+    }
+}
+
+/// The image at the place of this number.
+fn image_at(images: &[u8], number: usize) -> &[u8; PAGE_BYTES]
+    requires { number < length images.now / PAGE_BYTES }
+    ensures { result.now ≡ image_of images.now number }
+{
+    let (_, rest) = images.split_at(PAGE_BYTES * number);
+    let Some((image, _)) = rest.split_first_chunk::<PAGE_BYTES>() else {
+        unreachable!();
+    };
+    image
+}
+
+/// Prints the lines of those of these images that are whole.
+fn print_images<W: Write>(
+    alloc: Global,
+    images: &[u8],
+    style: Style,
+    asked: Option<u32>,
+    out: &mut W,
+) -> Result<(), Stop>
+    requires { length images.now ≤ PAGE_BYTES * PAGES }
+    ensures printed { OnOk result ((text : List ℕ)
+        × AreLinesOf style asked images.now (length images.now / PAGE_BYTES) text
+        × Appends (W.contents out.old) (W.contents out.new) text) }
+    ensures err { IfErr result IsNoFault }
+{
+    let count = images.len() / PAGE_BYTES;
+    let mut line = Vec::new(alloc);
+    for number in 0..count {
+        let image = image_at(images, number);
+        print_image(image, number as u32, style, asked, &mut line, out)?;
+    }
+    Ok(())
+}
+
+/// Prints what is left of a store that is refused for this fault: its pages that are whole, where a
+/// page is to blame.
+fn print_rest<W: Write>(
+    alloc: Global,
+    bytes: &[u8],
+    fault: &Fault,
+    style: Style,
+    asked: Option<u32>,
+    out: &mut W,
+) -> Result<(), Stop>
+    requires { StoreFault bytes.now fault.now }
+    ensures printed { OnOk result ((number : ℕ) → fault.now ≡ Fault.BadPage number
+        → ListsWholePages style asked bytes.now (W.contents out.old) (W.contents out.new)) }
+    ensures err { IfErr result IsNoFault }
+{
+    match fault {
+        Fault::BadPage(_) => {
+            let (_, images) = bytes.split_at(FIRST_IMAGE as usize);
+            print_images(alloc, images, style, asked, out)
+        }
+        _ => Ok(()),
+    }
+}
+
+/// Prints what a store holds: a line for its header, and one for each page, or for the page of the
+/// number that is asked for alone. A line begins as those of [`list_log`](crate::list_log) do; that
+/// of a page says its number, its PageLSN and what its slots hold, without those that hold nothing.
+///
+/// Errors: [`Stop::Fault`] with the fault of [`page::decode_store`] where the store is damaged; where
+/// the fault is a page's, the lines of all pages that are whole are out, else nothing is. With
+/// `NoResource` where memory was refused, and [`Stop::Print`] where a line could not be printed; after
+/// these two a beginning of the lines is out.
+pub fn list_store<W: Write>(
+    alloc: Global,
+    bytes: &[u8],
+    style: Style,
+    asked: Option<u32>,
+    out: &mut W,
+) -> Result<(), Stop>
+    ensures listed { OnOk result (ListsStore style asked bytes.now (W.contents out.old)
+        (W.contents out.new)) }
+    ensures damaged { IfErr result (ListsStoreToFault style asked bytes.now (W.contents out.old)
+        (W.contents out.new)) }
+{
+    match decode_store(alloc, bytes) {
+        Ok(store) => print_store(alloc, &store, style, asked, out),
+        Err(fault) => {
+            print_rest(alloc, bytes, &fault, style, asked, out)?;
+            Err(Stop::Fault(fault))
+        }
+    }
+}

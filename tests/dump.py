@@ -1,0 +1,176 @@
+"""The checks of `aries_dump`, which tests/run.py makes: its lines on every small row, on rows of real size and on bytes of every kind, against a second
+reader; its options; what it says of damaged files; and each growth of memory refused in turn."""
+import os
+import subprocess
+import tarfile
+
+from lines import STYLES, lines_of_log, lines_of_store
+
+TOP = os.path.dirname(os.path.dirname(os.path.abspath(__file__)))
+DUMP = os.path.join(TOP, "crates/aries_dump/out/aries_dump")
+
+# A log of one update and one commit, and a store of one page, byte by byte as docs/FORMATS.md shows them.
+LOG = bytes.fromhex("41524945534c4731" "0000001d01000000000000000100000001000000000000000000000000" "00ff0161"
+                    "000000150300000000000000020000000100000000" "00000001")
+LOG_LINES = b"""\
+0: log, version 1, BaseLSN 0
+8: update, LSN 1, transaction 1, PrevLSN 0, page 0, slot 0, before absent, after "a" (61)
+41: commit, LSN 2, transaction 1, PrevLSN 1
+"""
+LOG_OBJECTS = b"""\
+{"offset":0,"kind":"log","version":1,"BaseLSN":0}
+{"offset":8,"kind":"update","LSN":1,"transaction":1,"PrevLSN":0,"page":0,"slot":0,"before":null,"after":{"text":"a","hex":"61"}}
+{"offset":41,"kind":"commit","LSN":2,"transaction":1,"PrevLSN":1}
+"""
+STORE = (bytes.fromhex("4152494553504731" "00000001" "00000000" "0000000000000000" "00000000" "00000000" "0000000000000001" "00500001")
+         + bytes(60) + b"a" + bytes(943))
+STORE_LINES = b"""\
+0: store, pages 1, master 0
+24: page, number 0, PageLSN 1, slot 0 "a" (61)
+"""
+TEXTS = {6: "bad log header", 7: "bad length at byte {}", 8: "bad record at byte {}", 9: "bad LSN at byte {}", 12: "bad image of page {}"}
+
+
+def dump(*words, **how):
+    return subprocess.run([DUMP, *words], **{"capture_output": True, **how})
+
+
+def bytes_of(path):
+    with open(path, "rb") as file:
+        return file.read()
+
+
+def written(room, name, text):
+    path = os.path.join(room, name)
+    with open(path, "wb") as file:
+        file.write(text)
+    return path
+
+
+def words_of(asked, style):
+    words = [word for name, number in asked.items() for word in (f"--{name}", str(number))]
+    return words + (["--json"] if style == "json" else [])
+
+
+def has_listed(ran, lines, fault):
+    """Whether a run printed these lines, and behind them the line of this fault, if there is one."""
+    if fault is None:
+        return ran.returncode == 0 and ran.stdout == lines and not ran.stderr
+    line = f"fault {fault[0]}: {TEXTS[fault[0]].format(fault[1])}\n".encode()
+    return ran.returncode == 1 and ran.stdout == lines and ran.stderr == line
+
+
+def is_log_listed(path, style, **asked):
+    lines, fault = lines_of_log(bytes_of(path), STYLES[style], **asked)
+    return has_listed(dump("log", path, *words_of(asked, style)), lines, fault)
+
+
+def is_store_listed(path, style, **asked):
+    lines, fault = lines_of_store(bytes_of(path), STYLES[style], **asked)
+    return has_listed(dump("store", path, *words_of(asked, style)), lines, fault)
+
+
+def is_row_listed(folder, style):
+    """Whether the log of a row, and its stores where a recovery took them, are listed as they should be."""
+    stores = [os.path.join(folder, name) for name in ("store", "out-store") if os.path.exists(os.path.join(folder, "out-store"))]
+    logs = [os.path.join(folder, name) for name in ("log", "out-log") if os.path.exists(os.path.join(folder, name))]
+    return all(is_log_listed(log, style) for log in logs) and all(is_store_listed(store, style) for store in stores)
+
+
+def check_by_hand(tally, room):
+    log, store = written(room, "log-by-hand", LOG), written(room, "store-by-hand", STORE)
+    tally.say("dump of a log, by hand", has_listed(dump("log", log), LOG_LINES, None))
+    tally.say("dump of a log as JSON, by hand", has_listed(dump("log", log, "--json"), LOG_OBJECTS, None))
+    tally.say("dump of a store, by hand", has_listed(dump("store", store), STORE_LINES, None))
+
+
+def check_rows(tally, rows):
+    for name in sorted(os.listdir(rows)):
+        folder = os.path.join(rows, name)
+        if os.path.exists(os.path.join(folder, "log")):
+            tally.say(f"dump of {name}", all(is_row_listed(folder, style) for style in STYLES))
+
+
+def check_large_rows(tally, room, archives):
+    for archive in sorted(os.listdir(archives)):
+        name = archive.partition(".")[0]
+        with tarfile.open(os.path.join(archives, archive)) as files:
+            files.extractall(room)
+        tally.say(f"dump of {name}", is_row_listed(os.path.join(room, name), "json"))
+
+
+def every_byte(room):
+    """A log whose values hold each byte, cut within its last frame."""
+    log = b"ARIESLG2" + (5).to_bytes(8, "big")
+    for lsn, first in enumerate(range(0, 256, 32), 6):
+        value = bytes([32]) + bytes(range(first, first + 32))
+        body = bytes([1]) + lsn.to_bytes(8, "big") + (7).to_bytes(4, "big") + bytes(8) + (3).to_bytes(4, "big") + bytes([first // 32]) + b"\0" + value
+        log += len(body).to_bytes(4, "big") + body
+    return written(room, "every-byte", log[:-9])
+
+
+def check_options(tally, room, rows):
+    path = every_byte(room)
+    for style in STYLES:
+        tally.say(f"dump of every byte, {style}", is_log_listed(path, style))
+    log = os.path.join(rows, "two-losers", "log")
+    for asked in ({"from": 2}, {"to": 3}, {"from": 2, "to": 2}, {"from": 3, "to": 2}, {"transaction": 1}, {"transaction": 9}, {"page": 0}, {"page": 1},
+                  {"from": 2, "transaction": 2, "page": 0}):
+        tally.say(f"dump of {asked}", all(is_log_listed(log, style, **asked) for style in STYLES))
+    store = os.path.join(rows, "ten-pages", "store")
+    tally.say("dump of one page", all(is_store_listed(store, style, page=page) for style in STYLES for page in (0, 9, 10)))
+
+
+def check_damage(tally, room, rows):
+    whole = bytes_of(os.path.join(rows, "two-losers", "log"))
+    right = True
+    for at in range(len(whole)):
+        path = written(room, "damaged", whole[:at] + bytes([whole[at] ^ 0x80]) + whole[at + 1:])
+        right = right and is_log_listed(path, "text") and is_log_listed(written(room, "cut", whole[:at]), "json")
+    tally.say("dump of a log with each byte changed, and cut there", right)
+    store, right = bytes_of(os.path.join(rows, "ten-pages", "out-store")), True
+    for at in range(24, len(store), 101):
+        path = written(room, "damaged", store[:at] + bytes([store[at] ^ 0x01]) + store[at + 1:])
+        right = right and all(is_store_listed(path, style) for style in STYLES)
+    tally.say("dump of a store with bytes of its pages changed", right)
+    missing = os.path.join(room, "no-such-file")
+    ran = dump("log", missing)
+    tally.say("dump of no log", ran.returncode == 1 and ran.stderr == b"fault 2: reading the log failed\n" and not ran.stdout)
+    ran = dump("store", missing)
+    tally.say("dump of no store", ran.returncode == 1 and ran.stderr == b"fault 3: reading the store failed\n" and not ran.stdout)
+    ran = dump("store", os.path.join(rows, "two-losers", "log"))
+    tally.say("dump of a log as a store", ran.returncode == 1 and ran.stderr == b"fault 10: bad store header\n" and not ran.stdout)
+
+
+def check_words(tally, room, rows):
+    log = os.path.join(rows, "two-losers", "log")
+    for what, words in (("no command", []), ("no file", ["log"]), ("two files", ["log", log, log]), ("an LSN too large", ["log", log, "--from", str(2**64)]),
+                        ("a page of no number", ["store", log, "--page", "x"]), ("a transaction of a store", ["store", log, "--transaction", "1"])):
+        ran = dump(*words)
+        tally.say(f"a wrong line of aries_dump: {what}", ran.returncode == 2 and not ran.stdout and ran.stderr != b"")
+    ran = dump("--help")
+    tally.say("help of aries_dump", ran.returncode == 0 and b"log" in ran.stdout and not ran.stderr)
+    with open("/dev/full", "wb") as full:
+        ran = dump("log", log, stdout=full, stderr=subprocess.PIPE, capture_output=False)
+        tally.say("a dump that cannot be printed", ran.returncode == 1 and not ran.stderr)
+
+
+def check_growth(tally, refuser, rows):
+    log = os.path.join(rows, "checkpoint-loser", "log")
+    lines, _ = lines_of_log(bytes_of(log), STYLES["text"])
+    right, count = True, 0
+    for ran, is_refused in refuser.in_turn(lambda **how: dump("log", log, **how)):
+        is_fault_1 = ran.returncode == 1 and ran.stderr == b"fault 1: no resource\n" and lines.startswith(ran.stdout)
+        right = right and (has_listed(ran, lines, None) or (is_refused and is_fault_1))
+        count += is_refused
+    tally.say(f"dump, {count} growths refused in turn", right and count > 0)
+
+
+def check_dump(tally, room, rows, archives, refuser):
+    check_by_hand(tally, room)
+    check_rows(tally, rows)
+    check_large_rows(tally, room, archives)
+    check_options(tally, room, rows)
+    check_damage(tally, room, rows)
+    check_words(tally, room, rows)
+    check_growth(tally, refuser, rows)
