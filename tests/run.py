@@ -1,7 +1,7 @@
 #!/usr/bin/env python3
 """Runs the proved programs as they are: on rows of real size, on the small rows in version 2, with threads counted, with files that are missing or stand
 already, with wrong lines, with --verbose, with prints that fail, and with each growth of memory refused in turn. And looks whether the documents and the man
-pages are true of them.
+pages are true of them, and whether each wrong body that the prover must refuse can still be applied.
 
 usage: tests/run.py        at the top of the repository, behind `rt ci`, which builds the programs
 
@@ -17,6 +17,7 @@ import tempfile
 
 sys.dont_write_bytecode = True  # no folder of it beside the tests
 from dump import check_dump
+from edits import check_edits
 from operate import check_operation
 from pages import check_pages
 from program import ARIES, LARGE_ROWS, SMALL_ROWS, TOP, Row, Tally, bytes_of, has_printed, has_refused, in_doubt, library_of, run, text_of
@@ -322,6 +323,7 @@ def main():
     tally = Tally()
     check_documents(tally)
     check_pages(tally)
+    check_edits(tally)
     with tempfile.TemporaryDirectory(prefix="aries-tests-") as room:
         check_large_rows(tally, room)
         check_version_2(tally, room)

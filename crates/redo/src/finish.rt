@@ -4,7 +4,7 @@ ghost use Rattle.std.specs.Prelude.{◌≡◌, ℕ, ◌<◌, ◌^◌, length, sl
 ghost use Rattle.std.specs.List.{sum_by};
 ghost use Rattle.page.specs.declared.page.Page.{Page};
 ghost use Rattle.wal.specs.Records.{history};
-ghost use Rattle.redo.specs.Changes.{held_after, slots_after, finished};
+ghost use Rattle.redo.specs.Changes.{slots_after, finished};
 ghost use Rattle.redo.specs.declared.tally.Tally.{Tally};
 
 use crate::tally::Tally;
@@ -13,19 +13,14 @@ use std::thread;
 use std::thread::Threads;
 use wal::Log;
 
-/// What a slot holds by the LSN of its last record, where 0 says that there is none.
-fn held(log: &Log, lsn: u64, image: Option<Value>) -> Option<Value>
-    ensures { result ≡ held_after (history log.now) lsn image }
-{
-    if lsn == 0 { image } else { log.image(lsn) }
-}
-
-/// Puts the values of the last records into their slots.
+/// Puts the values of the last records into their slots; a slot that has none, which 0 says, is left.
 fn fill(log: &Log, lasts: &[u64; SLOTS], slots: &mut [Option<Value>; SLOTS])
     ensures { slots.new ≡ slots_after (history log.now) lasts.now slots.old }
 {
     for slot in 0..SLOTS {
-        slots[slot] = held(log, lasts[slot], slots[slot]);
+        if lasts[slot] != 0 {
+            slots[slot] = log.image(lasts[slot]);
+        }
     }
 }
 

@@ -1,36 +1,68 @@
-use Rattle.std.proofs.Common.{◌≡◌, ◌<◌, None, get_or, set, sym, ap, ◌∙◌, inl, inr, refl, arith}
+use Rattle.std.proofs.Common.{ℕ, List, ◌≡◌, ◌<◌, ◌+◌, None, length, get_or, set, sym, ap, subst, cond, ne_eqb, eq-eqb, ◌∙◌, inl, inr, refl, arith}
 use Rattle.std.proofs.lemmas.Bool.{cases_eq}
-use Rattle.std.proofs.lemmas.List.{ext_get_or, get_or_default, get_or-set_same, get_or-set_other, length-set}
-use Rattle.wal.specs.Records.{history}
+use Rattle.std.proofs.lemmas.List.{ext_get_or, get_or-set_same, get_or-set_other, length-set}
+use Rattle.page.specs.Image.{Image}
+use Rattle.wal.specs.Records.{History, history, record_at}
+use Rattle.wal.specs.Meaning.{image_in}
 use Rattle.redo.specs.Changes.{held_after, slots_after}
 use Rattle.redo.proofs.Tallies.{slot_after, slots_count}
+use Rattle.redo.proofs.finish.fill.Invariants.{AreFilled}
+use Rattle.redo.proofs.finish.fill.Goals.{then-lasts-slot-ne0, else-lasts-slot-ne0}
 use Rattle.redo.proofs.finish.fill.Goals as goal
 
 pub loop-slot-init : goal.loop-slot-init
 loop-slot-init c = (c.told-slots, λ k lt. absurd (omega arith), λ k le. refl)
 
+held_none : (log : History) (lsn : ℕ) (image : Image) → lsn ≡ 0 → held_after log lsn image ≡ image
+held_none log lsn image none = ap (λ b. cond b image (image_in (record_at log lsn))) (eq-eqb lsn 0 none)
+
+held_some : (log : History) (lsn : ℕ) (image : Image) → (lsn ≡ 0 → ⊥) → held_after log lsn image ≡ image_in (record_at log lsn)
+held_some log lsn image some = ap (λ b. cond b image (image_in (record_at log lsn))) (ne_eqb lsn 0 some)
+
+-- one slot is filled
+filled : (log : History) (lasts : List ℕ) (before now : List Image) (i : ℕ) (x : Image) → i < 16 → AreFilled log lasts before i now
+    → x ≡ get_or (slots_after log lasts before) i None → AreFilled log lasts before (i + 1) (set now i x)
+filled log lasts before now i x lt at is = (
+  length-set now i x ∙ at.0,
+  λ k less.
+      elim (cases_eq k i) [
+        | inl e ↦ ap (λ j. get_or (set now i x) j None) e ∙ (get_or-set_same now i x None (omega (arith, at.0)) ∙ (is ∙ ap (λ j. get_or (slots_after log lasts before) j None) (sym e)))
+        | inr ne ↦ get_or-set_other now i k x None ne ∙ at.1 k (omega (arith, less, ne))
+      ],
+  λ k le. get_or-set_other now i k x None (λ e. omega (arith, e, le)) ∙ at.2 k (omega (arith, le)),
+)
+
+-- or is left, and holds what it is to hold
+left : (log : History) (lasts : List ℕ) (before now : List Image) (i : ℕ) → AreFilled log lasts before i now
+    → get_or before i None ≡ get_or (slots_after log lasts before) i None → AreFilled log lasts before (i + 1) now
+left log lasts before now i at is = (
+  at.0,
+  λ k less.
+      elim (cases_eq k i) [
+        | inl e ↦ at.2 k (omega (arith, e)) ∙ (ap (λ j. get_or before j None) e ∙ (is ∙ ap (λ j. get_or (slots_after log lasts before) j None) (sym e)))
+        | inr ne ↦ at.1 k (omega (arith, less, ne))
+      ],
+  λ k le. at.2 k (omega (arith, le)),
+)
+
 pub loop-slot-preserved : goal.loop-slot-preserved
 loop-slot-preserved c =
     let log = history c.args.log.now in
-    let i = c.loop-slot.slot in
-    let now = c.loop-slot.slots in
-    let old = c.args.slots.now in
     let lasts = c.args.lasts.now in
-    let before = c.loop-slot.invariant in
+    let before = c.args.slots.now in
+    let now = c.loop-slot.slots in
+    let i = c.loop-slot.slot in
     let lt : i < 16 = c.loop-slot-test.true in
-    let here = c.index-slots-slot.result in
-    let held : c.held.result ≡ get_or (slots_after log lasts old) i None =
-    c.held.ensures
-    ∙ (ap (held_after log (get_or lasts i 0)) (get_or_default now i here None (omega (arith, before.0)) ∙ before.2 i (omega arith))
-    ∙ sym (slot_after log lasts old i (omega (arith, c.told-lasts)) (omega (arith, c.told-slots)))) in (
-      length-set now i c.held.result ∙ before.0,
-      λ k less.
-          elim (cases_eq k i) [
-            | inl e ↦ ap (λ j. get_or (set now i c.held.result) j None) e ∙ (get_or-set_same now i c.held.result None (omega (arith, before.0)) ∙ (held ∙ ap (λ j. get_or (slots_after log lasts old) j None) (sym e)))
-            | inr ne ↦ get_or-set_other now i k c.held.result None ne ∙ before.1 k (omega (arith, less, ne))
-          ],
-      λ k le. get_or-set_other now i k c.held.result None (λ e. omega (arith, e, le)) ∙ before.2 k (omega (arith, le)),
-    )
+    let there : get_or (slots_after log lasts before) i None ≡ held_after log (get_or lasts i 0) (get_or before i None) =
+    slot_after log lasts before i (omega (arith, c.told-lasts)) (omega (arith, c.told-slots)) in
+    elim c.if-lasts-slot-ne0.branch [
+      | then-lasts-slot-ne0 w ↦
+          subst (AreFilled log lasts before (i + 1)) (sym w.slots-is)
+          (filled log lasts before now i w.image.result lt c.loop-slot.invariant (w.image.ensures ∙ sym (there ∙ held_some log (get_or lasts i 0) (get_or before i None) w.if-lasts-slot-ne0.true)))
+      | else-lasts-slot-ne0 w ↦
+          subst (AreFilled log lasts before (i + 1)) (sym w.slots-is)
+          (left log lasts before now i c.loop-slot.invariant (sym (there ∙ held_none log (get_or lasts i 0) (get_or before i None) w.if-lasts-slot-ne0.false)))
+    ]
 
 pub returns : goal.returns
 returns c =
