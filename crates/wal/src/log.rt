@@ -80,6 +80,7 @@ impl<'a> Log<'a> {
     /// The record at an LSN, None up to the base LSN and past the end. It is decoded from the bytes
     /// at each call, and takes no memory. What it shows fits the grammar (`fits`), as `to_record`
     /// asks.
+    #[inline(always)]
     pub fn get(&self, lsn: u64) -> Option<RecordView<'a>>
         ensures found { option_map shown result ≡ record_at (history self.now) lsn }
         ensures fits { IfSome result (λ view. Fits (shown view)) }

@@ -1,4 +1,4 @@
-use Rattle.std.proofs.Common.{ℕ, List, ◌≡◌, ◌<◌, ◌+◌, None, length, get_or, set, sym, ap, subst, cond, ne_eqb, eq-eqb, ◌∙◌, inl, inr, refl, arith}
+use Rattle.std.proofs.Common.{ℕ, List, ◌≡◌, ◌<◌, ◌+◌, None, get_or, set, sym, ap, subst, cond, ne_eqb, eq-eqb, ◌∙◌, inl, inr, refl, arith}
 use Rattle.std.proofs.lemmas.Bool.{cases_eq}
 use Rattle.std.proofs.lemmas.List.{ext_get_or, get_or-set_same, get_or-set_other, length-set}
 use Rattle.page.specs.Image.{Image}
