@@ -11,8 +11,6 @@ mod rule;
 mod seat;
 mod stop;
 mod tally;
-#[cfg(test)]
-mod tests;
 mod view;
 
 pub use board::Board;

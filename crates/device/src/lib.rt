@@ -8,8 +8,6 @@ mod file;
 mod kept;
 mod memory;
 mod slow;
-#[cfg(test)]
-mod tests;
 mod traits;
 mod transfer;
 

@@ -10,8 +10,6 @@ mod numbers;
 mod page;
 mod sizes;
 mod store;
-#[cfg(test)]
-mod tests;
 mod value;
 
 pub use fault::Fault;

@@ -1,6 +1,7 @@
 //! Images, store files and fault texts that were worked out by hand.
 
-use crate::{Fault, Page, Value, decode_page, decode_store, encode_page, encode_store};
+use super::check;
+use page::{Fault, Page, Value, decode_page, decode_store, encode_page, encode_store};
 use std::alloc::{AllocError, Global};
 use std::test::Fail;
 
@@ -27,6 +28,18 @@ fn refusal(alloc: Global, bytes: &[u8]) -> Option<Fault> {
     }
 }
 
+/// Whether a page has this image.
+fn is_image(page: &Page, image: &[u8]) -> bool {
+    encode_page(page).as_slice() == image
+}
+
+/// Whether these bytes are a store of master 0, and its one spelling.
+fn is_spelled(alloc: Global, bytes: &[u8]) -> Result<bool, Fault> {
+    let store = decode_store(alloc, bytes)?;
+    let again = encode_store(alloc, &store)?;
+    Ok(store.master == 0 && again.as_slice() == bytes)
+}
+
 #[test]
 fn one_commit(rt: HostRuntime) -> Result<(), Fail> {
     let mut page = Page::empty(0);
@@ -35,15 +48,9 @@ fn one_commit(rt: HostRuntime) -> Result<(), Fail> {
         0, 0, 0, 0, 0, 0, 0, 0, 0, 0, 0, 0, 0, 0, 0, 1, 0, 0x50, 0, 1,
     ];
     let image = padded(rt.alloc(), &[&head, &[0; 60], b"a"], 1024)?;
-    assert_eq!(rt; encode_page(&page).as_slice(), image.as_slice());
+    check(is_image(&page, &image), "image")?;
     let bytes = padded(rt.alloc(), &[&ONE_PAGE, &image], 1048)?;
-    let store = decode_store(rt.alloc(), &bytes)?;
-    assert_eq!(rt; store.master, 0);
-    assert_eq!(rt;
-        encode_store(rt.alloc(), &store)?.as_slice(),
-        bytes.as_slice()
-    );
-    Ok(())
+    check(is_spelled(rt.alloc(), &bytes)?, "store")
 }
 
 #[test]
@@ -55,24 +62,38 @@ fn empty_and_full_values(rt: HostRuntime) -> Result<(), Fail> {
         0, 0, 0, 0, 0, 0, 0, 0, 0, 0, 0, 0, 0, 0, 0, 2, 0, 0x50, 0, 0, 0, 0x50, 0, 0x30,
     ];
     let image = padded(rt.alloc(), &[&head, &[0; 56], &[0x7a; 48]], 1024)?;
-    assert_eq!(rt; encode_page(&page).as_slice(), image.as_slice());
-    Ok(())
+    check(is_image(&page, &image), "image")
 }
 
 #[test]
-fn sixteen_full_values(rt: HostRuntime) {
+fn sixteen_full_values() -> Result<(), Fail> {
     let image = encode_page(&full());
-    assert_eq!(rt; &image[76..80], [0x03, 0x20, 0x00, 0x30].as_slice());
-    assert_eq!(rt; &image[848..], [0; 176].as_slice());
-    assert_eq!(rt; image[80], 0x41);
-    assert_eq!(rt; image[847], 0x50);
-    match decode_page(&image, 0) {
-        Ok(again) => assert_eq!(rt; encode_page(&again).as_slice(), image.as_slice()),
-        Err(fault) => assert!(rt; false, "{fault}"),
-    }
-    match decode_page(&image, 1) {
-        Ok(_) => assert!(rt; false, "a page of another number"),
-        Err(fault) => assert_eq!(rt; fault, Fault::BadPage(1)),
+    check(image[76..80] == [0x03, 0x20, 0x00, 0x30], "the last entry")?;
+    check(image[848..] == [0; 176], "behind the values")?;
+    check(image[80] == 0x41, "the first byte")?;
+    check(image[847] == 0x50, "the last byte")
+}
+
+#[test]
+fn pages_have_their_number() -> Result<(), Fail> {
+    let image = encode_page(&full());
+    let is_same = match decode_page(&image, 0) {
+        Ok(again) => is_image(&again, &image),
+        Err(_) => false,
+    };
+    check(is_same, "a page of this number")?;
+    let fault = match decode_page(&image, 1) {
+        Ok(_) => None,
+        Err(fault) => Some(fault),
+    };
+    check(fault == Some(Fault::BadPage(1)), "a page of another number")
+}
+
+/// Why these parts and zeros up to this length are no store, if they are none.
+fn refusal_of(alloc: Global, parts: &[&[u8]], len: usize) -> Option<Fault> {
+    match padded(alloc, parts, len) {
+        Ok(bytes) => refusal(alloc, &bytes),
+        Err(_) => Some(Fault::NoResource),
     }
 }
 
@@ -85,25 +106,13 @@ fn refused_images(rt: HostRuntime) -> Result<(), Fail> {
         ("entry-of-49", &[0, 0x50, 0, 0x31, 0, 0, 0, 0], &[0x78; 49]),
     ];
     for (name, entries, cells) in cases {
-        let bytes = padded(
-            rt.alloc(),
-            &[&ONE_PAGE, &[0; 16], entries, &[0; 56], cells],
-            1048,
-        )?;
-        assert_eq!(rt;
-            refusal(rt.alloc(), &bytes),
-            Some(Fault::BadPage(0)),
-            "{name}"
-        );
+        let parts: [&[u8]; 5] = [&ONE_PAGE, &[0; 16], entries, &[0; 56], cells];
+        let fault = refusal_of(rt.alloc(), &parts, 1048);
+        check(fault == Some(Fault::BadPage(0)), name)?;
     }
-    let mut bytes = padded(rt.alloc(), &[&ONE_PAGE], 1047)?;
-    bytes.push(1)?;
-    assert_eq!(rt;
-        refusal(rt.alloc(), &bytes),
-        Some(Fault::BadPage(0)),
-        "last-byte-set"
-    );
-    Ok(())
+    let parts: [&[u8]; 3] = [&ONE_PAGE, &[0; 1023], &[1]];
+    let fault = refusal_of(rt.alloc(), &parts, 1048);
+    check(fault == Some(Fault::BadPage(0)), "last-byte-set")
 }
 
 #[test]
@@ -150,21 +159,13 @@ fn refused_stores(rt: HostRuntime) -> Result<(), Fail> {
         ),
     ];
     for (name, front, len, fault) in cases {
-        let bytes = padded(rt.alloc(), &[front], len)?;
-        assert_eq!(rt; refusal(rt.alloc(), &bytes), Some(fault), "{name}");
+        let refused = refusal_of(rt.alloc(), &[front], len);
+        check(refused == Some(fault), name)?;
     }
     let one = encode_page(&Page::empty(1));
-    let bytes = padded(
-        rt.alloc(),
-        &[b"ARIESPG1\0\0\0\x02", &[0; 12], &one, &one],
-        2072,
-    )?;
-    assert_eq!(rt;
-        refusal(rt.alloc(), &bytes),
-        Some(Fault::BadPage(0)),
-        "number-twice"
-    );
-    Ok(())
+    let parts: [&[u8]; 4] = [b"ARIESPG1\0\0\0\x02", &[0; 12], &one, &one];
+    let refused = refusal_of(rt.alloc(), &parts, 2072);
+    check(refused == Some(Fault::BadPage(0)), "number-twice")
 }
 
 /// The page of number 0 whose slots all hold 48 bytes.
@@ -187,16 +188,25 @@ fn largest(alloc: Global, like: &Page) -> Result<Vec<u8>, AllocError> {
     Ok(bytes)
 }
 
+/// Whether the store of 4,096 pages like this one is its one spelling.
+fn is_largest_spelled(alloc: Global, page: &Page) -> Result<bool, Fault> {
+    let bytes = largest(alloc, page)?;
+    let store = decode_store(alloc, &bytes)?;
+    let again = encode_store(alloc, &store)?;
+    Ok(
+        bytes.len() == 4_194_328
+            && store.pages.len() == 4096
+            && again.as_slice() == bytes.as_slice(),
+    )
+}
+
 #[test]
 fn largest_store(rt: HostRuntime) -> Result<(), Fail> {
-    for page in [Page::empty(0), full()] {
-        let bytes = largest(rt.alloc(), &page)?;
-        assert_eq!(rt; bytes.len(), 4_194_328);
-        let store = decode_store(rt.alloc(), &bytes)?;
-        assert_eq!(rt; store.pages.len(), 4096);
-        assert!(rt; encode_store(rt.alloc(), &store)?.as_slice() == bytes.as_slice());
-    }
-    Ok(())
+    check(
+        is_largest_spelled(rt.alloc(), &Page::empty(0))?,
+        "empty pages",
+    )?;
+    check(is_largest_spelled(rt.alloc(), &full())?, "full pages")
 }
 
 /// Each fault, and its text.
@@ -236,25 +246,40 @@ fn texts() -> [(Fault, &'static str); 28] {
     ]
 }
 
+/// Whether a fault has this text.
+fn has_text(alloc: Global, fault: Fault, text: &str) -> Result<bool, AllocError> {
+    let printed = format!(in alloc; "{fault}")?;
+    Ok(printed.as_str() == text)
+}
+
 #[test]
 fn fault_texts(rt: HostRuntime) -> Result<(), Fail> {
     for (i, &(fault, text)) in texts().iter().enumerate() {
         let number = if i < 18 { i + 1 } else { i + 2 };
-        assert_eq!(rt; fault.number() as usize, number);
-        assert_eq!(rt; format!(in rt.alloc(); "{fault}")?.as_str(), text);
+        check(fault.number() as usize == number, text)?;
+        check(has_text(rt.alloc(), fault, text)?, text)?;
     }
     Ok(())
 }
 
-#[test]
-fn faults_are_told_apart(rt: HostRuntime) {
-    let faults = texts();
-    for (i, (fault, _)) in faults.iter().enumerate() {
-        for (j, (other, _)) in faults.iter().enumerate() {
-            assert_eq!(rt; fault == other, i == j);
+/// Whether of these faults this one alone is the one of this place.
+fn is_told_apart(faults: &[(Fault, &str)], fault: Fault, place: usize) -> bool {
+    for (i, (other, _)) in faults.iter().enumerate() {
+        if (fault == *other) != (i == place) {
+            return false;
         }
     }
-    assert!(rt; Fault::BadLsn(41) != Fault::BadLsn(42));
-    assert!(rt; Fault::BadPage(0) != Fault::BadPage(1));
-    assert!(rt; Fault::NoSuchPage(1) != Fault::NoSuchPage(1 << 32 | 1));
+    true
+}
+
+#[test]
+fn faults_are_told_apart() -> Result<(), Fail> {
+    let faults = texts();
+    for (i, (fault, text)) in faults.iter().enumerate() {
+        check(is_told_apart(&faults, *fault, i), text)?;
+    }
+    check(Fault::BadLsn(41) != Fault::BadLsn(42), "LSNs")?;
+    check(Fault::BadPage(0) != Fault::BadPage(1), "pages")?;
+    let far = Fault::NoSuchPage(1 << 32 | 1);
+    check(Fault::NoSuchPage(1) != far, "far LSNs")
 }

@@ -2,7 +2,9 @@
 
 ghost use Rattle.std.specs.Prelude.{IfOk, ◌≤◌};
 
-use crate::{Failed, FileSink, FileSource, ReadFault, Sink, read_all, write_all};
+use super::check;
+use device::{Failed, FileSink, FileSource, ReadFault, Sink, read_all, write_all};
+use std::alloc::Global;
 use std::fs::{File, Metadata, OpenFile};
 use std::io::{Error, ErrorKind, Read, Write};
 use std::test::Fail;
@@ -110,6 +112,22 @@ fn sink<'a>(turns: &'a [Turn]) -> FileSink<Fake<'a>> {
     })
 }
 
+/// Whether all that a file with these turns gives is this.
+fn is_read(alloc: Global, turns: &[Turn], bytes: &[u8]) -> Result<bool, ReadFault> {
+    let read = read_all(alloc, &mut source(turns))?;
+    Ok(read.as_slice() == bytes)
+}
+
+/// What writing "abc" to a file with these turns answers.
+fn written(turns: &[Turn]) -> Result<(), Failed> {
+    write_all(&mut sink(turns), b"abc")
+}
+
+/// What a flush of a file with these turns answers.
+fn flushed(turns: &[Turn]) -> Result<(), Failed> {
+    sink(turns).flush()
+}
+
 #[test]
 fn interruptions_are_no_failures(rt: HostRuntime) -> Result<(), Fail> {
     let turns = [
@@ -118,53 +136,46 @@ fn interruptions_are_no_failures(rt: HostRuntime) -> Result<(), Fail> {
         Turn::Interrupted,
         Turn::Pass(1),
     ];
-    assert!(rt; read_all(rt.alloc(), &mut source(&turns))?.as_slice() == b"xxx".as_slice());
-    write_all(&mut sink(&turns), b"abc")?;
-    Ok(())
+    check(is_read(rt.alloc(), &turns, b"xxx")?, "read")?;
+    check(written(&turns).is_ok(), "written")
 }
 
 #[test]
 fn reads_fail_in_mid_stream(rt: HostRuntime) -> Result<(), Fail> {
     let turns = [Turn::Pass(2), Turn::Broken, Turn::Pass(1)];
-    let read = read_all(rt.alloc(), &mut source(&turns));
-    assert!(rt; matches!(read, Err(ReadFault::Failed)));
-    Ok(())
+    let read = is_read(rt.alloc(), &turns, b"xx");
+    check(matches!(read, Err(ReadFault::Failed)), "read")
 }
 
 #[test]
-fn writes_fail_in_mid_stream(rt: HostRuntime) -> Result<(), Fail> {
+fn writes_fail_in_mid_stream() -> Result<(), Fail> {
     let turns = [Turn::Pass(2), Turn::Broken, Turn::Pass(1)];
-    assert_eq!(rt; write_all(&mut sink(&turns), b"abc"), Err(Failed));
-    Ok(())
+    check(written(&turns).is_err(), "written")
 }
 
 #[test]
-fn a_write_that_takes_nothing_fails(rt: HostRuntime) -> Result<(), Fail> {
-    assert_eq!(rt;
-        write_all(&mut sink(&[Turn::Pass(2), Turn::Pass(0)]), b"abc"),
-        Err(Failed)
-    );
-    assert_eq!(rt; sink(&[Turn::Pass(0)]).write(b""), Ok(0));
-    Ok(())
+fn a_write_that_takes_nothing_fails() -> Result<(), Fail> {
+    check(written(&[Turn::Pass(2), Turn::Pass(0)]).is_err(), "written")?;
+    check(sink(&[Turn::Pass(0)]).write(b"") == Ok(0), "no bytes")
 }
 
 #[test]
-fn flush_syncs(rt: HostRuntime) -> Result<(), Fail> {
-    assert_eq!(rt; sink(&[]).flush(), Ok(()));
-    assert_eq!(rt; sink(&[Turn::Broken]).flush(), Err(Failed));
-    Ok(())
+fn flush_syncs() -> Result<(), Fail> {
+    check(flushed(&[]).is_ok(), "flushed")?;
+    check(flushed(&[Turn::Broken]).is_err(), "a sync that fails")
 }
 
 #[test]
-fn a_file_is_flushed_before_it_is_synced(rt: HostRuntime) -> Result<(), Fail> {
+fn a_file_is_flushed_before_it_is_synced() -> Result<(), Fail> {
     let turns = [Turn::Pass(3), Turn::Pass(2)];
     let mut out = sink(&turns);
-    for bytes in [b"abc".as_slice(), b"de".as_slice()] {
-        write_all(&mut out, bytes)?;
-        assert_eq!(rt; out.flush(), Ok(()));
-    }
-    assert_eq!(rt; sink(&[Turn::Unflushed]).flush(), Err(Failed));
-    Ok(())
+    write_all(&mut out, b"abc")?;
+    let first = out.flush();
+    write_all(&mut out, b"de")?;
+    let second = out.flush();
+    check(first.is_ok(), "the first flush")?;
+    check(second.is_ok(), "the second flush")?;
+    check(flushed(&[Turn::Unflushed]).is_err(), "a flush that fails")
 }
 
 #[test]
@@ -176,6 +187,5 @@ fn a_file_of_the_system(rt: HostRuntime) -> Result<(), Fail> {
     out.flush()?;
     let read = read_all(rt.alloc(), &mut FileSource::new(File::open(&rt, path)?));
     fs::remove_file(&rt, path)?;
-    assert!(rt; read?.as_slice() == b"bytes".as_slice());
-    Ok(())
+    check(read?.as_slice() == b"bytes".as_slice(), "read")
 }

@@ -1,10 +1,11 @@
 //! Logs that several threads read: what they read is what one reads.
 
+use super::check;
 use page::{Fault, Value};
 use std::alloc::Global;
 use std::test::Fail;
 use std::thread::Threads;
-use wal::{Record, read_log_by, write_frame};
+use wal::{Log, Record, read_log_by, write_frame};
 
 /// How many records the log has, and how many bytes each takes: four threads read it, and where they
 /// begin to is in the middle of a frame.
@@ -33,6 +34,20 @@ fn updates(alloc: Global, held: &[u8]) -> Result<Vec<u8>, Fault> {
     Ok(log)
 }
 
+/// Whether these are the first records of the log, each at its LSN.
+fn are_at_their_lsns(log: &Log, records: u64) -> bool {
+    for prev in 0..records {
+        let is_lsn = match log.image(prev + 1) {
+            Some(image) => image.as_slice() == (prev + 1).to_be_bytes().as_slice(),
+            None => false,
+        };
+        if !is_lsn {
+            return false;
+        }
+    }
+    log.len() == records
+}
+
 /// Whether this many threads read all records, each at its LSN, and this many bytes of a torn tail.
 fn are_read<R: Threads + Sync>(
     rt: &R,
@@ -43,24 +58,22 @@ fn are_read<R: Threads + Sync>(
     torn_bytes: usize,
 ) -> Result<bool, Fault> {
     let (log, torn) = read_log_by(rt, alloc, bytes, threads)?;
-    for prev in 0..records {
-        let is_lsn = match log.image(prev + 1) {
-            Some(image) => image.as_slice() == (prev + 1).to_be_bytes().as_slice(),
-            None => false,
-        };
-        if !is_lsn {
-            return Ok(false);
-        }
-    }
-    Ok(log.len() == records && torn == torn_bytes)
+    Ok(are_at_their_lsns(&log, records) && torn == torn_bytes)
 }
 
 #[test]
 fn threads_read_what_one_reads(rt: HostRuntime) -> Result<(), Fail> {
     let alloc = rt.alloc();
     let log = updates(alloc, b"thirteen byte")?;
-    for threads in 0..6 {
-        assert!(rt; are_read(&rt, alloc, &log, threads, RECORDS, 0)?);
+    for (name, threads) in [
+        ("0 threads", 0),
+        ("1", 1),
+        ("2", 2),
+        ("3", 3),
+        ("4", 4),
+        ("5", 5),
+    ] {
+        check(are_read(&rt, alloc, &log, threads, RECORDS, 0)?, name)?;
     }
     Ok(())
 }
@@ -69,8 +82,8 @@ fn threads_read_what_one_reads(rt: HostRuntime) -> Result<(), Fail> {
 fn frames_in_values_are_no_frames(rt: HostRuntime) -> Result<(), Fail> {
     let alloc = rt.alloc();
     let log = updates(alloc, FRAME_IN_A_VALUE)?;
-    for threads in 1..5 {
-        assert!(rt; are_read(&rt, alloc, &log, threads, RECORDS, 0)?);
+    for (name, threads) in [("1 thread", 1), ("2", 2), ("3", 3), ("4", 4)] {
+        check(are_read(&rt, alloc, &log, threads, RECORDS, 0)?, name)?;
     }
     Ok(())
 }
@@ -80,8 +93,8 @@ fn torn_tail_of_a_long_log(rt: HostRuntime) -> Result<(), Fail> {
     let alloc = rt.alloc();
     let log = updates(alloc, b"thirteen byte")?;
     let torn = &log[..log.len().saturating_sub(5)];
-    assert!(rt; are_read(&rt, alloc, torn, 4, RECORDS - 1, FRAME_BYTES - 5)?);
-    Ok(())
+    let is_read = are_read(&rt, alloc, torn, 4, RECORDS - 1, FRAME_BYTES - 5)?;
+    check(is_read, "a torn tail")
 }
 
 #[test]
@@ -92,11 +105,9 @@ fn fault_in_the_middle_of_a_long_log(rt: HostRuntime) -> Result<(), Fail> {
     if let Some(kind) = log.get_mut(offset + 4) {
         *kind = 9;
     }
-    for threads in 1..5 {
-        assert_eq!(rt;
-            read_log_by(&rt, alloc, &log, threads).err(),
-            Some(Fault::BadRecord(offset as u64))
-        );
+    let fault = Some(Fault::BadRecord(offset as u64));
+    for (name, threads) in [("1 thread", 1), ("2", 2), ("3", 3), ("4", 4)] {
+        check(read_log_by(&rt, alloc, &log, threads).err() == fault, name)?;
     }
     Ok(())
 }

@@ -1,6 +1,9 @@
-ghost use Rattle.std.specs.Prelude.{◌≡◌, ◌<◌};
+//! What boards give to one seat and to several.
 
-use crate::{Board, Draw, Seat};
+ghost use Rattle.std.specs.Prelude.{◌≡◌, ◌<◌, length};
+
+use super::{check, check_at};
+use board::{Board, Draw, Seat, Tally};
 use std::test::Fail;
 use std::thread::join;
 
@@ -40,92 +43,108 @@ fn draw_all(board: &Board, mut seat: Seat, home: u32) -> (Seat, [u32; 10])
 fn one_half_draws_all(rt: HostRuntime) -> Result<(), Fail> {
     let (board, seat) = Board::new(rt.alloc(), 3, 1, 2)?;
     let (mut a, mut b) = board.split(seat);
-    assert_eq!(rt; drawn::<4>(&board, &mut a, 0), [0, 1, 2, NONE]);
-    assert_eq!(rt; drawn::<1>(&board, &mut b, 0), [NONE]);
+    let all = drawn::<4>(&board, &mut a, 0);
+    let none = drawn::<1>(&board, &mut b, 0);
     let seat = board.join(a, b);
-    assert_eq!(rt; board.close(seat).word(0), 5);
-    Ok(())
+    let word = board.close(seat).word(0);
+    check(all == [0, 1, 2, NONE], "the half that draws")?;
+    check(none == [NONE], "the other half")?;
+    check(word == 5, "word")
 }
 
 #[test]
 fn halves_know_the_end(rt: HostRuntime) -> Result<(), Fail> {
     let (board, mut seat) = Board::new(rt.alloc(), 3, 1, 2)?;
-    assert_eq!(rt; seat.places(), 2);
-    assert_eq!(rt; drawn::<4>(&board, &mut seat, 0), [0, 1, 2, NONE]);
+    let whole = seat.places();
+    let all = drawn::<4>(&board, &mut seat, 0);
     let (mut a, mut b) = board.split(seat);
-    assert_eq!(rt; (a.places(), b.places()), (1, 1));
-    assert_eq!(rt; drawn::<1>(&board, &mut a, 0), [NONE]);
-    assert_eq!(rt; drawn::<1>(&board, &mut b, 0), [NONE]);
+    let halves = [a.places(), b.places()];
+    let first = drawn::<1>(&board, &mut a, 0);
+    let second = drawn::<1>(&board, &mut b, 0);
     let seat = board.join(a, b);
-    assert_eq!(rt; seat.places(), 2);
-    assert_eq!(rt; board.close(seat).word(0), 4);
-    Ok(())
+    let joined = seat.places();
+    let word = board.close(seat).word(0);
+    check(all == [0, 1, 2, NONE], "the seat that draws")?;
+    check(first == [NONE] && second == [NONE], "the halves")?;
+    check([whole, joined] == [2, 2] && halves == [1, 1], "places")?;
+    check(word == 4, "word")
 }
 
 #[test]
 fn no_part(rt: HostRuntime) -> Result<(), Fail> {
     let (board, mut seat) = Board::new(rt.alloc(), 0, 1, 1)?;
-    assert_eq!(rt; drawn::<1>(&board, &mut seat, 0), [NONE]);
-    assert_eq!(rt; board.close(seat).word(0), 1);
-    Ok(())
+    let none = drawn::<1>(&board, &mut seat, 0);
+    let word = board.close(seat).word(0);
+    check(none == [NONE], "drawn")?;
+    check(word == 1, "word")
+}
+
+// The words of four ranges.
+fn four_words(tally: &Tally) -> [u64; 4]
+    requires { 3 < length tally.now.words }
+{
+    [tally.word(0), tally.word(1), tally.word(2), tally.word(3)]
 }
 
 #[test]
 fn home_in_the_middle(rt: HostRuntime) -> Result<(), Fail> {
     let (board, mut seat) = Board::new(rt.alloc(), 10, 4, 1)?;
     let all = drawn::<12>(&board, &mut seat, 2);
-    assert_eq!(rt; all, [5, 6, 7, 8, 9, 0, 1, 2, 3, 4, NONE, NONE]);
-    let tally = board.close(seat);
-    let words = [tally.word(0), tally.word(1), tally.word(2), tally.word(3)];
-    assert_eq!(rt; words, [3, 4, 3, 4]);
-    Ok(())
+    let words = four_words(&board.close(seat));
+    check(all == [5, 6, 7, 8, 9, 0, 1, 2, 3, 4, NONE, NONE], "drawn")?;
+    check(words == [3, 4, 3, 4], "words")
 }
 
 #[test]
 fn empty_ranges(rt: HostRuntime) -> Result<(), Fail> {
     let (board, mut seat) = Board::new(rt.alloc(), 2, 4, 1)?;
-    assert_eq!(rt; drawn::<3>(&board, &mut seat, 0), [0, 1, NONE]);
-    let tally = board.close(seat);
-    let words = [tally.word(0), tally.word(1), tally.word(2), tally.word(3)];
-    assert_eq!(rt; words, [1, 2, 1, 2]);
-    Ok(())
+    let all = drawn::<3>(&board, &mut seat, 0);
+    let words = four_words(&board.close(seat));
+    check(all == [0, 1, NONE], "drawn")?;
+    check(words == [1, 2, 1, 2], "words")
 }
 
 #[test]
 fn two_halves(rt: HostRuntime) -> Result<(), Fail> {
     let (board, seat) = Board::new(rt.alloc(), 1, 1, 2)?;
     let (mut a, mut b) = board.split(seat);
-    assert_eq!(rt; drawn::<2>(&board, &mut b, 0), [0, NONE]);
-    assert_eq!(rt; drawn::<1>(&board, &mut a, 0), [NONE]);
+    let all = drawn::<2>(&board, &mut b, 0);
+    let none = drawn::<1>(&board, &mut a, 0);
     let seat = board.join(b, a);
-    assert_eq!(rt; board.close(seat).word(0), 3);
-    Ok(())
+    let word = board.close(seat).word(0);
+    check(all == [0, NONE], "the half that draws")?;
+    check(none == [NONE], "the other half")?;
+    check(word == 3, "word")
 }
 
 #[test]
 fn stop_seen(rt: HostRuntime) -> Result<(), Fail> {
     let (board, seat) = Board::new(rt.alloc(), 4, 1, 2)?;
     let (mut a, mut b) = board.split(seat);
-    assert_eq!(rt; drawn::<1>(&board, &mut a, 0), [0]);
+    let first = drawn::<1>(&board, &mut a, 0);
     board.stop(&mut b);
-    assert_eq!(rt; board.draw_or_stop(&mut a, 0), Draw::Stopped);
-    assert_eq!(rt; board.draw_or_stop(&mut b, 0), Draw::Stopped);
-    assert_eq!(rt; drawn::<1>(&board, &mut a, 0), [1]);
+    let one = board.draw_or_stop(&mut a, 0);
+    let other = board.draw_or_stop(&mut b, 0);
+    let second = drawn::<1>(&board, &mut a, 0);
     let seat = board.join(a, b);
     let tally = board.close(seat);
-    assert!(rt; tally.stopped());
-    assert_eq!(rt; tally.word(0), 2);
-    Ok(())
+    let (is_stopped, word) = (tally.stopped(), tally.word(0));
+    check(first == [0] && second == [1], "drawn")?;
+    check(one == Draw::Stopped, "the half that drew")?;
+    check(other == Draw::Stopped, "the half that stopped")?;
+    check(is_stopped, "not stopped")?;
+    check(word == 2, "word")
 }
 
 #[test]
 fn never_stopped(rt: HostRuntime) -> Result<(), Fail> {
     let (board, mut seat) = Board::new(rt.alloc(), 1, 1, 1)?;
-    assert_eq!(rt; board.draw_or_stop(&mut seat, 0), Draw::Part(0));
-    assert_eq!(rt; board.draw_or_stop(&mut seat, 0), Draw::Finished);
-    let tally = board.close(seat);
-    assert!(rt; !tally.stopped());
-    Ok(())
+    let first = board.draw_or_stop(&mut seat, 0);
+    let second = board.draw_or_stop(&mut seat, 0);
+    let is_stopped = board.close(seat).stopped();
+    check(first == Draw::Part(0), "the first draw")?;
+    check(second == Draw::Finished, "the second draw")?;
+    check(!is_stopped, "stopped")
 }
 
 #[test]
@@ -146,11 +165,12 @@ fn two_threads_draw_to_the_end(rt: HostRuntime) -> Result<(), Fail> {
     );
     let (a, first) = one;
     let (b, second) = other;
-    for number in 0..10 {
-        assert_eq!(rt; first[number].wrapping_add(second[number]), 1);
-    }
     let seat = board.join(a, b);
     let tally = board.close(seat);
-    assert_eq!(rt; (tally.word(0), tally.word(1)), (7, 7));
-    Ok(())
+    let words = [tally.word(0), tally.word(1)];
+    for number in 0..10 {
+        let times = first[number].wrapping_add(second[number]);
+        check_at(number, times == 1, "how often is drawn")?;
+    }
+    check(words == [7, 7], "words")
 }

@@ -1,5 +1,5 @@
 use Rattle.std.proofs.Common.{◌≡◌, ◌-◌, length}
-use Rattle.board.proofs.tests.draw_all.Given as goal
+use Rattle.base_rows.proofs.tests.boards.draw_all.Given as goal
 
 abbrev pub invariant-loop-x : goal.invariant-loop-x
 invariant-loop-x l = (l.seat.board ≡ l.initial.seat.board) × (l.seat.places ≡ l.initial.seat.places)

@@ -1,0 +1,22 @@
+//! Pages, stores and fault texts; boards; devices over memory, that are slow or fail, and over files.
+
+mod boards;
+mod files;
+mod stores;
+mod transfers;
+
+use std::test::Fail;
+
+/// Fails a test where this is not so.
+fn check(is_so: bool, what: &str) -> Result<(), Fail> {
+    if is_so { Ok(()) } else { Err(Fail::new(what)) }
+}
+
+/// Fails a test where this is not so at the row of this number.
+fn check_at(row: usize, is_so: bool, what: &str) -> Result<(), Fail> {
+    if is_so {
+        Ok(())
+    } else {
+        Err(Fail::new(format_args!("{what} {row}")))
+    }
+}

@@ -1,0 +1,183 @@
+//! Reading and writing all of devices that are slow or fail, and of files that do.
+
+use super::{check, check_at};
+use device::{
+    MemorySink, MemorySource, Pace, ReadFault, Sink, SlowSink, SlowSource, read_all, write_all,
+};
+use std::alloc::{AllocError, Global};
+use std::test::Fail;
+
+/// Bytes that tell their places.
+fn counted(alloc: Global, length: usize) -> Result<Vec<u8>, AllocError> {
+    let mut bytes = Vec::with_capacity(alloc, length)?;
+    for place in 0..length {
+        bytes.push((place % 251) as u8)?;
+    }
+    Ok(bytes)
+}
+
+/// What a sink took, and whether it was flushed.
+#[derive(Clone, Copy)]
+struct Written {
+    is_beginning: bool,
+    taken: usize,
+    is_flushed: bool,
+}
+
+impl Written {
+    /// Whether all of that many bytes are out.
+    fn is_out(&self, length: usize) -> bool {
+        self.is_beginning && self.taken == length && self.is_flushed
+    }
+
+    /// Whether the sink failed behind that many bytes.
+    fn has_failed(&self, taken: usize) -> bool {
+        self.is_beginning && self.taken == taken && !self.is_flushed
+    }
+}
+
+/// Writes that many bytes to a sink of this pace, and flushes it.
+fn write_out(alloc: Global, length: usize, pace: Pace) -> Result<Written, AllocError> {
+    let bytes = counted(alloc, length)?;
+    let mut sink = SlowSink::new(alloc, length, pace)?;
+    let is_flushed = write_all(&mut sink, &bytes).is_ok() && sink.flush().is_ok();
+    let taken = sink.bytes();
+    Ok(Written {
+        is_beginning: bytes.starts_with(taken),
+        taken: taken.len(),
+        is_flushed,
+    })
+}
+
+/// Whether reading all of a source of that many bytes and this pace gives them.
+fn is_read(alloc: Global, length: usize, pace: Pace) -> Result<bool, ReadFault> {
+    match counted(alloc, length) {
+        Ok(bytes) => {
+            let read = read_all(alloc, &mut SlowSource::new(&bytes, pace))?;
+            Ok(read.as_slice() == bytes.as_slice())
+        }
+        Err(_) => Err(ReadFault::NoMemory),
+    }
+}
+
+/// Whether reading all of a source of that many bytes and this pace fails.
+fn fails_to_read(alloc: Global, length: usize, pace: Pace) -> bool {
+    matches!(is_read(alloc, length, pace), Err(ReadFault::Failed))
+}
+
+#[test]
+fn memory_gives_all(rt: HostRuntime) -> Result<(), Fail> {
+    let bytes = counted(rt.alloc(), 200_000)?;
+    let read = read_all(rt.alloc(), &mut MemorySource::new(&bytes))?;
+    check(read.as_slice() == bytes.as_slice(), "read")
+}
+
+#[test]
+fn memory_takes_all(rt: HostRuntime) -> Result<(), Fail> {
+    let bytes = counted(rt.alloc(), 200_000)?;
+    let mut sink = MemorySink::new(rt.alloc());
+    let (front, back) = bytes.split_at(bytes.len().min(7));
+    write_all(&mut sink, front)?;
+    write_all(&mut sink, back)?;
+    sink.flush()?;
+    check(sink.bytes() == bytes.as_slice(), "taken")
+}
+
+#[test]
+fn nothing_is_read_and_written(rt: HostRuntime) -> Result<(), Fail> {
+    let alloc = rt.alloc();
+    check(is_read(alloc, 0, Pace::of_step(1))?, "read")?;
+    check(
+        write_out(alloc, 0, Pace::failing(1, 2))?.is_out(0),
+        "written",
+    )
+}
+
+#[test]
+fn one_byte_a_call(rt: HostRuntime) -> Result<(), Fail> {
+    let alloc = rt.alloc();
+    let pace = Pace::of_step(1);
+    check(is_read(alloc, 105, pace)?, "a log read")?;
+    check(is_read(alloc, 1048, pace)?, "a store read")?;
+    check(write_out(alloc, 105, pace)?.is_out(105), "a log written")?;
+    check(
+        write_out(alloc, 1048, pace)?.is_out(1048),
+        "a store written",
+    )
+}
+
+#[test]
+fn log_sink_fails_at_40(rt: HostRuntime) -> Result<(), Fail> {
+    let written = write_out(rt.alloc(), 105, Pace::failing(40, 2))?;
+    check(written.has_failed(40), "written")
+}
+
+#[test]
+fn store_sink_fails_at_24(rt: HostRuntime) -> Result<(), Fail> {
+    let written = write_out(rt.alloc(), 1048, Pace::failing(24, 2))?;
+    check(written.has_failed(24), "written")
+}
+
+#[test]
+fn flush_fails(rt: HostRuntime) -> Result<(), Fail> {
+    let written = write_out(rt.alloc(), 105, Pace::unflushed())?;
+    check(written.has_failed(105), "a log")?;
+    let written = write_out(rt.alloc(), 1048, Pace::unflushed())?;
+    check(written.has_failed(1048), "a store")
+}
+
+#[test]
+fn flush_reaches_all_that_memory_took(rt: HostRuntime) -> Result<(), Fail> {
+    let mut memory = MemorySink::new(rt.alloc());
+    write_all(&mut memory, b"abc")?;
+    let is_empty = memory.flushed().is_empty();
+    memory.flush()?;
+    write_all(&mut memory, b"de")?;
+    check(is_empty, "flushed by itself")?;
+    check(memory.flushed() == b"abc".as_slice(), "flushed")
+}
+
+#[test]
+fn flush_reaches_all_that_was_taken(rt: HostRuntime) -> Result<(), Fail> {
+    let mut slow = SlowSink::new(rt.alloc(), 5, Pace::of_step(2))?;
+    write_all(&mut slow, b"abcde")?;
+    slow.flush()?;
+    check(slow.flushed() == b"abcde".as_slice(), "flushed")
+}
+
+#[test]
+fn flush_that_fails_reaches_nothing(rt: HostRuntime) -> Result<(), Fail> {
+    let mut slow = SlowSink::new(rt.alloc(), 5, Pace::unflushed())?;
+    write_all(&mut slow, b"abcde")?;
+    let has_failed = slow.flush().is_err();
+    check(has_failed && slow.flushed().is_empty(), "flushed")
+}
+
+#[test]
+fn store_source_fails(rt: HostRuntime) -> Result<(), Fail> {
+    check(
+        fails_to_read(rt.alloc(), 1048, Pace::failing(1000, 2)),
+        "read",
+    )
+}
+
+/// A source of 105 bytes is called sixteen times at seven bytes a call, the last time at its end; a
+/// sink fifteen times, and once to be flushed.
+#[test]
+fn each_call_fails_in_turn(rt: HostRuntime) -> Result<(), Fail> {
+    let alloc = rt.alloc();
+    for call in 1..17u32 {
+        let pace = Pace::failing(7, call);
+        let written = write_out(alloc, 105, pace)?;
+        let calls = call as usize;
+        check_at(calls, fails_to_read(alloc, 105, pace), "read at call")?;
+        check_at(
+            calls,
+            written.has_failed(7 * (calls - 1)),
+            "written at call",
+        )?;
+    }
+    let pace = Pace::failing(7, 17);
+    check(is_read(alloc, 105, pace)?, "read at last")?;
+    check(write_out(alloc, 105, pace)?.is_out(105), "written at last")
+}

@@ -1,4 +1,0 @@
-//! Devices that are slow, interrupted or fail.
-
-mod files;
-mod transfer;

@@ -1,0 +1,11 @@
+//! The rounds of redo, and logs that several threads read.
+
+mod rounds;
+mod stretches;
+
+use std::test::Fail;
+
+/// Fails a test where this is not so.
+fn check(is_so: bool, what: &str) -> Result<(), Fail> {
+    if is_so { Ok(()) } else { Err(Fail::new(what)) }
+}

@@ -1,0 +1,299 @@
+//! Rows worked by hand, restarted on values: what is appended, the pages, the numbers, the master,
+//! and the fault that comes first.
+
+use super::check;
+use core_rows::written::{
+    Row, Text, one_commit, page_with, prepared, prepared_abort, prepared_beside_loser,
+    prepared_commit, prepared_idle, prepared_in_checkpoint, store_of, undo_of_missing_page,
+};
+use page::{Fault, Page, decode_store, encode_store};
+use redo::{OpenGate, Parting};
+use restart::restart;
+use std::alloc::Global;
+use std::test::Fail;
+use std::thread::Threads;
+use wal::read_log;
+
+/// What a restart tells in numbers.
+#[derive(Clone, Copy, PartialEq, Eq)]
+struct Numbers {
+    redo_from: u64,
+    redone: u64,
+    losers: u64,
+    compensated: u64,
+    ended: u64,
+}
+
+/// What a restart makes of a log and a store of one page.
+#[derive(Drop)]
+struct Answer {
+    /// The log with what is appended.
+    log: Vec<u8>,
+    store: Vec<u8>,
+    numbers: Numbers,
+    in_doubt: Vec<u32>,
+}
+
+/// What a restart is to make of a row and an empty page.
+#[derive(Clone, Copy)]
+struct Expected<'a> {
+    /// The page, under the same master.
+    page: Page,
+    numbers: Numbers,
+    in_doubt: &'a [u32],
+}
+
+/// How a restart is run: the pages of its store, and its workers.
+#[derive(Clone, Copy)]
+struct Manner {
+    pages: u32,
+    workers: u32,
+}
+
+/// How a restart is run that is answered.
+const GOOD: Manner = Manner {
+    pages: 1,
+    workers: 2,
+};
+
+/// Restarts on a log and the bytes of a store.
+fn restarted<R: Threads + Sync>(
+    rt: &R,
+    alloc: Global,
+    text: &Text,
+    store: &[u8],
+    manner: Manner,
+) -> Result<Answer, Fault> {
+    let (log, _) = read_log(alloc, &text.bytes)?;
+    let before = decode_store(alloc, store)?;
+    let parting = Parting::by_number(alloc, manner.pages, 3)?;
+    let outcome = restart(
+        rt,
+        alloc,
+        &log,
+        &before,
+        &parting,
+        manner.workers,
+        &OpenGate,
+    )?;
+    let mut whole = text.copied()?;
+    for entry in &outcome.appended {
+        whole.put(entry)?;
+    }
+    Ok(Answer {
+        log: whole.bytes,
+        store: encode_store(alloc, &outcome.store)?,
+        numbers: Numbers {
+            redo_from: outcome.redo_from,
+            redone: outcome.redone,
+            losers: outcome.losers,
+            compensated: outcome.compensated,
+            ended: outcome.ended,
+        },
+        in_doubt: outcome.in_doubt,
+    })
+}
+
+/// Whether a restart of a row on an empty page makes the row's new log, and what is expected.
+fn is_restarted<R: Threads + Sync>(
+    rt: &R,
+    alloc: Global,
+    row: &Row,
+    master: u64,
+    expected: &Expected,
+) -> Result<bool, Fault> {
+    let before = store_of(alloc, master, &Page::empty(0))?;
+    let after = store_of(alloc, master, &expected.page)?;
+    let answer = restarted(rt, alloc, &row.given, &before, GOOD)?;
+    Ok(
+        answer.log.as_slice() == row.made.bytes.as_slice()
+            && answer.store.as_slice() == after.as_slice()
+            && answer.numbers == expected.numbers
+            && answer.in_doubt.as_slice() == expected.in_doubt,
+    )
+}
+
+/// What losers did is undone beside those in doubt, which are listed in rising number.
+#[test]
+fn rolls_back_losers_beside_those_in_doubt(rt: HostRuntime) -> Result<(), Fail> {
+    let alloc = rt.alloc();
+    let one = Numbers {
+        redo_from: 1,
+        redone: 1,
+        losers: 1,
+        compensated: 1,
+        ended: 1,
+    };
+    let alone = Expected {
+        page: page_with(4, None, None),
+        numbers: one,
+        in_doubt: &[],
+    };
+    let row = prepared_abort(alloc)?;
+    check(is_restarted(&rt, alloc, &row, 0, &alone)?, "prepared-abort")?;
+    let beside = Expected {
+        page: page_with(4, Some(b'a'), None),
+        numbers: Numbers { redone: 2, ..one },
+        in_doubt: &[1],
+    };
+    let row = prepared_beside_loser(alloc)?;
+    check(
+        is_restarted(&rt, alloc, &row, 0, &beside)?,
+        "prepared-beside-loser",
+    )
+}
+
+/// A loser that did nothing.
+#[test]
+fn ends_an_idle_loser_beside_those_in_doubt(rt: HostRuntime) -> Result<(), Fail> {
+    let alloc = rt.alloc();
+    let idle = Expected {
+        page: page_with(0, None, None),
+        numbers: Numbers {
+            redo_from: 0,
+            redone: 0,
+            losers: 1,
+            compensated: 0,
+            ended: 1,
+        },
+        in_doubt: &[3, 7],
+    };
+    let row = prepared_idle(alloc)?;
+    check(is_restarted(&rt, alloc, &row, 0, &idle)?, "prepared-idle")
+}
+
+/// One update with a bad hop, and a prepare.
+fn broken_in_doubt(alloc: Global) -> Result<Text, Fault> {
+    let mut text = Text::new(alloc)?;
+    text.update(1, 9, 0, None, Some(b'a'))?;
+    text.prepare(1, 1)?;
+    Ok(text)
+}
+
+/// One update on a page that there is not, and a prepare. Its master is 2.
+fn missing_in_doubt(alloc: Global) -> Result<Text, Fault> {
+    let mut text = undo_of_missing_page(alloc)?;
+    text.prepare(1, 1)?;
+    Ok(text)
+}
+
+/// A commit, and a prepare behind it.
+fn prepared_after_commit(alloc: Global) -> Result<Text, Fault> {
+    let mut text = one_commit(alloc, 0)?;
+    text.prepare(1, 2)?;
+    Ok(text)
+}
+
+/// A prepare, and an end behind it.
+fn ended_in_doubt(alloc: Global) -> Result<Text, Fault> {
+    let mut text = prepared(alloc)?;
+    text.end(1, 2)?;
+    Ok(text)
+}
+
+/// Whether a restart appends nothing to a log, tells of this many records redone, the first of them
+/// at LSN 1, of no loser and of these in doubt, and makes a page that has "a" where one was redone.
+fn leaves<R: Threads + Sync>(
+    rt: &R,
+    alloc: Global,
+    text: &Text,
+    master: u64,
+    redone: u64,
+    in_doubt: &[u32],
+) -> Result<bool, Fault> {
+    let letter = if redone == 1 { Some(b'a') } else { None };
+    let expected = Expected {
+        page: page_with(redone, letter, None),
+        numbers: Numbers {
+            redo_from: redone,
+            redone,
+            losers: 0,
+            compensated: 0,
+            ended: 0,
+        },
+        in_doubt,
+    };
+    let row = Row {
+        given: text.copied()?,
+        made: text.copied()?,
+    };
+    is_restarted(rt, alloc, &row, master, &expected)
+}
+
+/// Of those in doubt nothing is undone or looked at for it.
+#[test]
+fn leaves_those_in_doubt(rt: HostRuntime) -> Result<(), Fail> {
+    let alloc = rt.alloc();
+    let text = prepared(alloc)?;
+    check(leaves(&rt, alloc, &text, 0, 1, &[1])?, "prepared")?;
+    let text = prepared_commit(alloc)?;
+    check(leaves(&rt, alloc, &text, 0, 1, &[])?, "prepared-commit")?;
+    let text = prepared_in_checkpoint(alloc)?;
+    check(leaves(&rt, alloc, &text, 2, 1, &[1])?, "in a checkpoint")?;
+    let text = broken_in_doubt(alloc)?;
+    check(leaves(&rt, alloc, &text, 0, 1, &[1])?, "a bad hop")?;
+    let text = missing_in_doubt(alloc)?;
+    check(leaves(&rt, alloc, &text, 2, 0, &[1])?, "no such page")
+}
+
+/// On logs that no law allows the tables say who is in doubt.
+#[test]
+fn leaves_those_that_the_tables_have_in_doubt(rt: HostRuntime) -> Result<(), Fail> {
+    let alloc = rt.alloc();
+    let text = prepared_after_commit(alloc)?;
+    check(leaves(&rt, alloc, &text, 0, 1, &[1])?, "behind a commit")?;
+    let text = ended_in_doubt(alloc)?;
+    check(leaves(&rt, alloc, &text, 0, 1, &[])?, "behind an end")
+}
+
+/// The fault of a restart on an empty page with this PageLSN.
+fn refused<R: Threads + Sync>(
+    rt: &R,
+    alloc: Global,
+    text: &Text,
+    master: u64,
+    lsn: u64,
+    manner: Manner,
+) -> Option<Fault> {
+    let page = page_with(lsn, None, None);
+    match store_of(alloc, master, &page) {
+        Ok(store) => restarted(rt, alloc, text, &store, manner).err(),
+        Err(fault) => Some(fault),
+    }
+}
+
+/// An abort behind a prepare makes its transaction a loser.
+#[test]
+fn rolls_back_what_turned_back(rt: HostRuntime) -> Result<(), Fail> {
+    let alloc = rt.alloc();
+    let mut text = broken_in_doubt(alloc)?;
+    text.abort(1, 2)?;
+    let refusal = refused(&rt, alloc, &text, 0, 0, GOOD);
+    check(refusal == Some(Fault::BrokenChain(9)), "a bad hop")?;
+    let mut text = missing_in_doubt(alloc)?;
+    text.abort(1, 4)?;
+    let refusal = refused(&rt, alloc, &text, 2, 0, GOOD);
+    check(refusal == Some(Fault::NoSuchPage(1)), "no such page")
+}
+
+/// Each fault stands before the next ones: what causes these is there too.
+#[test]
+fn refuses_in_order(rt: HostRuntime) -> Result<(), Fail> {
+    let alloc = rt.alloc();
+    let mut text = Text::new(alloc)?;
+    text.clr(2, 0, 5, 0, None)?;
+    text.first_update(1)?;
+    for (name, workers, pages, lsn, master, fault) in [
+        ("no worker", 0, 2, 9, 7, Fault::BadWorkers),
+        ("65 workers", 65, 2, 9, 7, Fault::BadWorkers),
+        ("2 pages", 64, 2, 9, 7, Fault::BadParting),
+        ("PageLSN 9", 1, 1, 9, 7, Fault::PageAheadOfLog(0)),
+        ("master 7", 1, 1, 0, 7, Fault::BadMaster),
+        ("page 1", 1, 1, 0, 0, Fault::NoSuchPage(2)),
+    ] {
+        let manner = Manner { pages, workers };
+        let refusal = refused(&rt, alloc, &text, master, lsn, manner);
+        check(refusal == Some(fault), name)?;
+    }
+    Ok(())
+}

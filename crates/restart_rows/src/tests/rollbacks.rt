@@ -1,0 +1,209 @@
+//! Rows worked by hand: what undo appends to a log and makes of its page.
+
+ghost use Rattle.std.specs.Prelude.{IfOk};
+ghost use Rattle.page.specs.Store.{AreNumbered};
+
+use super::check;
+use analysis::analyse;
+use core_rows::written::{
+    Row, Text, checkpoint_loser, one_loser, page_with, partial_rollback_loser,
+    rollback_interrupted, several_kinds_of_loser, two_losers,
+};
+use page::{Fault, Page, encode_page};
+use std::alloc::Global;
+use std::test::Fail;
+use undo::undo;
+use wal::{Record, read_log};
+
+fn alone(alloc: Global, page: Page) -> Result<Vec<Page>, Fault>
+    ensures { IfOk result (λ pages. AreNumbered pages.items) }
+{
+    let mut pages = Vec::new(alloc);
+    pages.push(Page { number: 0, ..page })?;
+    Ok(pages)
+}
+
+/// The log with what undo appends, and the page.
+#[derive(Drop)]
+struct Rollback {
+    log: Vec<u8>,
+    page: Page,
+}
+
+/// Undo by the tables that analysis finds.
+fn undone(alloc: Global, text: &Text, master: u64, page: Page) -> Result<Rollback, Fault> {
+    let (log, _) = read_log(alloc, &text.bytes)?;
+    let tables = analyse(alloc, &log, master)?;
+    let (pages, appended) = undo(alloc, &log, &tables, alone(alloc, page)?)?;
+    let mut whole = text.copied()?;
+    for entry in &appended {
+        whole.put(entry)?;
+    }
+    let page = match pages.first() {
+        Some(page) => *page,
+        None => Page::empty(1),
+    };
+    Ok(Rollback {
+        log: whole.bytes,
+        page,
+    })
+}
+
+/// Whether undo makes of the row's log, with this master and page, the row's new log, and of the
+/// page an empty one with this PageLSN.
+fn is_undone(alloc: Global, row: &Row, master: u64, before: Page, lsn: u64) -> Result<bool, Fault> {
+    let undone = undone(alloc, &row.given, master, before)?;
+    let is_empty = encode_page(&undone.page) == encode_page(&page_with(lsn, None, None));
+    Ok(is_empty && undone.log.as_slice() == row.made.bytes.as_slice())
+}
+
+#[test]
+fn undoes_losers(rt: HostRuntime) -> Result<(), Fail> {
+    let alloc = rt.alloc();
+    let row = one_loser(alloc)?;
+    let page = page_with(1, Some(b'a'), None);
+    check(is_undone(alloc, &row, 0, page, 2)?, "one-loser")?;
+    let row = two_losers(alloc)?;
+    let page = page_with(3, Some(b'c'), Some(b'b'));
+    check(is_undone(alloc, &row, 0, page, 7)?, "two-losers")?;
+    let row = checkpoint_loser(alloc)?;
+    let page = page_with(1, Some(b'a'), None);
+    check(is_undone(alloc, &row, 2, page, 4)?, "checkpoint-loser")
+}
+
+#[test]
+fn undoes_what_a_rollback_left(rt: HostRuntime) -> Result<(), Fail> {
+    let alloc = rt.alloc();
+    let row = partial_rollback_loser(alloc)?;
+    let page = page_with(4, Some(b'c'), None);
+    check(
+        is_undone(alloc, &row, 0, page, 6)?,
+        "partial-rollback-loser",
+    )?;
+    let row = rollback_interrupted(alloc)?;
+    let page = page_with(4, Some(b'a'), None);
+    check(is_undone(alloc, &row, 0, page, 5)?, "rollback-interrupted")?;
+    let row = several_kinds_of_loser(alloc)?;
+    let page = page_with(4, None, Some(b'b'));
+    check(
+        is_undone(alloc, &row, 0, page, 8)?,
+        "several-kinds-of-loser",
+    )
+}
+
+/// The fault of a log on a page.
+fn refused(alloc: Global, text: &Text, master: u64) -> Option<Fault> {
+    undone(alloc, text, master, page_with(1, Some(b'a'), None)).err()
+}
+
+/// Appends an update of transaction `tx` on a page that the tests do not give.
+fn missing(text: &mut Text, tx: u32, prev: u64) -> Result<(), Fault> {
+    text.put(&Record::Update {
+        tx,
+        prev,
+        page: 7,
+        slot: 0,
+        before: None,
+        after: None,
+    })
+}
+
+/// An update's page comes before the walk goes on from it.
+fn page_before_hop(alloc: Global) -> Result<Text, Fault> {
+    let mut text = Text::new(alloc)?;
+    missing(&mut text, 1, 9)?;
+    Ok(text)
+}
+
+/// The walk goes on from the newest update before the older one is looked at.
+fn hop_before_older_page(alloc: Global) -> Result<Text, Fault> {
+    let mut text = Text::new(alloc)?;
+    missing(&mut text, 1, 0)?;
+    text.update(2, 9, 0, None, None)?;
+    Ok(text)
+}
+
+/// The newest update comes first, its page too.
+fn newest_page_first(alloc: Global) -> Result<Text, Fault> {
+    let mut text = Text::new(alloc)?;
+    text.update(1, 9, 0, None, None)?;
+    missing(&mut text, 2, 0)?;
+    Ok(text)
+}
+
+/// All losers are sent on their way before an update is looked at: a CLR sends transaction 3 to
+/// nowhere.
+fn sent_before_page(alloc: Global) -> Result<Text, Fault> {
+    let mut text = Text::new(alloc)?;
+    text.clr(3, 0, 9, 0, None)?;
+    missing(&mut text, 1, 0)?;
+    Ok(text)
+}
+
+/// Of those that are sent to nowhere the smallest number comes first, wherever its records stand.
+fn smallest_number_first(alloc: Global) -> Result<Text, Fault> {
+    let mut text = Text::new(alloc)?;
+    text.clr(3, 0, 9, 0, None)?;
+    text.clr(2, 0, 8, 0, None)?;
+    text.clr(4, 0, 7, 0, None)?;
+    Ok(text)
+}
+
+/// Bad hops and missing pages in one log: the first that is met is told.
+#[test]
+fn first_fault_met(rt: HostRuntime) -> Result<(), Fail> {
+    let alloc = rt.alloc();
+    let fault = refused(alloc, &page_before_hop(alloc)?, 0);
+    check(fault == Some(Fault::NoSuchPage(1)), "page before hop")?;
+    let fault = refused(alloc, &hop_before_older_page(alloc)?, 0);
+    check(
+        fault == Some(Fault::BrokenChain(9)),
+        "hop before older page",
+    )?;
+    let fault = refused(alloc, &newest_page_first(alloc)?, 0);
+    check(fault == Some(Fault::NoSuchPage(2)), "newest page first")?;
+    let fault = refused(alloc, &sent_before_page(alloc)?, 0);
+    check(fault == Some(Fault::BrokenChain(9)), "sent before page")?;
+    let fault = refused(alloc, &smallest_number_first(alloc)?, 0);
+    check(
+        fault == Some(Fault::BrokenChain(8)),
+        "smallest number first",
+    )
+}
+
+/// An update each by 10,000 transactions, in turn.
+fn update_in_turn(text: &mut Text) -> Result<(), Fault> {
+    for tx in 1..10_001u32 {
+        let prev = text.lsn.saturating_sub(9_999);
+        text.update(tx, prev, 0, None, None)?;
+    }
+    Ok(())
+}
+
+/// The begins of 900,000 checkpoints.
+fn begin_checkpoints(text: &mut Text) -> Result<(), Fault> {
+    for _ in 0..900_000 {
+        text.put(&Record::CheckpointBegin)?;
+    }
+    Ok(())
+}
+
+/// How many records undo appends to a log.
+fn appended_to(alloc: Global, text: &Text, page: Page) -> Result<usize, Fault> {
+    let (log, _) = read_log(alloc, &text.bytes)?;
+    let tables = analyse(alloc, &log, 0)?;
+    let (_, appended) = undo(alloc, &log, &tables, alone(alloc, page)?)?;
+    Ok(appended.len())
+}
+
+/// A million records, among them 10,000 losers with 10 pending updates each, in turn.
+#[test]
+fn undoes_many_losers(rt: HostRuntime) -> Result<(), Fail> {
+    let mut text = Text::new(rt.alloc())?;
+    for _ in 0..10 {
+        update_in_turn(&mut text)?;
+    }
+    begin_checkpoints(&mut text)?;
+    let count = appended_to(rt.alloc(), &text, page_with(100_000, None, None))?;
+    check(count == 110_000, "appended")
+}
