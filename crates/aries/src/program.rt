@@ -2,8 +2,7 @@
 
 use crate::files::{NewFiles, OldFiles, audit_files, recover_files};
 use crate::verbose::{tell_audit, tell_recovery, tell_why};
-use command::{Job, Refusal, Task, command_of};
-use page::Fault;
+use command::{Job, Task, command_of};
 use recovery::{Report, report_text};
 use restart::Options;
 use std::alloc::Global;
@@ -11,30 +10,13 @@ use std::io::{self, Write};
 use std::rt::{Clock, Files};
 use std::thread::Threads;
 use std::time::Instant;
+use words::refuse;
 
 /// Prints a report.
 fn print_report<O: Write>(alloc: Global, report: &Report, out: &mut O) -> io::Result<()> {
     let text = report_text(alloc, report).map_err(|_| io::Error::from(io::ErrorKind::OutOfMemory))?;
     out.write_all(&text)?;
     out.flush()
-}
-
-/// Prints the line of a fault, and gives its status.
-fn refuse<E: Write>(fault: Fault, err: &mut E) -> u8 {
-    let number = fault.number();
-    let _ = writeln!(err, "fault {number}: {fault}");
-    1
-}
-
-/// Prints what clap says of a line, and gives the status: 2 for a mistake, 0 where help or the
-/// version was asked for, 1 where the print failed.
-fn explain<O: Write, E: Write>(error: clap::Error, out: &mut O, err: &mut E) -> u8 {
-    let (printed, status) = if error.use_stderr() {
-        (write!(err, "{error}"), 2)
-    } else {
-        (write!(out, "{error}"), 0)
-    };
-    if printed.is_ok() { status } else { 1 }
 }
 
 /// The status of what was printed; where it is to be verbose, says why it was not.
@@ -147,7 +129,6 @@ pub fn run<R: Files + Clock + Threads + Sync, O: Write, E: Write>(
 ) -> u8 {
     match command_of(alloc, words) {
         Ok(job) => run_job(rt, alloc, &job, out, err),
-        Err(Refusal::Line(error)) => explain(error, out, err),
-        Err(Refusal::Memory) => refuse(Fault::NoResource, err),
+        Err(refusal) => refusal.explain(out, err),
     }
 }

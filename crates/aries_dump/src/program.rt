@@ -8,7 +8,7 @@ use std::alloc::Global;
 use std::fs::File;
 use std::io::{self, BufWriter, ErrorKind, Write};
 use std::rt::Files;
-use words::Refusal;
+use words::refuse;
 
 /// How many bytes of lines are held back before they are printed.
 const HELD_BACK: usize = 65_536;
@@ -67,18 +67,6 @@ fn list<R: Files, O: Write>(rt: &R, alloc: Global, job: &Job, out: &mut O) -> Re
     }
 }
 
-/// Prints the line of a fault, and gives its status.
-fn refuse<E: Write>(fault: Fault, err: &mut E) -> u8 {
-    let number = fault.number();
-    let _ = writeln!(err, "fault {number}: {fault}");
-    1
-}
-
-/// Prints that memory was refused, and gives the status.
-pub fn refuse_memory<E: Write>(err: &mut E) -> u8 {
-    refuse(Fault::NoResource, err)
-}
-
 /// Does the job. What was listed in front of a fault is printed before the fault is.
 fn run_job<R: Files, O: Write, E: Write>(
     rt: &R,
@@ -88,7 +76,7 @@ fn run_job<R: Files, O: Write, E: Write>(
     err: &mut E,
 ) -> u8 {
     let Ok(mut held) = BufWriter::with_capacity(alloc, HELD_BACK, out) else {
-        return refuse_memory(err);
+        return refuse(Fault::NoResource, err);
     };
     let listed = list(rt, alloc, job, &mut held);
     let flushed = held.flush();
@@ -97,17 +85,6 @@ fn run_job<R: Files, O: Write, E: Write>(
         Ok(()) | Err(Stop::Print(_)) => 1,
         Err(Stop::Fault(fault)) => refuse(fault, err),
     }
-}
-
-/// Prints what clap says of a line, and gives the status: 2 for a mistake, 0 where help or the
-/// version was asked for, 1 where the print failed.
-fn explain<O: Write, E: Write>(error: clap::Error, out: &mut O, err: &mut E) -> u8 {
-    let (printed, status) = if error.use_stderr() {
-        (write!(err, "{error}"), 2)
-    } else {
-        (write!(out, "{error}"), 0)
-    };
-    if printed.is_ok() { status } else { 1 }
 }
 
 /// Runs the program: `words` are its words, the first of which is its name; `out` stands for standard
@@ -123,7 +100,6 @@ pub fn run<R: Files, O: Write, E: Write>(
 ) -> u8 {
     match dump_of(alloc, words) {
         Ok(job) => run_job(rt, alloc, &job, out, err),
-        Err(Refusal::Line(error)) => explain(error, out, err),
-        Err(Refusal::Memory) => refuse_memory(err),
+        Err(refusal) => refusal.explain(out, err),
     }
 }

@@ -33,7 +33,7 @@ pub(crate) const RECOVER: &str = "Example:\n  \
     1  refused: `fault N: text` on standard error; without that line only the report is not printed\n  \
     2  a wrong command line\n\
     \n\
-    The old files are never changed. A refused run may leave new ones, empty or a beginning: remove\n\
+    The old files are never changed. A refused run may leave new ones, empty, in part or whole: remove\n\
     them, and run it again. Fault 4 or 5 at once mostly says that such a file stands there still.";
 
 /// The command `audit`.

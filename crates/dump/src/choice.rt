@@ -31,16 +31,6 @@ pub fn meets(asked: Option<u32>, number: Option<u32>) -> bool
 }
 
 impl Choice {
-    /// Every record.
-    pub fn all() -> Choice {
-        Choice {
-            from: 0,
-            to: u64::MAX,
-            transaction: None,
-            page: None,
-        }
-    }
-
     /// Whether it asks for a record with this LSN.
     pub fn asks_for(&self, lsn: u64, view: &RecordView) -> bool
         ensures { result ≡ is_asked_for self.now lsn (shown view.now) }

@@ -1,8 +1,13 @@
-//! What the command lines of the programs have in common: why a line is not taken, and flags.
+//! What the command lines of the programs have in common: the words that were given, why a line is
+//! not taken, flags, and how a run ends that is refused.
 #![tactic(auto)]
 
+mod fault;
 mod flag;
+mod given;
 mod refusal;
 
+pub use fault::refuse;
 pub use flag::{flag_of, flag_option};
+pub use given::{NoWords, slices_of, words_of};
 pub use refusal::{Refusal, no_command};

@@ -3,11 +3,15 @@
 ghost use Rattle.std.specs.Prelude.{◌≡◌};
 ghost use Rattle.clap.specs.Words.{kind_of};
 ghost use Rattle.clap.specs.declared.error.kind.ErrorKind.TheVariants.{OutOfMemory};
+ghost use Rattle.words.specs.Statuses.{IsLineStatus, IsStatusOf};
 ghost use Rattle.words.specs.declared.refusal.Refusal.TheVariants.{Memory};
 
+use crate::refuse;
 use clap::Command;
 use clap::error::ErrorKind;
+use page::Fault;
 use std::alloc::AllocError;
+use std::io::Write;
 
 /// Why a command line was not taken.
 #[derive(Debug, Drop)]
@@ -33,6 +37,32 @@ impl From<clap::Error> for Refusal {
         match error.kind() {
             ErrorKind::OutOfMemory => Refusal::Memory,
             _ => Refusal::Line(error),
+        }
+    }
+}
+
+/// Prints what clap says of a line, and gives the status: 2 for a mistake, 0 where help or the
+/// version was asked for, 1 where the print failed.
+fn explain_line<O: Write, E: Write>(error: clap::Error, out: &mut O, err: &mut E) -> u8
+    ensures { IsLineStatus (kind_of error) result }
+{
+    let (printed, status) = if error.use_stderr() {
+        (write!(err, "{error}"), 2)
+    } else {
+        (write!(out, "{error}"), 0)
+    };
+    if printed.is_ok() { status } else { 1 }
+}
+
+impl Refusal {
+    /// Prints why, to `out` where help or the version was asked for, else to `err`, and gives the
+    /// status: 1 where memory was refused or the print failed, 2 for a line that is wrong, else 0.
+    pub fn explain<O: Write, E: Write>(self, out: &mut O, err: &mut E) -> u8
+        ensures { IsStatusOf self result }
+    {
+        match self {
+            Refusal::Line(error) => explain_line(error, out, err),
+            Refusal::Memory => refuse(Fault::NoResource, err),
         }
     }
 }

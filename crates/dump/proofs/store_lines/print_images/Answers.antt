@@ -1,6 +1,5 @@
-use Rattle.std.proofs.Common.{ℕ, List, suc, ◌≡◌, ◌+◌, ◌++◌, ◌∙◌, ap, refl, subst, arith}
+use Rattle.std.proofs.Common.{ℕ, List, suc, ◌≡◌, ◌+◌, ◌++◌, refl, subst, arith}
 use Rattle.std.proofs.KnownBytes.{Appends-trans}
-use Rattle.std.specs.Io.KnownBytes.{Appends}
 use Rattle.dump.specs.StoreLines.{AreLinesOf, IsLineOf}
 use Rattle.dump.proofs.store_lines.print_images.Goals as goal
 
