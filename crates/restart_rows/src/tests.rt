@@ -3,9 +3,21 @@
 mod restarts;
 mod rollbacks;
 
+use core_rows::written::Text;
+use page::Fault;
 use std::test::Fail;
+use wal::Record;
 
 /// Fails a test where this is not so.
 fn check(is_so: bool, what: &str) -> Result<(), Fail> {
     if is_so { Ok(()) } else { Err(Fail::new(what)) }
+}
+
+/// A log and these records behind it.
+fn with_appended(text: &Text, appended: &[Record]) -> Result<Vec<u8>, Fault> {
+    let mut whole = text.copied()?;
+    for entry in appended {
+        whole.put(entry)?;
+    }
+    Ok(whole.bytes)
 }

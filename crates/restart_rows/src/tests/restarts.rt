@@ -1,18 +1,18 @@
 //! Rows worked by hand, restarted on values: what is appended, the pages, the numbers, the master,
 //! and the fault that comes first.
 
-use super::check;
+use super::{check, with_appended};
 use core_rows::written::{
     Row, Text, one_commit, page_with, prepared, prepared_abort, prepared_beside_loser,
     prepared_commit, prepared_idle, prepared_in_checkpoint, store_of, undo_of_missing_page,
 };
-use page::{Fault, Page, decode_store, encode_store};
+use page::{Fault, Page, Store, decode_store, encode_store};
 use redo::{OpenGate, Parting};
-use restart::restart;
+use restart::{Outcome, restart};
 use std::alloc::Global;
 use std::test::Fail;
 use std::thread::Threads;
-use wal::read_log;
+use wal::{Record, read_log};
 
 /// What a restart tells in numbers.
 #[derive(Clone, Copy, PartialEq, Eq)]
@@ -56,6 +56,19 @@ const GOOD: Manner = Manner {
     workers: 2,
 };
 
+/// A restart on a log and a store, of three parts.
+fn outcome_of<R: Threads + Sync>(
+    rt: &R,
+    alloc: Global,
+    log: &[u8],
+    store: &Store,
+    manner: Manner,
+) -> Result<Outcome, Fault> {
+    let (log, _) = read_log(alloc, log)?;
+    let parting = Parting::by_number(alloc, manner.pages, 3)?;
+    restart(rt, alloc, &log, store, &parting, manner.workers, &OpenGate)
+}
+
 /// Restarts on a log and the bytes of a store.
 fn restarted<R: Threads + Sync>(
     rt: &R,
@@ -64,24 +77,10 @@ fn restarted<R: Threads + Sync>(
     store: &[u8],
     manner: Manner,
 ) -> Result<Answer, Fault> {
-    let (log, _) = read_log(alloc, &text.bytes)?;
     let before = decode_store(alloc, store)?;
-    let parting = Parting::by_number(alloc, manner.pages, 3)?;
-    let outcome = restart(
-        rt,
-        alloc,
-        &log,
-        &before,
-        &parting,
-        manner.workers,
-        &OpenGate,
-    )?;
-    let mut whole = text.copied()?;
-    for entry in &outcome.appended {
-        whole.put(entry)?;
-    }
+    let outcome = outcome_of(rt, alloc, &text.bytes, &before, manner)?;
     Ok(Answer {
-        log: whole.bytes,
+        log: with_appended(text, &outcome.appended)?,
         store: encode_store(alloc, &outcome.store)?,
         numbers: Numbers {
             redo_from: outcome.redo_from,

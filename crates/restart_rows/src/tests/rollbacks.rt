@@ -3,7 +3,7 @@
 ghost use Rattle.std.specs.Prelude.{IfOk};
 ghost use Rattle.page.specs.Store.{AreNumbered};
 
-use super::check;
+use super::{check, with_appended};
 use analysis::analyse;
 use core_rows::written::{
     Row, Text, checkpoint_loser, one_loser, page_with, partial_rollback_loser,
@@ -23,38 +23,34 @@ fn alone(alloc: Global, page: Page) -> Result<Vec<Page>, Fault>
     Ok(pages)
 }
 
-/// The log with what undo appends, and the page.
+/// What undo makes of a page and appends, by the tables that analysis finds.
 #[derive(Drop)]
 struct Rollback {
-    log: Vec<u8>,
-    page: Page,
+    pages: Vec<Page>,
+    appended: Vec<Record>,
 }
 
-/// Undo by the tables that analysis finds.
-fn undone(alloc: Global, text: &Text, master: u64, page: Page) -> Result<Rollback, Fault> {
-    let (log, _) = read_log(alloc, &text.bytes)?;
+fn rolled_back(alloc: Global, log: &[u8], master: u64, page: Page) -> Result<Rollback, Fault> {
+    let (log, _) = read_log(alloc, log)?;
     let tables = analyse(alloc, &log, master)?;
     let (pages, appended) = undo(alloc, &log, &tables, alone(alloc, page)?)?;
-    let mut whole = text.copied()?;
-    for entry in &appended {
-        whole.put(entry)?;
+    Ok(Rollback { pages, appended })
+}
+
+/// Whether there is one page, and it is empty but for this PageLSN.
+fn is_emptied(pages: &[Page], lsn: u64) -> bool {
+    match pages {
+        [page] => encode_page(page) == encode_page(&page_with(lsn, None, None)),
+        _ => false,
     }
-    let page = match pages.first() {
-        Some(page) => *page,
-        None => Page::empty(1),
-    };
-    Ok(Rollback {
-        log: whole.bytes,
-        page,
-    })
 }
 
 /// Whether undo makes of the row's log, with this master and page, the row's new log, and of the
 /// page an empty one with this PageLSN.
 fn is_undone(alloc: Global, row: &Row, master: u64, before: Page, lsn: u64) -> Result<bool, Fault> {
-    let undone = undone(alloc, &row.given, master, before)?;
-    let is_empty = encode_page(&undone.page) == encode_page(&page_with(lsn, None, None));
-    Ok(is_empty && undone.log.as_slice() == row.made.bytes.as_slice())
+    let rollback = rolled_back(alloc, &row.given.bytes, master, before)?;
+    let log = with_appended(&row.given, &rollback.appended)?;
+    Ok(is_emptied(&rollback.pages, lsn) && log.as_slice() == row.made.bytes.as_slice())
 }
 
 #[test]
@@ -92,8 +88,11 @@ fn undoes_what_a_rollback_left(rt: HostRuntime) -> Result<(), Fail> {
 }
 
 /// The fault of a log on a page.
-fn refused(alloc: Global, text: &Text, master: u64) -> Option<Fault> {
-    undone(alloc, text, master, page_with(1, Some(b'a'), None)).err()
+fn refused(alloc: Global, text: &Text) -> Option<Fault> {
+    match rolled_back(alloc, &text.bytes, 0, page_with(1, Some(b'a'), None)) {
+        Ok(_) => None,
+        Err(fault) => Some(fault),
+    }
 }
 
 /// Appends an update of transaction `tx` on a page that the tests do not give.
@@ -153,18 +152,18 @@ fn smallest_number_first(alloc: Global) -> Result<Text, Fault> {
 #[test]
 fn first_fault_met(rt: HostRuntime) -> Result<(), Fail> {
     let alloc = rt.alloc();
-    let fault = refused(alloc, &page_before_hop(alloc)?, 0);
+    let fault = refused(alloc, &page_before_hop(alloc)?);
     check(fault == Some(Fault::NoSuchPage(1)), "page before hop")?;
-    let fault = refused(alloc, &hop_before_older_page(alloc)?, 0);
+    let fault = refused(alloc, &hop_before_older_page(alloc)?);
     check(
         fault == Some(Fault::BrokenChain(9)),
         "hop before older page",
     )?;
-    let fault = refused(alloc, &newest_page_first(alloc)?, 0);
+    let fault = refused(alloc, &newest_page_first(alloc)?);
     check(fault == Some(Fault::NoSuchPage(2)), "newest page first")?;
-    let fault = refused(alloc, &sent_before_page(alloc)?, 0);
+    let fault = refused(alloc, &sent_before_page(alloc)?);
     check(fault == Some(Fault::BrokenChain(9)), "sent before page")?;
-    let fault = refused(alloc, &smallest_number_first(alloc)?, 0);
+    let fault = refused(alloc, &smallest_number_first(alloc)?);
     check(
         fault == Some(Fault::BrokenChain(8)),
         "smallest number first",
@@ -188,14 +187,6 @@ fn begin_checkpoints(text: &mut Text) -> Result<(), Fault> {
     Ok(())
 }
 
-/// How many records undo appends to a log.
-fn appended_to(alloc: Global, text: &Text, page: Page) -> Result<usize, Fault> {
-    let (log, _) = read_log(alloc, &text.bytes)?;
-    let tables = analyse(alloc, &log, 0)?;
-    let (_, appended) = undo(alloc, &log, &tables, alone(alloc, page)?)?;
-    Ok(appended.len())
-}
-
 /// A million records, among them 10,000 losers with 10 pending updates each, in turn.
 #[test]
 fn undoes_many_losers(rt: HostRuntime) -> Result<(), Fail> {
@@ -204,6 +195,7 @@ fn undoes_many_losers(rt: HostRuntime) -> Result<(), Fail> {
         update_in_turn(&mut text)?;
     }
     begin_checkpoints(&mut text)?;
-    let count = appended_to(rt.alloc(), &text, page_with(100_000, None, None))?;
-    check(count == 110_000, "appended")
+    let page = page_with(100_000, None, None);
+    let rollback = rolled_back(rt.alloc(), &text.bytes, 0, page)?;
+    check(rollback.appended.len() == 110_000, "appended")
 }
