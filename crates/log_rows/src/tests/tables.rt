@@ -1,12 +1,12 @@
 //! Worked rows: the tables of small logs.
 
-use super::records::{abort, commit, end, prepare};
-use analysis::analyse;
+use super::check;
+use super::records::{abort, commit, end, log_of, prepare};
+use analysis::{Tables, analyse};
 use page::Fault;
 use std::alloc::Global;
-use std::process::Abort;
 use std::test::Fail;
-use wal::{Entry, Record, State, read_log, write_frame};
+use wal::{Entry, Log, Record, State, read_log, write_frame};
 
 /// An update; a checkpoint that lists its transaction and page.
 const CHECKPOINT: &[u8] =
@@ -43,6 +43,7 @@ const ONE_COMMIT: &[u8] =
 /// A log, a master, and what analysis finds: at most one transaction and one page each.
 #[derive(Clone, Copy)]
 struct Row {
+    name: &'static str,
     log: &'static [u8],
     master: u64,
     transaction: Option<(u32, State, u64, u64)>,
@@ -51,6 +52,7 @@ struct Row {
 }
 
 const fn expected(
+    name: &'static str,
     log: &'static [u8],
     master: u64,
     transaction: Option<(u32, State, u64, u64)>,
@@ -58,6 +60,7 @@ const fn expected(
     redo_lsn: u64,
 ) -> Row {
     Row {
+        name,
         log,
         master,
         transaction,
@@ -66,66 +69,65 @@ const fn expected(
     }
 }
 
+/// Whether these are the transactions of the tables.
+fn has_transactions(tables: &Tables, expected: Option<(u32, State, u64, u64)>) -> bool {
+    match expected {
+        None => tables.transactions.is_empty(),
+        Some((tx, state, last, undo_next)) => tables.transactions.len() == 1
+            && is_entry(tables.transactions.get(&tx), state, last, undo_next),
+    }
+}
+
+/// Whether these are the dirty pages of the tables.
+fn has_dirty(tables: &Tables, expected: Option<(u32, u64)>) -> bool {
+    match expected {
+        None => tables.dirty.is_empty(),
+        Some((page, rec_lsn)) => tables.dirty.len() == 1
+            && tables.dirty.get(&page) == Some(&rec_lsn),
+    }
+}
+
+/// Whether there is an entry, and it is this.
+fn is_entry(found: Option<&Entry>, state: State, last: u64, undo_next: u64) -> bool {
+    match found {
+        Some(entry) => entry.state == state && entry.last == last && entry.undo_next == undo_next,
+        None => false,
+    }
+}
+
+/// Whether analysis finds what the row says.
+fn is_found(alloc: Global, row: &Row) -> Result<bool, Fault> {
+    let (log, _) = read_log(alloc, row.log)?;
+    let tables = analyse(alloc, &log, row.master)?;
+    Ok(
+        has_transactions(&tables, row.transaction)
+            && has_dirty(&tables, row.dirty)
+            && tables.redo_lsn == row.redo_lsn,
+    )
+}
+
 #[test]
 fn finds_the_tables(rt: HostRuntime) -> Result<(), Fail> {
     let active = Some((1, State::Active, 1, 1));
+    let last = Some((1, State::Active, 3, 3));
+    let rolled = Some((1, State::Aborting, 4, 1));
+    let alone = Some((3, State::Aborting, 1, 0));
+    let turned = Some((1, State::Aborting, 5, 0));
+    let page = Some((0, 1));
     let rows = [
-        expected(CHECKPOINT, 2, active, Some((0, 1)), 1),
-        expected(CHECKPOINT, 0, active, Some((0, 1)), 1),
-        expected(COMMIT, 2, None, Some((0, 1)), 1),
-        expected(
-            ROLLBACK,
-            0,
-            Some((1, State::Aborting, 4, 1)),
-            Some((0, 1)),
-            1,
-        ),
-        expected(ABORT, 0, Some((3, State::Aborting, 1, 0)), None, 0),
-        expected(
-            UPDATE_AFTER_COMMIT,
-            0,
-            Some((1, State::Active, 3, 3)),
-            Some((0, 1)),
-            1,
-        ),
-        expected(REC_LSN_ZERO, 2, active, Some((0, 0)), 1),
-        expected(
-            ABORT_AFTER_COMMIT,
-            2,
-            Some((1, State::Aborting, 5, 0)),
-            Some((0, 1)),
-            1,
-        ),
+        expected("checkpoint", CHECKPOINT, 2, active, page, 1),
+        expected("without its master", CHECKPOINT, 0, active, page, 1),
+        expected("commit", COMMIT, 2, None, page, 1),
+        expected("rollback", ROLLBACK, 0, rolled, page, 1),
+        expected("abort", ABORT, 0, alone, None, 0),
+        expected("update after commit", UPDATE_AFTER_COMMIT, 0, last, page, 1),
+        expected("RecLSN 0", REC_LSN_ZERO, 2, active, Some((0, 0)), 1),
+        expected("abort after commit", ABORT_AFTER_COMMIT, 2, turned, page, 1),
     ];
     for row in &rows {
-        let (log, _) = read_log(rt.alloc(), row.log)?;
-        let tables = analyse(rt.alloc(), &log, row.master)?;
-        let mut transactions = tables.transactions.iter();
-        let first = transactions
-            .next()
-            .map(|(tx, e)| (*tx, e.state, e.last, e.undo_next));
-        assert!(rt;
-            first == row.transaction && transactions.next().is_none(),
-            "transactions"
-        );
-        let mut dirty = tables.dirty.iter();
-        let first = dirty.next().map(|(page, rec_lsn)| (*page, *rec_lsn));
-        assert!(rt; first == row.dirty && dirty.next().is_none(), "dirty pages");
-        assert_eq!(rt; tables.redo_lsn, row.redo_lsn);
+        check(is_found(rt.alloc(), row)?, row.name)?;
     }
     Ok(())
-}
-
-/// The text of the log of these records.
-fn log_of(rt: &impl Abort, alloc: Global, records: &[Record]) -> Result<Vec<u8>, Fault> {
-    let mut bytes = Vec::from_slice(alloc, b"ARIESLG1")?;
-    let mut lsn = 0u64;
-    for record in records {
-        assert!(rt; lsn < 9 && record.is_writable());
-        lsn += 1;
-        write_frame(record, lsn, &mut bytes)?;
-    }
-    Ok(bytes)
 }
 
 fn update(prev: u64) -> Record {
@@ -163,129 +165,113 @@ fn checkpoint_end(
     })
 }
 
-/// The entry of T1 that analysis finds from this master on.
-fn entry_of(
-    rt: &impl Abort,
+/// Whether analysis, from this master on, finds T1 in this state behind these LSNs.
+fn has_entry(
     alloc: Global,
-    records: &[Record],
+    records: &[&Record],
     master: u64,
-) -> Result<Option<(State, u64, u64)>, Fault> {
-    let bytes = log_of(rt, alloc, records)?;
+    state: State,
+    last: u64,
+    undo_next: u64,
+) -> Result<bool, Fault> {
+    let bytes = log_of(alloc, records)?;
     let (log, _) = read_log(alloc, &bytes)?;
     let tables = analyse(alloc, &log, master)?;
-    Ok(
-        tables
-            .transactions
-            .get(&1)
-            .map(|e| (e.state, e.last, e.undo_next)),
-    )
+    Ok(is_entry(tables.transactions.get(&1), state, last, undo_next))
+}
+
+/// Whether analysis does not find T1.
+fn has_no_entry(alloc: Global, records: &[&Record]) -> Result<bool, Fault> {
+    let bytes = log_of(alloc, records)?;
+    let (log, _) = read_log(alloc, &bytes)?;
+    let tables = analyse(alloc, &log, 0)?;
+    Ok(tables.transactions.get(&1).is_none())
 }
 
 #[test]
 fn finds_prepared_transactions(rt: HostRuntime) -> Result<(), Fail> {
-    let prepared = [update(0), prepare(1)];
-    let found = entry_of(&rt, rt.alloc(), &prepared, 0)?;
-    assert!(rt; found == Some((State::Prepared, 2, 1)), "prepared");
+    let alloc = rt.alloc();
+    let found = has_entry(alloc, &[&update(0), &prepare(1)], 0, State::Prepared, 2, 1);
+    check(found?, "prepared")?;
+    let found = has_entry(alloc, &[&prepare(0)], 0, State::Prepared, 1, 0);
+    check(found?, "prepare alone")?;
+    let lacks = has_no_entry(alloc, &[&update(0), &prepare(1), &commit(2)]);
+    check(lacks?, "prepared-commit")?;
+    let found = has_behind(alloc, &prepare(1), &abort(2), State::Aborting, 1);
+    check(found?, "prepared-abort")
+}
 
-    let found = entry_of(&rt, rt.alloc(), &[prepare(0)], 0)?;
-    assert!(rt; found == Some((State::Prepared, 1, 0)), "prepare alone");
-
-    let committed = [update(0), prepare(1), commit(2)];
-    let found = entry_of(&rt, rt.alloc(), &committed, 0)?;
-    assert!(rt; found.is_none(), "prepared-commit");
-
-    let aborted = [update(0), prepare(1), abort(2)];
-    let found = entry_of(&rt, rt.alloc(), &aborted, 0)?;
-    assert!(rt; found == Some((State::Aborting, 3, 1)), "prepared-abort");
-    Ok(())
+/// Whether analysis of an update and these two records finds T1 in this state behind the third
+/// record, with this UndoNxtLSN.
+fn has_behind(
+    alloc: Global,
+    second: &Record,
+    third: &Record,
+    state: State,
+    undo_next: u64,
+) -> Result<bool, Fault> {
+    has_entry(alloc, &[&update(0), second, third], 0, state, 3, undo_next)
 }
 
 #[test]
 fn finds_prepares_that_no_law_allows(rt: HostRuntime) -> Result<(), Fail> {
-    let worked = [update(0), prepare(1), update(2)];
-    let found = entry_of(&rt, rt.alloc(), &worked, 0)?;
-    assert!(rt;
-        found == Some((State::Prepared, 3, 3)),
-        "work-after-prepare"
-    );
-
-    let ended = [update(0), prepare(1), end(2)];
-    let found = entry_of(&rt, rt.alloc(), &ended, 0)?;
-    assert!(rt; found.is_none(), "an end in doubt");
-
-    let turned_back = [update(0), abort(1), prepare(2)];
-    let found = entry_of(&rt, rt.alloc(), &turned_back, 0)?;
-    assert!(rt;
-        found == Some((State::Aborting, 3, 1)),
-        "a prepare behind an abort"
-    );
-
-    let done = [update(0), commit(1), prepare(2)];
-    let found = entry_of(&rt, rt.alloc(), &done, 0)?;
-    assert!(rt;
-        found == Some((State::Prepared, 3, 0)),
-        "a prepare behind a commit"
-    );
-    Ok(())
+    let alloc = rt.alloc();
+    let found = has_behind(alloc, &prepare(1), &update(2), State::Prepared, 3);
+    check(found?, "work-after-prepare")?;
+    let lacks = has_no_entry(alloc, &[&update(0), &prepare(1), &end(2)]);
+    check(lacks?, "an end in doubt")?;
+    let found = has_behind(alloc, &abort(1), &prepare(2), State::Aborting, 1);
+    check(found?, "a prepare behind an abort")?;
+    let found = has_behind(alloc, &commit(1), &prepare(2), State::Prepared, 0);
+    check(found?, "a prepare behind a commit")
 }
 
 #[test]
 fn finds_what_a_checkpoint_has_as_prepared(rt: HostRuntime) -> Result<(), Fail> {
-    let listed = checkpoint_end(rt.alloc(), 3, State::Prepared, 2, 1)?;
-    let at_checkpoint = [update(0), prepare(1), Record::CheckpointBegin, listed];
-    let found = entry_of(&rt, rt.alloc(), &at_checkpoint, 3)?;
-    assert!(rt;
-        found == Some((State::Prepared, 2, 1)),
-        "prepared-at-checkpoint"
-    );
+    let alloc = rt.alloc();
+    let begin = Record::CheckpointBegin;
+    let listed = checkpoint_end(alloc, 3, State::Prepared, 2, 1)?;
+    let records = &[&update(0), &prepare(1), &begin, &listed];
+    let found = has_entry(alloc, records, 3, State::Prepared, 2, 1);
+    check(found?, "prepared-at-checkpoint")?;
+    let records = &[&update(0), &prepare(1), &begin, &listed, &abort(2)];
+    let found = has_entry(alloc, records, 3, State::Aborting, 5, 1);
+    check(found?, "an abort behind it")
+}
 
-    let listed = checkpoint_end(rt.alloc(), 3, State::Prepared, 2, 1)?;
-    let aborted = [
-        update(0),
-        prepare(1),
-        Record::CheckpointBegin,
-        listed,
-        abort(2),
-    ];
-    let found = entry_of(&rt, rt.alloc(), &aborted, 3)?;
-    assert!(rt;
-        found == Some((State::Aborting, 5, 1)),
-        "an abort behind it"
-    );
+#[test]
+fn finds_prepares_beside_a_checkpoint(rt: HostRuntime) -> Result<(), Fail> {
+    let alloc = rt.alloc();
+    let begin = Record::CheckpointBegin;
+    let listed = checkpoint_end(alloc, 2, State::Active, 1, 1)?;
+    let records = &[&update(0), &begin, &prepare(1), &listed];
+    let found = has_entry(alloc, records, 2, State::Prepared, 3, 1);
+    check(found?, "a prepare between begin and end")?;
+    let listed = checkpoint_end(alloc, 2, State::Aborting, 1, 1)?;
+    let records = &[&update(0), &begin, &listed, &prepare(1)];
+    let found = has_entry(alloc, records, 2, State::Aborting, 4, 1);
+    check(found?, "a prepare of an aborting one")
+}
 
-    let listed = checkpoint_end(rt.alloc(), 2, State::Active, 1, 1)?;
-    let between = [update(0), Record::CheckpointBegin, prepare(1), listed];
-    let found = entry_of(&rt, rt.alloc(), &between, 2)?;
-    assert!(rt;
-        found == Some((State::Prepared, 3, 1)),
-        "a prepare between begin and end"
-    );
-
-    let listed = checkpoint_end(rt.alloc(), 2, State::Aborting, 1, 1)?;
-    let behind = [update(0), Record::CheckpointBegin, listed, prepare(1)];
-    let found = entry_of(&rt, rt.alloc(), &behind, 2)?;
-    assert!(rt;
-        found == Some((State::Aborting, 4, 1)),
-        "a prepare of an aborting one"
-    );
-    Ok(())
+/// Whether analysis of a log refuses this master.
+fn is_bad_master(alloc: Global, log: &Log, master: u64) -> bool {
+    match analyse(alloc, log, master) {
+        Ok(_) => false,
+        Err(fault) => fault == Fault::BadMaster,
+    }
 }
 
 #[test]
 fn refuses_a_master_that_is_no_begin(rt: HostRuntime) -> Result<(), Fail> {
     let (log, _) = read_log(rt.alloc(), ONE_COMMIT)?;
-    for master in [1, 2, 9] {
-        match analyse(rt.alloc(), &log, master) {
-            Ok(_) => assert!(rt; false, "master {master}"),
-            Err(fault) => assert!(rt; fault == Fault::BadMaster, "master {master}"),
-        }
-    }
-    Ok(())
+    let are_refused = is_bad_master(rt.alloc(), &log, 1) && is_bad_master(rt.alloc(), &log, 2);
+    check(are_refused, "masters 1 and 2")?;
+    check(is_bad_master(rt.alloc(), &log, 9), "master 9")
 }
 
-#[test]
-fn scans_a_million_records(rt: HostRuntime) -> Result<(), Fail> {
-    let mut bytes = Vec::from_slice(rt.alloc(), b"ARIESLG1")?;
+/// The text of a log of a million aborts, of a thousand transactions.
+fn a_million_aborts(alloc: Global) -> Result<Vec<u8>, Fault> {
+    let mut bytes = Vec::from_slice(alloc, b"ARIESLG1")?;
     for lsn in 1..1_000_001u64 {
         let logged = Record::Abort {
             tx: (lsn % 1000) as u32 + 1,
@@ -293,11 +279,17 @@ fn scans_a_million_records(rt: HostRuntime) -> Result<(), Fail> {
         };
         write_frame(&logged, lsn, &mut bytes)?;
     }
+    Ok(bytes)
+}
+
+#[test]
+fn scans_a_million_records(rt: HostRuntime) -> Result<(), Fail> {
+    let bytes = a_million_aborts(rt.alloc())?;
     let (log, _) = read_log(rt.alloc(), &bytes)?;
     let tables = analyse(rt.alloc(), &log, 0)?;
-    assert_eq!(rt;
-        (log.len(), tables.transactions.len(), tables.redo_lsn),
-        (1_000_000, 1000, 0)
-    );
-    Ok(())
+    let is_whole = log.len() == 1_000_000 && tables.transactions.len() == 1000;
+    check(
+        is_whole && tables.redo_lsn == 0,
+        "records, transactions, redo LSN",
+    )
 }

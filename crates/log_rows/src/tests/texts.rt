@@ -4,52 +4,49 @@ mod reading;
 mod vectors;
 mod writing;
 
+use super::records::put;
 use page::Fault;
 use std::alloc::Global;
-use std::process::Abort;
-use wal::{Record, read_log, write_frame};
+use wal::read_log;
 
-// Appends a frame, of a record that can be written.
-fn put(rt: &impl Abort, out: &mut Vec<u8>, lsn: u64, record: Record) -> Result<(), Fault> {
-    assert!(rt; lsn > 0);
-    assert!(rt; record.is_writable());
-    write_frame(&record, lsn, out)
-}
-
-// Each record of a log, written anew.
-fn rewritten(rt: &impl Abort, alloc: Global, bytes: &[u8]) -> Result<Vec<u8>, Fault> {
+// Whether each record of a log, written anew, makes the log again.
+fn is_rewritten(alloc: Global, bytes: &[u8]) -> Result<bool, Fault> {
     let (log, torn) = read_log(alloc, bytes)?;
-    assert_eq!(rt; torn, 0);
     let mut out = Vec::from_slice(alloc, b"ARIESLG1")?;
     for lsn in 0..log.len() {
         if let Some(view) = log.get(lsn + 1) {
-            put(rt, &mut out, lsn + 1, view.to_record(alloc)?)?;
+            put(&mut out, lsn + 1, &view.to_record(alloc)?)?;
         }
     }
-    Ok(out)
+    Ok(torn == 0 && out.as_slice() == bytes)
 }
 
-// The text of a checkpoint begin and a checkpoint end with these numbers of transactions and pages.
-fn checkpoint_text(
-    rt: &impl Abort,
-    alloc: Global,
-    transactions: u32,
-    pages: u32,
-) -> Result<Vec<u8>, Fault> {
-    assert!(rt; transactions <= 1025);
-    assert!(rt; pages <= 4096);
-    let mut text = Vec::from_slice(alloc, b"ARIESLG1\0\0\0\x09\x06\0\0\0\0\0\0\0\x01")?;
-    text.extend_from_slice(&(25 + 21 * transactions + 12 * pages).to_be_bytes())?;
-    text.extend_from_slice(b"\x07\0\0\0\0\0\0\0\x02\0\0\0\0\0\0\0\x01")?;
-    text.extend_from_slice(&transactions.to_be_bytes())?;
-    for tx in 0..transactions {
-        text.extend_from_slice(&(tx + 1).to_be_bytes())?;
+// Appends this many entries of a transaction table.
+fn push_transactions(text: &mut Vec<u8>, count: u32) -> Result<(), Fault> {
+    for tx in 0..count {
+        text.extend_from_slice(&tx.wrapping_add(1).to_be_bytes())?;
         text.extend_from_slice(b"\x01\0\0\0\0\0\0\0\x05\0\0\0\0\0\0\0\x04")?;
     }
-    text.extend_from_slice(&pages.to_be_bytes())?;
-    for page in 0..pages {
+    Ok(())
+}
+
+// Appends this many entries of a dirty page table.
+fn push_pages(text: &mut Vec<u8>, count: u32) -> Result<(), Fault> {
+    for page in 0..count {
         text.extend_from_slice(&page.to_be_bytes())?;
         text.extend_from_slice(b"\0\0\0\0\0\0\0\x03")?;
     }
+    Ok(())
+}
+
+// The text of a checkpoint begin and of its end with 1,024 transactions and 4,096 pages.
+fn largest_checkpoint(alloc: Global) -> Result<Vec<u8>, Fault> {
+    let mut text = Vec::from_slice(alloc, b"ARIESLG1\0\0\0\x09\x06\0\0\0\0\0\0\0\x01")?;
+    let length: u32 = 25 + 21 * 1024 + 12 * 4096;
+    text.extend_from_slice(&length.to_be_bytes())?;
+    text.extend_from_slice(b"\x07\0\0\0\0\0\0\0\x02\0\0\0\0\0\0\0\x01\0\0\x04\0")?;
+    push_transactions(&mut text, 1024)?;
+    text.extend_from_slice(b"\0\0\x10\0")?;
+    push_pages(&mut text, 4096)?;
     Ok(text)
 }

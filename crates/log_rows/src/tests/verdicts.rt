@@ -1,11 +1,12 @@
 //! Rows worked by hand: the fault of each log and store, or none.
 
-use super::records::{abort, commit, end, prepare};
+use super::check;
+use super::records::{abort, commit, end, log_of, prepare};
 use audit::audit;
 use page::{Fault, Value, decode_store};
 use std::alloc::Global;
-use std::process::Abort;
-use wal::{Entry, Record, State, read_log, write_frame};
+use std::test::Fail;
+use wal::{Entry, Record, State, read_log};
 
 /// The audit of a log's bytes and of a store of one page, in whose text only these bytes are not
 /// zero.
@@ -51,73 +52,79 @@ fn compensation(prev: u64) -> Record {
 }
 
 /// The audit of these records, and of a store of one empty page with this master.
-fn judge_records(
-    rt: &impl Abort,
-    alloc: Global,
-    records: &[&Record],
-    master: u8,
-) -> Result<(), Fault> {
-    let mut log = Vec::from_slice(alloc, b"ARIESLG1")?;
-    let mut lsn = 0u64;
-    for record in records {
-        assert!(rt; lsn < 9 && record.is_writable());
-        lsn += 1;
-        write_frame(record, lsn, &mut log)?;
-    }
+fn judge_records(alloc: Global, records: &[&Record], master: u8) -> Result<(), Fault> {
+    let log = log_of(alloc, records)?;
     judge(alloc, &log, &[(23, master)])
 }
 
-#[test]
-fn laws_of_a_prepare(rt: HostRuntime) -> Result<(), Fault> {
-    let alloc = rt.alloc();
+/// Whether an audit of an update, a prepare of its transaction and this record says this.
+fn is_judged(alloc: Global, last: &Record, expected: Result<(), Fault>) -> bool {
     let first = update(1, 0, b"", b"a");
-    let other_cell = Record::Update {
+    judge_records(alloc, &[&first, &prepare(1), last], 0) == expected
+}
+
+/// An update of another cell by another transaction.
+fn other_cell() -> Record {
+    Record::Update {
         tx: 2,
         prev: 0,
         page: 0,
         slot: 1,
         before: None,
         after: Value::new(b"b"),
-    };
-    let rows = [
-        // prepared-commit, prepared-abort, prepared-beside-loser
-        (commit(2), Ok(())),
-        (abort(2), Ok(())),
-        (other_cell, Ok(())),
-        // work-after-prepare
-        (update(1, 2, b"a", b"b"), Err(Fault::AfterFinish(3))),
-        (end(2), Err(Fault::AfterFinish(3))),
-        (compensation(2), Err(Fault::AfterFinish(3))),
-        (prepare(2), Err(Fault::AfterFinish(3))),
-        // write-over-prepared
-        (update(2, 0, b"a", b"c"), Err(Fault::DirtyWrite(3))),
-    ];
-    for (last, expected) in &rows {
-        assert_eq!(rt;
-            judge_records(&rt, alloc, &[&first, &prepare(1), last], 0),
-            *expected
-        );
     }
-    // A prepare behind a commit, an abort and an end; and as the first record.
-    for last in &[commit(1), abort(1)] {
-        assert_eq!(rt;
-            judge_records(&rt, alloc, &[&first, last, &prepare(2)], 0),
-            Err(Fault::AfterFinish(3))
-        );
-    }
-    assert_eq!(rt;
-        judge_records(&rt, alloc, &[&abort(0), &end(1), &prepare(2)], 0),
-        Err(Fault::AfterFinish(3))
-    );
-    assert_eq!(rt; judge_records(&rt, alloc, &[&prepare(0)], 0), Ok(()));
-    // prepared, and the rollback of prepared-abort.
-    assert_eq!(rt;
-        judge_records(&rt, alloc, &[&first, &prepare(1)], 0),
-        Ok(())
-    );
+}
+
+#[test]
+fn laws_of_what_follows_a_prepare(rt: HostRuntime) -> Result<(), Fail> {
+    let alloc = rt.alloc();
+    let finished = Err(Fault::AfterFinish(3));
+    check(is_judged(alloc, &commit(2), Ok(())), "prepared-commit")?;
+    check(is_judged(alloc, &abort(2), Ok(())), "prepared-abort")?;
+    check(
+        is_judged(alloc, &other_cell(), Ok(())),
+        "prepared-beside-loser",
+    )?;
+    let is_refused = is_judged(alloc, &update(1, 2, b"a", b"b"), finished);
+    check(is_refused, "work-after-prepare: update")?;
+    let is_refused = is_judged(alloc, &end(2), finished);
+    check(is_refused, "work-after-prepare: end")?;
+    let is_refused = is_judged(alloc, &compensation(2), finished);
+    check(is_refused, "work-after-prepare: compensation")?;
+    let is_refused = is_judged(alloc, &prepare(2), finished);
+    check(is_refused, "work-after-prepare: prepare")?;
+    let is_refused = is_judged(alloc, &update(2, 0, b"a", b"c"), Err(Fault::DirtyWrite(3)));
+    check(is_refused, "write-over-prepared")
+}
+
+/// Whether an audit of these records says that the third comes after the finish.
+fn is_after_finish(alloc: Global, records: &[&Record]) -> bool {
+    judge_records(alloc, records, 0) == Err(Fault::AfterFinish(3))
+}
+
+/// Whether an audit finds these records lawful.
+fn is_lawful(alloc: Global, records: &[&Record]) -> bool {
+    judge_records(alloc, records, 0).is_ok()
+}
+
+#[test]
+fn laws_of_a_prepare(rt: HostRuntime) -> Result<(), Fail> {
+    let alloc = rt.alloc();
+    let first = update(1, 0, b"", b"a");
+    let last = prepare(2);
+    let behind_commit = is_after_finish(alloc, &[&first, &commit(1), &last]);
+    let behind_abort = is_after_finish(alloc, &[&first, &abort(1), &last]);
+    let behind_end = is_after_finish(alloc, &[&abort(0), &end(1), &last]);
+    let alone = is_lawful(alloc, &[&prepare(0)]);
+    let prepared = is_lawful(alloc, &[&first, &prepare(1)]);
     let undone = [&first, &prepare(1), &abort(2), &compensation(3), &end(4)];
-    assert_eq!(rt; judge_records(&rt, alloc, &undone, 0), Ok(()));
-    Ok(())
+    let rolled_back = is_lawful(alloc, &undone);
+    check(behind_commit, "behind a commit")?;
+    check(behind_abort, "behind an abort")?;
+    check(behind_end, "behind an end")?;
+    check(alone, "as the first record")?;
+    check(prepared, "prepared")?;
+    check(rolled_back, "the rollback of prepared-abort")
 }
 
 /// The end of a checkpoint that lists T1 in this state, and page 0.
@@ -138,50 +145,54 @@ fn checkpoint_end(alloc: Global, begin: u64, state: State, last: u64) -> Result<
     })
 }
 
-#[test]
-fn states_in_a_checkpoint(rt: HostRuntime) -> Result<(), Fault> {
-    let alloc = rt.alloc();
-    let begin = Record::CheckpointBegin;
+/// What an audit of these records, and of a store with this master, is to say of a checkpoint that
+/// lists T1 in the right state, or in another one.
+fn is_right(alloc: Global, records: &[&Record], master: u8, is_state: bool) -> bool {
+    let expected = if is_state {
+        Ok(())
+    } else {
+        Err(Fault::TransactionTable)
+    };
+    judge_records(alloc, records, master) == expected
+}
+
+/// Whether a checkpoint that lists T1 in this state is right behind the prepare alone where it is
+/// prepared.
+fn is_listed_prepared(alloc: Global, state: State) -> Result<bool, Fault> {
     let first = update(1, 0, b"", b"a");
-    for state in [State::Active, State::Prepared, State::Aborting] {
-        // prepared-at-checkpoint
-        let expected = if state == State::Prepared {
-            Ok(())
-        } else {
-            Err(Fault::TransactionTable)
-        };
-        let last = checkpoint_end(alloc, 3, state, 2)?;
-        assert_eq!(rt;
-            judge_records(&rt, alloc, &[&first, &prepare(1), &begin, &last], 3),
-            expected
-        );
-        // an abort behind the prepare
-        let expected = if state == State::Aborting {
-            Ok(())
-        } else {
-            Err(Fault::TransactionTable)
-        };
-        let last = checkpoint_end(alloc, 4, state, 3)?;
-        assert_eq!(rt;
-            judge_records(
-                &rt,
-                alloc,
-                &[&first, &prepare(1), &abort(2), &begin, &last],
-                4
-            ),
-            expected
-        );
-        // the prepare behind the begin
-        let expected = if state == State::Active {
-            Ok(())
-        } else {
-            Err(Fault::TransactionTable)
-        };
-        let last = checkpoint_end(alloc, 2, state, 1)?;
-        assert_eq!(rt;
-            judge_records(&rt, alloc, &[&first, &begin, &prepare(1), &last], 2),
-            expected
-        );
+    let last = checkpoint_end(alloc, 3, state, 2)?;
+    let records = &[&first, &prepare(1), &Record::CheckpointBegin, &last];
+    Ok(is_right(alloc, records, 3, state == State::Prepared))
+}
+
+/// The same behind an abort behind the prepare, where it is aborting.
+fn is_listed_aborting(alloc: Global, state: State) -> Result<bool, Fault> {
+    let first = update(1, 0, b"", b"a");
+    let last = checkpoint_end(alloc, 4, state, 3)?;
+    let begin = Record::CheckpointBegin;
+    let records = &[&first, &prepare(1), &abort(2), &begin, &last];
+    Ok(is_right(alloc, records, 4, state == State::Aborting))
+}
+
+/// The same where the prepare stands behind the begin, and it is active.
+fn is_listed_active(alloc: Global, state: State) -> Result<bool, Fault> {
+    let first = update(1, 0, b"", b"a");
+    let last = checkpoint_end(alloc, 2, state, 1)?;
+    let records = &[&first, &Record::CheckpointBegin, &prepare(1), &last];
+    Ok(is_right(alloc, records, 2, state == State::Active))
+}
+
+#[test]
+fn states_in_a_checkpoint(rt: HostRuntime) -> Result<(), Fail> {
+    let alloc = rt.alloc();
+    for (name, state) in [
+        ("active", State::Active),
+        ("prepared", State::Prepared),
+        ("aborting", State::Aborting),
+    ] {
+        check(is_listed_prepared(alloc, state)?, name)?;
+        check(is_listed_aborting(alloc, state)?, name)?;
+        check(is_listed_active(alloc, state)?, name)?;
     }
     Ok(())
 }

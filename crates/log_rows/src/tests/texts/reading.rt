@@ -1,186 +1,239 @@
 //! Logs that are read, and what is no log.
 
+use super::super::check;
 use super::vectors::{
     BASE_LOSER, CHECKPOINT_LOSER, EMPTY_AND_FULL_VALUES, ONE_COMMIT, ONE_LOSER_RESTARTED,
     PARTIAL_ROLLBACK_COMMIT, PREPARED, PREPARED_AT_CHECKPOINT, ROLLBACK_INTERRUPTED,
 };
-use super::{checkpoint_text, rewritten};
+use super::{is_rewritten, largest_checkpoint};
 use page::Fault;
+use std::alloc::Global;
 use std::test::Fail;
-use wal::{Entry, Glance, RecordView, State, read_log};
+use wal::{Entry, Glance, Log, RecordView, State, read_log};
 
 #[test]
 fn records_of_views_spell_the_log(rt: HostRuntime) -> Result<(), Fail> {
-    let logs = [
-        ONE_COMMIT,
-        ONE_LOSER_RESTARTED,
-        CHECKPOINT_LOSER,
-        PARTIAL_ROLLBACK_COMMIT,
-        ROLLBACK_INTERRUPTED,
-        PREPARED,
-        PREPARED_AT_CHECKPOINT,
-        EMPTY_AND_FULL_VALUES,
-    ];
-    for log in logs {
-        assert_eq!(rt; rewritten(&rt, rt.alloc(), log)?.as_slice(), log);
+    for (name, log) in [
+        ("one-commit", ONE_COMMIT),
+        ("one-loser-restarted", ONE_LOSER_RESTARTED),
+        ("checkpoint-loser", CHECKPOINT_LOSER),
+        ("partial-rollback-commit", PARTIAL_ROLLBACK_COMMIT),
+        ("rollback-interrupted", ROLLBACK_INTERRUPTED),
+        ("prepared", PREPARED),
+        ("prepared-at-checkpoint", PREPARED_AT_CHECKPOINT),
+        ("empty-and-full-values", EMPTY_AND_FULL_VALUES),
+    ] {
+        check(is_rewritten(rt.alloc(), log)?, name)?;
     }
     Ok(())
+}
+
+/// Whether these are a log's base LSN, its number of records and its last LSN.
+fn has_lsns(log: &Log, base: u64, records: u64, last: u64) -> bool {
+    log.base() == base && log.len() == records && log.last() == last
+}
+
+/// Whether a log has no record at this LSN.
+fn lacks(log: &Log, lsn: u64) -> bool {
+    log.get(lsn).is_none()
+}
+
+/// Whether a log's record 3 is the compensation of record 2, to "a".
+fn shows_compensation(log: &Log) -> bool {
+    match log.get(3) {
+        Some(
+            RecordView::Compensation {
+                tx,
+                prev,
+                page,
+                slot,
+                undo_next,
+                image,
+            },
+        ) => tx == 1 && prev == 2 && page == 0 && slot == 0 && undo_next == 1 && is_a(image),
+        _ => false,
+    }
+}
+
+/// Whether a value is "a".
+fn is_a(value: Option<&[u8]>) -> bool {
+    match value {
+        Some(value) => value == b"a".as_slice(),
+        None => false,
+    }
 }
 
 #[test]
 fn views_show_compensations(rt: HostRuntime) -> Result<(), Fail> {
     let (log, torn) = read_log(rt.alloc(), PARTIAL_ROLLBACK_COMMIT)?;
-    assert_eq!(rt; torn, 0);
-    assert_eq!(rt; log.len(), 4);
-    assert!(rt; log.get(0).is_none());
-    assert!(rt; log.get(5).is_none());
-    let Some(
-        RecordView::Compensation {
-            tx,
-            prev,
-            page,
-            slot,
-            undo_next,
-            image,
-        },
-    ) = log.get(3)
-    else {
-        return Err("no compensation".into());
-    };
-    assert_eq!(rt; (tx, prev, page, slot, undo_next), (1, 2, 0, 0, 1));
-    assert_eq!(rt; image, Some(b"a".as_slice()));
-    Ok(())
+    check(torn == 0 && has_lsns(&log, 0, 4, 4), "four records")?;
+    check(lacks(&log, 0) && lacks(&log, 5), "LSNs 0 and 5")?;
+    check(shows_compensation(&log), "a compensation")
+}
+
+/// Whether a log's record 2 is the prepare of transaction 1.
+fn shows_prepare(log: &Log) -> bool {
+    match log.get(2) {
+        Some(RecordView::Prepare { tx, prev }) => tx == 1 && prev == 1,
+        _ => false,
+    }
+}
+
+/// Whether it is one at a glance.
+fn glances_at_prepare(log: &Log) -> bool {
+    if log.base() != 0 || log.last() <= 1 {
+        return false;
+    }
+    match log.glance_after(1) {
+        Glance::Prepare { tx } => tx == 1,
+        _ => false,
+    }
 }
 
 #[test]
 fn views_show_prepares(rt: HostRuntime) -> Result<(), Fail> {
-    assert_eq!(rt; PREPARED.len(), 66);
     let (log, torn) = read_log(rt.alloc(), PREPARED)?;
-    assert_eq!(rt; (log.len(), torn), (2, 0));
-    let Some(RecordView::Prepare { tx, prev }) = log.get(2) else {
-        return Err("no prepare".into());
-    };
-    assert_eq!(rt; (tx, prev), (1, 1));
-    assert!(rt; log.base() == 0);
-    assert!(rt; log.last() > 1);
-    let Glance::Prepare { tx } = log.glance_after(1) else {
-        return Err("no prepare at a glance".into());
-    };
-    assert_eq!(rt; tx, 1);
-    Ok(())
+    let is_whole = PREPARED.len() == 66 && torn == 0;
+    check(is_whole && has_lsns(&log, 0, 2, 2), "two records")?;
+    check(shows_prepare(&log), "a prepare")?;
+    check(glances_at_prepare(&log), "a prepare at a glance")
+}
+
+/// Whether a log's record 6 is the first update of transaction 1.
+fn shows_update(log: &Log) -> bool {
+    match log.get(6) {
+        Some(RecordView::Update { tx, prev, .. }) => tx == 1 && prev == 0,
+        _ => false,
+    }
+}
+
+/// Whether a log has an image at this LSN.
+fn has_image(log: &Log, lsn: u64) -> bool {
+    log.image(lsn).is_some()
 }
 
 #[test]
 fn records_stand_behind_the_base_lsn(rt: HostRuntime) -> Result<(), Fail> {
-    assert_eq!(rt; BASE_LOSER.len(), 50);
     let (log, torn) = read_log(rt.alloc(), BASE_LOSER)?;
-    assert_eq!(rt; (log.base(), log.len(), log.last(), torn), (5, 1, 6, 0));
-    assert!(rt; log.get(1).is_none());
-    assert!(rt; log.get(5).is_none());
-    assert!(rt; log.get(7).is_none());
-    let Some(RecordView::Update { tx, prev, .. }) = log.get(6) else {
-        return Err("no update".into());
-    };
-    assert_eq!(rt; (tx, prev), (1, 0));
-    assert!(rt; log.image(5).is_none());
-    assert!(rt; log.image(6).is_some());
-    Ok(())
+    let is_whole = BASE_LOSER.len() == 50 && torn == 0;
+    check(is_whole && has_lsns(&log, 5, 1, 6), "one record")?;
+    let are_lacking = lacks(&log, 1) && lacks(&log, 5) && lacks(&log, 7);
+    check(are_lacking, "LSNs 1, 5 and 7")?;
+    check(shows_update(&log), "an update")?;
+    check(!has_image(&log, 5) && has_image(&log, 6), "images")
+}
+
+/// Whether these bytes are a log's header and nothing else, with this base LSN.
+fn is_header(alloc: Global, bytes: &[u8], base: u64) -> Result<bool, Fault> {
+    let (log, torn) = read_log(alloc, bytes)?;
+    Ok(torn == 0 && has_lsns(&log, base, 0, base))
+}
+
+/// Whether these bytes are refused for their header.
+fn is_bad_header(alloc: Global, bytes: &[u8]) -> bool {
+    match read_log(alloc, bytes) {
+        Ok(_) => false,
+        Err(fault) => fault == Fault::BadLogHeader,
+    }
 }
 
 #[test]
 fn headers_of_version_2_have_16_bytes(rt: HostRuntime) -> Result<(), Fail> {
     let (header, _) = BASE_LOSER.split_at(16);
-    let (log, torn) = read_log(rt.alloc(), header)?;
-    assert_eq!(rt; (log.base(), log.len(), log.last(), torn), (5, 0, 5, 0));
+    check(is_header(rt.alloc(), header, 5)?, "16 bytes")?;
     let (short, _) = BASE_LOSER.split_at(15);
-    assert_eq!(rt;
-        read_log(rt.alloc(), short).err(),
-        Some(Fault::BadLogHeader)
-    );
-    Ok(())
+    check(is_bad_header(rt.alloc(), short), "15 bytes")
 }
 
 #[test]
 fn tables_show_prepared_transactions(rt: HostRuntime) -> Result<(), Fail> {
-    assert_eq!(rt; PREPARED_AT_CHECKPOINT.len(), 141);
     let (log, torn) = read_log(rt.alloc(), PREPARED_AT_CHECKPOINT)?;
-    assert_eq!(rt; (log.len(), torn), (4, 0));
-    let Some(RecordView::CheckpointEnd { transactions, .. }) = log.get(4) else {
-        return Err("no checkpoint end".into());
-    };
+    check(
+        PREPARED_AT_CHECKPOINT.len() == 141 && torn == 0,
+        "141 bytes",
+    )?;
     let prepared = Entry {
         state: State::Prepared,
         last: 2,
         undo_next: 1,
     };
-    assert_eq!(rt; transactions.get(0), Some((1, prepared)));
-    assert_eq!(rt; transactions.get(1), None);
-    Ok(())
+    let is_shown = match log.get(4) {
+        Some(RecordView::CheckpointEnd { transactions, .. }) => log.len() == 4
+            && transactions.get(0) == Some((1, prepared))
+            && transactions.get(1).is_none(),
+        _ => false,
+    };
+    check(is_shown, "a checkpoint end")
+}
+
+/// Whether the record of a log at this LSN is an update of an empty cell that lends this value.
+fn lends(alloc: Global, lsn: u64, value: &[u8]) -> Result<bool, Fault> {
+    let (log, _) = read_log(alloc, EMPTY_AND_FULL_VALUES)?;
+    Ok(match log.get(lsn) {
+        Some(
+            RecordView::Update {
+                before: None,
+                after: Some(after),
+                ..
+            },
+        ) => log.len() == 3 && after == value,
+        _ => false,
+    })
 }
 
 #[test]
 fn values_are_slices_of_the_log(rt: HostRuntime) -> Result<(), Fail> {
-    let (log, _) = read_log(rt.alloc(), EMPTY_AND_FULL_VALUES)?;
-    assert_eq!(rt; log.len(), 3);
-    let mut values = Vec::new(rt.alloc());
-    for lsn in 1..3u64 {
-        if let Some(RecordView::Update { before, after, .. }) = log.get(lsn) {
-            assert_eq!(rt; before, None);
-            values.push(after)?;
-        }
-    }
-    assert_eq!(rt;
-        values.as_slice(),
-        [
-            Some(&EMPTY_AND_FULL_VALUES[40..40]),
-            Some(&EMPTY_AND_FULL_VALUES[72..120])
-        ]
-        .as_slice()
-    );
-    Ok(())
+    let alloc = rt.alloc();
+    check(lends(alloc, 1, &EMPTY_AND_FULL_VALUES[40..40])?, "empty")?;
+    check(lends(alloc, 2, &EMPTY_AND_FULL_VALUES[72..120])?, "full")
+}
+
+/// Whether these bytes are a log of this many records and of this many bytes of a torn tail.
+fn is_torn(alloc: Global, bytes: &[u8], records: u64, torn_bytes: usize) -> Result<bool, Fault> {
+    let (log, torn) = read_log(alloc, bytes)?;
+    Ok(log.len() == records && torn == torn_bytes)
 }
 
 #[test]
 fn drops_a_torn_tail(rt: HostRuntime) -> Result<(), Fail> {
-    let (log, torn) = read_log(rt.alloc(), &ONE_COMMIT[..65])?;
-    assert_eq!(rt; (log.len(), torn), (1, 24));
-    let (log, torn) = read_log(rt.alloc(), b"ARIESLG1\0\0\0")?;
-    assert_eq!(rt; (log.len(), torn), (0, 3));
-    let (log, torn) = read_log(rt.alloc(), b"ARIESLG1\0\x01\x14\x19")?;
-    assert_eq!(rt; (log.len(), torn), (0, 4));
-    let (log, torn) = read_log(rt.alloc(), b"ARIESLG1")?;
-    assert_eq!(rt; (log.len(), torn), (0, 0));
-    Ok(())
+    let alloc = rt.alloc();
+    check(is_torn(alloc, &ONE_COMMIT[..65], 1, 24)?, "a byte short")?;
+    check(is_torn(alloc, b"ARIESLG1\0\0\0", 0, 3)?, "three bytes")?;
+    check(is_torn(alloc, b"ARIESLG1\0\x01\x14\x19", 0, 4)?, "a length")?;
+    check(is_torn(alloc, b"ARIESLG1", 0, 0)?, "nothing")
 }
 
 #[test]
-fn reads_and_writes_the_largest_checkpoint(rt: HostRuntime) -> Result<(), Fail> {
-    let text = checkpoint_text(&rt, rt.alloc(), 1024, 4096)?;
-    assert_eq!(rt; text.len(), 70706);
-    assert_eq!(rt;
-        rewritten(&rt, rt.alloc(), &text)?.as_slice(),
-        text.as_slice()
-    );
+fn reads_the_largest_checkpoint(rt: HostRuntime) -> Result<(), Fail> {
+    let text = largest_checkpoint(rt.alloc())?;
     let (log, _) = read_log(rt.alloc(), &text)?;
-    let Some(
-        RecordView::CheckpointEnd {
-            begin,
-            transactions,
-            dirty,
-        },
-    ) = log.get(2)
-    else {
-        return Err("no checkpoint end".into());
-    };
-    assert_eq!(rt; (begin, transactions.len(), dirty.len()), (1, 1024, 4096));
     let aborting = Entry {
         state: State::Aborting,
         last: 5,
         undo_next: 4,
     };
-    assert_eq!(rt; transactions.get(1023), Some((1024, aborting)));
-    assert_eq!(rt; transactions.get(1024), None);
-    assert_eq!(rt; dirty.get(4095), Some((4095, 3)));
-    assert_eq!(rt; dirty.get(4096), None);
-    Ok(())
+    let is_shown = match log.get(2) {
+        Some(
+            RecordView::CheckpointEnd {
+                begin,
+                transactions,
+                dirty,
+            },
+        ) => begin == 1
+            && transactions.len() == 1024
+            && dirty.len() == 4096
+            && transactions.get(1023) == Some((1024, aborting))
+            && transactions.get(1024).is_none()
+            && dirty.get(4095) == Some((4095, 3))
+            && dirty.get(4096).is_none(),
+        _ => false,
+    };
+    check(is_shown, "a checkpoint end")
+}
+
+#[test]
+fn writes_the_largest_checkpoint(rt: HostRuntime) -> Result<(), Fail> {
+    let text = largest_checkpoint(rt.alloc())?;
+    check(text.len() == 70706, "70,706 bytes")?;
+    check(is_rewritten(rt.alloc(), &text)?, "written")
 }
