@@ -1,5 +1,5 @@
 -- Entries that are kept aside.
-use Rattle.std.proofs.Common.{◌≡◌, ℕ, zero, suc, replicate, ◌%◌, ◌+◌, ◌<◌, cond, eqb, List, Option, Some, None, length, get_or, set, refl, sym, ap, ◌∙◌, inl, inr, arith, eq-eqb, ne_eqb}
+use Rattle.std.proofs.Common.{◌≡◌, ℕ, zero, suc, replicate, ◌%◌, ◌+◌, ◌<◌, ◌≤◌, cond, eqb, List, Option, Some, None, length, get_or, set, refl, sym, ap, ◌∙◌, inl, inr, arith, eq-eqb, ne_eqb}
 use Rattle.std.proofs.lemmas.Bool.{cases_eq}
 use Rattle.std.proofs.lemmas.List.{get_or-set_same, get_or-set_other}
 use Rattle.std.proofs.Math.Nat.{mod-lt}
@@ -8,7 +8,7 @@ use Rattle.wal.specs.Records.{TableEntry}
 use Rattle.wal.specs.declared.record.Entry.{Entry}
 use Rattle.wal.specs.Content.{entry_of}
 use Rattle.analysis.specs.Tables.{entry_at}
-use Rattle.analysis.specs.Steps.{kept_entry, held_entry, AreKept, IsMoved}
+use Rattle.analysis.specs.Steps.{kept_entry, held_entry, AreKept, IsMoved, AreUpTo}
 
 abbrev pub Slots : Type 0
 Slots = List (Option (ℕ × Entry))
@@ -129,6 +129,27 @@ removed t tx kept left old new other own gone =
       | inr ne ↦
           (let off = ne_eqb tx t (λ e. ne (sym e)) in
           other t new ne ∙ (ap (kept_entry t (get_or kept (t % 256) None)) (gone t ∙ ap (λ b. cond b None (entry_at t old)) off) ∙ sym (ap (λ b. cond b None (held_entry t kept old)) off)))
+    ]
+
+-- what is not there is not taken away
+pub none_removed : (tx : ℕ) (entries : List (ℕ × Entry)) → entry_at tx entries ≡ None → (n : ℕ) → entry_at n entries ≡ cond (eqb tx n) None (entry_at n entries)
+none_removed tx entries none n =
+    elim (cases_eq n tx) [
+      | inl e ↦ ap (λ m. entry_at m entries) e ∙ (none ∙ sym (ap (λ b. cond b None (entry_at n entries)) (eq-eqb tx n (sym e))))
+      | inr ne ↦ sym (ap (λ b. cond b None (entry_at n entries)) (ne_eqb tx n (λ e. ne (sym e))))
+    ]
+
+-- UP TO THE HIGHEST
+pub up_to_put : (tx highest raised : ℕ) (entry : Entry) (old new : List (ℕ × Entry)) → tx ≤ raised → highest ≤ raised
+    → ((t : ℕ) → entry_at t new ≡ cond (eqb tx t) (Some (entry_of (t, entry))) (entry_at t old)) → AreUpTo highest old → AreUpTo raised new
+up_to_put tx highest raised entry old new within higher put up t above small =
+    put t ∙ (ap (λ b. cond b (Some (entry_of (t, entry))) (entry_at t old)) (ne_eqb tx t (λ e. omega (arith, e, within, above))) ∙ up t (omega (arith, higher, above)) small)
+
+pub up_to_removed : (tx highest : ℕ) (old new : List (ℕ × Entry)) → ((n : ℕ) → entry_at n new ≡ cond (eqb tx n) None (entry_at n old)) → AreUpTo highest old → AreUpTo highest new
+up_to_removed tx highest old new gone up t above small =
+    elim (cases_eq t tx) [
+      | inl e ↦ gone t ∙ ap (λ b. cond b None (entry_at t old)) (eq-eqb tx t (sym e))
+      | inr ne ↦ gone t ∙ (ap (λ b. cond b None (entry_at t old)) (ne_eqb tx t (λ e. ne (sym e))) ∙ up t above small)
     ]
 
 -- PUT BACK

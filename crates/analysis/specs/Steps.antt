@@ -1,5 +1,5 @@
 -- What one record more does to the tables (ARIES section 6.1, the analysis pass).
-use Rattle.std.specs.Prelude.{◌≡◌, ℕ, ◌%◌, nat_lt, ◌||◌, Bool, true, false, List, slice_index_or, Option, Some, None, is_some, ◌==◌, if◌then◌else◌, ◌≢◌}
+use Rattle.std.specs.Prelude.{◌≡◌, ℕ, ◌%◌, ◌<◌, ◌^◌, nat_lt, ◌||◌, Bool, true, false, List, slice_index_or, Option, Some, None, is_some, ◌==◌, if◌then◌else◌, ◌≢◌}
 use Rattle.wal.specs.declared.record.State.{State}
 use Rattle.wal.specs.declared.record.State.TheVariants.{Active, Prepared, Aborting}
 use Rattle.wal.specs.Records.{TableEntry, LogRecord, Update, Compensation, Commit, Abort, End, Prepare}
@@ -86,6 +86,10 @@ AreKept kept = (place : ℕ) (p : ℕ × Entry) → slice_index_or kept place No
 pub record IsMoved (tx : ℕ) (kept : List (Option (ℕ × Entry))) (old new : List (ℕ × Entry)) : Type 0 where
   pub here : (t : ℕ) → (t ≢ tx) → t % PLACES ≡ tx % PLACES → entry_at t new ≡ held_entry t kept old
   pub elsewhere : (t : ℕ) → (t % PLACES ≡ tx % PLACES → ⊥) → entry_at t new ≡ entry_at t old
+
+-- the table has no entry of a transaction above this number; numbers have 32 bits (own)
+abbrev pub AreUpTo : (highest : ℕ) → List (ℕ × Entry) → Type 0
+AreUpTo highest entries = (t : ℕ) → highest < t → t < 2 ^ 32 → entry_at t entries ≡ None
 
 -- the smaller of the smallest so far, 0 for none, and another
 abbrev pub lower : ℕ → ℕ → ℕ

@@ -1,12 +1,13 @@
 //! The transaction table during the scan: of 256 transactions the entries are kept aside, each at
-//! the place of its transaction's number modulo 256, where it is found at once.
+//! the place of its transaction's number modulo 256, where it is found at once. The table itself is
+//! not searched for a transaction above the highest number that may stand in it.
 
-ghost use Rattle.std.specs.Prelude.{◌≡◌, ℕ, List, OnOk, if◌then◌else◌, ◌==◌, Some, None, IsOkUnless, ◌≢◌};
+ghost use Rattle.std.specs.Prelude.{◌≡◌, ℕ, List, OnOk, if◌then◌else◌, ◌==◌, Some, None, IsOkUnless, ◌≢◌, [], ◌<◌, ◌^◌};
 ghost use Rattle.page.specs.declared.fault.Fault.TheVariants.{NoResource};
 ghost use Rattle.wal.specs.declared.record.Entry.{Entry};
 ghost use Rattle.wal.specs.Content.{entry_of};
 ghost use Rattle.analysis.specs.Tables.{entry_at};
-ghost use Rattle.analysis.specs.Steps.{state_in, undo_next_of_entry, held_entry, AreKept, IsMoved};
+ghost use Rattle.analysis.specs.Steps.{state_in, undo_next_of_entry, held_entry, AreKept, IsMoved, AreUpTo};
 
 use page::Fault;
 use std::collections::BTreeMap;
@@ -15,12 +16,21 @@ use wal::{Entry, State};
 /// How many entries are kept aside.
 pub const PLACES: usize = 256;
 
+/// The entry of a transaction that has no record so far.
+const NEW: Entry = Entry {
+    state: State::Active,
+    last: 0,
+    undo_next: 0,
+};
+
 /// The entry of a transaction: a new one is active, and has nothing to undo.
 pub fn entry_in(
     transactions: &BTreeMap<u32, Entry>,
     kept: &[Option<(u32, Entry)>; PLACES],
+    highest: u32,
     tx: u32,
 ) -> Entry
+    requires { AreUpTo highest transactions.now.entries }
     ensures state { result.state ≡ state_in (held_entry tx kept.now transactions.now.entries) }
     ensures undo_next { result.undo_next
         ≡ undo_next_of_entry (held_entry tx kept.now transactions.now.entries) }
@@ -30,13 +40,12 @@ pub fn entry_in(
             return entry;
         }
     }
+    if tx > highest {
+        return NEW;
+    }
     match transactions.get(&tx) {
         Some(entry) => *entry,
-        None => Entry {
-            state: State::Active,
-            last: 0,
-            undo_next: 0,
-        },
+        None => NEW,
     }
 }
 
@@ -54,36 +63,50 @@ fn put(transactions: &mut BTreeMap<u32, Entry>, tx: u32, entry: Entry) -> Result
 fn make_place(
     transactions: &mut BTreeMap<u32, Entry>,
     kept: &[Option<(u32, Entry)>; PLACES],
+    highest: &mut u32,
     tx: u32,
 ) -> Result<(), Fault>
-    requires { AreKept kept.now }
+    requires kept { AreKept kept.now }
+    requires highest { AreUpTo highest.old transactions.old.entries }
     ensures ok { OnOk result
         (IsMoved tx kept.now transactions.old.entries transactions.new.entries) }
+    ensures highest { OnOk result (AreUpTo highest.new transactions.new.entries) }
     ensures err { IsOkUnless result NoResource }
 {
     if let Some((own, entry)) = kept[tx as usize % PLACES] {
         if own != tx {
             put(transactions, own, entry)?;
+            *highest = own.max(*highest);
         }
     }
     Ok(())
 }
 
-/// Keeps the entry of a transaction.
+/// Keeps the entry of a transaction: this state, LastLSN and UndoNxtLSN.
 pub fn keep(
     transactions: &mut BTreeMap<u32, Entry>,
     kept: &mut [Option<(u32, Entry)>; PLACES],
+    highest: &mut u32,
     tx: u32,
-    entry: Entry,
+    state: State,
+    last: u64,
+    undo_next: u64,
 ) -> Result<(), Fault>
-    requires { AreKept kept.old }
+    requires kept { AreKept kept.old }
+    requires highest { AreUpTo highest.old transactions.old.entries }
     ensures ok { OnOk result ((t : ℕ) → held_entry t kept.new transactions.new.entries
-        ≡ (if tx == t then Some (entry_of
-        (t, entry)) else held_entry t kept.old transactions.old.entries)) }
+        ≡ (if tx == t then Some
+        (record { tx = t; state = state; last = last; undo_next = undo_next }) else held_entry t kept.old transactions.old.entries)) }
     ensures kept { AreKept kept.new }
+    ensures highest { OnOk result (AreUpTo highest.new transactions.new.entries) }
     ensures err { IsOkUnless result NoResource }
 {
-    make_place(transactions, kept, tx)?;
+    make_place(transactions, kept, highest, tx)?;
+    let entry = Entry {
+        state,
+        last,
+        undo_next,
+    };
     kept[tx as usize % PLACES] = Some((tx, entry));
     Ok(())
 }
@@ -109,15 +132,31 @@ fn forget(kept: &mut [Option<(u32, Entry)>; PLACES], tx: u32)
 pub fn finish(
     transactions: &mut BTreeMap<u32, Entry>,
     kept: &mut [Option<(u32, Entry)>; PLACES],
+    highest: u32,
     tx: u32,
 )
-    requires { AreKept kept.old }
+    requires kept { AreKept kept.old }
+    requires highest { AreUpTo highest transactions.old.entries }
     ensures entries { (t : ℕ) → held_entry t kept.new transactions.new.entries
         ≡ (if tx == t then None else held_entry t kept.old transactions.old.entries) }
     ensures kept { AreKept kept.new }
+    ensures highest { AreUpTo highest transactions.new.entries }
 {
     forget(kept, tx);
-    transactions.remove(&tx);
+    if tx <= highest {
+        transactions.remove(&tx);
+    }
+}
+
+/// The highest number that may stand in a table: 0 where it is empty, else any.
+pub fn highest_in(transactions: &BTreeMap<u32, Entry>) -> u32
+    ensures { AreUpTo result transactions.now.entries }
+{
+    if transactions.is_empty() {
+        0
+    } else {
+        u32::MAX
+    }
 }
 
 /// Puts all entries that are kept.

@@ -2,34 +2,26 @@
 
 ghost use Rattle.std.specs.Prelude.{◌≡◌, ℕ, IfOk, OnOk, nat_eq, if◌then◌else◌, ◌==◌, Some, None, Option, true, false, slice_index_or, slice_set, IsOkUnless};
 ghost use Rattle.page.specs.declared.fault.Fault.TheVariants.{NoResource};
-ghost use Rattle.wal.specs.Content.{entry_of};
 ghost use Rattle.wal.specs.Records.{LogRecord, TableEntry, history};
 ghost use Rattle.wal.specs.Glances.{glance_of};
 ghost use Rattle.wal.specs.Redo.{rec_lsn_of};
 ghost use Rattle.wal.specs.Checkpoint.{or_else};
 ghost use Rattle.analysis.specs.Tables.{entry_at, analysed_entry, analysed_rec_lsn};
-ghost use Rattle.analysis.specs.Steps.{prepared_from, entry_seen, rec_lsn_after, AreListed, held_entry, AreKept};
+ghost use Rattle.analysis.specs.Steps.{prepared_from, entry_seen, rec_lsn_after, AreListed, held_entry, AreKept, AreUpTo};
 
-use crate::kept::{PLACES, entry_in, finish, keep, put_back};
+use crate::kept::{PLACES, entry_in, finish, highest_in, keep, put_back};
 use page::{Fault, PAGES};
 use std::collections::BTreeMap;
 use wal::{Entry, Glance, Log, State};
 
-/// An entry behind a prepare with the LSN `own`: prepared, unless it is aborting.
-fn prepared(old: Entry, own: u64) -> Entry
-    ensures state { result.state ≡ prepared_from old.state }
-    ensures last { result.last ≡ own }
-    ensures undo_next { result.undo_next ≡ old.undo_next }
+/// The state behind a prepare: prepared, unless it is aborting.
+fn prepared(old: State) -> State
+    ensures { result ≡ prepared_from old }
 {
-    let state = match old.state {
+    match old {
         State::Active => State::Prepared,
         State::Prepared => State::Prepared,
         State::Aborting => State::Aborting,
-    };
-    Entry {
-        state,
-        last: own,
-        undo_next: old.undo_next,
     }
 }
 
@@ -37,48 +29,37 @@ fn prepared(old: Entry, own: u64) -> Entry
 fn note_transaction(
     transactions: &mut BTreeMap<u32, Entry>,
     kept: &mut [Option<(u32, Entry)>; PLACES],
+    highest: &mut u32,
     glance: Glance,
     lsn: u64,
 ) -> Result<(), Fault>
-    requires { AreKept kept.old }
+    requires kept { AreKept kept.old }
+    requires highest { AreUpTo highest.old transactions.old.entries }
     ensures ok { OnOk result ((t : ℕ) → held_entry t kept.new transactions.new.entries
         ≡ entry_seen lsn glance t (held_entry t kept.old transactions.old.entries)) }
     ensures kept { AreKept kept.new }
+    ensures highest { OnOk result (AreUpTo highest.new transactions.new.entries) }
     ensures err { IsOkUnless result NoResource }
 {
     match glance {
         Glance::Update { tx, .. } => {
-            let state = entry_in(transactions, kept, tx).state;
-            let entry = Entry {
-                state,
-                last: lsn,
-                undo_next: lsn,
-            };
-            keep(transactions, kept, tx, entry)?;
+            let old = entry_in(transactions, kept, *highest, tx);
+            keep(transactions, kept, highest, tx, old.state, lsn, lsn)?;
         }
         Glance::Compensation { tx, undo_next, .. } => {
-            let state = entry_in(transactions, kept, tx).state;
-            let entry = Entry {
-                state,
-                last: lsn,
-                undo_next,
-            };
-            keep(transactions, kept, tx, entry)?;
+            let old = entry_in(transactions, kept, *highest, tx);
+            keep(transactions, kept, highest, tx, old.state, lsn, undo_next)?;
         }
         Glance::Abort { tx, .. } => {
-            let undo_next = entry_in(transactions, kept, tx).undo_next;
-            let entry = Entry {
-                state: State::Aborting,
-                last: lsn,
-                undo_next,
-            };
-            keep(transactions, kept, tx, entry)?;
+            let old = entry_in(transactions, kept, *highest, tx);
+            keep(transactions, kept, highest, tx, State::Aborting, lsn, old.undo_next)?;
         }
-        Glance::Commit { tx, .. } => finish(transactions, kept, tx),
-        Glance::End { tx, .. } => finish(transactions, kept, tx),
+        Glance::Commit { tx, .. } => finish(transactions, kept, *highest, tx),
+        Glance::End { tx, .. } => finish(transactions, kept, *highest, tx),
         Glance::Prepare { tx, .. } => {
-            let entry = prepared(entry_in(transactions, kept, tx), lsn);
-            keep(transactions, kept, tx, entry)?;
+            let old = entry_in(transactions, kept, *highest, tx);
+            let state = prepared(old.state);
+            keep(transactions, kept, highest, tx, state, lsn, old.undo_next)?;
         }
         Glance::Checkpoint => {}
     }
@@ -174,10 +155,11 @@ pub fn scan(
 {
     let mut known = [false; PAGES];
     let mut kept = [None; PLACES];
+    let mut highest = highest_in(transactions);
     let from = master.max(log.base());
     for lsn in from..log.last() {
         let glance = log.glance_after(lsn);
-        note_transaction(transactions, &mut kept, glance, lsn + 1)?;
+        note_transaction(transactions, &mut kept, &mut highest, glance, lsn + 1)?;
         note_page(dirty, &mut known, glance, lsn + 1)?;
     }
     put_back(transactions, &kept)?;

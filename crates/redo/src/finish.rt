@@ -1,25 +1,42 @@
 //! The third round: the pages of the store, with the values of the records that they lacked.
 
-ghost use Rattle.std.specs.Prelude.{◌≡◌, ℕ, ◌<◌, ◌^◌, length, slice_index_or};
+ghost use Rattle.std.specs.Prelude.{◌≡◌, ℕ, None, ◌<◌, ◌^◌, length, slice_index_or};
 ghost use Rattle.std.specs.List.{sum_by};
 ghost use Rattle.page.specs.declared.page.Page.{Page};
-ghost use Rattle.wal.specs.Records.{history};
+ghost use Rattle.wal.specs.Records.{history, record_at};
 ghost use Rattle.redo.specs.Changes.{slots_after, finished};
 ghost use Rattle.redo.specs.declared.tally.Tally.{Tally};
+ghost use Rattle.page.specs.declared.sizes.TheConstants.{SLOTS};
 
 use crate::tally::Tally;
 use page::{Page, SLOTS, Value};
+use std::array;
 use std::thread;
 use std::thread::Threads;
-use wal::Log;
+use wal::{Body, Log};
+
+/// The bodies of the records at these LSNs, none for 0. All are found before the first is looked at:
+/// they lie anywhere in the log, and so the processor waits for all of them together.
+fn bodies<'a>(log: &Log<'a>, lasts: &[u64; SLOTS]) -> [Body<'a>; SLOTS]
+    ensures count { length result ≡ SLOTS }
+    ensures each { (slot : ℕ) → slot < SLOTS → slice_index_or result slot None
+        ≡ record_at (history log.now) (slice_index_or lasts.now slot 0) }
+{
+    let mut bodies: [Body; SLOTS] = array::from_fn(|_| log.body(0));
+    for slot in 0..SLOTS {
+        bodies[slot] = log.body(lasts[slot]);
+    }
+    bodies
+}
 
 /// Puts the values of the last records into their slots; a slot that has none, which 0 says, is left.
 fn fill(log: &Log, lasts: &[u64; SLOTS], slots: &mut [Option<Value>; SLOTS])
     ensures { slots.new ≡ slots_after (history log.now) lasts.now slots.old }
 {
+    let bodies = bodies(log, lasts);
     for slot in 0..SLOTS {
         if lasts[slot] != 0 {
-            slots[slot] = log.image(lasts[slot]);
+            slots[slot] = bodies[slot].image();
         }
     }
 }

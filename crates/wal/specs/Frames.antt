@@ -1,5 +1,5 @@
 -- Reading the frames of a log from left to right, with the first fault that is met (own).
-use Rattle.std.specs.Prelude.{◌≡◌, ℕ, zero, suc, ◌+◌, ◌*◌, ◌≤◌, true, All, ◌||◌, List, [], ◌∷◌, length, take, drop, Option, Some, None, Result, Ok, Err, nat_lt, ◌==◌, if◌then◌else◌, is_some, option_map, unwrap_or, ⊤}
+use Rattle.std.specs.Prelude.{◌≡◌, ℕ, zero, suc, ◌+◌, ◌*◌, ◌≤◌, ◌<◌, true, All, ◌||◌, List, [], ◌∷◌, length, take, drop, Option, Some, None, Result, Ok, Err, nat_lt, ◌==◌, if◌then◌else◌, is_some, option_map, unwrap_or, ⊤}
 use Rattle.std.specs.Int.{w32, from_be_bytes}
 use Rattle.page.specs.declared.fault.Fault.{Fault}
 use Rattle.page.specs.declared.fault.Fault.TheVariants.{NoResource, BadLogHeader, BadLength, BadRecord, BadLsn}
@@ -19,6 +19,10 @@ body_of bytes = take (length_of bytes) (drop 4 bytes)
 -- what the body of the frame in front spells
 abbrev pub frame_at : List ℕ → Option (LogRecord × ℕ)
 frame_at bytes = body_at (body_of bytes)
+
+-- a body that spells a record, if there is one
+abbrev pub IsBody : List ℕ → Type 0
+IsBody bytes = 0 < length bytes → is_some (body_at bytes) ≡ true
 
 -- THE LOG BY ITS OFFSETS
 -- a frame stands at the offset, and its body spells a record

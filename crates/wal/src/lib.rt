@@ -26,6 +26,7 @@ pub use change::Change;
 pub use frame::write_frame;
 pub use glance::Glance;
 pub use header::LogStart;
+pub use image::Body;
 pub use laws::{
     cuts_compose, cuts_resume, cuts_settle, hops_meet_pending, lawful_by_record, losers_end,
     no_fault_of_a_log, one_log_fault, one_reading, redo_replays, redo_suffices, replay_is_winners,

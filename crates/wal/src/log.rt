@@ -13,7 +13,7 @@ ghost use Rattle.wal.specs.declared.sizes.TheConstants.{HEADER_BYTES, LARGEST_BA
 use crate::frame::body_at;
 use crate::glance::{Glance, body_here, glance_here};
 use crate::header::{LogStart, start_at};
-use crate::image::image_here;
+use crate::image::Body;
 use crate::offsets::Offsets;
 use crate::reading::{offsets_by, offsets_of};
 use crate::view::RecordView;
@@ -88,18 +88,27 @@ impl<'a> Log<'a> {
         record_in(self.bytes, &self.offsets, self.begins.base(), lsn)
     }
 
-    /// The image that the record at an LSN put into its cell: None where that was no value, for a
-    /// record that is in no cell, and up to the base LSN and past the end. No more of the record is
-    /// decoded than that.
-    pub fn image(&self, lsn: u64) -> Option<Value>
-        ensures { result ≡ image_in (record_at (history self.now) lsn) }
+    /// The body of the record at an LSN, that of no record up to the base LSN and past the end. Where
+    /// several are wanted, to ask for all before the first is looked at lets the processor fetch them
+    /// beside each other.
+    #[inline(always)]
+    pub fn body(&self, lsn: u64) -> Body<'a>
+        ensures { result ≡ record_at (history self.now) lsn }
     {
         let base = self.begins.base();
         if lsn <= base || lsn > self.last() {
-            return None;
+            return Body::none();
         }
         let offset = self.offsets.get((lsn - base - 1) as usize);
-        image_here(self.bytes, offset)
+        Body::at(self.bytes, offset)
+    }
+
+    /// The image that the record at an LSN put into its cell, as `Body::image` tells it: None up to
+    /// the base LSN and past the end.
+    pub fn image(&self, lsn: u64) -> Option<Value>
+        ensures { result ≡ image_in (record_at (history self.now) lsn) }
+    {
+        self.body(lsn).image()
     }
 
     /// The record behind an LSN, which is the base LSN or above it and below the last one: the

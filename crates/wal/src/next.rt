@@ -96,7 +96,7 @@ fn body_lsn(bytes: &[u8]) -> Option<u64>
 
 /// How many bytes the frame in front takes, which is to have this LSN; None where the whole frames
 /// have ended.
-#[inline]
+#[inline(always)]
 #[tactic(auto, using(crate::proofs::NextFrame::size_of_none, crate::proofs::NextFrame::size_of_other, crate::proofs::NextFrame::size_of_right), unfolding(crate::specs::Frames::next_at))]
 pub fn next_at(lsn: u64, offset: usize, bytes: &[u8]) -> Result<Option<usize>, Fault>
     ensures { Gives (λ size. size) result (size_in (next_at lsn offset bytes.now)) }

@@ -54,6 +54,7 @@ impl Offsets {
     }
 
     /// Puts one behind the others. The only error is `NoResource`.
+    #[inline(always)]
     pub fn push(&mut self, offset: usize) -> Result<(), Fault>
         ensures ok { OnOk result (self.new ≡ self.old ++ offset ∷ []) }
         ensures err { IsOkUnless result NoResource }

@@ -15,7 +15,7 @@ loop-lsn-init c =
     let before = first c.max-from.result log in
     let short : last_lsn before ≤ max c.args.master (base_lsn before) =
     omega (arith, size_of_first_le c.max-from.result log (omega (arith, c.base.ensures.is, c.max-from.ensures)), base_of_first c.max-from.result log, c.base.ensures.is, c.max-from.ensures) in
-    (λ t base e. none_held t c.args.transactions.now.entries ∙ e ∙ sym (entry_none t c.args.master base before short), λ p base e. e ∙ sym (rec_lsn_none p c.args.master base before short), λ none. none_held 0 c.args.transactions.now.entries ∙ none, λ page noted. none_known 4096 page noted, none_kept)
+    (λ t base e. none_held t c.args.transactions.now.entries ∙ e ∙ sym (entry_none t c.args.master base before short), λ p base e. e ∙ sym (rec_lsn_none p c.args.master base before short), λ none. none_held 0 c.args.transactions.now.entries ∙ none, λ page noted. none_known 4096 page noted, none_kept, c.highest_in-highest.ensures)
 
 pub loop-lsn-preserved : goal.loop-lsn-preserved
 loop-lsn-preserved c =
@@ -35,6 +35,7 @@ loop-lsn-preserved c =
           ∙ none_noted lsn r seen.fits,
       c.in_ok-note_page.ensures.known,
       c.in_ok-note_transaction.ensures.kept,
+      c.in_ok-note_transaction.ensures.highest,
     )
 
 pub returns-clause-entries : goal.returns-clause-entries

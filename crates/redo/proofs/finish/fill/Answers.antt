@@ -1,6 +1,6 @@
 use Rattle.std.proofs.Common.{ℕ, List, ◌≡◌, ◌<◌, ◌+◌, None, get_or, set, sym, ap, subst, cond, ne_eqb, eq-eqb, ◌∙◌, inl, inr, refl, arith}
 use Rattle.std.proofs.lemmas.Bool.{cases_eq}
-use Rattle.std.proofs.lemmas.List.{ext_get_or, get_or-set_same, get_or-set_other, length-set}
+use Rattle.std.proofs.lemmas.List.{ext_get_or, get_or-set_same, get_or-set_other, length-set, get_or_default}
 use Rattle.page.specs.Image.{Image}
 use Rattle.wal.specs.Records.{History, history, record_at}
 use Rattle.wal.specs.Meaning.{image_in}
@@ -58,7 +58,7 @@ loop-slot-preserved c =
     elim c.if-lasts-slot-ne0.branch [
       | then-lasts-slot-ne0 w ↦
           subst (AreFilled log lasts before (i + 1)) (sym w.slots-is)
-          (filled log lasts before now i w.image.result lt c.loop-slot.invariant (w.image.ensures ∙ sym (there ∙ held_some log (get_or lasts i 0) (get_or before i None) w.if-lasts-slot-ne0.true)))
+          (filled log lasts before now i w.image.result lt c.loop-slot.invariant (w.image.ensures ∙ ap image_in (get_or_default c.bodies-bodies.result i w.index-bodies-slot.result None (omega (arith, c.bodies-bodies.ensures.count, lt)) ∙ c.bodies-bodies.ensures.each i lt) ∙ sym (there ∙ held_some log (get_or lasts i 0) (get_or before i None) w.if-lasts-slot-ne0.true)))
       | else-lasts-slot-ne0 w ↦
           subst (AreFilled log lasts before (i + 1)) (sym w.slots-is)
           (left log lasts before now i c.loop-slot.invariant (sym (there ∙ held_none log (get_or lasts i 0) (get_or before i None) w.if-lasts-slot-ne0.false)))
