@@ -8,7 +8,7 @@ use Rattle.wal.specs.Records.{TableEntry}
 use Rattle.wal.specs.declared.record.Entry.{Entry}
 use Rattle.wal.specs.Content.{entry_of}
 use Rattle.analysis.specs.Tables.{entry_at}
-use Rattle.analysis.specs.Steps.{kept_entry, held_entry, AreKept, IsMoved, AreUpTo}
+use Rattle.analysis.specs.Steps.{kept_entry, held_entry, AreKept, IsMoved, HasNoneAbove}
 
 abbrev pub Slots : Type 0
 Slots = List (Option (ℕ × Entry))
@@ -139,14 +139,14 @@ none_removed tx entries none n =
       | inr ne ↦ sym (ap (λ b. cond b None (entry_at n entries)) (ne_eqb tx n (λ e. ne (sym e))))
     ]
 
--- UP TO THE HIGHEST
-pub up_to_put : (tx highest raised : ℕ) (entry : Entry) (old new : List (ℕ × Entry)) → tx ≤ raised → highest ≤ raised
-    → ((t : ℕ) → entry_at t new ≡ cond (eqb tx t) (Some (entry_of (t, entry))) (entry_at t old)) → AreUpTo highest old → AreUpTo raised new
-up_to_put tx highest raised entry old new within higher put up t above small =
+-- NONE ABOVE THE HIGHEST
+pub none_above_put : (tx highest raised : ℕ) (entry : Entry) (old new : List (ℕ × Entry)) → tx ≤ raised → highest ≤ raised
+    → ((t : ℕ) → entry_at t new ≡ cond (eqb tx t) (Some (entry_of (t, entry))) (entry_at t old)) → HasNoneAbove highest old → HasNoneAbove raised new
+none_above_put tx highest raised entry old new within higher put up t above small =
     put t ∙ (ap (λ b. cond b (Some (entry_of (t, entry))) (entry_at t old)) (ne_eqb tx t (λ e. omega (arith, e, within, above))) ∙ up t (omega (arith, higher, above)) small)
 
-pub up_to_removed : (tx highest : ℕ) (old new : List (ℕ × Entry)) → ((n : ℕ) → entry_at n new ≡ cond (eqb tx n) None (entry_at n old)) → AreUpTo highest old → AreUpTo highest new
-up_to_removed tx highest old new gone up t above small =
+pub none_above_removed : (tx highest : ℕ) (old new : List (ℕ × Entry)) → ((n : ℕ) → entry_at n new ≡ cond (eqb tx n) None (entry_at n old)) → HasNoneAbove highest old → HasNoneAbove highest new
+none_above_removed tx highest old new gone up t above small =
     elim (cases_eq t tx) [
       | inl e ↦ gone t ∙ ap (λ b. cond b None (entry_at t old)) (eq-eqb tx t (sym e))
       | inr ne ↦ gone t ∙ (ap (λ b. cond b None (entry_at t old)) (ne_eqb tx t (λ e. ne (sym e))) ∙ up t above small)

@@ -88,8 +88,8 @@ pub record IsMoved (tx : ℕ) (kept : List (Option (ℕ × Entry))) (old new : L
   pub elsewhere : (t : ℕ) → (t % PLACES ≡ tx % PLACES → ⊥) → entry_at t new ≡ entry_at t old
 
 -- the table has no entry of a transaction above this number; numbers have 32 bits (own)
-abbrev pub AreUpTo : (highest : ℕ) → List (ℕ × Entry) → Type 0
-AreUpTo highest entries = (t : ℕ) → highest < t → t < 2 ^ 32 → entry_at t entries ≡ None
+abbrev pub HasNoneAbove : (highest : ℕ) → List (ℕ × Entry) → Type 0
+HasNoneAbove highest entries = (t : ℕ) → highest < t → t < 2 ^ 32 → entry_at t entries ≡ None
 
 -- the smaller of the smallest so far, 0 for none, and another
 abbrev pub lower : ℕ → ℕ → ℕ

@@ -7,7 +7,7 @@ ghost use Rattle.page.specs.declared.fault.Fault.TheVariants.{NoResource};
 ghost use Rattle.wal.specs.declared.record.Entry.{Entry};
 ghost use Rattle.wal.specs.Content.{entry_of};
 ghost use Rattle.analysis.specs.Tables.{entry_at};
-ghost use Rattle.analysis.specs.Steps.{state_in, undo_next_of_entry, held_entry, AreKept, IsMoved, AreUpTo};
+ghost use Rattle.analysis.specs.Steps.{state_in, undo_next_of_entry, held_entry, AreKept, IsMoved, HasNoneAbove};
 
 use page::Fault;
 use std::collections::BTreeMap;
@@ -30,7 +30,7 @@ pub fn entry_in(
     highest: u32,
     tx: u32,
 ) -> Entry
-    requires { AreUpTo highest transactions.now.entries }
+    requires { HasNoneAbove highest transactions.now.entries }
     ensures state { result.state ≡ state_in (held_entry tx kept.now transactions.now.entries) }
     ensures undo_next { result.undo_next
         ≡ undo_next_of_entry (held_entry tx kept.now transactions.now.entries) }
@@ -67,10 +67,10 @@ fn make_place(
     tx: u32,
 ) -> Result<(), Fault>
     requires kept { AreKept kept.now }
-    requires highest { AreUpTo highest.old transactions.old.entries }
+    requires highest { HasNoneAbove highest.old transactions.old.entries }
     ensures ok { OnOk result
         (IsMoved tx kept.now transactions.old.entries transactions.new.entries) }
-    ensures highest { OnOk result (AreUpTo highest.new transactions.new.entries) }
+    ensures highest { OnOk result (HasNoneAbove highest.new transactions.new.entries) }
     ensures err { IsOkUnless result NoResource }
 {
     if let Some((own, entry)) = kept[tx as usize % PLACES] {
@@ -93,12 +93,12 @@ pub fn keep(
     undo_next: u64,
 ) -> Result<(), Fault>
     requires kept { AreKept kept.old }
-    requires highest { AreUpTo highest.old transactions.old.entries }
+    requires highest { HasNoneAbove highest.old transactions.old.entries }
     ensures ok { OnOk result ((t : ℕ) → held_entry t kept.new transactions.new.entries
         ≡ (if tx == t then Some
         (record { tx = t; state = state; last = last; undo_next = undo_next }) else held_entry t kept.old transactions.old.entries)) }
     ensures kept { AreKept kept.new }
-    ensures highest { OnOk result (AreUpTo highest.new transactions.new.entries) }
+    ensures highest { OnOk result (HasNoneAbove highest.new transactions.new.entries) }
     ensures err { IsOkUnless result NoResource }
 {
     make_place(transactions, kept, highest, tx)?;
@@ -136,11 +136,11 @@ pub fn finish(
     tx: u32,
 )
     requires kept { AreKept kept.old }
-    requires highest { AreUpTo highest transactions.old.entries }
+    requires highest { HasNoneAbove highest transactions.old.entries }
     ensures entries { (t : ℕ) → held_entry t kept.new transactions.new.entries
         ≡ (if tx == t then None else held_entry t kept.old transactions.old.entries) }
     ensures kept { AreKept kept.new }
-    ensures highest { AreUpTo highest transactions.new.entries }
+    ensures highest { HasNoneAbove highest transactions.new.entries }
 {
     forget(kept, tx);
     if tx <= highest {
@@ -150,7 +150,7 @@ pub fn finish(
 
 /// The highest number that may stand in a table: 0 where it is empty, else any.
 pub fn highest_in(transactions: &BTreeMap<u32, Entry>) -> u32
-    ensures { AreUpTo result transactions.now.entries }
+    ensures { HasNoneAbove result transactions.now.entries }
 {
     if transactions.is_empty() {
         0

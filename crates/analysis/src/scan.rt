@@ -7,7 +7,7 @@ ghost use Rattle.wal.specs.Glances.{glance_of};
 ghost use Rattle.wal.specs.Redo.{rec_lsn_of};
 ghost use Rattle.wal.specs.Checkpoint.{or_else};
 ghost use Rattle.analysis.specs.Tables.{entry_at, analysed_entry, analysed_rec_lsn};
-ghost use Rattle.analysis.specs.Steps.{prepared_from, entry_seen, rec_lsn_after, AreListed, held_entry, AreKept, AreUpTo};
+ghost use Rattle.analysis.specs.Steps.{prepared_from, entry_seen, rec_lsn_after, AreListed, held_entry, AreKept, HasNoneAbove};
 
 use crate::kept::{PLACES, entry_in, finish, highest_in, keep, put_back};
 use page::{Fault, PAGES};
@@ -34,11 +34,11 @@ fn note_transaction(
     lsn: u64,
 ) -> Result<(), Fault>
     requires kept { AreKept kept.old }
-    requires highest { AreUpTo highest.old transactions.old.entries }
+    requires highest { HasNoneAbove highest.old transactions.old.entries }
     ensures ok { OnOk result ((t : ℕ) → held_entry t kept.new transactions.new.entries
         ≡ entry_seen lsn glance t (held_entry t kept.old transactions.old.entries)) }
     ensures kept { AreKept kept.new }
-    ensures highest { OnOk result (AreUpTo highest.new transactions.new.entries) }
+    ensures highest { OnOk result (HasNoneAbove highest.new transactions.new.entries) }
     ensures err { IsOkUnless result NoResource }
 {
     match glance {

@@ -1,5 +1,5 @@
 -- What the loops of the encoder keep.
-use Rattle.std.proofs.Common.{◌≡◌, ℕ, ◌+◌, ◌*◌, ◌<◌, ◌≤◌, List, [], ◌∷◌, ◌++◌, length, get_or, take, drop, Some, None, All, sym, ap, ap₂, subst, ◌∙◌, arith}
+use Rattle.std.proofs.Common.{◌≡◌, ℕ, ◌+◌, ◌*◌, ◌<◌, ◌≤◌, List, [], ◌∷◌, ◌++◌, length, get_or, take, drop, Some, None, All, refl, sym, ap, ap₂, subst, ◌∙◌, arith}
 use Rattle.std.proofs.lemmas.List.{append-nil, take_more, length-append, length-drop, take_at, drop_all}
 use Rattle.std.proofs.lemmas.List.Elements.{All-more}
 use Rattle.std.proofs.lemmas.Slice.{take-put_mid, drop-put_mid}
@@ -92,3 +92,10 @@ listed_more store pages i bytes image new page same so_far lt read text fits e =
       text = e ∙ ap (λ (t : List ℕ). t ++ image) (so_far.text ∙ ap (λ xs. first ++ images (take i xs)) (sym same)) ∙ ap (λ (t : List ℕ). first ++ t) (sym front) ∙ ap (λ xs. first ++ images (take (i + 1) xs)) same;
       fits = subst (λ xs. All FitsPage (take (i + 1) xs)) same (All-more FitsPage pages i page lt (subst (λ xs. All FitsPage (take i xs)) (sym same) so_far.fits) (subst FitsPage read fits));
     }
+
+-- the image of the next page put where it is to stand
+pub listed_there : (store : StoreContent) (pages : List Page) (i k : ℕ) (text image : List ℕ) (page : Page) → pages ≡ store.pages → 24 + 1024 * i ≤ length text → Listed store i (take (24 + 1024 * i) text)
+    → i < length pages → page ≡ get_or pages i page → image ≡ page_text page → FitsPage page → length image ≡ 1024 → Listed store (i + 1) (take (24 + 1024 * (i + 1)) (put_mid (24 + 1024 * i) k text image))
+listed_there store pages i k text image page same room so_far lt read is fits long =
+    listed_more store pages i (take (24 + 1024 * i) text) image _ page same so_far lt read is fits
+    (written_behind (24 + 1024 * i) k (24 + 1024 * (i + 1)) text image (take (24 + 1024 * i) text) refl (omega (arith, long)) room)

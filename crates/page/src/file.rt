@@ -1,12 +1,12 @@
 //! The store file: header and page images.
 
-ghost use Rattle.std.specs.Prelude.{◌≡◌, ◌<◌, ◌≤◌, ◌*◌, ◌^◌, ℕ, IfSome, IfOk, IfErr, OnOk, MatchResult, length};
+ghost use Rattle.std.specs.Prelude.{◌≡◌, ◌<◌, ◌≤◌, ◌+◌, ◌*◌, ◌^◌, ℕ, IfSome, IfOk, IfErr, OnOk, MatchResult, length};
 ghost use Rattle.page.specs.Store.{StoreContent};
 ghost use Rattle.page.specs.File.{store_header, store_text, FitsStore, SpellsStore, BeginsWithHeader, StoreFault};
-ghost use Rattle.page.specs.declared.sizes.TheConstants.{PAGES, PAGE_BYTES};
+ghost use Rattle.page.specs.declared.sizes.TheConstants.{PAGES, PAGE_BYTES, STORE_HEADER_BYTES};
 ghost use Rattle.page.specs.Images.{SpellPages, PagesFault};
 
-use crate::image::{encode_page, page_at};
+use crate::image::{page_at, put_page};
 use crate::numbers::numbers_at;
 use crate::sizes::{PAGE_BYTES, PAGES, STORE_HEADER_BYTES};
 use crate::{Fault, Page, Store};
@@ -25,21 +25,32 @@ fn header(count: u32, master: u64) -> [u8; STORE_HEADER_BYTES]
     header
 }
 
+/// Writes the spelling of a store over bytes of its length, each where it is to stand.
+fn put_store(store: &Store, text: &mut [u8])
+    requires { length text.old ≡ STORE_HEADER_BYTES + PAGE_BYTES * length store.now.pages }
+    ensures text { text.new ≡ store_text store.now }
+    ensures fits { FitsStore store.now }
+{
+    let pages = &store.pages;
+    let header = header(pages.len() as u32, store.master);
+    text[..STORE_HEADER_BYTES].copy_from_slice(&header);
+    for number in 0..pages.len() {
+        let place = STORE_HEADER_BYTES + PAGE_BYTES * number;
+        put_page(&pages[number], &mut text[place..place + PAGE_BYTES]);
+    }
+}
+
 /// The one spelling of a store, in place of what the vector holds: `ARIESPG1`, page count, four
 /// zeros, master; then the images of the pages in order: 24 + 1,024 x count bytes, all numbers big
-/// endian. The vector's room is used, and takes memory only where it is too small. The only error
-/// is `NoResource`, where memory is refused; then a beginning of the spelling stands there.
+/// endian. A vector of that length takes no memory. The only error is `NoResource`, where memory is
+/// refused; nothing is written then.
 pub fn encode_store_into(store: &Store, bytes: &mut Vec<u8>) -> Result<(), Fault>
     ensures ok { OnOk result (bytes.new.items ≡ store_text store.now) }
     ensures fits { OnOk result (FitsStore store.now) }
     ensures err { IfErr result (λ e. e ≡ Fault.NoResource) }
 {
-    let pages = &store.pages;
-    bytes.clear();
-    bytes.extend_from_slice(&header(pages.len() as u32, store.master))?;
-    for page in pages {
-        bytes.extend_from_slice(&encode_page(page))?;
-    }
+    bytes.resize(STORE_HEADER_BYTES + PAGE_BYTES * store.pages.len(), 0)?;
+    put_store(store, &mut bytes[..]);
     Ok(())
 }
 

@@ -75,7 +75,7 @@ fn header(number: u32, lsn: u64) -> [u8; PAGE_HEADER_BYTES]
 }
 
 /// Writes the image of a page.
-fn put_page(page: &Page, image: &mut [u8])
+pub fn put_page(page: &Page, image: &mut [u8])
     requires { length image.old ≡ PAGE_BYTES }
     ensures text { image.new ≡ page_text page.now }
     ensures fits { FitsPage page.now }

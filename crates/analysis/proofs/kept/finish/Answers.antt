@@ -1,6 +1,6 @@
 use Rattle.std.proofs.Common.{◌≡◌, ℕ, cond, eqb, None, arith}
 use Rattle.analysis.specs.Tables.{entry_at}
-use Rattle.analysis.proofs.Keeping.{removed, none_removed, up_to_removed}
+use Rattle.analysis.proofs.Keeping.{removed, none_removed, none_above_removed}
 use Rattle.analysis.proofs.Maps.{entry_at-changed}
 use Rattle.analysis.proofs.kept.finish.Goals.{After-remove}
 use Rattle.analysis.proofs.kept.finish.Goals as goal
@@ -14,7 +14,7 @@ returns-then-tx-highest-clause-entries c = λ t.
 
 pub returns-then-tx-highest-clause-highest : goal.returns-then-tx-highest-clause-highest
 returns-then-tx-highest-clause-highest c =
-    up_to_removed c.args.tx c.args.highest c.args.transactions.now.entries c.remove.new.self.entries (gone c) c.requires.highest
+    none_above_removed c.args.tx c.args.highest c.args.transactions.now.entries c.remove.new.self.entries (gone c) c.requires.highest
 
 pub returns-else-tx-highest-clause-entries : goal.returns-else-tx-highest-clause-entries
 returns-else-tx-highest-clause-entries c = λ t.

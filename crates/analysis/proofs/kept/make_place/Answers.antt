@@ -1,5 +1,5 @@
 use Rattle.std.proofs.Common.{arith}
-use Rattle.analysis.proofs.Keeping.{moved_other, up_to_put}
+use Rattle.analysis.proofs.Keeping.{moved_other, none_above_put}
 use Rattle.analysis.proofs.kept.make_place.Goals as goal
 
 pub returns-in_ok-put-clause-ok : goal.returns-in_ok-put-clause-ok
@@ -8,4 +8,4 @@ returns-in_ok-put-clause-ok c =
 
 pub returns-in_ok-put-clause-highest : goal.returns-in_ok-put-clause-highest
 returns-in_ok-put-clause-highest c =
-    up_to_put c.in-Some.own c.args.highest.now c.max.result c.in-Some.entry c.args.transactions.now.entries c.put.new.transactions.entries (omega (arith, c.max.ensures)) (omega (arith, c.max.ensures)) c.in_ok-put.ensures.ok c.requires.highest
+    none_above_put c.in-Some.own c.args.highest.now c.max.result c.in-Some.entry c.args.transactions.now.entries c.put.new.transactions.entries (omega (arith, c.max.ensures)) (omega (arith, c.max.ensures)) c.in_ok-put.ensures.ok c.requires.highest

@@ -2,7 +2,7 @@ use Rattle.std.proofs.Common.{◌≡◌, ℕ, Option, None}
 use Rattle.wal.specs.Records.{TableEntry, history, first}
 use Rattle.wal.specs.Redo.{rec_lsn_of}
 use Rattle.analysis.specs.Tables.{entry_at, analysed_entry, analysed_rec_lsn}
-use Rattle.analysis.specs.Steps.{AreListed, held_entry, AreKept, AreUpTo}
+use Rattle.analysis.specs.Steps.{AreListed, held_entry, AreKept, HasNoneAbove}
 use Rattle.analysis.proofs.scan.scan.Given as goal
 
 abbrev pub invariant-loop-lsn : goal.invariant-loop-lsn
@@ -14,4 +14,4 @@ invariant-loop-lsn l =
     × (entry_at 0 l.fn.transactions.entries ≡ None → held_entry 0 l.kept l.transactions.entries ≡ None)
     × AreListed l.known l.dirty.entries
     × AreKept l.kept
-    × AreUpTo l.highest l.transactions.entries
+    × HasNoneAbove l.highest l.transactions.entries
