@@ -67,11 +67,16 @@ impl Offsets {
         Ok(())
     }
 
-    /// Puts others behind them. The only error is `NoResource`.
+    /// Puts others behind them; those are taken as they are where there is none yet. The only error
+    /// is `NoResource`.
     pub fn append(&mut self, others: Offsets) -> Result<(), Fault>
         ensures ok { OnOk result (self.new ≡ self.old ++ others) }
         ensures err { IsOkUnless result NoResource }
     {
+        if self.short.is_empty() && self.long.is_empty() {
+            *self = others;
+            return Ok(());
+        }
         let Offsets {
             mut short,
             mut long,
