@@ -283,8 +283,8 @@ def documents():
 
 
 def is_readme_code_tested():
-    """Whether each part of the code in README stands in a file whose function the tests of `rows` call."""
-    tested, shown = text_of("crates/rows/src/in_memory.rt"), re.findall(r"```rust\n(.*?)```", text_of("README.md"), re.S)
+    """Whether each part of the code in README stands in a file whose function the tests of `recovery_rows` call."""
+    tested, shown = text_of("crates/recovery_rows/src/in_memory.rt"), re.findall(r"```rust\n(.*?)```", text_of("README.md"), re.S)
     return bool(shown) and all(part.strip() in tested for code in shown for part in code.split("\n\n"))
 
 

@@ -139,8 +139,3 @@ fn main(rt: HostRuntime) -> Result<()> {
     let index = fs::read_to_string(&rt, "index")?;
     run_rows(&rt, index.as_str())
 }
-
-#[cfg(test)]
-mod in_memory;
-#[cfg(test)]
-mod tests;

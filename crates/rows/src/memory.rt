@@ -3,8 +3,8 @@
 use crate::verdict::Verdict;
 use anyhow::{Context, Result};
 use aries::{
-    Fault, MemorySink, MemorySource, OpenGate, Options, Report, recover, recovery_alone,
-    report_text,
+    Fault, MemorySink, MemorySource, OpenGate, Options, Report, Sink, Source, recover,
+    recovery_alone, report_text,
 };
 use device::{Pace, SlowSink, SlowSource};
 use std::fs;
@@ -98,6 +98,27 @@ fn of_recovery_alone<R: AllocGlobal>(rt: &R, row: &Row) -> Result<Verdict> {
     }
 }
 
+/// What a recovery over devices answers.
+fn recovered<LR: Source, SR: Source, LW: Sink, SW: Sink, R: AllocGlobal + Threads + Sync>(
+    rt: &R,
+    log: &mut LR,
+    store: &mut SR,
+    out_log: &mut LW,
+    out_store: &mut SW,
+    options: &Options,
+) -> Result<Report, Fault> {
+    recover(
+        rt,
+        rt.alloc(),
+        log,
+        store,
+        out_log,
+        out_store,
+        options,
+        &OpenGate,
+    )
+}
+
 /// Whether a recovery of a row over memory, and one without threads, do what the row says.
 pub fn of_recovery<R: Files + AllocGlobal + Threads + Sync>(
     rt: &R,
@@ -107,15 +128,13 @@ pub fn of_recovery<R: Files + AllocGlobal + Threads + Sync>(
     let row = Row::read(rt, row)?;
     let mut out_log = MemorySink::new(rt.alloc());
     let mut out_store = MemorySink::new(rt.alloc());
-    let answer = recover(
+    let answer = recovered(
         rt,
-        rt.alloc(),
         &mut MemorySource::new(&row.log),
         &mut MemorySource::new(&row.store),
         &mut out_log,
         &mut out_store,
         options,
-        &OpenGate,
     );
     let verdict = row.verdict_on(rt, answer, out_log.bytes(), out_store.bytes())?;
     if verdict != Verdict::Same {
@@ -138,15 +157,13 @@ pub fn of_slow_recovery<R: Files + AllocGlobal + Threads + Sync>(
     let pace = Pace::of_step(STEP);
     let mut out_log = SlowSink::new(rt.alloc(), row.new_log.len(), pace)?;
     let mut out_store = SlowSink::new(rt.alloc(), row.new_store.len(), pace)?;
-    let answer = recover(
+    let answer = recovered(
         rt,
-        rt.alloc(),
         &mut SlowSource::new(&row.log, pace),
         &mut SlowSource::new(&row.store, pace),
         &mut out_log,
         &mut out_store,
         options,
-        &OpenGate,
     );
     row.verdict_on(rt, answer, out_log.bytes(), out_store.bytes())
 }

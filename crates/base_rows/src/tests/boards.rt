@@ -1,9 +1,10 @@
 //! What boards give to one seat and to several.
 
-ghost use Rattle.std.specs.Prelude.{◌≡◌, ◌<◌, length};
+ghost use Rattle.std.specs.Prelude.{◌≡◌, ◌+◌, ◌<◌, ◌≤◌, length};
 
-use super::{check, check_at};
+use super::{check, check_all, check_at};
 use board::{Board, Draw, Seat, Tally};
+use std::alloc::Global;
 use std::test::Fail;
 use std::thread::join;
 
@@ -39,17 +40,37 @@ fn draw_all(board: &Board, mut seat: Seat, home: u32) -> (Seat, [u32; 10])
     (seat, counts)
 }
 
+// Fails a test where two seats, of two places of one range, do not draw these numbers and none, or
+// another word is told at the end.
+fn check_halves<const N: usize>(
+    board: Board,
+    mut first: Seat,
+    mut second: Seat,
+    numbers: [u32; N],
+    word: u64,
+) -> Result<(), Fail>
+    requires seats { (first.board ≡ board) × (second.board ≡ board) }
+    requires places { first.places + second.places ≡ board.seats }
+    requires ranges { board.ranges ≡ 1 }
+{
+    let all = drawn::<N>(&board, &mut first, 0);
+    let none = drawn::<1>(&board, &mut second, 0);
+    let seat = board.join(first, second);
+    let places = seat.places();
+    let told = board.close(seat).word(0);
+    check_all(&[
+        (all == numbers, "the half that draws"),
+        (none == [NONE], "the other half"),
+        (places == 2, "places"),
+        (told == word, "word"),
+    ])
+}
+
 #[test]
 fn one_half_draws_all(rt: HostRuntime) -> Result<(), Fail> {
     let (board, seat) = Board::new(rt.alloc(), 3, 1, 2)?;
-    let (mut a, mut b) = board.split(seat);
-    let all = drawn::<4>(&board, &mut a, 0);
-    let none = drawn::<1>(&board, &mut b, 0);
-    let seat = board.join(a, b);
-    let word = board.close(seat).word(0);
-    check(all == [0, 1, 2, NONE], "the half that draws")?;
-    check(none == [NONE], "the other half")?;
-    check(word == 5, "word")
+    let (a, b) = board.split(seat);
+    check_halves(board, a, b, [0, 1, 2, NONE], 5)
 }
 
 #[test]
@@ -57,83 +78,104 @@ fn halves_know_the_end(rt: HostRuntime) -> Result<(), Fail> {
     let (board, mut seat) = Board::new(rt.alloc(), 3, 1, 2)?;
     let whole = seat.places();
     let all = drawn::<4>(&board, &mut seat, 0);
-    let (mut a, mut b) = board.split(seat);
+    let (a, b) = board.split(seat);
     let halves = [a.places(), b.places()];
-    let first = drawn::<1>(&board, &mut a, 0);
-    let second = drawn::<1>(&board, &mut b, 0);
-    let seat = board.join(a, b);
-    let joined = seat.places();
-    let word = board.close(seat).word(0);
-    check(all == [0, 1, 2, NONE], "the seat that draws")?;
-    check(first == [NONE] && second == [NONE], "the halves")?;
-    check([whole, joined] == [2, 2] && halves == [1, 1], "places")?;
-    check(word == 4, "word")
+    check_halves(board, a, b, [NONE], 4)?;
+    check_all(&[
+        (all == [0, 1, 2, NONE], "the seat that draws"),
+        (whole == 2 && halves == [1, 1], "places"),
+    ])
+}
+
+// The words of at most four ranges, and 0 where there is none.
+fn words(tally: &Tally, ranges: u32) -> [u64; 4]
+    requires { (ranges ≤ length tally.now.words) × (ranges ≤ 4) }
+{
+    let mut words = [0; 4];
+    for range in 0..ranges {
+        words[range as usize] = tally.word(range);
+    }
+    words
+}
+
+// Fails a test where one seat does not draw these numbers of a board of at most four ranges, or
+// other words are told at the end.
+fn check_alone<const N: usize>(
+    alloc: Global,
+    parts: u32,
+    ranges: u32,
+    home: u32,
+    numbers: [u32; N],
+    expected: [u64; 4],
+) -> Result<(), Fail>
+    requires parts { parts ≤ 4096 }
+    requires ranges { (1 ≤ ranges) × (ranges ≤ 4) }
+    requires home { home < ranges }
+{
+    let (board, mut seat) = Board::new(alloc, parts, ranges, 1)?;
+    let all = drawn::<N>(&board, &mut seat, home);
+    let words = words(&board.close(seat), ranges);
+    check_all(&[(all == numbers, "drawn"), (words == expected, "words")])
 }
 
 #[test]
 fn no_part(rt: HostRuntime) -> Result<(), Fail> {
-    let (board, mut seat) = Board::new(rt.alloc(), 0, 1, 1)?;
-    let none = drawn::<1>(&board, &mut seat, 0);
-    let word = board.close(seat).word(0);
-    check(none == [NONE], "drawn")?;
-    check(word == 1, "word")
-}
-
-// The words of four ranges.
-fn four_words(tally: &Tally) -> [u64; 4]
-    requires { 3 < length tally.now.words }
-{
-    [tally.word(0), tally.word(1), tally.word(2), tally.word(3)]
+    check_alone(rt.alloc(), 0, 1, 0, [NONE], [1, 0, 0, 0])
 }
 
 #[test]
 fn home_in_the_middle(rt: HostRuntime) -> Result<(), Fail> {
-    let (board, mut seat) = Board::new(rt.alloc(), 10, 4, 1)?;
-    let all = drawn::<12>(&board, &mut seat, 2);
-    let words = four_words(&board.close(seat));
-    check(all == [5, 6, 7, 8, 9, 0, 1, 2, 3, 4, NONE, NONE], "drawn")?;
-    check(words == [3, 4, 3, 4], "words")
+    let numbers = [5, 6, 7, 8, 9, 0, 1, 2, 3, 4, NONE, NONE];
+    check_alone(rt.alloc(), 10, 4, 2, numbers, [3, 4, 3, 4])
 }
 
 #[test]
 fn empty_ranges(rt: HostRuntime) -> Result<(), Fail> {
-    let (board, mut seat) = Board::new(rt.alloc(), 2, 4, 1)?;
-    let all = drawn::<3>(&board, &mut seat, 0);
-    let words = four_words(&board.close(seat));
-    check(all == [0, 1, NONE], "drawn")?;
-    check(words == [1, 2, 1, 2], "words")
+    check_alone(rt.alloc(), 2, 4, 0, [0, 1, NONE], [1, 2, 1, 2])
 }
 
 #[test]
 fn two_halves(rt: HostRuntime) -> Result<(), Fail> {
     let (board, seat) = Board::new(rt.alloc(), 1, 1, 2)?;
-    let (mut a, mut b) = board.split(seat);
-    let all = drawn::<2>(&board, &mut b, 0);
-    let none = drawn::<1>(&board, &mut a, 0);
-    let seat = board.join(b, a);
-    let word = board.close(seat).word(0);
-    check(all == [0, NONE], "the half that draws")?;
-    check(none == [NONE], "the other half")?;
-    check(word == 3, "word")
+    let (a, b) = board.split(seat);
+    check_halves(board, b, a, [0, NONE], 3)
+}
+
+// What two seats see of a stop by the second: what the first draws before, what each then draws or
+// is stopped at, and what the first draws behind it.
+fn drawn_round_a_stop(
+    board: &Board,
+    first: &mut Seat,
+    second: &mut Seat,
+) -> ([u32; 1], Draw, Draw, [u32; 1])
+    requires seats { (first.old.board ≡ board.now) × (second.old.board ≡ board.now) }
+    requires ranges { 0 < board.now.ranges }
+    ensures first { (first.new.board ≡ board.now) × (first.new.places ≡ first.old.places) }
+    ensures second { (second.new.board ≡ board.now) × (second.new.places ≡ second.old.places) }
+{
+    let before = drawn::<1>(board, first, 0);
+    board.stop(second);
+    let one = board.draw_or_stop(first, 0);
+    let other = board.draw_or_stop(second, 0);
+    let behind = drawn::<1>(board, first, 0);
+    (before, one, other, behind)
 }
 
 #[test]
 fn stop_seen(rt: HostRuntime) -> Result<(), Fail> {
     let (board, seat) = Board::new(rt.alloc(), 4, 1, 2)?;
     let (mut a, mut b) = board.split(seat);
-    let first = drawn::<1>(&board, &mut a, 0);
-    board.stop(&mut b);
-    let one = board.draw_or_stop(&mut a, 0);
-    let other = board.draw_or_stop(&mut b, 0);
-    let second = drawn::<1>(&board, &mut a, 0);
+    let (first, one, other, second) = drawn_round_a_stop(&board, &mut a, &mut b);
     let seat = board.join(a, b);
     let tally = board.close(seat);
     let (is_stopped, word) = (tally.stopped(), tally.word(0));
-    check(first == [0] && second == [1], "drawn")?;
-    check(one == Draw::Stopped, "the half that drew")?;
-    check(other == Draw::Stopped, "the half that stopped")?;
-    check(is_stopped, "not stopped")?;
-    check(word == 2, "word")
+    check_all(&[
+        (first == [0] && second == [1], "drawn"),
+        (one == Draw::Stopped, "the half that drew"),
+        (other == Draw::Stopped, "the half that stopped"),
+        (is_stopped, "not stopped"),
+        (word == 2, "word"),
+    ])
 }
 
 #[test]
@@ -142,9 +184,11 @@ fn never_stopped(rt: HostRuntime) -> Result<(), Fail> {
     let first = board.draw_or_stop(&mut seat, 0);
     let second = board.draw_or_stop(&mut seat, 0);
     let is_stopped = board.close(seat).stopped();
-    check(first == Draw::Part(0), "the first draw")?;
-    check(second == Draw::Finished, "the second draw")?;
-    check(!is_stopped, "stopped")
+    check_all(&[
+        (first == Draw::Part(0), "the first draw"),
+        (second == Draw::Finished, "the second draw"),
+        (!is_stopped, "stopped"),
+    ])
 }
 
 #[test]

@@ -2,7 +2,7 @@
 
 ghost use Rattle.std.specs.Prelude.{IfOk, ◌≤◌};
 
-use super::check;
+use super::{check, check_all};
 use device::{Failed, FileSink, FileSource, ReadFault, Sink, read_all, write_all};
 use std::alloc::Global;
 use std::fs::{File, Metadata, OpenFile};
@@ -173,19 +173,32 @@ fn a_file_is_flushed_before_it_is_synced() -> Result<(), Fail> {
     let first = out.flush();
     write_all(&mut out, b"de")?;
     let second = out.flush();
-    check(first.is_ok(), "the first flush")?;
-    check(second.is_ok(), "the second flush")?;
-    check(flushed(&[Turn::Unflushed]).is_err(), "a flush that fails")
+    check_all(&[
+        (first.is_ok(), "the first flush"),
+        (second.is_ok(), "the second flush"),
+        (flushed(&[Turn::Unflushed]).is_err(), "a flush that fails"),
+    ])
+}
+
+/// Writes "bytes" to a new file of the system.
+fn write_new(rt: &HostRuntime, path: &str) -> Result<(), Fail> {
+    let mut out = FileSink::new(File::create_new(rt, path)?);
+    let is_out = write_all(&mut out, b"bytes").is_ok() && out.flush().is_ok();
+    check(is_out, "written")
+}
+
+/// Whether a file of the system holds "bytes".
+fn holds_bytes(alloc: Global, file: File) -> Result<bool, ReadFault> {
+    let read = read_all(alloc, &mut FileSource::new(file))?;
+    Ok(read.as_slice() == b"bytes".as_slice())
 }
 
 #[test]
 fn a_file_of_the_system(rt: HostRuntime) -> Result<(), Fail> {
     let path = "device-of-the-tests";
     let _ = fs::remove_file(&rt, path);
-    let mut out = FileSink::new(File::create_new(&rt, path)?);
-    write_all(&mut out, b"bytes")?;
-    out.flush()?;
-    let read = read_all(rt.alloc(), &mut FileSource::new(File::open(&rt, path)?));
+    write_new(&rt, path)?;
+    let is_read = holds_bytes(rt.alloc(), File::open(&rt, path)?);
     fs::remove_file(&rt, path)?;
-    check(read?.as_slice() == b"bytes".as_slice(), "read")
+    check(is_read?, "read")
 }

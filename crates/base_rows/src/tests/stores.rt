@@ -1,6 +1,6 @@
 //! Images, store files and fault texts that were worked out by hand.
 
-use super::check;
+use super::{check, check_all};
 use page::{Fault, Page, Value, decode_page, decode_store, encode_page, encode_store};
 use std::alloc::{AllocError, Global};
 use std::test::Fail;
@@ -14,9 +14,7 @@ fn padded(alloc: Global, parts: &[&[u8]], len: usize) -> Result<Vec<u8>, AllocEr
     for part in parts {
         bytes.extend_from_slice(part)?;
     }
-    for _ in bytes.len()..len {
-        bytes.push(0)?;
-    }
+    bytes.resize(len, 0)?;
     Ok(bytes)
 }
 
@@ -68,10 +66,12 @@ fn empty_and_full_values(rt: HostRuntime) -> Result<(), Fail> {
 #[test]
 fn sixteen_full_values() -> Result<(), Fail> {
     let image = encode_page(&full());
-    check(image[76..80] == [0x03, 0x20, 0x00, 0x30], "the last entry")?;
-    check(image[848..] == [0; 176], "behind the values")?;
-    check(image[80] == 0x41, "the first byte")?;
-    check(image[847] == 0x50, "the last byte")
+    check_all(&[
+        (image[76..80] == [0x03, 0x20, 0x00, 0x30], "the last entry"),
+        (image[848..] == [0; 176], "behind the values"),
+        (image[80] == 0x41, "the first byte"),
+        (image[847] == 0x50, "the last byte"),
+    ])
 }
 
 #[test]
@@ -81,12 +81,15 @@ fn pages_have_their_number() -> Result<(), Fail> {
         Ok(again) => is_image(&again, &image),
         Err(_) => false,
     };
-    check(is_same, "a page of this number")?;
     let fault = match decode_page(&image, 1) {
         Ok(_) => None,
         Err(fault) => Some(fault),
     };
-    check(fault == Some(Fault::BadPage(1)), "a page of another number")
+    let is_refused = fault == Some(Fault::BadPage(1));
+    check_all(&[
+        (is_same, "a page of this number"),
+        (is_refused, "a page of another number"),
+    ])
 }
 
 /// Why these parts and zeros up to this length are no store, if they are none.
@@ -97,15 +100,17 @@ fn refusal_of(alloc: Global, parts: &[&[u8]], len: usize) -> Option<Fault> {
     }
 }
 
+/// Images that are refused: their first two entries, and what lies in their cells.
+const REFUSED_IMAGES: [(&str, &[u8], &[u8]); 4] = [
+    ("empty-value-wrong-place", &[0, 0x51, 0, 0, 0, 0, 0, 0], b""),
+    ("cells-swapped", &[0, 0x51, 0, 1, 0, 0x50, 0, 1], b"xy"),
+    ("length-at-offset-0", &[0, 0, 0, 1, 0, 0, 0, 0], b"x"),
+    ("entry-of-49", &[0, 0x50, 0, 0x31, 0, 0, 0, 0], &[0x78; 49]),
+];
+
 #[test]
 fn refused_images(rt: HostRuntime) -> Result<(), Fail> {
-    let cases: [(&str, &[u8], &[u8]); 4] = [
-        ("empty-value-wrong-place", &[0, 0x51, 0, 0, 0, 0, 0, 0], b""),
-        ("cells-swapped", &[0, 0x51, 0, 1, 0, 0x50, 0, 1], b"xy"),
-        ("length-at-offset-0", &[0, 0, 0, 1, 0, 0, 0, 0], b"x"),
-        ("entry-of-49", &[0, 0x50, 0, 0x31, 0, 0, 0, 0], &[0x78; 49]),
-    ];
-    for (name, entries, cells) in cases {
+    for (name, entries, cells) in REFUSED_IMAGES {
         let parts: [&[u8]; 5] = [&ONE_PAGE, &[0; 16], entries, &[0; 56], cells];
         let fault = refusal_of(rt.alloc(), &parts, 1048);
         check(fault == Some(Fault::BadPage(0)), name)?;
@@ -115,56 +120,63 @@ fn refused_images(rt: HostRuntime) -> Result<(), Fail> {
     check(fault == Some(Fault::BadPage(0)), "last-byte-set")
 }
 
+/// Why a store of two pages of number 1 is none.
+fn refusal_of_a_number_twice(alloc: Global) -> Option<Fault> {
+    let one = encode_page(&Page::empty(1));
+    let parts: [&[u8]; 4] = [b"ARIESPG1\0\0\0\x02", &[0; 12], &one, &one];
+    refusal_of(alloc, &parts, 2072)
+}
+
+/// Stores that are refused: what is in front of their zeros, their length, and the fault.
+const REFUSED_STORES: [(&str, &[u8], usize, Fault); 9] = [
+    (
+        "short-store",
+        b"ARIESPG1\0\0\0\x01",
+        23,
+        Fault::BadStoreHeader,
+    ),
+    (
+        "other magic",
+        b"ARIESLG1\0\0\0\x01",
+        1048,
+        Fault::BadStoreHeader,
+    ),
+    (
+        "reserved",
+        b"ARIESPG1\0\0\0\x01\0\0\0\x01",
+        1048,
+        Fault::BadStoreHeader,
+    ),
+    ("count 0", b"ARIESPG1", 24, Fault::BadStoreHeader),
+    (
+        "count 0, 1,024 bytes",
+        b"ARIESPG1",
+        1048,
+        Fault::BadStoreHeader,
+    ),
+    (
+        "count 4,097",
+        b"ARIESPG1\0\0\x10\x01",
+        24,
+        Fault::BadStoreHeader,
+    ),
+    ("long-store", &ONE_PAGE, 1049, Fault::StoreSize),
+    ("one byte short", &ONE_PAGE, 1047, Fault::StoreSize),
+    (
+        "second page missing",
+        b"ARIESPG1\0\0\0\x02",
+        2072,
+        Fault::BadPage(1),
+    ),
+];
+
 #[test]
 fn refused_stores(rt: HostRuntime) -> Result<(), Fail> {
-    let cases: [(&str, &[u8], usize, Fault); 9] = [
-        (
-            "short-store",
-            b"ARIESPG1\0\0\0\x01",
-            23,
-            Fault::BadStoreHeader,
-        ),
-        (
-            "other magic",
-            b"ARIESLG1\0\0\0\x01",
-            1048,
-            Fault::BadStoreHeader,
-        ),
-        (
-            "reserved",
-            b"ARIESPG1\0\0\0\x01\0\0\0\x01",
-            1048,
-            Fault::BadStoreHeader,
-        ),
-        ("count 0", b"ARIESPG1", 24, Fault::BadStoreHeader),
-        (
-            "count 0, 1,024 bytes",
-            b"ARIESPG1",
-            1048,
-            Fault::BadStoreHeader,
-        ),
-        (
-            "count 4,097",
-            b"ARIESPG1\0\0\x10\x01",
-            24,
-            Fault::BadStoreHeader,
-        ),
-        ("long-store", &ONE_PAGE, 1049, Fault::StoreSize),
-        ("one byte short", &ONE_PAGE, 1047, Fault::StoreSize),
-        (
-            "second page missing",
-            b"ARIESPG1\0\0\0\x02",
-            2072,
-            Fault::BadPage(1),
-        ),
-    ];
-    for (name, front, len, fault) in cases {
+    for (name, front, len, fault) in REFUSED_STORES {
         let refused = refusal_of(rt.alloc(), &[front], len);
         check(refused == Some(fault), name)?;
     }
-    let one = encode_page(&Page::empty(1));
-    let parts: [&[u8]; 4] = [b"ARIESPG1\0\0\0\x02", &[0; 12], &one, &one];
-    let refused = refusal_of(rt.alloc(), &parts, 2072);
+    let refused = refusal_of_a_number_twice(rt.alloc());
     check(refused == Some(Fault::BadPage(0)), "number-twice")
 }
 
@@ -202,49 +214,49 @@ fn is_largest_spelled(alloc: Global, page: &Page) -> Result<bool, Fault> {
 
 #[test]
 fn largest_store(rt: HostRuntime) -> Result<(), Fail> {
-    check(
-        is_largest_spelled(rt.alloc(), &Page::empty(0))?,
-        "empty pages",
-    )?;
-    check(is_largest_spelled(rt.alloc(), &full())?, "full pages")
+    check_all(&[
+        (
+            is_largest_spelled(rt.alloc(), &Page::empty(0))?,
+            "empty pages",
+        ),
+        (is_largest_spelled(rt.alloc(), &full())?, "full pages"),
+    ])
 }
 
 /// Each fault, and its text.
-fn texts() -> [(Fault, &'static str); 28] {
-    [
-        (Fault::NoResource, "no resource"),
-        (Fault::ReadLog, "reading the log failed"),
-        (Fault::ReadStore, "reading the store failed"),
-        (Fault::WriteLog, "writing the log failed"),
-        (Fault::WriteStore, "writing the store failed"),
-        (Fault::BadLogHeader, "bad log header"),
-        (Fault::BadLength(8), "bad length at byte 8"),
-        (Fault::BadRecord(40), "bad record at byte 40"),
-        (Fault::BadLsn(41), "bad LSN at byte 41"),
-        (Fault::BadStoreHeader, "bad store header"),
-        (Fault::StoreSize, "bad store size"),
-        (Fault::BadPage(0), "bad image of page 0"),
-        (Fault::BadMaster, "bad master"),
-        (Fault::NoSuchPage(1), "no such page at LSN 1"),
-        (Fault::PageAheadOfLog(0), "page 0 is ahead of the log"),
-        (
-            Fault::BrokenChain(u64::MAX),
-            "broken chain at LSN 18446744073709551615",
-        ),
-        (Fault::BadParting, "bad parting"),
-        (Fault::BadWorkers, "bad worker count"),
-        (Fault::Chain(2), "wrong previous LSN at LSN 2"),
-        (Fault::AfterFinish(3), "record after finish at LSN 3"),
-        (Fault::WrongCompensation(2), "wrong compensation at LSN 2"),
-        (Fault::BeforeImage(1), "wrong before image at LSN 1"),
-        (Fault::DirtyWrite(2), "dirty write at LSN 2"),
-        (Fault::EndTooEarly(2), "end too early at LSN 2"),
-        (Fault::PageImage(0), "wrong content of page 0"),
-        (Fault::TransactionTable, "wrong transaction table"),
-        (Fault::DirtyTable(0), "wrong dirty page table at page 0"),
-        (Fault::BadBase, "bad base store"),
-    ]
-}
+const TEXTS: [(Fault, &str); 28] = [
+    (Fault::NoResource, "no resource"),
+    (Fault::ReadLog, "reading the log failed"),
+    (Fault::ReadStore, "reading the store failed"),
+    (Fault::WriteLog, "writing the log failed"),
+    (Fault::WriteStore, "writing the store failed"),
+    (Fault::BadLogHeader, "bad log header"),
+    (Fault::BadLength(8), "bad length at byte 8"),
+    (Fault::BadRecord(40), "bad record at byte 40"),
+    (Fault::BadLsn(41), "bad LSN at byte 41"),
+    (Fault::BadStoreHeader, "bad store header"),
+    (Fault::StoreSize, "bad store size"),
+    (Fault::BadPage(0), "bad image of page 0"),
+    (Fault::BadMaster, "bad master"),
+    (Fault::NoSuchPage(1), "no such page at LSN 1"),
+    (Fault::PageAheadOfLog(0), "page 0 is ahead of the log"),
+    (
+        Fault::BrokenChain(u64::MAX),
+        "broken chain at LSN 18446744073709551615",
+    ),
+    (Fault::BadParting, "bad parting"),
+    (Fault::BadWorkers, "bad worker count"),
+    (Fault::Chain(2), "wrong previous LSN at LSN 2"),
+    (Fault::AfterFinish(3), "record after finish at LSN 3"),
+    (Fault::WrongCompensation(2), "wrong compensation at LSN 2"),
+    (Fault::BeforeImage(1), "wrong before image at LSN 1"),
+    (Fault::DirtyWrite(2), "dirty write at LSN 2"),
+    (Fault::EndTooEarly(2), "end too early at LSN 2"),
+    (Fault::PageImage(0), "wrong content of page 0"),
+    (Fault::TransactionTable, "wrong transaction table"),
+    (Fault::DirtyTable(0), "wrong dirty page table at page 0"),
+    (Fault::BadBase, "bad base store"),
+];
 
 /// Whether a fault has this text.
 fn has_text(alloc: Global, fault: Fault, text: &str) -> Result<bool, AllocError> {
@@ -254,7 +266,7 @@ fn has_text(alloc: Global, fault: Fault, text: &str) -> Result<bool, AllocError>
 
 #[test]
 fn fault_texts(rt: HostRuntime) -> Result<(), Fail> {
-    for (i, &(fault, text)) in texts().iter().enumerate() {
+    for (i, &(fault, text)) in TEXTS.iter().enumerate() {
         let number = if i < 18 { i + 1 } else { i + 2 };
         check(fault.number() as usize == number, text)?;
         check(has_text(rt.alloc(), fault, text)?, text)?;
@@ -274,12 +286,14 @@ fn is_told_apart(faults: &[(Fault, &str)], fault: Fault, place: usize) -> bool {
 
 #[test]
 fn faults_are_told_apart() -> Result<(), Fail> {
-    let faults = texts();
+    let faults = &TEXTS;
     for (i, (fault, text)) in faults.iter().enumerate() {
-        check(is_told_apart(&faults, *fault, i), text)?;
+        check(is_told_apart(faults, *fault, i), text)?;
     }
-    check(Fault::BadLsn(41) != Fault::BadLsn(42), "LSNs")?;
-    check(Fault::BadPage(0) != Fault::BadPage(1), "pages")?;
     let far = Fault::NoSuchPage(1 << 32 | 1);
-    check(Fault::NoSuchPage(1) != far, "far LSNs")
+    check_all(&[
+        (Fault::BadLsn(41) != Fault::BadLsn(42), "LSNs"),
+        (Fault::BadPage(0) != Fault::BadPage(1), "pages"),
+        (Fault::NoSuchPage(1) != far, "far LSNs"),
+    ])
 }

@@ -1,6 +1,6 @@
 //! Reading and writing all of devices that are slow or fail, and of files that do.
 
-use super::{check, check_at};
+use super::{check, check_all, check_at};
 use device::{
     MemorySink, MemorySource, Pace, ReadFault, Sink, SlowSink, SlowSource, read_all, write_all,
 };
@@ -36,11 +36,16 @@ impl Written {
     }
 }
 
+/// Whether a sink takes these bytes, and is flushed.
+fn is_out<S: Sink>(sink: &mut S, bytes: &[u8]) -> bool {
+    write_all(sink, bytes).is_ok() && sink.flush().is_ok()
+}
+
 /// Writes that many bytes to a sink of this pace, and flushes it.
 fn write_out(alloc: Global, length: usize, pace: Pace) -> Result<Written, AllocError> {
     let bytes = counted(alloc, length)?;
     let mut sink = SlowSink::new(alloc, length, pace)?;
-    let is_flushed = write_all(&mut sink, &bytes).is_ok() && sink.flush().is_ok();
+    let is_flushed = is_out(&mut sink, &bytes);
     let taken = sink.bytes();
     Ok(Written {
         is_beginning: bytes.starts_with(taken),
@@ -77,33 +82,31 @@ fn memory_takes_all(rt: HostRuntime) -> Result<(), Fail> {
     let bytes = counted(rt.alloc(), 200_000)?;
     let mut sink = MemorySink::new(rt.alloc());
     let (front, back) = bytes.split_at(bytes.len().min(7));
-    write_all(&mut sink, front)?;
-    write_all(&mut sink, back)?;
-    sink.flush()?;
-    check(sink.bytes() == bytes.as_slice(), "taken")
+    let is_out = write_all(&mut sink, front).is_ok() && is_out(&mut sink, back);
+    check(is_out && sink.bytes() == bytes.as_slice(), "taken")
 }
 
 #[test]
 fn nothing_is_read_and_written(rt: HostRuntime) -> Result<(), Fail> {
     let alloc = rt.alloc();
-    check(is_read(alloc, 0, Pace::of_step(1))?, "read")?;
-    check(
-        write_out(alloc, 0, Pace::failing(1, 2))?.is_out(0),
-        "written",
-    )
+    let is_read = is_read(alloc, 0, Pace::of_step(1))?;
+    let written = write_out(alloc, 0, Pace::failing(1, 2))?;
+    check_all(&[(is_read, "read"), (written.is_out(0), "written")])
 }
 
 #[test]
 fn one_byte_a_call(rt: HostRuntime) -> Result<(), Fail> {
     let alloc = rt.alloc();
     let pace = Pace::of_step(1);
-    check(is_read(alloc, 105, pace)?, "a log read")?;
-    check(is_read(alloc, 1048, pace)?, "a store read")?;
-    check(write_out(alloc, 105, pace)?.is_out(105), "a log written")?;
-    check(
-        write_out(alloc, 1048, pace)?.is_out(1048),
-        "a store written",
-    )
+    check_all(&[
+        (is_read(alloc, 105, pace)?, "a log read"),
+        (is_read(alloc, 1048, pace)?, "a store read"),
+        (write_out(alloc, 105, pace)?.is_out(105), "a log written"),
+        (
+            write_out(alloc, 1048, pace)?.is_out(1048),
+            "a store written",
+        ),
+    ])
 }
 
 #[test]
@@ -120,36 +123,38 @@ fn store_sink_fails_at_24(rt: HostRuntime) -> Result<(), Fail> {
 
 #[test]
 fn flush_fails(rt: HostRuntime) -> Result<(), Fail> {
-    let written = write_out(rt.alloc(), 105, Pace::unflushed())?;
-    check(written.has_failed(105), "a log")?;
-    let written = write_out(rt.alloc(), 1048, Pace::unflushed())?;
-    check(written.has_failed(1048), "a store")
+    let log = write_out(rt.alloc(), 105, Pace::unflushed())?;
+    let store = write_out(rt.alloc(), 1048, Pace::unflushed())?;
+    check_all(&[
+        (log.has_failed(105), "a log"),
+        (store.has_failed(1048), "a store"),
+    ])
 }
 
 #[test]
 fn flush_reaches_all_that_memory_took(rt: HostRuntime) -> Result<(), Fail> {
     let mut memory = MemorySink::new(rt.alloc());
-    write_all(&mut memory, b"abc")?;
+    let is_taken = write_all(&mut memory, b"abc").is_ok();
     let is_empty = memory.flushed().is_empty();
-    memory.flush()?;
-    write_all(&mut memory, b"de")?;
-    check(is_empty, "flushed by itself")?;
-    check(memory.flushed() == b"abc".as_slice(), "flushed")
+    let is_flushed = memory.flush().is_ok() && write_all(&mut memory, b"de").is_ok();
+    check_all(&[
+        (is_taken && is_flushed, "taken"),
+        (is_empty, "flushed by itself"),
+        (memory.flushed() == b"abc".as_slice(), "flushed"),
+    ])
 }
 
 #[test]
 fn flush_reaches_all_that_was_taken(rt: HostRuntime) -> Result<(), Fail> {
     let mut slow = SlowSink::new(rt.alloc(), 5, Pace::of_step(2))?;
-    write_all(&mut slow, b"abcde")?;
-    slow.flush()?;
-    check(slow.flushed() == b"abcde".as_slice(), "flushed")
+    let is_out = is_out(&mut slow, b"abcde");
+    check(is_out && slow.flushed() == b"abcde".as_slice(), "flushed")
 }
 
 #[test]
 fn flush_that_fails_reaches_nothing(rt: HostRuntime) -> Result<(), Fail> {
     let mut slow = SlowSink::new(rt.alloc(), 5, Pace::unflushed())?;
-    write_all(&mut slow, b"abcde")?;
-    let has_failed = slow.flush().is_err();
+    let has_failed = write_all(&mut slow, b"abcde").is_ok() && slow.flush().is_err();
     check(has_failed && slow.flushed().is_empty(), "flushed")
 }
 

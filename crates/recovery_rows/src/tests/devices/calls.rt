@@ -1,0 +1,139 @@
+//! A device that fails at each of its calls in turn, and recoveries of what a failed one left.
+
+use super::super::{check, check_all};
+use super::{
+    Device, OPTIONS, Paces, Seen, Worked, recovered, seen, worked_one_loser, worked_two_losers,
+};
+use crate::in_memory::recover_in_memory;
+use device::{Pace, SlowSink};
+use page::Fault;
+use redo::OpenGate;
+use std::alloc::Global;
+use std::test::Fail;
+use std::thread::Threads;
+
+impl Device {
+    /// Whether this is what is seen of a recovery, to a log and a store of these sizes, in which
+    /// this device failed.
+    fn is_blamed(self, seen: &Seen, log: usize, store: usize) -> bool {
+        match (self, seen) {
+            (Device::LogSource, (Err(Fault::ReadLog), 0, 0)) => true,
+            (Device::StoreSource, (Err(Fault::ReadStore), 0, 0)) => true,
+            (Device::LogSink, (Err(Fault::WriteLog), taken, 0)) => *taken <= log,
+            (Device::StoreSink, (Err(Fault::WriteStore), whole, taken)) => *whole == log
+                && *taken <= store,
+            _ => false,
+        }
+    }
+}
+
+/// How many calls of this device, of seven bytes each, fail before one comes at which the recovery
+/// goes through. Each of them must be blamed on it.
+fn failing_calls<R: Threads + Sync>(
+    rt: &R,
+    alloc: Global,
+    worked: &Worked,
+    device: Device,
+) -> Result<u32, Fail> {
+    let log = worked.row.made.bytes.len();
+    let slow = Paces::all(Pace::of_step(7));
+    for call in 1..1000u32 {
+        let paces = slow.with(device, Pace::failing(7, call));
+        let seen = seen(rt, alloc, worked, &paces)?;
+        if seen == (Ok(()), log, 1048) {
+            return Ok(call - 1);
+        }
+        check(device.is_blamed(&seen, log, 1048), "another answer")?;
+    }
+    Err(Fail::new("no end"))
+}
+
+/// The devices of a recovery, and how many calls of each there are.
+type Calls = [(&'static str, Device, u32); 4];
+
+const ONE_LOSER_CALLS: Calls = [
+    ("LogSource", Device::LogSource, 7),
+    ("StoreSource", Device::StoreSource, 151),
+    ("LogSink", Device::LogSink, 17),
+    ("StoreSink", Device::StoreSink, 151),
+];
+
+const TWO_LOSERS_CALLS: Calls = [
+    ("LogSource", Device::LogSource, 17),
+    ("StoreSource", Device::StoreSource, 151),
+    ("LogSink", Device::LogSink, 41),
+    ("StoreSink", Device::StoreSink, 151),
+];
+
+fn check_calls<R: Threads + Sync>(
+    rt: &R,
+    alloc: Global,
+    worked: &Worked,
+    rows: &Calls,
+) -> Result<(), Fail> {
+    for (name, device, calls) in rows {
+        let failing = failing_calls(rt, alloc, worked, *device)?;
+        check(failing == *calls, name)?;
+    }
+    Ok(())
+}
+
+/// A source is called once more at its end; a sink to be flushed, and the log's is handed its new
+/// records apart.
+#[test]
+fn each_device_fails_at_each_call(rt: HostRuntime) -> Result<(), Fail> {
+    let alloc = rt.alloc();
+    check_calls(&rt, alloc, &worked_one_loser(alloc)?, &ONE_LOSER_CALLS)?;
+    check_calls(&rt, alloc, &worked_two_losers(alloc)?, &TWO_LOSERS_CALLS)
+}
+
+/// What a recovery leaves of the new log where its sink fails at this call, of seven bytes each.
+fn log_left_at<R: Threads + Sync>(
+    rt: &R,
+    alloc: Global,
+    worked: &Worked,
+    call: u32,
+) -> Result<Vec<u8>, Fail> {
+    let mut log = SlowSink::new(alloc, worked.row.made.bytes.len(), Pace::failing(7, call))?;
+    let mut store = SlowSink::new(alloc, worked.after.len(), Pace::of_step(7))?;
+    let fast = Paces::all(Pace::of_step(usize::MAX));
+    let answer = recovered(rt, alloc, worked, &fast, &mut log, &mut store);
+    check(answer == Err(Fault::WriteLog), "another answer")?;
+    Ok(Vec::from_slice(alloc, log.bytes())?)
+}
+
+/// Whether a recovery of this log, on the store that the row begins with, makes the row's.
+fn is_gone_on_from<R: Threads + Sync>(
+    rt: &R,
+    alloc: Global,
+    worked: &Worked,
+    log: &[u8],
+) -> Result<bool, Fault> {
+    let (new_log, new_store, _) = recover_in_memory(
+        rt,
+        alloc,
+        log,
+        &worked.before,
+        &OPTIONS,
+        &OpenGate,
+    )?;
+    Ok(new_log == worked.row.made.bytes && new_store == worked.after)
+}
+
+/// The log of two losers is taken by 16 calls; the records appended by 24, and then comes the
+/// flush.
+#[test]
+fn a_failed_recovery_is_gone_on_from(rt: HostRuntime) -> Result<(), Fail> {
+    let alloc = rt.alloc();
+    let row = worked_two_losers(alloc)?;
+    for call in 17..42u32 {
+        let log = log_left_at(&rt, alloc, &row, call)?;
+        let is_whole = log.len() >= row.row.given.bytes.len();
+        let is_gone_on_from = is_gone_on_from(&rt, alloc, &row, &log)?;
+        check_all(&[
+            (is_whole, "the log that was read"),
+            (is_gone_on_from, "gone on from"),
+        ])?;
+    }
+    Ok(())
+}
