@@ -18,6 +18,7 @@ import subprocess
 import sys
 import tarfile
 import tempfile
+from concurrent.futures import ThreadPoolExecutor
 
 sys.dont_write_bytecode = True  # no folder of it beside the tests
 from program import ARIES, LARGE_ROWS, SMALL_ROWS, TOP, Tally, library_of, run, text_of
@@ -320,7 +321,10 @@ def archives(asked, toolchain):
         return {"": os.path.join(os.path.abspath(asked.library), ARCHIVE)}
     if asked.backend != "both":
         return {"": built_archive(toolchain, asked.backend)}
-    return {f", back end {backend}": built_archive(toolchain, backend) for backend in ("llvm", "rattle")}
+    backends = ("llvm", "rattle")
+    with ThreadPoolExecutor() as pool:
+        made = pool.map(lambda backend: built_archive(toolchain, backend), backends)
+        return {f", back end {backend}": archive for backend, archive in zip(backends, made)}
 
 
 def main():
