@@ -2,7 +2,7 @@
 //! the place of its transaction's number modulo 256, where it is found at once. The table itself is
 //! not searched for a transaction above the highest number that may stand in it.
 
-ghost use Rattle.std.specs.Prelude.{◌≡◌, ℕ, List, OnOk, if◌then◌else◌, ◌==◌, Some, None, IsOkUnless, ◌≢◌, [], ◌<◌, ◌^◌};
+ghost use Rattle.std.specs.Prelude.{◌≡◌, ℕ, List, OnOk, if◌then◌else◌, ◌==◌, Some, None, IsOkUnless, ◌≢◌};
 ghost use Rattle.page.specs.declared.fault.Fault.TheVariants.{NoResource};
 ghost use Rattle.wal.specs.declared.record.Entry.{Entry};
 ghost use Rattle.wal.specs.Content.{entry_of};
@@ -148,7 +148,7 @@ pub fn finish(
     }
 }
 
-/// The highest number that may stand in a table: 0 where it is empty, else any.
+/// The highest number that may stand in a table: 0 where it is empty, else that of all numbers.
 pub fn highest_in(transactions: &BTreeMap<u32, Entry>) -> u32
     ensures { HasNoneAbove result transactions.now.entries }
 {
