@@ -11,3 +11,11 @@ use std::test::Fail;
 fn check(is_so: bool, what: &str) -> Result<(), Fail> {
     if is_so { Ok(()) } else { Err(Fail::new(what)) }
 }
+
+/// Fails a test where one of these is not so.
+fn check_all(rows: &[(bool, &str)]) -> Result<(), Fail> {
+    for (is_so, what) in rows {
+        check(*is_so, what)?;
+    }
+    Ok(())
+}

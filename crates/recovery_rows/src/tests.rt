@@ -18,3 +18,12 @@ fn check_all(rows: &[(bool, &str)]) -> Result<(), Fail> {
     }
     Ok(())
 }
+
+/// Fails a test where this is not so at this call.
+fn check_at(call: u32, is_so: bool, what: &str) -> Result<(), Fail> {
+    if is_so {
+        Ok(())
+    } else {
+        Err(Fail::new(format_args!("{what} {call}")))
+    }
+}

@@ -1,7 +1,7 @@
 //! Worked rows: the tables of small logs.
 
-use super::check;
 use super::records::{abort, commit, end, log_of, prepare};
+use super::{check, check_all};
 use analysis::{Tables, analyse};
 use page::Fault;
 use std::alloc::Global;
@@ -51,23 +51,84 @@ struct Row {
     redo_lsn: u64,
 }
 
-const fn expected(
-    name: &'static str,
-    log: &'static [u8],
-    master: u64,
-    transaction: Option<(u32, State, u64, u64)>,
-    dirty: Option<(u32, u64)>,
-    redo_lsn: u64,
-) -> Row {
+const ACTIVE: Option<(u32, State, u64, u64)> = Some((1, State::Active, 1, 1));
+
+const LAST: Option<(u32, State, u64, u64)> = Some((1, State::Active, 3, 3));
+
+const ROLLED: Option<(u32, State, u64, u64)> = Some((1, State::Aborting, 4, 1));
+
+const ALONE: Option<(u32, State, u64, u64)> = Some((3, State::Aborting, 1, 0));
+
+const TURNED: Option<(u32, State, u64, u64)> = Some((1, State::Aborting, 5, 0));
+
+const PAGE: Option<(u32, u64)> = Some((0, 1));
+
+const ROWS: [Row; 8] = [
     Row {
-        name,
-        log,
-        master,
-        transaction,
-        dirty,
-        redo_lsn,
-    }
-}
+        name: "checkpoint",
+        log: CHECKPOINT,
+        master: 2,
+        transaction: ACTIVE,
+        dirty: PAGE,
+        redo_lsn: 1,
+    },
+    Row {
+        name: "without its master",
+        log: CHECKPOINT,
+        master: 0,
+        transaction: ACTIVE,
+        dirty: PAGE,
+        redo_lsn: 1,
+    },
+    Row {
+        name: "commit",
+        log: COMMIT,
+        master: 2,
+        transaction: None,
+        dirty: PAGE,
+        redo_lsn: 1,
+    },
+    Row {
+        name: "rollback",
+        log: ROLLBACK,
+        master: 0,
+        transaction: ROLLED,
+        dirty: PAGE,
+        redo_lsn: 1,
+    },
+    Row {
+        name: "abort",
+        log: ABORT,
+        master: 0,
+        transaction: ALONE,
+        dirty: None,
+        redo_lsn: 0,
+    },
+    Row {
+        name: "update after commit",
+        log: UPDATE_AFTER_COMMIT,
+        master: 0,
+        transaction: LAST,
+        dirty: PAGE,
+        redo_lsn: 1,
+    },
+    Row {
+        name: "RecLSN 0",
+        log: REC_LSN_ZERO,
+        master: 2,
+        transaction: ACTIVE,
+        dirty: Some((0, 0)),
+        redo_lsn: 1,
+    },
+    Row {
+        name: "abort after commit",
+        log: ABORT_AFTER_COMMIT,
+        master: 2,
+        transaction: TURNED,
+        dirty: PAGE,
+        redo_lsn: 1,
+    },
+];
 
 /// Whether these are the transactions of the tables.
 fn has_transactions(tables: &Tables, expected: Option<(u32, State, u64, u64)>) -> bool {
@@ -108,23 +169,7 @@ fn is_found(alloc: Global, row: &Row) -> Result<bool, Fault> {
 
 #[test]
 fn finds_the_tables(rt: HostRuntime) -> Result<(), Fail> {
-    let active = Some((1, State::Active, 1, 1));
-    let last = Some((1, State::Active, 3, 3));
-    let rolled = Some((1, State::Aborting, 4, 1));
-    let alone = Some((3, State::Aborting, 1, 0));
-    let turned = Some((1, State::Aborting, 5, 0));
-    let page = Some((0, 1));
-    let rows = [
-        expected("checkpoint", CHECKPOINT, 2, active, page, 1),
-        expected("without its master", CHECKPOINT, 0, active, page, 1),
-        expected("commit", COMMIT, 2, None, page, 1),
-        expected("rollback", ROLLBACK, 0, rolled, page, 1),
-        expected("abort", ABORT, 0, alone, None, 0),
-        expected("update after commit", UPDATE_AFTER_COMMIT, 0, last, page, 1),
-        expected("RecLSN 0", REC_LSN_ZERO, 2, active, Some((0, 0)), 1),
-        expected("abort after commit", ABORT_AFTER_COMMIT, 2, turned, page, 1),
-    ];
-    for row in &rows {
+    for row in &ROWS {
         check(is_found(rt.alloc(), row)?, row.name)?;
     }
     Ok(())
@@ -165,6 +210,14 @@ fn checkpoint_end(
     })
 }
 
+/// The entry of T1 that analysis, from this master on, finds.
+fn entry_of(alloc: Global, records: &[&Record], master: u64) -> Result<Option<Entry>, Fault> {
+    let bytes = log_of(alloc, records)?;
+    let (log, _) = read_log(alloc, &bytes)?;
+    let tables = analyse(alloc, &log, master)?;
+    Ok(tables.transactions.get(&1).copied())
+}
+
 /// Whether analysis, from this master on, finds T1 in this state behind these LSNs.
 fn has_entry(
     alloc: Global,
@@ -173,84 +226,125 @@ fn has_entry(
     state: State,
     last: u64,
     undo_next: u64,
-) -> Result<bool, Fault> {
-    let bytes = log_of(alloc, records)?;
-    let (log, _) = read_log(alloc, &bytes)?;
-    let tables = analyse(alloc, &log, master)?;
-    Ok(is_entry(tables.transactions.get(&1), state, last, undo_next))
+) -> bool {
+    match entry_of(alloc, records, master) {
+        Ok(Some(entry)) => is_entry(Some(&entry), state, last, undo_next),
+        _ => false,
+    }
 }
 
-/// Whether analysis does not find T1.
-fn has_no_entry(alloc: Global, records: &[&Record]) -> Result<bool, Fault> {
-    let bytes = log_of(alloc, records)?;
-    let (log, _) = read_log(alloc, &bytes)?;
-    let tables = analyse(alloc, &log, 0)?;
-    Ok(tables.transactions.get(&1).is_none())
+/// Whether analysis of an update, a prepare and this record does not find T1.
+fn has_no_entry(alloc: Global, third: Record) -> bool {
+    match entry_of(alloc, &[&update(0), &prepare(1), &third], 0) {
+        Ok(None) => true,
+        _ => false,
+    }
+}
+
+/// Whether analysis of an update and a prepare finds T1 prepared.
+fn is_prepared(alloc: Global) -> bool {
+    has_entry(alloc, &[&update(0), &prepare(1)], 0, State::Prepared, 2, 1)
+}
+
+/// Whether analysis of a prepare alone does.
+fn is_prepared_alone(alloc: Global) -> bool {
+    has_entry(alloc, &[&prepare(0)], 0, State::Prepared, 1, 0)
+}
+
+/// Whether analysis of an update and these two records finds T1 in this state behind the third
+/// record, with this UndoNxtLSN.
+fn has_behind(alloc: Global, second: Record, third: Record, state: State, undo_next: u64) -> bool {
+    has_entry(
+        alloc,
+        &[&update(0), &second, &third],
+        0,
+        state,
+        3,
+        undo_next,
+    )
 }
 
 #[test]
 fn finds_prepared_transactions(rt: HostRuntime) -> Result<(), Fail> {
     let alloc = rt.alloc();
-    let found = has_entry(alloc, &[&update(0), &prepare(1)], 0, State::Prepared, 2, 1);
-    check(found?, "prepared")?;
-    let found = has_entry(alloc, &[&prepare(0)], 0, State::Prepared, 1, 0);
-    check(found?, "prepare alone")?;
-    let lacks = has_no_entry(alloc, &[&update(0), &prepare(1), &commit(2)]);
-    check(lacks?, "prepared-commit")?;
-    let found = has_behind(alloc, &prepare(1), &abort(2), State::Aborting, 1);
-    check(found?, "prepared-abort")
-}
-
-/// Whether analysis of an update and these two records finds T1 in this state behind the third
-/// record, with this UndoNxtLSN.
-fn has_behind(
-    alloc: Global,
-    second: &Record,
-    third: &Record,
-    state: State,
-    undo_next: u64,
-) -> Result<bool, Fault> {
-    has_entry(alloc, &[&update(0), second, third], 0, state, 3, undo_next)
+    check_all(&[
+        (is_prepared(alloc), "prepared"),
+        (is_prepared_alone(alloc), "prepare alone"),
+        (has_no_entry(alloc, commit(2)), "prepared-commit"),
+        (
+            has_behind(alloc, prepare(1), abort(2), State::Aborting, 1),
+            "prepared-abort",
+        ),
+    ])
 }
 
 #[test]
 fn finds_prepares_that_no_law_allows(rt: HostRuntime) -> Result<(), Fail> {
     let alloc = rt.alloc();
-    let found = has_behind(alloc, &prepare(1), &update(2), State::Prepared, 3);
-    check(found?, "work-after-prepare")?;
-    let lacks = has_no_entry(alloc, &[&update(0), &prepare(1), &end(2)]);
-    check(lacks?, "an end in doubt")?;
-    let found = has_behind(alloc, &abort(1), &prepare(2), State::Aborting, 1);
-    check(found?, "a prepare behind an abort")?;
-    let found = has_behind(alloc, &commit(1), &prepare(2), State::Prepared, 0);
-    check(found?, "a prepare behind a commit")
+    check_all(&[
+        (
+            has_behind(alloc, prepare(1), update(2), State::Prepared, 3),
+            "work-after-prepare",
+        ),
+        (has_no_entry(alloc, end(2)), "an end in doubt"),
+        (
+            has_behind(alloc, abort(1), prepare(2), State::Aborting, 1),
+            "a prepare behind an abort",
+        ),
+        (
+            has_behind(alloc, commit(1), prepare(2), State::Prepared, 0),
+            "a prepare behind a commit",
+        ),
+    ])
+}
+
+/// Whether analysis finds T1 prepared that a checkpoint lists as prepared.
+fn is_prepared_at_checkpoint(alloc: Global) -> Result<bool, Fault> {
+    let listed = checkpoint_end(alloc, 3, State::Prepared, 2, 1)?;
+    let records = &[&update(0), &prepare(1), &Record::CheckpointBegin, &listed];
+    Ok(has_entry(alloc, records, 3, State::Prepared, 2, 1))
+}
+
+/// Whether analysis finds it aborting behind an abort.
+fn is_aborting_behind_checkpoint(alloc: Global) -> Result<bool, Fault> {
+    let listed = checkpoint_end(alloc, 3, State::Prepared, 2, 1)?;
+    let begin = Record::CheckpointBegin;
+    let records = &[&update(0), &prepare(1), &begin, &listed, &abort(2)];
+    Ok(has_entry(alloc, records, 3, State::Aborting, 5, 1))
 }
 
 #[test]
 fn finds_what_a_checkpoint_has_as_prepared(rt: HostRuntime) -> Result<(), Fail> {
-    let alloc = rt.alloc();
-    let begin = Record::CheckpointBegin;
-    let listed = checkpoint_end(alloc, 3, State::Prepared, 2, 1)?;
-    let records = &[&update(0), &prepare(1), &begin, &listed];
-    let found = has_entry(alloc, records, 3, State::Prepared, 2, 1);
-    check(found?, "prepared-at-checkpoint")?;
-    let records = &[&update(0), &prepare(1), &begin, &listed, &abort(2)];
-    let found = has_entry(alloc, records, 3, State::Aborting, 5, 1);
-    check(found?, "an abort behind it")
+    let is_prepared = is_prepared_at_checkpoint(rt.alloc())?;
+    let is_aborting = is_aborting_behind_checkpoint(rt.alloc())?;
+    check_all(&[
+        (is_prepared, "prepared-at-checkpoint"),
+        (is_aborting, "an abort behind it"),
+    ])
+}
+
+/// Whether analysis finds T1 prepared where it prepares in a checkpoint that lists it as active.
+fn is_prepared_in_checkpoint(alloc: Global) -> Result<bool, Fault> {
+    let listed = checkpoint_end(alloc, 2, State::Active, 1, 1)?;
+    let records = &[&update(0), &Record::CheckpointBegin, &prepare(1), &listed];
+    Ok(has_entry(alloc, records, 2, State::Prepared, 3, 1))
+}
+
+/// Whether analysis finds T1 aborting where it prepares behind a checkpoint that lists it so.
+fn is_aborting_for_all_it_prepares(alloc: Global) -> Result<bool, Fault> {
+    let listed = checkpoint_end(alloc, 2, State::Aborting, 1, 1)?;
+    let records = &[&update(0), &Record::CheckpointBegin, &listed, &prepare(1)];
+    Ok(has_entry(alloc, records, 2, State::Aborting, 4, 1))
 }
 
 #[test]
 fn finds_prepares_beside_a_checkpoint(rt: HostRuntime) -> Result<(), Fail> {
-    let alloc = rt.alloc();
-    let begin = Record::CheckpointBegin;
-    let listed = checkpoint_end(alloc, 2, State::Active, 1, 1)?;
-    let records = &[&update(0), &begin, &prepare(1), &listed];
-    let found = has_entry(alloc, records, 2, State::Prepared, 3, 1);
-    check(found?, "a prepare between begin and end")?;
-    let listed = checkpoint_end(alloc, 2, State::Aborting, 1, 1)?;
-    let records = &[&update(0), &begin, &listed, &prepare(1)];
-    let found = has_entry(alloc, records, 2, State::Aborting, 4, 1);
-    check(found?, "a prepare of an aborting one")
+    let is_prepared = is_prepared_in_checkpoint(rt.alloc())?;
+    let is_aborting = is_aborting_for_all_it_prepares(rt.alloc())?;
+    check_all(&[
+        (is_prepared, "a prepare between begin and end"),
+        (is_aborting, "a prepare of an aborting one"),
+    ])
 }
 
 /// Whether analysis of a log refuses this master.
@@ -265,8 +359,10 @@ fn is_bad_master(alloc: Global, log: &Log, master: u64) -> bool {
 fn refuses_a_master_that_is_no_begin(rt: HostRuntime) -> Result<(), Fail> {
     let (log, _) = read_log(rt.alloc(), ONE_COMMIT)?;
     let are_refused = is_bad_master(rt.alloc(), &log, 1) && is_bad_master(rt.alloc(), &log, 2);
-    check(are_refused, "masters 1 and 2")?;
-    check(is_bad_master(rt.alloc(), &log, 9), "master 9")
+    check_all(&[
+        (are_refused, "masters 1 and 2"),
+        (is_bad_master(rt.alloc(), &log, 9), "master 9"),
+    ])
 }
 
 /// The text of a log of a million aborts, of a thousand transactions.

@@ -1,6 +1,6 @@
 //! Rows worked by hand: the fault of each log and store, or none.
 
-use super::check;
+use super::check_all;
 use super::records::{abort, commit, end, log_of, prepare};
 use audit::audit;
 use page::{Fault, Value, decode_store};
@@ -58,9 +58,9 @@ fn judge_records(alloc: Global, records: &[&Record], master: u8) -> Result<(), F
 }
 
 /// Whether an audit of an update, a prepare of its transaction and this record says this.
-fn is_judged(alloc: Global, last: &Record, expected: Result<(), Fault>) -> bool {
+fn is_judged(alloc: Global, last: Record, expected: Result<(), Fault>) -> bool {
     let first = update(1, 0, b"", b"a");
-    judge_records(alloc, &[&first, &prepare(1), last], 0) == expected
+    judge_records(alloc, &[&first, &prepare(1), &last], 0) == expected
 }
 
 /// An update of another cell by another transaction.
@@ -79,52 +79,75 @@ fn other_cell() -> Record {
 fn laws_of_what_follows_a_prepare(rt: HostRuntime) -> Result<(), Fail> {
     let alloc = rt.alloc();
     let finished = Err(Fault::AfterFinish(3));
-    check(is_judged(alloc, &commit(2), Ok(())), "prepared-commit")?;
-    check(is_judged(alloc, &abort(2), Ok(())), "prepared-abort")?;
-    check(
-        is_judged(alloc, &other_cell(), Ok(())),
-        "prepared-beside-loser",
-    )?;
-    let is_refused = is_judged(alloc, &update(1, 2, b"a", b"b"), finished);
-    check(is_refused, "work-after-prepare: update")?;
-    let is_refused = is_judged(alloc, &end(2), finished);
-    check(is_refused, "work-after-prepare: end")?;
-    let is_refused = is_judged(alloc, &compensation(2), finished);
-    check(is_refused, "work-after-prepare: compensation")?;
-    let is_refused = is_judged(alloc, &prepare(2), finished);
-    check(is_refused, "work-after-prepare: prepare")?;
-    let is_refused = is_judged(alloc, &update(2, 0, b"a", b"c"), Err(Fault::DirtyWrite(3)));
-    check(is_refused, "write-over-prepared")
+    let dirty = Err(Fault::DirtyWrite(3));
+    check_all(&[
+        (is_judged(alloc, commit(2), Ok(())), "prepared-commit"),
+        (is_judged(alloc, abort(2), Ok(())), "prepared-abort"),
+        (
+            is_judged(alloc, other_cell(), Ok(())),
+            "prepared-beside-loser",
+        ),
+        (
+            is_judged(alloc, update(1, 2, b"a", b"b"), finished),
+            "work-after-prepare: update",
+        ),
+        (
+            is_judged(alloc, end(2), finished),
+            "work-after-prepare: end",
+        ),
+        (
+            is_judged(alloc, compensation(2), finished),
+            "work-after-prepare: compensation",
+        ),
+        (
+            is_judged(alloc, prepare(2), finished),
+            "work-after-prepare: prepare",
+        ),
+        (
+            is_judged(alloc, update(2, 0, b"a", b"c"), dirty),
+            "write-over-prepared",
+        ),
+    ])
 }
 
-/// Whether an audit of these records says that the third comes after the finish.
-fn is_after_finish(alloc: Global, records: &[&Record]) -> bool {
-    judge_records(alloc, records, 0) == Err(Fault::AfterFinish(3))
+/// Whether an audit of these two records and a prepare says that it comes after the finish.
+fn is_after_finish(alloc: Global, first: Record, second: Record) -> bool {
+    judge_records(alloc, &[&first, &second, &prepare(2)], 0) == Err(Fault::AfterFinish(3))
 }
 
-/// Whether an audit finds these records lawful.
-fn is_lawful(alloc: Global, records: &[&Record]) -> bool {
-    judge_records(alloc, records, 0).is_ok()
+/// Whether an audit finds a prepare alone lawful.
+fn is_alone_lawful(alloc: Global) -> bool {
+    judge_records(alloc, &[&prepare(0)], 0).is_ok()
+}
+
+/// Whether an audit finds an update and a prepare lawful.
+fn is_prepared_lawful(alloc: Global) -> bool {
+    judge_records(alloc, &[&update(1, 0, b"", b"a"), &prepare(1)], 0).is_ok()
+}
+
+/// Whether an audit finds the rollback of these lawful.
+fn is_rolled_back_lawful(alloc: Global) -> bool {
+    let first = update(1, 0, b"", b"a");
+    let undone = [&first, &prepare(1), &abort(2), &compensation(3), &end(4)];
+    judge_records(alloc, &undone, 0).is_ok()
 }
 
 #[test]
 fn laws_of_a_prepare(rt: HostRuntime) -> Result<(), Fail> {
     let alloc = rt.alloc();
-    let first = update(1, 0, b"", b"a");
-    let last = prepare(2);
-    let behind_commit = is_after_finish(alloc, &[&first, &commit(1), &last]);
-    let behind_abort = is_after_finish(alloc, &[&first, &abort(1), &last]);
-    let behind_end = is_after_finish(alloc, &[&abort(0), &end(1), &last]);
-    let alone = is_lawful(alloc, &[&prepare(0)]);
-    let prepared = is_lawful(alloc, &[&first, &prepare(1)]);
-    let undone = [&first, &prepare(1), &abort(2), &compensation(3), &end(4)];
-    let rolled_back = is_lawful(alloc, &undone);
-    check(behind_commit, "behind a commit")?;
-    check(behind_abort, "behind an abort")?;
-    check(behind_end, "behind an end")?;
-    check(alone, "as the first record")?;
-    check(prepared, "prepared")?;
-    check(rolled_back, "the rollback of prepared-abort")
+    let behind_commit = is_after_finish(alloc, update(1, 0, b"", b"a"), commit(1));
+    let behind_abort = is_after_finish(alloc, update(1, 0, b"", b"a"), abort(1));
+    check_all(&[
+        (behind_commit, "behind a commit"),
+        (behind_abort, "behind an abort"),
+        (is_after_finish(alloc, abort(0), end(1)), "behind an end"),
+        (is_alone_lawful(alloc), "as the first record"),
+        (is_prepared_lawful(alloc), "prepared"),
+        (
+            is_rolled_back_lawful(alloc),
+            "the rollback of prepared-abort",
+        ),
+    ])
 }
 
 /// The end of a checkpoint that lists T1 in this state, and page 0.
@@ -182,17 +205,21 @@ fn is_listed_active(alloc: Global, state: State) -> Result<bool, Fault> {
     Ok(is_right(alloc, records, 2, state == State::Active))
 }
 
+const STATES: [(&str, State); 3] = [
+    ("active", State::Active),
+    ("prepared", State::Prepared),
+    ("aborting", State::Aborting),
+];
+
 #[test]
 fn states_in_a_checkpoint(rt: HostRuntime) -> Result<(), Fail> {
     let alloc = rt.alloc();
-    for (name, state) in [
-        ("active", State::Active),
-        ("prepared", State::Prepared),
-        ("aborting", State::Aborting),
-    ] {
-        check(is_listed_prepared(alloc, state)?, name)?;
-        check(is_listed_aborting(alloc, state)?, name)?;
-        check(is_listed_active(alloc, state)?, name)?;
+    for (name, state) in STATES {
+        check_all(&[
+            (is_listed_prepared(alloc, state)?, name),
+            (is_listed_aborting(alloc, state)?, name),
+            (is_listed_active(alloc, state)?, name),
+        ])?;
     }
     Ok(())
 }

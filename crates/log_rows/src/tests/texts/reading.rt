@@ -1,6 +1,6 @@
 //! Logs that are read, and what is no log.
 
-use super::super::check;
+use super::super::{check, check_all};
 use super::vectors::{
     BASE_LOSER, CHECKPOINT_LOSER, EMPTY_AND_FULL_VALUES, ONE_COMMIT, ONE_LOSER_RESTARTED,
     PARTIAL_ROLLBACK_COMMIT, PREPARED, PREPARED_AT_CHECKPOINT, ROLLBACK_INTERRUPTED,
@@ -11,18 +11,20 @@ use std::alloc::Global;
 use std::test::Fail;
 use wal::{Entry, Glance, Log, RecordView, State, read_log};
 
+const SPELLED: [(&str, &[u8]); 8] = [
+    ("one-commit", ONE_COMMIT),
+    ("one-loser-restarted", ONE_LOSER_RESTARTED),
+    ("checkpoint-loser", CHECKPOINT_LOSER),
+    ("partial-rollback-commit", PARTIAL_ROLLBACK_COMMIT),
+    ("rollback-interrupted", ROLLBACK_INTERRUPTED),
+    ("prepared", PREPARED),
+    ("prepared-at-checkpoint", PREPARED_AT_CHECKPOINT),
+    ("empty-and-full-values", EMPTY_AND_FULL_VALUES),
+];
+
 #[test]
 fn records_of_views_spell_the_log(rt: HostRuntime) -> Result<(), Fail> {
-    for (name, log) in [
-        ("one-commit", ONE_COMMIT),
-        ("one-loser-restarted", ONE_LOSER_RESTARTED),
-        ("checkpoint-loser", CHECKPOINT_LOSER),
-        ("partial-rollback-commit", PARTIAL_ROLLBACK_COMMIT),
-        ("rollback-interrupted", ROLLBACK_INTERRUPTED),
-        ("prepared", PREPARED),
-        ("prepared-at-checkpoint", PREPARED_AT_CHECKPOINT),
-        ("empty-and-full-values", EMPTY_AND_FULL_VALUES),
-    ] {
+    for (name, log) in SPELLED {
         check(is_rewritten(rt.alloc(), log)?, name)?;
     }
     Ok(())
@@ -66,9 +68,11 @@ fn is_a(value: Option<&[u8]>) -> bool {
 #[test]
 fn views_show_compensations(rt: HostRuntime) -> Result<(), Fail> {
     let (log, torn) = read_log(rt.alloc(), PARTIAL_ROLLBACK_COMMIT)?;
-    check(torn == 0 && has_lsns(&log, 0, 4, 4), "four records")?;
-    check(lacks(&log, 0) && lacks(&log, 5), "LSNs 0 and 5")?;
-    check(shows_compensation(&log), "a compensation")
+    check_all(&[
+        (torn == 0 && has_lsns(&log, 0, 4, 4), "four records"),
+        (lacks(&log, 0) && lacks(&log, 5), "LSNs 0 and 5"),
+        (shows_compensation(&log), "a compensation"),
+    ])
 }
 
 /// Whether a log's record 2 is the prepare of transaction 1.
@@ -94,9 +98,11 @@ fn glances_at_prepare(log: &Log) -> bool {
 fn views_show_prepares(rt: HostRuntime) -> Result<(), Fail> {
     let (log, torn) = read_log(rt.alloc(), PREPARED)?;
     let is_whole = PREPARED.len() == 66 && torn == 0;
-    check(is_whole && has_lsns(&log, 0, 2, 2), "two records")?;
-    check(shows_prepare(&log), "a prepare")?;
-    check(glances_at_prepare(&log), "a prepare at a glance")
+    check_all(&[
+        (is_whole && has_lsns(&log, 0, 2, 2), "two records"),
+        (shows_prepare(&log), "a prepare"),
+        (glances_at_prepare(&log), "a prepare at a glance"),
+    ])
 }
 
 /// Whether a log's record 6 is the first update of transaction 1.
@@ -116,11 +122,13 @@ fn has_image(log: &Log, lsn: u64) -> bool {
 fn records_stand_behind_the_base_lsn(rt: HostRuntime) -> Result<(), Fail> {
     let (log, torn) = read_log(rt.alloc(), BASE_LOSER)?;
     let is_whole = BASE_LOSER.len() == 50 && torn == 0;
-    check(is_whole && has_lsns(&log, 5, 1, 6), "one record")?;
     let are_lacking = lacks(&log, 1) && lacks(&log, 5) && lacks(&log, 7);
-    check(are_lacking, "LSNs 1, 5 and 7")?;
-    check(shows_update(&log), "an update")?;
-    check(!has_image(&log, 5) && has_image(&log, 6), "images")
+    check_all(&[
+        (is_whole && has_lsns(&log, 5, 1, 6), "one record"),
+        (are_lacking, "LSNs 1, 5 and 7"),
+        (shows_update(&log), "an update"),
+        (!has_image(&log, 5) && has_image(&log, 6), "images"),
+    ])
 }
 
 /// Whether these bytes are a log's header and nothing else, with this base LSN.
@@ -140,18 +148,16 @@ fn is_bad_header(alloc: Global, bytes: &[u8]) -> bool {
 #[test]
 fn headers_of_version_2_have_16_bytes(rt: HostRuntime) -> Result<(), Fail> {
     let (header, _) = BASE_LOSER.split_at(16);
-    check(is_header(rt.alloc(), header, 5)?, "16 bytes")?;
     let (short, _) = BASE_LOSER.split_at(15);
-    check(is_bad_header(rt.alloc(), short), "15 bytes")
+    check_all(&[
+        (is_header(rt.alloc(), header, 5)?, "16 bytes"),
+        (is_bad_header(rt.alloc(), short), "15 bytes"),
+    ])
 }
 
 #[test]
 fn tables_show_prepared_transactions(rt: HostRuntime) -> Result<(), Fail> {
     let (log, torn) = read_log(rt.alloc(), PREPARED_AT_CHECKPOINT)?;
-    check(
-        PREPARED_AT_CHECKPOINT.len() == 141 && torn == 0,
-        "141 bytes",
-    )?;
     let prepared = Entry {
         state: State::Prepared,
         last: 2,
@@ -163,7 +169,8 @@ fn tables_show_prepared_transactions(rt: HostRuntime) -> Result<(), Fail> {
             && transactions.get(1).is_none(),
         _ => false,
     };
-    check(is_shown, "a checkpoint end")
+    let is_whole = PREPARED_AT_CHECKPOINT.len() == 141 && torn == 0;
+    check_all(&[(is_whole, "141 bytes"), (is_shown, "a checkpoint end")])
 }
 
 /// Whether the record of a log at this LSN is an update of an empty cell that lends this value.
@@ -184,8 +191,10 @@ fn lends(alloc: Global, lsn: u64, value: &[u8]) -> Result<bool, Fault> {
 #[test]
 fn values_are_slices_of_the_log(rt: HostRuntime) -> Result<(), Fail> {
     let alloc = rt.alloc();
-    check(lends(alloc, 1, &EMPTY_AND_FULL_VALUES[40..40])?, "empty")?;
-    check(lends(alloc, 2, &EMPTY_AND_FULL_VALUES[72..120])?, "full")
+    check_all(&[
+        (lends(alloc, 1, &EMPTY_AND_FULL_VALUES[40..40])?, "empty"),
+        (lends(alloc, 2, &EMPTY_AND_FULL_VALUES[72..120])?, "full"),
+    ])
 }
 
 /// Whether these bytes are a log of this many records and of this many bytes of a torn tail.
@@ -197,10 +206,12 @@ fn is_torn(alloc: Global, bytes: &[u8], records: u64, torn_bytes: usize) -> Resu
 #[test]
 fn drops_a_torn_tail(rt: HostRuntime) -> Result<(), Fail> {
     let alloc = rt.alloc();
-    check(is_torn(alloc, &ONE_COMMIT[..65], 1, 24)?, "a byte short")?;
-    check(is_torn(alloc, b"ARIESLG1\0\0\0", 0, 3)?, "three bytes")?;
-    check(is_torn(alloc, b"ARIESLG1\0\x01\x14\x19", 0, 4)?, "a length")?;
-    check(is_torn(alloc, b"ARIESLG1", 0, 0)?, "nothing")
+    check_all(&[
+        (is_torn(alloc, &ONE_COMMIT[..65], 1, 24)?, "a byte short"),
+        (is_torn(alloc, b"ARIESLG1\0\0\0", 0, 3)?, "three bytes"),
+        (is_torn(alloc, b"ARIESLG1\0\x01\x14\x19", 0, 4)?, "a length"),
+        (is_torn(alloc, b"ARIESLG1", 0, 0)?, "nothing"),
+    ])
 }
 
 #[test]

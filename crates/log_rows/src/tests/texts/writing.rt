@@ -1,7 +1,7 @@
 //! Frames that are written have the bytes worked out by hand.
 
-use super::super::check;
 use super::super::records::put;
+use super::super::{check, check_all};
 use super::vectors::{
     CHECKPOINT_LOSER, EMPTY_AND_FULL_VALUES, ONE_COMMIT, ONE_LOSER_RESTARTED, PREPARED,
     PREPARED_AT_CHECKPOINT, ROLLBACK_INTERRUPTED,
@@ -52,12 +52,15 @@ fn empty_and_full_values(alloc: Global) -> Result<Vec<u8>, Fault> {
 #[test]
 fn writes_updates_and_commits(rt: HostRuntime) -> Result<(), Fail> {
     let alloc = rt.alloc();
-    check(one_commit(alloc)?.as_slice() == ONE_COMMIT, "one-commit")?;
-    let out = empty_and_full_values(alloc)?;
-    check(
-        out.as_slice() == EMPTY_AND_FULL_VALUES,
-        "empty-and-full-values",
-    )
+    let commit = one_commit(alloc)?;
+    let values = empty_and_full_values(alloc)?;
+    check_all(&[
+        (commit.as_slice() == ONE_COMMIT, "one-commit"),
+        (
+            values.as_slice() == EMPTY_AND_FULL_VALUES,
+            "empty-and-full-values",
+        ),
+    ])
 }
 
 /// The CLR of an update in slot 0.
@@ -91,13 +94,18 @@ fn rollback_interrupted(alloc: Global) -> Result<Vec<u8>, Fault> {
 #[test]
 fn writes_compensations_aborts_and_ends(rt: HostRuntime) -> Result<(), Fail> {
     let alloc = rt.alloc();
-    let out = one_loser_restarted(alloc)?;
-    check(out.as_slice() == ONE_LOSER_RESTARTED, "one-loser-restarted")?;
-    let out = rollback_interrupted(alloc)?;
-    check(
-        out.as_slice() == ROLLBACK_INTERRUPTED,
-        "rollback-interrupted",
-    )
+    let restarted = one_loser_restarted(alloc)?;
+    let interrupted = rollback_interrupted(alloc)?;
+    check_all(&[
+        (
+            restarted.as_slice() == ONE_LOSER_RESTARTED,
+            "one-loser-restarted",
+        ),
+        (
+            interrupted.as_slice() == ROLLBACK_INTERRUPTED,
+            "rollback-interrupted",
+        ),
+    ])
 }
 
 /// Appends a checkpoint that lists T1 by this entry, and page 0.
@@ -141,12 +149,15 @@ fn prepared_at_checkpoint(alloc: Global) -> Result<Vec<u8>, Fault> {
 #[test]
 fn writes_prepares(rt: HostRuntime) -> Result<(), Fail> {
     let alloc = rt.alloc();
-    check(prepared(alloc)?.as_slice() == PREPARED, "prepared")?;
-    let out = prepared_at_checkpoint(alloc)?;
-    check(
-        out.as_slice() == PREPARED_AT_CHECKPOINT,
-        "prepared-at-checkpoint",
-    )
+    let alone = prepared(alloc)?;
+    let listed = prepared_at_checkpoint(alloc)?;
+    check_all(&[
+        (alone.as_slice() == PREPARED, "prepared"),
+        (
+            listed.as_slice() == PREPARED_AT_CHECKPOINT,
+            "prepared-at-checkpoint",
+        ),
+    ])
 }
 
 fn checkpoint_loser(alloc: Global) -> Result<Vec<u8>, Fault> {
@@ -185,24 +196,33 @@ fn refused_growth_leaves_the_vector(rt: HostRuntime) -> Result<(), Fail> {
             }
         }
     }
-    check(refused, "refused, and the vector as it was")?;
-    check(out.len() % 25 == 0, "whole frames")
+    check_all(&[
+        (refused, "refused, and the vector as it was"),
+        (out.len() % 25 == 0, "whole frames"),
+    ])
+}
+
+/// The frame of a record under the largest LSN.
+fn frame_of(alloc: Global, record: Record) -> Result<Vec<u8>, Fault> {
+    let mut out = Vec::new(alloc);
+    append(&mut out, u64::MAX, record)?;
+    Ok(out)
 }
 
 /// Whether the frame of a record under the largest LSN is these parts, one behind the other.
-fn is_frame(
-    alloc: Global,
-    record: Record,
-    front: &[u8],
-    numbers: &[u8],
-    behind: &[u8],
-) -> Result<bool, Fault> {
-    let mut out = Vec::new(alloc);
-    append(&mut out, u64::MAX, record)?;
-    let mut expected = Vec::from_slice(alloc, front)?;
-    expected.extend_from_slice(numbers)?;
-    expected.extend_from_slice(behind)?;
-    Ok(out.as_slice() == expected.as_slice())
+fn is_frame(alloc: Global, record: Record, front: &[u8], numbers: &[u8], behind: &[u8]) -> bool {
+    match frame_of(alloc, record) {
+        Ok(frame) => are_parts(&frame, front, numbers, behind),
+        Err(_) => false,
+    }
+}
+
+/// Whether bytes are these parts, one behind the other.
+fn are_parts(bytes: &[u8], front: &[u8], numbers: &[u8], behind: &[u8]) -> bool {
+    match bytes.strip_prefix(front) {
+        Some(rest) => rest.strip_prefix(numbers) == Some(behind),
+        None => false,
+    }
 }
 
 #[test]
@@ -211,22 +231,24 @@ fn writes_the_largest_numbers(rt: HostRuntime) -> Result<(), Fail> {
     let (tx, prev) = (u32::MAX, u64::MAX);
     let ones = [0xff; 20];
     let commit = Record::Commit { tx, prev };
-    check(
-        is_frame(alloc, commit, &[0, 0, 0, 21, 3], &ones, b"")?,
-        "commit",
-    )?;
     let abort = Record::Abort { tx, prev };
-    check(
-        is_frame(alloc, abort, &[0, 0, 0, 21, 4], &ones, b"")?,
-        "abort",
-    )?;
     let end = Record::End { tx, prev };
-    check(is_frame(alloc, end, &[0, 0, 0, 21, 5], &ones, b"")?, "end")?;
     let prepare = Record::Prepare { tx, prev };
-    check(
-        is_frame(alloc, prepare, &[0, 0, 0, 21, 8], &ones, b"")?,
-        "prepare",
-    )
+    check_all(&[
+        (
+            is_frame(alloc, commit, &[0, 0, 0, 21, 3], &ones, b""),
+            "commit",
+        ),
+        (
+            is_frame(alloc, abort, &[0, 0, 0, 21, 4], &ones, b""),
+            "abort",
+        ),
+        (is_frame(alloc, end, &[0, 0, 0, 21, 5], &ones, b""), "end"),
+        (
+            is_frame(alloc, prepare, &[0, 0, 0, 21, 8], &ones, b""),
+            "prepare",
+        ),
+    ])
 }
 
 #[test]
@@ -245,37 +267,38 @@ fn writes_the_largest_update(rt: HostRuntime) -> Result<(), Fail> {
         &[0, 0, 0, 28, 1],
         &[0xff; 24],
         &[15, 0xff, 0xff],
-    )?;
+    );
     check(is_same, "update")
 }
 
+const ENTRY: Entry = Entry {
+    state: State::Active,
+    last: 5,
+    undo_next: 4,
+};
+
 #[test]
 fn entries_are_told_apart() -> Result<(), Fail> {
-    let entry = Entry {
-        state: State::Active,
-        last: 5,
-        undo_next: 4,
+    let aborting = Entry {
+        state: State::Aborting,
+        ..ENTRY
     };
-    let others = [
-        Entry {
-            state: State::Aborting,
-            ..entry
-        },
-        Entry {
-            state: State::Prepared,
-            ..entry
-        },
-        Entry { last: 6, ..entry },
-        Entry {
-            undo_next: 0,
-            ..entry
-        },
-    ];
-    check(entry == entry, "an entry and itself")?;
-    check(entry != others[0], "an aborting one")?;
-    check(entry != others[1], "a prepared one")?;
-    check(entry != others[2], "another LastLSN")?;
-    check(entry != others[3], "another UndoNxtLSN")?;
-    check(State::Active != State::Aborting, "active")?;
-    check(State::Prepared != State::Aborting, "prepared")
+    let prepared = Entry {
+        state: State::Prepared,
+        ..ENTRY
+    };
+    let later = Entry { last: 6, ..ENTRY };
+    let undone = Entry {
+        undo_next: 0,
+        ..ENTRY
+    };
+    check_all(&[
+        (ENTRY == ENTRY, "an entry and itself"),
+        (ENTRY != aborting, "an aborting one"),
+        (ENTRY != prepared, "a prepared one"),
+        (ENTRY != later, "another LastLSN"),
+        (ENTRY != undone, "another UndoNxtLSN"),
+        (State::Active != State::Aborting, "active"),
+        (State::Prepared != State::Aborting, "prepared"),
+    ])
 }

@@ -1,6 +1,6 @@
 //! A device that fails at each of its calls in turn, and recoveries of what a failed one left.
 
-use super::super::{check, check_all};
+use super::super::{check, check_at};
 use super::{
     Device, OPTIONS, Paces, Seen, Worked, recovered, seen, worked_one_loser, worked_two_losers,
 };
@@ -130,10 +130,8 @@ fn a_failed_recovery_is_gone_on_from(rt: HostRuntime) -> Result<(), Fail> {
         let log = log_left_at(&rt, alloc, &row, call)?;
         let is_whole = log.len() >= row.row.given.bytes.len();
         let is_gone_on_from = is_gone_on_from(&rt, alloc, &row, &log)?;
-        check_all(&[
-            (is_whole, "the log that was read"),
-            (is_gone_on_from, "gone on from"),
-        ])?;
+        check_at(call, is_whole, "all that was read, at call")?;
+        check_at(call, is_gone_on_from, "gone on from call")?;
     }
     Ok(())
 }
