@@ -152,11 +152,7 @@ pub fn finish(
 pub fn highest_in(transactions: &BTreeMap<u32, Entry>) -> u32
     ensures { HasNoneAbove result transactions.now.entries }
 {
-    if transactions.is_empty() {
-        0
-    } else {
-        u32::MAX
-    }
+    if transactions.is_empty() { 0 } else { u32::MAX }
 }
 
 /// Puts all entries that are kept.

@@ -51,8 +51,9 @@ fn note_transaction(
             keep(transactions, kept, highest, tx, old.state, lsn, undo_next)?;
         }
         Glance::Abort { tx, .. } => {
-            let old = entry_in(transactions, kept, *highest, tx);
-            keep(transactions, kept, highest, tx, State::Aborting, lsn, old.undo_next)?;
+            let undo_next = entry_in(transactions, kept, *highest, tx).undo_next;
+            let state = State::Aborting;
+            keep(transactions, kept, highest, tx, state, lsn, undo_next)?;
         }
         Glance::Commit { tx, .. } => finish(transactions, kept, *highest, tx),
         Glance::End { tx, .. } => finish(transactions, kept, *highest, tx),

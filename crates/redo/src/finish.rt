@@ -10,9 +10,8 @@ ghost use Rattle.page.specs.declared.sizes.TheConstants.{SLOTS};
 
 use crate::tally::Tally;
 use page::{Page, SLOTS, Value};
-use std::array;
-use std::thread;
 use std::thread::Threads;
+use std::{array, thread};
 use wal::{Body, Log};
 
 /// The bodies of the records at these LSNs, none for 0. All are found before the first is looked at:
