@@ -9,3 +9,4 @@ pub mod Truth
 pub mod Numbers
 pub mod OneTables
 pub mod NoTables
+pub mod Halves

@@ -106,6 +106,28 @@ pub record AreTablesOf (log : LogContent) (m : ℕ) (tables : TablesContent) : T
   pub pages_rise : IsRising (map page_in tables.dirty)
   pub redo_lsn : tables.redo_lsn ≡ redo_lsn_of (suc (base_lsn (history log))) tables.dirty
 
+-- BY HALVES, each found by itself
+-- the transaction table of this log behind the LSN m
+pub record AreTransactionsOf (log : LogContent) (m : ℕ) (found : List TableEntry) : Type 0 where
+  pub transactions : List TableEntry
+  pub dirty : List (ℕ × ℕ)
+  pub base : base_of m (history log) ≡ Some (transactions, dirty)
+  pub entries : (t : ℕ) → entry_for t found ≡ analysed_entry t m (entry_for t transactions) (history log)
+  pub entries_rise : IsRising (map tx_in found)
+
+-- the dirty page table, and where redo begins by it
+pub record AreDirtyPagesOf (log : LogContent) (m : ℕ) (found : List (ℕ × ℕ)) (redo_lsn : ℕ) : Type 0 where
+  pub transactions : List TableEntry
+  pub dirty : List (ℕ × ℕ)
+  pub base : base_of m (history log) ≡ Some (transactions, dirty)
+  pub pages : (page : ℕ) → rec_lsn_of page found ≡ analysed_rec_lsn page m (rec_lsn_of page dirty) (history log)
+  pub pages_rise : IsRising (map page_in found)
+  pub begins : redo_lsn ≡ redo_lsn_of (suc (base_lsn (history log))) found
+
+-- tables of these transactions and the other's pages
+abbrev pub tables_with : List TableEntry → TablesContent → TablesContent
+tables_with transactions pages = record { transactions = transactions; dirty = pages.dirty; redo_lsn = pages.redo_lsn }
+
 -- ONE ANSWER. No log has two such tables behind one LSN.
 abbrev pub OneTables : Type 0
 OneTables = (log : LogContent) (m : ℕ) (a b : TablesContent) → AreTablesOf log m a → AreTablesOf log m b → a ≡ b

@@ -1,6 +1,7 @@
 //! Analysis: the tables of a crash, from the last checkpoint on.
 #![tactic(auto)]
 
+mod apart;
 mod base;
 mod kept;
 mod laws;
@@ -8,6 +9,7 @@ mod pass;
 mod scan;
 mod tables;
 
+pub use apart::{analyse_pages, analyse_transactions, join_tables};
 pub use laws::{no_fault_of_tables, one_base_fault, one_tables};
 pub use pass::analyse;
 pub use tables::Tables;

@@ -33,7 +33,7 @@ fn lower(smallest: u64, first: u64, rec_lsn: u64) -> u64
 
 /// The LSN from which redo looks at records: the smallest RecLSN, one below the first LSN of the log
 /// counting as that; 0 where no page is listed.
-fn redo_lsn_of(first: u64, dirty: &BTreeMap<u32, u64>) -> u64
+pub fn redo_lsn_of(first: u64, dirty: &BTreeMap<u32, u64>) -> u64
     requires { 1 ≤ first }
     ensures { result ≡ redo_lsn_of first dirty.now.entries }
 {

@@ -26,7 +26,7 @@ fn prepared(old: State) -> State
 }
 
 /// What a record does to the transaction table.
-fn note_transaction(
+pub fn note_transaction(
     transactions: &mut BTreeMap<u32, Entry>,
     kept: &mut [Option<(u32, Entry)>; PLACES],
     highest: &mut u32,
@@ -120,7 +120,7 @@ fn list_unknown(
 }
 
 /// What a record does to the dirty page table.
-fn note_page(
+pub fn note_page(
     dirty: &mut BTreeMap<u32, u64>,
     known: &mut [bool; PAGES],
     glance: Glance,

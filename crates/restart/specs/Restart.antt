@@ -10,10 +10,10 @@ use Rattle.wal.specs.Meaning.{BasePages, in_doubt, is_loser}
 use Rattle.wal.specs.Tail.{is_clr, is_end, in_doubt_of, losers_of, tail_of}
 use Rattle.wal.specs.Undo.{doubtful_in, undone_by}
 use Rattle.wal.specs.Store.{NamesPages, Lawful, store_out}
-use Rattle.analysis.specs.Tables.{TablesContent, losers_in, AreTablesOf, base_of}
+use Rattle.analysis.specs.Tables.{TablesContent, losers_in, AreTablesOf, AreDirtyPagesOf, BaseFault, base_of}
 use Rattle.redo.specs.Parting.{PartingContent}
 use Rattle.redo.specs.declared.redone.Redone.{Redone}
-use Rattle.redo.specs.Redone.{redone_page, applied_to, AreWorkers, AllExist, IsFirstMissing}
+use Rattle.redo.specs.Redone.{redone_page, applied_to, AreWorkers, AllExist, IsFirstMissing, RedoFault}
 use Rattle.restart.specs.Outcome.{OutcomeContent}
 use Rattle.undo.specs.Undone.{NoBadHop, undone_page, MetExist, MeetsMissing, Breaks}
 
@@ -81,6 +81,20 @@ pub record IsRedone (log : LogContent) (before : StoreContent) (tables : TablesC
   pub exist : AllExist log (length before.pages) tables.redo_lsn
   pub redone_pages : redone.pages.items ≡ map (redone_page log tables) before.pages
   pub applied : redone.applied ≡ sum (map (applied_to log tables) before.pages)
+
+-- BY THE DIRTY PAGES ALONE, whatever the transactions
+-- what redo has made of a log and a store; the tables are looked at for their pages, and for where redo begins
+pub record ArePagesRedone (log : LogContent) (before : StoreContent) (pages : TablesContent) (redone : Redone) : Type 0 where
+  pub are : AreDirtyPagesOf log before.master pages.dirty pages.redo_lsn
+  pub exist : AllExist log (length before.pages) pages.redo_lsn
+  pub redone_pages : redone.pages.items ≡ map (redone_page log pages) before.pages
+  pub applied : redone.applied ≡ sum (map (applied_to log pages) before.pages)
+
+-- why it has made nothing, memory aside
+abbrev pub PagesFault : LogContent → StoreContent → (workers : ℕ) → Fault → Type 0
+PagesFault log before workers e =
+    BaseFault before.master (history log) e
+    ⊎ ((pages : TablesContent) × AreDirtyPagesOf log before.master pages.dirty pages.redo_lsn × RedoFault log (length before.pages) pages.redo_lsn workers e)
 
 -- EVERY INPUT. By the tables that analysis finds, redo makes the pages, and their losers are rolled back; none of the causes
 -- of a refusal stands.

@@ -3,6 +3,7 @@
 #![tactic(auto)]
 
 mod doubt;
+mod forward;
 mod laws;
 mod options;
 mod outcome;

@@ -16,10 +16,11 @@ ghost use Rattle.restart.specs.Outcome.{outcome_of, outcome_in};
 ghost use Rattle.restart.specs.Restart.{AreSettings, SettingsFault, AheadFault, clrs_in, ends_in, RollsBack, IsRedone, Restarts, Restores, InputFault, RestartFault};
 
 use crate::doubt::in_doubt;
+use crate::forward::go_forward;
 use crate::outcome::{BriefOutcome, Outcome, outcome_of};
-use analysis::{Tables, analyse};
+use analysis::Tables;
 use page::{Fault, Page, Store};
-use redo::{Gate, Parting, Redone, are_workers, redo_in_place};
+use redo::{Gate, Parting, Redone, are_workers};
 use std::alloc::Global;
 use std::thread::Threads;
 use undo::{Appended, undo_in_brief};
@@ -179,9 +180,8 @@ pub fn restart_in_place<G: Gate, R: Threads + Sync>(
 {
     check_settings(&store, parting, workers)?;
     check_lsns(log, &store.pages)?;
-    let tables = analyse(alloc, log, store.master)?;
     let master = store.master;
-    let redone = redo_in_place(rt, alloc, log, store, &tables, parting, workers, gate)?;
+    let (tables, redone) = go_forward(rt, alloc, log, store, parting, workers, gate)?;
     roll_back(alloc, log, master, &tables, redone)
 }
 
