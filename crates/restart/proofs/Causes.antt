@@ -1,14 +1,15 @@
 -- Why a restart is refused: the faults of its parts, in its own words.
-use Rattle.std.proofs.Common.{ℕ, length, inl, inr}
+use Rattle.std.proofs.Common.{ℕ, List, length, inl, inr}
 use Rattle.page.specs.declared.fault.Fault.{Fault}
 use Rattle.page.specs.declared.fault.Fault.TheVariants.{NoResource, BadWorkers, BadParting, BadMaster, PageAheadOfLog, NoSuchPage, BrokenChain}
 use Rattle.page.specs.Store.{StoreContent}
-use Rattle.wal.specs.Records.{history, LogContent}
-use Rattle.analysis.specs.Tables.{TablesContent, losers_in, AreTablesOf, BaseFault}
+use Rattle.wal.specs.Records.{history, LogContent, TableEntry}
+use Rattle.analysis.specs.Tables.{TablesContent, losers_in, AreTablesOf, AreTransactionsOf, BaseFault, tables_with}
+use Rattle.analysis.proofs.Halves.{both_halves}
 use Rattle.redo.specs.Parting.{PartingContent}
 use Rattle.redo.specs.Redone.{AreWorkers, AllExist, RedoFault}
 use Rattle.undo.specs.Undone.{UndoFault}
-use Rattle.restart.specs.Restart.{AreSettings, SettingsFault, NoneAhead, AheadFault, InputFault}
+use Rattle.restart.specs.Restart.{AreSettings, SettingsFault, NoneAhead, AheadFault, PagesFault, InputFault}
 
 -- settings that hold are not refused
 pub settings_hold : (pages : ℕ) (parting : PartingContent) (workers : ℕ) (e : Fault) → AreSettings pages parting workers → SettingsFault pages parting workers e → ⊥
@@ -38,3 +39,9 @@ module _ (read : LogContent) (before : StoreContent) (none_ahead : NoneAhead rea
     undo_fault (NoSuchPage lsn) exist h = (none_ahead, record { tables = tables; are = are; holds = inr (exist, h) })
     undo_fault (BrokenChain lsn) exist h = (none_ahead, record { tables = tables; are = are; holds = (exist, h) })
     undo_fault e exist h = absurd h
+
+  -- where the transactions are known, what refuses redo by the dirty pages alone refuses it by the tables
+  pub pages_fault : (transactions : List TableEntry) → AreTransactionsOf read before.master transactions → (workers : ℕ) (e : Fault) → AreWorkers workers → PagesFault read before workers e → InputFault read before e
+  pages_fault transactions some workers e fit (inl h) = base_fault e h
+  pages_fault transactions some workers e fit (inr (pages, other, h)) =
+      redo_fault (tables_with transactions pages) (both_halves read before.master transactions pages some other) workers e fit h

@@ -34,7 +34,7 @@ use Rattle.restart.specs.declared.outcome.BriefOutcome.{BriefOutcome}
 use Rattle.restart.specs.Outcome.{OutcomeContent, outcome_in}
 use Rattle.undo.specs.Undone.{undone_page}
 use Rattle.undo.proofs.UndonePages.{no_effects, no_last}
-use Rattle.restart.specs.Restart.{IsFirstAhead, AheadFault, clrs_in, ends_in, RollsBack, IsSettled, Restores}
+use Rattle.restart.specs.Restart.{IsFirstAhead, AheadFault, PagesFault, clrs_in, ends_in, RollsBack, IsSettled, Restores}
 
 some_none : {X : Type 0} {x : X} → Some x ≡ None → ⊥
 some_none e = cc
@@ -181,6 +181,10 @@ module _ (base : BasePages) (read : LogContent) (before : StoreContent) (lawful 
   redo_alone redo_lsn workers BadWorkers fit cause = absurd (cause fit)
   redo_alone redo_lsn workers (NoSuchPage lsn) fit cause = absurd (none_missing redo_lsn lsn cause.1)
   redo_alone redo_lsn workers e fit cause = absurd cause
+
+  pub pages_alone : (workers : ℕ) (e : Fault) → AreWorkers workers → PagesFault read before workers e → e ≡ NoResource
+  pages_alone workers e fit (inl cause) = base_alone e cause
+  pages_alone workers e fit (inr (pages, are, cause)) = redo_alone pages.redo_lsn workers e fit cause
 
   pub ahead_alone : (e : Fault) → AheadFault read before.pages e → e ≡ NoResource
   ahead_alone (PageAheadOfLog number) cause = absurd (none_ahead number cause)

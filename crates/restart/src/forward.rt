@@ -2,16 +2,16 @@
 //! asks analysis for the dirty pages alone, so where there are more workers the transactions are found
 //! beside it.
 
-ghost use Rattle.std.specs.Prelude.{◌≡◌, None, IfOk, IfErr, MatchResult, map, length};
-ghost use Rattle.std.specs.Thread.{IsSync};
+ghost use Rattle.std.specs.Prelude.{◌≡◌, true, Some, None, is_some, IfSome, IfOk, IfErr, MatchResult, map, length};
 ghost use Rattle.page.specs.declared.fault.Fault.TheVariants.{NoResource};
+ghost use Rattle.page.specs.Store.{StoreContent};
 ghost use Rattle.wal.specs.Content.{entry_of};
 ghost use Rattle.wal.specs.Meaning.{BasePages};
 ghost use Rattle.wal.specs.Records.{history};
 ghost use Rattle.wal.specs.Store.{Lawful};
 ghost use Rattle.wal.specs.Undo.{entry_for};
 ghost use Rattle.analysis.specs.Lawful.{AreTrue};
-ghost use Rattle.analysis.specs.Tables.{AreTransactionsOf, BaseFault};
+ghost use Rattle.analysis.specs.Tables.{AreTransactionsOf, BaseFault, entry_at};
 ghost use Rattle.restart.specs.Restart.{AreSettings, NoneAhead, IsRedone, ArePagesRedone, PagesFault, InputFault};
 
 use analysis::{Tables, analyse, analyse_pages, analyse_transactions, join_tables};
@@ -19,7 +19,7 @@ use page::{Fault, Store};
 use redo::{Gate, Parting, Redone, redo_in_place};
 use std::alloc::Global;
 use std::collections::BTreeMap;
-use std::thread::{Threads, join};
+use std::thread::{Threads, join_mut};
 use wal::{Entry, Log};
 
 /// Analysis, and redo by its tables.
@@ -64,7 +64,54 @@ fn redo_by_pages<G: Gate, R: Threads + Sync>(
     Ok((tables, redone))
 }
 
-/// The transactions in a thread beside the dirty pages and redo.
+/// The transactions, and beside them the dirty pages and redo by them.
+fn side_by_side<G: Gate, R: Threads + Sync>(
+    rt: &R,
+    alloc: Global,
+    log: &Log,
+    store: Store,
+    parting: &Parting,
+    workers: u32,
+    gate: &G,
+) -> (
+    Result<BTreeMap<u32, Entry>, Fault>,
+    Result<(Tables, Redone), Fault>,
+)
+    requires settings { AreSettings (length store.pages) parting.now workers }
+    ensures transactions { IfOk result.0 (λ found. AreTransactionsOf log.now store.master
+        (map entry_of found.entries)) }
+    ensures no_transaction_0 { IfOk result.0 (λ found. entry_at 0 found.entries ≡ None) }
+    ensures no_base { IfErr result.0 (BaseFault store.master (history log.now)) }
+    ensures redone { IfOk result.1 (λ x. ArePagesRedone log.now store x.0 x.1) }
+    ensures fault { IfErr result.1 (PagesFault log.now store workers) }
+{
+    let master = store.master;
+    let mut find = || -> Result<BTreeMap<u32, Entry>, Fault>
+        ensures transactions { IfOk result (λ found. AreTransactionsOf log.entry.now master
+            (map entry_of found.entries)) }
+        ensures no_transaction_0 { IfOk result (λ found. entry_at 0 found.entries ≡ None) }
+        ensures fault { IfErr result (BaseFault master (history log.entry.now)) }
+    { analyse_transactions(alloc, log, master) };
+    // The closures are lent, and the store lies ready for the one call.
+    let mut given = Some(store);
+    let mut redo = || -> Result<(Tables, Redone), Fault>
+        requires settings { IfSome given
+            (λ store. AreSettings (length store.pages) parting.now workers) }
+        requires ready { is_some given ≡ true }
+        ensures redone { (before : StoreContent) → given.entry ≡ Some before
+            → IfOk result (λ x. ArePagesRedone log.entry.now before x.0 x.1) }
+        ensures fault { (before : StoreContent) → given.entry ≡ Some before
+            → IfErr result (PagesFault log.entry.now before workers) }
+    {
+        match given.take() {
+            Some(store) => redo_by_pages(rt, alloc, log, store, parting, workers, gate),
+            None => unreachable!(),
+        }
+    };
+    join_mut(rt, &mut find, &mut redo)
+}
+
+/// Analysis and redo, the transactions beside redo.
 fn beside_each_other<G: Gate, R: Threads + Sync>(
     rt: &R,
     alloc: Global,
@@ -82,18 +129,7 @@ fn beside_each_other<G: Gate, R: Threads + Sync>(
         → MatchResult result (λ x. AreTrue log.now store x.0) (λ e. e ≡ NoResource) }
     ensures fault { IfErr result (InputFault log.now store) }
 {
-    let master = store.master;
-    let find = move || -> Result<BTreeMap<u32, Entry>, Fault>
-        ensures { IfOk result (λ found. AreTransactionsOf log.now master (map entry_of found.entries)
-            × (entry_for 0 (map entry_of found.entries) ≡ None)) }
-        ensures { IfErr result (BaseFault master (history log.now)) }
-    { analyse_transactions(alloc, log, master) };
-    let redo = move || -> Result<(Tables, Redone), Fault>
-        requires { IsSync R.row × AreSettings (length store.pages) parting.now workers }
-        ensures { IfOk result (λ x. ArePagesRedone log.now store x.0 x.1) }
-        ensures { IfErr result (PagesFault log.now store workers) }
-    { redo_by_pages(rt, alloc, log, store, parting, workers, gate) };
-    let (transactions, redone) = join(rt, find, redo);
+    let (transactions, redone) = side_by_side(rt, alloc, log, store, parting, workers, gate);
     let transactions = transactions?;
     let (pages, redone) = redone?;
     Ok((join_tables(transactions, pages), redone))

@@ -19,26 +19,26 @@ returns-in_err-check_lsns-clause-lawful g c = λ base lawful fit.
     rw (exit.1, exit.2)
     (ahead_alone base c.args.log.now c.args.store lawful fault (subst (λ (ps : List Page). AheadFault c.args.log.now ps fault) stored c.in_err-check_lsns.ensures.fault))
 
-pub returns-in_err-redone-clause-lawful : goal.returns-in_err-redone-clause-lawful
-returns-in_err-redone-clause-lawful g c = λ base lawful fit.
-    let exit = err_from_is_err_and c.from_residual-in_err-redone.result c.from_residual-in_err-redone.ensures.1 in
-    rw (exit.1, exit.2)
-    (redo_alone base c.args.log.now c.args.store lawful c.in_ok-tables.tables.redo_lsn c.args.workers c.in_err-redone.field-0.0 fit.fit c.in_err-redone.ensures.fault)
-
-pub returns-in_err-redone-clause-fault : goal.returns-in_err-redone-clause-fault
-returns-in_err-redone-clause-fault g c =
-    let exit = err_from_is_err_and c.from_residual-in_err-redone.result c.from_residual-in_err-redone.ensures.1 in
+pub go_forward-requires-clause-none_ahead : goal.go_forward-requires-clause-none_ahead
+go_forward-requires-clause-none_ahead g c =
     let stored : c.deref.result.now ≡ c.args.store.pages = c.deref.ensures.value ∙ ap (λ (s : StoreContent). s.pages) c.store.view_is in
     let none_ahead : NoneAhead c.args.log.now c.args.store = subst (All (λ (page : Page). page.lsn ≤ last_lsn (history c.args.log.now))) stored c.in_ok-check_lsns.ensures.ok in
-    let are : AreTablesOf c.args.log.now c.args.store.master c.in_ok-tables.tables =
-    subst (λ m. AreTablesOf c.args.log.now m c.in_ok-tables.tables) (ap (λ (s : StoreContent). s.master) c.store.view_is) c.in_ok-tables.ensures.tables in
-    rw (exit.1, exit.2)
-    (inr (c.in_ok-check_settings.ensures.ok, redo_fault c.args.log.now c.args.store none_ahead c.in_ok-tables.tables are c.args.workers c.in_err-redone.field-0.0 c.in_ok-check_settings.ensures.ok.fit c.in_err-redone.ensures.fault))
+    λ lifetimes lives. none_ahead
+
+pub returns-in_err-tables-clause-lawful : goal.returns-in_err-tables-clause-lawful
+returns-in_err-tables-clause-lawful g c = λ base lawful fit.
+    let exit = err_from_is_err_and c.from_residual-in_err-tables.result c.from_residual-in_err-tables.ensures.1 in
+    rw (exit.1, exit.2) (c.in_err-tables.ensures.lawful base lawful)
+
+pub returns-in_err-tables-clause-fault : goal.returns-in_err-tables-clause-fault
+returns-in_err-tables-clause-fault g c =
+    let exit = err_from_is_err_and c.from_residual-in_err-tables.result c.from_residual-in_err-tables.ensures.1 in
+    rw (exit.1, exit.2) (inr (c.in_ok-check_settings.ensures.ok, c.in_err-tables.ensures.fault))
 
 pub roll_back-requires-clause-numbered : goal.roll_back-requires-clause-numbered
 roll_back-requires-clause-numbered g c =
     let numbered : AreNumbered c.args.store.pages = subst AreNumbered (ap (λ (s : StoreContent). s.pages) c.store.view_is) c.store.invariant in
-    subst AreNumbered (sym c.in_ok-redone.ensures.pages) (changed_numbered (redone_page c.args.log.now c.in_ok-tables.tables) c.args.store.pages (λ page. refl) numbered)
+    subst AreNumbered (sym c.in_ok-tables.ensures.redone.redone_pages) (changed_numbered (redone_page c.args.log.now c.in_ok-tables.tables) c.args.store.pages (λ page. refl) numbered)
 
 pub roll_back-requires-clause-no_transaction_0 : goal.roll_back-requires-clause-no_transaction_0
 roll_back-requires-clause-no_transaction_0 g c = lost_none 0 c.in_ok-tables.tables.transactions c.in_ok-tables.ensures.no_transaction_0
@@ -46,42 +46,12 @@ roll_back-requires-clause-no_transaction_0 g c = lost_none 0 c.in_ok-tables.tabl
 pub returns-clause-lawful : goal.returns-clause-lawful
 returns-clause-lawful g c = λ base lawful fit.
     let kept : c.store.inside.master ≡ c.args.store.master = ap (λ (s : StoreContent). s.master) c.store.view_is in
-    let stored : c.deref.result.now ≡ c.args.store.pages = c.deref.ensures.value ∙ ap (λ (s : StoreContent). s.pages) c.store.view_is in
     let numbered : AreNumbered c.args.store.pages = subst AreNumbered (ap (λ (s : StoreContent). s.pages) c.store.view_is) c.store.invariant in
-    let made : IsRedone c.args.log.now c.args.store c.in_ok-tables.tables c.in_ok-redone.redone =
-    record {
-      are = subst (λ m. AreTablesOf c.args.log.now m c.in_ok-tables.tables) kept c.in_ok-tables.ensures.tables;
-      none_ahead = subst (All (λ (page : Page). page.lsn ≤ last_lsn (history c.args.log.now))) stored c.in_ok-check_lsns.ensures.ok;
-      exist = c.in_ok-redone.ensures.exist;
-      redone_pages = c.in_ok-redone.ensures.pages;
-      applied = c.in_ok-redone.ensures.applied;
-    } in
-    c.roll_back.ensures.lawful base c.args.store lawful numbered (sym kept) (c.in_ok-tables.ensures.lawful base c.args.store lawful (sym kept)) made
+    c.roll_back.ensures.lawful base c.args.store lawful numbered (sym kept) (c.in_ok-tables.ensures.lawful base lawful) c.in_ok-tables.ensures.redone
 
 pub returns-clause-restarts : goal.returns-clause-restarts
-returns-clause-restarts g c =
-    let kept : c.store.inside.master ≡ c.args.store.master = ap (λ (s : StoreContent). s.master) c.store.view_is in
-    let stored : c.deref.result.now ≡ c.args.store.pages = c.deref.ensures.value ∙ ap (λ (s : StoreContent). s.pages) c.store.view_is in
-    let made : IsRedone c.args.log.now c.args.store c.in_ok-tables.tables c.in_ok-redone.redone =
-    record {
-      are = subst (λ m. AreTablesOf c.args.log.now m c.in_ok-tables.tables) kept c.in_ok-tables.ensures.tables;
-      none_ahead = subst (All (λ (page : Page). page.lsn ≤ last_lsn (history c.args.log.now))) stored c.in_ok-check_lsns.ensures.ok;
-      exist = c.in_ok-redone.ensures.exist;
-      redone_pages = c.in_ok-redone.ensures.pages;
-      applied = c.in_ok-redone.ensures.applied;
-    } in
-    c.roll_back.ensures.restarts c.args.store (sym kept) made
+returns-clause-restarts g c = c.roll_back.ensures.restarts c.args.store (sym (ap (λ (s : StoreContent). s.master) c.store.view_is)) c.in_ok-tables.ensures.redone
 
 pub returns-clause-fault : goal.returns-clause-fault
 returns-clause-fault g c =
-    let kept : c.store.inside.master ≡ c.args.store.master = ap (λ (s : StoreContent). s.master) c.store.view_is in
-    let stored : c.deref.result.now ≡ c.args.store.pages = c.deref.ensures.value ∙ ap (λ (s : StoreContent). s.pages) c.store.view_is in
-    let made : IsRedone c.args.log.now c.args.store c.in_ok-tables.tables c.in_ok-redone.redone =
-    record {
-      are = subst (λ m. AreTablesOf c.args.log.now m c.in_ok-tables.tables) kept c.in_ok-tables.ensures.tables;
-      none_ahead = subst (All (λ (page : Page). page.lsn ≤ last_lsn (history c.args.log.now))) stored c.in_ok-check_lsns.ensures.ok;
-      exist = c.in_ok-redone.ensures.exist;
-      redone_pages = c.in_ok-redone.ensures.pages;
-      applied = c.in_ok-redone.ensures.applied;
-    } in
-    IfErr-weaker c.roll_back.result _ _ (λ e h. inr (c.in_ok-check_settings.ensures.ok, h)) (c.roll_back.ensures.fault c.args.store made)
+    IfErr-weaker c.roll_back.result _ _ (λ e h. inr (c.in_ok-check_settings.ensures.ok, h)) (c.roll_back.ensures.fault c.args.store c.in_ok-tables.ensures.redone)
