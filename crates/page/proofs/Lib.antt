@@ -3,6 +3,7 @@ pub mod Causes
 pub mod Files
 pub mod Once
 pub mod Pages
+pub mod Parts
 pub mod Reading
 pub mod Slots
 pub mod Writing
