@@ -1,9 +1,9 @@
 pub mod BigEndian
 pub mod Causes
 pub mod Files
+pub mod Joined
 pub mod Once
 pub mod Pages
-pub mod Parts
 pub mod Reading
 pub mod Slots
 pub mod Writing

@@ -1,7 +1,7 @@
 use Rattle.std.proofs.Common.{ℕ, List, ◌*◌, subst, arith, rules}
 use Rattle.std.specs.Fork.{slice_chunk}
 use Rattle.page.specs.Images.{AreImages, pages_of}
-use Rattle.page.proofs.Parts.{all_parts}
+use Rattle.page.proofs.Joined.{all_parts}
 use Rattle.page.proofs.file.put_pages_by.Goals as goal
 
 pub returns : goal.returns
