@@ -1,6 +1,7 @@
 pub mod BigEndian
 pub mod Causes
 pub mod Files
+pub mod Joined
 pub mod Once
 pub mod Pages
 pub mod Reading

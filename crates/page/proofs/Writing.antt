@@ -1,5 +1,5 @@
 -- What the loops of the encoder keep.
-use Rattle.std.proofs.Common.{◌≡◌, ℕ, ◌+◌, ◌*◌, ◌<◌, ◌≤◌, List, [], ◌∷◌, ◌++◌, length, get_or, take, drop, Some, None, All, refl, sym, ap, ap₂, subst, ◌∙◌, arith}
+use Rattle.std.proofs.Common.{◌≡◌, ℕ, ◌+◌, ◌*◌, ◌<◌, ◌≤◌, List, [], ◌∷◌, ◌++◌, length, get_or, take, drop, Some, None, All, sym, ap, ap₂, subst, ◌∙◌, arith}
 use Rattle.std.proofs.lemmas.List.{append-nil, take_more, length-append, length-drop, take_at, drop_all}
 use Rattle.std.proofs.lemmas.List.Elements.{All-more}
 use Rattle.std.proofs.lemmas.Slice.{take-put_mid, drop-put_mid}
@@ -8,8 +8,7 @@ use Rattle.std.specs.List.{flat_map}
 use Rattle.std.proofs.lemmas.Grind.{flat_map-append}
 use Rattle.page.specs.Image.{Image, cell, cells, entry, directory, FitsSlot, page_text, FitsPage}
 use Rattle.page.specs.declared.page.Page.{Page}
-use Rattle.page.specs.Store.{StoreContent}
-use Rattle.page.specs.File.{store_header}
+use Rattle.page.specs.Images.{AreImages}
 use Rattle.page.proofs.Slots.{cells_more, directory_more, length-entry}
 
 -- the entries of the first i slots stand in front, and the next cell has this place
@@ -75,27 +74,16 @@ three_parts xs a b c m n k l la lb mn nx all =
     let none : drop l (drop n inner) ≡ [] = drop_all l (drop n inner) (omega (arith, ap length back, length-drop n first)) in
     ap₂ (λ (f p : List ℕ). f ++ (c ++ p)) front none ∙ ap (λ (t : List ℕ). (a ++ b) ++ t) (append-nil c)
 
--- the header and the images of the first i pages
-pub record Listed (store : StoreContent) (i : ℕ) (bytes : List ℕ) : Type 0 where
-  pub text : bytes ≡ store_header (length store.pages) store.master ++ flat_map page_text (take i store.pages)
-  pub fits : All FitsPage (take i store.pages)
-
-pub listed_more : (store : StoreContent) (pages : List Page) (i : ℕ) (bytes image new : List ℕ) (page : Page) → pages ≡ store.pages → Listed store i bytes → i < length pages
-    → page ≡ get_or pages i page → image ≡ page_text page → FitsPage page → new ≡ bytes ++ image → Listed store (i + 1) new
-listed_more store pages i bytes image new page same so_far lt read text fits e =
-    let images = flat_map page_text in
+-- the image of the next page put behind those of the first i pages
+pub images_more : (pages : List Page) (i k : ℕ) (images image : List ℕ) (page : Page) → AreImages (take (1024 * i) images) (take i pages) → 1024 * i ≤ length images
+    → i < length pages → page ≡ get_or pages i page → image ≡ page_text page → FitsPage page → length image ≡ 1024
+    → AreImages (take (1024 * (i + 1)) (put_mid (1024 * i) k images image)) (take (i + 1) pages)
+images_more pages i k images image page so_far room lt read text fits long =
+    let texts = flat_map page_text in
     let more : take (i + 1) pages ≡ take i pages ++ page ∷ [] = take_more pages i page lt ∙ ap (λ p. take i pages ++ p ∷ []) (sym read) in
-    let front : images (take (i + 1) pages) ≡ images (take i pages) ++ image =
-    ap images more ∙ flat_map-append page_text (take i pages) (page ∷ []) ∙ ap (λ (t : List ℕ). images (take i pages) ++ t) (append-nil (page_text page) ∙ sym text) in
-    let first = store_header (length store.pages) store.master in
+    let front : texts (take (i + 1) pages) ≡ texts (take i pages) ++ image =
+    ap texts more ∙ flat_map-append page_text (take i pages) (page ∷ []) ∙ ap (λ (t : List ℕ). texts (take i pages) ++ t) (append-nil (page_text page) ∙ sym text) in
     record {
-      text = e ∙ ap (λ (t : List ℕ). t ++ image) (so_far.text ∙ ap (λ xs. first ++ images (take i xs)) (sym same)) ∙ ap (λ (t : List ℕ). first ++ t) (sym front) ∙ ap (λ xs. first ++ images (take (i + 1) xs)) same;
-      fits = subst (λ xs. All FitsPage (take (i + 1) xs)) same (All-more FitsPage pages i page lt (subst (λ xs. All FitsPage (take i xs)) (sym same) so_far.fits) (subst FitsPage read fits));
+      text = written_behind (1024 * i) k (1024 * (i + 1)) images image (texts (take i pages)) so_far.text (omega (arith, long)) room ∙ sym front;
+      fits = All-more FitsPage pages i page lt so_far.fits (subst FitsPage read fits);
     }
-
--- the image of the next page put where it is to stand
-pub listed_there : (store : StoreContent) (pages : List Page) (i k : ℕ) (text image : List ℕ) (page : Page) → pages ≡ store.pages → 24 + 1024 * i ≤ length text → Listed store i (take (24 + 1024 * i) text)
-    → i < length pages → page ≡ get_or pages i page → image ≡ page_text page → FitsPage page → length image ≡ 1024 → Listed store (i + 1) (take (24 + 1024 * (i + 1)) (put_mid (24 + 1024 * i) k text image))
-listed_there store pages i k text image page same room so_far lt read is fits long =
-    listed_more store pages i (take (24 + 1024 * i) text) image _ page same so_far lt read is fits
-    (written_behind (24 + 1024 * i) k (24 + 1024 * (i + 1)) text image (take (24 + 1024 * i) text) refl (omega (arith, long)) room)

@@ -1,11 +1,26 @@
 -- The images of pages, one after the other (own).
-use Rattle.std.specs.Prelude.{◌≡◌, ◌≢◌, ℕ, ◌*◌, ◌<◌, List, All, length, slice_index_or, take, drop, ⊤}
+use Rattle.std.specs.Prelude.{◌≡◌, ◌≢◌, ℕ, ◌+◌, ◌*◌, ◌/◌, ◌%◌, ◌<◌, ◌≤◌, List, All, length, slice_index_or, take, drop, ⊤}
 use Rattle.std.specs.List.{flat_map}
 use Rattle.page.specs.declared.fault.Fault.{Fault}
 use Rattle.page.specs.declared.fault.Fault.TheVariants.{NoResource, BadPage}
 use Rattle.page.specs.declared.page.Page.{Page}
 use Rattle.page.specs.Image.{page_text, FitsPage, SpellsPage}
 use Rattle.page.specs.declared.sizes.TheConstants.{PAGE_BYTES}
+
+-- these bytes are the images of these pages, each of which has one
+pub record AreImages (images : List ℕ) (pages : List Page) : Type 0 where
+  pub text : images ≡ flat_map page_text pages
+  pub fits : All FitsPage pages
+
+-- a part of the images of pages, which begins at this byte, is some whole images
+pub record IsPart (pages : List Page) (start : ℕ) (part : List ℕ) : Type 0 where
+  pub begins : start % PAGE_BYTES ≡ 0
+  pub whole : length part % PAGE_BYTES ≡ 0
+  pub inside : start + length part ≤ PAGE_BYTES * length pages
+
+-- the pages whose images are to stand there
+abbrev pub pages_of : List Page → ℕ → List ℕ → List Page
+pages_of pages start part = take (length part / PAGE_BYTES) (drop (start / PAGE_BYTES) pages)
 
 -- the bytes at a page's place
 abbrev pub image_of : List ℕ → ℕ → List ℕ

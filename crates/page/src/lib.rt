@@ -13,7 +13,7 @@ mod store;
 mod value;
 
 pub use fault::Fault;
-pub use file::{decode_store, encode_store, encode_store_into};
+pub use file::{decode_store, encode_store, encode_store_by, encode_store_into};
 pub use image::{decode_page, encode_page};
 pub use laws::{no_fault_of_a_store, one_page_spelling, one_store_fault, one_store_spelling};
 pub use page::Page;

@@ -1,12 +1,13 @@
 //! Recovery in memory: from the bytes of a log and a store to the bytes of both after it.
 
-ghost use Rattle.std.specs.Prelude.{◌≡◌, ◌≤◌, ◌<◌, ◌+◌, ◌-◌, ◌*◌, ◌^◌, length, take, IfOk, OnOk, IfErr, MatchResult, IsOkUnless};
+ghost use Rattle.std.specs.Prelude.{◌≡◌, ◌≤◌, ◌<◌, ◌+◌, ◌-◌, ◌*◌, ◌^◌, ℕ, List, Ok, length, take, IfOk, OnOk, IfErr, MatchResult, IsOkUnless};
 ghost use Rattle.page.specs.declared.fault.Fault.{Fault};
 ghost use Rattle.page.specs.declared.fault.Fault.TheVariants.{NoResource};
-ghost use Rattle.wal.specs.Records.{history, last_lsn};
-ghost use Rattle.wal.specs.Reads.{Reads, spellings};
+ghost use Rattle.wal.specs.Records.{LogContent, history, last_lsn};
+ghost use Rattle.wal.specs.Frames.{Gives};
+ghost use Rattle.wal.specs.Reads.{Reads, spellings, Cause as LogFault};
 ghost use Rattle.page.specs.Store.{StoreContent};
-ghost use Rattle.page.specs.File.{SpellsStore};
+ghost use Rattle.page.specs.File.{store_text, SpellsStore, StoreFault};
 ghost use Rattle.undo.specs.Appended.{records_of, AreTold, AreFit};
 ghost use Rattle.wal.specs.Meaning.{BasePages};
 ghost use Rattle.recovery.specs.Recovery.{report_of, new_log, Recovers, AreLawful, Recovered, Cause};
@@ -15,13 +16,44 @@ ghost use Rattle.restart.specs.Outcome.{outcome_in};
 ghost use Rattle.restart.specs.Restart.{Restarts, Restores};
 
 use crate::Report;
-use page::{Fault, decode_store, encode_store_into};
+use page::{Fault, Store, decode_store, encode_store_by};
 use redo::{Gate, Parting};
 use restart::{BriefOutcome, Options, restart_in_place};
 use std::alloc::Global;
-use std::thread::Threads;
+use std::thread::{Threads, join};
 use undo::{Appended, record_of};
 use wal::{Log, read_log_by, write_frame};
+
+/// What the bytes of a log and of a store spell, each for itself. Of two workers or more one decodes
+/// the store while the log is read.
+fn decode_both<'a, R: Threads + Sync>(
+    rt: &R,
+    alloc: Global,
+    log: &'a [u8],
+    store: &[u8],
+    workers: u32,
+) -> (Result<(Log<'a>, usize), Fault>, Result<Store, Fault>)
+    ensures log_found { IfOk result.0 (λ x. Reads log.now x.0 x.1) }
+    ensures log_only { (read : LogContent) (torn : ℕ) → Reads log.now read torn
+        → Gives (λ x. x) result.0 (Ok (read, torn)) }
+    ensures log_fault { IfErr result.0 (LogFault log.now) }
+    ensures store_found { IfOk result.1 (SpellsStore store.now) }
+    ensures store_only { (content : StoreContent) → SpellsStore store.now content
+        → MatchResult result.1 (λ read. read ≡ content) (λ e. e ≡ NoResource) }
+    ensures store_fault { IfErr result.1 (StoreFault store.now) }
+{
+    let threads = workers as usize;
+    if threads < 2 {
+        let read = read_log_by(rt, alloc, log, threads);
+        return (read, decode_store(alloc, store));
+    }
+    let (decoded, read) = join(
+        rt,
+        || decode_store(alloc, store),
+        || read_log_by(rt, alloc, log, threads),
+    );
+    (read, decoded)
+}
 
 /// The frames of the records that are appended to a log. One record at a time is made of what is
 /// told of it.
@@ -75,25 +107,27 @@ pub struct Recovery<'a> {
     pub report: Report,
 }
 
-/// What is to be written of what a restart made of a log and a store. The new store is made in the
-/// room of the old one's bytes. The only error is `NoResource`.
+/// What is to be written of what a restart made of a log and a store, where `store` is the text of the
+/// new store. The only error is `NoResource`.
 pub fn recovery_made<'a>(
     alloc: Global,
     log: &'a [u8],
     records: &Log,
     torn: usize,
     outcome: BriefOutcome,
-    mut store: Vec<u8>,
+    store: Vec<u8>,
 ) -> Result<Recovery<'a>, Fault>
     requires reads { Reads log.now records.now torn }
     requires told { AreTold (history records.now) outcome.appended.items }
     requires writable { AreFit (history records.now) outcome.appended.items }
     requires few { length outcome.appended.items ≤ 2 * length records.now.records + 2 ^ 32 }
+    requires encoded { store.items ≡ store_text outcome.store }
 
-    // Where the outcome is that of a restart of a store, whose bytes these were.
-    ensures answer { IfOk result (λ x. (before : StoreContent) → SpellsStore store.items before
+    // Where the outcome is that of a restart of a store, for any bytes that spell it.
+    ensures answer { IfOk result (λ x. (text : List ℕ) (before : StoreContent)
+        → SpellsStore text before
         → Restarts records.now before (outcome_in (history records.now) outcome)
-        → Recovers log.now store.items (new_log x) x.store.items x.report) }
+        → Recovers log.now text (new_log x) x.store.items x.report) }
     ensures lawful { IfOk result (λ x. (base : BasePages) (before : StoreContent)
         → Restores base records.now before (outcome_in (history records.now) outcome)
         → Recovered base records.now before (new_log x) x.store.items x.report) }
@@ -104,7 +138,6 @@ pub fn recovery_made<'a>(
         ≡ take (length log.now - x.report.torn) log.now) }
     ensures err { IsOkUnless result NoResource }
 {
-    encode_store_into(&outcome.store, &mut store)?;
     let (report, appended) = report_of(records, torn, outcome);
     Ok(Recovery {
         kept: &log[..log.len() - torn],
@@ -124,7 +157,7 @@ pub fn recovery_of<'a, G: Gate, R: Threads + Sync>(
     rt: &R,
     alloc: Global,
     log: &'a [u8],
-    store: Vec<u8>,
+    mut store: Vec<u8>,
     options: &Options,
     gate: &G,
 ) -> Result<Recovery<'a>, Fault>
@@ -142,9 +175,11 @@ pub fn recovery_of<'a, G: Gate, R: Threads + Sync>(
     // A refusal has its cause in the input, memory aside.
     ensures cause { IfErr result (Cause log.now store.items options.now) }
 {
-    let (records, torn) = read_log_by(rt, alloc, log, options.workers as usize)?;
-    let before = decode_store(alloc, &store)?;
+    let (read, decoded) = decode_both(rt, alloc, log, &store, options.workers);
+    let (records, torn) = read?;
+    let before = decoded?;
     let parting = Parting::by_number(alloc, before.pages.len() as u32, options.parts)?;
     let outcome = restart_in_place(rt, alloc, &records, before, &parting, options.workers, gate)?;
+    encode_store_by(rt, &outcome.store, &mut store, options.workers as usize)?;
     recovery_made(alloc, log, &records, torn, outcome, store)
 }

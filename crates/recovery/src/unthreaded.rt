@@ -6,7 +6,7 @@ ghost use Rattle.wal.specs.Meaning.{BasePages};
 ghost use Rattle.recovery.specs.Recovery.{new_log, Recovers, AreLawful, Recovered, Cause};
 
 use crate::recovery::{Recovery, recovery_made};
-use page::{Fault, decode_store};
+use page::{Fault, decode_store, encode_store_into};
 use restart::restart_alone;
 use std::alloc::Global;
 use wal::read_log;
@@ -22,7 +22,7 @@ use wal::read_log;
 pub fn recovery_alone<'a>(
     alloc: Global,
     log: &'a [u8],
-    store: Vec<u8>,
+    mut store: Vec<u8>,
 ) -> Result<Recovery<'a>, Fault>
     // On the bytes of a log and its store that are lawful over any base pages.
     ensures lawful { (base : BasePages) (bytes : AreLawful base log.now store.items)
@@ -46,5 +46,6 @@ pub fn recovery_alone<'a>(
     let (records, torn) = read_log(alloc, log)?;
     let before = decode_store(alloc, &store)?;
     let outcome = restart_alone(alloc, &records, before)?;
+    encode_store_into(&outcome.store, &mut store)?;
     recovery_made(alloc, log, &records, torn, outcome, store)
 }

@@ -1,9 +1,12 @@
 //! Images, store files and fault texts that were worked out by hand.
 
-use super::{check, check_all};
-use page::{Fault, Page, Value, decode_page, decode_store, encode_page, encode_store};
+use super::{check, check_all, check_at};
+use page::{
+    Fault, Page, Value, decode_page, decode_store, encode_page, encode_store, encode_store_by,
+};
 use std::alloc::{AllocError, Global};
 use std::test::Fail;
+use std::thread::Threads;
 
 /// The header of a store of one page and master 0.
 const ONE_PAGE: [u8; 24] = *b"ARIESPG1\0\0\0\x01\0\0\0\0\0\0\0\0\0\0\0\0";
@@ -189,10 +192,10 @@ fn full() -> Page {
     page
 }
 
-/// The store file of 4,096 pages, all but for their numbers like this one.
-fn largest(alloc: Global, like: &Page) -> Result<Vec<u8>, AllocError> {
-    let mut bytes = padded(alloc, &[b"ARIESPG1\0\0\x10\0"], 24)?;
-    for number in 0..4096 {
+/// The store file of this many pages, all but for their numbers like this one.
+fn file_of(alloc: Global, count: u32, like: &Page) -> Result<Vec<u8>, AllocError> {
+    let mut bytes = padded(alloc, &[b"ARIESPG1", &count.to_be_bytes()], 24)?;
+    for number in 0..count {
         let mut page = *like;
         page.number = number;
         bytes.extend_from_slice(&encode_page(&page))?;
@@ -202,7 +205,7 @@ fn largest(alloc: Global, like: &Page) -> Result<Vec<u8>, AllocError> {
 
 /// Whether the store of 4,096 pages like this one is its one spelling.
 fn is_largest_spelled(alloc: Global, page: &Page) -> Result<bool, Fault> {
-    let bytes = largest(alloc, page)?;
+    let bytes = file_of(alloc, 4096, page)?;
     let store = decode_store(alloc, &bytes)?;
     let again = encode_store(alloc, &store)?;
     Ok(
@@ -221,6 +224,36 @@ fn largest_store(rt: HostRuntime) -> Result<(), Fail> {
         ),
         (is_largest_spelled(rt.alloc(), &full())?, "full pages"),
     ])
+}
+
+/// Whether threads of each of these numbers spell a store of this many pages as one does, over
+/// bytes of any length.
+fn is_spelled_by_threads<R: Threads + Sync>(
+    rt: &R,
+    alloc: Global,
+    count: u32,
+) -> Result<bool, Fault> {
+    let file = file_of(alloc, count, &full())?;
+    let store = decode_store(alloc, &file)?;
+    let alone = encode_store(alloc, &store)?;
+    let mut again = vec![in alloc; 0xff; 2048]?;
+    for threads in [1, 2, 3, 64] {
+        encode_store_by(rt, &store, &mut again, threads)?;
+        if again.as_slice() != alone.as_slice() {
+            return Ok(false);
+        }
+        again.fill(0xff);
+    }
+    Ok(true)
+}
+
+#[test]
+fn threads_spell_as_one(rt: HostRuntime) -> Result<(), Fail> {
+    for count in [1, 255, 256, 257, 300] {
+        let is_so = is_spelled_by_threads(&rt, rt.alloc(), count)?;
+        check_at(count as usize, is_so, "a store of this many pages:")?;
+    }
+    Ok(())
 }
 
 /// Each fault, and its text.

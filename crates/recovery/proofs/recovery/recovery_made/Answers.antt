@@ -17,7 +17,7 @@ use Rattle.recovery.proofs.Resuming.{reads_extended}
 use Rattle.recovery.proofs.recovery.recovery_made.Goals as goal
 
 pub returns-clause-answer : goal.returns-clause-answer
-returns-clause-answer c = λ before spells restarts.
+returns-clause-answer c = λ text before spells restarts.
     let read = c.args.records.now in
     let torn = c.args.torn in
     let log = history read in
@@ -36,7 +36,7 @@ returns-clause-answer c = λ before spells restarts.
       restarts = restarts;
       log_is = log_is;
       reads = reads_extended bytes read appended log_is c.requires.reads.starts c.requires.reads.each (told_fit log told c.requires.writable) few;
-      store_is = c.in_ok-encode_store_into.ensures.ok;
+      store_is = c.requires.encoded;
       report_is = c.report_of-report.ensures.report;
     }
 
@@ -58,7 +58,7 @@ returns-clause-lawful c = λ base before restored.
     record {
       log_is = log_is ∙ ap (λ (rs : List LogRecord). log_text (read ⧺ rs)) restored.appended;
       reads = subst (λ (rs : List LogRecord). Reads bytes (read ⧺ rs) 0) restored.appended reads;
-      store_is = c.in_ok-encode_store_into.ensures.ok ∙ ap store_text restored.store;
+      store_is = c.requires.encoded ∙ ap store_text restored.store;
       settled = subst (λ s. IsSettled base (with_tail read) s) restored.store (subst (λ (rs : List LogRecord). IsSettled base (read ⧺ rs) c.args.outcome.store) restored.appended restored.settled);
       losers_are = ap (λ (r : ReportContent). r.losers) c.report_of-report.ensures.report ∙ restored.losers;
       in_doubt_are = ap (λ (r : ReportContent). r.in_doubt) c.report_of-report.ensures.report ∙ restored.in_doubt_are;

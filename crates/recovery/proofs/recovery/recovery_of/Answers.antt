@@ -1,7 +1,8 @@
-use Rattle.std.proofs.Common.{◌≡◌, ℕ, List, length, sym, ap, ◌∙◌, subst}
-use Rattle.std.proofs.lemmas.Result.{err_from_is_err_and, IfOk-weaker, MatchResult-from_both}
+use Rattle.std.proofs.Common.{◌≡◌, ℕ, List, Ok, length, sym, ap, ◌∙◌, subst}
+use Rattle.std.proofs.lemmas.Result.{err_from_is_err_and, IfOk-at_ok, IfOk-weaker, MatchResult-at_ok, MatchResult-from_both}
 use Rattle.page.specs.Store.{StoreContent}
 use Rattle.page.specs.File.{SpellsStore}
+use Rattle.wal.specs.Frames.{Gives}
 use Rattle.restart.specs.Restart.{IsPartingOf}
 use Rattle.recovery.specs.Recovery.{Decoded, Recovered, new_log}
 use Rattle.recovery.proofs.Bytes.{restart_cause, is_lawful, read_alone, read_same, dealt_by_number}
@@ -11,15 +12,18 @@ pub returns-in_err-records-clause-lawful : goal.returns-in_err-records-clause-la
 returns-in_err-records-clause-lawful g c = λ base bytes.
     let exit = err_from_is_err_and c.from_residual.result c.from_residual.ensures.1 in
     rw (exit.1, exit.2)
-    (read_alone (λ x. x) c.in_err-records.field-0.0 (bytes.decoded.read, bytes.decoded.torn) (c.in_err-records.ensures.only bytes.decoded.read bytes.decoded.torn bytes.decoded.reads))
+    (read_alone (λ x. x) c.in_err-records.field-0.0 (bytes.decoded.read, bytes.decoded.torn)
+    (subst (λ r. Gives (λ x. x) r (Ok (bytes.decoded.read, bytes.decoded.torn))) c.in_err-records.was (c.decode_both-read.ensures.log_only bytes.decoded.read bytes.decoded.torn bytes.decoded.reads)))
 
 pub returns-in_err-outcome-clause-lawful : goal.returns-in_err-outcome-clause-lawful
 returns-in_err-outcome-clause-lawful g c = λ base bytes.
     let exit = err_from_is_err_and c.from_residual-in_err-outcome.result c.from_residual-in_err-outcome.ensures.1 in
     let read = c.in_ok-records.records in
     let before = c.in_ok-before.before in
-    let one = read_same (read, c.in_ok-records.torn) (bytes.decoded.read, bytes.decoded.torn) (c.in_ok-records.ensures.only bytes.decoded.read bytes.decoded.torn bytes.decoded.reads) in
-    let same : before ≡ bytes.decoded.before = c.in_ok-before.ensures.only bytes.decoded.before (subst (λ (text : List ℕ). SpellsStore text bytes.decoded.before) (sym c.deref.ensures.value) bytes.decoded.spells) in
+    let one = read_same (read, c.in_ok-records.torn) (bytes.decoded.read, bytes.decoded.torn)
+    (subst (λ r. Gives (λ x. x) r (Ok (bytes.decoded.read, bytes.decoded.torn))) c.in_ok-records.was (c.decode_both-read.ensures.log_only bytes.decoded.read bytes.decoded.torn bytes.decoded.reads)) in
+    let same : before ≡ bytes.decoded.before =
+    MatchResult-at_ok _ _ _ c.in_ok-before.was (c.decode_both-read.ensures.store_only bytes.decoded.before (subst (λ (text : List ℕ). SpellsStore text bytes.decoded.before) (sym c.deref.ensures.value) bytes.decoded.spells)) in
     let dealt : IsPartingOf (length before.pages) c.in_ok-parting.parting =
     dealt_by_number c.len.result c.args.options.now.parts c.in_ok-parting.parting.part_of c.in_ok-parting.ensures.ok.1
     ∙ (c.len.ensures ∙ (c.before-2.inside.pages.ok.0 ∙ ap (λ (s : StoreContent). length s.pages) c.before-2.view_is)) in
@@ -30,7 +34,7 @@ returns-in_err-outcome-clause-cause g c =
     let exit = err_from_is_err_and c.from_residual-in_err-outcome.result c.from_residual-in_err-outcome.ensures.1 in
     let before = c.in_ok-before.before in
     let range = c.requires in
-    let decoded : Decoded c.args.log.now c.args.store.items = record { read = c.in_ok-records.records; torn = c.in_ok-records.torn; before = before; reads = c.in_ok-records.ensures.found; spells = subst (λ (text : List ℕ). SpellsStore text c.in_ok-before.before) c.deref.ensures.value c.in_ok-before.ensures.found } in
+    let decoded : Decoded c.args.log.now c.args.store.items = record { read = c.in_ok-records.records; torn = c.in_ok-records.torn; before = before; reads = IfOk-at_ok _ c.in_ok-records.was c.decode_both-read.ensures.log_found; spells = subst (λ (text : List ℕ). SpellsStore text c.in_ok-before.before) c.deref.ensures.value (IfOk-at_ok _ c.in_ok-before.was c.decode_both-read.ensures.store_found) } in
     let dealt : IsPartingOf (length before.pages) c.in_ok-parting.parting =
     dealt_by_number c.len.result c.args.options.now.parts c.in_ok-parting.parting.part_of c.in_ok-parting.ensures.ok.1
     ∙ (c.len.ensures ∙ (c.before-2.inside.pages.ok.0 ∙ ap (λ (s : StoreContent). length s.pages) c.before-2.view_is)) in
@@ -41,15 +45,17 @@ pub returns-clause-answer : goal.returns-clause-answer
 returns-clause-answer g c =
     let before = c.in_ok-before.before in
     IfOk-weaker c.recovery_made.result _ _
-    (λ x made. made before (subst (λ (text : List ℕ). SpellsStore text before) c.deref.ensures.value c.in_ok-before.ensures.found) c.in_ok-outcome.ensures.restarts)
+    (λ x made. made c.args.store.items before (subst (λ (text : List ℕ). SpellsStore text before) c.deref.ensures.value (IfOk-at_ok _ c.in_ok-before.was c.decode_both-read.ensures.store_found)) c.in_ok-outcome.ensures.restarts)
     c.recovery_made.ensures.answer
 
 pub returns-clause-lawful : goal.returns-clause-lawful
 returns-clause-lawful g c = λ base bytes.
     let read = c.in_ok-records.records in
     let before = c.in_ok-before.before in
-    let one = read_same (read, c.in_ok-records.torn) (bytes.decoded.read, bytes.decoded.torn) (c.in_ok-records.ensures.only bytes.decoded.read bytes.decoded.torn bytes.decoded.reads) in
-    let same : before ≡ bytes.decoded.before = c.in_ok-before.ensures.only bytes.decoded.before (subst (λ (text : List ℕ). SpellsStore text bytes.decoded.before) (sym c.deref.ensures.value) bytes.decoded.spells) in
+    let one = read_same (read, c.in_ok-records.torn) (bytes.decoded.read, bytes.decoded.torn)
+    (subst (λ r. Gives (λ x. x) r (Ok (bytes.decoded.read, bytes.decoded.torn))) c.in_ok-records.was (c.decode_both-read.ensures.log_only bytes.decoded.read bytes.decoded.torn bytes.decoded.reads)) in
+    let same : before ≡ bytes.decoded.before =
+    MatchResult-at_ok _ _ _ c.in_ok-before.was (c.decode_both-read.ensures.store_only bytes.decoded.before (subst (λ (text : List ℕ). SpellsStore text bytes.decoded.before) (sym c.deref.ensures.value) bytes.decoded.spells)) in
     let dealt : IsPartingOf (length before.pages) c.in_ok-parting.parting =
     dealt_by_number c.len.result c.args.options.now.parts c.in_ok-parting.parting.part_of c.in_ok-parting.ensures.ok.1
     ∙ (c.len.ensures ∙ (c.before-2.inside.pages.ok.0 ∙ ap (λ (s : StoreContent). length s.pages) c.before-2.view_is)) in

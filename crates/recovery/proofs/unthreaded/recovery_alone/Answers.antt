@@ -43,7 +43,7 @@ pub returns-clause-answer : goal.returns-clause-answer
 returns-clause-answer c =
     let before = c.in_ok-before.before in
     IfOk-weaker c.recovery_made.result _ _
-    (λ x made. made before (subst (λ (text : List ℕ). SpellsStore text before) c.deref.ensures.value c.in_ok-before.ensures.found) c.in_ok-outcome.ensures.restarts)
+    (λ x made. made c.args.store.items before (subst (λ (text : List ℕ). SpellsStore text before) c.deref.ensures.value c.in_ok-before.ensures.found) c.in_ok-outcome.ensures.restarts)
     c.recovery_made.ensures.answer
 
 pub returns-clause-lawful : goal.returns-clause-lawful

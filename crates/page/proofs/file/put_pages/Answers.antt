@@ -1,0 +1,10 @@
+use Rattle.std.proofs.Common.{◌∙◌, length, ap, arith}
+use Rattle.page.proofs.Files.{length-page_text}
+use Rattle.page.proofs.Writing.{images_more}
+use Rattle.page.proofs.file.put_pages.Goals as goal
+
+pub loop-number-preserved : goal.loop-number-preserved
+loop-number-preserved c =
+    let page = c.index-pages-number.result in
+    images_more c.args.pages.now c.loop-number.number _ c.loop-number.images c.put_page.new.image page c.loop-number.invariant (omega arith) (omega arith)
+    c.index-pages-number.is c.put_page.ensures.text c.put_page.ensures.fits (ap length c.put_page.ensures.text ∙ length-page_text page c.put_page.ensures.fits)
