@@ -1,6 +1,6 @@
 //! Notes: which record is in which cell of a part.
 
-ghost use Rattle.std.specs.Prelude.{◌≡◌, ◌<◌, [], ◌∷◌, ◌++◌, length, slice_index_or, OnOk, IsOkUnless};
+ghost use Rattle.std.specs.Prelude.{◌≡◌, ◌<◌, [], ◌∷◌, ◌++◌, length, slice_index_or, IfOk, OnOk, IsOkUnless};
 ghost use Rattle.page.specs.declared.fault.Fault.TheVariants.{NoResource};
 ghost use Rattle.page.specs.declared.sizes.TheConstants.{PAGES, SLOTS};
 
@@ -39,14 +39,15 @@ impl Model for NoteList {
 }
 
 impl NoteList {
-    /// No note.
-    pub fn new(alloc: Global) -> NoteList
-        ensures { result ≡ [] }
+    /// No note, with room for this many. The only error is `NoResource`.
+    pub fn with_capacity(alloc: Global, count: usize) -> Result<NoteList, Fault>
+        ensures empty { IfOk result (λ notes. notes ≡ []) }
+        ensures err { IsOkUnless result NoResource }
     {
-        NoteList {
-            lsns: Vec::new(alloc),
-            cells: Vec::new(alloc),
-        }
+        Ok(NoteList {
+            lsns: Vec::with_capacity(alloc, count)?,
+            cells: Vec::with_capacity(alloc, count)?,
+        })
     }
 
     /// How many notes there are.

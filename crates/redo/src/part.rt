@@ -62,7 +62,7 @@ fn begin(alloc: Global, input: &RedoInput, part: u32) -> Result<Vec<Tally>, Faul
     ensures err { IsOkUnless result NoResource }
 {
     let members = input.parting.members(part);
-    let mut tallies = Vec::new(alloc);
+    let mut tallies = Vec::with_capacity(alloc, members.len())?;
     for number in members {
         tallies.push(begin_page(input, *number))?;
     }

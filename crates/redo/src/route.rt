@@ -35,15 +35,22 @@ impl Route {
     }
 }
 
-/// No notes for any part. The only error is `NoResource`.
-fn empty_notes(alloc: Global, parts: u32) -> Result<Vec<NoteList>, Fault>
+/// For how many notes a part is given room: its share of the records of a stretch, and a quarter
+/// more. So a list seldom grows, which costs most where several threads do it.
+fn room_of(records: u64, parts: u32) -> usize {
+    let share = records / parts.max(1) as u64;
+    share.saturating_add(share / 4) as usize
+}
+
+/// No notes for any part, with room for this many. The only error is `NoResource`.
+fn empty_notes(alloc: Global, parts: u32, room: usize) -> Result<Vec<NoteList>, Fault>
     ensures count { IfOk result (λ lists. length lists.items ≡ parts) }
     ensures empty { IfOk result (λ lists. (part : ℕ) → notes_at lists.items part ≡ []) }
     ensures err { IsOkUnless result NoResource }
 {
     let mut lists = Vec::new(alloc);
     for _ in 0..parts {
-        lists.push(NoteList::new(alloc))?;
+        lists.push(NoteList::with_capacity(alloc, room)?)?;
     }
     Ok(lists)
 }
@@ -105,7 +112,8 @@ fn route_through(alloc: Global, input: &RedoInput, from: u64, to: u64) -> Result
     ensures ok { IfOk result (IsRoute input.now from to) }
     ensures fault { IfErr result (RouteFault input.now from to) }
 {
-    let mut lists = empty_notes(alloc, input.parting.parts())?;
+    let parts = input.parting.parts();
+    let mut lists = empty_notes(alloc, parts, room_of(to - from, parts))?;
     for lsn in from..to {
         let glance = input.log.glance_after(lsn);
         if let Err(fault) = put_note(input.parting, glance, lsn + 1, &mut lists) {

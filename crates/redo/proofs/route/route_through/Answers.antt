@@ -14,7 +14,7 @@ pub loop-lsn-init : goal.loop-lsn-init
 loop-lsn-init c =
     let input = c.args.input.now in
     let made = c.in_ok-lists.ensures in (
-      made.count ∙ (c.parts.ensures.parts ∙ ap (λ p. p.parting.parts) c.input.view_is),
+      made.count ∙ (c.parts-parts.ensures.parts ∙ ap (λ p. p.parting.parts) c.input.view_is),
       (λ part lt. ap (map lsn_in) (made.empty part) ∙ sym (none_noted input c.args.from part c.requires.begun)),
       exist_none input.log (length input.images) c.args.from,
       (λ part lt. subst (All (IsNote (history input.log) input.parting.place_of)) (sym (made.empty part)) (λ k d less. absurd (omega arith))),
