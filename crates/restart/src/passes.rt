@@ -187,7 +187,8 @@ pub fn restart_in_place<G: Gate, R: Threads + Sync>(
 
 /// Restarts on a log and its store after a crash (ARIES, section 6): analysis from the last
 /// checkpoint on, redo by `workers` threads that draw the parts of the pages and call the gate for
-/// each, undo of the transactions that have not finished and are not in doubt.
+/// each, undo of the transactions that have not finished and are not in doubt. Of two workers or
+/// more one thread beside them finds these transactions while redo goes on.
 ///
 /// On a lawful log and its store each page has exactly what the committed and in-doubt
 /// transactions' updates and compensations, in LSN order, make of the base page (what it held before
