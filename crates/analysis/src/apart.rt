@@ -1,7 +1,7 @@
 //! Analysis in two halves, which two threads can do beside each other: the transaction table, which
 //! undo asks for, and the dirty page table, which redo asks for.
 
-ghost use Rattle.std.specs.Prelude.{◌≡◌, ℕ, List, map, None, Option, IfOk, OnOk, IfErr, IsOkUnless};
+ghost use Rattle.std.specs.Prelude.{◌≡◌, ℕ, List, [], map, None, Option, IfOk, OnOk, IfErr, IsOkUnless};
 ghost use Rattle.page.specs.declared.fault.Fault.TheVariants.{NoResource};
 ghost use Rattle.page.specs.Store.{StoreContent};
 ghost use Rattle.wal.specs.Content.{entry_of};
@@ -83,6 +83,7 @@ pub fn analyse_transactions(
 pub fn analyse_pages(alloc: Global, log: &Log, master: u64) -> Result<Tables, Fault>
     ensures pages { IfOk result (λ found. AreDirtyPagesOf log.now master
         found.dirty found.redo_lsn) }
+    ensures no_transactions { IfOk result (λ found. found.transactions ≡ []) }
     ensures fault { IfErr result (BaseFault master (history log.now)) }
 {
     let (_, mut dirty) = base(alloc, log, master)?;
