@@ -76,6 +76,31 @@ pub fn read_all<S: Source>(alloc: Global, source: &mut S) -> Result<Vec<u8>, Rea
     }
 }
 
+/// Fills a buffer with the bytes that a source gives next, and gives how many they are: fewer than
+/// the buffer takes only where the source is at its end. What stands behind them in the buffer is not
+/// told.
+///
+/// `Failed` where the source failed; its count of failures has risen by one. A beginning of the bytes
+/// that were left has been read, and is dropped.
+pub fn read_full<S: Source>(source: &mut S, buffer: &mut [u8]) -> Result<usize, Failed>
+    ensures within { IfOk result (λ count. count ≤ length buffer.new) }
+    ensures read { IfOk result (λ count. Consumes (S.left source.old) (S.left source.new)
+        (take count buffer.new)) }
+    ensures end { IfOk result (λ count. count < length buffer.new → IsAtEnd (S.left source.new)) }
+    ensures cause { Counts (S.failures source.old) (S.failures source.new) result }
+    ensures beginning { OnErr result (ReadBeginning (S.left source.old) (S.left source.new)) }
+{
+    let mut filled = 0;
+    while filled < buffer.len() {
+        let count = read_behind(source, buffer, filled)?;
+        if count == 0 {
+            return Ok(filled);
+        }
+        filled += count;
+    }
+    Ok(filled)
+}
+
 /// Writes all bytes to a sink, behind those that it took before. The sink is not flushed.
 ///
 /// `Failed` where the sink failed; its count of failures has risen by one, and it has taken a

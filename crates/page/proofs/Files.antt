@@ -10,6 +10,7 @@ use Rattle.std.proofs.lemmas.List.Elements.{All-push, All-tail}
 use Rattle.page.specs.declared.page.Page.{Page}
 use Rattle.page.specs.Image.{cells, directory, header, body, page_text, FitsPage, SpellsPage}
 use Rattle.page.specs.Images.{image_of, HasPage, SpellPages, FirstBadPage, PagesFault}
+use Rattle.page.specs.Pieces.{PagesSoFar}
 use Rattle.page.specs.File.{magic, store_header, BeginsWithHeader, SpellsStore}
 use Rattle.page.specs.Store.{StoreContent}
 use Rattle.page.specs.declared.fault.Fault.{Fault}
@@ -61,7 +62,7 @@ piece_inside f n (x ∷ xs) (suc k) d len lt =
     ap (λ m. take n (drop m (f x ++ rest))) more ∙ ap (take n) (sym (drop-drop (n * k) n (f x ++ rest)) ∙ ap (drop (n * k)) (drop_at (f x) rest n (len 0 (omega arith))))
     ∙ piece_inside f n xs k d (λ i h. len (suc i) (omega (arith, h))) (omega arith)
 
-length-pieces : {X : Type 0} (f : X → List ℕ) (n : ℕ) (xs : List X) → All (λ x. length (f x) ≡ n) xs → length (flat_map f xs) ≡ n * length xs
+pub length-pieces : {X : Type 0} (f : X → List ℕ) (n : ℕ) (xs : List X) → All (λ x. length (f x) ≡ n) xs → length (flat_map f xs) ≡ n * length xs
 length-pieces f n [] len = omega arith
 length-pieces f n (x ∷ xs) len = omega (arith, length-append (f x) (flat_map f xs), len 0 x (omega arith), length-pieces f n xs (All-tail (λ y. length (f y) ≡ n) x xs len))
 
@@ -92,11 +93,6 @@ at_place_push pages page h e k d lt =
           let last : length pages ≡ k = omega (arith, length_push pages page) in
           ap (λ p. p.number) (get_or_push pages page d k last) ∙ e ∙ last
     ]
-
--- the first i pages were read
-pub record PagesSoFar (images : List ℕ) (i : ℕ) (pages : List Page) : Type 0 where
-  pub spelled : SpellPages (take (1024 * i) images) i pages
-  pub good : (k : ℕ) → k < i → HasPage images k
 
 pub pages_more : (images rest image : List ℕ) (i : ℕ) (pages new : List Page) (page : Page) → PagesSoFar images i pages
     → rest ≡ drop (1024 * i) images → image ≡ take 1024 rest → SpellsPage image page → page.number ≡ i → new ≡ pages ++ page ∷ []

@@ -1,9 +1,10 @@
 pub mod BigEndian
 pub mod Causes
+mod Empty
 pub mod Files
-pub mod Joined
 pub mod Once
 pub mod Pages
+pub mod Piecewise
 pub mod Reading
 pub mod Slots
 pub mod Writing

@@ -12,16 +12,6 @@ pub record AreImages (images : List ℕ) (pages : List Page) : Type 0 where
   pub text : images ≡ flat_map page_text pages
   pub fits : All FitsPage pages
 
--- a part of the images of pages, which begins at this byte, is some whole images
-pub record IsPart (pages : List Page) (start : ℕ) (part : List ℕ) : Type 0 where
-  pub begins : start % PAGE_BYTES ≡ 0
-  pub whole : length part % PAGE_BYTES ≡ 0
-  pub inside : start + length part ≤ PAGE_BYTES * length pages
-
--- the pages whose images are to stand there
-abbrev pub pages_of : List Page → ℕ → List ℕ → List Page
-pages_of pages start part = take (length part / PAGE_BYTES) (drop (start / PAGE_BYTES) pages)
-
 -- the bytes at a page's place
 abbrev pub image_of : List ℕ → ℕ → List ℕ
 image_of images number = take PAGE_BYTES (drop (PAGE_BYTES * number) images)

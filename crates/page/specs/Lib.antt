@@ -5,4 +5,5 @@ pub mod Image
 pub mod Images
 pub mod Laws
 pub mod Parts
+pub mod Pieces
 pub mod Store

@@ -4,7 +4,7 @@ ghost use Rattle.std.specs.Prelude.{◌≡◌, ◌<◌, ◌≤◌, ◌+◌, ◌*
 ghost use Rattle.page.specs.Store.{StoreContent};
 ghost use Rattle.page.specs.File.{store_header, store_text, FitsStore, SpellsStore, BeginsWithHeader, StoreFault};
 ghost use Rattle.page.specs.declared.sizes.TheConstants.{PAGES, PAGE_BYTES, STORE_HEADER_BYTES};
-ghost use Rattle.page.specs.Images.{AreImages, IsPart, pages_of, SpellPages, PagesFault};
+ghost use Rattle.page.specs.Images.{AreImages, SpellPages, PagesFault};
 
 use crate::image::{page_at, put_page};
 use crate::numbers::numbers_at;
@@ -12,11 +12,6 @@ use crate::sizes::{PAGE_BYTES, PAGES, STORE_HEADER_BYTES};
 use crate::{Fault, Page, Store};
 use byteorder::{BigEndian, ByteOrder};
 use std::alloc::Global;
-use std::thread;
-use std::thread::Threads;
-
-/// A store of fewer pages than this is not worth a thread.
-const SMALLEST_THREADED: usize = 256;
 
 /// The first 24 bytes of a store file.
 fn header(count: u32, master: u64) -> [u8; STORE_HEADER_BYTES]
@@ -30,8 +25,9 @@ fn header(count: u32, master: u64) -> [u8; STORE_HEADER_BYTES]
     header
 }
 
-/// Writes the images of pages over bytes of their length, one after the other.
-fn put_pages(pages: &[Page], images: &mut [u8])
+/// Writes the images of pages over bytes of their length, one after the other. So the images of a
+/// store can be written piece by piece, behind [`encode_header`].
+pub fn encode_pages_into(pages: &[Page], images: &mut [u8])
     requires { length images.old ≡ PAGE_BYTES * length pages.now }
     ensures { AreImages images.new pages.now }
 {
@@ -41,22 +37,13 @@ fn put_pages(pages: &[Page], images: &mut [u8])
     }
 }
 
-/// As `put_pages`, in as many threads as this at most: each writes a part of the images.
-fn put_pages_by<R: Threads + Sync>(rt: &R, pages: &[Page], images: &mut [u8], threads: usize)
-    requires some { 0 < length pages.now }
-    requires size { length images.old ≡ PAGE_BYTES * length pages.now }
-    requires threads { 0 < threads }
-    ensures { AreImages images.new pages.now }
+/// The header of a store's file: the first 24 bytes of its one spelling.
+pub fn encode_header(store: &Store) -> [u8; STORE_HEADER_BYTES]
+    ensures text { result ≡ store_header (length store.now.pages) store.now.master }
+    ensures fits { store.now.master < 2 ^ 64 }
 {
-    let share = PAGE_BYTES * pages.len().div_ceil(threads);
-    let put = |start: usize, part: &mut [u8]|
-        requires { IsPart pages.now start part.now }
-        ensures { AreImages part.exit.now (pages_of pages.entry.now start part.entry.now) }
-    {
-        let first = start / PAGE_BYTES;
-        put_pages(&pages[first..first + part.len() / PAGE_BYTES], part)
-    };
-    thread::for_each_chunk_mut(rt, images, share, &put);
+    let pages = &store.pages;
+    header(pages.len() as u32, store.master)
 }
 
 /// Writes the header of a store over the first bytes of its file.
@@ -66,9 +53,7 @@ fn put_header(store: &Store, text: &mut [u8])
         ++ drop STORE_HEADER_BYTES text.old }
     ensures fits { store.now.master < 2 ^ 64 }
 {
-    let pages = &store.pages;
-    let header = header(pages.len() as u32, store.master);
-    text[..STORE_HEADER_BYTES].copy_from_slice(&header);
+    text[..STORE_HEADER_BYTES].copy_from_slice(&encode_header(store));
 }
 
 /// The one spelling of a store, in place of what the vector holds: `ARIESPG1`, page count, four
@@ -82,28 +67,7 @@ pub fn encode_store_into(store: &Store, bytes: &mut Vec<u8>) -> Result<(), Fault
 {
     bytes.resize(STORE_HEADER_BYTES + PAGE_BYTES * store.pages.len(), 0)?;
     put_header(store, &mut bytes[..]);
-    put_pages(&store.pages, &mut bytes[STORE_HEADER_BYTES..]);
-    Ok(())
-}
-
-/// As [`encode_store_into`], in as many threads as this at most, where the store has pages enough for
-/// them.
-pub fn encode_store_by<R: Threads + Sync>(
-    rt: &R,
-    store: &Store,
-    bytes: &mut Vec<u8>,
-    threads: usize,
-) -> Result<(), Fault>
-    ensures ok { OnOk result (bytes.new.items ≡ store_text store.now) }
-    ensures fits { OnOk result (FitsStore store.now) }
-    ensures err { IfErr result (λ e. e ≡ Fault.NoResource) }
-{
-    if threads < 2 || store.pages.len() < SMALLEST_THREADED {
-        return encode_store_into(store, bytes);
-    }
-    bytes.resize(STORE_HEADER_BYTES + PAGE_BYTES * store.pages.len(), 0)?;
-    put_header(store, &mut bytes[..]);
-    put_pages_by(rt, &store.pages, &mut bytes[STORE_HEADER_BYTES..], threads);
+    encode_pages_into(&store.pages, &mut bytes[STORE_HEADER_BYTES..]);
     Ok(())
 }
 
@@ -120,7 +84,7 @@ pub fn encode_store(alloc: Global, store: &Store) -> Result<Vec<u8>, Fault>
 }
 
 /// Page count and master in the header of a store file.
-fn header_at(bytes: &[u8]) -> Option<(u32, u64)>
+pub fn header_at(bytes: &[u8]) -> Option<(u32, u64)>
     ensures found { IfSome result (λ header. BeginsWithHeader bytes.now header.0 header.1) }
     ensures only { (count master : ℕ) → BeginsWithHeader bytes.now count master
         → result ≡ Some (count, master) }

@@ -1,10 +1,11 @@
 -- A recovery of bytes: what was read, what is written, and why it is refused.
-use Rattle.std.proofs.Common.{ℕ, ◌≡◌, ◌+◌, ◌-◌, ◌≤◌, List, [], ◌∷◌, ◌++◌, length, take, Ok, Err, refl, sym, subst, ap, ap₂, ◌∙◌, arith, inl, inr, append_assoc, append-nil, ◌%◌}
+use Rattle.std.proofs.Common.{ℕ, ◌≡◌, ◌+◌, ◌-◌, ◌≤◌, List, [], ◌∷◌, ◌++◌, length, take, Result, Ok, Err, refl, sym, subst, ap, ap₂, ◌∙◌, arith, inl, inr, append_assoc, append-nil, ◌%◌}
 use Rattle.std.proofs.lemmas.List.{take_at, length-append}
 use Rattle.std.proofs.lemmas.List.FromFn.{length-map-range_with_len}
 use Rattle.page.specs.Store.{StoreContent}
 use Rattle.page.specs.declared.fault.Fault.{Fault}
 use Rattle.page.specs.declared.fault.Fault.TheVariants.{NoResource, BadWorkers, BadParting}
+use Rattle.page.specs.File.{StoreFault}
 use Rattle.wal.proofs.Histories.{size_of_log}
 use Rattle.wal.specs.Records.{LogRecord, LogContent, last_lsn, history, ◌⧺◌, lsn_before}
 use Rattle.wal.specs.Frames.{Gives}
@@ -16,7 +17,7 @@ use Rattle.wal.proofs.CutBytes.{spellings-append}
 use Rattle.redo.specs.Parting.{PartingContent, by_number}
 use Rattle.restart.specs.declared.options.Options.{Options}
 use Rattle.restart.specs.Restart.{AreSettings, InputFault, RestartFault}
-use Rattle.recovery.specs.Recovery.{Decoded, AreLawful, Cause}
+use Rattle.recovery.specs.Recovery.{Decoded, ReadsAs, AreLawful, Cause}
 use Rattle.restart.specs.Options.{AreInRange, OptionsFault}
 use Rattle.restart.proofs.Causes.{settings_hold}
 use Rattle.wal.specs.Headers.{header_of}
@@ -50,6 +51,15 @@ read_alone view e y gives = absurd (cc)
 pub read_same : {X : Type 0} (x y : X) → Gives (λ (z : X). z) (Ok x) (Ok y) → x ≡ y
 read_same x y gives = cc
 
+-- an answer of a reader of logs
+pub none_read : (log : List ℕ) (answer : Result (LogContent × ℕ) Fault) (e : Fault) (read : LogContent) (torn : ℕ) → answer ≡ Err e → ReadsAs log answer → Reads log read torn → e ≡ NoResource
+none_read log answer e read torn was reads spelled =
+    read_alone (λ x. x) e (read, torn) (subst (λ a. Gives (λ x. x) a (Ok (read, torn))) was (reads.only read torn spelled))
+
+pub one_read : (log : List ℕ) (answer : Result (LogContent × ℕ) Fault) (x : LogContent × ℕ) (read : LogContent) (torn : ℕ) → answer ≡ Ok x → ReadsAs log answer → Reads log read torn → x ≡ (read, torn)
+one_read log answer x read torn was reads spelled =
+    read_same x (read, torn) (subst (λ a. Gives (λ x. x) a (Ok (read, torn))) was (reads.only read torn spelled))
+
 -- WHAT IS WRITTEN
 -- one frame more
 pub spellings_push : (out new : List ℕ) (lsn next : ℕ) (xs : List LogRecord) (x : LogRecord) → next ≡ lsn + length xs → out ≡ spellings lsn xs → new ≡ out ++ frame x next → new ≡ spellings lsn (xs ++ x ∷ [])
@@ -68,6 +78,13 @@ text_extended log more kept frames lsn front at behind =
 -- the pages of a parting by number
 pub dealt_by_number : (pages parts : ℕ) (part_of : List ℕ) → part_of ≡ by_number pages parts → length part_of ≡ pages
 dealt_by_number pages parts part_of is = ap length is ∙ length-map-range_with_len (λ page. page % parts) 0 pages
+
+-- a refusal of the store's bytes, where those of the log are read
+pub store_cause : (log store : List ℕ) (options : Options) (e : Fault) → AreInRange options → (read : LogContent) (torn : ℕ) → Reads log read torn → StoreFault store e → Cause log store options e
+store_cause log store options NoResource range read torn reads h = tt
+store_cause log store options BadWorkers range read torn reads h = absurd h
+store_cause log store options BadParting range read torn reads h = absurd h
+store_cause log store options e range read torn reads h = (range, inr (inl (read, torn, reads, h)))
 
 -- WHY IT IS REFUSED
 -- where a restart is refused for its input, the recovery is

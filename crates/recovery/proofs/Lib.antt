@@ -4,3 +4,5 @@ pub mod Resuming
 pub mod OneAnswer
 pub mod OneTextCause
 pub mod TailLength
+pub mod Decoded
+pub mod Taken

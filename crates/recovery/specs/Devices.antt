@@ -74,13 +74,6 @@ IsOut log_left store_left log_before log_after store_before store_after WriteSto
 IsOut log_left store_left log_before log_after store_before store_after e =
     Keeps log_before log_after × Keeps store_before store_after
 
--- why sources are not read, memory aside
-abbrev pub IsReadFault : Fault → Type 0
-IsReadFault NoResource = ⊤
-IsReadFault ReadLog = ⊤
-IsReadFault ReadStore = ⊤
-IsReadFault e = ⊥
-
 -- why a recovery over devices is refused: a device, memory, the options, or the texts that were read
 abbrev pub DeviceCause : (log_left store_left : Option (List ℕ)) → Options → Fault → Type 0
 DeviceCause log_left store_left options NoResource = ⊤

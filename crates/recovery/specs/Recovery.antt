@@ -1,5 +1,5 @@
 -- What a recovery makes of the bytes of a log and a store, and why it is refused (own).
-use Rattle.std.specs.Prelude.{◌≡◌, ℕ, ◌⊎◌, List, ◌++◌, length, ⊤}
+use Rattle.std.specs.Prelude.{◌≡◌, ℕ, ◌⊎◌, List, ◌++◌, length, Result, Ok, IfOk, IfErr, MatchResult, ⊤}
 use Rattle.page.specs.declared.fault.Fault.{Fault}
 use Rattle.page.specs.declared.fault.Fault.TheVariants.{NoResource, BadWorkers, BadParting}
 use Rattle.page.specs.Store.{StoreContent}
@@ -7,6 +7,7 @@ use Rattle.page.specs.File.{store_text, SpellsStore, StoreFault}
 use Rattle.wal.specs.Records.{LogContent, history, ◌⧺◌}
 use Rattle.wal.specs.Meaning.{BasePages, in_doubt}
 use Rattle.wal.specs.Tail.{in_doubt_of, losers_of, tail_of, with_tail}
+use Rattle.wal.specs.Frames.{Gives}
 use Rattle.wal.specs.Reads.{Reads, log_text, Cause as LogFault}
 use Rattle.wal.specs.Store.{Lawful, store_out}
 use Rattle.wal.specs.Cut.{Cut}
@@ -14,6 +15,7 @@ use Rattle.restart.specs.Outcome.{OutcomeContent}
 use Rattle.restart.specs.Restart.{clrs_in, Restarts, IsSettled, Redoes, InputFault}
 use Rattle.restart.specs.declared.options.Options.{Options}
 use Rattle.recovery.specs.declared.recovery.Recovery.{Recovery}
+use Rattle.recovery.specs.declared.recovery.Remade.{Remade}
 use Rattle.recovery.specs.Text.{ReportContent}
 use Rattle.restart.specs.Options.{AreInRange, OptionsFault}
 
@@ -29,6 +31,22 @@ pub record Decoded (log store : List ℕ) : Type 0 where
 -- what stays of the log, and behind it the frames of what is appended
 abbrev pub new_log : Recovery → List ℕ
 new_log x = x.kept.now ++ x.frames.items
+
+-- the same where the new store is not yet in bytes
+abbrev pub log_of : Remade → List ℕ
+log_of x = x.kept.now ++ x.frames.items
+
+-- the answer of a decoder of store files to these bytes: the store that they spell, or why they spell none
+pub record Decodes (text : List ℕ) (answer : Result StoreContent Fault) : Type 0 where
+  pub found : IfOk answer (SpellsStore text)
+  pub only : (store : StoreContent) → SpellsStore text store → MatchResult answer (λ read. read ≡ store) (λ e. e ≡ NoResource)
+  pub fault : IfErr answer (StoreFault text)
+
+-- the answer of a reader of logs to these bytes: the records that they spell and how many bytes are torn, or why they spell none
+pub record ReadsAs (log : List ℕ) (answer : Result (LogContent × ℕ) Fault) : Type 0 where
+  pub found : IfOk answer (λ x. Reads log x.0 x.1)
+  pub only : (read : LogContent) (torn : ℕ) → Reads log read torn → Gives (λ x. x) answer (Ok (read, torn))
+  pub fault : IfErr answer (LogFault log)
 
 -- the numbers of a restart
 abbrev pub report_of : LogContent → (torn : ℕ) → OutcomeContent → ReportContent

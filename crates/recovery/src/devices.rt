@@ -1,19 +1,23 @@
 //! Recovery over devices: the log and the store are read to their ends, the new ones made in
-//! memory, and then written, the log first.
+//! memory, and then written, the log first. The store goes in and out piece by piece.
 
-ghost use Rattle.std.specs.Prelude.{◌≡◌, ◌≢◌, ◌⊎◌, ℕ, List, ◌++◌, Some, IfOk, IfErr, IfSome, OnOk, OnErr, Err, MatchResult};
+ghost use Rattle.std.specs.Prelude.{◌≡◌, ◌≢◌, ◌⊎◌, ℕ, List, ◌++◌, length, Some, IfOk, IfErr, IfSome, OnOk, OnErr, Err, MatchResult};
 ghost use Rattle.std.specs.Io.KnownBytes.{IsAtEnd};
 ghost use Rattle.page.specs.declared.fault.Fault.{Fault};
 ghost use Rattle.page.specs.declared.fault.Fault.TheVariants.{NoResource, ReadLog, ReadStore, WriteLog, WriteStore};
 ghost use Rattle.device.specs.Failures.{Counts};
 ghost use Rattle.device.specs.Transfer.{TookBeginning, Flushes};
 ghost use Rattle.wal.specs.Meaning.{BasePages};
-ghost use Rattle.recovery.specs.Recovery.{new_log, AreLawful, AreCut};
+ghost use Rattle.page.specs.File.{store_text};
+ghost use Rattle.recovery.specs.Recovery.{log_of, AreLawful, AreCut};
+ghost use Rattle.recovery.specs.declared.store_pieces.TheConstants.{PIECE};
 ghost use Rattle.restart.specs.Options.{AreInRange, OptionsFault};
-ghost use Rattle.recovery.specs.Devices.{Fails, Gave, IsFaultOf, AreRead, Makes, Writes, AreOut, Leaves, IsOut, IsReadFault, DeviceCause, Delivers, Completes, LeavesCut, IsResourceOrDevice};
+ghost use Rattle.recovery.specs.Devices.{Fails, Gave, IsFaultOf, Makes, Writes, AreOut, Leaves, IsOut, DeviceCause, Delivers, Completes, LeavesCut, IsResourceOrDevice};
 
 use crate::Report;
-use crate::recovery::{Recovery, recovery_of};
+use crate::decoding::decode_both;
+use crate::recovery::{Remade, remake};
+use crate::store_pieces::{room_for_pieces, write_store};
 use device::{Failed, ReadFault, Sink, Source, read_all, write_all};
 use page::Fault;
 use redo::Gate;
@@ -38,26 +42,6 @@ pub fn read_source<S: Source>(
         Err(ReadFault::Failed) => Err(failed),
         Err(ReadFault::NoMemory) => Err(Fault::NoResource),
     }
-}
-
-/// All bytes that two sources have left, those of the log read first.
-fn read_both<L: Source, S: Source>(
-    alloc: Global,
-    log: &mut L,
-    store: &mut S,
-) -> Result<(Vec<u8>, Vec<u8>), Fault>
-    ensures read { IfOk result (λ x. AreRead (L.left log.old)
-        (S.left store.old) x.0.items x.1.items) }
-    ensures ends { OnOk result (IsAtEnd (L.left log.new) × IsAtEnd (S.left store.new)) }
-    ensures log_first { (store.new ≡ store.old) ⊎ IsAtEnd (L.left log.new) }
-    ensures log_failed { result ≡ Err ReadLog → store.new ≡ store.old }
-    ensures fault { IfErr result IsReadFault }
-    ensures log_source { Fails ReadLog result (L.failures log.old) (L.failures log.new) }
-    ensures store_source { Fails ReadStore result (S.failures store.old) (S.failures store.new) }
-{
-    let log_text = read_source(alloc, log, Fault::ReadLog)?;
-    let store_text = read_source(alloc, store, Fault::ReadStore)?;
-    Ok((log_text, store_text))
 }
 
 /// Writes bytes to a sink and flushes it.
@@ -90,22 +74,24 @@ fn write_log<S: Sink>(sink: &mut S, kept: &[u8], frames: &[u8]) -> Result<(), Fa
 fn write_both<L: Sink, S: Sink>(
     log: &mut L,
     store: &mut S,
-    recovery: &Recovery,
+    remade: &Remade,
+    room: &mut [u8],
 ) -> Result<(), Fault>
-    ensures log_out { OnOk result (AreOut (new_log recovery.now) (L.taken log.old) (L.taken log.new)
+    requires { length room.old ≡ PIECE }
+    ensures log_out { OnOk result (AreOut (log_of remade.now) (L.taken log.old) (L.taken log.new)
         (L.flushed log.old) (L.flushed log.new)) }
-    ensures store_out { OnOk result (AreOut recovery.now.store.items (S.taken store.old)
+    ensures store_out { OnOk result (AreOut (store_text remade.now.store) (S.taken store.old)
         (S.taken store.new) (S.flushed store.old) (S.flushed store.new)) }
     ensures log_first { (store.new ≡ store.old)
-        ⊎ AreOut (new_log recovery.now) (L.taken log.old) (L.taken log.new) (L.flushed log.old)
+        ⊎ AreOut (log_of remade.now) (L.taken log.old) (L.taken log.new) (L.flushed log.old)
         (L.flushed log.new) }
-    ensures fault { IfErr result (Leaves (new_log recovery.now) recovery.now.store.items
+    ensures fault { IfErr result (Leaves (log_of remade.now) (store_text remade.now.store)
         (L.taken log.old) (L.taken log.new) (S.taken store.old) (S.taken store.new)) }
     ensures log_sink { Fails WriteLog result (L.failures log.old) (L.failures log.new) }
     ensures store_sink { Fails WriteStore result (S.failures store.old) (S.failures store.new) }
 {
-    match write_log(log, recovery.kept, &recovery.frames) {
-        Ok(()) => match write_whole(store, &recovery.store) {
+    match write_log(log, remade.kept, &remade.frames) {
+        Ok(()) => match write_store(store, &remade.store, room) {
             Ok(()) => Ok(()),
             Err(Failed) => Err(Fault::WriteStore),
         },
@@ -130,7 +116,9 @@ fn write_both<L: Sink, S: Sink>(
 /// [`wal::read_log`] for the log, of [`page::decode_store`] for the store, and of
 /// [`restart`](restart::restart); [`Fault::WriteLog`] and [`Fault::WriteStore`] where a sink
 /// failed, at a write or its flush. [`Fault::NoResource`], where memory or a thread was refused,
-/// may come in place of any of these up to the first write.
+/// may come in place of any of these up to the first write. A store that is longer than any is not
+/// read to its end: 65,536 bytes past the largest it is refused for its bytes, whatever its source
+/// would do.
 ///
 /// After `WriteLog` a beginning of the new log is out and nothing of the store; after `WriteStore`
 /// the new log, flushed, and a beginning of the new store; after any other fault nothing. Of a
@@ -209,8 +197,12 @@ pub fn recover<LR: Source, SR: Source, LW: Sink, SW: Sink, G: Gate, R: Threads +
         (SW.failures out_store.new) }
 {
     check_options(options)?;
-    let (log_text, store_text) = read_both(alloc, log, store)?;
-    let recovery = recovery_of(rt, alloc, &log_text, store_text, options, gate)?;
-    write_both(out_log, out_store, &recovery)?;
-    Ok(recovery.report)
+    let mut room = room_for_pieces(alloc)?;
+    let log_text = read_source(alloc, log, Fault::ReadLog)?;
+    let log_bytes: &[u8] = &log_text;
+    let (records, decoded) = decode_both(rt, alloc, log_bytes, options.workers, store, &mut room);
+    let decoded = decoded?;
+    let remade = remake(rt, alloc, log_bytes, records, decoded, options, gate)?;
+    write_both(out_log, out_store, &remade, &mut room)?;
+    Ok(remade.report)
 }

@@ -2,10 +2,12 @@
 //! report; and the audit of such bytes.
 #![tactic(auto)]
 
+mod decoding;
 mod devices;
 mod laws;
 mod recovery;
 mod report;
+mod store_pieces;
 mod texts;
 mod unthreaded;
 

@@ -1,59 +1,27 @@
-//! Recovery in memory: from the bytes of a log and a store to the bytes of both after it.
+//! Recovery in memory: from a log and a store to the bytes of a new log and the new store.
 
-ghost use Rattle.std.specs.Prelude.{◌≡◌, ◌≤◌, ◌<◌, ◌+◌, ◌-◌, ◌*◌, ◌^◌, ℕ, List, Ok, length, take, IfOk, OnOk, IfErr, MatchResult, IsOkUnless};
+ghost use Rattle.std.specs.Prelude.{◌≡◌, ◌≤◌, ◌<◌, ◌+◌, ◌-◌, ◌*◌, ◌^◌, ℕ, List, true, is_ok, length, take, IfOk, OnOk, IfErr, MatchResult, IsOkUnless};
 ghost use Rattle.page.specs.declared.fault.Fault.{Fault};
 ghost use Rattle.page.specs.declared.fault.Fault.TheVariants.{NoResource};
-ghost use Rattle.wal.specs.Records.{LogContent, history, last_lsn};
-ghost use Rattle.wal.specs.Frames.{Gives};
-ghost use Rattle.wal.specs.Reads.{Reads, spellings, Cause as LogFault};
+ghost use Rattle.wal.specs.Records.{history, last_lsn};
+ghost use Rattle.wal.specs.Reads.{Reads, spellings};
 ghost use Rattle.page.specs.Store.{StoreContent};
-ghost use Rattle.page.specs.File.{store_text, SpellsStore, StoreFault};
+ghost use Rattle.page.specs.File.{store_text, SpellsStore};
 ghost use Rattle.undo.specs.Appended.{records_of, AreTold, AreFit};
 ghost use Rattle.wal.specs.Meaning.{BasePages};
-ghost use Rattle.recovery.specs.Recovery.{report_of, new_log, Recovers, AreLawful, Recovered, Cause};
+ghost use Rattle.recovery.specs.Recovery.{report_of, log_of, Decodes, ReadsAs, Recovers, AreLawful, Recovered, Cause};
 ghost use Rattle.restart.specs.Options.{AreInRange};
 ghost use Rattle.restart.specs.Outcome.{outcome_in};
 ghost use Rattle.restart.specs.Restart.{Restarts, Restores};
 
 use crate::Report;
-use page::{Fault, Store, decode_store, encode_store_by};
+use page::{Fault, Store};
 use redo::{Gate, Parting};
 use restart::{BriefOutcome, Options, restart_in_place};
 use std::alloc::Global;
-use std::thread::{Threads, join};
+use std::thread::Threads;
 use undo::{Appended, record_of};
-use wal::{Log, read_log_by, write_frame};
-
-/// What the bytes of a log and of a store spell, each for itself. Of two workers or more one decodes
-/// the store while the log is read.
-fn decode_both<'a, R: Threads + Sync>(
-    rt: &R,
-    alloc: Global,
-    log: &'a [u8],
-    store: &[u8],
-    workers: u32,
-) -> (Result<(Log<'a>, usize), Fault>, Result<Store, Fault>)
-    ensures log_found { IfOk result.0 (λ x. Reads log.now x.0 x.1) }
-    ensures log_only { (read : LogContent) (torn : ℕ) → Reads log.now read torn
-        → Gives (λ x. x) result.0 (Ok (read, torn)) }
-    ensures log_fault { IfErr result.0 (LogFault log.now) }
-    ensures store_found { IfOk result.1 (SpellsStore store.now) }
-    ensures store_only { (content : StoreContent) → SpellsStore store.now content
-        → MatchResult result.1 (λ read. read ≡ content) (λ e. e ≡ NoResource) }
-    ensures store_fault { IfErr result.1 (StoreFault store.now) }
-{
-    let threads = workers as usize;
-    if threads < 2 {
-        let read = read_log_by(rt, alloc, log, threads);
-        return (read, decode_store(alloc, store));
-    }
-    let (decoded, read) = join(
-        rt,
-        || decode_store(alloc, store),
-        || read_log_by(rt, alloc, log, threads),
-    );
-    (read, decoded)
-}
+use wal::{Log, write_frame};
 
 /// The frames of the records that are appended to a log. One record at a time is made of what is
 /// told of it.
@@ -76,10 +44,10 @@ fn frames_of(alloc: Global, log: &Log, appended: &[Appended]) -> Result<Vec<u8>,
     Ok(frames)
 }
 
-/// The report of a restart, and what it appends. Its pages are let go.
-fn report_of(log: &Log, torn: usize, outcome: BriefOutcome) -> (Report, Vec<Appended>)
+/// The report of a restart, and the store that it leaves. What it appends is let go.
+fn report_of(log: &Log, torn: usize, outcome: BriefOutcome) -> (Report, Store)
     ensures report { result.0 ≡ report_of log.now torn (outcome_in (history log.now) outcome) }
-    ensures appended { result.1.items ≡ outcome.appended.items }
+    ensures store { result.1 ≡ outcome.store }
 {
     let report = Report {
         records: log.len(),
@@ -92,10 +60,10 @@ fn report_of(log: &Log, torn: usize, outcome: BriefOutcome) -> (Report, Vec<Appe
         pages: outcome.store.pages.len() as u64,
         in_doubt: outcome.in_doubt,
     };
-    (report, outcome.appended)
+    (report, outcome.store)
 }
 
-/// What is made of a log and a store before any of it is written.
+/// What is made of the bytes of a log and a store before any of it is written.
 #[derive(Drop)]
 pub struct Recovery<'a> {
     /// The log without its torn tail: the beginning of the new log.
@@ -107,30 +75,37 @@ pub struct Recovery<'a> {
     pub report: Report,
 }
 
-/// What is to be written of what a restart made of a log and a store, where `store` is the text of the
-/// new store. The only error is `NoResource`.
-pub fn recovery_made<'a>(
+/// The same, with the new store as it is and not yet in bytes.
+#[derive(Drop)]
+pub struct Remade<'a> {
+    pub kept: &'a [u8],
+    pub frames: Vec<u8>,
+    pub store: Store,
+    pub report: Report,
+}
+
+/// What is to be written of what a restart made of a log and a store. The only error is
+/// `NoResource`.
+pub fn remade_of<'a>(
     alloc: Global,
     log: &'a [u8],
     records: &Log,
     torn: usize,
     outcome: BriefOutcome,
-    store: Vec<u8>,
-) -> Result<Recovery<'a>, Fault>
+) -> Result<Remade<'a>, Fault>
     requires reads { Reads log.now records.now torn }
     requires told { AreTold (history records.now) outcome.appended.items }
     requires writable { AreFit (history records.now) outcome.appended.items }
     requires few { length outcome.appended.items ≤ 2 * length records.now.records + 2 ^ 32 }
-    requires encoded { store.items ≡ store_text outcome.store }
 
     // Where the outcome is that of a restart of a store, for any bytes that spell it.
     ensures answer { IfOk result (λ x. (text : List ℕ) (before : StoreContent)
         → SpellsStore text before
         → Restarts records.now before (outcome_in (history records.now) outcome)
-        → Recovers log.now text (new_log x) x.store.items x.report) }
+        → Recovers log.now text (log_of x) (store_text x.store) x.report) }
     ensures lawful { IfOk result (λ x. (base : BasePages) (before : StoreContent)
         → Restores base records.now before (outcome_in (history records.now) outcome)
-        → Recovered base records.now before (new_log x) x.store.items x.report) }
+        → Recovered base records.now before (log_of x) (store_text x.store) x.report) }
     ensures short { IfOk result (λ x. (base : BasePages) (before : StoreContent)
         → Restores base records.now before (outcome_in (history records.now) outcome)
         → length x.frames.items ≤ 2 * length log.now) }
@@ -138,48 +113,52 @@ pub fn recovery_made<'a>(
         ≡ take (length log.now - x.report.torn) log.now) }
     ensures err { IsOkUnless result NoResource }
 {
-    let (report, appended) = report_of(records, torn, outcome);
-    Ok(Recovery {
+    let frames = frames_of(alloc, records, &outcome.appended)?;
+    let (report, store) = report_of(records, torn, outcome);
+    Ok(Remade {
         kept: &log[..log.len() - torn],
-        frames: frames_of(alloc, records, &appended)?,
+        frames,
         store,
         report,
     })
 }
 
-/// Recovers a store by its log, both read: [`restart`](restart::restart) on what their bytes spell,
-/// with the pages parted by number. The new store is made in the room of the bytes read.
+/// Recovers a store by its log: [`restart`](restart::restart) on the records, if the bytes of the log
+/// spelled some, and on the store, if its own bytes spelled one, with the pages parted by number.
 ///
-/// Refuses, in this order: the faults of [`wal::read_log`] for the log; those of
-/// [`page::decode_store`] for the store; those of [`restart`](restart::restart).
-/// [`Fault::NoResource`], where memory or a thread was refused, may come in place of any answer.
-pub fn recovery_of<'a, G: Gate, R: Threads + Sync>(
+/// Refuses, in this order: the faults of [`wal::read_log`] for the log; that of the store; those of
+/// [`restart`](restart::restart). [`Fault::NoResource`], where memory or a thread was refused, may
+/// come in place of any answer.
+pub fn remake<'a, G: Gate, R: Threads + Sync>(
     rt: &R,
     alloc: Global,
     log: &'a [u8],
-    mut store: Vec<u8>,
+    records: Result<(Log<'a>, usize), Fault>,
+    decoded: Result<Store, Fault>,
     options: &Options,
     gate: &G,
-) -> Result<Recovery<'a>, Fault>
-    requires { AreInRange options.now }
+) -> Result<Remade<'a>, Fault>
+    requires log { ReadsAs log.now records }
+    requires options { AreInRange options.now }
 
     // On the bytes of a log and its store that are lawful over any base pages.
-    ensures lawful { (base : BasePages) (bytes : AreLawful base log.now store.items)
+    ensures lawful { (base : BasePages) (text : List ℕ) → Decodes text decoded
+        → (bytes : AreLawful base log.now text)
         → MatchResult result (λ x. Recovered base bytes.decoded.read bytes.decoded.before
-        (new_log x) x.store.items x.report) (λ e. e ≡ NoResource) }
+        (log_of x) (store_text x.store) x.report) (λ e. e ≡ NoResource) }
 
     // Wherever it answers.
-    ensures answer { IfOk result (λ x. Recovers log.now store.items
-        (new_log x) x.store.items x.report) }
+    ensures answer { IfOk result (λ x. (text : List ℕ) → Decodes text decoded
+        → Recovers log.now text (log_of x) (store_text x.store) x.report) }
+    ensures decoded { OnOk result (is_ok decoded ≡ true) }
 
     // A refusal has its cause in the input, memory aside.
-    ensures cause { IfErr result (Cause log.now store.items options.now) }
+    ensures cause { IfErr result (λ e. (text : List ℕ) → Decodes text decoded
+        → Cause log.now text options.now e) }
 {
-    let (read, decoded) = decode_both(rt, alloc, log, &store, options.workers);
-    let (records, torn) = read?;
+    let (records, torn) = records?;
     let before = decoded?;
     let parting = Parting::by_number(alloc, before.pages.len() as u32, options.parts)?;
     let outcome = restart_in_place(rt, alloc, &records, before, &parting, options.workers, gate)?;
-    encode_store_by(rt, &outcome.store, &mut store, options.workers as usize)?;
-    recovery_made(alloc, log, &records, torn, outcome, store)
+    remade_of(alloc, log, &records, torn, outcome)
 }

@@ -5,7 +5,7 @@ ghost use Rattle.page.specs.declared.fault.Fault.TheVariants.{NoResource};
 ghost use Rattle.wal.specs.Meaning.{BasePages};
 ghost use Rattle.recovery.specs.Recovery.{new_log, Recovers, AreLawful, Recovered, Cause};
 
-use crate::recovery::{Recovery, recovery_made};
+use crate::recovery::{Recovery, remade_of};
 use page::{Fault, decode_store, encode_store_into};
 use restart::restart_alone;
 use std::alloc::Global;
@@ -46,6 +46,12 @@ pub fn recovery_alone<'a>(
     let (records, torn) = read_log(alloc, log)?;
     let before = decode_store(alloc, &store)?;
     let outcome = restart_alone(alloc, &records, before)?;
-    encode_store_into(&outcome.store, &mut store)?;
-    recovery_made(alloc, log, &records, torn, outcome, store)
+    let remade = remade_of(alloc, log, &records, torn, outcome)?;
+    encode_store_into(&remade.store, &mut store)?;
+    Ok(Recovery {
+        kept: remade.kept,
+        frames: remade.frames,
+        store,
+        report: remade.report,
+    })
 }

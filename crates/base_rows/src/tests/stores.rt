@@ -1,12 +1,14 @@
 //! Images, store files and fault texts that were worked out by hand.
 
+ghost use Rattle.std.specs.Prelude.{◌<◌, ◌≤◌};
+
 use super::{check, check_all, check_at};
 use page::{
-    Fault, Page, Value, decode_page, decode_store, encode_page, encode_store, encode_store_by,
+    Fault, PAGE_BYTES, Page, Store, StoreReader, Value, decode_page, decode_store, encode_header,
+    encode_page, encode_pages_into, encode_store,
 };
 use std::alloc::{AllocError, Global};
 use std::test::Fail;
-use std::thread::Threads;
 
 /// The header of a store of one page and master 0.
 const ONE_PAGE: [u8; 24] = *b"ARIESPG1\0\0\0\x01\0\0\0\0\0\0\0\0\0\0\0\0";
@@ -226,34 +228,134 @@ fn largest_store(rt: HostRuntime) -> Result<(), Fail> {
     ])
 }
 
-/// Whether threads of each of these numbers spell a store of this many pages as one does, over
-/// bytes of any length.
-fn is_spelled_by_threads<R: Threads + Sync>(
-    rt: &R,
-    alloc: Global,
-    count: u32,
-) -> Result<bool, Fault> {
-    let file = file_of(alloc, count, &full())?;
-    let store = decode_store(alloc, &file)?;
-    let alone = encode_store(alloc, &store)?;
-    let mut again = vec![in alloc; 0xff; 2048]?;
-    for threads in [1, 2, 3, 64] {
-        encode_store_by(rt, &store, &mut again, threads)?;
-        if again.as_slice() != alone.as_slice() {
-            return Ok(false);
-        }
-        again.fill(0xff);
+/// What is read of these bytes where they come by pieces of this many images.
+fn read_by(alloc: Global, bytes: &[u8], images: usize) -> Result<Store, Fault>
+    requires some { 0 < images }
+    requires few { images ≤ 4096 }
+{
+    if bytes.len() < 24 {
+        let reader = StoreReader::begin(alloc, bytes)?;
+        return reader.finish();
     }
-    Ok(true)
+    let (header, mut rest) = bytes.split_at(24);
+    let mut reader = StoreReader::begin(alloc, header)?;
+    let size = PAGE_BYTES * images;
+    while rest.len() >= size {
+        let (piece, behind) = rest.split_at(size);
+        reader.take(piece);
+        rest = behind;
+    }
+    reader.take(rest);
+    reader.finish()
+}
+
+/// Whether these are the same store or the same fault.
+fn is_alike(
+    alloc: Global,
+    one: Result<Store, Fault>,
+    other: Result<Store, Fault>,
+) -> Result<bool, Fault> {
+    match (one, other) {
+        (Ok(one), Ok(other)) => {
+            let one = encode_store(alloc, &one)?;
+            let other = encode_store(alloc, &other)?;
+            Ok(one.as_slice() == other.as_slice())
+        }
+        (Err(one), Err(other)) => Ok(one == other),
+        _ => Ok(false),
+    }
+}
+
+/// Whether `decode_store` and a reader by pieces of any size tell the same of these bytes.
+fn is_read_alike(alloc: Global, bytes: &[u8]) -> Result<bool, Fault> {
+    let by_one = read_by(alloc, bytes, 1);
+    let by_64 = read_by(alloc, bytes, 64);
+    let at_once = read_by(alloc, bytes, 4096);
+    Ok(
+        is_alike(alloc, by_one, decode_store(alloc, bytes))?
+            && is_alike(alloc, by_64, decode_store(alloc, bytes))?
+            && is_alike(alloc, at_once, decode_store(alloc, bytes))?,
+    )
 }
 
 #[test]
-fn threads_spell_as_one(rt: HostRuntime) -> Result<(), Fail> {
-    for count in [1, 255, 256, 257, 300] {
-        let is_so = is_spelled_by_threads(&rt, rt.alloc(), count)?;
+fn pieces_make_a_store(rt: HostRuntime) -> Result<(), Fail> {
+    for count in [1, 64, 65, 130] {
+        let bytes = file_of(rt.alloc(), count, &full())?;
+        let is_store = refusal(rt.alloc(), &bytes).is_none();
+        let is_so = is_store && is_read_alike(rt.alloc(), &bytes)?;
         check_at(count as usize, is_so, "a store of this many pages:")?;
     }
     Ok(())
+}
+
+/// Whether what is left of the file of 130 pages, once these bytes were damaged and it was cut or
+/// filled to this length, is refused by this fault, in pieces too.
+fn is_refused_alike(
+    alloc: Global,
+    damaged: &[usize],
+    len: usize,
+    fault: Fault,
+) -> Result<bool, Fault> {
+    let mut bytes = file_of(alloc, 130, &full())?;
+    bytes.resize(len, 0)?;
+    for &place in damaged {
+        if place < bytes.len() {
+            bytes[place] ^= 1;
+        }
+    }
+    Ok(refusal(alloc, &bytes) == Some(fault) && is_read_alike(alloc, &bytes)?)
+}
+
+/// Files that are refused: the bytes of that of 130 pages that are damaged, its length, the fault.
+const REFUSED_PIECES: [(&str, &[usize], usize, Fault); 10] = [
+    ("no bytes", &[], 0, Fault::BadStoreHeader),
+    ("a short header", &[], 23, Fault::BadStoreHeader),
+    ("another magic", &[0], 133_144, Fault::BadStoreHeader),
+    ("a header alone", &[], 24, Fault::StoreSize),
+    ("a byte short", &[], 133_143, Fault::StoreSize),
+    ("a byte long", &[], 133_145, Fault::StoreSize),
+    ("an image long", &[], 134_168, Fault::StoreSize),
+    ("a bad page 0", &[24], 133_144, Fault::BadPage(0)),
+    ("a bad page 64", &[65_560], 133_144, Fault::BadPage(64)),
+    (
+        "bad pages, a byte short",
+        &[24, 65_560],
+        133_143,
+        Fault::StoreSize,
+    ),
+];
+
+#[test]
+fn pieces_are_refused(rt: HostRuntime) -> Result<(), Fail> {
+    for (name, damaged, len, fault) in REFUSED_PIECES {
+        check(is_refused_alike(rt.alloc(), damaged, len, fault)?, name)?;
+    }
+    let both: [usize; 2] = [65_560, 66_584];
+    let is_first = is_refused_alike(rt.alloc(), &both, 133_144, Fault::BadPage(64))?;
+    check(is_first, "bad pages 64 and 65")
+}
+
+/// Whether the file of 130 pages is written by its header and two pieces of 65 images.
+fn is_written_by_pieces(alloc: Global) -> Result<bool, Fault> {
+    let file = file_of(alloc, 130, &full())?;
+    let store = decode_store(alloc, &file)?;
+    if store.pages.len() != 130 {
+        return Ok(false);
+    }
+    let (front, back) = store.pages.split_at(65);
+    let mut images = vec![in alloc; 0xff; 66_560]?;
+    let mut again = padded(alloc, &[&encode_header(&store)], 24)?;
+    encode_pages_into(front, &mut images);
+    again.extend_from_slice(&images)?;
+    encode_pages_into(back, &mut images);
+    again.extend_from_slice(&images)?;
+    Ok(again.as_slice() == file.as_slice())
+}
+
+#[test]
+fn pieces_are_written(rt: HostRuntime) -> Result<(), Fail> {
+    check(is_written_by_pieces(rt.alloc())?, "130 pages")
 }
 
 /// Each fault, and its text.

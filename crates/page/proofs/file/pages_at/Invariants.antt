@@ -1,4 +1,4 @@
-use Rattle.page.proofs.Files.{PagesSoFar}
+use Rattle.page.specs.Pieces.{PagesSoFar}
 use Rattle.page.proofs.file.pages_at.Given as goal
 
 abbrev pub invariant-loop-number : goal.invariant-loop-number

@@ -1,9 +1,9 @@
 use Rattle.std.proofs.Common.{◌≡◌, ℕ, List, sym, ap, subst, arith}
-use Rattle.std.proofs.lemmas.Result.{err_from_is_err_and, IfOk-weaker, MatchResult-from_both}
+use Rattle.std.proofs.lemmas.Result.{err_from_is_err_and}
 use Rattle.page.specs.File.{SpellsStore}
 use Rattle.restart.specs.declared.options.Options.{Options}
 use Rattle.restart.specs.Options.{AreInRange}
-use Rattle.recovery.specs.Recovery.{Decoded, Recovered, new_log}
+use Rattle.recovery.specs.Recovery.{Decoded, Recovers, Recovered, log_of}
 use Rattle.recovery.proofs.Bytes.{input_cause, is_lawful, read_alone, read_same}
 use Rattle.recovery.proofs.unthreaded.recovery_alone.Goals as goal
 
@@ -42,23 +42,21 @@ returns-in_err-outcome-clause-cause c =
 pub returns-clause-answer : goal.returns-clause-answer
 returns-clause-answer c =
     let before = c.in_ok-before.before in
-    IfOk-weaker c.recovery_made.result _ _
-    (λ x made. made c.args.store.items before (subst (λ (text : List ℕ). SpellsStore text before) c.deref.ensures.value c.in_ok-before.ensures.found) c.in_ok-outcome.ensures.restarts)
-    c.recovery_made.ensures.answer
+    let made = c.in_ok-remade.remade in
+    subst (λ new. Recovers c.args.log.now c.args.store.items (log_of made) new made.report) (sym c.in_ok-encode_store_into.ensures.ok)
+    (c.in_ok-remade.ensures.answer c.args.store.items before (subst (λ (text : List ℕ). SpellsStore text before) c.deref.ensures.value c.in_ok-before.ensures.found) c.in_ok-outcome.ensures.restarts)
 
 pub returns-clause-lawful : goal.returns-clause-lawful
 returns-clause-lawful c = λ base bytes.
     let read = c.in_ok-records.records in
     let before = c.in_ok-before.before in
+    let made = c.in_ok-remade.remade in
     let one = read_same (read, c.in_ok-records.torn) (bytes.decoded.read, bytes.decoded.torn) (c.in_ok-records.ensures.only bytes.decoded.read bytes.decoded.torn bytes.decoded.reads) in
     let same : before ≡ bytes.decoded.before = c.in_ok-before.ensures.only bytes.decoded.before (subst (λ (text : List ℕ). SpellsStore text bytes.decoded.before) (sym c.deref.ensures.value) bytes.decoded.spells) in
     let restored = c.in_ok-outcome.ensures.lawful base (is_lawful bytes read before (ap (λ x. x.0) one) same) in
-    MatchResult-from_both c.recovery_made.result _ _
-    (IfOk-weaker c.recovery_made.result _ _ (λ x made.
-    subst (λ rs. Recovered base rs bytes.decoded.before (new_log x) x.store.items x.report) (ap (λ x. x.0) one)
-    (subst (λ b. Recovered base read b (new_log x) x.store.items x.report) same (made base before restored)))
-    c.recovery_made.ensures.lawful)
-    c.recovery_made.ensures.err
+    subst (λ rs. Recovered base rs bytes.decoded.before (log_of made) c.encode_store_into.new.bytes.items made.report) (ap (λ x. x.0) one)
+    (subst (λ b. Recovered base read b (log_of made) c.encode_store_into.new.bytes.items made.report) same
+    (subst (λ new. Recovered base read before (log_of made) new made.report) (sym c.in_ok-encode_store_into.ensures.ok) (c.in_ok-remade.ensures.lawful base before restored)))
 
 pub returns-clause-short : goal.returns-clause-short
 returns-clause-short c = λ base bytes.
@@ -67,4 +65,4 @@ returns-clause-short c = λ base bytes.
     let one = read_same (read, c.in_ok-records.torn) (bytes.decoded.read, bytes.decoded.torn) (c.in_ok-records.ensures.only bytes.decoded.read bytes.decoded.torn bytes.decoded.reads) in
     let same : before ≡ bytes.decoded.before = c.in_ok-before.ensures.only bytes.decoded.before (subst (λ (text : List ℕ). SpellsStore text bytes.decoded.before) (sym c.deref.ensures.value) bytes.decoded.spells) in
     let restored = c.in_ok-outcome.ensures.lawful base (is_lawful bytes read before (ap (λ x. x.0) one) same) in
-    IfOk-weaker c.recovery_made.result _ _ (λ x made. made base before restored) c.recovery_made.ensures.short
+    c.in_ok-remade.ensures.short base before restored

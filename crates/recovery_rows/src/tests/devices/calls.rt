@@ -53,16 +53,16 @@ type Calls = [(&'static str, Device, u32); 4];
 
 const ONE_LOSER_CALLS: Calls = [
     ("LogSource", Device::LogSource, 7),
-    ("StoreSource", Device::StoreSource, 151),
+    ("StoreSource", Device::StoreSource, 152),
     ("LogSink", Device::LogSink, 17),
-    ("StoreSink", Device::StoreSink, 151),
+    ("StoreSink", Device::StoreSink, 152),
 ];
 
 const TWO_LOSERS_CALLS: Calls = [
     ("LogSource", Device::LogSource, 17),
-    ("StoreSource", Device::StoreSource, 151),
+    ("StoreSource", Device::StoreSource, 152),
     ("LogSink", Device::LogSink, 41),
-    ("StoreSink", Device::StoreSink, 151),
+    ("StoreSink", Device::StoreSink, 152),
 ];
 
 fn check_calls<R: Threads + Sync>(
@@ -79,7 +79,7 @@ fn check_calls<R: Threads + Sync>(
 }
 
 /// A source is called once more at its end; a sink to be flushed, and the log's is handed its new
-/// records apart.
+/// records apart. The header of a store goes by itself, in both.
 #[test]
 fn each_device_fails_at_each_call(rt: HostRuntime) -> Result<(), Fail> {
     let alloc = rt.alloc();
@@ -132,6 +132,22 @@ fn a_failed_recovery_is_gone_on_from(rt: HostRuntime) -> Result<(), Fail> {
         let is_gone_on_from = is_gone_on_from(&rt, alloc, &row, &log)?;
         check_at(call, is_whole, "all that was read, at call")?;
         check_at(call, is_gone_on_from, "gone on from call")?;
+    }
+    Ok(())
+}
+
+/// The header of a store is read by one call, and then 64 KiB by each. One that is longer than any
+/// store is told by the 65th of these: no failure behind it is met.
+#[test]
+fn a_long_store_is_not_read_to_its_end(rt: HostRuntime) -> Result<(), Fail> {
+    let alloc = rt.alloc();
+    let mut long = worked_one_loser(alloc)?;
+    long.before.resize(24 + 67 * 65_536, 0)?;
+    let fast = Paces::all(Pace::of_step(usize::MAX));
+    for (call, fault) in [(66, Fault::ReadStore), (67, Fault::StoreSize)] {
+        let paces = fast.with(Device::StoreSource, Pace::failing(usize::MAX, call));
+        let seen = seen(&rt, alloc, &long, &paces)?;
+        check_at(call, seen == (Err(fault), 0, 0), "a failure at call")?;
     }
     Ok(())
 }

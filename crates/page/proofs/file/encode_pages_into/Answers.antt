@@ -1,7 +1,7 @@
 use Rattle.std.proofs.Common.{◌∙◌, length, ap, arith}
 use Rattle.page.proofs.Files.{length-page_text}
 use Rattle.page.proofs.Writing.{images_more}
-use Rattle.page.proofs.file.put_pages.Goals as goal
+use Rattle.page.proofs.file.encode_pages_into.Goals as goal
 
 pub loop-number-preserved : goal.loop-number-preserved
 loop-number-preserved c =

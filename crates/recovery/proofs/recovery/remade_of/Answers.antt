@@ -14,7 +14,7 @@ use Rattle.undo.proofs.Told.{told_fit}
 use Rattle.recovery.proofs.TailLength.{tail_short}
 use Rattle.recovery.proofs.Bytes.{kept_text, text_extended}
 use Rattle.recovery.proofs.Resuming.{reads_extended}
-use Rattle.recovery.proofs.recovery.recovery_made.Goals as goal
+use Rattle.recovery.proofs.recovery.remade_of.Goals as goal
 
 pub returns-clause-answer : goal.returns-clause-answer
 returns-clause-answer c = λ text before spells restarts.
@@ -23,20 +23,20 @@ returns-clause-answer c = λ text before spells restarts.
     let log = history read in
     let told = c.args.outcome.appended.items in
     let appended : List LogRecord = records_of log told in
-    let same : c.deref.result.now ≡ told = c.deref.ensures.value ∙ c.report_of-report.ensures.appended in
-    let bytes = take (length c.args.log.now - torn) c.args.log.now ++ c.in_ok-frames_of.field-0.items in
+    let same : c.deref.result.now ≡ told = c.deref.ensures.value in
+    let bytes = take (length c.args.log.now - torn) c.args.log.now ++ c.in_ok-frames.frames.items in
     let log_is : bytes ≡ log_text (read ⧺ appended) =
-    text_extended read appended (take (length c.args.log.now - torn) c.args.log.now) c.in_ok-frames_of.field-0.items (last_lsn log + 1)
+    text_extended read appended (take (length c.args.log.now - torn) c.args.log.now) c.in_ok-frames.frames.items (last_lsn log + 1)
     (kept_text c.args.log.now read torn c.requires.reads) refl
-    (c.in_ok-frames_of.ensures.frames ∙ ap (λ xs. spellings (last_lsn log + 1) (records_of log xs)) same) in
-    let few : last_lsn log + length appended < 2 ^ 64 = omega (arith, c.in_ok-frames_of.ensures.room, ap length same, length-map told (record_of log)) in
+    (c.in_ok-frames.ensures.frames ∙ ap (λ xs. spellings (last_lsn log + 1) (records_of log xs)) same) in
+    let few : last_lsn log + length appended < 2 ^ 64 = omega (arith, c.in_ok-frames.ensures.room, ap length same, length-map told (record_of log)) in
     record {
       decoded = record { read = read; torn = torn; before = before; reads = c.requires.reads; spells = spells };
       outcome = outcome_in log c.args.outcome;
       restarts = restarts;
       log_is = log_is;
       reads = reads_extended bytes read appended log_is c.requires.reads.starts c.requires.reads.each (told_fit log told c.requires.writable) few;
-      store_is = c.requires.encoded;
+      store_is = ap store_text c.report_of-report.ensures.store;
       report_is = c.report_of-report.ensures.report;
     }
 
@@ -47,18 +47,18 @@ returns-clause-lawful c = λ base before restored.
     let log = history read in
     let told = c.args.outcome.appended.items in
     let appended : List LogRecord = records_of log told in
-    let same : c.deref.result.now ≡ told = c.deref.ensures.value ∙ c.report_of-report.ensures.appended in
-    let bytes = take (length c.args.log.now - torn) c.args.log.now ++ c.in_ok-frames_of.field-0.items in
+    let same : c.deref.result.now ≡ told = c.deref.ensures.value in
+    let bytes = take (length c.args.log.now - torn) c.args.log.now ++ c.in_ok-frames.frames.items in
     let log_is : bytes ≡ log_text (read ⧺ appended) =
-    text_extended read appended (take (length c.args.log.now - torn) c.args.log.now) c.in_ok-frames_of.field-0.items (last_lsn log + 1)
+    text_extended read appended (take (length c.args.log.now - torn) c.args.log.now) c.in_ok-frames.frames.items (last_lsn log + 1)
     (kept_text c.args.log.now read torn c.requires.reads) refl
-    (c.in_ok-frames_of.ensures.frames ∙ ap (λ xs. spellings (last_lsn log + 1) (records_of log xs)) same) in
-    let few : last_lsn log + length appended < 2 ^ 64 = omega (arith, c.in_ok-frames_of.ensures.room, ap length same, length-map told (record_of log)) in
+    (c.in_ok-frames.ensures.frames ∙ ap (λ xs. spellings (last_lsn log + 1) (records_of log xs)) same) in
+    let few : last_lsn log + length appended < 2 ^ 64 = omega (arith, c.in_ok-frames.ensures.room, ap length same, length-map told (record_of log)) in
     let reads = reads_extended bytes read appended log_is c.requires.reads.starts c.requires.reads.each (told_fit log told c.requires.writable) few in
     record {
       log_is = log_is ∙ ap (λ (rs : List LogRecord). log_text (read ⧺ rs)) restored.appended;
       reads = subst (λ (rs : List LogRecord). Reads bytes (read ⧺ rs) 0) restored.appended reads;
-      store_is = c.requires.encoded ∙ ap store_text restored.store;
+      store_is = ap store_text (c.report_of-report.ensures.store ∙ restored.store);
       settled = subst (λ s. IsSettled base (with_tail read) s) restored.store (subst (λ (rs : List LogRecord). IsSettled base (read ⧺ rs) c.args.outcome.store) restored.appended restored.settled);
       losers_are = ap (λ (r : ReportContent). r.losers) c.report_of-report.ensures.report ∙ restored.losers;
       in_doubt_are = ap (λ (r : ReportContent). r.in_doubt) c.report_of-report.ensures.report ∙ restored.in_doubt_are;
@@ -78,9 +78,9 @@ returns-clause-short c = λ base before restored.
     let read = c.args.records.now in
     let log = history read in
     let told = c.args.outcome.appended.items in
-    let same : c.deref.result.now ≡ told = c.deref.ensures.value ∙ c.report_of-report.ensures.appended in
-    let frames : c.in_ok-frames_of.field-0.items ≡ spellings (last_lsn log + 1) (tail_of read) =
-    c.in_ok-frames_of.ensures.frames ∙ ap (λ xs. spellings (last_lsn log + 1) (records_of log xs)) same ∙ ap (spellings (last_lsn log + 1)) restored.appended in
+    let same : c.deref.result.now ≡ told = c.deref.ensures.value in
+    let frames : c.in_ok-frames.frames.items ≡ spellings (last_lsn log + 1) (tail_of read) =
+    c.in_ok-frames.ensures.frames ∙ ap (λ xs. spellings (last_lsn log + 1) (records_of log xs)) same ∙ ap (spellings (last_lsn log + 1)) restored.appended in
     let read_bytes = c.requires.reads in
     omega (
       arith,

@@ -1,0 +1,19 @@
+use Rattle.std.proofs.Common.{◌≡◌, ◌≤◌, ◌%◌, length, drop, arith, subst, sym, ap}
+use Rattle.std.proofs.lemmas.List.{length-drop}
+use Rattle.page.specs.Pieces.{IsSoFar}
+use Rattle.page.proofs.Piecewise.{so_far_more}
+use Rattle.page.proofs.pieces.StoreReader.take.Goals as goal
+
+pub invariant_of-self : goal.invariant_of-self
+invariant_of-self c =
+    let old = c.self.inside in
+    let bytes = old.came.bytes in
+    let new = c.take_pages-self-inside.new.pages.items in
+    let bad = c.take_pages-self-inside.result in
+    let next = c.saturating_add-self-inside.result in
+    let same = ap length c.self.view_is in
+    let le : 24 ≤ length bytes = omega (arith, same, c.requires.header) in
+    let whole : length (drop 24 bytes) % 1024 ≡ 0 = omega (arith, same, c.requires.whole, length-drop 24 bytes) in
+    let read = c.take_pages-self-inside.ensures.read (drop 24 bytes) whole c.self.invariant.0.read in
+    let so_far = so_far_more bytes c.args.images.now old.count old.master old.size next old.pages.items new old.bad bad le c.self.invariant.0 (omega (arith, c.saturating_add-self-inside.ensures)) read in
+    (subst (λ t. IsSoFar t old.count old.master new next bad) (sym c.joined-self-inside.ensures) so_far, c.take_pages-self-inside.ensures.room)

@@ -1,0 +1,141 @@
+//! A store whose bytes come piece by piece.
+
+ghost use Rattle.std.specs.Prelude.{◌≡◌, ◌-◌, ◌%◌, ◌≤◌, ◌++◌, IfOk, IfErr, length};
+ghost use Rattle.std.specs.Vec.{vec_capacity};
+ghost use Rattle.page.specs.Store.{StoreContent};
+ghost use Rattle.page.specs.File.{SpellsStore, StoreFault};
+ghost use Rattle.page.specs.Pieces.{Reads};
+ghost use Rattle.page.specs.declared.sizes.TheConstants.{PAGES, PAGE_BYTES, STORE_HEADER_BYTES};
+
+use crate::came::Came;
+use crate::file::header_at;
+use crate::image::page_at;
+use crate::sizes::{PAGE_BYTES, STORE_HEADER_BYTES};
+use crate::{Fault, Page, Store};
+use std::alloc::Global;
+use std::marker::Model;
+
+/// Takes the pages whose images stand one after the other, the first that of page `pages.len()`, up
+/// to the page count; with none behind a bad one. Whether one was bad, or is.
+fn take_pages(pages: &mut Vec<Page>, count: u32, bad: bool, images: &[u8]) -> bool
+    requires few { count ≤ PAGES }
+    requires room { count ≤ vec_capacity pages.old }
+    ensures room { count ≤ vec_capacity pages.new }
+    ensures read { Reads images.now count pages.old.items bad pages.new.items result }
+{
+    if bad {
+        return true;
+    }
+    if pages.len() >= count as usize {
+        return false;
+    }
+    let mut rest = images;
+    while pages.len() < count as usize && rest.len() >= PAGE_BYTES {
+        let (image, behind) = rest.split_at(PAGE_BYTES);
+        let Some(page) = page_at(image, pages.len() as u32) else {
+            return true;
+        };
+        // Taken apart, since the check has to see the type of a slot where a page is pushed.
+        let slots = page.slots;
+        pages.push(Page { slots, ..page }).unwrap();
+        rest = behind;
+    }
+    false
+}
+
+/// The store whose bytes come piece by piece. Contracts see it as the bytes that came.
+#[derive(Drop)]
+pub struct StoreReader {
+    /// The page count in the header; 0 where the header is no store's.
+    count: u32,
+    /// The master in the header.
+    master: u64,
+    /// The pages that were read, with room for all.
+    pages: Vec<Page>,
+    /// How many bytes came, or the largest number, where more did.
+    size: u64,
+    /// Whether the image behind the pages that were read came, and is none of a page of its number.
+    bad: bool,
+    /// The bytes that came.
+    came: Came,
+}
+
+impl Model for StoreReader {
+    ghost use Rattle.std.specs.Prelude.{◌≤◌, ℕ, List};
+    ghost use Rattle.std.specs.Vec.{vec_capacity};
+    ghost use Rattle.page.specs.Pieces.{IsSoFar};
+
+    ghost Value = { List ℕ };
+
+    ghost view = { λ r. r.came.bytes };
+
+    ghost invariant = { λ r. IsSoFar r.came.bytes r.count r.master r.pages.items r.size r.bad
+        × (r.count ≤ vec_capacity r.pages) };
+}
+
+impl StoreReader {
+    /// Begins with the first bytes of a store's file: its header, 24 bytes, or all bytes where there
+    /// are fewer. The memory for the pages is taken here. The only error is `NoResource`, where it is
+    /// refused.
+    pub fn begin(alloc: Global, header: &[u8]) -> Result<StoreReader, Fault>
+        requires { length header.now ≤ STORE_HEADER_BYTES }
+        ensures ok { IfOk result (λ reader. reader ≡ header.now) }
+        ensures err { IfErr result (λ e. e ≡ Fault.NoResource) }
+    {
+        let (count, master) = match header_at(header) {
+            Some(numbers) => numbers,
+            None => (0, 0),
+        };
+        let pages = Vec::with_capacity(alloc, count as usize)?;
+        let size = header.len() as u64;
+        let came = Came::joined(&(&Came::new(), header));
+        Ok(StoreReader {
+            count,
+            master,
+            pages,
+            size,
+            bad: false,
+            came,
+        })
+    }
+
+    /// Takes the bytes behind those that came. These are a header and whole images: only the last
+    /// piece may end inside an image.
+    pub fn take(&mut self, images: &[u8])
+        requires header { STORE_HEADER_BYTES ≤ length self.old }
+        requires whole { (length self.old - STORE_HEADER_BYTES) % PAGE_BYTES ≡ 0 }
+        ensures { self.new ≡ self.old ++ images.now }
+    {
+        self.bad = take_pages(&mut self.pages, self.count, self.bad, images);
+        self.size = self.size.saturating_add(images.len() as u64);
+        self.came = Came::joined(&(&self.came, images));
+    }
+
+    /// The store that the bytes spell, where all came. Else the first of `BadStoreHeader`,
+    /// `StoreSize` and `BadPage` of the smallest page whose image is not the spelling of a page of
+    /// its number.
+    pub fn finish(self) -> Result<Store, Fault>
+        ensures found { IfOk result (SpellsStore self) }
+        ensures only { (store : StoreContent) → SpellsStore self store → result ≡ Ok store }
+        ensures fault { IfErr result (StoreFault self) }
+    {
+        let StoreReader {
+            count,
+            master,
+            pages,
+            size,
+            bad,
+            came: _,
+        } = self;
+        if count == 0 {
+            return Err(Fault::BadStoreHeader);
+        }
+        if size != (STORE_HEADER_BYTES + PAGE_BYTES * count as usize) as u64 {
+            return Err(Fault::StoreSize);
+        }
+        if bad {
+            return Err(Fault::BadPage(pages.len() as u32));
+        }
+        Ok(Store { master, pages })
+    }
+}
