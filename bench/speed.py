@@ -19,98 +19,35 @@ import argparse
 import filecmp
 import os
 import platform
-import resource
 import subprocess
 import sys
 import tempfile
 import time
 from collections import namedtuple
 
+sys.dont_write_bytecode = True  # no folder of it beside the scripts
+from runs import Failure, copy_run, least, removed, run
+
 LOGS = os.path.join(os.path.dirname(os.path.abspath(__file__)), "logs.py")
 LENGTHS, LONGEST = ["1M", "10M", "100M"], "1G"
 SHAPES, WORKERS = ["fresh", "ckpt90"], [1, 4]
 SHORT, PENDING, LOSERS = "2M", "500K", [1, 4]
-PAPER = 10**9
+PAPER, TRUE = 10**9, "/bin/true"
+# Has the C library ask for huge pages, for the programs that it starts.
+HUGE = ["/usr/bin/env", "GLIBC_TUNABLES=glibc.malloc.hugetlb=1"]
 MARKS = "<!-- speed: begin -->", "<!-- speed: end -->"
-PIECE, TRUE = 1 << 20, "/bin/true"
-STARTER_MARK = b"\nstarter "
-# Starts a program and prints what it took. A process of its own, since the peak of a program that was just started
-# counts as at least its starter's: this one is small.
-STARTER = """
-import os, sys, time
-begin = time.perf_counter()
-child = os.posix_spawn(sys.argv[1], sys.argv[1:], os.environ)
-_, status, used = os.wait4(child, 0)
-wall = time.perf_counter() - begin
-numbers = os.waitstatus_to_exitcode(status), wall, used.ru_utime, used.ru_stime, used.ru_minflt, used.ru_maxrss
-print("\\nstarter", *numbers)
-"""
-
-# Seconds of wall clock and of the processor, minor page faults, and the peak of resident memory in bytes.
-Run = namedtuple("Run", "wall user system faults peak")
 # A log and its store; `size` is the word that the log was made by.
 Pair = namedtuple("Pair", "shape size log store records bytes")
 # What was measured of a pair: runs by name, of the programs and of the copy.
 Case = namedtuple("Case", "pair workers runs")
 
 
-class Failure(Exception):
-    """A program that did not do what it has to."""
-
-
 def say(text):
     print(f"{time.strftime('%H:%M:%S')} {text}", file=sys.stderr, flush=True)
 
 
-# Single runs.
-
-def run(words, wanted=b""):
-    """Runs a program to its end; it has to answer 0 and to print this among its text."""
-    with tempfile.TemporaryFile() as out, tempfile.TemporaryFile() as errors:
-        starter = [sys.executable, "-I", "-S", "-c", STARTER, *words]
-        subprocess.run(starter, stdin=subprocess.DEVNULL, stdout=out, stderr=errors)
-        out.seek(0)
-        errors.seek(0)
-        text, _, last = out.read().rpartition(STARTER_MARK)
-        said = errors.read().decode(errors="replace").strip().splitlines()
-    numbers = last.split()
-    if not numbers or numbers[0] != b"0" or wanted not in text:
-        said = said or [f"no message; wanted are status 0 and the text `{wanted.decode()}`"]
-        raise Failure(f"status {numbers[0].decode() if numbers else 'unknown'} of `{' '.join(words)}`: {said[-1]}")
-    wall, user, system = map(float, numbers[1:4])
-    return Run(wall, user, system, int(numbers[4]), 1024 * int(numbers[5]))
-
-
-def copied(path, new):
-    piece = bytearray(PIECE)
-    with open(path, "rb", buffering=0) as old, open(new, "wb", buffering=0) as file:
-        while count := old.readinto(piece):
-            file.write(memoryview(piece)[:count])
-        os.fsync(file.fileno())
-
-
-def copy_run(pair, new):
-    """What it takes to read the pair, to write it anew, and to sync both files."""
-    begin, before = time.perf_counter(), resource.getrusage(resource.RUSAGE_SELF)
-    copied(pair.log, new.log)
-    copied(pair.store, new.store)
-    wall, used = time.perf_counter() - begin, resource.getrusage(resource.RUSAGE_SELF)
-    return Run(wall, used.ru_utime - before.ru_utime, used.ru_stime - before.ru_stime, 0, 0)
-
-
-def least(runs):
-    """Each number of these runs at its least."""
-    return Run(*map(min, zip(*runs)))
-
-
-def removed(pair):
-    for path in (pair.log, pair.store):
-        if os.path.exists(path):
-            os.remove(path)
-
-
 class Bench:
-    """The programs by name, how often each case is run, and a folder for the files."""
+    """The programs by name, each the words that start it; how often each case is run; and a folder for the files."""
 
     def __init__(self, programs, runs, folder):
         self.programs, self.runs, self.folder = programs, runs, folder
@@ -129,10 +66,10 @@ class Bench:
         return pair
 
     def audit(self, pair, name="after"):
-        return run([self.programs[name], "audit", "--log", pair.log, "--store", pair.store], b"lawful")
+        return run([*self.programs[name], "audit", "--log", pair.log, "--store", pair.store], b"lawful")
 
     def recover(self, name, pair, new, workers):
-        words = [self.programs[name], "recover", "--log", pair.log, "--store", pair.store]
+        words = [*self.programs[name], "recover", "--log", pair.log, "--store", pair.store]
         return run(words + ["--out-log", new.log, "--out-store", new.store, "--workers", str(workers)])
 
     def keep(self, name, new, whole):
@@ -142,7 +79,7 @@ class Bench:
             os.rename(new.store, whole.store)
             self.audit(whole)
         elif not all(filecmp.cmp(*paths, shallow=False) for paths in ((new.log, whole.log), (new.store, whole.store))):
-            raise Failure(f"{self.programs[name]} recovers {new.shape} {new.size} to other bytes than the run before")
+            raise Failure(f"{self.programs[name][-1]} recovers {new.shape} {new.size} to other bytes than the run before")
 
     def recoveries(self, pair, workers):
         """The least of the runs of each program, and of the copy, in turn; and the pair recovered."""
@@ -212,6 +149,13 @@ def measured_pending(bench):
     return cases
 
 
+def measured_huge(bench):
+    """Recoveries without huge pages and with them."""
+    plain = bench.programs["after"]
+    both = Bench({"before": plain, "after": [*HUGE, *plain]}, bench.runs, bench.folder)
+    return measured(both, LENGTHS[-1:])[0]
+
+
 # Tables. Their columns:
 
 PLACE, COPIES = ["log", "shape", "workers"], ["copy s", "s / copy s"]
@@ -261,9 +205,9 @@ def place(case):
     return [case.pair.size, case.pair.shape, str(case.workers)]
 
 
-def recovery_table(cases):
+def recovery_table(title, cases):
     rows = [[*place(case), *common(case), *copies(case), *ratios(case)] for case in cases]
-    return table("1. Recovery", [*PLACE, *COMMON, *COPIES, *RATIOS], rows)
+    return table(title, [*PLACE, *COMMON, *COPIES, *RATIOS], rows)
 
 
 def audit_table(cases):
@@ -358,10 +302,11 @@ def report(bench, options):
     recoveries, audits = measured(bench, LENGTHS if options.quick else [*LENGTHS, LONGEST])
     audits.append(measured_short(bench))
     pending = measured_pending(bench)
-    parts = [begun, recovery_table([case for case in recoveries if case.pair.size in LENGTHS])]
+    parts = [begun, recovery_table("1. Recovery", [case for case in recoveries if case.pair.size in LENGTHS])]
     parts += [audit_table(audits), pending_table(pending)]
     parts += [] if options.quick else [longest_table(recoveries)]
-    return "\n".join([*parts, growth_table(recoveries, bench.programs)])
+    parts += [growth_table(recoveries, bench.programs)]
+    return "\n".join([*parts, recovery_table("6. Recovery without huge pages → with them", measured_huge(bench))])
 
 
 def options_of_the_line():
@@ -381,7 +326,7 @@ def options_of_the_line():
 def main():
     options = options_of_the_line()
     programs = {"before": options.before, "after": options.program}
-    programs = {name: os.path.abspath(path) for name, path in programs.items() if path}
+    programs = {name: [os.path.abspath(path)] for name, path in programs.items() if path}
     try:
         ends = parted(options.markdown) if options.markdown else None
         with tempfile.TemporaryDirectory(prefix="aries-speed-", dir=options.folder) as folder:
