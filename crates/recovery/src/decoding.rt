@@ -51,8 +51,8 @@ fn beside_each_other<'a, S: Source, R: Threads + Sync>(
 }
 
 /// What the bytes of a log spell, and what the bytes that a store's source has left do, with the
-/// errors of [`read_log`] and [`read_store`]. One worker does one behind the other; of more the
-/// source is read by one while the others decode the log.
+/// errors of [`read_log`] and [`read_store`]. One worker reads the store, and then decodes the log;
+/// with more the store is read in the thread of the caller while others decode the log.
 pub fn decode_both<'a, S: Source, R: Threads + Sync>(
     rt: &R,
     alloc: Global,
@@ -73,7 +73,8 @@ pub fn decode_both<'a, S: Source, R: Threads + Sync>(
     ensures cause { Fails ReadStore result.1 (S.failures store.old) (S.failures store.new) }
 {
     if workers < 2 {
-        return (read_log(alloc, log), read_store(alloc, store, room));
+        let decoded = read_store(alloc, store, room);
+        return (read_log(alloc, log), decoded);
     }
     beside_each_other(rt, alloc, log, workers as usize, store, room)
 }
