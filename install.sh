@@ -23,8 +23,8 @@ trap 'rm -rf "$work"' EXIT
 
 "${CC:-cc}" -std=c11 -O2 -fPIC -c "$top/bindings/c/heap.c" -o "$work/heap.o"
 "${AR:-ar}" rcs "$work/libaries_heap.a" "$work/heap.o"
-for name in aries.pc ariesConfigVersion.cmake; do
-    sed -e "s|@prefix@|$prefix|" -e "s|@version@|$version|" "$top/cmake/$name.in" > "$work/$name"
+for file in cmake/aries.pc cmake/ariesConfigVersion.cmake bin/aries; do
+    sed -e "s|@prefix@|$prefix|" -e "s|@version@|$version|" "$top/$file.in" > "$work/$(basename "$file")"
 done
 
 # put MODE FILE FOLDER [NAME]
@@ -43,11 +43,16 @@ put 644 "$work/ariesConfigVersion.cmake" lib/cmake/aries
 for page in aries.1 aries_dump.1 aries-formats.5; do
     put 644 "$top/man/$page" "share/man/man${page##*.}"
 done
-for name in aries_cli aries_dump; do
-    program=$top/crates/$name/out/$name
-    if [ -f "$program" ]; then
-        put 755 "$program" bin "${name%_cli}"
-    else
-        echo "$program is missing, so it is not installed: \`rt ci\` builds it" >&2
-    fi
-done
+
+# is_built NAME: whether a program is; else it is not installed
+is_built() {
+    [ -f "$top/crates/$1/out/$1" ] || { echo "$1 is not built, so it is not installed: \`rt ci\` builds it" >&2; return 1; }
+}
+
+if is_built aries_cli; then
+    put 755 "$top/crates/aries_cli/out/aries_cli" libexec/aries aries
+    put 755 "$work/aries" bin
+fi
+if is_built aries_dump; then
+    put 755 "$top/crates/aries_dump/out/aries_dump" bin
+fi

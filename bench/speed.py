@@ -153,7 +153,7 @@ def measured_huge(bench):
     """Recoveries without huge pages and with them."""
     plain = bench.programs["after"]
     both = Bench({"before": plain, "after": [*HUGE, *plain]}, bench.runs, bench.folder)
-    return measured(both, LENGTHS[-1:])[0]
+    return measured(both, LENGTHS)[0]
 
 
 # Tables. Their columns:

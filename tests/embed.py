@@ -282,6 +282,26 @@ def is_cmake_right(room, prefix):
     return is_made and has_run(["cmake", "--build", build]) and is_user_right(os.path.join(build, "user"))
 
 
+TELLS = """\
+#!/bin/sh
+printf '%s\\n' "$GLIBC_TUNABLES" "$@"
+exit 3
+"""
+HUGE, SMALL, OTHER = "glibc.malloc.hugetlb=1", "glibc.malloc.hugetlb=0", "glibc.malloc.check=0"
+
+
+def check_command(tally, prefix):
+    """The installed command is the program, and one that tells what it was started with is so started in its place."""
+    command, program = os.path.join(prefix, "bin/aries"), os.path.join(prefix, "libexec/aries/aries")
+    told = [run([path, "recover", "--help"], text=True) for path in (command, program)]
+    tally.say("the command is the program", told[0].stdout == told[1].stdout != "" and told[0].returncode == 0)
+    with open(program, "w") as file:
+        file.write(TELLS)
+    for name, said, heard in (("asks for huge pages", "", HUGE), ("keeps a setting", OTHER, f"{OTHER}:{HUGE}"), ("asks as it is told", SMALL, SMALL)):
+        ran = run([command, "audit", "a b", ""], text=True, env=dict(os.environ, GLIBC_TUNABLES=said))
+        tally.say(f"the command {name}", (ran.returncode, ran.stdout) == (3, f"{heard}\naudit\na b\n\n"))
+
+
 def check_installed(tally, room, archive):
     prefix, user = os.path.join(room, "prefix"), os.path.join(room, "user")
     os.mkdir(user)
@@ -293,6 +313,8 @@ def check_installed(tally, room, archive):
     tally.say("install.sh", ran.returncode == 0, ran.stderr)
     pages = [os.path.join(prefix, "share/man", f"man{name[-1]}", name) for name in os.listdir(os.path.join(TOP, "man"))]
     tally.say("the man pages", len(pages) == 3 and all(os.path.exists(page) for page in pages))
+    if ran.returncode == 0 and os.path.exists(os.path.join(prefix, "bin/aries")):
+        check_command(tally, prefix)
     if ran.returncode == 0 and shutil.which("pkg-config"):
         tally.say("by pkg-config", is_pkg_config_right(user, prefix))
     if ran.returncode == 0 and shutil.which("cmake"):

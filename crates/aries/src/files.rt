@@ -137,7 +137,7 @@ pub fn recover_files<R: Files + Clock + Threads + Sync>(
     let report = recover(
         rt,
         alloc,
-        &mut FileSource::new(NotedFile::new(log, rt, &old.log)),
+        &mut FileSource::sized(NotedFile::new(log, rt, &old.log)),
         &mut FileSource::new(NotedFile::new(store, rt, &old.store)),
         &mut FileSink::new(NotedFile::new(new_log, rt, &new.log)),
         &mut FileSink::new(NotedFile::new(new_store, rt, &new.store)),
@@ -159,7 +159,7 @@ fn read_file<R: Files + Clock>(
     requires { fault ≢ NoResource }
 {
     let opened = open(rt, file, fault)?;
-    let mut source = FileSource::new(NotedFile::new(opened, rt, file));
+    let mut source = FileSource::sized(NotedFile::new(opened, rt, file));
     read_source(alloc, &mut source, fault)
 }
 

@@ -24,7 +24,7 @@ fn fault_of(error: io::Error, fault: Fault) -> Fault {
 /// The bytes of a file; `fault` where it cannot be opened or read to its end.
 fn read_file<R: Files>(rt: &R, alloc: Global, path: &str, fault: Fault) -> Result<Vec<u8>, Fault> {
     let file = File::open(rt, path).map_err(|error| fault_of(error, fault))?;
-    match read_all(alloc, &mut FileSource::new(file)) {
+    match read_all(alloc, &mut FileSource::sized(file)) {
         Ok(bytes) => Ok(bytes),
         Err(ReadFault::Failed) => Err(fault),
         Err(ReadFault::NoMemory) => Err(Fault::NoResource),

@@ -15,6 +15,7 @@ use std::io::{ErrorKind, Read, Write};
 #[derive(Drop)]
 pub struct FileSource<F> {
     file: F,
+    hint: usize,
     failures: Failures,
 }
 
@@ -26,6 +27,26 @@ impl<F> FileSource<F> {
     {
         FileSource {
             file,
+            hint: 0,
+            failures: Failures::new(),
+        }
+    }
+}
+
+impl<F: OpenFile> FileSource<F> {
+    /// As `new`, and the length that the file tells of itself is a hint to who reads. A file that
+    /// tells none is read as well.
+    pub fn sized(file: F) -> FileSource<F>
+        ensures file { read_file result ≡ file }
+        ensures failures { read_failures result ≡ 0 }
+    {
+        let hint = match file.metadata() {
+            Ok(metadata) => metadata.len() as usize,
+            Err(_) => 0,
+        };
+        FileSource {
+            file,
+            hint,
             failures: Failures::new(),
         }
     }
@@ -53,6 +74,10 @@ impl<F: Read> Source for FileSource<F> {
     ghost failures = { read_failures };
 
     ghost left = { λ source. F.remaining (read_file source) };
+
+    fn hint(&self) -> usize {
+        self.hint
+    }
 
     fn read(&mut self, buffer: &mut [u8]) -> Result<usize, Failed> {
         let answer = read_once(&mut self.file, buffer);

@@ -28,6 +28,10 @@ impl<'a> Source for MemorySource<'a> {
 
     ghost left = { λ source. Some (bytes_left source) };
 
+    fn hint(&self) -> usize {
+        self.rest.len()
+    }
+
     fn read(&mut self, buffer: &mut [u8]) -> Result<usize, Failed> {
         let count = self.rest.len().min(buffer.len());
         let (front, rest) = self.rest.split_at(count);

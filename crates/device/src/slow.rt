@@ -104,6 +104,11 @@ impl<'a> Source for SlowSource<'a> {
 
     ghost left = { λ source. Some (bytes_left source) };
 
+    /// What one call passes at most: wrong of more bytes, and of fewer.
+    fn hint(&self) -> usize {
+        self.pace.step
+    }
+
     fn read(&mut self, buffer: &mut [u8]) -> Result<usize, Failed> {
         if self.pace.is_due() {
             self.failures.rise();

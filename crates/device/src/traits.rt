@@ -20,6 +20,12 @@ pub trait Source {
     /// The bytes left to be read, or `None` where the device does not tell them.
     ghost left: { Self → Option (List ℕ) } = { λ _. None };
 
+    /// About how many bytes there are to read, 0 where the device cannot tell. Who reads them may make
+    /// room for so many at once, and can rely on nothing: there may be fewer, or more.
+    fn hint(&self) -> usize {
+        0
+    }
+
     /// Puts a beginning of the bytes that are left to the front of the buffer, and gives its
     /// length: 0 only at the end or where the buffer is empty. What stands behind it in the buffer
     /// is not told.

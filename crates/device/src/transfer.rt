@@ -1,6 +1,6 @@
 //! Reading all of a source, writing all to a sink.
 
-ghost use Rattle.std.specs.Prelude.{◌≡◌, ◌+◌, ◌≤◌, ◌<◌, take, drop, length, vec_len, IfErr, IfOk, IfSome, OnErr, OnOk};
+ghost use Rattle.std.specs.Prelude.{◌≡◌, ◌+◌, ◌≤◌, ◌<◌, [], take, drop, length, vec_len, IfErr, IfOk, IfSome, OnErr, OnOk};
 ghost use Rattle.std.specs.Io.KnownBytes.{Appends, Consumes, IsAtEnd, Keeps};
 ghost use Rattle.device.specs.Failures.{Counts};
 ghost use Rattle.device.specs.Transfer.{failures_of, ReadBeginning, TookBeginning};
@@ -19,6 +19,17 @@ pub enum ReadFault {
 
 /// How many bytes a read is given room for.
 const PIECE: usize = 64 * 1024;
+
+/// No bytes yet, with room for as many as are hinted at and one read more. Where that much memory is
+/// refused there is none, and it is made as bytes come.
+fn room_for(alloc: Global, hint: usize) -> Vec<u8>
+    ensures { result.items ≡ [] }
+{
+    match Vec::with_capacity(alloc, hint.saturating_add(PIECE)) {
+        Ok(bytes) => bytes,
+        Err(_) => Vec::new(alloc),
+    }
+}
 
 /// Makes room for one read more in a buffer of which this many bytes are read.
 fn make_room(bytes: &mut Vec<u8>, filled: usize) -> Result<(), AllocError>
@@ -47,8 +58,8 @@ fn read_behind<S: Source>(source: &mut S, bytes: &mut [u8], filled: usize) -> Re
     source.read(&mut bytes[filled..])
 }
 
-/// All bytes that a source has left, by reads of up to 64 KiB. A source without end ends in want of
-/// memory.
+/// All bytes that a source has left, by reads of up to 64 KiB. Room is made once where the source's
+/// hint is right, and else as bytes come. A source without end ends in want of memory.
 ///
 /// `Failed` where the source failed; its count of failures has risen by one. `NoMemory` where
 /// memory for the bytes was refused; no failure is counted. After either a beginning of the bytes
@@ -63,7 +74,7 @@ pub fn read_all<S: Source>(alloc: Global, source: &mut S) -> Result<Vec<u8>, Rea
         ≡ S.failures source.old + failures_of fault) }
     ensures beginning { OnErr result (ReadBeginning (S.left source.old) (S.left source.new)) }
 {
-    let mut bytes = Vec::new(alloc);
+    let mut bytes = room_for(alloc, source.hint());
     let mut filled = 0;
     loop {
         make_room(&mut bytes, filled).map_err(|_| ReadFault::NoMemory)?;

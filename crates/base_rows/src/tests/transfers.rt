@@ -78,6 +78,17 @@ fn memory_gives_all(rt: HostRuntime) -> Result<(), Fail> {
 }
 
 #[test]
+fn a_hint_is_no_length(rt: HostRuntime) -> Result<(), Fail> {
+    // A slow source hints at what a call passes.
+    for hint in [1, 999, 1000, 1001, 199_999, usize::MAX] {
+        let pace = Pace::of_step(hint);
+        let is_read = is_read(rt.alloc(), 1000, pace)? && is_read(rt.alloc(), 200_000, pace)?;
+        check_at(hint, is_read, "read by a hint of")?;
+    }
+    Ok(())
+}
+
+#[test]
 fn memory_takes_all(rt: HostRuntime) -> Result<(), Fail> {
     let bytes = counted(rt.alloc(), 200_000)?;
     let mut sink = MemorySink::new(rt.alloc());
