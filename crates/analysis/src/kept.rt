@@ -24,6 +24,7 @@ const NEW: Entry = Entry {
 };
 
 /// The entry of a transaction: a new one is active, and has nothing to undo.
+#[inline(always)]
 pub fn entry_in(
     transactions: &BTreeMap<u32, Entry>,
     kept: &[Option<(u32, Entry)>; PLACES],
@@ -83,6 +84,7 @@ fn make_place(
 }
 
 /// Keeps the entry of a transaction: this state, LastLSN and UndoNxtLSN.
+#[inline(always)]
 pub fn keep(
     transactions: &mut BTreeMap<u32, Entry>,
     kept: &mut [Option<(u32, Entry)>; PLACES],

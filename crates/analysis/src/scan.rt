@@ -26,6 +26,7 @@ fn prepared(old: State) -> State
 }
 
 /// What a record does to the transaction table.
+#[inline(always)]
 pub fn note_transaction(
     transactions: &mut BTreeMap<u32, Entry>,
     kept: &mut [Option<(u32, Entry)>; PLACES],

@@ -7,6 +7,9 @@ use page::Fault;
 use std::alloc::Global;
 use std::marker::Model;
 
+/// How many bytes a frame is thought to have when room is made.
+const USUAL_FRAME: usize = 32;
+
 /// Offsets in a text, one behind the other: in 4 bytes each as far as that holds them, in 8 from
 /// the first one past 4 GiB on. Contracts see their list.
 #[derive(Drop)]
@@ -22,12 +25,13 @@ impl Model for Offsets {
 }
 
 impl Offsets {
-    /// No offset.
-    pub fn new(alloc: Global) -> Offsets
+    /// No offset, with room for one each 32 of this many bytes, as far as they take 4 bytes each. Where
+    /// that much memory is refused there is none, and it is made as offsets come.
+    pub fn with_room(alloc: Global, bytes: usize) -> Offsets
         ensures { result ≡ [] }
     {
         Offsets {
-            short: Vec::new(alloc),
+            short: room_for(alloc, bytes.min(1 << 32) / USUAL_FRAME),
             long: Vec::new(alloc),
         }
     }
@@ -88,6 +92,16 @@ impl Offsets {
         }
         self.long.append(&mut long)?;
         Ok(())
+    }
+}
+
+/// Nothing, with room for so many short offsets, if memory for them is not refused.
+fn room_for(alloc: Global, count: usize) -> Vec<u32>
+    ensures { result.items ≡ [] }
+{
+    match Vec::with_capacity(alloc, count) {
+        Ok(room) => room,
+        Err(_) => Vec::new(alloc),
     }
 }
 

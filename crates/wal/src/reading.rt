@@ -50,7 +50,8 @@ pub fn offsets_of(alloc: Global, begins: LogStart, bytes: &[u8]) -> Result<(Offs
     ensures read { Gives (λ x. (map (record_of bytes.now) x.0, x.1)) result
         (frames_behind begins bytes.now) }
 {
-    offsets_behind(begins, bytes, Offsets::new(alloc), begins.header_bytes())
+    let none = Offsets::with_room(alloc, bytes.len());
+    offsets_behind(begins, bytes, none, begins.header_bytes())
 }
 
 /// The first frames of a log, and behind them those of a stretch, if it begins where they end, with
@@ -96,7 +97,7 @@ fn read_on(
     }
     let _len = bytes.len();
     let next = begins.base() + known.len() as u64 + 1;
-    let stretch = stretch_from(alloc, bytes, next, end, upto)?;
+    let stretch = stretch_from(alloc, bytes, next, end, upto, upto - end)?;
     take_stretch(begins, bytes, known, end, stretch)
 }
 
@@ -114,7 +115,7 @@ fn join_stretches(
     ensures known { IfOk result (λ x. ReadSoFar begins bytes.now x.0 x.1) }
     ensures err { IsOkUnless result NoResource }
 {
-    let mut known = Offsets::new(alloc);
+    let mut known = Offsets::with_room(alloc, 0);
     let mut end = begins.header_bytes();
     for stretch in stretches {
         (known, end) = read_on(alloc, begins, bytes, known, end, stretch.begin)?;

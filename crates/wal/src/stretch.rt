@@ -31,13 +31,15 @@ pub struct Stretch {
 }
 
 /// The frames from `begin` on, of which the first is to have this LSN: until one ends at `upto` or
-/// behind it, or what stands there is no frame. The only error is `NoResource`.
+/// behind it, or what stands there is no frame. Room is made for those of `room` bytes. The only error
+/// is `NoResource`.
 pub fn stretch_from(
     alloc: Global,
     bytes: &[u8],
     lsn: u64,
     begin: usize,
     upto: usize,
+    room: usize,
 ) -> Result<Stretch, Fault>
     requires begin { begin ≤ length bytes.now }
     requires lsn { LeavesRoom lsn }
@@ -45,7 +47,7 @@ pub fn stretch_from(
     ensures begins { IfOk result (λ stretch. (stretch.lsn ≡ lsn) × (stretch.begin ≡ begin)) }
     ensures err { IsOkUnless result NoResource }
 {
-    let mut offsets = Offsets::new(alloc);
+    let mut offsets = Offsets::with_room(alloc, room);
     let mut end = begin;
     for number in 0..bytes.len() {
         if end >= upto {
@@ -115,7 +117,9 @@ fn guessed_stretch(
     let Some((lsn, begin)) = guess(bytes, from, from + share) else {
         return Ok(None);
     };
-    Ok(Some(stretch_from(alloc, bytes, lsn, begin, from + share)?))
+    // The others are put behind the first.
+    let room = if number == 0 { bytes.len() } else { share };
+    Ok(Some(stretch_from(alloc, bytes, lsn, begin, from + share, room)?))
 }
 
 /// What the threads have read, if memory was there for all of it.

@@ -7,7 +7,7 @@ use Rattle.wal.proofs.reading.join_stretches.Goals as goal
 pub loop-stretch-init : goal.loop-stretch-init
 loop-stretch-init c = (
   All-same (IsStretch c.args.bytes.now) c.into_iter-stretch-iterator.result.rest.items c.args.stretches.items c.into_iter-stretch-iterator.ensures.into_iter_gives.0 c.requires.each,
-  rw (c.new-known.ensures, c.header_bytes-end.ensures) (at_header c.args.begins c.args.bytes.now c.requires.room),
+  rw (c.with_room-known.ensures, c.header_bytes-end.ensures) (at_header c.args.begins c.args.bytes.now c.requires.room),
 )
 
 pub read_on-requires-clause-known : goal.read_on-requires-clause-known

@@ -6,7 +6,7 @@ use Rattle.wal.proofs.Stretches.{frames_more, frame_takes}
 use Rattle.wal.proofs.stretch.stretch_from.Goals as goal
 
 pub loop-number-init : goal.loop-number-init
-loop-number-init c = rw c.new-offsets.ensures (refl, refl, omega arith, c.requires.begin)
+loop-number-init c = rw c.with_room-offsets.ensures (refl, refl, omega arith, c.requires.begin)
 
 pub split_at-requires : goal.split_at-requires
 split_at-requires c = c.loop-number.invariant.3
