@@ -1,6 +1,7 @@
 /* A heap of the program's own, which refuses each growth of memory in turn: every call that takes memory then answers 1
- * and leaves its buffers as they were, and lets go of all that it took, refused or not. The status is 0, or the number
- * of the first call of this program's list that does not. */
+ * and leaves its buffers as they were, but for one growth, which is room for a log's offsets in advance and which it can
+ * do without; and lets go of all that it took, refused or not. The status is 0, or the number of the first call of this
+ * program's list that does not. */
 #include "aries.h"
 
 #include <stdbool.h>
@@ -124,17 +125,28 @@ static void make_files(void) {
     store_length += length;
 }
 
-/* Whether the call answers 1, with nothing written, as long as a growth is refused, and then 0. */
+/* What the call answers while this growth is refused, 0 for none. */
+static struct aries_fault tried_call(struct aries_fault (*call)(void), size_t growth) {
+    refused = growth;
+    growths = 0;
+    memset(&outs, 0, sizeof outs);
+    return call();
+}
+
+/* Whether the call answers 1, with nothing written, as long as a growth is refused, and then 0; but for one growth at
+ * most, without which it answers and writes what it does with it. */
 static bool is_right(struct aries_fault (*call)(void)) {
-    static const struct outs untouched;
-    for (refused = 1;; refused++) {
-        growths = 0;
-        memset(&outs, 0, sizeof outs);
-        struct aries_fault fault = call();
-        if (held != 0) return false;
-        if (growths < refused) return fault.number == ARIES_OK;
-        if (fault.number != ARIES_NO_RESOURCE || memcmp(&outs, &untouched, sizeof outs) != 0) return false;
+    static struct outs untouched, whole;
+    if (tried_call(call, 0).number != ARIES_OK || held != 0) return false;
+    memcpy(&whole, &outs, sizeof outs);
+    size_t all = growths, done_without = 0;
+    for (size_t growth = 1; growth <= all; growth++) {
+        uint32_t number = tried_call(call, growth).number;
+        if (held != 0 || (number != ARIES_OK && number != ARIES_NO_RESOURCE)) return false;
+        if (memcmp(&outs, number == ARIES_OK ? &whole : &untouched, sizeof outs) != 0) return false;
+        done_without += number == ARIES_OK;
     }
+    return done_without <= 1;
 }
 
 int main(void) {
