@@ -10,7 +10,6 @@ ghost use Rattle.wal.specs.Meaning.{BasePages};
 ghost use Rattle.wal.specs.Records.{history};
 ghost use Rattle.wal.specs.Store.{Lawful};
 ghost use Rattle.wal.specs.Undo.{entry_for};
-ghost use Rattle.redo.specs.Redone.{AreWorkers};
 ghost use Rattle.analysis.specs.Lawful.{AreTrue};
 ghost use Rattle.analysis.specs.Tables.{AreTransactionsOf, BaseFault, entry_at};
 ghost use Rattle.restart.specs.Restart.{AreSettings, NoneAhead, IsRedone, ArePagesRedone, PagesFault, InputFault};
@@ -112,15 +111,6 @@ fn side_by_side<G: Gate, R: Threads + Sync>(
     join_mut(rt, &mut find, &mut redo)
 }
 
-/// How many workers redo has while one thread more finds the transactions: of three or more one less,
-/// so that there are as many threads as workers; of two both.
-fn workers_beside(workers: u32) -> u32
-    requires { AreWorkers workers }
-    ensures { AreWorkers result }
-{
-    workers.max(3) - 1
-}
-
 /// Analysis and redo, the transactions beside redo.
 fn beside_each_other<G: Gate, R: Threads + Sync>(
     rt: &R,
@@ -139,8 +129,7 @@ fn beside_each_other<G: Gate, R: Threads + Sync>(
         → MatchResult result (λ x. AreTrue log.now store x.0) (λ e. e ≡ NoResource) }
     ensures fault { IfErr result (InputFault log.now store) }
 {
-    let others = workers_beside(workers);
-    let (transactions, redone) = side_by_side(rt, alloc, log, store, parting, others, gate);
+    let (transactions, redone) = side_by_side(rt, alloc, log, store, parting, workers, gate);
     let transactions = transactions?;
     let (pages, redone) = redone?;
     Ok((join_tables(transactions, pages), redone))

@@ -27,8 +27,8 @@ pub returns-in_err-pages-clause-lawful : goal.returns-in_err-pages-clause-lawful
 returns-in_err-pages-clause-lawful g c = λ base lawful.
     let exit = err_from_is_err_and c.from_residual-in_err-pages.result c.from_residual-in_err-pages.ensures.1 in
     rw (exit.1, exit.2)
-    (pages_alone base c.args.log.now c.args.store lawful c.workers_beside-others.result c.in_err-pages.field-0.0 c.workers_beside-others.ensures
-    (IfErr-at_err (PagesFault c.args.log.now c.args.store c.workers_beside-others.result) c.in_err-pages.was c.side_by_side-transactions.ensures.fault))
+    (pages_alone base c.args.log.now c.args.store lawful c.args.workers c.in_err-pages.field-0.0 c.requires.settings.fit
+    (IfErr-at_err (PagesFault c.args.log.now c.args.store c.args.workers) c.in_err-pages.was c.side_by_side-transactions.ensures.fault))
 
 pub returns-in_err-pages-clause-fault : goal.returns-in_err-pages-clause-fault
 returns-in_err-pages-clause-fault g c =
@@ -37,8 +37,8 @@ returns-in_err-pages-clause-fault g c =
     let some : AreTransactionsOf c.args.log.now c.args.store.master found =
     IfOk-at_ok (λ found. AreTransactionsOf c.args.log.now c.args.store.master (map entry_of found.entries)) c.in_ok-transactions.was c.side_by_side-transactions.ensures.transactions in
     rw (exit.1, exit.2)
-    (pages_fault c.args.log.now c.args.store c.requires.none_ahead found some c.workers_beside-others.result c.in_err-pages.field-0.0 c.workers_beside-others.ensures
-    (IfErr-at_err (PagesFault c.args.log.now c.args.store c.workers_beside-others.result) c.in_err-pages.was c.side_by_side-transactions.ensures.fault))
+    (pages_fault c.args.log.now c.args.store c.requires.none_ahead found some c.args.workers c.in_err-pages.field-0.0 c.requires.settings.fit
+    (IfErr-at_err (PagesFault c.args.log.now c.args.store c.args.workers) c.in_err-pages.was c.side_by_side-transactions.ensures.fault))
 
 pub returns-clause-redone : goal.returns-clause-redone
 returns-clause-redone g c =
