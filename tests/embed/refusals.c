@@ -136,7 +136,8 @@ static struct aries_fault tried_call(struct aries_fault (*call)(void), size_t gr
 /* Whether the call answers 1, with nothing written, as long as a growth is refused, and then 0; but for one growth at
  * most, without which it answers and writes what it does with it. */
 static bool is_right(struct aries_fault (*call)(void)) {
-    static struct outs untouched, whole;
+    static const struct outs untouched;
+    static struct outs whole;
     if (tried_call(call, 0).number != ARIES_OK || held != 0) return false;
     memcpy(&whole, &outs, sizeof outs);
     size_t all = growths, done_without = 0;
