@@ -8,5 +8,6 @@ pub mod Rising
 pub mod Truth
 pub mod Numbers
 pub mod OneTables
-pub mod NoTables
+pub mod NoFurther
+mod NoTables
 pub mod Halves

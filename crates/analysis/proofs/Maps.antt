@@ -1,10 +1,10 @@
 -- Maps from numbers, read key by key.
-use Rattle.std.proofs.Common.{ℕ, zero, suc, ◌≡◌, ◌<◌, Bool, true, false, cond, eqb, eq-eqb, eqb-true, ◌+◌, List, [], ◌∷◌, length, drop, get_or, set, replicate, drop-cons, Option, Some, None, refl, sym, ap, ap₂, ◌∙◌, arith, inl, inr}
+use Rattle.std.proofs.Common.{ℕ, zero, suc, ◌≡◌, ◌<◌, ◌≤◌, Bool, true, false, cond, eqb, ltb, eq-eqb, eqb-true, ◌+◌, List, [], ◌∷◌, length, drop, get_or, set, replicate, drop-cons, Option, Some, None, refl, sym, ap, ap₂, ◌∙◌, arith, inl, inr}
 use Rattle.std.specs.Prelude.{option_map, is_some}
-use Rattle.wal.specs.Records.{TableEntry}
+use Rattle.wal.specs.Records.{TableEntry, LogRecord}
 use Rattle.std.specs.Ordering.{is_eq, nat_cmp}
 use Rattle.std.specs.Map.{lookup}
-use Rattle.std.proofs.lemmas.Bool.{cases_Bool}
+use Rattle.std.proofs.lemmas.Bool.{cases_Bool, ltb-true, ltb-false}
 use Rattle.wal.specs.declared.record.Entry.{Entry}
 use Rattle.wal.specs.Content.{entry_of}
 use Rattle.wal.specs.Redo.{rec_lsn_of}
@@ -12,8 +12,8 @@ use Rattle.wal.specs.Checkpoint.{or_else}
 use Rattle.wal.specs.Undo.{entry_for}
 use Rattle.wal.proofs.Entries.{is_eq-nat_cmp, entry_for-lookup}
 use Rattle.std.proofs.lemmas.List.{get_or-set_other}
-use Rattle.analysis.specs.Tables.{entry_at}
-use Rattle.analysis.specs.Steps.{AreListed}
+use Rattle.analysis.specs.Tables.{entry_at, AreAllListed}
+use Rattle.analysis.specs.Steps.{AreListed, rec_lsn_after}
 
 pub eqb-sym : (x y : ℕ) → eqb x y ≡ eqb y x
 eqb-sym x y =
@@ -115,6 +115,19 @@ listed_noted known old new page lsn step listed p noted =
 
     by_other : p ≡ page → eqb page p ≡ false → ⊥
     by_other same e = (let f : eqb page p ≡ true = eq-eqb page p (sym same) in cc)
+
+-- pages that are listed, and those behind them that are known
+pub listed_upto : (known : List Bool) (dirty : List (ℕ × ℕ)) (whole upto : ℕ) → AreListed known dirty → AreAllListed whole dirty → ((page : ℕ) → whole ≤ page → page < upto → get_or known page false ≡ true) → AreAllListed upto dirty
+listed_upto known dirty whole upto listed before noted page lt =
+    elim (cases_Bool (ltb page whole)) [
+      | inl l ↦ before page (ltb-true page whole l)
+      | inr l ↦ listed page (noted page (ltb-false page whole l) lt)
+    ]
+
+-- a page that is listed stays so behind a record
+pub stays_listed : (lsn page : ℕ) (r : LogRecord) (old new : Option ℕ) → new ≡ rec_lsn_after lsn r page old → is_some old ≡ true → is_some new ≡ true
+stays_listed lsn page r None new e listed = absurd cc
+stays_listed lsn page r (Some x) new e listed = ap is_some e
 
 -- LENT TABLES, from their end to their front
 pub drop-get : {X : Type 0} (xs : List X) (i : ℕ) (x : X) → i < length xs → get_or xs i x ≡ x → drop i xs ≡ x ∷ drop (i + 1) xs

@@ -1,12 +1,12 @@
 -- TABLES-OF. What analysis finds from a checkpoint on: last and first records, not a scan (own, for every log).
-use Rattle.std.specs.Prelude.{◌≡◌, ℕ, suc, List, [], ◌∷◌, Option, Some, None, Bool, true, false, ◌||◌, ◌&&◌, ◌==◌, nat_lt, nat_le, min, max, map, if◌then◌else◌, ⊤}
+use Rattle.std.specs.Prelude.{◌≡◌, ◌≤◌, ◌<◌, ℕ, suc, is_some, List, [], ◌∷◌, Option, Some, None, Bool, true, false, ◌||◌, ◌&&◌, ◌==◌, nat_lt, nat_le, min, max, map, if◌then◌else◌, ⊤}
 use Rattle.page.specs.declared.fault.Fault.{Fault}
 use Rattle.page.specs.declared.fault.Fault.TheVariants.{NoResource, BadMaster}
 use Rattle.page.specs.Causes.{HasOneCause, HasNoCause}
 use Rattle.wal.specs.declared.record.State.{State}
 use Rattle.wal.specs.declared.record.State.TheVariants.{Active, Prepared, Aborting}
 use Rattle.wal.specs.declared.record.Entry.{Entry}
-use Rattle.wal.specs.Records.{TableEntry, LogRecord, Update, Compensation, History, start, ◌▸◌, LogContent, history, last_lsn, tx_in, page_in, base_lsn}
+use Rattle.wal.specs.Records.{TableEntry, LogRecord, Update, Compensation, History, start, ◌▸◌, LogContent, history, last_lsn, tx_in, page_in, base_lsn, record_at}
 use Rattle.wal.specs.Meaning.{state_by, is_of, is_commit_of, is_abort_of, is_end_of, is_prepare_of, is_on}
 use Rattle.wal.specs.Redo.{rec_lsn_of}
 use Rattle.wal.specs.Undo.{entry_for, is_prepared, lost_in}
@@ -123,6 +123,22 @@ pub record AreDirtyPagesOf (log : LogContent) (m : ℕ) (found : List (ℕ × �
   pub pages : (page : ℕ) → rec_lsn_of page found ≡ analysed_rec_lsn page m (rec_lsn_of page dirty) (history log)
   pub pages_rise : IsRising (map page_in found)
   pub begins : redo_lsn ≡ redo_lsn_of (suc (base_lsn (history log))) found
+
+-- NO FURTHER THAN REDO ASKS. Redo begins at the smallest RecLSN and applies records to pages of the store alone, so it does with
+-- the first records where each of these is listed by them (own).
+-- each page below the count is listed
+abbrev pub AreAllListed : (count : ℕ) → List (ℕ × ℕ) → Type 0
+AreAllListed count dirty = (page : ℕ) → page < count → is_some (rec_lsn_of page dirty) ≡ true
+
+-- no record from redo_lsn on, which is not 0, is on a page past the count
+abbrev pub AreBelow : (count redo_lsn : ℕ) → History → Type 0
+AreBelow count redo_lsn log = (lsn : ℕ) (r : LogRecord) (page : ℕ) → 1 ≤ redo_lsn → redo_lsn ≤ lsn → record_at log lsn ≡ Some r → is_on page r ≡ true → page < count
+
+-- the table begins redo where the dirty page table does, and is that where no record from there on is on a page past the count
+pub record ServesRedo (log : LogContent) (m count : ℕ) (found : List (ℕ × ℕ)) (redo_lsn : ℕ) : Type 0 where
+  pub whole : List (ℕ × ℕ)
+  pub are : AreDirtyPagesOf log m whole redo_lsn
+  pub is_whole : AreBelow count redo_lsn (history log) → found ≡ whole
 
 -- tables of these transactions and the other's pages
 abbrev pub tables_with : List TableEntry → TablesContent → TablesContent

@@ -1,23 +1,21 @@
 //! Analysis in two halves, which two threads can do beside each other: the transaction table, which
-//! undo asks for, and the dirty page table, which redo asks for.
+//! undo asks for, here, and the dirty page table, which redo asks for, in `dirty`; and both joined.
 
-ghost use Rattle.std.specs.Prelude.{◌≡◌, ℕ, List, [], map, None, Option, IfOk, OnOk, IfErr, IsOkUnless};
+ghost use Rattle.std.specs.Prelude.{◌≡◌, ℕ, map, None, Option, IfOk, OnOk, IfErr, IsOkUnless};
 ghost use Rattle.page.specs.declared.fault.Fault.TheVariants.{NoResource};
 ghost use Rattle.page.specs.Store.{StoreContent};
 ghost use Rattle.wal.specs.Content.{entry_of};
 ghost use Rattle.wal.specs.Meaning.{BasePages};
 ghost use Rattle.wal.specs.Records.{TableEntry, LogContent, history};
-ghost use Rattle.wal.specs.Redo.{rec_lsn_of};
 ghost use Rattle.wal.specs.Store.{Lawful};
 ghost use Rattle.analysis.specs.Lawful.{AreTrue};
-ghost use Rattle.analysis.specs.Tables.{entry_at, analysed_entry, analysed_rec_lsn, AreTablesOf, AreTransactionsOf, AreDirtyPagesOf, BaseFault, tables_with};
+ghost use Rattle.analysis.specs.Tables.{entry_at, analysed_entry, AreTablesOf, AreTransactionsOf, AreDirtyPagesOf, BaseFault, tables_with};
 
 use crate::Tables;
 use crate::base::base;
 use crate::kept::{PLACES, highest_in, put_back};
-use crate::pass::redo_lsn_of;
-use crate::scan::{note_page, note_transaction};
-use page::{Fault, PAGES};
+use crate::scan::note_transaction;
+use page::Fault;
 use std::alloc::Global;
 use std::collections::BTreeMap;
 use wal::{Entry, Log};
@@ -46,20 +44,6 @@ fn scan_transactions(
     Ok(())
 }
 
-/// Looks at the records behind the LSN `master` for what they do to the dirty page table.
-fn scan_pages(log: &Log, master: u64, dirty: &mut BTreeMap<u32, u64>) -> Result<(), Fault>
-    ensures pages { OnOk result ((p : ℕ) (base : Option ℕ) → rec_lsn_of p dirty.old.entries ≡ base
-        → rec_lsn_of p dirty.new.entries ≡ analysed_rec_lsn p master base (history log.now)) }
-    ensures err { IsOkUnless result NoResource }
-{
-    let mut known = [false; PAGES];
-    let from = master.max(log.base());
-    for lsn in from..log.last() {
-        note_page(dirty, &mut known, log.glance_after(lsn), lsn + 1)?;
-    }
-    Ok(())
-}
-
 /// The transaction table of [`analyse`](crate::analyse), found without the other, with its errors.
 pub fn analyse_transactions(
     alloc: Global,
@@ -76,27 +60,6 @@ pub fn analyse_transactions(
     // For the proof: the keys rise.
     let _in_order = transactions.iter();
     Ok(transactions)
-}
-
-/// The dirty page table of [`analyse`](crate::analyse), and the LSN to redo from, found without the
-/// transactions, with its errors. The tables have none, which redo does not ask for.
-pub fn analyse_pages(alloc: Global, log: &Log, master: u64) -> Result<Tables, Fault>
-    ensures pages { IfOk result (λ found. AreDirtyPagesOf log.now master
-        found.dirty found.redo_lsn) }
-    ensures no_transactions { IfOk result (λ found. found.transactions ≡ []) }
-    ensures fault { IfErr result (BaseFault master (history log.now)) }
-{
-    let (_, mut dirty) = base(alloc, log, master)?;
-    scan_pages(log, master, &mut dirty)?;
-    let first = log.base() + 1;
-    let redo_lsn = redo_lsn_of(first, &dirty);
-    // For the proof: the keys rise.
-    let _in_order = dirty.iter();
-    Ok(Tables {
-        transactions: BTreeMap::new(alloc),
-        dirty,
-        redo_lsn,
-    })
 }
 
 /// The tables of [`analyse`](crate::analyse) of its two halves: these transactions, and the pages of

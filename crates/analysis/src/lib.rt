@@ -3,13 +3,15 @@
 
 mod apart;
 mod base;
+mod dirty;
 mod kept;
 mod laws;
 mod pass;
 mod scan;
 mod tables;
 
-pub use apart::{analyse_pages, analyse_transactions, join_tables};
+pub use apart::{analyse_transactions, join_tables};
+pub use dirty::analyse_pages;
 pub use laws::{no_fault_of_tables, one_base_fault, one_tables};
 pub use pass::analyse;
 pub use tables::Tables;

@@ -81,11 +81,10 @@ fn list_page(dirty: &mut BTreeMap<u32, u64>, page: u32, lsn: u64) -> Result<(), 
 }
 
 /// Whether a page is known.
-fn is_known(known: &[bool; PAGES], page: u32) -> bool
+pub fn is_known(known: &[bool; PAGES], page: usize) -> bool
     ensures { result ≡ slice_index_or known.now page false }
 {
-    let place = page as usize;
-    place < PAGES && known[place]
+    page < PAGES && known[page]
 }
 
 /// Notes that a page is known, where it is below their number.
@@ -112,7 +111,7 @@ fn list_unknown(
     ensures known { OnOk result (AreListed known.new dirty.new.entries) }
     ensures err { IsOkUnless result NoResource }
 {
-    if is_known(known, page) {
+    if is_known(known, page as usize) {
         return Ok(());
     }
     list_page(dirty, page, lsn)?;

@@ -1,5 +1,6 @@
 pub mod OptionFaults
 pub mod Causes
+pub mod Served
 pub mod Tallied
 pub mod Restored
 pub mod OneAnswer

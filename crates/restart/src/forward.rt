@@ -59,7 +59,7 @@ fn redo_by_pages<G: Gate, R: Threads + Sync>(
     ensures redone { IfOk result (λ x. ArePagesRedone log.now store x.0 x.1) }
     ensures fault { IfErr result (PagesFault log.now store workers) }
 {
-    let tables = analyse_pages(alloc, log, store.master)?;
+    let tables = analyse_pages(alloc, log, store.master, store.pages.len())?;
     let redone = redo_in_place(rt, alloc, log, store, &tables, parting, workers, gate)?;
     Ok((tables, redone))
 }

@@ -3,12 +3,10 @@ use Rattle.std.proofs.lemmas.Result.{err_from_is_err_and, IfErr-weaker}
 use Rattle.page.specs.declared.page.Page.{Page}
 use Rattle.page.specs.Store.{StoreContent, AreNumbered}
 use Rattle.wal.specs.Records.{history, last_lsn}
-use Rattle.analysis.specs.Tables.{AreTablesOf}
 use Rattle.redo.specs.Redone.{redone_page}
 use Rattle.undo.proofs.Lost.{lost_none}
-use Rattle.restart.specs.Restart.{AheadFault, NoneAhead, IsRedone}
-use Rattle.restart.proofs.Restored.{redo_alone, ahead_alone, changed_numbered}
-use Rattle.restart.proofs.Causes.{redo_fault}
+use Rattle.restart.specs.Restart.{AheadFault, NoneAhead}
+use Rattle.restart.proofs.Restored.{ahead_alone, changed_numbered}
 use Rattle.restart.proofs.passes.restart_in_place.Goals as goal
 
 pub returns-in_err-check_lsns-clause-lawful : goal.returns-in_err-check_lsns-clause-lawful
