@@ -296,3 +296,41 @@ fn refuses_in_order(rt: HostRuntime) -> Result<(), Fail> {
     }
     Ok(())
 }
+
+/// Page 0 changed, and behind it a page that a store of one page lacks.
+fn missing_behind(alloc: Global) -> Result<Text, Fault> {
+    let mut text = Text::new(alloc)?;
+    text.update(1, 0, 0, None, Some(b'a'))?;
+    text.first_update(1)?;
+    Ok(text)
+}
+
+/// The same behind a checkpoint that lists page 0 as dirty from past the log's end on. Its master is
+/// 1.
+fn missing_behind_checkpoint(alloc: Global) -> Result<Text, Fault> {
+    let mut text = Text::new(alloc)?;
+    text.checkpoint(alloc, (1, 1, 1), &[(0, 9)])?;
+    text.update(1, 0, 0, None, Some(b'a'))?;
+    text.first_update(1)?;
+    Ok(text)
+}
+
+/// A page that the store lacks is met where each page that it has is listed before it, by any number
+/// of workers.
+#[test]
+fn refuses_a_page_behind_all(rt: HostRuntime) -> Result<(), Fail> {
+    let alloc = rt.alloc();
+    let listed = missing_behind(alloc)?;
+    let late = missing_behind_checkpoint(alloc)?;
+    for workers in [1, 2, 4] {
+        let manner = Manner { pages: 1, workers };
+        let refusal = refused(&rt, alloc, &listed, 0, 0, manner);
+        check(refusal == Some(Fault::NoSuchPage(2)), "page 1")?;
+        let refusal = refused(&rt, alloc, &late, 1, 0, manner);
+        check(
+            refusal == Some(Fault::NoSuchPage(4)),
+            "page 0 from LSN 9 on",
+        )?;
+    }
+    Ok(())
+}
