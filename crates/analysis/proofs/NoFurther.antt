@@ -13,13 +13,14 @@ use Rattle.analysis.specs.Tables.{base_of, analysed_rec_lsn, redo_lsn_of, AreAll
 use Rattle.analysis.specs.Steps.{rec_lsn_after}
 use Rattle.analysis.proofs.Maps.{listed_stays}
 use Rattle.analysis.proofs.Rising.{same_pages}
-use Rattle.analysis.proofs.Scanned.{rec_lsn_next}
+use Rattle.analysis.proofs.Scanned.{or_else-none, rec_lsn_next}
 
--- ---- a page more in a table whose numbers rise
+-- ---- a page more in a table whose numbers rise, in its place
 abbrev listed_in : (page lsn : ℕ) → List (ℕ × ℕ) → List (ℕ × ℕ)
 listed_in page lsn [] = (page, lsn) ∷ []
 listed_in page lsn (d ∷ ds) = cond (ltb page d.0) ((page, lsn) ∷ d ∷ ds) (d ∷ listed_in page lsn ds)
 
+-- one that is not listed is not the first, and is not listed behind it
 unlisted_behind : (page : ℕ) (d : ℕ × ℕ) (ds : List (ℕ × ℕ)) → rec_lsn_of page (d ∷ ds) ≡ None → (eqb d.0 page ≡ false) × (rec_lsn_of page ds ≡ None)
 unlisted_behind page d ds none =
     elim (cases_Bool (eqb d.0 page)) [
@@ -31,12 +32,8 @@ in_front : (p page lsn : ℕ) (ds : List (ℕ × ℕ)) → rec_lsn_of page ds �
 in_front p page lsn ds none =
     elim (cases_Bool (eqb page p)) [
       | inl e ↦ (let here : rec_lsn_of p ds ≡ None = ap (λ q. rec_lsn_of q ds) (sym (eqb-true page p e)) ∙ none in rw (e, here) refl)
-      | inr e ↦ rw e (or_none (rec_lsn_of p ds))
+      | inr e ↦ rw e (sym (or_else-none (rec_lsn_of p ds)))
     ]
-  where
-    or_none : (o : Option ℕ) → o ≡ or_else o None
-    or_none None = refl
-    or_none (Some x) = refl
 
 listed_in-lists : (p page lsn : ℕ) (ds : List (ℕ × ℕ)) → rec_lsn_of page ds ≡ None → rec_lsn_of p (listed_in page lsn ds) ≡ or_else (rec_lsn_of p ds) (cond (eqb page p) (Some lsn) None)
 listed_in-lists p page lsn [] none = refl
@@ -116,10 +113,6 @@ one_more from m dirty found log r le some low whole = by_change (change_of r) re
     with_page page [] same = absurd (omega (arith, some, whole.begins, ap (redo_lsn_of from) same))
     with_page page (d ∷ ds) same = listed_in-redo from page lsn d ds ∙ omega (arith, low, whole.begins, ap (redo_lsn_of from) same)
 
-    or_none : (o : Option ℕ) → o ≡ or_else o None
-    or_none None = refl
-    or_none (Some x) = refl
-
     by_listed : (c : Change) → change_of r ≡ Some c → (o : Option ℕ) → rec_lsn_of c.page whole.table ≡ o → Whole from m dirty found (log ▸ r)
     by_listed c e (Some x) is = as_it_is (λ p. rw e (listed_stays p c.page lsn whole.table (ap is_some is)))
     by_listed c e None is =
@@ -131,7 +124,7 @@ one_more from m dirty found log r le some low whole = by_change (change_of r) re
         }
 
     by_change : (o : Option Change) → change_of r ≡ o → Whole from m dirty found (log ▸ r)
-    by_change None e = as_it_is (λ p. rw e (or_none (rec_lsn_of p whole.table)))
+    by_change None e = as_it_is (λ p. rw e (sym (or_else-none (rec_lsn_of p whole.table))))
     by_change (Some c) e = by_listed c e (rec_lsn_of c.page whole.table) refl
 
 -- what was found in the first records, as far as an LSN
@@ -139,10 +132,12 @@ record Found (m upto : ℕ) (dirty found : List (ℕ × ℕ)) (log : History) : 
   behind : m ≤ upto
   pages : (page : ℕ) → rec_lsn_of page found ≡ analysed_rec_lsn page m (rec_lsn_of page dirty) (first upto log)
 
+-- and in a log that is one record shorter
 older : (m upto : ℕ) (dirty found : List (ℕ × ℕ)) (log : History) (r : LogRecord) → upto ≤ last_lsn log → Found m upto dirty found (log ▸ r) → Found m upto dirty found log
 older m upto dirty found log r le is =
     record { behind = is.behind; pages = λ p. is.pages p ∙ ap (analysed_rec_lsn p m (rec_lsn_of p dirty)) (first_older log r upto le) }
 
+-- these are all where no record comes behind
 all : (m upto : ℕ) (dirty found : List (ℕ × ℕ)) (log : History) → last_lsn log ≤ upto → Found m upto dirty found log → (p : ℕ) → rec_lsn_of p found ≡ analysed_rec_lsn p m (rec_lsn_of p dirty) log
 all m upto dirty found log le is p = is.pages p ∙ ap (analysed_rec_lsn p m (rec_lsn_of p dirty)) (first_all upto log le)
 
@@ -158,11 +153,8 @@ whole from m upto dirty found log rises some low is =
     found_whole : (log : History) → last_lsn log ≤ upto → Found m upto dirty found log → Whole from m dirty found log
     found_whole log le is = record { table = found; pages = all m upto dirty found log le is; rises = rises; begins = refl }
 
-    found_whole_at_start : (base : ℕ) → Found m upto dirty found (start base) → Whole from m dirty found (start base)
-    found_whole_at_start base is = record { table = found; pages = is.pages; rises = rises; begins = refl }
-
     longer : (log : History) → upto < last_lsn log → Found m upto dirty found log → Whole from m dirty found log
-    longer (start base) lt is = found_whole_at_start base is
+    longer (start base) lt is = record { table = found; pages = is.pages; rises = rises; begins = refl }
     longer (log ▸ r) lt is =
         (let before = older m upto dirty found log r (omega (arith, lt)) is in
         one_more from m dirty found log r (omega (arith, lt, is.behind)) some (omega (arith, lt, low))
@@ -185,7 +177,7 @@ is_whole from m upto count dirty found (log ▸ r) listed some low below is p =
           rec_lsn_next p m (rec_lsn_of p dirty) _ _ log r (last_lsn log + 1) (omega (arith, lt, is.behind)) refl same
           (elim (cases_Bool (is_on p r)) [
             | inl on ↦ kept (rec_lsn_of p found) (listed p (below (suc (last_lsn log)) r p some (omega (arith, lt, low)) (record_last log r) on)) (cond (is_on p r) (Some (last_lsn log + 1)) None)
-            | inr off ↦ rw off (or_none (rec_lsn_of p found))
+            | inr off ↦ rw off (sym (or_else-none (rec_lsn_of p found)))
           ]))
       | inr l ↦ all m upto dirty found (log ▸ r) (ltb-false upto (last_lsn (log ▸ r)) l) is p
     ]
@@ -193,10 +185,6 @@ is_whole from m upto count dirty found (log ▸ r) listed some low below is p =
     kept : (o : Option ℕ) → is_some o ≡ true → (other : Option ℕ) → o ≡ or_else o other
     kept None e other = absurd cc
     kept (Some x) e other = refl
-
-    or_none : (o : Option ℕ) → o ≡ or_else o None
-    or_none None = refl
-    or_none (Some x) = refl
 
 -- ---- what redo asks for
 -- a table found in all records, or in the first of them, where each page of the store is listed and redo begins no later

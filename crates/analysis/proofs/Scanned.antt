@@ -109,7 +109,7 @@ behind_none m page (log ▸ r) le =
     let e : leb m (last_lsn log) ≡ false = lt-leb m (last_lsn log) (omega (arith, le, base_within log)) in
     rw (older, e) refl
 
-or_else-none : (a : Option ℕ) → or_else a None ≡ a
+pub or_else-none : (a : Option ℕ) → or_else a None ≡ a
 or_else-none None = refl
 or_else-none (Some x) = refl
 
