@@ -2,14 +2,14 @@
 use Rattle.std.proofs.Common.{ℕ, suc, ◌≡◌, ◌≢◌, ◌+◌, ◌<◌, ◌≤◌, ◌⊎◌, inl, inr, Bool, true, false, cond, eqb, ltb, eqb-true, eq-eqb, List, [], ◌∷◌, length, map, Option, Some, None, refl, sym, ap, ◌∙◌, arith, min, max}
 use Rattle.std.specs.Prelude.{is_some}
 use Rattle.std.proofs.lemmas.Bool.{cases_Bool, ltb-true, ltb-false}
-use Rattle.wal.specs.Records.{LogRecord, History, start, ◌▸◌, LogContent, TableEntry, history, last_lsn, base_lsn, first, page_in}
+use Rattle.wal.specs.Records.{LogRecord, History, start, ◌▸◌, LogContent, TableEntry, history, last_lsn, base_lsn, record_at, first, page_in}
 use Rattle.wal.specs.Meaning.{Change, change_of, is_on}
 use Rattle.wal.specs.Redo.{rec_lsn_of}
 use Rattle.wal.specs.Checkpoint.{or_else}
 use Rattle.wal.specs.Spelling.{IsRising}
 use Rattle.wal.proofs.Histories.{first_all, first_older, record_last, record_more}
 use Rattle.wal.proofs.Rising.{RisesFrom, rises_rising, rising_from_0}
-use Rattle.analysis.specs.Tables.{base_of, analysed_rec_lsn, redo_lsn_of, AreAllListed, AreBelow, ServesRedo}
+use Rattle.analysis.specs.Tables.{base_of, analysed_rec_lsn, redo_lsn_of, AreAllListed, ServesRedo}
 use Rattle.analysis.specs.Steps.{rec_lsn_after}
 use Rattle.analysis.proofs.Maps.{listed_stays}
 use Rattle.analysis.proofs.Rising.{same_pages}
@@ -163,20 +163,18 @@ whole from m upto dirty found log rises some low is =
           | inr l ↦ found_whole log (ltb-false upto (last_lsn log) l) before
         ]))
 
--- which is the one that was found, where no page past the count comes from where redo begins on
-is_whole : (from m upto count : ℕ) (dirty found : List (ℕ × ℕ)) (log : History) → AreAllListed count found → 1 ≤ redo_lsn_of from found → redo_lsn_of from found ≤ upto → AreBelow count (redo_lsn_of from found) log
-    → Found m upto dirty found log → (p : ℕ) → rec_lsn_of p found ≡ analysed_rec_lsn p m (rec_lsn_of p dirty) log
-is_whole from m upto count dirty found (start base) listed some low below is p = is.pages p
-is_whole from m upto count dirty found (log ▸ r) listed some low below is p =
+-- it says of a page what was found, if that is listed wherever a record behind is on it
+same : (m upto : ℕ) (dirty found : List (ℕ × ℕ)) (p : ℕ) (log : History) → ((lsn : ℕ) (r : LogRecord) → upto ≤ lsn → record_at log lsn ≡ Some r → is_on p r ≡ true → is_some (rec_lsn_of p found) ≡ true)
+    → Found m upto dirty found log → rec_lsn_of p found ≡ analysed_rec_lsn p m (rec_lsn_of p dirty) log
+same m upto dirty found p (start base) listed is = is.pages p
+same m upto dirty found p (log ▸ r) listed is =
     elim (cases_Bool (ltb upto (last_lsn (log ▸ r)))) [
       | inl l ↦
           (let lt = ltb-true upto (last_lsn (log ▸ r)) l in
-          let before = older m upto dirty found log r (omega (arith, lt)) is in
-          let shorter : AreBelow count (redo_lsn_of from found) log = λ n x page above from_there there on. below n x page above from_there (record_more log r n x there) on in
-          let same = is_whole from m upto count dirty found log listed some low shorter before p in
-          rec_lsn_next p m (rec_lsn_of p dirty) _ _ log r (last_lsn log + 1) (omega (arith, lt, is.behind)) refl same
+          let before = same m upto dirty found p log (λ n x behind there on. listed n x behind (record_more log r n x there) on) (older m upto dirty found log r (omega (arith, lt)) is) in
+          rec_lsn_next p m (rec_lsn_of p dirty) _ _ log r (last_lsn log + 1) (omega (arith, lt, is.behind)) refl before
           (elim (cases_Bool (is_on p r)) [
-            | inl on ↦ kept (rec_lsn_of p found) (listed p (below (suc (last_lsn log)) r p some (omega (arith, lt, low)) (record_last log r) on)) (cond (is_on p r) (Some (last_lsn log + 1)) None)
+            | inl on ↦ kept (rec_lsn_of p found) (listed (suc (last_lsn log)) r (omega (arith, lt)) (record_last log r) on) (cond (is_on p r) (Some (last_lsn log + 1)) None)
             | inr off ↦ rw off (sym (or_else-none (rec_lsn_of p found)))
           ]))
       | inr l ↦ all m upto dirty found (log ▸ r) (ltb-false upto (last_lsn (log ▸ r)) l) is p
@@ -197,6 +195,7 @@ serves log m upto count transactions dirty found base behind rising pages (inl l
     record {
       whole = found;
       are = record { transactions = transactions; dirty = dirty; base = base; pages = all m upto dirty found (history log) le is; pages_rise = rising; begins = refl };
+      each = λ page lt. refl;
       is_whole = λ below. refl;
     }
 serves log m upto count transactions dirty found base behind rising pages (inr (listed, some, low)) =
@@ -207,5 +206,6 @@ serves log m upto count transactions dirty found base behind rising pages (inr (
     record {
       whole = w.table;
       are = record { transactions = transactions; dirty = dirty; base = base; pages = w.pages; pages_rise = rises; begins = sym w.begins };
-      is_whole = λ below. same_pages found w.table rising rises (λ p. is_whole from m upto count dirty found (history log) listed some low below is p ∙ sym (w.pages p));
+      each = λ page lt. same m upto dirty found page (history log) (λ n r behind there on. listed page lt) is ∙ sym (w.pages page);
+      is_whole = λ below. same_pages found w.table rising rises (λ p. same m upto dirty found p (history log) (λ n r behind there on. listed p (below n r p some (omega (arith, low, behind)) there on)) is ∙ sym (w.pages p));
     }

@@ -134,10 +134,12 @@ AreAllListed count dirty = (page : ℕ) → page < count → is_some (rec_lsn_of
 abbrev pub AreBelow : (count redo_lsn : ℕ) → History → Type 0
 AreBelow count redo_lsn log = (lsn : ℕ) (r : LogRecord) (page : ℕ) → 1 ≤ redo_lsn → redo_lsn ≤ lsn → record_at log lsn ≡ Some r → is_on page r ≡ true → page < count
 
--- the table begins redo where the dirty page table does, and is that where no record from there on is on a page past the count
+-- the table begins redo where the dirty page table does, says the same of each page below the count, and is that table where no
+-- record from there on is on a page past the count
 pub record ServesRedo (log : LogContent) (m count : ℕ) (found : List (ℕ × ℕ)) (redo_lsn : ℕ) : Type 0 where
   pub whole : List (ℕ × ℕ)
   pub are : AreDirtyPagesOf log m whole redo_lsn
+  pub each : (page : ℕ) → page < count → rec_lsn_of page found ≡ rec_lsn_of page whole
   pub is_whole : AreBelow count redo_lsn (history log) → found ≡ whole
 
 -- tables of these transactions and the other's pages

@@ -294,6 +294,23 @@ pub fn one_commit(alloc: Global, page: u32) -> Result<Text, Fault> {
     Ok(text)
 }
 
+/// Transaction 1 puts "a" and "b" into slot 0 of page 0 in turn, in so many updates, and commits.
+pub fn long_commit(alloc: Global, updates: u64) -> Result<Text, Fault> {
+    let mut text = Text::new(alloc)?;
+    let mut before = None;
+    for prev in 0..updates {
+        let after = if prev % 2 == 0 {
+            Some(b'a')
+        } else {
+            Some(b'b')
+        };
+        text.update(1, prev, 0, before, after)?;
+        before = after;
+    }
+    text.commit(1, updates)?;
+    Ok(text)
+}
+
 /// Two updates of one slot and the CLR of the second, and the commit.
 pub fn partial_rollback_commit(alloc: Global) -> Result<Text, Fault> {
     let mut text = Text::new(alloc)?;

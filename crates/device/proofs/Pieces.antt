@@ -5,7 +5,7 @@ use Rattle.std.proofs.Math.Seq.{take-append_seam}
 use Rattle.std.specs.declared.option.Option.{Option}
 use Rattle.std.specs.Io.KnownBytes.{Appends, Consumes, Keeps}
 use Rattle.std.proofs.KnownBytes.{Appends-kept, Consumes-trans}
-use Rattle.device.specs.Transfer.{TookBeginning}
+use Rattle.device.specs.Transfer.{ReadBehind, TookBeginning}
 
 -- what is done grows by a piece of the rest, and the rest is what stands behind it
 pub goes_on : (all done rest : List ℕ) (n : ℕ) → all ≡ done ++ rest → all ≡ (done ++ take n rest) ++ take (length rest - n) (drop n rest)
@@ -25,3 +25,13 @@ pub filled_by : (a b c : Option (List ℕ)) (old room new : List ℕ) (f n : ℕ
 filled_by a b c old room new f n kept front before read =
     subst (Consumes a c) (sym (take-add f n new))
     (Consumes-trans a b c (take f new) (take n (drop f new)) (subst (Consumes a b) (sym (front ∙ kept)) before) read)
+
+-- a buffer filled up to f behind the bytes in front, and then by n bytes more
+pub behind_by : (a b c : Option (List ℕ)) (front old room new : List ℕ) (f n : ℕ) → take f room ≡ take f old → take f new ≡ take f room
+    → ReadBehind a b front (take f old) → Consumes b c (take n (drop f new)) → ReadBehind a c front (take (f + n) new)
+behind_by a b c front old room new f n kept same before read =
+    let (rest, split, consumed) = before in
+    let piece = take n (drop f new) in
+    let all : take (f + n) new ≡ front ++ (rest ++ piece) =
+    take-add f n new ∙ ap (λ l. l ++ piece) (same ∙ kept ∙ split) ∙ append_assoc front rest piece in
+    (rest ++ piece, all, Consumes-trans a b c rest piece consumed read)

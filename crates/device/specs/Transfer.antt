@@ -1,5 +1,5 @@
 -- What reading, writing or flushing all of a device tells (own).
-use Rattle.std.specs.Prelude.{◌≡◌, ℕ, List, ◌≤◌, length, take, IfSome}
+use Rattle.std.specs.Prelude.{◌≡◌, ℕ, List, ◌≤◌, ◌++◌, length, take, IfSome}
 use Rattle.std.specs.declared.option.Option.{Option}
 use Rattle.std.specs.Io.KnownBytes.{Appends, Consumes}
 use Rattle.device.specs.declared.transfer.ReadFault.{ReadFault}
@@ -13,6 +13,10 @@ failures_of NoMemory = 0
 -- a beginning of what was left has been read
 abbrev pub ReadBeginning : Option (List ℕ) → Option (List ℕ) → Type 0
 ReadBeginning old new = (bytes : List ℕ) × Consumes old new bytes
+
+-- the bytes are these in front, and behind them what was read
+abbrev pub ReadBehind : (old new : Option (List ℕ)) → (front bytes : List ℕ) → Type 0
+ReadBehind old new front bytes = (rest : List ℕ) × (bytes ≡ front ++ rest) × Consumes old new rest
 
 -- a beginning of these bytes has been taken
 abbrev pub TookBeginning : Option (List ℕ) → Option (List ℕ) → List ℕ → Type 0

@@ -16,4 +16,4 @@ pub use file::{FileSink, FileSource};
 pub use memory::{MemorySink, MemorySource};
 pub use slow::{Pace, SlowSink, SlowSource};
 pub use traits::{Failed, Sink, Source};
-pub use transfer::{ReadFault, read_all, read_full, write_all};
+pub use transfer::{ReadFault, read_all, read_front, read_full, read_rest, write_all};

@@ -1,9 +1,9 @@
 //! Reading all of a source, writing all to a sink.
 
-ghost use Rattle.std.specs.Prelude.{◌≡◌, ◌+◌, ◌≤◌, ◌<◌, [], take, drop, length, vec_len, IfErr, IfOk, IfSome, OnErr, OnOk};
+ghost use Rattle.std.specs.Prelude.{◌≡◌, ◌+◌, ◌≤◌, ◌<◌, [], ◌++◌, take, drop, length, vec_len, IfErr, IfOk, IfSome, OnErr, OnOk};
 ghost use Rattle.std.specs.Io.KnownBytes.{Appends, Consumes, IsAtEnd, Keeps};
 ghost use Rattle.device.specs.Failures.{Counts};
-ghost use Rattle.device.specs.Transfer.{failures_of, ReadBeginning, TookBeginning};
+ghost use Rattle.device.specs.Transfer.{failures_of, ReadBeginning, ReadBehind, TookBeginning};
 
 use crate::{Failed, Sink, Source};
 use std::alloc::{AllocError, Global};
@@ -17,7 +17,7 @@ pub enum ReadFault {
     NoMemory,
 }
 
-/// How many bytes a read is given room for.
+/// How many bytes a read is given room for, at least.
 const PIECE: usize = 64 * 1024;
 
 /// No bytes yet, with room for as many as are hinted at and one read more. Where that much memory is
@@ -31,7 +31,8 @@ fn room_for(alloc: Global, hint: usize) -> Vec<u8>
     }
 }
 
-/// Makes room for one read more in a buffer of which this many bytes are read.
+/// Makes room for one read more in a buffer of which this many bytes are read. A buffer that has as
+/// much behind them stays as it is.
 fn make_room(bytes: &mut Vec<u8>, filled: usize) -> Result<(), AllocError>
     requires { filled ≤ vec_len bytes.old }
     ensures front { take filled bytes.new.items ≡ take filled bytes.old.items }
@@ -39,6 +40,7 @@ fn make_room(bytes: &mut Vec<u8>, filled: usize) -> Result<(), AllocError>
     ensures room { OnOk result (filled < vec_len bytes.new) }
 {
     match filled.checked_add(PIECE) {
+        Some(length) if length <= bytes.len() => Ok(()),
         Some(length) => bytes.resize(length, 0),
         None => Err(AllocError),
     }
@@ -58,6 +60,34 @@ fn read_behind<S: Source>(source: &mut S, bytes: &mut [u8], filled: usize) -> Re
     source.read(&mut bytes[filled..])
 }
 
+/// Reads behind the first `filled` bytes, once and then on until there are as many bytes as are
+/// wanted or the source is at its end. What stands behind those that were read is cut off.
+fn read_on<S: Source>(
+    source: &mut S,
+    bytes: &mut Vec<u8>,
+    mut filled: usize,
+    wanted: usize,
+) -> Result<(), ReadFault>
+    requires { filled ≤ vec_len bytes.old }
+    ensures read { OnOk result (ReadBehind (S.left source.old) (S.left source.new)
+        (take filled bytes.old.items) bytes.new.items) }
+    ensures end { OnOk result (vec_len bytes.new < wanted → IsAtEnd (S.left source.new)) }
+    ensures no_failure { OnOk result (S.failures source.new ≡ S.failures source.old) }
+    ensures cause { IfErr result (λ fault. S.failures source.new
+        ≡ S.failures source.old + failures_of fault) }
+    ensures beginning { OnErr result (ReadBeginning (S.left source.old) (S.left source.new)) }
+{
+    loop {
+        make_room(bytes, filled).map_err(|_| ReadFault::NoMemory)?;
+        let count = read_behind(source, bytes, filled).map_err(|_| ReadFault::Failed)?;
+        filled += count;
+        if count == 0 || filled >= wanted {
+            bytes.truncate(filled);
+            return Ok(());
+        }
+    }
+}
+
 /// All bytes that a source has left, by reads of up to 64 KiB. Room is made once where the source's
 /// hint is right, and else as bytes come. A source without end ends in want of memory.
 ///
@@ -75,16 +105,60 @@ pub fn read_all<S: Source>(alloc: Global, source: &mut S) -> Result<Vec<u8>, Rea
     ensures beginning { OnErr result (ReadBeginning (S.left source.old) (S.left source.new)) }
 {
     let mut bytes = room_for(alloc, source.hint());
-    let mut filled = 0;
-    loop {
-        make_room(&mut bytes, filled).map_err(|_| ReadFault::NoMemory)?;
-        let count = read_behind(source, &mut bytes, filled).map_err(|_| ReadFault::Failed)?;
-        if count == 0 {
-            bytes.truncate(filled);
-            return Ok(bytes);
-        }
-        filled += count;
-    }
+    read_rest(source, &mut bytes, 0)?;
+    Ok(bytes)
+}
+
+/// Behind the first `filled` bytes of a buffer, reads all bytes that a source has left. What stands
+/// behind the first `filled` is room, and is lost: it is read into, by reads as large as it is, and
+/// where less than 64 KiB of it are free, room for so many more is made as bytes come. A source
+/// without end ends in want of memory.
+///
+/// `Failed` where the source failed; its count of failures has risen by one. `NoMemory` where
+/// memory for the bytes was refused; no failure is counted. After either a beginning of the bytes
+/// that were left has been read, and what the buffer holds is not told.
+pub fn read_rest<S: Source>(
+    source: &mut S,
+    bytes: &mut Vec<u8>,
+    filled: usize,
+) -> Result<(), ReadFault>
+    requires { filled ≤ vec_len bytes.old }
+    ensures all { OnOk result (IfSome (S.left source.old)
+        (λ left. bytes.new.items ≡ take filled bytes.old.items ++ left)) }
+    ensures read { OnOk result (ReadBehind (S.left source.old) (S.left source.new)
+        (take filled bytes.old.items) bytes.new.items) }
+    ensures end { OnOk result (IsAtEnd (S.left source.new)) }
+    ensures no_failure { OnOk result (S.failures source.new ≡ S.failures source.old) }
+    ensures cause { IfErr result (λ fault. S.failures source.new
+        ≡ S.failures source.old + failures_of fault) }
+    ensures beginning { OnErr result (ReadBeginning (S.left source.old) (S.left source.new)) }
+{
+    read_on(source, bytes, filled, usize::MAX)
+}
+
+/// The next bytes that a source has, `count` or up to 64 KiB more; fewer only where it is at its
+/// end. Room for `count` is made at once where there is memory for it, and else as bytes come, and
+/// no read is of more than 64 KiB. One is made even where `count` is 0.
+///
+/// `Failed` where the source failed; its count of failures has risen by one. `NoMemory` where
+/// memory for the bytes was refused; no failure is counted. After either a beginning of the bytes
+/// that were left has been read, and is dropped.
+pub fn read_front<S: Source>(
+    alloc: Global,
+    source: &mut S,
+    count: usize,
+) -> Result<Vec<u8>, ReadFault>
+    ensures read { IfOk result (λ bytes. Consumes (S.left source.old)
+        (S.left source.new) bytes.items) }
+    ensures end { IfOk result (λ bytes. vec_len bytes < count → IsAtEnd (S.left source.new)) }
+    ensures no_failure { OnOk result (S.failures source.new ≡ S.failures source.old) }
+    ensures cause { IfErr result (λ fault. S.failures source.new
+        ≡ S.failures source.old + failures_of fault) }
+    ensures beginning { OnErr result (ReadBeginning (S.left source.old) (S.left source.new)) }
+{
+    let mut bytes = room_for(alloc, count);
+    read_on(source, &mut bytes, 0, count)?;
+    Ok(bytes)
 }
 
 /// Fills a buffer with the bytes that a source gives next, and gives how many they are: fewer than

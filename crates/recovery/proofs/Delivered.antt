@@ -22,32 +22,27 @@ pub told : (left : Option (List ℕ)) (bytes known : List ℕ) → Gave left byt
 told None bytes known gave e = absurd (cc)
 told (Some xs) bytes known gave e = gave ∙ same_Some _ _ e
 
--- what was read, the log as it is lent
-pub lent_read : (log_left store_left : Option (List ℕ)) (log lent_log store : List ℕ) → AreRead log_left store_left log store → lent_log ≡ log → AreRead log_left store_left lent_log store
-lent_read log_left store_left log lent_log store read e = record { log_read = subst (Gave log_left) (sym e) read.log_read; store_read = read.store_read }
-
--- what is made of it, the log as it is lent
-abbrev pub lent_makes : {log_left store_left : Option (List ℕ)} (log lent_log store new_log new_store : List ℕ) (report : ReportContent) → AreRead log_left store_left log store → lent_log ≡ log
-    → Recovers lent_log store new_log new_store report → Makes log_left store_left
-lent_makes {log_left} {store_left} log lent_log store new_log new_store report read e recovers = record {
-  log = lent_log;
+-- what is made of what was read
+abbrev pub makes : {log_left store_left : Option (List ℕ)} (log store new_log new_store : List ℕ) (report : ReportContent) → AreRead log_left store_left log store → Recovers log store new_log new_store report → Makes log_left store_left
+makes {log_left} {store_left} log store new_log new_store report read recovers = record {
+  log = log;
   store = store;
   new_log = new_log;
   new_store = new_store;
   report = report;
-  are_read = lent_read log_left store_left log lent_log store read e;
+  are_read = read;
   recovers = recovers;
 }
 
 -- and where the sources tell lawful bytes, it is lawful
-abbrev pub lent_lawful : {base : BasePages} {log_left store_left : Option (List ℕ)} (log lent_log store log_text store_text : List ℕ) → AreRead log_left store_left log store → lent_log ≡ log
-    → log_left ≡ Some log_text → store_left ≡ Some store_text → AreLawful base log_text store_text → AreLawful base lent_log store
-lent_lawful {base} {log_left} {store_left} log lent_log store log_text store_text read e tells_log tells_store bytes = record {
+abbrev pub told_lawful : {base : BasePages} {log_left store_left : Option (List ℕ)} (log store log_text store_text : List ℕ) → AreRead log_left store_left log store
+    → log_left ≡ Some log_text → store_left ≡ Some store_text → AreLawful base log_text store_text → AreLawful base log store
+told_lawful {base} {log_left} {store_left} log store log_text store_text read tells_log tells_store bytes = record {
   decoded = record {
     read = bytes.decoded.read;
     torn = bytes.decoded.torn;
     before = bytes.decoded.before;
-    reads = subst (λ l. Reads l bytes.decoded.read bytes.decoded.torn) (sym (e ∙ told log_left log log_text read.log_read tells_log)) bytes.decoded.reads;
+    reads = subst (λ l. Reads l bytes.decoded.read bytes.decoded.torn) (sym (told log_left log log_text read.log_read tells_log)) bytes.decoded.reads;
     spells = subst (λ s. SpellsStore s bytes.decoded.before) (sym (told store_left store store_text read.store_read tells_store)) bytes.decoded.spells;
   };
   lawful = bytes.lawful;

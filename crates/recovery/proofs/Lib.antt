@@ -1,8 +1,9 @@
 pub mod Bytes
+pub mod Decoded
 pub mod Delivered
-pub mod Resuming
+pub mod LogTexts
 pub mod OneAnswer
 pub mod OneTextCause
+pub mod Resuming
 pub mod TailLength
-pub mod Decoded
 pub mod Taken

@@ -2,4 +2,5 @@ pub mod Text
 pub mod Recovery
 pub mod Audit
 pub mod Devices
+pub mod LogText
 pub mod OneAnswer

@@ -1,5 +1,5 @@
 -- What a recovery makes of the bytes of a log and a store, and why it is refused (own).
-use Rattle.std.specs.Prelude.{◌≡◌, ℕ, ◌⊎◌, List, ◌++◌, length, Result, Ok, IfOk, IfErr, MatchResult, ⊤}
+use Rattle.std.specs.Prelude.{◌≡◌, ℕ, ◌-◌, ◌⊎◌, List, ◌++◌, length, take, Result, Ok, IfOk, IfErr, MatchResult, ⊤}
 use Rattle.page.specs.declared.fault.Fault.{Fault}
 use Rattle.page.specs.declared.fault.Fault.TheVariants.{NoResource, BadWorkers, BadParting}
 use Rattle.page.specs.Store.{StoreContent}
@@ -32,9 +32,9 @@ pub record Decoded (log store : List ℕ) : Type 0 where
 abbrev pub new_log : Recovery → List ℕ
 new_log x = x.kept.now ++ x.frames.items
 
--- the same where the new store is not yet in bytes
-abbrev pub log_of : Remade → List ℕ
-log_of x = x.kept.now ++ x.frames.items
+-- the same of the bytes of a log: they stay without their torn tail
+abbrev pub log_of : List ℕ → Remade → List ℕ
+log_of log x = take (length log - x.report.torn) log ++ x.frames.items
 
 -- the answer of a decoder of store files to these bytes: the store that they spell, or why they spell none
 pub record Decodes (text : List ℕ) (answer : Result StoreContent Fault) : Type 0 where

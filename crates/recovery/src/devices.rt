@@ -9,13 +9,15 @@ ghost use Rattle.device.specs.Failures.{Counts};
 ghost use Rattle.device.specs.Transfer.{TookBeginning, Flushes};
 ghost use Rattle.wal.specs.Meaning.{BasePages};
 ghost use Rattle.page.specs.File.{store_text};
-ghost use Rattle.recovery.specs.Recovery.{log_of, AreLawful, AreCut};
+ghost use Rattle.recovery.specs.Recovery.{AreLawful, AreCut};
 ghost use Rattle.recovery.specs.declared.store_pieces.TheConstants.{PIECE};
 ghost use Rattle.restart.specs.Options.{AreInRange, OptionsFault};
 ghost use Rattle.recovery.specs.Devices.{Fails, Gave, IsFaultOf, Makes, Writes, AreOut, Leaves, IsOut, DeviceCause, Delivers, Completes, LeavesCut, IsResourceOrDevice};
 
 use crate::Report;
-use crate::decoding::decode_both;
+use crate::decoding::{decode_both, found_or_read};
+use crate::log_bytes::LogBytes;
+use crate::log_text::{join_text, read_log_text};
 use crate::recovery::{Remade, remake};
 use crate::store_pieces::{room_for_pieces, write_store};
 use device::{Failed, ReadFault, Sink, Source, read_all, write_all};
@@ -56,16 +58,15 @@ fn write_whole<S: Sink>(sink: &mut S, bytes: &[u8]) -> Result<(), Failed>
     sink.flush()
 }
 
-/// Writes a log in two pieces and flushes it: what is kept of the log read, and behind it the
-/// frames appended.
-fn write_log<S: Sink>(sink: &mut S, kept: &[u8], frames: &[u8]) -> Result<(), Failed>
+/// Writes a log and flushes it: what is kept of the log read, and behind it the frames appended.
+fn write_log<S: Sink>(sink: &mut S, kept: &LogBytes, frames: &[u8]) -> Result<(), Failed>
     ensures all { OnOk result (AreOut (kept.now ++ frames.now) (S.taken sink.old) (S.taken sink.new)
         (S.flushed sink.old) (S.flushed sink.new)) }
     ensures beginning { OnErr result
         (TookBeginning (S.taken sink.old) (S.taken sink.new) (kept.now ++ frames.now)) }
     ensures cause { Counts (S.failures sink.old) (S.failures sink.new) result }
 {
-    write_all(sink, kept)?;
+    kept.write(sink)?;
     write_whole(sink, frames)
 }
 
@@ -74,23 +75,25 @@ fn write_log<S: Sink>(sink: &mut S, kept: &[u8], frames: &[u8]) -> Result<(), Fa
 fn write_both<L: Sink, S: Sink>(
     log: &mut L,
     store: &mut S,
+    kept: &LogBytes,
     remade: &Remade,
     room: &mut [u8],
 ) -> Result<(), Fault>
     requires { length room.old ≡ PIECE }
-    ensures log_out { OnOk result (AreOut (log_of remade.now) (L.taken log.old) (L.taken log.new)
-        (L.flushed log.old) (L.flushed log.new)) }
+    ensures log_out { OnOk result (AreOut (kept.now ++ remade.now.frames.items) (L.taken log.old)
+        (L.taken log.new) (L.flushed log.old) (L.flushed log.new)) }
     ensures store_out { OnOk result (AreOut (store_text remade.now.store) (S.taken store.old)
         (S.taken store.new) (S.flushed store.old) (S.flushed store.new)) }
     ensures log_first { (store.new ≡ store.old)
-        ⊎ AreOut (log_of remade.now) (L.taken log.old) (L.taken log.new) (L.flushed log.old)
-        (L.flushed log.new) }
-    ensures fault { IfErr result (Leaves (log_of remade.now) (store_text remade.now.store)
-        (L.taken log.old) (L.taken log.new) (S.taken store.old) (S.taken store.new)) }
+        ⊎ AreOut (kept.now ++ remade.now.frames.items) (L.taken log.old) (L.taken log.new)
+        (L.flushed log.old) (L.flushed log.new) }
+    ensures fault { IfErr result (Leaves (kept.now ++ remade.now.frames.items)
+        (store_text remade.now.store) (L.taken log.old) (L.taken log.new) (S.taken store.old)
+        (S.taken store.new)) }
     ensures log_sink { Fails WriteLog result (L.failures log.old) (L.failures log.new) }
     ensures store_sink { Fails WriteStore result (S.failures store.old) (S.failures store.new) }
 {
-    match write_log(log, remade.kept, &remade.frames) {
+    match write_log(log, kept, &remade.frames) {
         Ok(()) => match write_store(store, &remade.store, room) {
             Ok(()) => Ok(()),
             Err(Failed) => Err(Fault::WriteStore),
@@ -198,11 +201,14 @@ pub fn recover<LR: Source, SR: Source, LW: Sink, SW: Sink, G: Gate, R: Threads +
 {
     check_options(options)?;
     let mut room = room_for_pieces(alloc)?;
-    let log_text = read_source(alloc, log, Fault::ReadLog)?;
-    let log_bytes: &[u8] = &log_text;
-    let (records, decoded) = decode_both(rt, alloc, log_bytes, options.workers, store, &mut room);
+    let workers = options.workers;
+    let (text, first) = read_log_text(rt, alloc, log, workers)?;
+    let (found, decoded) = decode_both(rt, alloc, &text, first, workers, store, &mut room);
     let decoded = decoded?;
-    let remade = remake(rt, alloc, log_bytes, records, decoded, options, gate)?;
-    write_both(out_log, out_store, &remade, &mut room)?;
+    let joined = join_text(alloc, &text, found.is_some())?;
+    let records = found_or_read(alloc, found, &joined);
+    let remade = remake(rt, alloc, records, decoded, options, gate)?;
+    let kept = LogBytes::kept_of(&text, &remade);
+    write_both(out_log, out_store, &kept, &remade, &mut room)?;
     Ok(remade.report)
 }

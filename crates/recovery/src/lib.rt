@@ -5,6 +5,8 @@
 mod decoding;
 mod devices;
 mod laws;
+mod log_bytes;
+mod log_text;
 mod recovery;
 mod report;
 mod store_pieces;

@@ -1,6 +1,6 @@
 //! Recovery in memory: from a log and a store to the bytes of a new log and the new store.
 
-ghost use Rattle.std.specs.Prelude.{◌≡◌, ◌≤◌, ◌<◌, ◌+◌, ◌-◌, ◌*◌, ◌^◌, ℕ, List, true, is_ok, length, take, IfOk, OnOk, IfErr, MatchResult, IsOkUnless};
+ghost use Rattle.std.specs.Prelude.{◌≡◌, ◌≤◌, ◌<◌, ◌+◌, ◌*◌, ◌^◌, ℕ, List, true, is_ok, length, IfOk, OnOk, IfErr, MatchResult, IsOkUnless};
 ghost use Rattle.page.specs.declared.fault.Fault.{Fault};
 ghost use Rattle.page.specs.declared.fault.Fault.TheVariants.{NoResource};
 ghost use Rattle.wal.specs.Records.{history, last_lsn};
@@ -75,10 +75,10 @@ pub struct Recovery<'a> {
     pub report: Report,
 }
 
-/// The same, with the new store as it is and not yet in bytes.
+/// What is to be written behind what is kept of a log, and the new store as it is and not yet in
+/// bytes.
 #[derive(Drop)]
-pub struct Remade<'a> {
-    pub kept: &'a [u8],
+pub struct Remade {
     pub frames: Vec<u8>,
     pub store: Store,
     pub report: Report,
@@ -86,37 +86,34 @@ pub struct Remade<'a> {
 
 /// What is to be written of what a restart made of a log and a store. The only error is
 /// `NoResource`.
-pub fn remade_of<'a>(
+pub fn remade_of(
     alloc: Global,
-    log: &'a [u8],
     records: &Log,
     torn: usize,
     outcome: BriefOutcome,
-) -> Result<Remade<'a>, Fault>
-    requires reads { Reads log.now records.now torn }
+) -> Result<Remade, Fault>
     requires told { AreTold (history records.now) outcome.appended.items }
     requires writable { AreFit (history records.now) outcome.appended.items }
     requires few { length outcome.appended.items ≤ 2 * length records.now.records + 2 ^ 32 }
 
-    // Where the outcome is that of a restart of a store, for any bytes that spell it.
-    ensures answer { IfOk result (λ x. (text : List ℕ) (before : StoreContent)
-        → SpellsStore text before
+    // Where the outcome is that of a restart of a store, for any bytes that spell the log and it.
+    ensures answer { IfOk result (λ x. (log text : List ℕ) (before : StoreContent)
+        → Reads log records.now torn → SpellsStore text before
         → Restarts records.now before (outcome_in (history records.now) outcome)
-        → Recovers log.now text (log_of x) (store_text x.store) x.report) }
-    ensures lawful { IfOk result (λ x. (base : BasePages) (before : StoreContent)
+        → Recovers log text (log_of log x) (store_text x.store) x.report) }
+    ensures lawful { IfOk result (λ x. (base : BasePages) (log : List ℕ) (before : StoreContent)
+        → Reads log records.now torn
         → Restores base records.now before (outcome_in (history records.now) outcome)
-        → Recovered base records.now before (log_of x) (store_text x.store) x.report) }
-    ensures short { IfOk result (λ x. (base : BasePages) (before : StoreContent)
+        → Recovered base records.now before (log_of log x) (store_text x.store) x.report) }
+    ensures short { IfOk result (λ x. (base : BasePages) (log : List ℕ) (before : StoreContent)
+        → Reads log records.now torn
         → Restores base records.now before (outcome_in (history records.now) outcome)
-        → length x.frames.items ≤ 2 * length log.now) }
-    ensures kept { IfOk result (λ x. x.kept.now
-        ≡ take (length log.now - x.report.torn) log.now) }
+        → length x.frames.items ≤ 2 * length log) }
     ensures err { IsOkUnless result NoResource }
 {
     let frames = frames_of(alloc, records, &outcome.appended)?;
     let (report, store) = report_of(records, torn, outcome);
     Ok(Remade {
-        kept: &log[..log.len() - torn],
         frames,
         store,
         report,
@@ -129,36 +126,35 @@ pub fn remade_of<'a>(
 /// Refuses, in this order: the faults of [`wal::read_log`] for the log; that of the store; those of
 /// [`restart`](restart::restart). [`Fault::NoResource`], where memory or a thread was refused, may
 /// come in place of any answer.
-pub fn remake<'a, G: Gate, R: Threads + Sync>(
+pub fn remake<G: Gate, R: Threads + Sync>(
     rt: &R,
     alloc: Global,
-    log: &'a [u8],
-    records: Result<(Log<'a>, usize), Fault>,
+    records: Result<(Log, usize), Fault>,
     decoded: Result<Store, Fault>,
     options: &Options,
     gate: &G,
-) -> Result<Remade<'a>, Fault>
-    requires log { ReadsAs log.now records }
-    requires options { AreInRange options.now }
+) -> Result<Remade, Fault>
+    requires { AreInRange options.now }
 
     // On the bytes of a log and its store that are lawful over any base pages.
-    ensures lawful { (base : BasePages) (text : List ℕ) → Decodes text decoded
-        → (bytes : AreLawful base log.now text)
+    ensures lawful { (base : BasePages) (log text : List ℕ) → ReadsAs log records.entry
+        → Decodes text decoded → (bytes : AreLawful base log text)
         → MatchResult result (λ x. Recovered base bytes.decoded.read bytes.decoded.before
-        (log_of x) (store_text x.store) x.report) (λ e. e ≡ NoResource) }
+        (log_of log x) (store_text x.store) x.report) (λ e. e ≡ NoResource) }
 
     // Wherever it answers.
-    ensures answer { IfOk result (λ x. (text : List ℕ) → Decodes text decoded
-        → Recovers log.now text (log_of x) (store_text x.store) x.report) }
+    ensures answer { IfOk result (λ x. (log text : List ℕ) → ReadsAs log records.entry
+        → Decodes text decoded
+        → Recovers log text (log_of log x) (store_text x.store) x.report) }
     ensures decoded { OnOk result (is_ok decoded ≡ true) }
 
     // A refusal has its cause in the input, memory aside.
-    ensures cause { IfErr result (λ e. (text : List ℕ) → Decodes text decoded
-        → Cause log.now text options.now e) }
+    ensures cause { IfErr result (λ e. (log text : List ℕ) → ReadsAs log records.entry
+        → Decodes text decoded → Cause log text options.now e) }
 {
     let (records, torn) = records?;
     let before = decoded?;
     let parting = Parting::by_number(alloc, before.pages.len() as u32, options.parts)?;
     let outcome = restart_in_place(rt, alloc, &records, before, &parting, options.workers, gate)?;
-    remade_of(alloc, log, &records, torn, outcome)
+    remade_of(alloc, &records, torn, outcome)
 }

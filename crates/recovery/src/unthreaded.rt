@@ -5,7 +5,7 @@ ghost use Rattle.page.specs.declared.fault.Fault.TheVariants.{NoResource};
 ghost use Rattle.wal.specs.Meaning.{BasePages};
 ghost use Rattle.recovery.specs.Recovery.{new_log, Recovers, AreLawful, Recovered, Cause};
 
-use crate::recovery::{Recovery, remade_of};
+use crate::recovery::{Recovery, Remade, remade_of};
 use page::{Fault, decode_store, encode_store_into};
 use restart::restart_alone;
 use std::alloc::Global;
@@ -46,12 +46,23 @@ pub fn recovery_alone<'a>(
     let (records, torn) = read_log(alloc, log)?;
     let before = decode_store(alloc, &store)?;
     let outcome = restart_alone(alloc, &records, before)?;
-    let remade = remade_of(alloc, log, &records, torn, outcome)?;
-    encode_store_into(&remade.store, &mut store)?;
+    let Remade {
+        frames,
+        store: made,
+        report,
+    } = remade_of(alloc, &records, torn, outcome)?;
+    encode_store_into(&made, &mut store)?;
     Ok(Recovery {
-        kept: remade.kept,
-        frames: remade.frames,
+        kept: without_last(log, report.torn),
+        frames,
         store,
-        report: remade.report,
+        report,
     })
+}
+
+/// Bytes without so many of the last ones.
+fn without_last(bytes: &[u8], count: u64) -> &[u8]
+    ensures { result.now ≡ take (length bytes.now - count) bytes.now }
+{
+    &bytes[..bytes.len().saturating_sub(count as usize)]
 }

@@ -2,6 +2,7 @@
 
 mod devices;
 mod gate;
+mod long_logs;
 mod recoveries;
 
 use std::test::Fail;

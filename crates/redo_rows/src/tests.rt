@@ -1,5 +1,6 @@
 //! The rounds of redo, and logs that several threads read.
 
+mod parts;
 mod rounds;
 mod stretches;
 

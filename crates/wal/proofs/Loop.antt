@@ -123,7 +123,7 @@ at_header begins bytes h = record {
 pub placed : (begins : LogStart) (bytes offsets : List ℕ) (offset : ℕ) → ReadSoFar begins bytes offsets offset → ArePlaces bytes offsets
 placed begins bytes offsets offset so_far = record { each = so_far.places; room = omega (arith, so_far.long, so_far.room) }
 
-record_read : (bytes : List ℕ) (offset lsn : ℕ) (r : LogRecord) → frame_at (drop offset bytes) ≡ Some (r, lsn) → record_of bytes offset ≡ r
+pub record_read : (bytes : List ℕ) (offset lsn : ℕ) (r : LogRecord) → frame_at (drop offset bytes) ≡ Some (r, lsn) → record_of bytes offset ≡ r
 unfolding record_of
 record_read bytes offset lsn r e = ap (λ o. unwrap_or (option_map (λ x. x.0) o) CheckpointBegin) e
 

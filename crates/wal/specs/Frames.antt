@@ -1,5 +1,5 @@
 -- Reading the frames of a log from left to right, with the first fault that is met (own).
-use Rattle.std.specs.Prelude.{◌≡◌, ℕ, zero, suc, ◌+◌, ◌*◌, ◌≤◌, ◌<◌, true, All, ◌||◌, List, [], ◌∷◌, length, take, drop, Option, Some, None, Result, Ok, Err, nat_lt, ◌==◌, if◌then◌else◌, is_some, option_map, unwrap_or, ⊤}
+use Rattle.std.specs.Prelude.{◌≡◌, ℕ, zero, suc, ◌+◌, ◌*◌, ◌^◌, ◌≤◌, ◌<◌, true, All, ◌||◌, List, [], ◌∷◌, length, take, drop, Option, Some, None, Result, Ok, Err, nat_lt, ◌==◌, if◌then◌else◌, get_or, is_some, option_map, unwrap_or, ⊤}
 use Rattle.std.specs.Int.{w32, from_be_bytes}
 use Rattle.page.specs.declared.fault.Fault.{Fault}
 use Rattle.page.specs.declared.fault.Fault.TheVariants.{NoResource, BadLogHeader, BadLength, BadRecord, BadLsn}
@@ -36,14 +36,18 @@ pub record ArePlaces (bytes : List ℕ) (offsets : List ℕ) : Type 0 where
   pub each : All (IsPlace bytes) offsets
   pub room : HEADER_BYTES + SMALLEST_FRAME * length offsets ≤ length bytes
 
--- a log that begins so, by the offsets of its frames
-pub record IsLog (begins : LogStart) (bytes : List ℕ) (offsets : List ℕ) : Type 0 where
+-- these records, each in bytes of its own behind the header, are those of a log that begins so
+pub record IsLog (begins : LogStart) (records : List LogRecord) : Type 0 where
   pub starts : FitsStart begins
-  pub places : ArePlaces bytes offsets
+  pub room : HEADER_BYTES + SMALLEST_FRAME * length records < 2 ^ 63
 
 -- the record of the frame at an offset (some record, where none is)
 unfoldable pub record_of : List ℕ → ℕ → LogRecord
 record_of bytes offset = unwrap_or (option_map (λ x. x.0) (frame_at (drop offset bytes))) CheckpointBegin
+
+-- the record with this number from 0 (some record, where there is none)
+abbrev pub entry_at : List LogRecord → ℕ → LogRecord
+entry_at records index = get_or records index CheckpointBegin
 
 -- READING
 -- a body that was looked at: it spells no record, or has the wrong LSN, or is the frame

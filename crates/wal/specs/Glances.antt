@@ -28,6 +28,11 @@ owner_seen (seen.End tx) = Some tx
 owner_seen (seen.Prepare tx) = Some tx
 owner_seen seen.Checkpoint = None
 
+-- what is seen of this record, which has a spelling
+pub record IsGlanceOf (entry : LogRecord) (glance : Glance) : Type 0 where
+  pub seen_of : glance ≡ glance_of entry
+  pub fits : Fits entry
+
 -- what is seen behind an LSN: of the record whose LSN is one more, which has a spelling
 pub record IsGlanceBehind (log : History) (lsn : ℕ) (glance : Glance) : Type 0 where
   pub entry : LogRecord

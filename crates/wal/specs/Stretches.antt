@@ -4,7 +4,7 @@ use Rattle.page.specs.declared.fault.Fault.{Fault}
 use Rattle.page.specs.declared.fault.Fault.TheVariants.{NoResource}
 use Rattle.wal.specs.declared.header.LogStart.{LogStart}
 use Rattle.wal.specs.declared.stretch.Stretch.{Stretch}
-use Rattle.wal.specs.Records.{LogRecord, lsn_before}
+use Rattle.wal.specs.Records.{LogRecord, LogContent, lsn_before}
 use Rattle.wal.specs.Frames.{IsPlace, record_of, next_at, frames_at, frames_behind, ◌>>=◌}
 use Rattle.wal.specs.declared.sizes.TheConstants.{HEADER_BYTES, SMALLEST_FRAME}
 
@@ -14,18 +14,25 @@ AreFrames bytes lsn from [] to = from ≡ to
 AreFrames bytes lsn from (offset ∷ offsets) to =
     (offset ≡ from) × (r : LogRecord) × (size : ℕ) × (next_at lsn from (drop from bytes) ≡ Ok (Some (r, size))) × AreFrames bytes (suc lsn) (from + size) offsets to
 
+-- a base LSN and an LSN for each 13 bytes are below it
+abbrev pub LeavesRoom : ℕ → Type 0
+LeavesRoom lsn = lsn ≤ 3 * 2 ^ 62
+
 pub record IsStretch (bytes : List ℕ) (s : Stretch) : Type 0 where
   pub frames : AreFrames bytes s.lsn s.begin s.offsets s.end
   pub room : s.end ≤ length bytes
+  pub long : s.begin + SMALLEST_FRAME * length s.offsets ≤ s.end
+  pub low : LeavesRoom s.lsn
 
 -- a stretch, or none, where memory for it was there
 abbrev pub IfStretch : List ℕ → Result (Option Stretch) Fault → Type 0
 IfStretch bytes (Ok found) = IfSome found (IsStretch bytes)
 IfStretch bytes (Err e) = e ≡ NoResource
 
--- a base LSN and an LSN for each 13 bytes are below it
-abbrev pub LeavesRoom : ℕ → Type 0
-LeavesRoom lsn = lsn ≤ 3 * 2 ^ 62
+-- the log whose frames are these of the bytes in front and those of the bytes behind
+abbrev pub log_of_stretches : LogStart → (front back : List ℕ) → (first second : Stretch) → LogContent
+log_of_stretches begins front back first second =
+    record { begins = begins; records = map (record_of front) first.offsets ++ map (record_of back) second.offsets }
 
 -- what was read before, and what is still read
 abbrev pub with_front : List LogRecord → Result (List LogRecord × ℕ) Fault → Result (List LogRecord × ℕ) Fault

@@ -12,10 +12,12 @@ mod frame;
 mod glance;
 mod header;
 mod image;
+mod joining;
 mod laws;
 mod log;
 mod next;
 mod offsets;
+mod part;
 mod reading;
 mod record;
 mod sizes;
@@ -27,12 +29,14 @@ pub use frame::write_frame;
 pub use glance::Glance;
 pub use header::LogStart;
 pub use image::Body;
+pub use joining::{cut_of, first_stretch, next_stretch};
 pub use laws::{
     cuts_compose, cuts_resume, cuts_settle, hops_meet_pending, lawful_by_record, losers_end,
     no_fault_of_a_log, one_log_fault, one_reading, redo_replays, redo_suffices, replay_is_winners,
     restart_goes_on, store_settles, table_tells_doubt, tail_settles, undo_is_tail,
 };
-pub use log::{Log, read_log, read_log_by};
+pub use log::{Log, log_in_parts, read_log, read_log_by};
 pub use record::{Entry, Record, State};
 pub use sizes::TRANSACTIONS;
+pub use stretch::Stretch;
 pub use view::{DirtyTable, RecordView, TransactionTable, value_of};

@@ -1,43 +1,46 @@
 //! A log that lies in bytes.
 
-ghost use Rattle.std.specs.Prelude.{◌≡◌, ◌+◌, ◌<◌, ◌≤◌, ◌^◌, ℕ, All, length, map, drop, Some, option_map, IfErr, IfOk, IfSome, Ok, ◌*◌};
+ghost use Rattle.std.specs.Prelude.{◌≡◌, ◌+◌, ◌*◌, ◌<◌, ◌≤◌, ◌^◌, ◌++◌, ℕ, length, Some, None, option_map, IfErr, IfNone, IfOk, IfSome, Ok};
 ghost use Rattle.wal.specs.Glances.{IsGlanceBehind};
 ghost use Rattle.wal.specs.Meaning.{image_in};
-ghost use Rattle.wal.specs.Records.{LogContent, start, ◌▸◌, ◌▸▸◌, history, last_lsn, base_lsn, record_at, first};
-ghost use Rattle.wal.specs.Frames.{IsPlace, record_of, frame_at, log_at, Gives, IsLog};
+ghost use Rattle.wal.specs.Records.{LogContent, ◌▸◌, history, last_lsn, base_lsn, record_at, first};
+ghost use Rattle.wal.specs.Frames.{entry_at, log_at, Gives, IsLog};
 ghost use Rattle.wal.specs.Reads.{Cause, Reads};
+ghost use Rattle.wal.specs.Stretches.{IsStretch};
 ghost use Rattle.wal.specs.Spelling.{Fits};
 ghost use Rattle.wal.specs.Content.{shown};
 ghost use Rattle.wal.specs.declared.sizes.TheConstants.{HEADER_BYTES, LARGEST_BASE, SMALLEST_FRAME};
 
-use crate::frame::body_at;
-use crate::glance::{Glance, body_here, glance_here};
+use crate::glance::Glance;
 use crate::header::{LogStart, start_at};
 use crate::image::Body;
+use crate::joining::{first_stretch, torn_behind};
 use crate::offsets::Offsets;
-use crate::reading::{offsets_by, offsets_of};
+use crate::part::Part;
+use crate::reading::offsets_of;
+use crate::stretch::Stretch;
 use crate::view::RecordView;
 use page::{Fault, Value};
 use std::alloc::Global;
 use std::marker::Model;
 use std::thread::Threads;
 
-/// A log that stays in the bytes that it was read from. Beside them it holds one offset for each
-/// record, of 4 bytes in the first 4 GiB and of 8 behind them. Contracts see its content: how it
-/// begins, and its records, whose LSNs go on from there.
+/// A log that stays in the bytes that it was read from, which may lie in two parts. Beside them it
+/// holds one offset for each record, of 4 bytes in the first 4 GiB of a part and of 8 behind them.
+/// Contracts see its content: how it begins, and its records, whose LSNs go on from there.
 #[derive(Drop)]
 pub struct Log<'a> {
-    bytes: &'a [u8],
     begins: LogStart,
-    offsets: Offsets,
+    front: Part<'a>,
+    back: Part<'a>,
 }
 
 impl<'a> Model for Log<'a> {
     ghost Value = { LogContent };
 
-    ghost view = { λ log. record { begins = log.begins; records = map (record_of log.bytes.now) log.offsets } };
+    ghost view = { λ log. record { begins = log.begins; records = log.front ++ log.back } };
 
-    ghost invariant = { λ log. IsLog log.begins log.bytes.now log.offsets };
+    ghost invariant = { λ log. IsLog log.begins (log.front ++ log.back) };
 }
 
 impl<'a> Log<'a> {
@@ -45,14 +48,14 @@ impl<'a> Log<'a> {
     pub fn len(&self) -> u64
         ensures { result ≡ length self.now.records }
     {
-        self.offsets.len() as u64
+        (self.front.len() + self.back.len()) as u64
     }
 
     /// The LSN of its last record; where it has none, the base LSN. It is the sum of `base` and `len`.
     pub fn last(&self) -> u64
         ensures { result ≡ last_lsn (history self.now) }
     {
-        self.begins.base() + self.offsets.len() as u64
+        self.begins.base() + self.len()
     }
 
     /// The base LSN, behind which the log begins: its first record has the next one. It is 0 in
@@ -73,8 +76,7 @@ impl<'a> Log<'a> {
         ensures low { base_lsn (history self.now) ≤ LARGEST_BASE }
         ensures room { HEADER_BYTES + SMALLEST_FRAME * length self.now.records < 2 ^ 63 }
     {
-        let _room = self.bytes.len();
-        self.last() + 1
+        self.begins.base() + 1 + self.len()
     }
 
     /// The record at an LSN, None up to the base LSN and past the end. It is decoded from the bytes
@@ -85,7 +87,8 @@ impl<'a> Log<'a> {
         ensures found { option_map shown result ≡ record_at (history self.now) lsn }
         ensures fits { IfSome result (λ view. Fits (shown view)) }
     {
-        record_in(self.bytes, &self.offsets, self.begins.base(), lsn)
+        let (part, index) = self.place(self.number_of(lsn)?);
+        part.get(index)
     }
 
     /// The body of the record at an LSN, that of no record up to the base LSN and past the end. Where
@@ -95,12 +98,11 @@ impl<'a> Log<'a> {
     pub fn body(&self, lsn: u64) -> Body<'a>
         ensures { result ≡ record_at (history self.now) lsn }
     {
-        let base = self.begins.base();
-        if lsn <= base || lsn > self.last() {
+        let Some(number) = self.number_of(lsn) else {
             return Body::none();
-        }
-        let offset = self.offsets.get((lsn - base - 1) as usize);
-        Body::at(self.bytes, offset)
+        };
+        let (part, index) = self.place(number);
+        part.body(index)
     }
 
     /// The image that the record at an LSN put into its cell, as `Body::image` tells it: None up to
@@ -135,44 +137,43 @@ impl<'a> Log<'a> {
         requires to { lsn < last_lsn (history self.now) }
         ensures { IsGlanceBehind (history self.now) lsn result }
     {
-        let offset = self.offsets.get((lsn - self.base()) as usize);
-        match glance_here(self.bytes, offset) {
-            Some(glance) => glance,
-            None => unreachable!(),
+        let (part, index) = self.place((lsn - self.base()) as usize);
+        part.glance(index)
+    }
+
+    /// The number, from 0, of the record at an LSN; None up to the base LSN and past the end.
+    #[inline(always)]
+    fn number_of(&self, lsn: u64) -> Option<usize>
+        ensures some { IfSome result (λ number. (number < length self.now.records)
+            × (record_at (history self.now) lsn ≡ Some (entry_at self.now.records number))) }
+        ensures none { IfNone result (record_at (history self.now) lsn ≡ None) }
+    {
+        let base = self.begins.base();
+        if lsn <= base || lsn > self.last() {
+            return None;
         }
+        Some((lsn - base - 1) as usize)
     }
-}
 
-fn record_in<'a>(bytes: &'a [u8], offsets: &Offsets, base: u64, lsn: u64) -> Option<RecordView<'a>>
-    requires { All (IsPlace bytes.now) offsets.now }
-    ensures found { option_map shown result
-        ≡ record_at (start base ▸▸ map (record_of bytes.now) offsets.now) lsn }
-    ensures fits { IfSome result (λ view. Fits (shown view)) }
-{
-    if lsn <= base {
-        return None;
-    }
-    if lsn - base > offsets.len() as u64 {
-        return None;
-    }
-    let offset = offsets.get((lsn - base - 1) as usize);
-    record_here(bytes, offset)
-}
-
-fn record_here(bytes: &[u8], offset: usize) -> Option<RecordView>
-    requires { IsPlace bytes.now offset }
-    ensures found { option_map shown result
-        ≡ option_map (λ x. x.0) (frame_at (drop offset bytes.now)) }
-    ensures fits { IfSome result (λ view. Fits (shown view)) }
-{
-    match body_at(body_here(bytes, offset)) {
-        Some((view, _)) => Some(view),
-        None => None,
+    /// The part that has the record with this number from 0, and the record's number there.
+    #[inline(always)]
+    fn place(&self, number: usize) -> (&Part<'a>, usize)
+        requires { number < length self.now.records }
+        ensures within { result.1 < length result.0.now }
+        ensures there { entry_at result.0.now result.1 ≡ entry_at self.now.records number }
+    {
+        let count = self.front.len();
+        if number < count {
+            (&self.front, number)
+        } else {
+            (&self.back, number - count)
+        }
     }
 }
 
 #[tactic(auto, unfolding(crate::specs::Frames::log_at))]
 fn read_in<'a>(alloc: Global, bytes: &'a [u8]) -> Result<(Log<'a>, usize), Fault>
+    requires { length bytes.now < 2 ^ 63 }
     ensures { Gives (λ x. x) result (log_at bytes.now) }
 {
     let Some(begins) = start_at(bytes) else {
@@ -181,32 +182,9 @@ fn read_in<'a>(alloc: Global, bytes: &'a [u8]) -> Result<(Log<'a>, usize), Fault
     let (offsets, torn) = offsets_of(alloc, begins, bytes)?;
     Ok((
         Log {
-            bytes,
             begins,
-            offsets,
-        },
-        torn,
-    ))
-}
-
-#[tactic(auto, unfolding(crate::specs::Frames::log_at))]
-fn read_in_by<'a, R: Threads + Sync>(
-    rt: &R,
-    alloc: Global,
-    bytes: &'a [u8],
-    threads: usize,
-) -> Result<(Log<'a>, usize), Fault>
-    ensures { Gives (λ x. x) result (log_at bytes.now) }
-{
-    let Some(begins) = start_at(bytes) else {
-        return Err(Fault::BadLogHeader);
-    };
-    let (offsets, torn) = offsets_by(rt, alloc, begins, bytes, threads)?;
-    Ok((
-        Log {
-            bytes,
-            begins,
-            offsets,
+            front: Part::new(&[], Offsets::with_room(alloc, 0)),
+            back: Part::new(bytes, offsets),
         },
         torn,
     ))
@@ -237,6 +215,31 @@ pub fn read_log<'a>(alloc: Global, bytes: &'a [u8]) -> Result<(Log<'a>, usize), 
     read_in(alloc, bytes)
 }
 
+/// The log whose frames two stretches are: one of the bytes in front, from behind their header on, and
+/// one of those that come behind. With it how many bytes its torn tail has. None where the stretches
+/// are not all of its frames: where the first one ends before the bytes in front do and there are some
+/// behind, where the second does not go on with the LSN behind, or where what comes behind them is no
+/// torn tail.
+pub fn log_in_parts<'a>(
+    front: &'a [u8],
+    back: &'a [u8],
+    first: Stretch,
+    second: Stretch,
+) -> Option<(Log<'a>, usize)>
+    requires first { IsStretch front.now first }
+    requires second { IsStretch back.now second }
+    ensures { IfSome result (λ x. Reads (front.now ++ back.now) x.0 x.1) }
+{
+    let begins = start_at(front)?;
+    let torn = torn_behind(begins, front, back, &first, &second)?;
+    let log = Log {
+        begins,
+        front: Part::new(front, first.offsets),
+        back: Part::new(back, second.offsets),
+    };
+    Some((log, torn))
+}
+
 /// As [`read_log`], with its answers and errors, in as many threads as this where the log is long:
 /// each takes a stretch of the bytes, guesses where its first frame begins, and reads on from there.
 /// What it read counts where the frames in front of it end just there, with the LSN before; else
@@ -252,6 +255,10 @@ pub fn read_log_by<'a, R: Threads + Sync>(
         → Gives (λ x. x) result (Ok (log, torn)) }
     ensures fault { IfErr result (Cause bytes.now) }
 {
-    let _len = bytes.len();
-    read_in_by(rt, alloc, bytes, threads)
+    if let Some(first) = first_stretch(rt, alloc, bytes, threads)? {
+        if let Some(found) = log_in_parts(bytes, &[], first, Stretch::none(alloc)) {
+            return Ok(found);
+        }
+    }
+    read_log(alloc, bytes)
 }

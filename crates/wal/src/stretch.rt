@@ -1,12 +1,10 @@
 //! Stretches of a log, which several threads read at once: each guesses where a frame begins.
 
-ghost use Rattle.std.specs.Prelude.{◌≡◌, ◌≤◌, ◌<◌, ◌+◌, All, length, IfOk, IfSome, IsOkUnless};
+ghost use Rattle.std.specs.Prelude.{◌≡◌, ◌≤◌, ◌<◌, ◌+◌, ℕ, List, All, length, IfOk, IfSome, IsOkUnless};
 ghost use Rattle.page.specs.declared.fault.Fault.TheVariants.{NoResource};
-ghost use Rattle.wal.specs.Headers.{header_bytes};
 ghost use Rattle.wal.specs.Stretches.{IsStretch, IfStretch, LeavesRoom};
 
 use crate::field::u64_at;
-use crate::header::LogStart;
 use crate::next::next_at;
 use crate::offsets::Offsets;
 use page::Fault;
@@ -18,16 +16,30 @@ use std::thread::Threads;
 pub const SMALLEST_STRETCH: usize = 1 << 16;
 
 /// The largest LSN that a guess takes: each record behind it in a log has room for its LSN.
-const LARGEST_GUESS: u64 = 3 << 62;
+pub const LARGEST_GUESS: u64 = 3 << 62;
 
-/// Frames one behind the other. The first begins at `begin` and has LSN `lsn`; behind the last
-/// stands `end`.
+/// Frames one behind the other in some bytes. The first begins at `begin` and has LSN `lsn`; behind
+/// the last stands `end`.
 #[derive(Drop)]
 pub struct Stretch {
     pub lsn: u64,
     pub begin: usize,
     pub offsets: Offsets,
     pub end: usize,
+}
+
+impl Stretch {
+    /// No frames, in front of any bytes.
+    pub fn none(alloc: Global) -> Stretch
+        ensures { (bytes : List ℕ) → IsStretch bytes result }
+    {
+        Stretch {
+            lsn: 1,
+            begin: 0,
+            offsets: Offsets::with_room(alloc, 0),
+            end: 0,
+        }
+    }
 }
 
 /// The frames from `begin` on, of which the first is to have this LSN: until one ends at `upto` or
@@ -85,7 +97,7 @@ fn lsn_in_front(bytes: &[u8]) -> Option<u64>
 
 /// The first place from `from` on, and in front of `upto`, that looks as if a frame began there, and
 /// that frame's LSN. Bytes of a value may look so too.
-fn guess(bytes: &[u8], from: usize, upto: usize) -> Option<(u64, usize)>
+pub fn guess(bytes: &[u8], from: usize, upto: usize) -> Option<(u64, usize)>
     requires { upto ≤ length bytes.now }
     ensures { IfSome result (λ x. LeavesRoom x.0 × (x.1 ≤ length bytes.now)) }
 {
@@ -98,22 +110,21 @@ fn guess(bytes: &[u8], from: usize, upto: usize) -> Option<(u64, usize)>
     None
 }
 
-/// The stretch that a thread reads: of `count` about equal parts of what stands behind the header,
-/// the frames that begin in the one with this number, if a frame seems to begin there.
+/// The stretch that a thread reads: of `count` about equal shares of what stands from `begin` on, the
+/// frames that begin in the one with this number, if a frame seems to begin there.
 fn guessed_stretch(
     alloc: Global,
-    begins: LogStart,
+    begin: usize,
     bytes: &[u8],
     count: usize,
     number: usize,
 ) -> Result<Option<Stretch>, Fault>
     requires number { number < count }
-    requires room { header_bytes begins ≤ length bytes.now }
+    requires begin { begin ≤ length bytes.now }
     ensures { IfStretch bytes.now result }
 {
-    let header = begins.header_bytes();
-    let share = (bytes.len() - header) / count;
-    let from = header + share * number;
+    let share = (bytes.len() - begin) / count;
+    let from = begin + share * number;
     let Some((lsn, begin)) = guess(bytes, from, from + share) else {
         return Ok(None);
     };
@@ -141,23 +152,23 @@ fn all_of(
     Ok(stretches)
 }
 
-/// The stretches of a log that `threads` threads read, of about the same length, in their order.
+/// The stretches behind `begin` that `threads` threads read, of about the same length, in their order.
 /// The only error is `NoResource`.
 pub fn stretches_of<R: Threads + Sync>(
     rt: &R,
     alloc: Global,
-    begins: LogStart,
+    begin: usize,
     bytes: &[u8],
     threads: usize,
 ) -> Result<Vec<Stretch>, Fault>
-    requires room { header_bytes begins ≤ length bytes.now }
+    requires begin { begin ≤ length bytes.now }
     ensures each { IfOk result (λ stretches. All (IsStretch bytes.now) stretches.items) }
     ensures err { IsOkUnless result NoResource }
 {
     let worker = |number: usize| -> Result<Option<Stretch>, Fault>
-        requires { (number < threads) × (header_bytes begins ≤ length bytes.now) }
+        requires { (number < threads) × (begin ≤ length bytes.now) }
         ensures { IfStretch bytes.entry.now result }
-    { guessed_stretch(alloc, begins, bytes, threads, number) };
+    { guessed_stretch(alloc, begin, bytes, threads, number) };
     let results = thread::map_indices(rt, alloc, threads, &worker)?;
     all_of(alloc, bytes, results)
 }

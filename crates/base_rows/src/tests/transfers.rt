@@ -2,7 +2,8 @@
 
 use super::{check, check_all, check_at};
 use device::{
-    MemorySink, MemorySource, Pace, ReadFault, Sink, SlowSink, SlowSource, read_all, write_all,
+    MemorySink, MemorySource, Pace, ReadFault, Sink, SlowSink, SlowSource, read_all, read_front,
+    read_rest, write_all,
 };
 use std::alloc::{AllocError, Global};
 use std::test::Fail;
@@ -70,6 +71,26 @@ fn fails_to_read(alloc: Global, length: usize, pace: Pace) -> bool {
     matches!(is_read(alloc, length, pace), Err(ReadFault::Failed))
 }
 
+/// Three bytes in front, and behind them this much room.
+fn front_and_room(alloc: Global, room: u32) -> Result<Vec<u8>, AllocError> {
+    let mut bytes = Vec::new(alloc);
+    bytes.extend_from_slice(b"abc")?;
+    bytes.resize(3 + room as usize, 255)?;
+    Ok(bytes)
+}
+
+/// Whether reading the rest of a source of that many bytes behind three bytes, into this much room,
+/// gives the three and then all of the source.
+fn is_read_behind(alloc: Global, length: usize, room: u32) -> Result<bool, Fail> {
+    let rest = counted(alloc, length)?;
+    let mut wanted = front_and_room(alloc, 0)?;
+    wanted.extend_from_slice(&rest)?;
+    let mut bytes = front_and_room(alloc, room)?;
+    let filled = bytes.len().min(3);
+    read_rest(&mut MemorySource::new(&rest), &mut bytes, filled)?;
+    Ok(bytes.as_slice() == wanted.as_slice())
+}
+
 #[test]
 fn memory_gives_all(rt: HostRuntime) -> Result<(), Fail> {
     let bytes = counted(rt.alloc(), 200_000)?;
@@ -86,6 +107,37 @@ fn a_hint_is_no_length(rt: HostRuntime) -> Result<(), Fail> {
         check_at(hint, is_read, "read by a hint of")?;
     }
     Ok(())
+}
+
+#[test]
+fn memory_gives_its_front(rt: HostRuntime) -> Result<(), Fail> {
+    let alloc = rt.alloc();
+    let bytes = counted(alloc, 200_000)?;
+    let front = read_front(alloc, &mut MemorySource::new(&bytes), 10)?;
+    let few = counted(alloc, 7)?;
+    let all = read_front(alloc, &mut MemorySource::new(&few), 10)?;
+    check_all(&[
+        (front.len() >= 10, "as many as are wanted"),
+        (front.len() <= 10 + 65_536, "few more"),
+        (bytes.starts_with(&front), "a beginning"),
+        (all.as_slice() == few.as_slice(), "all of a short source"),
+    ])
+}
+
+#[test]
+fn the_rest_is_read_behind_a_front(rt: HostRuntime) -> Result<(), Fail> {
+    let alloc = rt.alloc();
+    check_all(&[
+        (is_read_behind(alloc, 10, 0)?, "without room"),
+        (is_read_behind(alloc, 0, 5)?, "nothing into room"),
+        (is_read_behind(alloc, 10, 5)?, "more than the room takes"),
+        (is_read_behind(alloc, 2, 5)?, "less than the room takes"),
+        (
+            is_read_behind(alloc, 200_000, 100_000)?,
+            "more than much room",
+        ),
+        (is_read_behind(alloc, 7, 100_000)?, "less than much room"),
+    ])
 }
 
 #[test]

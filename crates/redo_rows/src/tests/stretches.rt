@@ -9,15 +9,15 @@ use wal::{Log, Record, read_log_by, write_frame};
 
 /// How many records the log has, and how many bytes each takes: four threads read it, and where they
 /// begin to is in the middle of a frame.
-const RECORDS: u64 = 5_201;
+pub const RECORDS: u64 = 5_201;
 
-const FRAME_BYTES: usize = 53;
+pub const FRAME_BYTES: usize = 53;
 
 /// The frame of a checkpoint begin with LSN 7: bytes that a value may hold.
 const FRAME_IN_A_VALUE: &[u8] = b"\x00\x00\x00\x09\x06\x00\x00\x00\x00\x00\x00\x00\x07";
 
 /// A log of updates, each of which puts its LSN into a cell that held this value.
-fn updates(alloc: Global, held: &[u8]) -> Result<Vec<u8>, Fault> {
+pub fn updates(alloc: Global, held: &[u8]) -> Result<Vec<u8>, Fault> {
     let mut log = Vec::from_slice(alloc, b"ARIESLG1")?;
     for prev in 0..RECORDS {
         let lsn = prev + 1;
@@ -35,7 +35,7 @@ fn updates(alloc: Global, held: &[u8]) -> Result<Vec<u8>, Fault> {
 }
 
 /// Whether these are the first records of the log, each at its LSN.
-fn are_at_their_lsns(log: &Log, records: u64) -> bool {
+pub fn are_at_their_lsns(log: &Log, records: u64) -> bool {
     for prev in 0..records {
         let is_lsn = match log.image(prev + 1) {
             Some(image) => image.as_slice() == (prev + 1).to_be_bytes().as_slice(),

@@ -1,60 +1,70 @@
-use Rattle.std.proofs.Common.{refl, inl, inr}
+use Rattle.std.proofs.Common.{◌≡◌, List, ℕ, ◌++◌, refl, inl, inr, sym, ap, subst, ◌∙◌}
 use Rattle.std.proofs.lemmas.Result.{err_from_is_err_and}
 use Rattle.page.specs.File.{store_text}
-use Rattle.recovery.specs.Recovery.{log_of}
+use Rattle.recovery.specs.LogText.{text_of}
+use Rattle.recovery.specs.Recovery.{log_of, ReadsAs, Recovers, Recovered}
 use Rattle.recovery.specs.Devices.{Makes}
 use Rattle.recovery.proofs.Decoded.{both_read, read_whole}
-use Rattle.recovery.proofs.Delivered.{lent_read, lent_makes, lent_lawful, device_cause, nothing_out, is_resource, left_out, cut_lawful, completed}
+use Rattle.recovery.proofs.Delivered.{makes, told_lawful, device_cause, nothing_out, is_resource, left_out, cut_lawful, completed}
 use Rattle.recovery.proofs.Resuming.{leaves_cut}
 use Rattle.recovery.proofs.devices.recover.Goals as goal
 
 pub returns-in_err-remade-clause-lawful : goal.returns-in_err-remade-clause-lawful
-returns-in_err-remade-clause-lawful g c = λ base log_text store_text tells_log tells_store range bytes.
+returns-in_err-remade-clause-lawful g c = λ base log_text store_bytes tells_log tells_store range bytes.
     let exit = err_from_is_err_and c.from_residual-in_err-remade.result c.from_residual-in_err-remade.ensures.1 in
-    let (text, read, decodes) = both_read c.in_ok-decoded.decoded c.in_ok-log_text.ensures.gave c.in_ok-decoded.was c.decode_both-records.ensures.read in
-    rw (exit.1, exit.2)
-    (is_resource c.in_err-remade.field-0.0
-    (c.in_err-remade.ensures.lawful base text decodes (lent_lawful c.in_ok-log_text.log_text.items c.deref-log_bytes.result.now text log_text store_text read c.deref-log_bytes.ensures.value tells_log tells_store bytes)))
+    let (text, read, decodes) = both_read c.in_ok-decoded.decoded c.in_ok-text.ensures.gave c.in_ok-decoded.was c.decode_both-found.ensures.read in
+    let log = text_of c.in_ok-text.text in
+    let reads : ReadsAs (text_of c.in_ok-text.text) c.found_or_read-records.result = c.found_or_read-records.ensures (text_of c.in_ok-text.text) c.decode_both-found.ensures.log (λ none. c.deref.ensures.value ∙ c.in_ok-joined.ensures.all (c.is_some.ensures ∙ none)) in
+    rw (exit.1, exit.2) (is_resource c.in_err-remade.field-0.0 (c.in_err-remade.ensures.lawful base log text reads decodes (told_lawful log text log_text store_bytes read tells_log tells_store bytes)))
 
 pub returns-in_err-remade-clause-interrupted : goal.returns-in_err-remade-clause-interrupted
-returns-in_err-remade-clause-interrupted g c = λ base log_text store_text tells_log tells_store range bytes.
+returns-in_err-remade-clause-interrupted g c = λ base log_text store_bytes tells_log tells_store range bytes.
     let exit = err_from_is_err_and c.from_residual-in_err-remade.result c.from_residual-in_err-remade.ensures.1 in
-    let (text, read, decodes) = both_read c.in_ok-decoded.decoded c.in_ok-log_text.ensures.gave c.in_ok-decoded.was c.decode_both-records.ensures.read in
-    rw (exit.1, exit.2)
-    (is_resource c.in_err-remade.field-0.0
-    (c.in_err-remade.ensures.lawful base text decodes (lent_lawful c.in_ok-log_text.log_text.items c.deref-log_bytes.result.now text log_text store_text read c.deref-log_bytes.ensures.value tells_log tells_store (cut_lawful bytes))))
+    let (text, read, decodes) = both_read c.in_ok-decoded.decoded c.in_ok-text.ensures.gave c.in_ok-decoded.was c.decode_both-found.ensures.read in
+    let log = text_of c.in_ok-text.text in
+    let reads : ReadsAs (text_of c.in_ok-text.text) c.found_or_read-records.result = c.found_or_read-records.ensures (text_of c.in_ok-text.text) c.decode_both-found.ensures.log (λ none. c.deref.ensures.value ∙ c.in_ok-joined.ensures.all (c.is_some.ensures ∙ none)) in
+    rw (exit.1, exit.2) (is_resource c.in_err-remade.field-0.0 (c.in_err-remade.ensures.lawful base log text reads decodes (told_lawful log text log_text store_bytes read tells_log tells_store (cut_lawful bytes))))
 
 pub returns-in_err-remade-clause-cause : goal.returns-in_err-remade-clause-cause
 returns-in_err-remade-clause-cause g c =
     let exit = err_from_is_err_and c.from_residual-in_err-remade.result c.from_residual-in_err-remade.ensures.1 in
-    let (text, read, decodes) = both_read c.in_ok-decoded.decoded c.in_ok-log_text.ensures.gave c.in_ok-decoded.was c.decode_both-records.ensures.read in
+    let (text, read, decodes) = both_read c.in_ok-decoded.decoded c.in_ok-text.ensures.gave c.in_ok-decoded.was c.decode_both-found.ensures.read in
+    let log = text_of c.in_ok-text.text in
+    let reads : ReadsAs (text_of c.in_ok-text.text) c.found_or_read-records.result = c.found_or_read-records.ensures (text_of c.in_ok-text.text) c.decode_both-found.ensures.log (λ none. c.deref.ensures.value ∙ c.in_ok-joined.ensures.all (c.is_some.ensures ∙ none)) in
     rw (exit.1, exit.2)
-    (device_cause (g.LR.Source.left c.args.log.now) (g.SR.Source.left c.args.store.now) c.args.options.now c.deref-log_bytes.result.now text c.in_err-remade.field-0.0
-    (lent_read _ _ c.in_ok-log_text.log_text.items c.deref-log_bytes.result.now text read c.deref-log_bytes.ensures.value)
-    (c.in_err-remade.ensures.cause text decodes))
+    (device_cause (g.LR.Source.left c.args.log.now) (g.SR.Source.left c.args.store.now) c.args.options.now log text c.in_err-remade.field-0.0 read (c.in_err-remade.ensures.cause log text reads decodes))
 
 pub returns-in_err-remade-clause-out : goal.returns-in_err-remade-clause-out
 returns-in_err-remade-clause-out g c =
     let exit = err_from_is_err_and c.from_residual-in_err-remade.result c.from_residual-in_err-remade.ensures.1 in
-    let (text, read, decodes) = both_read c.in_ok-decoded.decoded c.in_ok-log_text.ensures.gave c.in_ok-decoded.was c.decode_both-records.ensures.read in
-    rw (exit.1, exit.2)
-    (nothing_out _ _ _ _ c.deref-log_bytes.result.now text c.args.options.now c.in_err-remade.field-0.0 (c.in_err-remade.ensures.cause text decodes))
+    let (text, read, decodes) = both_read c.in_ok-decoded.decoded c.in_ok-text.ensures.gave c.in_ok-decoded.was c.decode_both-found.ensures.read in
+    let log = text_of c.in_ok-text.text in
+    let reads : ReadsAs (text_of c.in_ok-text.text) c.found_or_read-records.result = c.found_or_read-records.ensures (text_of c.in_ok-text.text) c.decode_both-found.ensures.log (λ none. c.deref.ensures.value ∙ c.in_ok-joined.ensures.all (c.is_some.ensures ∙ none)) in
+    rw (exit.1, exit.2) (nothing_out _ _ _ _ log text c.args.options.now c.in_err-remade.field-0.0 (c.in_err-remade.ensures.cause log text reads decodes))
 
 pub returns-in_err-write_both-clause-out : goal.returns-in_err-write_both-clause-out
 returns-in_err-write_both-clause-out g c =
     let exit = err_from_is_err_and c.from_residual-in_err-write_both.result c.from_residual-in_err-write_both.ensures.1 in
-    let (text, read, decodes) = both_read c.in_ok-decoded.decoded c.in_ok-log_text.ensures.gave c.in_ok-decoded.was c.decode_both-records.ensures.read in
+    let (text, read, decodes) = both_read c.in_ok-decoded.decoded c.in_ok-text.ensures.gave c.in_ok-decoded.was c.decode_both-found.ensures.read in
+    let log = text_of c.in_ok-text.text in
+    let reads : ReadsAs (text_of c.in_ok-text.text) c.found_or_read-records.result = c.found_or_read-records.ensures (text_of c.in_ok-text.text) c.decode_both-found.ensures.log (λ none. c.deref.ensures.value ∙ c.in_ok-joined.ensures.all (c.is_some.ensures ∙ none)) in
     let remade = c.in_ok-remade.remade in
+    let new = c.kept_of-kept.result ++ remade.frames.items in
+    let is : log_of log remade ≡ new = ap (λ (kept : List ℕ). kept ++ remade.frames.items) (sym c.kept_of-kept.ensures) in
     let made : Makes (g.LR.Source.left c.args.log.now) (g.SR.Source.left c.args.store.now) =
-    lent_makes c.in_ok-log_text.log_text.items c.deref-log_bytes.result.now text (log_of remade) (store_text remade.store) remade.report read c.deref-log_bytes.ensures.value (c.in_ok-remade.ensures.answer text decodes) in
+    makes log text new (store_text remade.store) remade.report read (subst (λ l. Recovers log text l (store_text remade.store) remade.report) is (c.in_ok-remade.ensures.answer log text reads decodes)) in
     rw (exit.1, exit.2) (left_out _ _ _ _ _ _ made c.in_err-write_both.field-0.0 c.in_err-write_both.ensures.fault)
 
 pub returns-in_err-write_both-clause-log_out_first : goal.returns-in_err-write_both-clause-log_out_first
 returns-in_err-write_both-clause-log_out_first g c =
-    let (text, read, decodes) = both_read c.in_ok-decoded.decoded c.in_ok-log_text.ensures.gave c.in_ok-decoded.was c.decode_both-records.ensures.read in
+    let (text, read, decodes) = both_read c.in_ok-decoded.decoded c.in_ok-text.ensures.gave c.in_ok-decoded.was c.decode_both-found.ensures.read in
+    let log = text_of c.in_ok-text.text in
+    let reads : ReadsAs (text_of c.in_ok-text.text) c.found_or_read-records.result = c.found_or_read-records.ensures (text_of c.in_ok-text.text) c.decode_both-found.ensures.log (λ none. c.deref.ensures.value ∙ c.in_ok-joined.ensures.all (c.is_some.ensures ∙ none)) in
     let remade = c.in_ok-remade.remade in
+    let new = c.kept_of-kept.result ++ remade.frames.items in
+    let is : log_of log remade ≡ new = ap (λ (kept : List ℕ). kept ++ remade.frames.items) (sym c.kept_of-kept.ensures) in
     let made : Makes (g.LR.Source.left c.args.log.now) (g.SR.Source.left c.args.store.now) =
-    lent_makes c.in_ok-log_text.log_text.items c.deref-log_bytes.result.now text (log_of remade) (store_text remade.store) remade.report read c.deref-log_bytes.ensures.value (c.in_ok-remade.ensures.answer text decodes) in
+    makes log text new (store_text remade.store) remade.report read (subst (λ l. Recovers log text l (store_text remade.store) remade.report) is (c.in_ok-remade.ensures.answer log text reads decodes)) in
     elim c.write_both.ensures.log_first [
       | inl same ↦ inl same
       | inr out ↦ inr (made, out)
@@ -63,30 +73,38 @@ returns-in_err-write_both-clause-log_out_first g c =
 pub returns-in_err-write_both-clause-resumable : goal.returns-in_err-write_both-clause-resumable
 returns-in_err-write_both-clause-resumable g c = λ base log_text store_bytes tells_log tells_store range bytes.
     let exit = err_from_is_err_and c.from_residual-in_err-write_both.result c.from_residual-in_err-write_both.ensures.1 in
-    let (text, read, decodes) = both_read c.in_ok-decoded.decoded c.in_ok-log_text.ensures.gave c.in_ok-decoded.was c.decode_both-records.ensures.read in
+    let (text, read, decodes) = both_read c.in_ok-decoded.decoded c.in_ok-text.ensures.gave c.in_ok-decoded.was c.decode_both-found.ensures.read in
+    let log = text_of c.in_ok-text.text in
+    let reads : ReadsAs (text_of c.in_ok-text.text) c.found_or_read-records.result = c.found_or_read-records.ensures (text_of c.in_ok-text.text) c.decode_both-found.ensures.log (λ none. c.deref.ensures.value ∙ c.in_ok-joined.ensures.all (c.is_some.ensures ∙ none)) in
     let remade = c.in_ok-remade.remade in
+    let new = c.kept_of-kept.result ++ remade.frames.items in
+    let is : log_of log remade ≡ new = ap (λ (kept : List ℕ). kept ++ remade.frames.items) (sym c.kept_of-kept.ensures) in
     let recovered =
-    c.in_ok-remade.ensures.lawful base text decodes (lent_lawful c.in_ok-log_text.log_text.items c.deref-log_bytes.result.now text log_text store_bytes read c.deref-log_bytes.ensures.value tells_log tells_store bytes) in
-    rw (exit.1, exit.2)
-    (leaves_cut bytes (log_of remade) recovered.reads (store_text remade.store) _ _ _ _ c.in_err-write_both.field-0.0 c.in_err-write_both.ensures.fault)
+    subst (λ l. Recovered base bytes.decoded.read bytes.decoded.before l (store_text remade.store) remade.report) is (c.in_ok-remade.ensures.lawful base log text reads decodes (told_lawful log text log_text store_bytes read tells_log tells_store bytes)) in
+    rw (exit.1, exit.2) (leaves_cut bytes new recovered.reads (store_text remade.store) _ _ _ _ c.in_err-write_both.field-0.0 c.in_err-write_both.ensures.fault)
 
 pub returns-in_err-write_both-clause-read_first : goal.returns-in_err-write_both-clause-read_first
 returns-in_err-write_both-clause-read_first g c =
-    inr (c.in_ok-log_text.ensures.end, read_whole _ _ c.in_ok-decoded.decoded c.in_ok-decoded.was c.decode_both-records.ensures.end c.in_ok-remade.ensures.decoded)
+    inr (c.in_ok-text.ensures.end, read_whole _ _ c.in_ok-decoded.decoded c.in_ok-decoded.was c.decode_both-found.ensures.end c.in_ok-remade.ensures.decoded)
 
 pub returns-clause-read_first : goal.returns-clause-read_first
 returns-clause-read_first g c =
-    inr (c.in_ok-log_text.ensures.end, read_whole _ _ c.in_ok-decoded.decoded c.in_ok-decoded.was c.decode_both-records.ensures.end c.in_ok-remade.ensures.decoded)
+    inr (c.in_ok-text.ensures.end, read_whole _ _ c.in_ok-decoded.decoded c.in_ok-decoded.was c.decode_both-found.ensures.end c.in_ok-remade.ensures.decoded)
 
 pub returns-clause-lawful : goal.returns-clause-lawful
 returns-clause-lawful g c = λ base log_text store_bytes tells_log tells_store range bytes.
-    let (text, read, decodes) = both_read c.in_ok-decoded.decoded c.in_ok-log_text.ensures.gave c.in_ok-decoded.was c.decode_both-records.ensures.read in
+    let (text, read, decodes) = both_read c.in_ok-decoded.decoded c.in_ok-text.ensures.gave c.in_ok-decoded.was c.decode_both-found.ensures.read in
+    let log = text_of c.in_ok-text.text in
+    let reads : ReadsAs (text_of c.in_ok-text.text) c.found_or_read-records.result = c.found_or_read-records.ensures (text_of c.in_ok-text.text) c.decode_both-found.ensures.log (λ none. c.deref.ensures.value ∙ c.in_ok-joined.ensures.all (c.is_some.ensures ∙ none)) in
     let remade = c.in_ok-remade.remade in
+    let new = c.kept_of-kept.result ++ remade.frames.items in
+    let is : log_of log remade ≡ new = ap (λ (kept : List ℕ). kept ++ remade.frames.items) (sym c.kept_of-kept.ensures) in
+    let recovered =
+    subst (λ l. Recovered base bytes.decoded.read bytes.decoded.before l (store_text remade.store) remade.report) is (c.in_ok-remade.ensures.lawful base log text reads decodes (told_lawful log text log_text store_bytes read tells_log tells_store bytes)) in
     record {
-      new_log = log_of remade;
+      new_log = new;
       new_store = store_text remade.store;
-      recovered =
-          c.in_ok-remade.ensures.lawful base text decodes (lent_lawful c.in_ok-log_text.log_text.items c.deref-log_bytes.result.now text log_text store_bytes read c.deref-log_bytes.ensures.value tells_log tells_store bytes);
+      recovered = recovered;
       log_out = c.in_ok-write_both.ensures.log_out.out;
       store_out = c.in_ok-write_both.ensures.store_out.out;
     }
@@ -97,23 +115,24 @@ returns-clause-interrupted g c = λ base log_text store_bytes tells_log tells_st
 
 pub returns-clause-answer : goal.returns-clause-answer
 returns-clause-answer g c =
-    let (text, read, decodes) = both_read c.in_ok-decoded.decoded c.in_ok-log_text.ensures.gave c.in_ok-decoded.was c.decode_both-records.ensures.read in
+    let (text, read, decodes) = both_read c.in_ok-decoded.decoded c.in_ok-text.ensures.gave c.in_ok-decoded.was c.decode_both-found.ensures.read in
+    let log = text_of c.in_ok-text.text in
+    let reads : ReadsAs (text_of c.in_ok-text.text) c.found_or_read-records.result = c.found_or_read-records.ensures (text_of c.in_ok-text.text) c.decode_both-found.ensures.log (λ none. c.deref.ensures.value ∙ c.in_ok-joined.ensures.all (c.is_some.ensures ∙ none)) in
     let remade = c.in_ok-remade.remade in
-    record {
-      made =
-          lent_makes c.in_ok-log_text.log_text.items c.deref-log_bytes.result.now text (log_of remade) (store_text remade.store) remade.report read c.deref-log_bytes.ensures.value
-          (c.in_ok-remade.ensures.answer text decodes);
-      report_is = refl;
-      log_out = c.in_ok-write_both.ensures.log_out.out;
-      store_out = c.in_ok-write_both.ensures.store_out.out;
-    }
+    let new = c.kept_of-kept.result ++ remade.frames.items in
+    let is : log_of log remade ≡ new = ap (λ (kept : List ℕ). kept ++ remade.frames.items) (sym c.kept_of-kept.ensures) in
+    let made : Makes (g.LR.Source.left c.args.log.now) (g.SR.Source.left c.args.store.now) =
+    makes log text new (store_text remade.store) remade.report read (subst (λ l. Recovers log text l (store_text remade.store) remade.report) is (c.in_ok-remade.ensures.answer log text reads decodes)) in
+    record { made = made; report_is = refl; log_out = c.in_ok-write_both.ensures.log_out.out; store_out = c.in_ok-write_both.ensures.store_out.out }
 
 pub returns-clause-log_out_first : goal.returns-clause-log_out_first
 returns-clause-log_out_first g c =
-    let (text, read, decodes) = both_read c.in_ok-decoded.decoded c.in_ok-log_text.ensures.gave c.in_ok-decoded.was c.decode_both-records.ensures.read in
+    let (text, read, decodes) = both_read c.in_ok-decoded.decoded c.in_ok-text.ensures.gave c.in_ok-decoded.was c.decode_both-found.ensures.read in
+    let log = text_of c.in_ok-text.text in
+    let reads : ReadsAs (text_of c.in_ok-text.text) c.found_or_read-records.result = c.found_or_read-records.ensures (text_of c.in_ok-text.text) c.decode_both-found.ensures.log (λ none. c.deref.ensures.value ∙ c.in_ok-joined.ensures.all (c.is_some.ensures ∙ none)) in
     let remade = c.in_ok-remade.remade in
-    inr (
-      lent_makes c.in_ok-log_text.log_text.items c.deref-log_bytes.result.now text (log_of remade) (store_text remade.store) remade.report read c.deref-log_bytes.ensures.value
-          (c.in_ok-remade.ensures.answer text decodes),
-      c.in_ok-write_both.ensures.log_out,
-    )
+    let new = c.kept_of-kept.result ++ remade.frames.items in
+    let is : log_of log remade ≡ new = ap (λ (kept : List ℕ). kept ++ remade.frames.items) (sym c.kept_of-kept.ensures) in
+    let made : Makes (g.LR.Source.left c.args.log.now) (g.SR.Source.left c.args.store.now) =
+    makes log text new (store_text remade.store) remade.report read (subst (λ l. Recovers log text l (store_text remade.store) remade.report) is (c.in_ok-remade.ensures.answer log text reads decodes)) in
+    inr (made, c.in_ok-write_both.ensures.log_out)

@@ -17,44 +17,48 @@ use Rattle.recovery.proofs.Resuming.{reads_extended}
 use Rattle.recovery.proofs.recovery.remade_of.Goals as goal
 
 pub returns-clause-answer : goal.returns-clause-answer
-returns-clause-answer c = λ text before spells restarts.
+returns-clause-answer c = λ log_bytes text before reads_log spells restarts.
     let read = c.args.records.now in
     let torn = c.args.torn in
     let log = history read in
     let told = c.args.outcome.appended.items in
     let appended : List LogRecord = records_of log told in
     let same : c.deref.result.now ≡ told = c.deref.ensures.value in
-    let bytes = take (length c.args.log.now - torn) c.args.log.now ++ c.in_ok-frames.frames.items in
+    let own = c.report_of-report.result.0.torn in
+    let kept : take (length log_bytes - own) log_bytes ≡ log_text read = ap (λ n. take (length log_bytes - n) log_bytes) (ap (λ (r : ReportContent). r.torn) c.report_of-report.ensures.report) ∙ kept_text log_bytes read torn reads_log in
+    let bytes = take (length log_bytes - own) log_bytes ++ c.in_ok-frames.frames.items in
     let log_is : bytes ≡ log_text (read ⧺ appended) =
-    text_extended read appended (take (length c.args.log.now - torn) c.args.log.now) c.in_ok-frames.frames.items (last_lsn log + 1)
-    (kept_text c.args.log.now read torn c.requires.reads) refl
+    text_extended read appended (take (length log_bytes - own) log_bytes) c.in_ok-frames.frames.items (last_lsn log + 1)
+    kept refl
     (c.in_ok-frames.ensures.frames ∙ ap (λ xs. spellings (last_lsn log + 1) (records_of log xs)) same) in
     let few : last_lsn log + length appended < 2 ^ 64 = omega (arith, c.in_ok-frames.ensures.room, ap length same, length-map told (record_of log)) in
     record {
-      decoded = record { read = read; torn = torn; before = before; reads = c.requires.reads; spells = spells };
+      decoded = record { read = read; torn = torn; before = before; reads = reads_log; spells = spells };
       outcome = outcome_in log c.args.outcome;
       restarts = restarts;
       log_is = log_is;
-      reads = reads_extended bytes read appended log_is c.requires.reads.starts c.requires.reads.each (told_fit log told c.requires.writable) few;
+      reads = reads_extended bytes read appended log_is reads_log.starts reads_log.each (told_fit log told c.requires.writable) few;
       store_is = ap store_text c.report_of-report.ensures.store;
       report_is = c.report_of-report.ensures.report;
     }
 
 pub returns-clause-lawful : goal.returns-clause-lawful
-returns-clause-lawful c = λ base before restored.
+returns-clause-lawful c = λ base log_bytes before reads_log restored.
     let read = c.args.records.now in
     let torn = c.args.torn in
     let log = history read in
     let told = c.args.outcome.appended.items in
     let appended : List LogRecord = records_of log told in
     let same : c.deref.result.now ≡ told = c.deref.ensures.value in
-    let bytes = take (length c.args.log.now - torn) c.args.log.now ++ c.in_ok-frames.frames.items in
+    let own = c.report_of-report.result.0.torn in
+    let kept : take (length log_bytes - own) log_bytes ≡ log_text read = ap (λ n. take (length log_bytes - n) log_bytes) (ap (λ (r : ReportContent). r.torn) c.report_of-report.ensures.report) ∙ kept_text log_bytes read torn reads_log in
+    let bytes = take (length log_bytes - own) log_bytes ++ c.in_ok-frames.frames.items in
     let log_is : bytes ≡ log_text (read ⧺ appended) =
-    text_extended read appended (take (length c.args.log.now - torn) c.args.log.now) c.in_ok-frames.frames.items (last_lsn log + 1)
-    (kept_text c.args.log.now read torn c.requires.reads) refl
+    text_extended read appended (take (length log_bytes - own) log_bytes) c.in_ok-frames.frames.items (last_lsn log + 1)
+    kept refl
     (c.in_ok-frames.ensures.frames ∙ ap (λ xs. spellings (last_lsn log + 1) (records_of log xs)) same) in
     let few : last_lsn log + length appended < 2 ^ 64 = omega (arith, c.in_ok-frames.ensures.room, ap length same, length-map told (record_of log)) in
-    let reads = reads_extended bytes read appended log_is c.requires.reads.starts c.requires.reads.each (told_fit log told c.requires.writable) few in
+    let reads = reads_extended bytes read appended log_is reads_log.starts reads_log.each (told_fit log told c.requires.writable) few in
     record {
       log_is = log_is ∙ ap (λ (rs : List LogRecord). log_text (read ⧺ rs)) restored.appended;
       reads = subst (λ (rs : List LogRecord). Reads bytes (read ⧺ rs) 0) restored.appended reads;
@@ -74,14 +78,14 @@ returns-clause-lawful c = λ base before restored.
     }
 
 pub returns-clause-short : goal.returns-clause-short
-returns-clause-short c = λ base before restored.
+returns-clause-short c = λ base log_bytes before reads_log restored.
     let read = c.args.records.now in
     let log = history read in
     let told = c.args.outcome.appended.items in
     let same : c.deref.result.now ≡ told = c.deref.ensures.value in
     let frames : c.in_ok-frames.frames.items ≡ spellings (last_lsn log + 1) (tail_of read) =
     c.in_ok-frames.ensures.frames ∙ ap (λ xs. spellings (last_lsn log + 1) (records_of log xs)) same ∙ ap (spellings (last_lsn log + 1)) restored.appended in
-    let read_bytes = c.requires.reads in
+    let read_bytes = reads_log in
     omega (
       arith,
       ap (λ (xs : List ℕ). length xs) frames,

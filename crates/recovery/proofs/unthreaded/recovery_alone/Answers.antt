@@ -1,8 +1,9 @@
-use Rattle.std.proofs.Common.{◌≡◌, ℕ, List, sym, ap, subst, arith}
+use Rattle.std.proofs.Common.{◌≡◌, ◌-◌, ℕ, List, ◌++◌, length, take, sym, ap, ◌∙◌, subst, arith}
 use Rattle.std.proofs.lemmas.Result.{err_from_is_err_and}
 use Rattle.page.specs.File.{SpellsStore}
 use Rattle.restart.specs.declared.options.Options.{Options}
 use Rattle.restart.specs.Options.{AreInRange}
+use Rattle.recovery.specs.Text.{ReportContent}
 use Rattle.recovery.specs.Recovery.{Decoded, Recovers, Recovered, log_of}
 use Rattle.recovery.proofs.Bytes.{input_cause, is_lawful, read_alone, read_same}
 use Rattle.recovery.proofs.unthreaded.recovery_alone.Goals as goal
@@ -41,22 +42,29 @@ returns-in_err-outcome-clause-cause c =
 
 pub returns-clause-answer : goal.returns-clause-answer
 returns-clause-answer c =
+    let log = c.args.log.now in
     let before = c.in_ok-before.before in
-    let made = c.in_ok-remade.remade in
-    subst (λ new. Recovers c.args.log.now c.args.store.items (log_of made) new made.report) (sym c.in_ok-encode_store_into.ensures.ok)
-    (c.in_ok-remade.ensures.answer c.args.store.items before (subst (λ (text : List ℕ). SpellsStore text before) c.deref.ensures.value c.in_ok-before.ensures.found) c.in_ok-outcome.ensures.restarts)
+    let made = c.in_ok-frames.field-0 in
+    let kept : c.without_last.result.now ≡ take (length log - made.report.torn) log = c.without_last.ensures ∙ ap (λ n. take (length log - n) log) (ap (λ (report : ReportContent). report.torn) c.report.view_is) in
+    subst (λ (kept : List ℕ). Recovers log c.args.store.items (kept ++ made.frames.items) c.encode_store_into.new.bytes.items made.report) (sym kept)
+    (subst (λ new. Recovers log c.args.store.items (log_of log made) new made.report) (sym c.in_ok-encode_store_into.ensures.ok)
+    (c.in_ok-frames.ensures.answer log c.args.store.items before c.in_ok-records.ensures.found (subst (λ (text : List ℕ). SpellsStore text before) c.deref.ensures.value c.in_ok-before.ensures.found) c.in_ok-outcome.ensures.restarts))
 
 pub returns-clause-lawful : goal.returns-clause-lawful
 returns-clause-lawful c = λ base bytes.
+    let log = c.args.log.now in
     let read = c.in_ok-records.records in
     let before = c.in_ok-before.before in
-    let made = c.in_ok-remade.remade in
+    let made = c.in_ok-frames.field-0 in
     let one = read_same (read, c.in_ok-records.torn) (bytes.decoded.read, bytes.decoded.torn) (c.in_ok-records.ensures.only bytes.decoded.read bytes.decoded.torn bytes.decoded.reads) in
     let same : before ≡ bytes.decoded.before = c.in_ok-before.ensures.only bytes.decoded.before (subst (λ (text : List ℕ). SpellsStore text bytes.decoded.before) (sym c.deref.ensures.value) bytes.decoded.spells) in
     let restored = c.in_ok-outcome.ensures.lawful base (is_lawful bytes read before (ap (λ x. x.0) one) same) in
-    subst (λ rs. Recovered base rs bytes.decoded.before (log_of made) c.encode_store_into.new.bytes.items made.report) (ap (λ x. x.0) one)
-    (subst (λ b. Recovered base read b (log_of made) c.encode_store_into.new.bytes.items made.report) same
-    (subst (λ new. Recovered base read before (log_of made) new made.report) (sym c.in_ok-encode_store_into.ensures.ok) (c.in_ok-remade.ensures.lawful base before restored)))
+    let kept : c.without_last.result.now ≡ take (length log - made.report.torn) log = c.without_last.ensures ∙ ap (λ n. take (length log - n) log) (ap (λ (report : ReportContent). report.torn) c.report.view_is) in
+    subst (λ (kept : List ℕ). Recovered base bytes.decoded.read bytes.decoded.before (kept ++ made.frames.items) c.encode_store_into.new.bytes.items made.report) (sym kept)
+    (subst (λ rs. Recovered base rs bytes.decoded.before (log_of log made) c.encode_store_into.new.bytes.items made.report) (ap (λ x. x.0) one)
+    (subst (λ b. Recovered base read b (log_of log made) c.encode_store_into.new.bytes.items made.report) same
+    (subst (λ new. Recovered base read before (log_of log made) new made.report) (sym c.in_ok-encode_store_into.ensures.ok)
+    (c.in_ok-frames.ensures.lawful base log before c.in_ok-records.ensures.found restored))))
 
 pub returns-clause-short : goal.returns-clause-short
 returns-clause-short c = λ base bytes.
@@ -65,4 +73,4 @@ returns-clause-short c = λ base bytes.
     let one = read_same (read, c.in_ok-records.torn) (bytes.decoded.read, bytes.decoded.torn) (c.in_ok-records.ensures.only bytes.decoded.read bytes.decoded.torn bytes.decoded.reads) in
     let same : before ≡ bytes.decoded.before = c.in_ok-before.ensures.only bytes.decoded.before (subst (λ (text : List ℕ). SpellsStore text bytes.decoded.before) (sym c.deref.ensures.value) bytes.decoded.spells) in
     let restored = c.in_ok-outcome.ensures.lawful base (is_lawful bytes read before (ap (λ x. x.0) one) same) in
-    c.in_ok-remade.ensures.short base before restored
+    c.in_ok-frames.ensures.short base c.args.log.now before c.in_ok-records.ensures.found restored

@@ -39,4 +39,4 @@ loop-number-preserved c =
     )
 
 pub returns-clause-frames : goal.returns-clause-frames
-returns-clause-frames c = record { frames = c.loop-number.invariant.0; room = c.loop-number.invariant.3 }
+returns-clause-frames c = record { frames = c.loop-number.invariant.0; room = c.loop-number.invariant.3; long = omega (arith, c.loop-number.invariant.1, c.loop-number.invariant.2); low = c.requires.lsn }

@@ -1,0 +1,53 @@
+//! The bytes of a log that stay.
+
+ghost use Rattle.std.specs.Prelude.{◌≡◌, ◌++◌, ◌-◌, ℕ, List, length, take, OnOk, OnErr};
+ghost use Rattle.std.specs.Io.KnownBytes.{Appends, Keeps};
+ghost use Rattle.device.specs.Failures.{Counts};
+ghost use Rattle.device.specs.Transfer.{TookBeginning};
+ghost use Rattle.recovery.specs.LogText.{text_of};
+
+use crate::log_text::LogText;
+use crate::recovery::Remade;
+use device::{Failed, Sink, write_all};
+use std::marker::Model;
+
+/// The bytes of a log, or the first of them, lent in the two parts in which they lie. Contracts see
+/// them all, one part behind the other.
+#[derive(Drop)]
+pub struct LogBytes<'a> {
+    front: &'a [u8],
+    back: &'a [u8],
+}
+
+impl<'a> Model for LogBytes<'a> {
+    ghost Value = { List ℕ };
+
+    ghost view = { λ bytes. bytes.front.now ++ bytes.back.now };
+}
+
+impl<'a> LogBytes<'a> {
+    /// The bytes of a log without its torn tail, of which this was made.
+    pub fn kept_of(text: &'a LogText, remade: &Remade) -> LogBytes<'a>
+        ensures { result
+            ≡ take (length (text_of text.now) - remade.now.report.torn) (text_of text.now) }
+    {
+        let torn = remade.report.torn as usize;
+        let (front, back) = (text.front.len(), text.back.len());
+        let torn_in_front = front.min(torn.saturating_sub(back));
+        LogBytes {
+            front: &text.front[..front - torn_in_front],
+            back: &text.back[..back.saturating_sub(torn)],
+        }
+    }
+
+    /// Writes all of them to a sink, behind those that it took before. The sink is not flushed.
+    pub fn write<S: Sink>(&self, sink: &mut S) -> Result<(), Failed>
+        ensures all { OnOk result (Appends (S.taken sink.old) (S.taken sink.new) self.now) }
+        ensures cause { Counts (S.failures sink.old) (S.failures sink.new) result }
+        ensures beginning { OnErr result (TookBeginning (S.taken sink.old) (S.taken sink.new) self.now) }
+        ensures unflushed { Keeps (S.flushed sink.old) (S.flushed sink.new) }
+    {
+        write_all(sink, self.front)?;
+        write_all(sink, self.back)
+    }
+}

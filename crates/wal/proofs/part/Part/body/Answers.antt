@@ -1,0 +1,7 @@
+use Rattle.std.proofs.Common.{sym, ◌∙◌}
+use Rattle.wal.proofs.Places.{entry_there}
+use Rattle.wal.proofs.part.Part.body.Goals as goal
+
+pub returns : goal.returns
+returns c =
+    c.at.ensures ∙ sym (entry_there c.self.inside.bytes.now c.self.inside.offsets c.args.self.now c.args.index c.get.result c.self.view_is c.self.invariant c.requires c.get.ensures).spelled
