@@ -132,7 +132,8 @@ pub fn first_stretch<R: Threads + Sync>(
 }
 
 /// The frames in front of these bytes, with the LSNs that come behind a stretch of the bytes before
-/// them, read as [`first_stretch`] reads them. The only error is `NoResource`.
+/// them, read as [`first_stretch`] reads them. None where the first of those LSNs is above 3 * 2^62,
+/// which it never is behind the first frames of a log. The only error is `NoResource`.
 pub fn next_stretch<R: Threads + Sync>(
     rt: &R,
     alloc: Global,

@@ -1,8 +1,9 @@
 //! The log: its records, their frames in bytes, and what a log means.
 //!
-//! `read_log` reads a log in place, `read_log_by` does so in several threads, `write_frame` appends a record's frame. The definitions of what
-//! a log means (replay, winners, pending, the laws, the tail of a restart) stand in `specs/`, and
-//! their laws are the functions of `laws`.
+//! `read_log` reads a log in place, `read_log_by` does so in several threads, `write_frame` appends a
+//! record's frame. A log whose bytes come in two parts is read by `first_stretch`, `next_stretch` and
+//! `log_in_parts`. The definitions of what a log means (replay, winners, pending, the laws, the tail of
+//! a restart) stand in `specs/`, and their laws are the functions of `laws`.
 #![tactic(auto)]
 
 mod change;

@@ -1,5 +1,7 @@
 //! Logs that several workers read in two parts.
 
+ghost use Rattle.std.specs.Prelude.{◌≤◌};
+
 use super::{check, check_all};
 use crate::in_memory::recover_in_memory;
 use aries::{Options, Report};
@@ -15,7 +17,11 @@ use std::thread::Threads;
 const UPDATES: u64 = 125_000;
 
 /// Where the frame of an update begins which is not the first.
-const fn offset_of(lsn: u64) -> usize {
+const fn offset_of(lsn: u64) -> usize
+    requires second { 2 ≤ lsn }
+    requires last { lsn ≤ 125000 }
+    ensures { result ≤ 4249973 }
+{
     8 + 33 + 34 * (lsn as usize - 2)
 }
 
@@ -80,14 +86,13 @@ fn refusal<R: Threads + Sync>(rt: &R, alloc: Global, log: &[u8], workers: u32) -
 #[test]
 fn faults_of_long_logs_are_told(rt: HostRuntime) -> Result<(), Fail> {
     let alloc = rt.alloc();
-    for (name, lsn) in [
-        ("the first part", 20_000),
-        ("the second", 100_000),
-        ("the last update", UPDATES),
+    for (name, offset) in [
+        ("the first part", offset_of(20_000)),
+        ("the second", offset_of(100_000)),
+        ("the last update", offset_of(UPDATES)),
     ] {
         let mut log = long_commit(alloc, UPDATES)?.bytes;
-        let offset = offset_of(lsn);
-        if let Some(kind) = log.get_mut(offset + 4) {
+        if let Some(kind) = log.get_mut(offset.saturating_add(4)) {
             *kind = 9;
         }
         let fault = Some(Fault::BadRecord(offset as u64));

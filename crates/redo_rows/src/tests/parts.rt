@@ -1,5 +1,7 @@
 //! Logs that lie in two parts: what they are is what they are in one.
 
+ghost use Rattle.std.specs.Prelude.{◌≤◌};
+
 use super::check;
 use super::stretches::{FRAME_BYTES, RECORDS, are_at_their_lsns, updates};
 use page::Fault;
@@ -9,7 +11,11 @@ use std::thread::Threads;
 use wal::{Log, Stretch, cut_of, first_stretch, log_in_parts, next_stretch};
 
 /// Where the frame with this LSN begins.
-const fn offset_of(lsn: u64) -> usize {
+const fn offset_of(lsn: u64) -> usize
+    requires first { 1 ≤ lsn }
+    requires last { lsn ≤ 5202 }
+    ensures { result ≤ 275661 }
+{
     8 + FRAME_BYTES * (lsn as usize - 1)
 }
 
@@ -121,12 +127,12 @@ fn logs_are_cut_behind_the_last_whole_frame(rt: HostRuntime) -> Result<(), Fail>
     let alloc = rt.alloc();
     let log = updates(alloc, b"thirteen byte")?;
     let cut = offset_of(3_001);
-    for (name, more) in [
-        ("nothing behind", 0),
-        ("3 bytes", 3),
-        ("all but one", FRAME_BYTES - 1),
+    for (name, end) in [
+        ("nothing behind", cut),
+        ("3 bytes", cut + 3),
+        ("all but one", cut + FRAME_BYTES - 1),
     ] {
-        let (front, _) = log.split_at((cut + more).min(log.len()));
+        let (front, _) = log.split_at(end.min(log.len()));
         check(cut_of(alloc, front)? == cut, name)?;
     }
     check(cut_of(alloc, b"ARIESLG1")? == 8, "no frame")
