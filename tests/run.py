@@ -1,7 +1,7 @@
 #!/usr/bin/env python3
-"""Runs the proved programs as they are: on rows of real size, on the small rows in version 2, with threads counted, with files that are missing or stand
-already, with wrong lines, with --verbose, with prints that fail, and with each growth of memory refused in turn. And looks whether the documents and the man
-pages are true of them, and whether each wrong body that the prover must refuse can still be applied.
+"""Runs the proved programs as they are: on rows of real size, on logs that are read in two parts, on the small rows in version 2, with threads counted, with
+files that are missing or stand already, with wrong lines, with --verbose, with prints that fail, and with each growth of memory refused in turn. And looks
+whether the documents and the man pages are true of them, and whether each wrong body that the prover must refuse can still be applied.
 
 usage: tests/run.py        at the top of the repository, behind `rt ci`, which builds the programs
 
@@ -18,6 +18,7 @@ import tempfile
 sys.dont_write_bytecode = True  # no folder of it beside the tests
 from dump import check_dump
 from edits import check_edits
+from long_logs import check_long_logs, long_row
 from operate import check_operation
 from pages import check_pages
 from program import ARIES, LARGE_ROWS, SMALL_ROWS, TOP, Row, Tally, bytes_of, has_printed, has_refused, in_doubt, library_of, run, text_of
@@ -272,6 +273,8 @@ def check_refusals(tally, room):
             index.write(f"{name} slow\n")
         job = lambda **how: run([ROW_RUNNER], cwd=folder, **how)
         check_refused_growth(tally, f"{name}, slow devices", refuser, job, lambda *ran: is_right_slow(name, *ran))
+    row = long_row(room)
+    check_refused_growth(tally, "a long log, recovery", refuser, row.recover, lambda *ran: is_right_recovery(row, *ran))
 
 
 # Documents: that the code, the links and the tables in them are true.
@@ -326,6 +329,7 @@ def main():
     check_edits(tally)
     with tempfile.TemporaryDirectory(prefix="aries-tests-") as room:
         check_large_rows(tally, room)
+        check_long_logs(tally, room)
         check_version_2(tally, room)
         check_threads(tally, room)
         check_files(tally, room)
