@@ -1,12 +1,14 @@
 """A log so long that two workers or more read it in two parts: what its recovery writes is worked out here by hand, from docs/FORMATS.md."""
+import functools
 import os
 import struct
 
 from program import Row, bytes_of, has_printed, has_refused
 
-# How often the transaction that commits updates its cell: 4.7 MB of log, or 8.1 MB where values look like frames. With so many of these the first part is cut
-# where a value stands that looks so, and both parts are put into one.
-UPDATES = 139_000
+# How often the transaction that commits updates its cell: 34 MB of log, whether its values are digits or look like frames. From 32 MiB on two workers or more
+# read it in two parts.
+UPDATES = 990_000
+UPDATES_LIKE_FRAMES = 585_000
 TORN = {"no torn tail": b"", "3 torn bytes": b"\0\0\0", "a torn commit": b"\0\0\0\x15\x03\0"}
 
 
@@ -48,25 +50,27 @@ def store_of(*pages):
 
 # Transaction 2 updates page 1, then transaction 1 page 0, again and again, and commits, and last transaction 2 updates page 1 once more, in
 # another slot: an update to be undone in either part.
-COMMIT = UPDATES + 2
-LAST = COMMIT + 1
 
-
-def history(value_of):
+def history(value_of, commit):
     yield update(1, 2, 0, 1, 0, None, value_of(1))
     before = None
-    for lsn in range(2, COMMIT):
+    for lsn in range(2, commit):
         after = value_of(lsn)
         yield update(lsn, 1, lsn - 1 if lsn > 2 else 0, 0, 0, before, after)
         before = after
-    yield frame(3, COMMIT, struct.pack(">IQ", 1, COMMIT - 1))
-    yield update(LAST, 2, 1, 1, 1, None, value_of(LAST))
+    yield frame(3, commit, struct.pack(">IQ", 1, commit - 1))
+    yield update(commit + 1, 2, 1, 1, 1, None, value_of(commit + 1))
 
 
-def rollback():
-    yield compensation(LAST + 1, 2, LAST, 1, 1, 1, None)
-    yield compensation(LAST + 2, 2, LAST + 1, 1, 0, 0, None)
-    yield frame(5, LAST + 3, struct.pack(">IQ", 2, LAST + 2))
+def rollback(last):
+    yield compensation(last + 1, 2, last, 1, 1, 1, None)
+    yield compensation(last + 2, 2, last + 1, 1, 0, 0, None)
+    yield frame(5, last + 3, struct.pack(">IQ", 2, last + 2))
+
+
+@functools.cache
+def log_of(value_of, commit):
+    return b"ARIESLG1" + b"".join(history(value_of, commit))
 
 
 def offset_of(lsn):
@@ -78,13 +82,15 @@ def long_row(room, torn=b"", value_of=digit):
     """A row like those of `crates/rows/data`, in a folder of its own."""
     folder = os.path.join(room, f"long-log-{len(torn)}-{value_of.__name__}")
     os.makedirs(folder, exist_ok=True)
-    log = b"ARIESLG1" + b"".join(history(value_of))
-    numbers = {"records": LAST, "torn": len(torn), "redo-from": 1, "redone": UPDATES + 2, "losers": 1, "compensated": 2, "ended": 1, "pages": 2}
+    commit = (UPDATES if value_of is digit else UPDATES_LIKE_FRAMES) + 2
+    last = commit + 1
+    log = log_of(value_of, commit)
+    numbers = {"records": last, "torn": len(torn), "redo-from": 1, "redone": commit, "losers": 1, "compensated": 2, "ended": 1, "pages": 2}
     for name, text in {
         "log": log + torn,
         "store": store_of(page_image(0, 0, b""), page_image(1, 0, b"")),
-        "out-log": log + b"".join(rollback()),
-        "out-store": store_of(page_image(0, COMMIT - 1, value_of(COMMIT - 1)), page_image(1, LAST + 2, b"")),
+        "out-log": log + b"".join(rollback(last)),
+        "out-store": store_of(page_image(0, commit - 1, value_of(commit - 1)), page_image(1, last + 2, b"")),
         "printed": "".join(f"{name} {number}\n" for name, number in numbers.items()).encode(),
     }.items():
         with open(os.path.join(folder, name), "wb") as file:

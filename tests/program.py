@@ -34,13 +34,14 @@ class Row:
         return os.path.join(self.new, name)
 
     def recover(self, log="log", store="store", workers=2, parts=3, more=(), **how):
-        """A recovery of these two files of the row, into new files."""
+        """A recovery of these two files of the row, into new files. With no number of workers the program chooses it."""
         for name in ("log", "store"):
             if os.path.exists(self.new_at(name)):
                 os.remove(self.new_at(name))
         words = ["recover", "--log", self.at(log), "--store", self.at(store)]
         words += ["--out-log", self.new_at("log"), "--out-store", self.new_at("store")]
-        return run([ARIES, *words, "--workers", str(workers), "--parts", str(parts), *more], **how)
+        words += ["--workers", str(workers)] if workers is not None else []
+        return run([ARIES, *words, "--parts", str(parts), *more], **how)
 
     def audit(self, log="log", store="store", more=(), **how):
         return run([ARIES, "audit", "--log", self.at(log), "--store", self.at(store), *more], **how)

@@ -177,17 +177,25 @@ def check_prints(tally, room):
         tally.say("a fault that cannot be printed", ran.returncode == 1 and not ran.stdout)
 
 
-# Threads: more of them where more workers are asked for. What is written does not tell.
+# Threads: more of them where more workers are asked for. What is written does not tell. Where none are asked for, a short log gets one worker, and a long one
+# four.
+
+def threads_of(row, room, library, workers):
+    """How many threads a recovery starts; None where it writes something else than the row says."""
+    started = os.path.join(room, "started")
+    open(started, "wb").close()
+    row.recover(workers=workers, parts=64, env=dict(os.environ, LD_PRELOAD=library, THREADS_STARTED=started))
+    return len(bytes_of(started)) if row.is_recovered() else None
+
 
 def check_threads(tally, room):
-    row = Row(os.path.join(SMALL_ROWS, "ten-pages"), room)
-    library, counts = library_of(room, "count_threads"), []
-    for workers in (1, 4, 64):
-        started = os.path.join(room, f"started-{workers}")
-        row.recover(workers=workers, parts=64, env=dict(os.environ, LD_PRELOAD=library, THREADS_STARTED=started))
-        counts.append(len(bytes_of(started)) if row.is_recovered() else None)
-    is_well = None not in counts and counts[0] < counts[1] < counts[2]
-    tally.say("threads of 1, 4 and 64 workers", is_well, counts)
+    short, long, library = Row(os.path.join(SMALL_ROWS, "ten-pages"), room), long_row(room), library_of(room, "count_threads")
+    counts = [threads_of(short, room, library, workers) for workers in (1, 4, 64)]
+    tally.say("threads of 1, 4 and 64 workers", None not in counts and counts[0] < counts[1] < counts[2], counts)
+    one = threads_of(short, room, library, None)
+    tally.say("threads of a short log", one is not None and one == counts[0], (one, counts))
+    both = [threads_of(long, room, library, workers) for workers in (4, None)]
+    tally.say("threads of a long log", None not in both and both[0] == both[1], both)
 
 
 # Each growth of memory refused in turn.
@@ -327,6 +335,8 @@ def main():
     check_documents(tally)
     check_pages(tally)
     check_edits(tally)
+    ways = run([sys.executable, os.path.join(TOP, "bench/way.py")])
+    tally.say("no way through the crates is longer than it is to be", ways.returncode == 0, ways.stdout)
     with tempfile.TemporaryDirectory(prefix="aries-tests-") as room:
         check_large_rows(tally, room)
         check_long_logs(tally, room)

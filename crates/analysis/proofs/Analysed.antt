@@ -7,7 +7,7 @@ use Rattle.wal.specs.Meaning.{BasePages, state_by, state_at, is_of, is_abort_of,
 use Rattle.wal.specs.Laws.{IsLawful, Obeys}
 use Rattle.wal.specs.Checkpoint.{true_entry}
 use Rattle.analysis.specs.Tables.{finishes, work_since, finished_since, undo_next_in, told_in, is_aborting, state_in_work, entry_by, base_since, analysed_entry}
-use Rattle.analysis.specs.Lawful.{unfinished_entry}
+use Rattle.tables.specs.Lawful.{unfinished_entry}
 use Rattle.analysis.proofs.Scanned.{state_by-state}
 use Rattle.wal.specs.Undo.{is_prepared}
 

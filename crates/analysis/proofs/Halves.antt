@@ -2,7 +2,8 @@
 use Rattle.std.proofs.Common.{ℕ, List, sym, ap, ◌∙◌}
 use Rattle.wal.specs.Records.{TableEntry, LogContent, history}
 use Rattle.wal.specs.Redo.{rec_lsn_of}
-use Rattle.analysis.specs.Tables.{TablesContent, AreTablesOf, AreTransactionsOf, AreDirtyPagesOf, analysed_rec_lsn, tables_with}
+use Rattle.tables.specs.Tables.{TablesContent}
+use Rattle.analysis.specs.Tables.{AreTablesOf, AreTransactionsOf, AreDirtyPagesOf, analysed_rec_lsn, tables_with}
 use Rattle.analysis.proofs.Truth.{pair_is}
 
 pub both_halves : (log : LogContent) (m : ℕ) (transactions : List TableEntry) (pages : TablesContent) → AreTransactionsOf log m transactions → AreDirtyPagesOf log m pages.dirty pages.redo_lsn → AreTablesOf log m (tables_with transactions pages)

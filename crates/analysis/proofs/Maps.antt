@@ -12,23 +12,9 @@ use Rattle.wal.specs.Checkpoint.{or_else}
 use Rattle.wal.specs.Undo.{entry_for}
 use Rattle.wal.proofs.Entries.{is_eq-nat_cmp, entry_for-lookup}
 use Rattle.std.proofs.lemmas.List.{get_or-set_other}
+use Rattle.tables.proofs.Lookups.{rec_lsn_of-lookup}
 use Rattle.analysis.specs.Tables.{entry_at, AreAllListed}
 use Rattle.analysis.specs.Steps.{AreListed, rec_lsn_after}
-
-pub eqb-sym : (x y : ℕ) → eqb x y ≡ eqb y x
-eqb-sym x y =
-    elim (cases_Bool (eqb x y)) [
-      | inl e ↦ e ∙ sym (eq-eqb y x (sym (eqb-true x y e)))
-      | inr e ↦ by_other (eqb y x) refl e
-    ]
-  where
-    by_other : (b : Bool) → eqb y x ≡ b → eqb x y ≡ false → eqb x y ≡ eqb y x
-    by_other true f e = eq-eqb x y (sym (eqb-true y x f)) ∙ sym f
-    by_other false f e = e ∙ sym f
-
-pub rec_lsn_of-lookup : (page : ℕ) (es : List (ℕ × ℕ)) → rec_lsn_of page es ≡ lookup (λ k. is_eq (nat_cmp page k)) es
-rec_lsn_of-lookup page [] = refl
-rec_lsn_of-lookup page (e ∷ es) = rw (is_eq-nat_cmp page e.0, eqb-sym e.0 page) (ap (λ o. cond (eqb page e.0) (Some e.1) o) (rec_lsn_of-lookup page es))
 
 -- one key changed: what the map has at a key, an entry or a RecLSN
 pub entry_at-changed : (t tx : ℕ) (old new : List (ℕ × Entry)) (w : Option Entry) → lookup (λ k. is_eq (nat_cmp t k)) new ≡ cond (is_eq (nat_cmp tx t)) w (lookup (λ k. is_eq (nat_cmp t k)) old)

@@ -3,7 +3,7 @@ use Rattle.std.proofs.Common.{ℕ, suc, ◌≡◌, ◌+◌, ◌≤◌, Bool, tru
 use Rattle.std.proofs.lemmas.Bool.{cases_Bool, le-ltb, lt-ltb, le-leb, lt-leb}
 use Rattle.wal.specs.declared.record.State.{State}
 use Rattle.wal.specs.declared.record.State.TheVariants.{Active, Prepared, Aborting}
-use Rattle.wal.specs.Records.{TableEntry, LogRecord, Update, Abort, Prepare, CheckpointBegin, CheckpointEnd, History, start, ◌▸◌, last_lsn, base_lsn}
+use Rattle.wal.specs.Records.{TableEntry, LogRecord, Update, Abort, Prepare, CheckpointBegin, CheckpointEnd, History, start, ◌▸◌, first, last_lsn, base_lsn}
 use Rattle.wal.specs.Meaning.{state_by, is_of, is_abort_of, is_prepare_of, is_on}
 use Rattle.wal.specs.Undo.{is_prepared}
 use Rattle.wal.specs.Checkpoint.{or_else}
@@ -11,7 +11,7 @@ use Rattle.analysis.specs.Tables.{work_since, finished_since, base_since, undo_n
 use Rattle.analysis.specs.Steps.{prepared_from, state_in, undo_next_of_entry, entry_after, rec_lsn_after, entry_seen}
 use Rattle.wal.specs.declared.glance.Glance.{Glance}
 use Rattle.wal.specs.Glances.{glance_of}
-use Rattle.wal.proofs.Histories.{base_within}
+use Rattle.wal.proofs.Histories.{base_within, size_of_first_le, base_of_first}
 
 -- what the entry says of the state and the undo-next
 pub state_by-state : (s : State) → state_by (is_aborting s) (is_prepared s) ≡ s
@@ -134,3 +134,8 @@ entry_glanced lsn t r g old new is e = e ∙ (ap (λ x. entry_seen lsn x t old) 
     same : (r : LogRecord) → entry_seen lsn (glance_of r) t old ≡ entry_after lsn r t old
     same (Update u) = refl
     same r = refl
+
+-- behind the master there is no record yet
+pub at_first : (page m from : ℕ) (base : Option ℕ) (log : History) → base_lsn log ≤ from → from ≡ max m (base_lsn log) → base ≡ analysed_rec_lsn page m base (first from log)
+at_first page m from base log le is =
+    sym (rec_lsn_none page m base (first from log) (omega (arith, is, size_of_first_le from log le, base_of_first from log)))

@@ -15,8 +15,9 @@ use Rattle.wal.proofs.Undone.{true_entry_for}
 use Rattle.wal.proofs.Entries.{same_table, true_table_rises}
 use Rattle.wal.specs.Undo.{entry_for}
 use Rattle.wal.specs.Theorems.{IsReached}
-use Rattle.analysis.specs.Tables.{base_of, analysed_entry, AreTablesOf, TablesContent}
-use Rattle.analysis.specs.Lawful.{unfinished_entry, AreTrue}
+use Rattle.tables.specs.Tables.{TablesContent}
+use Rattle.analysis.specs.Tables.{base_of, analysed_entry, AreTablesOf}
+use Rattle.tables.specs.Lawful.{unfinished_entry, AreTrue}
 use Rattle.analysis.proofs.Analysed.{analysis_is_true}
 use Rattle.analysis.proofs.Covered.{covered}
 use Rattle.analysis.proofs.Rising.{rise_from_0}

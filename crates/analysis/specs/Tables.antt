@@ -9,21 +9,11 @@ use Rattle.wal.specs.declared.record.Entry.{Entry}
 use Rattle.wal.specs.Records.{TableEntry, LogRecord, Update, Compensation, History, start, ◌▸◌, LogContent, history, last_lsn, tx_in, page_in, base_lsn, record_at}
 use Rattle.wal.specs.Meaning.{state_by, is_of, is_commit_of, is_abort_of, is_end_of, is_prepare_of, is_on}
 use Rattle.wal.specs.Redo.{rec_lsn_of}
-use Rattle.wal.specs.Undo.{entry_for, is_prepared, lost_in}
+use Rattle.wal.specs.Undo.{entry_for, is_prepared}
 use Rattle.wal.specs.Checkpoint.{or_else, checkpoint_at}
 use Rattle.wal.specs.Content.{entry_of}
 use Rattle.wal.specs.Spelling.{IsRising}
-
--- THE TABLES as contracts see them. The unfinished transactions, the dirty pages with their RecLSNs, and where redo begins.
--- ARIES, section 4.3 (transaction table) and 4.4 (dirty page table).
-pub record TablesContent : Type 0 where
-  pub transactions : List TableEntry
-  pub dirty : List (ℕ × ℕ)
-  pub redo_lsn : ℕ
-
--- the losers among the unfinished transactions, which undo rolls back: those that are not prepared
-abbrev pub losers_in : TablesContent → List TableEntry
-losers_in tables = lost_in tables.transactions
+use Rattle.tables.specs.Tables.{TablesContent}
 
 -- THE BASE. Empty where the master is 0, else the tables of its checkpoint.
 abbrev pub base_of : ℕ → History → Option (List TableEntry × List (ℕ × ℕ))

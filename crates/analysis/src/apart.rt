@@ -8,11 +8,11 @@ ghost use Rattle.wal.specs.Content.{entry_of};
 ghost use Rattle.wal.specs.Meaning.{BasePages};
 ghost use Rattle.wal.specs.Records.{TableEntry, LogContent, history};
 ghost use Rattle.wal.specs.Store.{Lawful};
-ghost use Rattle.analysis.specs.Lawful.{AreTrue};
+ghost use Rattle.tables.specs.Lawful.{AreTrue};
 ghost use Rattle.analysis.specs.Tables.{entry_at, analysed_entry, AreTablesOf, AreTransactionsOf, AreDirtyPagesOf, BaseFault, tables_with};
 
 use crate::Tables;
-use crate::base::base;
+use crate::base::checkpoint_tables;
 use crate::kept::{PLACES, highest_in, put_back};
 use crate::scan::note_transaction;
 use page::Fault;
@@ -55,7 +55,7 @@ pub fn analyse_transactions(
     ensures no_transaction_0 { IfOk result (λ found. entry_at 0 found.entries ≡ None) }
     ensures fault { IfErr result (BaseFault master (history log.now)) }
 {
-    let (mut transactions, _) = base(alloc, log, master)?;
+    let (mut transactions, _) = checkpoint_tables(alloc, log, master)?;
     scan_transactions(log, master, &mut transactions)?;
     // For the proof: the keys rise.
     let _in_order = transactions.iter();

@@ -71,7 +71,7 @@ fn dirty_pages_of(alloc: Global, table: &DirtyTable) -> Result<BTreeMap<u32, u64
 /// The tables that analysis begins from: empty ones where `master` is 0, else those of the first
 /// checkpoint end behind the begin at `master` that names it. Answers `BadMaster` where there is
 /// none.
-pub fn base(
+pub fn checkpoint_tables(
     alloc: Global,
     log: &Log,
     master: u64,

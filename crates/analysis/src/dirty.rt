@@ -5,10 +5,10 @@ ghost use Rattle.page.specs.declared.fault.Fault.TheVariants.{NoResource};
 ghost use Rattle.wal.specs.Records.{TableEntry, page_in, history, first, last_lsn, base_lsn};
 ghost use Rattle.wal.specs.Redo.{rec_lsn_of};
 ghost use Rattle.wal.specs.Spelling.{IsRising};
-ghost use Rattle.analysis.specs.Tables.{base_of, analysed_rec_lsn, AreAllListed, ServesRedo, BaseFault};
+ghost use Rattle.analysis.specs.Tables.{base_of, analysed_rec_lsn, AreAllListed, AreDirtyPagesOf, ServesRedo, BaseFault};
 
 use crate::Tables;
-use crate::base::base;
+use crate::base::checkpoint_tables;
 use crate::pass::redo_lsn_of;
 use crate::scan::{is_known, note_page};
 use page::{Fault, PAGES};
@@ -112,8 +112,27 @@ pub fn analyse_pages(alloc: Global, log: &Log, master: u64, count: usize) -> Res
     ensures no_transactions { IfOk result (λ found. found.transactions ≡ []) }
     ensures fault { IfErr result (BaseFault master (history log.now)) }
 {
-    let (_, mut dirty) = base(alloc, log, master)?;
+    let (_, mut dirty) = checkpoint_tables(alloc, log, master)?;
     let redo_lsn = list_pages(log, master, count, &mut dirty)?;
+    // For the proof: the keys rise.
+    let _in_order = dirty.iter();
+    Ok(Tables {
+        transactions: BTreeMap::new(alloc),
+        dirty,
+        redo_lsn,
+    })
+}
+
+/// The dirty pages of [`analyse`](crate::analyse), all of them, and the LSN to redo from, found without
+/// the transactions, with its errors. The tables have no transactions.
+pub fn analyse_all_pages(alloc: Global, log: &Log, master: u64) -> Result<Tables, Fault>
+    ensures pages { IfOk result (λ found. AreDirtyPagesOf log.now master
+        found.dirty found.redo_lsn) }
+    ensures fault { IfErr result (BaseFault master (history log.now)) }
+{
+    let (_, mut dirty) = checkpoint_tables(alloc, log, master)?;
+    scan_pages(log, master.max(log.base()), None, &mut dirty)?;
+    let redo_lsn = redo_lsn_of(log.base() + 1, &dirty);
     // For the proof: the keys rise.
     let _in_order = dirty.iter();
     Ok(Tables {

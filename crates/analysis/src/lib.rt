@@ -8,7 +8,6 @@ mod kept;
 mod laws;
 mod pass;
 mod scan;
-mod tables;
 
 pub use apart::{analyse_transactions, join_tables};
 pub use dirty::analyse_pages;

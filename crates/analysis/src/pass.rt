@@ -5,14 +5,14 @@ ghost use Rattle.page.specs.Store.{StoreContent};
 ghost use Rattle.wal.specs.Records.{history};
 ghost use Rattle.wal.specs.Meaning.{BasePages};
 ghost use Rattle.wal.specs.Store.{Lawful};
-ghost use Rattle.analysis.specs.Lawful.{AreTrue};
+ghost use Rattle.tables.specs.Lawful.{AreTrue};
 ghost use Rattle.wal.specs.Undo.{entry_for};
 ghost use Rattle.analysis.specs.Tables.{redo_lsn_of, AreTablesOf, BaseFault};
 ghost use Rattle.analysis.specs.Steps.{lower};
 
 use crate::Tables;
-use crate::base::base;
-use crate::scan::scan;
+use crate::apart::{analyse_transactions, join_tables};
+use crate::dirty::analyse_all_pages;
 use page::Fault;
 use std::alloc::Global;
 use std::collections::BTreeMap;
@@ -58,16 +58,7 @@ pub fn analyse(alloc: Global, log: &Log, master: u64) -> Result<Tables, Fault>
     ensures no_transaction_0 { IfOk result (λ tables. entry_for 0 tables.transactions ≡ None) }
     ensures fault { IfErr result (BaseFault master (history log.now)) }
 {
-    let (mut transactions, mut dirty) = base(alloc, log, master)?;
-    scan(log, master, &mut transactions, &mut dirty)?;
-    let first = log.base() + 1;
-    let redo_lsn = redo_lsn_of(first, &dirty);
-    // For the proof: the keys of both maps rise.
-    let _in_order = transactions.iter();
-    let _in_order_too = dirty.iter();
-    Ok(Tables {
-        transactions,
-        dirty,
-        redo_lsn,
-    })
+    let transactions = analyse_transactions(alloc, log, master)?;
+    let pages = analyse_all_pages(alloc, log, master)?;
+    Ok(join_tables(transactions, pages))
 }

@@ -9,10 +9,10 @@ ghost use Rattle.wal.specs.Checkpoint.{or_else};
 ghost use Rattle.analysis.specs.Tables.{entry_at, analysed_entry, analysed_rec_lsn};
 ghost use Rattle.analysis.specs.Steps.{prepared_from, entry_seen, rec_lsn_after, AreListed, held_entry, AreKept, HasNoneAbove};
 
-use crate::kept::{PLACES, entry_in, finish, highest_in, keep, put_back};
+use crate::kept::{PLACES, entry_in, finish, keep};
 use page::{Fault, PAGES};
 use std::collections::BTreeMap;
-use wal::{Entry, Glance, Log, State};
+use wal::{Entry, Glance, State};
 
 /// The state behind a prepare: prepared, unless it is aborting.
 fn prepared(old: State) -> State
@@ -135,34 +135,5 @@ pub fn note_page(
     if let Some((page, _)) = glance.cell() {
         list_unknown(dirty, known, page, lsn)?;
     }
-    Ok(())
-}
-
-/// Looks at the records behind the LSN `master`: all of them where it is not above the base LSN.
-pub fn scan(
-    log: &Log,
-    master: u64,
-    transactions: &mut BTreeMap<u32, Entry>,
-    dirty: &mut BTreeMap<u32, u64>,
-) -> Result<(), Fault>
-    ensures entries { OnOk result ((t : ℕ) (base : Option TableEntry)
-        → entry_at t transactions.old.entries ≡ base
-        → entry_at t transactions.new.entries ≡ analysed_entry t master base (history log.now)) }
-    ensures pages { OnOk result ((p : ℕ) (base : Option ℕ) → rec_lsn_of p dirty.old.entries ≡ base
-        → rec_lsn_of p dirty.new.entries ≡ analysed_rec_lsn p master base (history log.now)) }
-    ensures no_transaction_0 { OnOk result (entry_at 0 transactions.old.entries ≡ None
-        → entry_at 0 transactions.new.entries ≡ None) }
-    ensures err { IsOkUnless result NoResource }
-{
-    let mut known = [false; PAGES];
-    let mut kept = [None; PLACES];
-    let mut highest = highest_in(transactions);
-    let from = master.max(log.base());
-    for lsn in from..log.last() {
-        let glance = log.glance_after(lsn);
-        note_transaction(transactions, &mut kept, &mut highest, glance, lsn + 1)?;
-        note_page(dirty, &mut known, glance, lsn + 1)?;
-    }
-    put_back(transactions, &kept)?;
     Ok(())
 }

@@ -4,7 +4,7 @@ ghost use Rattle.std.specs.Prelude.{◌≢◌};
 ghost use Rattle.page.specs.declared.fault.Fault.TheVariants.{NoResource};
 
 use crate::noted::{Call, NotedFile, Notes};
-use device::{FileSink, FileSource};
+use device::{FileSink, FileSource, Source};
 use page::Fault;
 use recovery::{Report, audit_texts, audit_texts_over, read_source, recover};
 use redo::OpenGate;
@@ -16,6 +16,9 @@ use std::os::unix::fs::{OpenOptionsExt, PermissionsExt};
 use std::path::Path;
 use std::rt::{Clock, Files};
 use std::thread::Threads;
+
+/// A log of fewer bytes than this is short: to start threads takes longer than they save.
+const SHORT: usize = 16 << 20;
 
 /// What a job reads.
 #[derive(Drop)]
@@ -95,19 +98,15 @@ fn make<R: Files>(rt: &R, file: &Notes, old: &R::File, fault: Fault) -> Result<R
     make_like(rt, file.path, old).map_err(|error| refuse(file, Call::Make, error, fault))
 }
 
-/// The folder in which a file of this path stands.
-fn folder_of(path: &str) -> &str {
-    match Path::new(path).parent() {
-        Some(folder) if !folder.as_str().is_empty() => folder.as_str(),
-        _ => ".",
-    }
-}
-
 /// Asks that the name of a new file reaches the disk, which stands in its folder; `fault` where the
 /// folder could not be synced. Where the system lets nobody sync it, who may not read it or where a
 /// file system has no such thing, that is noted alone.
 fn sync_folder<R: Files>(rt: &R, file: &Notes, fault: Fault) -> Result<(), Fault> {
-    let synced = File::open(rt, folder_of(file.path)).and_then(|folder| folder.sync_all());
+    let folder = match Path::new(file.path).parent() {
+        Some(folder) if !folder.as_str().is_empty() => folder.as_str(),
+        _ => ".",
+    };
+    let synced = File::open(rt, folder).and_then(|folder| folder.sync_all());
     let Err(error) = synced else {
         return Ok(());
     };
@@ -122,26 +121,33 @@ fn sync_folder<R: Files>(rt: &R, file: &Notes, fault: Fault) -> Result<(), Fault
 /// the mode of the one that it comes from. All four are opened, in the order log, store, new log,
 /// new store, before the first is read; the new store is written when the new log is whole and
 /// synced; the folders of the new files are synced last. After a fault, new files made so far stay:
-/// empty, or a beginning, or where a folder was not synced whole.
+/// empty, or a beginning, or where a folder was not synced whole. Where it may be one, and the log is
+/// short, one worker does it all.
 pub fn recover_files<R: Files + Clock + Threads + Sync>(
     rt: &R,
     alloc: Global,
     old: &OldFiles,
     new: &NewFiles,
     options: &Options,
+    may_be_one: bool,
 ) -> Result<Report, Fault> {
     let log = open(rt, &old.log, Fault::ReadLog)?;
     let store = open(rt, &old.store, Fault::ReadStore)?;
     let new_log = make(rt, &new.log, &log, Fault::WriteLog)?;
     let new_store = make(rt, &new.store, &store, Fault::WriteStore)?;
+    let mut log = FileSource::sized(NotedFile::new(log, rt, &old.log));
+    let mut options = *options;
+    if may_be_one && log.hint() < SHORT {
+        options.workers = 1;
+    }
     let report = recover(
         rt,
         alloc,
-        &mut FileSource::sized(NotedFile::new(log, rt, &old.log)),
+        &mut log,
         &mut FileSource::new(NotedFile::new(store, rt, &old.store)),
         &mut FileSink::new(NotedFile::new(new_log, rt, &new.log)),
         &mut FileSink::new(NotedFile::new(new_store, rt, &new.store)),
-        options,
+        &options,
         &OpenGate,
     )?;
     sync_folder(rt, &new.log, Fault::WriteLog)?;

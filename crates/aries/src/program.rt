@@ -20,7 +20,7 @@ fn print_report<O: Write>(alloc: Global, report: &Report, out: &mut O) -> io::Re
 }
 
 /// The status of what was printed; where it is to be verbose, says why it was not.
-fn status_of<E: Write>(printed: io::Result<()>, verbose: bool, err: &mut E) -> u8 {
+fn status_of_print<E: Write>(printed: io::Result<()>, verbose: bool, err: &mut E) -> u8 {
     let Err(error) = printed else {
         return 0;
     };
@@ -30,24 +30,26 @@ fn status_of<E: Write>(printed: io::Result<()>, verbose: bool, err: &mut E) -> u
     1
 }
 
-/// Recovers, and prints the report or the fault; where it is to be verbose, before them what it did
-/// or why it was refused.
+/// Recovers with these options, or with one worker where it may be one and the log is short, and
+/// prints the report or the fault; where it is to be verbose, before them what it did or why it was
+/// refused.
 fn run_recovery<R: Files + Clock + Threads + Sync, O: Write, E: Write>(
     rt: &R,
     alloc: Global,
     files: (&OldFiles, &NewFiles),
-    options: &Options,
+    how: (&Options, bool),
     verbose: bool,
     out: &mut O,
     err: &mut E,
 ) -> u8 {
     let (old, new) = files;
-    match recover_files(rt, alloc, old, new, options) {
+    let (options, may_be_one) = how;
+    match recover_files(rt, alloc, old, new, options, may_be_one) {
         Ok(report) => {
             if verbose {
                 tell_recovery(old, new, err);
             }
-            status_of(print_report(alloc, &report, out), verbose, err)
+            status_of_print(print_report(alloc, &report, out), verbose, err)
         }
         Err(fault) => {
             if verbose {
@@ -73,7 +75,7 @@ fn run_audit<R: Files + Clock, O: Write, E: Write>(
             if verbose {
                 tell_audit(files, Instant::now(rt).ok(), err);
             }
-            status_of(writeln!(out, "lawful"), verbose, err)
+            status_of_print(writeln!(out, "lawful"), verbose, err)
         }
         Err(fault) => {
             if verbose {
@@ -99,10 +101,12 @@ fn run_job<R: Files + Clock + Threads + Sync, O: Write, E: Write>(
             out_log,
             out_store,
             options,
+            may_be_one,
         } => {
             let old = OldFiles::new(log.as_str(), store.as_str(), None);
             let new = NewFiles::new(out_log.as_str(), out_store.as_str());
-            run_recovery(rt, alloc, (&old, &new), options, job.verbose, out, err)
+            let how = (options, *may_be_one);
+            run_recovery(rt, alloc, (&old, &new), how, job.verbose, out, err)
         }
         Task::Audit { log, store, base } => {
             let base = match base {

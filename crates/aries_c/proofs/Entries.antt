@@ -3,8 +3,8 @@ use Rattle.std.proofs.Common.{◌≡◌, ℕ, ap, ap₂, ◌∙◌, refl, arith}
 use Rattle.wal.specs.declared.record.State.{State}
 use Rattle.wal.specs.declared.record.State.TheVariants.{Active, Aborting, Prepared}
 use Rattle.wal.specs.Records.{TableEntry}
-use Rattle.aries_c.specs.declared.tables.Entry.{Entry as Told}
-use Rattle.aries_c.specs.declared.tables.DirtyPage.{DirtyPage}
+use Rattle.aries_c.specs.declared.checkpoint.Entry.{Entry as Told}
+use Rattle.aries_c.specs.declared.checkpoint.DirtyPage.{DirtyPage}
 use Rattle.aries_c.specs.Tables.{state_number, told_entry, told_dirty}
 
 one_state : (s t : State) → state_number s ≡ state_number t → s ≡ t

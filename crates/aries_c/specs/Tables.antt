@@ -5,9 +5,9 @@ use Rattle.wal.specs.declared.record.State.TheVariants.{Active, Aborting, Prepar
 use Rattle.wal.specs.Records.{TableEntry, LogContent, CheckpointEnd, history, record_at}
 use Rattle.wal.specs.Reads.{Reads}
 use Rattle.wal.specs.Spelling.{frame, Fits}
-use Rattle.aries_c.specs.declared.tables.Entry.{Entry as Told}
-use Rattle.aries_c.specs.declared.tables.DirtyPage.{DirtyPage}
-use Rattle.aries_c.specs.declared.tables.Tables.{Tables}
+use Rattle.aries_c.specs.declared.checkpoint.Entry.{Entry as Told}
+use Rattle.aries_c.specs.declared.checkpoint.DirtyPage.{DirtyPage}
+use Rattle.aries_c.specs.declared.checkpoint.Tables.{Tables}
 
 -- how a transaction stands, by its number
 abbrev pub state_number : State → ℕ

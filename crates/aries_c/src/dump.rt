@@ -3,12 +3,13 @@
 ghost use Rattle.std.specs.Prelude.{◌≡◌, ◌≢◌, ◌+◌, ◌-◌, ◌<◌, ◌≤◌, ◌⊎◌, ℕ, List, length, drop, max, min, slice_index_or, Some, IfSome, IfNone};
 ghost use Rattle.wal.specs.Records.{TableEntry, LogContent, CheckpointEnd, history, last_lsn, base_lsn, record_at};
 ghost use Rattle.wal.specs.Reads.{Reads, Cause};
+ghost use Rattle.aries_c.specs.declared.fault.TheConstants.{NO_ROOM, NOT_WRITABLE};
 ghost use Rattle.aries_c.specs.declared.record.Record.{Record as Told};
 ghost use Rattle.aries_c.specs.Fault.{Tells, no_room, not_writable};
 ghost use Rattle.aries_c.specs.Tables.{HasTables, Counts, Fills, told_entry, told_dirty};
 ghost use Rattle.aries_c.specs.Dump.{TellsRecord, first_asked, Dumps};
 
-use crate::tables::{fill_dirty, fill_entries};
+use crate::checkpoint::{fill_dirty, fill_entries};
 use crate::{DirtyPage, Entry, Fault, Record, Tables};
 use std::alloc::Global;
 use wal::{DirtyTable, Log, RecordView, TransactionTable, read_log};
@@ -116,17 +117,17 @@ pub extern "C" fn aries_checkpoint(
         × Counts begin entries pages tables.new
         × Fills told_entry entries transactions.old transactions.new
         × Fills told_dirty pages dirty.old dirty.new }
-    ensures no_room { result.number ≡ 64 → (begin : ℕ) × (entries : List TableEntry)
+    ensures no_room { result.number ≡ NO_ROOM → (begin : ℕ) × (entries : List TableEntry)
         × (pages : List (ℕ × ℕ)) × HasTables log.now lsn begin entries pages
         × Counts begin entries pages tables.new
         × ((length transactions.old < length entries) ⊎ (length dirty.old < length pages)) }
-    ensures none { result.number ≡ 65 → (begin : ℕ) (entries : List TableEntry)
+    ensures none { result.number ≡ NOT_WRITABLE → (begin : ℕ) (entries : List TableEntry)
         (pages : List (ℕ × ℕ)) → ¬ HasTables log.now lsn begin entries pages }
     ensures fault { result.number ≢ 0 → (result ≡ no_room) ⊎ ((result ≡ not_writable)
         ⊎ Tells (Cause log.now) result) }
     ensures kept { result.number ≢ 0
         → (transactions.new ≡ transactions.old) × (dirty.new ≡ dirty.old) }
-    ensures untold { result.number ≢ 0 → result.number ≢ 64 → tables.new ≡ tables.old }
+    ensures untold { result.number ≢ 0 → result.number ≢ NO_ROOM → tables.new ≡ tables.old }
 {
     let log = match read_log(alloc, log) {
         Ok((log, _)) => log,

@@ -6,10 +6,10 @@ ghost use Rattle.aries_c.specs.Fault.{place_of, told_of, done, no_memory, no_roo
 use std::alloc::{AllocError, AllocFailed};
 
 /// The number of a refusal for a buffer that is too short.
-const NO_ROOM: u32 = 64;
+pub const NO_ROOM: u32 = 64;
 
 /// The number of a refusal of what has no spelling, or does not stand where it is asked for.
-const NOT_WRITABLE: u32 = 65;
+pub const NOT_WRITABLE: u32 = 65;
 
 /// What a call answers: the number of a fault, 0 where there is none, and the place of its cause, 0
 /// where it has none: an offset in the log in bytes (7 to 9), an LSN (14, 16, 20 to 25) or a page

@@ -3,6 +3,7 @@
 #![tactic(auto)]
 
 mod audited;
+mod checkpoint;
 mod dump;
 mod fault;
 mod image;
@@ -11,10 +12,10 @@ mod pages;
 mod record;
 mod recovered;
 mod room;
-mod tables;
 mod text;
 
 pub use audited::{aries_audit, aries_audit_from};
+pub use checkpoint::{DirtyPage, Entry, Tables};
 pub use dump::{Read, aries_checkpoint, aries_records};
 pub use fault::Fault;
 pub use image::Image;
@@ -22,5 +23,4 @@ pub use log_writing::{aries_write_checkpoint_end, aries_write_log_header, aries_
 pub use pages::{Page, aries_read_page, aries_write_page, aries_write_store_header};
 pub use record::Record;
 pub use recovered::{Recovered, aries_recover};
-pub use tables::{DirtyPage, Entry, Tables};
 pub use text::aries_fault_text;

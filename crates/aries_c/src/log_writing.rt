@@ -1,39 +1,21 @@
 //! What an engine writes of a log: its header, and the frames of its records.
 
 ghost use Rattle.std.specs.Prelude.{◌≡◌, ◌≢◌, ◌<◌, ◌≤◌, ℕ, List, ◌⊎◌, IfOk, IfErr};
-ghost use Rattle.wal.specs.declared.sizes.TheConstants.{LARGEST_BASE};
-ghost use Rattle.wal.specs.Headers.{header_of};
 ghost use Rattle.wal.specs.Spelling.{Fits, frame};
 ghost use Rattle.wal.specs.Content.{content};
-ghost use Rattle.wal.specs.declared.header.LogStart.TheVariants.{Version2};
+ghost use Rattle.aries_c.specs.declared.fault.TheConstants.{NO_ROOM, NOT_WRITABLE};
 ghost use Rattle.aries_c.specs.Fault.{no_memory, not_writable};
 ghost use Rattle.aries_c.specs.LogHeader.{IsLogHeader};
 ghost use Rattle.aries_c.specs.Record.{IsFrame};
 ghost use Rattle.aries_c.specs.Tables.{IsEndFrame};
 ghost use Rattle.aries_c.specs.Writing.{Wrote, LacksRoom, IsAnswer, IsAnswerOrMemory};
 
+use crate::checkpoint::{dirty_named, entries_named};
 use crate::record::with_spelling;
 use crate::room::put;
-use crate::tables::{dirty_named, entries_named};
 use crate::{DirtyPage, Entry, Fault, Record};
 use std::alloc::Global;
-use wal::write_frame;
-
-/// The largest base LSN that a log may have: 2^63 - 1.
-const LARGEST_BASE: u64 = 9_223_372_036_854_775_807;
-
-/// How many bytes the header of a log takes in version 2.
-const BASED_HEADER_BYTES: usize = 16;
-
-/// The header of a log of version 2.
-fn based_header(base: u64) -> [u8; BASED_HEADER_BYTES]
-    ensures { result ≡ header_of (Version2 base) }
-{
-    let mut header = [0; BASED_HEADER_BYTES];
-    header[..8].copy_from_slice(b"ARIESLG2");
-    header[8..].copy_from_slice(&base.to_be_bytes());
-    header
-}
+use wal::{LARGEST_BASE, based_header, plain_header, write_frame};
 
 /// Writes the header of a log to the front of a buffer: of version 1, with base LSN 0, 8 bytes; of
 /// version 2, with a base LSN of at most 2^63 - 1, 16 bytes. 65: any other version or base LSN; 64:
@@ -47,16 +29,16 @@ pub extern "C" fn aries_write_log_header(
 ) -> Fault
     ensures written { result.number ≡ 0
         → Wrote (IsLogHeader version base_lsn) out.old out.new told.new }
-    ensures no_room { result.number ≡ 64
+    ensures no_room { result.number ≡ NO_ROOM
         → LacksRoom (IsLogHeader version base_lsn) out.old told.new }
-    ensures not_writable { result.number ≡ 65
+    ensures not_writable { result.number ≡ NOT_WRITABLE
         → (text : List ℕ) → ¬ IsLogHeader version base_lsn text }
     ensures answer { IsAnswer result }
     ensures kept { result.number ≢ 0 → out.new ≡ out.old }
-    ensures untold { result.number ≡ 65 → told.new ≡ told.old }
+    ensures untold { result.number ≡ NOT_WRITABLE → told.new ≡ told.old }
 {
     match version {
-        1 if base_lsn == 0 => put(b"ARIESLG1", out, told),
+        1 if base_lsn == 0 => put(&plain_header(), out, told),
         2 if base_lsn <= LARGEST_BASE => put(&based_header(base_lsn), out, told),
         _ => Fault::not_writable(),
     }
@@ -87,11 +69,11 @@ pub extern "C" fn aries_write_record(
     told: &mut usize,
 ) -> Fault
     ensures written { result.number ≡ 0 → Wrote (IsFrame named.now) out.old out.new told.new }
-    ensures no_room { result.number ≡ 64 → LacksRoom (IsFrame named.now) out.old told.new }
-    ensures not_writable { result.number ≡ 65 → (text : List ℕ) → ¬ IsFrame named.now text }
+    ensures no_room { result.number ≡ NO_ROOM → LacksRoom (IsFrame named.now) out.old told.new }
+    ensures not_writable { result.number ≡ NOT_WRITABLE → (text : List ℕ) → ¬ IsFrame named.now text }
     ensures answer { IsAnswerOrMemory result }
     ensures kept { result.number ≢ 0 → out.new ≡ out.old }
-    ensures untold { result.number ≢ 0 → result.number ≢ 64 → told.new ≡ told.old }
+    ensures untold { result.number ≢ 0 → result.number ≢ NO_ROOM → told.new ≡ told.old }
 {
     match record_frame(alloc, named) {
         Ok(frame) => put(&frame, out, told),
@@ -146,13 +128,13 @@ pub extern "C" fn aries_write_checkpoint_end(
 ) -> Fault
     ensures written { result.number ≡ 0
         → Wrote (IsEndFrame lsn begin transactions.now dirty.now) out.old out.new told.new }
-    ensures no_room { result.number ≡ 64
+    ensures no_room { result.number ≡ NO_ROOM
         → LacksRoom (IsEndFrame lsn begin transactions.now dirty.now) out.old told.new }
-    ensures not_writable { result.number ≡ 65
+    ensures not_writable { result.number ≡ NOT_WRITABLE
         → (text : List ℕ) → ¬ IsEndFrame lsn begin transactions.now dirty.now text }
     ensures answer { IsAnswerOrMemory result }
     ensures kept { result.number ≢ 0 → out.new ≡ out.old }
-    ensures untold { result.number ≢ 0 → result.number ≢ 64 → told.new ≡ told.old }
+    ensures untold { result.number ≢ 0 → result.number ≢ NO_ROOM → told.new ≡ told.old }
 {
     match end_frame(alloc, lsn, begin, transactions, dirty) {
         Ok(frame) => put(&frame, out, told),

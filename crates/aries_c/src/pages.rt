@@ -4,17 +4,14 @@ ghost use Rattle.std.specs.Prelude.{◌≡◌, ◌≢◌, ◌<◌, ◌≤◌, �
 ghost use Rattle.page.specs.declared.page.Page.{Page as Content};
 ghost use Rattle.page.specs.declared.fault.Fault.TheVariants.{BadPage};
 ghost use Rattle.page.specs.Image.{FitsPage, SpellsPage};
-ghost use Rattle.page.specs.File.{store_header};
+ghost use Rattle.aries_c.specs.declared.fault.TheConstants.{NO_ROOM, NOT_WRITABLE};
 ghost use Rattle.aries_c.specs.Fault.{done, told_of, not_writable};
 ghost use Rattle.aries_c.specs.Pages.{NamesPage, IsStoreHeader, IsPageImage};
 ghost use Rattle.aries_c.specs.Writing.{Wrote, LacksRoom, IsAnswer};
 
 use crate::room::put;
 use crate::{Fault, Image};
-use page::{PAGE_BYTES, PAGES, SLOTS, Value, decode_page, encode_page};
-
-/// How many bytes the header of a store takes.
-const STORE_HEADER_BYTES: usize = 24;
+use page::{PAGE_BYTES, PAGES, SLOTS, Value, decode_page, encode_page, store_header};
 
 /// A page: its number from 0, PageLSN, 0 for none, and what its 16 slots hold.
 #[repr(C)]
@@ -60,17 +57,6 @@ impl Page {
     }
 }
 
-/// The first 24 bytes of a store file of this many pages with this master LSN.
-fn store_header(pages: u32, master: u64) -> [u8; STORE_HEADER_BYTES]
-    ensures { result ≡ store_header pages master }
-{
-    let mut header = [0; STORE_HEADER_BYTES];
-    header[..8].copy_from_slice(b"ARIESPG1");
-    header[8..12].copy_from_slice(&pages.to_be_bytes());
-    header[16..].copy_from_slice(&master.to_be_bytes());
-    header
-}
-
 /// Writes a store's header, 24 bytes, to the front of a buffer: its page count, 1 to 4,096, and its
 /// master LSN, 0 for none. 65: the page count is out of range; 64: the buffer is too short.
 #[unsafe(no_mangle)]
@@ -82,13 +68,13 @@ pub extern "C" fn aries_write_store_header(
 ) -> Fault
     ensures written { result.number ≡ 0
         → Wrote (IsStoreHeader pages master) out.old out.new told.new }
-    ensures no_room { result.number ≡ 64
+    ensures no_room { result.number ≡ NO_ROOM
         → LacksRoom (IsStoreHeader pages master) out.old told.new }
-    ensures not_writable { result.number ≡ 65
+    ensures not_writable { result.number ≡ NOT_WRITABLE
         → (text : List ℕ) → ¬ IsStoreHeader pages master text }
     ensures answer { IsAnswer result }
     ensures kept { result.number ≢ 0 → out.new ≡ out.old }
-    ensures untold { result.number ≡ 65 → told.new ≡ told.old }
+    ensures untold { result.number ≡ NOT_WRITABLE → told.new ≡ told.old }
 {
     if pages == 0 || pages as usize > PAGES {
         return Fault::not_writable();
@@ -101,12 +87,12 @@ pub extern "C" fn aries_write_store_header(
 #[unsafe(no_mangle)]
 pub extern "C" fn aries_write_page(page: &Page, out: &mut [u8], told: &mut usize) -> Fault
     ensures written { result.number ≡ 0 → Wrote (IsPageImage page.now) out.old out.new told.new }
-    ensures no_room { result.number ≡ 64 → LacksRoom (IsPageImage page.now) out.old told.new }
-    ensures not_writable { result.number ≡ 65
+    ensures no_room { result.number ≡ NO_ROOM → LacksRoom (IsPageImage page.now) out.old told.new }
+    ensures not_writable { result.number ≡ NOT_WRITABLE
         → (text : List ℕ) → ¬ IsPageImage page.now text }
     ensures answer { IsAnswer result }
     ensures kept { result.number ≢ 0 → out.new ≡ out.old }
-    ensures untold { result.number ≡ 65 → told.new ≡ told.old }
+    ensures untold { result.number ≡ NOT_WRITABLE → told.new ≡ told.old }
 {
     match page.page() {
         Ok(page) => put(&encode_page(&page), out, told),

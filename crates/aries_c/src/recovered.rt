@@ -8,6 +8,7 @@ ghost use Rattle.wal.specs.Reads.{log_text};
 ghost use Rattle.wal.specs.Store.{store_out};
 ghost use Rattle.wal.specs.Tail.{with_tail};
 ghost use Rattle.recovery.specs.Recovery.{Recovers, Recovered as AreRecovered, AreLawful, AreCut, Cause, new_log as log_made};
+ghost use Rattle.aries_c.specs.declared.fault.TheConstants.{NO_ROOM};
 ghost use Rattle.aries_c.specs.Fault.{Tells, done, no_memory, no_room};
 ghost use Rattle.aries_c.specs.Recovered.{new_log, new_store, report_told, TellsLengths, IsShort};
 
@@ -136,10 +137,10 @@ pub extern "C" fn aries_recover(
         ≡ store_text (store_out base bytes.first.decoded.read bytes.first.decoded.before) }
 
     // A refusal has its cause, or a buffer is shorter than what a recovery makes.
-    ensures cause { result.number ≢ 0 → result.number ≢ 64
+    ensures cause { result.number ≢ 0 → result.number ≢ NO_ROOM
         → Tells (Cause log.now store.now (record { workers = 1; parts = 1 })) result }
-    ensures lengths { result.number ≡ 64 → TellsLengths log.now store.now made.new }
-    ensures short { result.number ≡ 64
+    ensures lengths { result.number ≡ NO_ROOM → TellsLengths log.now store.now made.new }
+    ensures short { result.number ≡ NO_ROOM
         → IsShort made.new tail.old out_store.old in_doubt.old }
 
     // What it leaves.
@@ -149,7 +150,7 @@ pub extern "C" fn aries_recover(
         × (drop made.new.in_doubt in_doubt.new ≡ drop made.new.in_doubt in_doubt.old) }
     ensures kept { result.number ≢ 0 → (tail.new ≡ tail.old)
         × (out_store.new ≡ out_store.old) × (in_doubt.new ≡ in_doubt.old) }
-    ensures untold { result.number ≢ 0 → result.number ≢ 64 → made.new ≡ made.old }
+    ensures untold { result.number ≢ 0 → result.number ≢ NO_ROOM → made.new ≡ made.old }
 {
     let recovery = match recovery_in(alloc, log, store) {
         Ok(recovery) => recovery,

@@ -3,6 +3,7 @@
 ghost use Rattle.std.specs.Prelude.{◌≡◌, ◌≢◌, ◌<◌, ◌≤◌, ◌⊎◌, IfSome, IfNone, drop, length};
 ghost use Rattle.page.specs.declared.fault.Fault.{Fault as Content};
 ghost use Rattle.page.specs.Fault.{number_of};
+ghost use Rattle.aries_c.specs.declared.fault.TheConstants.{NO_ROOM, NOT_WRITABLE};
 ghost use Rattle.aries_c.specs.Fault.{place_of, told_of, IsFault, IsBare, IsAtLsn, IsOfPage};
 ghost use Rattle.aries_c.specs.Writing.{IsAnswerOrMemory};
 
@@ -106,12 +107,12 @@ pub extern "C" fn aries_fault_text(
         × (number_of content ≡ fault.now.number) }
     ensures written { result.number ≡ 0 → (told.new ≤ length out.old)
         × (drop told.new out.new ≡ drop told.new out.old) }
-    ensures no_room { result.number ≡ 64 → length out.old < told.new }
-    ensures not_writable { result.number ≡ 65
+    ensures no_room { result.number ≡ NO_ROOM → length out.old < told.new }
+    ensures not_writable { result.number ≡ NOT_WRITABLE
         → (content : Content) → IsFault content → fault.now ≢ told_of content }
     ensures answer { IsAnswerOrMemory result }
     ensures kept { result.number ≢ 0 → out.new ≡ out.old }
-    ensures untold { result.number ≢ 0 → result.number ≢ 64 → told.new ≡ told.old }
+    ensures untold { result.number ≢ 0 → result.number ≢ NO_ROOM → told.new ≡ told.old }
 {
     let Some(fault) = fault_in(fault) else {
         return Fault::not_writable();

@@ -23,7 +23,7 @@ IsCommand name = (name ≡ codes "recover") ⊎ (name ≡ codes "audit")
 command_is : {B : Type 0} (o : Option B) (found : B → Text × List Row) (task : Task) → IsSomeAnd (option_map found o) (λ p. NamesFiles p.0 p.1 task)
     → IsSomeAnd (option_map (λ b. (found b).0) o) IsCommand
 command_is None found task names = absurd names
-command_is (Some b) found (Recover log store out_log out_store options) names = inl names.0
+command_is (Some b) found (Recover log store out_log out_store options may_be_one) names = inl names.0
 command_is (Some b) found (Audit log store base) names = inr names.0
 
 -- so a parse of words that give a job its files entered `recover` or `audit`

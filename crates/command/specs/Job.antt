@@ -1,5 +1,5 @@
 -- What a command line may ask for.
-use Rattle.std.specs.Prelude.{◌≡◌, ℕ, ◌≤◌, List, [], Some, IsSomeAnd, codes, decimal, option_map, string_bytes, ⊤}
+use Rattle.std.specs.Prelude.{◌≡◌, ℕ, ◌≤◌, List, [], Some, None, IsSomeAnd, IsTrue, ◌↔◌, codes, decimal, option_map, string_bytes, ⊤}
 use Rattle.clap.specs.Words.{Row, Text, fault_of, first_of, one_of, subcommand_of}
 use Rattle.command.specs.declared.job.Job.{Job}
 use Rattle.command.specs.declared.job.Task.{Task}
@@ -12,12 +12,12 @@ use Rattle.redo.specs.declared.rounds.TheConstants.{WORKERS}
 
 -- its numbers lie in their ranges
 abbrev pub HasRanges : Task → Type 0
-HasRanges (Recover log store out_log out_store options) = AreInRange options
+HasRanges (Recover log store out_log out_store options may_be_one) = AreInRange options
 HasRanges (Audit log store base) = ⊤
 
 -- the command is the task's, and the values of its options name the task's files
 abbrev pub NamesFiles : (command : Text) → (values : List Row) → Task → Type 0
-NamesFiles command values (Recover log store out_log out_store options) =
+NamesFiles command values (Recover log store out_log out_store options may_be_one) =
     (command ≡ codes "recover")
     × (first_of (codes "log") values ≡ Some (string_bytes log))
     × (first_of (codes "store") values ≡ Some (string_bytes store))
@@ -46,10 +46,11 @@ abbrev pub IsNumberOf : (values : List Row) → (option : Text) → (most : ℕ)
 IsNumberOf values option most n =
     (given : ℕ) → 1 ≤ given → given ≤ most → one_of option values ≡ Some (decimal given) → n ≡ given
 
--- the values of the options give the task's numbers
+-- the values of the options give the task's numbers, and the number of workers is open where they give none
 abbrev pub GivesNumbers : (values : List Row) → Task → Type 0
-GivesNumbers values (Recover log store out_log out_store options) =
+GivesNumbers values (Recover log store out_log out_store options may_be_one) =
     IsNumberOf values (codes "workers") WORKERS options.workers
+    × (IsTrue may_be_one ↔ (first_of (codes "workers") values ≡ None))
     × IsNumberOf values (codes "parts") PAGES options.parts
 GivesNumbers values (Audit log store base) = ⊤
 

@@ -1,5 +1,5 @@
 -- The command line of `aries`: its commands and their options.
-use Rattle.std.specs.Prelude.{ℕ, [], ◌∷◌, Some, codes, pos, true, false}
+use Rattle.std.specs.Prelude.{ℕ, List, [], ◌∷◌, Option, Some, None, codes, pos, true, false}
 use Rattle.clap.specs.Words.{App, Rule, Shape, Text, new_rule}
 use Rattle.clap.specs.Simple.{new_shape}
 use Rattle.clap.specs.declared.builder.value_parser.ValueParser.TheVariants.{Signed}
@@ -15,13 +15,18 @@ file_rule name = record (new_rule name) { long = Some name; value_names = 1; req
 abbrev pub free_file_rule : Text → Rule
 free_file_rule name = record (new_rule name) { long = Some name; value_names = 1 }
 
--- `--name N` with a number of 1 to `most`, which may be left out
-abbrev pub number_rule : Text → (most : ℕ) → (default : Text) → Rule
+-- as a list of one or none
+abbrev pub as_list : Option Text → List Text
+as_list None = []
+as_list (Some text) = text ∷ []
+
+-- `--name N` with a number of 1 to `most`, which may be left out, and then has its default, if there is one
+abbrev pub number_rule : Text → (most : ℕ) → (default : Option Text) → Rule
 number_rule name most default = record (new_rule name) {
   long = Some name;
   value_names = 1;
   parser = Some (Signed (pos 1) (pos most));
-  defaults = default ∷ [];
+  defaults = as_list default;
 }
 
 -- `aries recover`
@@ -31,8 +36,8 @@ recover_line = record (new_shape (codes "recover")) {
       ∷ file_rule (codes "store")
       ∷ file_rule (codes "out-log")
       ∷ file_rule (codes "out-store")
-      ∷ number_rule (codes "workers") WORKERS (codes "4")
-      ∷ number_rule (codes "parts") PAGES (codes "16")
+      ∷ number_rule (codes "workers") WORKERS None
+      ∷ number_rule (codes "parts") PAGES (Some (codes "16"))
       ∷ flag_rule (codes "verbose")
       ∷ [];
 }

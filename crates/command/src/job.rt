@@ -41,6 +41,8 @@ pub enum Task {
         out_log: String,
         out_store: String,
         options: Options,
+        /// Whether one worker may do instead where the log is short: the line names no number.
+        may_be_one: bool,
     },
     /// Say whether the log `log` and the store `store` are lawful, over the pages of the base store
     /// `base` where it is given, else over empty ones.
@@ -74,23 +76,28 @@ fn free_file_option<'a>(alloc: Global, name: &'a str, help: &'a str) -> Arg<'a>
         .help(help)
 }
 
-/// An option with a number of 1 to `most`.
+/// An option with a number of 1 to `most`, which may be left out, and then has its default, if there
+/// is one.
 fn number_option<'a>(
     alloc: Global,
     name: &'a str,
     most: u32,
-    default: &'a str,
+    default: Option<&'a str>,
     help: &'a str,
 ) -> Arg<'a>
-    ensures rule { rule_of result ≡ number_rule name.entry.now most default.entry.now }
+    ensures rule { rule_of result
+        ≡ number_rule name.entry.now most (option_map (λ text. text.now) default.entry) }
     ensures local { result.global ≡ false }
 {
-    Arg::new(alloc, name)
+    let option = Arg::new(alloc, name)
         .long(name)
         .value_name("N")
         .value_parser(value_parser!(u32).range(1..=i64::from(most)))
-        .default_value(default)
-        .help(help)
+        .help(help);
+    match default {
+        Some(text) => option.default_value(text),
+        None => option,
+    }
 }
 
 /// The command `recover`.
@@ -116,14 +123,14 @@ fn recover_command<'a>(alloc: Global) -> Result<Command<'a>, AllocError>
             alloc,
             "workers",
             WORKERS,
-            "4",
-            "How many threads redo the pages, 1 to 64",
+            None,
+            "How many threads redo the pages, 1 to 64; without it 4, or 1 where the log is short",
         ))?
         .arg(number_option(
             alloc,
             "parts",
             PAGES as u32,
-            "16",
+            Some("16"),
             "Into how many parts the pages are dealt, 1 to 4096",
         ))?
         .arg(flag_option(alloc, "verbose", help::VERBOSE))
@@ -227,6 +234,7 @@ fn recover_job(alloc: Global, command: &mut Command, matches: &ArgMatches) -> Re
             workers: number_of(matches, "workers", WORKERS, 4),
             parts: number_of(matches, "parts", PAGES as u32, 16),
         },
+        may_be_one: matches.get_str("workers").is_none(),
     };
     Ok(Job {
         task,

@@ -9,7 +9,7 @@ use Rattle.wal.specs.Frames.{Gives}
 use Rattle.wal.specs.Reads.{Reads, Cause, HasFaultBehind, spellings, log_text}
 use Rattle.wal.proofs.Histories.{size_of_log}
 use Rattle.dump.specs.LogLines.{fault_at}
-use Rattle.dump.proofs.Places.{size_of_header}
+use Rattle.wal.proofs.Headers.{header_length}
 
 -- frames with a fault behind them: the bytes up to the fault are a log
 pub record Front (bytes : List ℕ) (offset : ℕ) : Type 0 where
@@ -23,7 +23,7 @@ front_of bytes e offset h is =
     let frames = spellings (lsn_before h.begins + 1) h.behind.records in
     let log : LogContent = record { begins = h.begins; records = h.behind.records } in
     let text : bytes ≡ log_text log ++ h.behind.rest = h.front ∙ ap (λ b. header ++ b) h.behind.text ∙ sym (append_assoc header frames h.behind.rest) in
-    let size : length (log_text log) ≡ offset = omega (arith, length-append header frames, size_of_header h.begins, is) in
+    let size : length (log_text log) ≡ offset = omega (arith, length-append header frames, header_length h.begins, is) in
     let front : take offset bytes ≡ log_text log = ap (take offset) text ∙ take_at (log_text log) h.behind.rest offset size in
     record {
       log = log;

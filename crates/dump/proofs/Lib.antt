@@ -1,4 +1,3 @@
 mod Texts
 mod Places
-mod Sizes
 mod Fronts

@@ -9,6 +9,7 @@ use Rattle.wal.specs.Headers.{header_bytes, header_of, magic_2}
 use Rattle.wal.specs.Records.{LogRecord, History, start, ◌▸◌, ◌▸▸◌, LogContent, history, last_lsn, lsn_before, first}
 use Rattle.wal.specs.Reads.{Reads, spellings, log_text}
 use Rattle.wal.specs.Spelling.{frame}
+use Rattle.wal.proofs.Headers.{header_length}
 use Rattle.wal.proofs.Histories.{first_more, record_above, record_within, size_of_first}
 use Rattle.dump.specs.LogLines.{place_behind, FramesStandThere}
 
@@ -54,15 +55,11 @@ text_within header n (log ▸ r) =
 
 -- PLACES
 -- a header takes as many bytes as it says
-pub size_of_header : (begins : LogStart) → length (header_of begins) ≡ header_bytes begins
-size_of_header Version1 = refl
-size_of_header (Version2 base) = refl
-
 -- behind all of a log that was read
 pub place_behind_all : (bytes : List ℕ) (log : LogContent) (torn : ℕ) → Reads bytes log torn → place_behind (header_bytes log.begins) (history log) ≤ length bytes
 place_behind_all bytes log torn reads =
     let header = header_of log.begins in
-    let size = ap (λ n. place_behind n (history log)) (size_of_header log.begins) in
+    let size = ap (λ n. place_behind n (history log)) (header_length log.begins) in
     omega (arith, size, size_of_text header (history log), ap length (text_of_log log), ap length reads.text, length-append (log_text log) reads.tail)
 
 -- in a part of the log
@@ -95,7 +92,7 @@ frames_stand_there bytes log torn lsn r reads there =
       front = front;
       rest = more ++ reads.tail;
       is = text;
-      place_is = size_of_text header before ∙ ap (λ n. place_behind n before) (size_of_header log.begins);
+      place_is = size_of_text header before ∙ ap (λ n. place_behind n before) (header_length log.begins);
     }
 
 -- HOW A LOG BEGINS

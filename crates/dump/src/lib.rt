@@ -9,7 +9,6 @@ mod laws;
 mod line;
 mod log_lines;
 mod record;
-mod size;
 mod stop;
 mod store_lines;
 mod style;

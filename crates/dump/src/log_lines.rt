@@ -13,24 +13,11 @@ ghost use Rattle.dump.specs.LogLines.{log_line, place_behind, line_if_asked, rec
 
 use crate::line::{put_closing, put_number_field, put_opening};
 use crate::record::put_record;
-use crate::size::frame_bytes;
 use crate::{Choice, Stop, Style};
 use page::Fault;
 use std::alloc::{AllocError, Global};
 use std::io::Write;
 use wal::{Log, LogStart, RecordView, read_log};
-
-/// How the log begins that these bytes are.
-fn start_of(bytes: &[u8], log: &Log) -> LogStart
-    requires { (torn : ℕ) × Reads bytes.now log.now torn }
-    ensures { result ≡ log.now.begins }
-{
-    if bytes.starts_with(b"ARIESLG2") {
-        LogStart::Version2 { base: log.base() }
-    } else {
-        LogStart::Version1
-    }
-}
 
 /// Appends the line of a log's header.
 fn put_start(line: &mut Vec<u8>, style: Style, start: LogStart) -> Result<(), AllocError>
@@ -91,7 +78,7 @@ fn print_records<W: Write>(
     for lsn in log.base()..log.last() {
         let view = log.after(lsn);
         print_record(&view, lsn + 1, place, style, choice, line, out)?;
-        place += frame_bytes(&view);
+        place += view.frame_bytes();
     }
     Ok(place)
 }
@@ -134,7 +121,7 @@ fn print_log<W: Write>(
         (log_lines style choice.now log.now torn)) }
     ensures err { IfErr result IsNoFault }
 {
-    let start = start_of(bytes, log);
+    let start = log.start();
     let mut line = Vec::new(alloc);
     put_start(&mut line, style, start)?;
     out.write_all(&line)?;

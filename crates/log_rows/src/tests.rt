@@ -1,7 +1,7 @@
 //! The tables of analysis, the verdicts of an audit, the texts of logs; and records for them.
 
+mod analysed;
 mod records;
-mod tables;
 mod texts;
 mod verdicts;
 

@@ -121,20 +121,20 @@ header_stays bytes more count master le h = record { text = take-append-le 24 by
 header_stood : (bytes more : List ℕ) (count master : ℕ) → 24 ≤ length bytes → BeginsWithHeader (bytes ++ more) count master → BeginsWithHeader bytes count master
 header_stood bytes more count master le h = record { text = sym (take-append-le 24 bytes more le) ∙ h.text; some = h.some; few = h.few; small = h.small }
 
-pub so_far_more : (bytes more : List ℕ) (count master size next : ℕ) (pages new : List Page) (was_bad bad : Bool) → 24 ≤ length bytes → IsSoFar bytes count master pages size was_bad
-    → next ≡ min (size + length more) (2 ^ 64 - 1) → AreRead (drop 24 bytes ++ more) count new bad → IsSoFar (bytes ++ more) count master new next bad
-so_far_more bytes more count master size next pages new was_bad bad le s e r = record {
+pub so_far_more : (bytes more : List ℕ) (count master size next : ℕ) (pages new : List Page) (was_bad bad refused : Bool) → 24 ≤ length bytes → IsSoFar bytes count master pages size was_bad refused
+    → next ≡ min (size + length more) (2 ^ 64 - 1) → AreRead (drop 24 bytes ++ more) count new bad → IsSoFar (bytes ++ more) count master new next bad refused
+so_far_more bytes more count master size next pages new was_bad bad refused le s e r = record {
   header = λ some. header_stays bytes more count master le (s.header some);
-  none = λ z h. s.none z (h.0, h.1, header_stood bytes more h.0 h.1 le h.2);
+  none = λ kept z h. s.none kept z (h.0, h.1, header_stood bytes more h.0 h.1 le h.2);
   few = s.few;
   came = omega (arith, e, s.came, length-append bytes more);
   read = subst (λ (t : List ℕ). AreRead t count new bad) (sym (drop-append-le 24 bytes more le)) r;
 }
 
 -- nothing but a header came
-pub so_far_first : (bytes : List ℕ) (count master : ℕ) (pages : List Page) → length bytes ≤ 24 → pages ≡ [] → (0 < count → BeginsWithHeader bytes count master) → (count ≡ 0 → HasStoreHeader bytes → ⊥) → count ≤ 4096
-    → IsSoFar bytes count master pages (length bytes) false
-so_far_first bytes count master pages short e header none few =
+pub so_far_first : (bytes : List ℕ) (count master : ℕ) (pages : List Page) (refused : Bool) → length bytes ≤ 24 → pages ≡ [] → (0 < count → BeginsWithHeader bytes count master)
+    → (refused ≡ false → count ≡ 0 → HasStoreHeader bytes → ⊥) → count ≤ 4096 → IsSoFar bytes count master pages (length bytes) false refused
+so_far_first bytes count master pages refused short e header none few =
     let images : drop 24 bytes ≡ [] = drop_all 24 bytes short in
     record {
       header = header;
@@ -160,16 +160,16 @@ so_far_first bytes count master pages short e header none few =
 right_size : (bytes : List ℕ) (count size : ℕ) → count ≤ 4096 → size ≡ min (length bytes) (2 ^ 64 - 1) → size ≡ 24 + 1024 * count → length bytes ≡ 24 + 1024 * count
 right_size bytes count size few e right = omega (arith, few, e, right)
 
-pub is_wrong_size : (bytes : List ℕ) (count master : ℕ) (pages : List Page) (size : ℕ) (bad : Bool) → IsSoFar bytes count master pages size bad → 0 < count → (size ≡ 24 + 1024 * count → ⊥) → HasWrongSize bytes
-is_wrong_size bytes count master pages size bad s some wrong = record {
+pub is_wrong_size : (bytes : List ℕ) (count master : ℕ) (pages : List Page) (size : ℕ) (bad refused : Bool) → IsSoFar bytes count master pages size bad refused → 0 < count → (size ≡ 24 + 1024 * count → ⊥) → HasWrongSize bytes
+is_wrong_size bytes count master pages size bad refused s some wrong = record {
   count = count;
   master = master;
   header = s.header some;
   size = λ e. wrong (omega (arith, s.few, s.came, e));
 }
 
-pub is_bad_page : (bytes : List ℕ) (count master : ℕ) (pages : List Page) (size : ℕ) (bad : Bool) → IsSoFar bytes count master pages size bad → 0 < count → size ≡ 24 + 1024 * count → bad ≡ true → HasBadPage bytes (length pages)
-is_bad_page bytes count master pages size bad s some right is = record {
+pub is_bad_page : (bytes : List ℕ) (count master : ℕ) (pages : List Page) (size : ℕ) (bad refused : Bool) → IsSoFar bytes count master pages size bad refused → 0 < count → size ≡ 24 + 1024 * count → bad ≡ true → HasBadPage bytes (length pages)
+is_bad_page bytes count master pages size bad refused s some right is = record {
   count = count;
   master = master;
   header = s.header some;
@@ -177,8 +177,8 @@ is_bad_page bytes count master pages size bad s some right is = record {
   page = s.read.stopped is;
 }
 
-pub is_store : (bytes : List ℕ) (count master : ℕ) (pages : List Page) (size : ℕ) (bad : Bool) → IsSoFar bytes count master pages size bad → 0 < count → size ≡ 24 + 1024 * count → bad ≡ false → SpellsStore bytes (store_of master pages)
-is_store bytes count master pages size bad s some right is =
+pub is_store : (bytes : List ℕ) (count master : ℕ) (pages : List Page) (size : ℕ) (bad refused : Bool) → IsSoFar bytes count master pages size bad refused → 0 < count → size ≡ 24 + 1024 * count → bad ≡ false → SpellsStore bytes (store_of master pages)
+is_store bytes count master pages size bad refused s some right is =
     let header = s.header some in
     let long = right_size bytes count size s.few s.came right in
     let images : length (drop 24 bytes) ≡ 1024 * count = length-drop 24 bytes ∙ omega (arith, long) in

@@ -23,10 +23,11 @@ pub record AreRead (images : List ℕ) (count : ℕ) (pages : List Page) (bad : 
 abbrev pub Reads : List ℕ → ℕ → List Page → Bool → List Page → Bool → Type 0
 Reads images count old was_bad new bad = (before : List ℕ) → length before % PAGE_BYTES ≡ 0 → AreRead before count old was_bad → AreRead (before ++ images) count new bad
 
--- what a reader holds once these bytes of a store's file came: the page count of their header, 0 where it is no store's, its master, what was read of the images, and how many bytes came
-pub record IsSoFar (bytes : List ℕ) (count master : ℕ) (pages : List Page) (size : ℕ) (bad : Bool) : Type 0 where
+-- what a reader holds once these bytes of a store's file came: the page count of their header, 0 where it is no store's or room
+-- was refused, its master, what was read of the images, and how many bytes came
+pub record IsSoFar (bytes : List ℕ) (count master : ℕ) (pages : List Page) (size : ℕ) (bad refused : Bool) : Type 0 where
   pub header : 0 < count → BeginsWithHeader bytes count master
-  pub none : count ≡ 0 → HasStoreHeader bytes → ⊥
+  pub none : refused ≡ false → count ≡ 0 → HasStoreHeader bytes → ⊥
   pub few : count ≤ PAGES
   pub came : size ≡ min (length bytes) (2 ^ 64 - 1)
   pub read : AreRead (images_of bytes) count pages bad

@@ -1,6 +1,6 @@
 //! A store whose bytes come piece by piece.
 
-ghost use Rattle.std.specs.Prelude.{◌≡◌, ◌-◌, ◌%◌, ◌≤◌, ◌++◌, IfOk, IfErr, length};
+ghost use Rattle.std.specs.Prelude.{◌≡◌, ◌-◌, ◌%◌, ◌≤◌, ◌++◌, IfOk, IfErr, MatchResult, length};
 ghost use Rattle.std.specs.Vec.{vec_capacity};
 ghost use Rattle.page.specs.Store.{StoreContent};
 ghost use Rattle.page.specs.File.{SpellsStore, StoreFault};
@@ -46,7 +46,7 @@ fn take_pages(pages: &mut Vec<Page>, count: u32, bad: bool, images: &[u8]) -> bo
 /// The store whose bytes come piece by piece. Contracts see it as the bytes that came.
 #[derive(Drop)]
 pub struct StoreReader {
-    /// The page count in the header; 0 where the header is no store's.
+    /// The page count in the header; 0 where the header is no store's, or room was refused.
     count: u32,
     /// The master in the header.
     master: u64,
@@ -56,6 +56,8 @@ pub struct StoreReader {
     size: u64,
     /// Whether the image behind the pages that were read came, and is none of a page of its number.
     bad: bool,
+    /// Whether room for the pages was refused.
+    refused: bool,
     /// The bytes that came.
     came: Came,
 }
@@ -69,34 +71,44 @@ impl Model for StoreReader {
 
     ghost view = { λ r. r.came.bytes };
 
-    ghost invariant = { λ r. IsSoFar r.came.bytes r.count r.master r.pages.items r.size r.bad
+    ghost invariant = { λ r. IsSoFar r.came.bytes r.count r.master r.pages.items r.size r.bad r.refused
         × (r.count ≤ vec_capacity r.pages) };
 }
 
 impl StoreReader {
     /// Begins with the first bytes of a store's file: its header, 24 bytes, or all bytes where there
-    /// are fewer. The memory for the pages is taken here. The only error is `NoResource`, where it is
-    /// refused.
-    pub fn begin(alloc: Global, header: &[u8]) -> Result<StoreReader, Fault>
+    /// are fewer. The memory for the pages is taken here. Where it is refused, or the header is no
+    /// store's, the bytes that follow can still be taken, and `finish` says so.
+    pub fn begin(alloc: Global, header: &[u8]) -> StoreReader
         requires { length header.now ≤ STORE_HEADER_BYTES }
-        ensures ok { IfOk result (λ reader. reader ≡ header.now) }
-        ensures err { IfErr result (λ e. e ≡ Fault.NoResource) }
+        ensures { result ≡ header.now }
     {
         let (count, master) = match header_at(header) {
             Some(numbers) => numbers,
             None => (0, 0),
         };
-        let pages = Vec::with_capacity(alloc, count as usize)?;
         let size = header.len() as u64;
         let came = Came::joined(&(&Came::new(), header));
-        Ok(StoreReader {
+        let Ok(pages) = Vec::with_capacity(alloc, count as usize) else {
+            return StoreReader {
+                count: 0,
+                master,
+                pages: Vec::new(alloc),
+                size,
+                bad: false,
+                refused: true,
+                came,
+            };
+        };
+        StoreReader {
             count,
             master,
             pages,
             size,
             bad: false,
+            refused: false,
             came,
-        })
+        }
     }
 
     /// Takes the bytes behind those that came. These are a header and whole images: only the last
@@ -113,10 +125,11 @@ impl StoreReader {
 
     /// The store that the bytes spell, where all came. Else the first of `BadStoreHeader`,
     /// `StoreSize` and `BadPage` of the smallest page whose image is not the spelling of a page of
-    /// its number.
+    /// its number; or `NoResource`, where memory was refused.
     pub fn finish(self) -> Result<Store, Fault>
         ensures found { IfOk result (SpellsStore self) }
-        ensures only { (store : StoreContent) → SpellsStore self store → result ≡ Ok store }
+        ensures only { (store : StoreContent) → SpellsStore self store
+            → MatchResult result (λ read. read ≡ store) (λ e. e ≡ Fault.NoResource) }
         ensures fault { IfErr result (StoreFault self) }
     {
         let StoreReader {
@@ -125,8 +138,12 @@ impl StoreReader {
             pages,
             size,
             bad,
+            refused,
             came: _,
         } = self;
+        if refused {
+            return Err(Fault::NoResource);
+        }
         if count == 0 {
             return Err(Fault::BadStoreHeader);
         }
@@ -138,4 +155,21 @@ impl StoreReader {
         }
         Ok(Store { master, pages })
     }
+}
+
+/// The store that the bytes spell. Else the first of `BadStoreHeader`, `StoreSize` and `BadPage` of
+/// the smallest page whose image is not the spelling of a page of its number; or `NoResource`,
+/// where memory is refused.
+pub fn decode_store(alloc: Global, bytes: &[u8]) -> Result<Store, Fault>
+    ensures found { IfOk result (SpellsStore bytes.now) }
+    ensures only { (store : StoreContent) → SpellsStore bytes.now store
+        → MatchResult result (λ read. read ≡ store) (λ e. e ≡ Fault.NoResource) }
+    ensures fault { IfErr result (StoreFault bytes.now) }
+{
+    let (header, images) = bytes.split_at(bytes.len().min(STORE_HEADER_BYTES));
+    let mut reader = StoreReader::begin(alloc, header);
+    if !images.is_empty() {
+        reader.take(images);
+    }
+    reader.finish()
 }

@@ -1,6 +1,6 @@
 -- What a recovery over devices reads, writes and leaves (own).
-use Rattle.std.specs.Prelude.{◌≡◌, ℕ, ◌+◌, ◌⊎◌, List, ◌++◌, Option, IfSome, Result, Err, ⊤}
-use Rattle.std.specs.Io.KnownBytes.{Appends, Keeps}
+use Rattle.std.specs.Prelude.{◌≡◌, ℕ, ◌+◌, ◌⊎◌, List, ◌++◌, Option, IfSome, IfOk, IfErr, OnOk, Result, Err, ⊤}
+use Rattle.std.specs.Io.KnownBytes.{Appends, Keeps, IsAtEnd}
 use Rattle.page.specs.declared.fault.Fault.{Fault}
 use Rattle.page.specs.declared.fault.Fault.TheVariants.{NoResource, ReadLog, ReadStore, WriteLog, WriteStore, BadWorkers, BadParting}
 use Rattle.page.specs.Store.{StoreContent}
@@ -12,8 +12,9 @@ use Rattle.wal.specs.Reads.{log_text}
 use Rattle.wal.specs.Store.{store_out}
 use Rattle.device.specs.Transfer.{TookBeginning, Flushes}
 use Rattle.restart.specs.declared.options.Options.{Options}
+use Rattle.recovery.specs.declared.store_pieces.DecodedStore.{DecodedStore}
 use Rattle.recovery.specs.Text.{ReportContent}
-use Rattle.recovery.specs.Recovery.{Recovers, Recovered, AreCut, Cause}
+use Rattle.recovery.specs.Recovery.{Recovers, Recovered, AreCut, Cause, Decodes}
 use Rattle.restart.specs.Options.{OptionsFault}
 
 -- the device that this fault blames has failed once where it is the answer, else not at all
@@ -28,6 +29,13 @@ Gave left bytes = IfSome left (λ known. bytes ≡ known)
 -- want of memory, or this fault
 abbrev pub IsFaultOf : Fault → Fault → Type 0
 IsFaultOf own e = (e ≡ NoResource) ⊎ (e ≡ own)
+
+-- THE STORE'S SOURCE was read to its end, whether its bytes spell a store or not; its own fault is the one but want of memory
+pub record ReadsStore (left_before left_after : Option (List ℕ)) (failures_before failures_after : ℕ) (answer : Result DecodedStore Fault) : Type 0 where
+  pub read : IfOk answer (λ found. (text : List ℕ) × Gave left_before text × Decodes text found.store)
+  pub end : OnOk answer (IsAtEnd left_after)
+  pub fault : IfErr answer (IsFaultOf ReadStore)
+  pub cause : Fails ReadStore answer failures_before failures_after
 
 -- the texts that the sources gave
 pub record AreRead (log_left store_left : Option (List ℕ)) (log store : List ℕ) : Type 0 where

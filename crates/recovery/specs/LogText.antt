@@ -1,14 +1,27 @@
 -- The bytes of a log that were read, in one part or in two (own).
-use Rattle.std.specs.Prelude.{◌≡◌, ℕ, List, [], ◌++◌, Option, Some, None}
-use Rattle.wal.specs.declared.stretch.Stretch.{Stretch}
-use Rattle.wal.specs.Stretches.{IsStretch}
+use Rattle.std.specs.Prelude.{◌≡◌, ℕ, ◌≤◌, List, [], ◌++◌, length, drop, Option}
+use Rattle.std.specs.Io.KnownBytes.{Consumes}
+use Rattle.wal.specs.Reads.{Cause}
+use Rattle.wal.specs.Stretches.{BeginsLog}
 use Rattle.recovery.specs.declared.log_text.LogText.{LogText}
+use Rattle.recovery.specs.declared.log_text.Known.{Known}
+use Rattle.recovery.specs.declared.log_text.Known.TheVariants.{Nothing, Front, Fault}
 
 -- all of them
 abbrev pub text_of : LogText → List ℕ
-text_of text = text.front.items ++ text.back.items
+text_of text = text.front.items ++ drop text.from text.back.items
 
--- in two parts with the frames of the first, or in one
-abbrev pub IsLogText : LogText → Option Stretch → Type 0
-IsLogText text (Some first) = IsStretch text.front.items first
-IsLogText text None = text.back.items ≡ []
+-- all that a source had left came behind the first of these bytes
+pub record CameBehind (old new : Option (List ℕ)) (first : ℕ) (bytes : List ℕ) : Type 0 where
+  pub read : Consumes old new (drop first bytes)
+  pub within : first ≤ length bytes
+
+-- what is known of them holds
+abbrev pub IsKnown : LogText → Known → Type 0
+IsKnown text Nothing = drop text.from text.back.items ≡ []
+IsKnown text (Front first) = BeginsLog text.front.items first × (first.end ≡ length text.front.items)
+IsKnown text (Fault e) = Cause (text_of text) e
+
+pub record IsLogText (text : LogText) (known : Known) : Type 0 where
+  pub within : text.from ≤ length text.back.items
+  pub is : IsKnown text known

@@ -15,9 +15,9 @@ ghost use Rattle.restart.specs.Options.{AreInRange, OptionsFault};
 ghost use Rattle.recovery.specs.Devices.{Fails, Gave, IsFaultOf, Makes, Writes, AreOut, Leaves, IsOut, DeviceCause, Delivers, Completes, LeavesCut, IsResourceOrDevice};
 
 use crate::Report;
-use crate::decoding::{decode_both, found_or_read};
+use crate::decoding::decode_both;
 use crate::log_bytes::LogBytes;
-use crate::log_text::{join_text, read_log_text};
+use crate::log_text::read_log_text;
 use crate::recovery::{Remade, remake};
 use crate::store_pieces::{room_for_pieces, write_store};
 use device::{Failed, ReadFault, Sink, Source, read_all, write_all};
@@ -119,9 +119,8 @@ fn write_both<L: Sink, S: Sink>(
 /// [`wal::read_log`] for the log, of [`page::decode_store`] for the store, and of
 /// [`restart`](restart::restart); [`Fault::WriteLog`] and [`Fault::WriteStore`] where a sink
 /// failed, at a write or its flush. [`Fault::NoResource`], where memory or a thread was refused,
-/// may come in place of any of these up to the first write. A store that is longer than any is not
-/// read to its end: 65,536 bytes past the largest it is refused for its bytes, whatever its source
-/// would do.
+/// may come in place of any of these up to the first write. Both sources are read to their ends before
+/// anything is refused for its bytes; of a store that is refused already no more than a piece is kept.
 ///
 /// After `WriteLog` a beginning of the new log is out and nothing of the store; after `WriteStore`
 /// the new log, flushed, and a beginning of the new store; after any other fault nothing. Of a
@@ -202,12 +201,10 @@ pub fn recover<LR: Source, SR: Source, LW: Sink, SW: Sink, G: Gate, R: Threads +
     check_options(options)?;
     let mut room = room_for_pieces(alloc)?;
     let workers = options.workers;
-    let (text, first) = read_log_text(rt, alloc, log, workers)?;
-    let (found, decoded) = decode_both(rt, alloc, &text, first, workers, store, &mut room);
+    let (text, known) = read_log_text(rt, alloc, log, workers)?;
+    let (records, decoded) = decode_both(rt, alloc, &text, known, workers, store, &mut room);
     let decoded = decoded?;
-    let joined = join_text(alloc, &text, found.is_some())?;
-    let records = found_or_read(alloc, found, &joined);
-    let remade = remake(rt, alloc, records, decoded, options, gate)?;
+    let remade = remake(rt, alloc, records, decoded.store, options, gate)?;
     let kept = LogBytes::kept_of(&text, &remade);
     write_both(out_log, out_store, &kept, &remade, &mut room)?;
     Ok(remade.report)

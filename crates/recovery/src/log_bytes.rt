@@ -1,6 +1,6 @@
 //! The bytes of a log that stay.
 
-ghost use Rattle.std.specs.Prelude.{◌≡◌, ◌++◌, ◌-◌, ℕ, List, length, take, OnOk, OnErr};
+ghost use Rattle.std.specs.Prelude.{◌≡◌, ◌≤◌, ◌++◌, ◌-◌, ℕ, List, length, take, OnOk, OnErr};
 ghost use Rattle.std.specs.Io.KnownBytes.{Appends, Keeps};
 ghost use Rattle.device.specs.Failures.{Counts};
 ghost use Rattle.device.specs.Transfer.{TookBeginning};
@@ -28,15 +28,16 @@ impl<'a> Model for LogBytes<'a> {
 impl<'a> LogBytes<'a> {
     /// The bytes of a log without its torn tail, of which this was made.
     pub fn kept_of(text: &'a LogText, remade: &Remade) -> LogBytes<'a>
+        requires { text.now.from ≤ length text.now.back.items }
         ensures { result
             ≡ take (length (text_of text.now) - remade.now.report.torn) (text_of text.now) }
     {
         let torn = remade.report.torn as usize;
-        let (front, back) = (text.front.len(), text.back.len());
-        let torn_in_front = front.min(torn.saturating_sub(back));
+        let (_, back) = text.back.split_at(text.from);
+        let torn_in_front = text.front.len().min(torn.saturating_sub(back.len()));
         LogBytes {
-            front: &text.front[..front - torn_in_front],
-            back: &text.back[..back.saturating_sub(torn)],
+            front: &text.front[..text.front.len() - torn_in_front],
+            back: &back[..back.len().saturating_sub(torn)],
         }
     }
 

@@ -1,12 +1,14 @@
 //! The bytes of a log, read from its source: where they are many and there are threads, in two parts,
 //! so that the first half is decoded while the second is read.
 
-ghost use Rattle.std.specs.Prelude.{◌≡◌, ◌≤◌, ◌++◌, ℕ, List, false, length, take, IfOk, IfErr, IfSome, OnOk, IsOkUnless};
+ghost use Rattle.std.specs.Prelude.{◌≡◌, ◌≤◌, ◌<◌, ◌+◌, ◌-◌, ◌++◌, ℕ, List, length, take, drop, IfOk, IfErr, OnOk, IsOkUnless};
 ghost use Rattle.std.specs.Io.KnownBytes.{Consumes, IsAtEnd};
 ghost use Rattle.page.specs.declared.fault.Fault.TheVariants.{NoResource, ReadLog};
-ghost use Rattle.device.specs.Transfer.{ReadBehind};
-ghost use Rattle.wal.specs.Stretches.{IsStretch};
-ghost use Rattle.recovery.specs.LogText.{text_of, IsLogText};
+ghost use Rattle.wal.specs.Reads.{Cause};
+ghost use Rattle.wal.specs.Stretches.{BeginsCut};
+ghost use Rattle.wal.specs.declared.sizes.TheConstants.{BASED_HEADER_BYTES, LONGEST_FRAME};
+ghost use Rattle.recovery.specs.LogText.{text_of, CameBehind, IsLogText};
+ghost use Rattle.recovery.specs.Recovery.{ReadsAs};
 ghost use Rattle.recovery.specs.Devices.{Fails, Gave, IsFaultOf};
 
 use crate::devices::read_source;
@@ -14,24 +16,38 @@ use device::{ReadFault, Source, read_front, read_rest};
 use page::Fault;
 use std::alloc::Global;
 use std::thread::{Threads, join_mut};
-use wal::{Stretch, cut_of, first_stretch};
+use wal::{
+    BASED_HEADER_BYTES, LONGEST_FRAME, Log, Stretch, first_frames, read_log_behind, read_log_by,
+};
 
-/// A log of fewer bytes than this is read in one part.
-const LONG: usize = 1 << 22;
+/// A log of fewer bytes than this is read in one part: below, two parts bring no time that can be seen.
+const LONG: usize = 1 << 25;
 
 /// So is one of which its source hints at more than this, since a hint may be far too large: room for
 /// half of it is made and touched before it is known to be needed.
 const LONGEST: usize = 1 << 31;
 
-/// Room for what is behind the cut of a first half, and for one read more.
-const SPARE: usize = 3 << 16;
+/// Room for one read more.
+const PIECE: usize = 1 << 16;
 
-/// All bytes of a log, in two parts, the first of which is cut behind a frame; or all of them in the
-/// first, and none in the second.
+/// All bytes of a log: the front, and from `from` on those of the back. In front of these is room,
+/// into which the beginning of a frame is put that the front ends with.
 #[derive(Drop)]
 pub struct LogText {
     pub front: Vec<u8>,
     pub back: Vec<u8>,
+    pub from: usize,
+}
+
+/// What is known of the bytes of a log before all of them are decoded.
+#[derive(Drop)]
+pub enum Known {
+    /// Nothing, and they are all in the front.
+    Nothing,
+    /// The front is a header and these frames.
+    Front(Stretch),
+    /// They are no log, for this reason.
+    Fault(Fault),
 }
 
 /// The next bytes that a log's source has, at least so many where there are, and up to 64 KiB more.
@@ -51,8 +67,9 @@ fn read_next<S: Source>(alloc: Global, source: &mut S, count: usize) -> Result<V
 /// All bytes that a log's source has left, behind the first `filled` of these.
 fn read_last<S: Source>(source: &mut S, bytes: &mut Vec<u8>, filled: usize) -> Result<(), Fault>
     requires { filled ≤ length bytes.old.items }
-    ensures read { OnOk result (ReadBehind (S.left source.old) (S.left source.new)
-        (take filled bytes.old.items) bytes.new.items) }
+    ensures front { OnOk result (take filled bytes.new.items ≡ take filled bytes.old.items) }
+    ensures read { OnOk result (CameBehind (S.left source.old) (S.left source.new)
+        filled bytes.new.items) }
     ensures end { OnOk result (IsAtEnd (S.left source.new)) }
     ensures fault { IfErr result (IsFaultOf ReadLog) }
     ensures cause { Fails ReadLog result (S.failures source.old) (S.failures source.new) }
@@ -98,101 +115,132 @@ fn read_half<S: Source, R: Threads + Sync>(
     join_mut(rt, &mut make, &mut read)
 }
 
+/// Room that has at least the beginning of a frame's. The only error is `NoResource`.
+fn with_spare(mut room: Vec<u8>) -> Result<Vec<u8>, Fault>
+    ensures room { IfOk result (λ room. LONGEST_FRAME ≤ length room.items) }
+    ensures err { IsOkUnless result NoResource }
+{
+    if room.len() < LONGEST_FRAME {
+        room.resize(LONGEST_FRAME, 0)?;
+    }
+    Ok(room)
+}
+
 /// Puts bytes to the front of room for at least as many.
 fn put(room: &mut [u8], bytes: &[u8])
     requires { length bytes.now ≤ length room.old }
-    ensures there { take (length bytes.now) room.new ≡ bytes.now }
-    ensures length { length room.new ≡ length room.old }
+    ensures { room.new ≡ bytes.now ++ drop (length bytes.now) room.old }
 {
     room[..bytes.len()].copy_from_slice(bytes);
 }
 
-/// Puts bytes to the front of room, which is made longer where they are more. The only error is
-/// `NoResource`.
-fn put_in_front(room: &mut Vec<u8>, bytes: &[u8]) -> Result<(), Fault>
-    ensures there { OnOk result (take (length bytes.now) room.new.items ≡ bytes.now) }
-    ensures within { OnOk result (length bytes.now ≤ length room.new.items) }
-    ensures err { IsOkUnless result NoResource }
+/// Puts bytes into room, in front of the offset `upto`.
+fn put_before(room: &mut [u8], upto: usize, bytes: &[u8])
+    requires upto { upto ≤ length room.old }
+    requires room { length bytes.now ≤ upto }
+    ensures there { drop (upto - length bytes.now) room.new ≡ bytes.now ++ drop upto room.old }
+    ensures length { length room.new ≡ length room.old }
 {
-    if room.len() < bytes.len() {
-        room.resize(bytes.len(), 0)?;
-    }
-    put(room, bytes);
-    Ok(())
+    let (_, rest) = room.split_at_mut(upto - bytes.len());
+    put(rest, bytes);
 }
 
-/// Cuts a first half behind its last whole frame, as far as one can tell, puts what stands behind the
-/// cut to the front of the room for the rest, and gives how many bytes that is. The only error is
-/// `NoResource`.
-fn cut_half(alloc: Global, front: &mut Vec<u8>, room: &mut Vec<u8>) -> Result<usize, Fault>
-    ensures text { IfOk result (λ filled. front.old.items
-        ≡ front.new.items ++ take filled room.new.items) }
-    ensures within { IfOk result (λ filled. filled ≤ length room.new.items) }
-    ensures err { IsOkUnless result NoResource }
+/// Cuts a front behind its frames, which end at `end`, and puts what stood there in front of the
+/// back, whose bytes begin behind room for it. Gives where they begin then.
+fn move_rest(front: &mut Vec<u8>, end: usize, back: &mut Vec<u8>) -> usize
+    requires end { end ≤ length front.old.items }
+    requires short { length front.old.items < end + LONGEST_FRAME }
+    requires room { LONGEST_FRAME ≤ length back.old.items }
+    ensures front { front.new.items ≡ take end front.old.items }
+    ensures back { drop result back.new.items
+        ≡ drop end front.old.items ++ drop LONGEST_FRAME back.old.items }
+    ensures within { result ≤ length back.new.items }
 {
-    let cut = cut_of(alloc, front)?;
-    let (_, behind) = front.split_at(cut);
-    put_in_front(room, behind)?;
-    let filled = behind.len();
-    front.truncate(cut);
-    Ok(filled)
+    let (_, rest) = front.split_at(end);
+    let from = LONGEST_FRAME - rest.len();
+    put_before(back, LONGEST_FRAME, rest);
+    front.truncate(end);
+    from
 }
 
-/// The frames of a first half, found by others, while the caller reads the rest behind the first
-/// `filled` bytes of the room for it.
-fn read_behind<S: Source, R: Threads + Sync>(
+/// The frames of a first half, found by others, while the caller reads the rest behind the room in
+/// front of the back.
+fn first_beside_rest<S: Source, R: Threads + Sync>(
     rt: &R,
     alloc: Global,
     source: &mut S,
     front: &[u8],
-    room: &mut Vec<u8>,
-    filled: usize,
+    back: &mut Vec<u8>,
     threads: usize,
-) -> (Result<Option<Stretch>, Fault>, Result<(), Fault>)
-    requires { filled ≤ length room.old.items }
-    ensures first { IfOk result.0 (λ found. IfSome found (IsStretch front.now)) }
-    ensures first_err { IsOkUnless result.0 NoResource }
-    ensures read { OnOk result.1 (ReadBehind (S.left source.old) (S.left source.new)
-        (take filled room.old.items) room.new.items) }
+) -> (Result<Stretch, Fault>, Result<(), Fault>)
+    requires front { BASED_HEADER_BYTES ≤ length front.now }
+    requires room { LONGEST_FRAME ≤ length back.old.items }
+    ensures frames { IfOk result.0 (BeginsCut front.now) }
+    ensures short { IfOk result.0 (λ first. length front.now < first.end + LONGEST_FRAME) }
+    ensures no_log { IfErr result.0 (λ e. (more : List ℕ) → Cause (front.now ++ more) e) }
+    ensures read { OnOk result.1 (CameBehind (S.left source.old) (S.left source.new)
+        LONGEST_FRAME back.new.items) }
     ensures end { OnOk result.1 (IsAtEnd (S.left source.new)) }
     ensures fault { IfErr result.1 (IsFaultOf ReadLog) }
     ensures cause { Fails ReadLog result.1 (S.failures source.old) (S.failures source.new) }
 {
-    let mut decode = || -> Result<Option<Stretch>, Fault>
-        ensures first { IfOk result (λ found. IfSome found (IsStretch front.entry.now)) }
-        ensures first_err { IsOkUnless result NoResource }
-    { first_stretch(rt, alloc, front, threads) };
+    let mut decode = || -> Result<Stretch, Fault>
+        requires { BASED_HEADER_BYTES ≤ length front.now }
+        ensures frames { IfOk result (BeginsCut front.entry.now) }
+        ensures short { IfOk result (λ first. length front.entry.now < first.end + LONGEST_FRAME) }
+        ensures no_log { IfErr result (λ e. (more : List ℕ) → Cause (front.entry.now ++ more) e) }
+    { first_frames(rt, alloc, front, threads) };
     let mut read = || -> Result<(), Fault>
-        requires { filled ≤ length room.now.items }
-        ensures read { OnOk result (ReadBehind (S.left source.entry.now) (S.left source.exit.now)
-            (take filled room.entry.now.items) room.exit.now.items) }
+        requires { LONGEST_FRAME ≤ length back.now.items }
+        ensures read { OnOk result (CameBehind (S.left source.entry.now)
+            (S.left source.exit.now) LONGEST_FRAME back.exit.now.items) }
         ensures end { OnOk result (IsAtEnd (S.left source.exit.now)) }
         ensures fault { IfErr result (IsFaultOf ReadLog) }
         ensures cause { Fails ReadLog result (S.failures source.entry.now)
             (S.failures source.exit.now) }
-    { read_last(source, room, filled) };
+    { read_last(source, back, LONGEST_FRAME) };
     join_mut(rt, &mut decode, &mut read)
 }
 
-/// Two parts, with the frames of the first, if those go to its end; else one. The only error is
-/// `NoResource`.
+/// The bytes of both parts, with what was found of the first.
 fn text_in_parts(
     mut front: Vec<u8>,
     mut back: Vec<u8>,
-    first: Option<Stretch>,
-) -> Result<(LogText, Option<Stretch>), Fault>
-    requires { IfSome first (IsStretch front.items) }
-    ensures text { IfOk result (λ x. text_of x.0 ≡ front.items ++ back.items) }
-    ensures is { IfOk result (λ x. IsLogText x.0 x.1) }
-    ensures err { IsOkUnless result NoResource }
+    first: Result<Stretch, Fault>,
+) -> (LogText, Known)
+    requires frames { IfOk first (BeginsCut front.items) }
+    requires short { IfOk first (λ first. length front.items < first.end + LONGEST_FRAME) }
+    requires no_log { IfErr first (λ e. (more : List ℕ) → Cause (front.items ++ more) e) }
+    requires room { LONGEST_FRAME ≤ length back.items }
+    ensures text { text_of result.0 ≡ front.items ++ drop LONGEST_FRAME back.items }
+    ensures is { IsLogText result.0 result.1 }
 {
-    if let Some(first) = first {
-        if first.end == front.len() {
-            return Ok((LogText { front, back }, Some(first)));
+    match first {
+        Ok(first) => {
+            let from = move_rest(&mut front, first.end, &mut back);
+            (LogText { front, back, from }, Known::Front(first))
+        }
+        Err(fault) => {
+            let from = LONGEST_FRAME;
+            (LogText { front, back, from }, Known::Fault(fault))
         }
     }
-    front.append(&mut back)?;
-    Ok((LogText { front, back }, None))
+}
+
+/// All bytes of a log in one part, of which nothing is known.
+fn text_in_one(alloc: Global, front: Vec<u8>) -> (LogText, Known)
+    ensures text { text_of result.0 ≡ front.items }
+    ensures is { IsLogText result.0 result.1 }
+{
+    let back = Vec::new(alloc);
+    (
+        LogText {
+            front,
+            back,
+            from: 0,
+        },
+        Known::Nothing,
+    )
 }
 
 /// All bytes that a log's source has left, which hints at so many, in two parts: the first half is
@@ -203,7 +251,7 @@ fn read_parts<S: Source, R: Threads + Sync>(
     source: &mut S,
     hint: usize,
     threads: usize,
-) -> Result<(LogText, Option<Stretch>), Fault>
+) -> Result<(LogText, Known), Fault>
     ensures gave { IfOk result (λ x. Gave (S.left source.old) (text_of x.0)) }
     ensures is { IfOk result (λ x. IsLogText x.0 x.1) }
     ensures end { OnOk result (IsAtEnd (S.left source.new)) }
@@ -211,25 +259,29 @@ fn read_parts<S: Source, R: Threads + Sync>(
     ensures cause { Fails ReadLog result (S.failures source.old) (S.failures source.new) }
 {
     let half = hint / 2;
-    let room = (hint - half).saturating_add(SPARE);
-    let (mut back, front) = read_half(rt, alloc, source, half, room);
+    let room = (hint - half).saturating_add(LONGEST_FRAME + PIECE);
+    let (back, front) = read_half(rt, alloc, source, half, room);
     let mut front = front?;
-    let filled = cut_half(alloc, &mut front, &mut back)?;
+    let filled = front.len();
+    if filled < BASED_HEADER_BYTES {
+        read_last(source, &mut front, filled)?;
+        return Ok(text_in_one(alloc, front));
+    }
+    let mut back = with_spare(back)?;
     let others = threads.saturating_sub(1);
-    let (first, read) = read_behind(rt, alloc, source, &front, &mut back, filled, others);
+    let (first, read) = first_beside_rest(rt, alloc, source, &front, &mut back, others);
     read?;
-    text_in_parts(front, back, first?)
+    Ok(text_in_parts(front, back, first))
 }
 
 /// All bytes that a log's source has left: in one part where the workers are one, or the source hints
-/// at less than 4 MiB or more than 2 GiB, else in two, with the frames of the first, if it can be cut
-/// behind a frame.
+/// at less than 32 MiB or more than 2 GiB, else in two, with what was found of the first.
 pub fn read_log_text<S: Source, R: Threads + Sync>(
     rt: &R,
     alloc: Global,
     source: &mut S,
     workers: u32,
-) -> Result<(LogText, Option<Stretch>), Fault>
+) -> Result<(LogText, Known), Fault>
     ensures gave { IfOk result (λ x. Gave (S.left source.old) (text_of x.0)) }
     ensures is { IfOk result (λ x. IsLogText x.0 x.1) }
     ensures end { OnOk result (IsAtEnd (S.left source.new)) }
@@ -240,21 +292,27 @@ pub fn read_log_text<S: Source, R: Threads + Sync>(
     if workers > 1 && (LONG..=LONGEST).contains(&hint) {
         return read_parts(rt, alloc, source, hint, workers as usize);
     }
-    let front = read_source(alloc, source, Fault::ReadLog)?;
-    let back = Vec::new(alloc);
-    Ok((LogText { front, back }, None))
+    Ok(text_in_one(alloc, read_source(alloc, source, Fault::ReadLog)?))
 }
 
-/// The bytes of two parts in one, where they have not been found to be a log. The only error is
-/// `NoResource`.
-pub fn join_text(alloc: Global, text: &LogText, found: bool) -> Result<Vec<u8>, Fault>
-    ensures all { IfOk result (λ x. found ≡ false → x.items ≡ text_of text.now) }
-    ensures err { IsOkUnless result NoResource }
+/// The log in these bytes, of which this is known, and how many bytes its torn tail has, with the
+/// errors of [`read_log`](wal::read_log); found by as many threads as this.
+pub fn decode<'a, R: Threads + Sync>(
+    rt: &R,
+    alloc: Global,
+    text: &'a LogText,
+    known: Known,
+    threads: usize,
+) -> Result<(Log<'a>, usize), Fault>
+    requires { IsLogText text.now known }
+    ensures { ReadsAs (text_of text.now) result }
 {
-    let mut joined = Vec::new(alloc);
-    if !found {
-        joined.extend_from_slice(&text.front)?;
-        joined.extend_from_slice(&text.back)?;
+    match known {
+        Known::Nothing => read_log_by(rt, alloc, &text.front, threads),
+        Known::Front(first) => {
+            let (_, back) = text.back.split_at(text.from);
+            read_log_behind(rt, alloc, &text.front, first, back, threads)
+        }
+        Known::Fault(fault) => Err(fault),
     }
-    Ok(joined)
 }

@@ -1,13 +1,13 @@
 //! Recovery in memory: from a log and a store to the bytes of a new log and the new store.
 
-ghost use Rattle.std.specs.Prelude.{◌≡◌, ◌≤◌, ◌<◌, ◌+◌, ◌*◌, ◌^◌, ℕ, List, true, is_ok, length, IfOk, OnOk, IfErr, MatchResult, IsOkUnless};
+ghost use Rattle.std.specs.Prelude.{◌≡◌, ◌≤◌, ◌<◌, ◌+◌, ◌*◌, ◌^◌, ℕ, List, length, IfOk, OnOk, IfErr, MatchResult, IsOkUnless};
 ghost use Rattle.page.specs.declared.fault.Fault.{Fault};
 ghost use Rattle.page.specs.declared.fault.Fault.TheVariants.{NoResource};
 ghost use Rattle.wal.specs.Records.{history, last_lsn};
 ghost use Rattle.wal.specs.Reads.{Reads, spellings};
 ghost use Rattle.page.specs.Store.{StoreContent};
 ghost use Rattle.page.specs.File.{store_text, SpellsStore};
-ghost use Rattle.undo.specs.Appended.{records_of, AreTold, AreFit};
+ghost use Rattle.undo.specs.Appended.{records_of, HaveUpdates, AreFit};
 ghost use Rattle.wal.specs.Meaning.{BasePages};
 ghost use Rattle.recovery.specs.Recovery.{report_of, log_of, Decodes, ReadsAs, Recovers, AreLawful, Recovered, Cause};
 ghost use Rattle.restart.specs.Options.{AreInRange};
@@ -26,8 +26,8 @@ use wal::{Log, write_frame};
 /// The frames of the records that are appended to a log. One record at a time is made of what is
 /// told of it.
 fn frames_of(alloc: Global, log: &Log, appended: &[Appended]) -> Result<Vec<u8>, Fault>
-    requires told { AreTold (history log.now) appended.now }
-    requires writable { AreFit (history log.now) appended.now }
+    requires told { HaveUpdates log.now appended.now }
+    requires writable { AreFit log.now appended.now }
     requires few { length appended.now ≤ 2 * length log.now.records + 2 ^ 32 }
     ensures frames { IfOk result (λ x. x.items ≡ spellings (last_lsn (history log.now) + 1)
         (records_of (history log.now) appended.now)) }
@@ -92,8 +92,8 @@ pub fn remade_of(
     torn: usize,
     outcome: BriefOutcome,
 ) -> Result<Remade, Fault>
-    requires told { AreTold (history records.now) outcome.appended.items }
-    requires writable { AreFit (history records.now) outcome.appended.items }
+    requires told { HaveUpdates records.now outcome.appended.items }
+    requires writable { AreFit records.now outcome.appended.items }
     requires few { length outcome.appended.items ≤ 2 * length records.now.records + 2 ^ 32 }
 
     // Where the outcome is that of a restart of a store, for any bytes that spell the log and it.
@@ -146,7 +146,6 @@ pub fn remake<G: Gate, R: Threads + Sync>(
     ensures answer { IfOk result (λ x. (log text : List ℕ) → ReadsAs log records.entry
         → Decodes text decoded
         → Recovers log text (log_of log x) (store_text x.store) x.report) }
-    ensures decoded { OnOk result (is_ok decoded ≡ true) }
 
     // A refusal has its cause in the input, memory aside.
     ensures cause { IfErr result (λ e. (log text : List ℕ) → ReadsAs log records.entry

@@ -1,21 +1,21 @@
 //! A store that goes over a device piece by piece: no more of its bytes is in memory than one piece.
 
-ghost use Rattle.std.specs.Prelude.{◌≡◌, ◌++◌, ℕ, List, length, IfOk, IfErr, OnOk, OnErr, IsOkUnless};
+ghost use Rattle.std.specs.Prelude.{◌≡◌, ◌≤◌, ◌<◌, ◌++◌, ℕ, List, length, take, IfOk, IfErr, OnOk, OnErr, IsOkUnless};
 ghost use Rattle.std.specs.List.{flat_map};
-ghost use Rattle.std.specs.Io.KnownBytes.{Appends, IsAtEnd, Keeps};
+ghost use Rattle.std.specs.Io.KnownBytes.{Appends, Consumes, IsAtEnd, Keeps};
 ghost use Rattle.page.specs.declared.fault.Fault.TheVariants.{NoResource, ReadStore};
 ghost use Rattle.page.specs.File.{store_text};
 ghost use Rattle.page.specs.Image.{page_text};
 ghost use Rattle.device.specs.Failures.{Counts};
 ghost use Rattle.device.specs.Transfer.{TookBeginning};
 ghost use Rattle.recovery.specs.Recovery.{Decodes};
-ghost use Rattle.recovery.specs.Devices.{Fails, Gave, IsFaultOf, AreOut};
+ghost use Rattle.recovery.specs.Devices.{Fails, Gave, IsFaultOf, ReadsStore, AreOut};
 ghost use Rattle.recovery.specs.declared.store_pieces.TheConstants.{PIECE};
 
 use device::{Failed, Sink, Source, read_full, write_all};
 use page::{
-    Fault, PAGE_BYTES, PAGES, Page, STORE_HEADER_BYTES, Store, StoreReader, encode_header,
-    encode_pages_into,
+    Fault, PAGE_BYTES, Page, STORE_HEADER_BYTES, Store, StoreReader, encode_pages_into,
+    store_header,
 };
 use std::alloc::Global;
 
@@ -25,9 +25,6 @@ const PIECE_PAGES: usize = 64;
 /// How many bytes a piece has.
 pub const PIECE: usize = PIECE_PAGES * PAGE_BYTES;
 
-/// More pieces than any store has.
-const PIECES: usize = PAGES / PIECE_PAGES + 1;
-
 /// Room for a piece. The only error is `NoResource`.
 pub fn room_for_pieces(alloc: Global) -> Result<Vec<u8>, Fault>
     ensures room { IfOk result (λ room. length room.items ≡ PIECE) }
@@ -36,53 +33,52 @@ pub fn room_for_pieces(alloc: Global) -> Result<Vec<u8>, Fault>
     Ok(vec![in alloc; 0; PIECE]?)
 }
 
-/// What the bytes behind a store's header spell with it, when they have come. Of bytes that are more
-/// than any store has one piece more is read than such a store has.
+/// What all bytes of a store spell, or why they spell none. They are judged behind those of the log.
+#[derive(Drop)]
+pub struct DecodedStore {
+    pub store: Result<Store, Fault>,
+}
+
+/// The next bytes that a store's source has: as many as there is room for, fewer only at its end.
+fn read_piece<S: Source>(source: &mut S, room: &mut [u8]) -> Result<usize, Fault>
+    ensures within { IfOk result (λ count. count ≤ length room.new) }
+    ensures read { IfOk result (λ count. Consumes (S.left source.old) (S.left source.new)
+        (take count room.new)) }
+    ensures end { IfOk result (λ count. count < length room.new → IsAtEnd (S.left source.new)) }
+    ensures fault { IfErr result (λ e. e ≡ ReadStore) }
+    ensures cause { Fails ReadStore result (S.failures source.old) (S.failures source.new) }
+{
+    match read_full(source, room) {
+        Ok(count) => Ok(count),
+        Err(Failed) => Err(Fault::ReadStore),
+    }
+}
+
+/// What the bytes after a store's header spell with it. They are read to the source's end, also where
+/// they are refused already, and one piece of them is kept at a time.
 fn read_images<S: Source>(
     mut reader: StoreReader,
     source: &mut S,
     room: &mut [u8],
-) -> Result<Result<Store, Fault>, Failed>
+) -> Result<DecodedStore, Fault>
     requires room { length room.old ≡ PIECE }
     requires header { length reader ≡ STORE_HEADER_BYTES }
-    ensures read { IfOk result (λ decoded. (behind : List ℕ)
-        × Gave (S.left source.old) behind × Decodes (reader ++ behind) decoded) }
-    ensures end { IfOk result (λ decoded. OnOk decoded (IsAtEnd (S.left source.new))) }
-    ensures cause { Counts (S.failures source.old) (S.failures source.new) result }
+    ensures read { IfOk result (λ found. (behind : List ℕ)
+        × Gave (S.left source.old) behind × Decodes (reader ++ behind) found.store) }
+    ensures end { OnOk result (IsAtEnd (S.left source.new)) }
+    ensures fault { IfErr result (IsFaultOf ReadStore) }
+    ensures cause { Fails ReadStore result (S.failures source.old) (S.failures source.new) }
 {
-    for _ in 0..PIECES {
-        let count = read_full(source, room)?;
+    for _ in 0..u64::MAX {
+        let count = read_piece(source, room)?;
         reader.take(&room[..count]);
         if count < PIECE {
-            return Ok(reader.finish());
+            let store = reader.finish();
+            return Ok(DecodedStore { store });
         }
     }
-    Ok(reader.finish())
-}
-
-/// What all bytes that a source has left spell as a store.
-fn read_pieces<S: Source>(
-    alloc: Global,
-    source: &mut S,
-    room: &mut [u8],
-) -> Result<Result<Store, Fault>, Failed>
-    requires { length room.old ≡ PIECE }
-    ensures read { IfOk result (λ decoded. (text : List ℕ)
-        × Gave (S.left source.old) text × Decodes text decoded) }
-    ensures end { IfOk result (λ decoded. OnOk decoded (IsAtEnd (S.left source.new))) }
-    ensures cause { Counts (S.failures source.old) (S.failures source.new) result }
-{
-    let mut header = [0; STORE_HEADER_BYTES];
-    let count = read_full(source, &mut header)?;
-    match StoreReader::begin(alloc, &header[..count]) {
-        Ok(reader) => {
-            if count < STORE_HEADER_BYTES {
-                return Ok(reader.finish());
-            }
-            read_images(reader, source, room)
-        }
-        Err(fault) => Ok(Err(fault)),
-    }
+    // No source has so many bytes.
+    Err(Fault::NoResource)
 }
 
 /// The store that all bytes which a source has left spell, or why they spell none. The error is
@@ -91,18 +87,19 @@ pub fn read_store<S: Source>(
     alloc: Global,
     source: &mut S,
     room: &mut [u8],
-) -> Result<Result<Store, Fault>, Fault>
+) -> Result<DecodedStore, Fault>
     requires { length room.old ≡ PIECE }
-    ensures read { IfOk result (λ decoded. (text : List ℕ)
-        × Gave (S.left source.old) text × Decodes text decoded) }
-    ensures end { IfOk result (λ decoded. OnOk decoded (IsAtEnd (S.left source.new))) }
-    ensures fault { IfErr result (λ e. e ≡ ReadStore) }
-    ensures cause { Fails ReadStore result (S.failures source.old) (S.failures source.new) }
+    ensures { ReadsStore (S.left source.old) (S.left source.new)
+        (S.failures source.old) (S.failures source.new) result }
 {
-    match read_pieces(alloc, source, room) {
-        Ok(decoded) => Ok(decoded),
-        Err(Failed) => Err(Fault::ReadStore),
+    let mut header = [0; STORE_HEADER_BYTES];
+    let count = read_piece(source, &mut header)?;
+    let reader = StoreReader::begin(alloc, &header[..count]);
+    if count < STORE_HEADER_BYTES {
+        let store = reader.finish();
+        return Ok(DecodedStore { store });
     }
+    read_images(reader, source, room)
 }
 
 /// Writes the images of pages, a piece at a time.
@@ -135,7 +132,8 @@ pub fn write_store<S: Sink>(sink: &mut S, store: &Store, room: &mut [u8]) -> Res
         (TookBeginning (S.taken sink.old) (S.taken sink.new) (store_text store.now)) }
     ensures cause { Counts (S.failures sink.old) (S.failures sink.new) result }
 {
-    write_all(sink, &encode_header(store))?;
+    let pages = store.pages.len() as u32;
+    write_all(sink, &store_header(pages, store.master))?;
     write_images(sink, &store.pages, room)?;
     sink.flush()
 }

@@ -6,6 +6,7 @@ use Rattle.wal.specs.Records.{LogRecord, history, record_at, last_lsn, LogConten
 use Rattle.wal.proofs.Histories.{record_within, base_within, record_above}
 use Rattle.redo.specs.declared.route.Route.{Route}
 use Rattle.redo.specs.Inputs.{InputContent}
+use Rattle.redo.specs.Parted.{PartedContent}
 use Rattle.redo.specs.Routes.{skipped, skipped_in, ExistWithin, RoundFault, AreRoutes}
 use Rattle.redo.specs.Redone.{AreWorkers, IsLookedAt, AllExist, RedoFault}
 use Rattle.redo.proofs.Stretches.{boundary_last, skipped_within}
@@ -33,11 +34,11 @@ exist_looked input exist lsn r looked found =
     let within = in_log input.log lsn r found in
     exist lsn r (not_skipped (base_lsn (history input.log)) input.redo_lsn (last_lsn (history input.log)) lsn looked (record_above (history input.log) lsn r found) within) within found
 
-pub exist_all : (input : InputContent) (routes : List Route) → AreRoutes input routes → AllExist input.log (length input.images) input.redo_lsn
-exist_all input routes are =
-    let len = last_lsn (history input.log) in
-    let last = boundary_last (skipped_in input) len (length routes) (skipped_within (base_lsn (history input.log)) input.redo_lsn len (base_within (history input.log))) are.some in
-    exist_looked input (subst (ExistWithin input.log (length input.images) (skipped_in input)) last (all_exist input routes are))
+pub exist_all : (parted : PartedContent) (routes : List Route) → AreRoutes parted routes → AllExist parted.input.log (length parted.input.images) parted.input.redo_lsn
+exist_all parted routes are =
+    let len = last_lsn (history parted.input.log) in
+    let last = boundary_last (skipped_in parted.input) len (length routes) (skipped_within (base_lsn (history parted.input.log)) parted.input.redo_lsn len (base_within (history parted.input.log))) are.some in
+    exist_looked parted.input (subst (ExistWithin parted.input.log (length parted.input.images) (skipped_in parted.input)) last (all_exist parted routes are))
 
 pub round_fault : (input : InputContent) (workers : ℕ) (e : Fault) → AreWorkers workers → RoundFault input e → RedoFault input.log (length input.images) input.redo_lsn workers e
 round_fault input workers NoResource fit cause = tt

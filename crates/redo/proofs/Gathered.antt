@@ -10,9 +10,10 @@ use Rattle.page.specs.declared.page.Page.{Page}
 use Rattle.wal.specs.Records.{history}
 use Rattle.board.specs.Drawn.{BoardId}
 use Rattle.redo.specs.Inputs.{InputContent}
+use Rattle.redo.specs.Parted.{PartedContent}
 use Rattle.redo.specs.declared.crew.Share.{Share}
 use Rattle.redo.specs.declared.tally.Tally.{Tally}
-use Rattle.redo.specs.Parts.{redo_page_in, image_at, resolved, IsDone, HasPage, IsTallied, AreTallied, IsBack}
+use Rattle.redo.specs.Parts.{redo_page_in, image_at, resolved, IsDone, HasPage, IsTallied, AreTallied, AreAllTallied, IsBack}
 use Rattle.redo.proofs.Reading.{get_more, get_split, get_same, written_back}
 use Rattle.redo.specs.Changes.{RedoPage, finished}
 
@@ -72,23 +73,23 @@ has_right ps qs number has =
 
 -- WHAT WORKERS BRING BACK
 -- where all pages of a share are tallied, those of its parts are
-pub share_tallied : (input : InputContent) (board : BoardId) (share : Share) (tallies : List Tally) → IsBack input board share → share.seat.stopped ≡ false → share.seat.told ≡ false
-    → ((number : ℕ) → HasPage (map (resolved input) share.tallies.items) number → IsTallied input tallies number) → AreTallied input tallies share.seat.drawn
-share_tallied input board share tallies back stopped told tallied number part given drawn = tallied number (back.drawn stopped told part drawn number given)
+pub share_tallied : (parted : PartedContent) (board : BoardId) (share : Share) (tallies : List Tally) → IsBack parted board share → share.seat.stopped ≡ false → share.seat.told ≡ false
+    → ((number : ℕ) → HasPage (map (resolved parted.input) share.tallies.items) number → IsTallied parted.input tallies number) → AreTallied parted tallies share.seat.drawn
+share_tallied parted board share tallies back stopped told tallied number part given drawn = tallied number (back.drawn stopped told part drawn number given)
 
 -- what is drawn together was drawn by one of the two
-pub both_tallied : (input : InputContent) (tallies : List Tally) (xs ys drawn : List ℕ) → drawn ≡ xs ++ ys → AreTallied input tallies xs → AreTallied input tallies ys → AreTallied input tallies drawn
-both_tallied input tallies xs ys drawn is first second number part given has =
+pub both_tallied : (parted : PartedContent) (tallies : List Tally) (xs ys drawn : List ℕ) → drawn ≡ xs ++ ys → AreTallied parted tallies xs → AreTallied parted tallies ys → AreTallied parted tallies drawn
+both_tallied parted tallies xs ys drawn is first second number part given has =
     elim (Contains-append_cases xs ys part (subst (λ zs. Contains zs part) is has)) [
       | inl h ↦ first number part given h
       | inr h ↦ second number part given h
     ]
 
 -- where all parts are drawn, all pages are tallied
-pub all_tallied : (input : InputContent) (tallies : List Tally) (drawn : List ℕ) → length input.parting.part_of ≡ length input.images → All (λ part. part < input.parting.parts) input.parting.part_of
-    → ((part : ℕ) → part < input.parting.parts → Contains drawn part) → AreTallied input tallies drawn → (number : ℕ) → number < length input.images → IsTallied input tallies number
-all_tallied input tallies drawn dealt below all tallied number lt =
-    let part_of = input.parting.part_of in
+pub all_tallied : (parted : PartedContent) (tallies : List Tally) (drawn : List ℕ) → length parted.parting.part_of ≡ length parted.input.images → All (λ part. part < parted.parting.parts) parted.parting.part_of
+    → ((part : ℕ) → part < parted.parting.parts → Contains drawn part) → AreTallied parted tallies drawn → (number : ℕ) → number < length parted.input.images → IsTallied parted.input tallies number
+all_tallied parted tallies drawn dealt below all tallied number lt =
+    let part_of = parted.parting.part_of in
     let within : number < length part_of = omega (arith, lt, dealt) in
     tallied number (get_or part_of number 0) (slice_get-get_or part_of number 0 within) (all (get_or part_of number 0) (below number 0 within))
 
@@ -108,15 +109,15 @@ map_of h [] (x ∷ xs) e at = absurd (omega arith)
 map_of h (image ∷ images) [] e at = absurd (omega arith)
 map_of h (image ∷ images) (x ∷ xs) e at = ap₂ (λ y ys. y ∷ ys) (same_Some _ _ (at 0 image refl)) (map_of h images xs (omega arith) (λ k i f. at (suc k) i f))
 
-module _ (input : InputContent) (tallies : List Tally) (tallied : (number : ℕ) → number < length input.images → IsTallied input tallies number) where
+module _ (input : InputContent) (tallies : List Tally) (all : AreAllTallied input tallies) where
   -- a page that is made of its image by its tally is redone
-  pub pages_are : (pages : List Page) → length pages ≡ length input.images
+  pages_are : (pages : List Page) → length pages ≡ length input.images
       → ((number : ℕ) (t : Tally) (image : Page) → number < length input.images → get_or pages number image ≡ finished (history input.log) (get_or tallies number t) (get_or input.images number image))
       → pages ≡ map (λ image. (redo_page_in input (history input.log) image).page) input.images
   pages_are pages same each = map_of (λ image. (redo_page_in input (history input.log) image).page) input.images pages same
       (λ k image e.
       let lt = slice_get_within input.images k image e in
-      let is = tallied k lt in
+      let is = all.each k lt in
       let own : image_at input.images is.tally.number ≡ is.image = ap (image_at input.images) is.own ∙ get_or_from_slice_get input.images k is.image _ is.there in
       slice_get-get_or pages k image (omega (arith, lt, same))
       ∙ ap Some (each k is.tally image lt
@@ -124,10 +125,10 @@ module _ (input : InputContent) (tallies : List Tally) (tallied : (number : ℕ)
       ∙ ap (λ p. p.page) is.redone
       ∙ ap (λ i. (redo_page_in input (history input.log) i).page) (get_same input.images k is.image image is.there e)))
 
-  pub counts_are : length tallies ≡ length input.images → map (λ t. t.applied) tallies ≡ map (λ image. (redo_page_in input (history input.log) image).applied) input.images
-  counts_are same = map_of (λ image. (redo_page_in input (history input.log) image).applied) input.images (map (λ (t : Tally). t.applied) tallies) (length-map tallies (λ (t : Tally). t.applied) ∙ same)
+  counts_are : map (λ t. t.applied) tallies ≡ map (λ image. (redo_page_in input (history input.log) image).applied) input.images
+  counts_are = map_of (λ image. (redo_page_in input (history input.log) image).applied) input.images (map (λ (t : Tally). t.applied) tallies) (length-map tallies (λ (t : Tally). t.applied) ∙ all.count)
       (λ k image e.
-      let is = tallied k (slice_get_within input.images k image e) in
+      let is = all.each k (slice_get_within input.images k image e) in
       slice_get-get_or (map (λ (t : Tally). t.applied) tallies) k 0 (omega (arith, slice_get_within tallies k is.tally is.at, length-map tallies (λ (t : Tally). t.applied)))
       ∙ ap Some (get_or-map (λ (t : Tally). t.applied) tallies k is.tally 0 (slice_get_within tallies k is.tally is.at)
       ∙ ap (λ (t : Tally). t.applied) (get_or_from_slice_get tallies k is.tally is.tally is.at)
@@ -147,5 +148,5 @@ module _ (input : InputContent) (tallies : List Tally) (tallied : (number : ℕ)
       ∙ (ap (λ (ts : List Tally). finished (history input.log) (get_or ts number t) (get_or lent number image)) is ∙ ap (λ (xs : List Page). finished (history input.log) (get_or tallies number t) (get_or xs number image)) same))
 
   -- and their counts, added up
-  pub total_is : (told : List Tally) → told ≡ tallies → length tallies ≡ length input.images → sum_by (λ t. t.applied) told ≡ sum (map (λ image. (redo_page_in input (history input.log) image).applied) input.images)
-  total_is told is same = ap (sum_by (λ (t : Tally). t.applied)) is ∙ (sym (sum-map (λ (t : Tally). t.applied) tallies) ∙ ap sum (counts_are same))
+  pub total_is : (told : List Tally) → told ≡ tallies → sum_by (λ t. t.applied) told ≡ sum (map (λ image. (redo_page_in input (history input.log) image).applied) input.images)
+  total_is told is = ap (sum_by (λ (t : Tally). t.applied)) is ∙ (sym (sum-map (λ (t : Tally). t.applied) tallies) ∙ ap sum counts_are)

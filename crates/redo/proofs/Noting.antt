@@ -22,15 +22,15 @@ use Rattle.redo.proofs.Routes.{lsns_none}
 use Rattle.redo.proofs.Replay.{lsns_more, page_of_cell}
 
 -- nothing is noted before the first
-pub none_noted : (input : InputContent) (from part : ℕ) → base_lsn (history input.log) ≤ from → lsns_where (on_part input.parting.part_of part) from (first from (history input.log)) ≡ []
-none_noted input from part le = lsns_none (on_part input.parting.part_of part) from (first from (history input.log)) (size_of_first_le from (history input.log) le)
+pub none_noted : (input : InputContent) (part_of : List ℕ) (from part : ℕ) → base_lsn (history input.log) ≤ from → lsns_where (on_part part_of part) from (first from (history input.log)) ≡ []
+none_noted input part_of from part le = lsns_none (on_part part_of part) from (first from (history input.log)) (size_of_first_le from (history input.log) le)
 
 module _ (input : InputContent) (from seen : ℕ) (r : LogRecord) (low : base_lsn (history input.log) ≤ from) (le : from ≤ seen) (lt : seen < last_lsn (history input.log)) (at : record_at (history input.log) (seen + 1) ≡ Some r) where
-  pub one_noted : (part : ℕ) (old new : List ℕ) → first (seen + 1) (history input.log) ≡ first seen (history input.log) ▸ r
-      → new ≡ cond (on_part input.parting.part_of part r) (old ++ (seen + 1) ∷ []) old → old ≡ lsns_where (on_part input.parting.part_of part) from (first seen (history input.log))
-      → new ≡ lsns_where (on_part input.parting.part_of part) from (first (seen + 1) (history input.log))
-  one_noted part old new next is before =
-      let test = on_part input.parting.part_of part in
+  pub one_noted : (part_of : List ℕ) (part : ℕ) (old new : List ℕ) → first (seen + 1) (history input.log) ≡ first seen (history input.log) ▸ r
+      → new ≡ cond (on_part part_of part r) (old ++ (seen + 1) ∷ []) old → old ≡ lsns_where (on_part part_of part) from (first seen (history input.log))
+      → new ≡ lsns_where (on_part part_of part) from (first (seen + 1) (history input.log))
+  one_noted part_of part old new next is before =
+      let test = on_part part_of part in
       let log = first seen (history input.log) in
       let count : last_lsn log ≡ seen = size_of_first seen (history input.log) (omega (arith, low, le)) (omega (arith, lt)) in
       let lsn : seen + 1 ≡ suc (last_lsn log) = omega (arith, count) in

@@ -16,7 +16,7 @@ use Rattle.redo.specs.Inputs.{InputContent}
 use Rattle.redo.specs.Changes.{RedoPage, page_named, advance, counted}
 use Rattle.redo.specs.Routes.{skipped_in, RouteFault}
 use Rattle.redo.specs.Redone.{AreWorkers, RedoFault}
-use Rattle.redo.specs.Parts.{redo_page_in, image_at, resolved, IsTallied}
+use Rattle.redo.specs.Parts.{redo_page_in, image_at, resolved, IsTallied, AreAllTallied}
 use Rattle.redo.specs.OnePass.{AreUpTo}
 use Rattle.redo.proofs.Stretches.{skipped_within}
 use Rattle.redo.proofs.Advance.{advanced, advance_elsewhere}
@@ -117,18 +117,21 @@ module _ (input : InputContent) (numbered : AreNumbered input.images) (lsn : ℕ
       }
 
   -- AT THE END
-  pub all_tallied_alone : last_lsn (history input.log) ≤ lsn → (number : ℕ) → number < length input.images → IsTallied input tallies number
-  all_tallied_alone whole number lt =
-      let image = image_at input.images number in
-      let tally = get_or tallies number (record { number = 0; lsn = 0; rec_lsn = None; applied = 0; lasts = [] }) in
-      record {
-        image = image;
-        there = slice_get-get_or input.images number image lt ∙ ap Some (get_or_default input.images number image _ lt);
-        tally = tally;
-        at = slice_get-get_or tallies number _ (omega (arith, lt, up.count));
-        own = numbers_of_tallies number _ (omega (arith, lt, up.count));
-        redone = up.each number _ lt ∙ ap (λ h. redo_page_in input h image) (first_all lsn (history input.log) whole);
-      }
+  pub all_tallied_alone : last_lsn (history input.log) ≤ lsn → AreAllTallied input tallies
+  all_tallied_alone whole = record { count = up.count; each = at }
+    where
+      at : (number : ℕ) → number < length input.images → IsTallied input tallies number
+      at number lt =
+          let image = image_at input.images number in
+          let tally = get_or tallies number (record { number = 0; lsn = 0; rec_lsn = None; applied = 0; lasts = [] }) in
+          record {
+            image = image;
+            there = slice_get-get_or input.images number image lt ∙ ap Some (get_or_default input.images number image _ lt);
+            tally = tally;
+            at = slice_get-get_or tallies number _ (omega (arith, lt, up.count));
+            own = numbers_of_tallies number _ (omega (arith, lt, up.count));
+            redone = up.each number _ lt ∙ ap (λ h. redo_page_in input h image) (first_all lsn (history input.log) whole);
+          }
 
 -- WHAT IS REFUSED
 pub alone_fault : (input : InputContent) (to workers : ℕ) (e : Fault) → AreWorkers workers → RouteFault input (skipped_in input) to e → RedoFault input.log (length input.images) input.redo_lsn workers e

@@ -11,7 +11,7 @@ use Rattle.page.specs.Store.{AreNumbered}
 use Rattle.wal.specs.Records.{LogRecord, History, history, record_at, last_lsn, first}
 use Rattle.wal.proofs.Histories.{first_all}
 use Rattle.redo.specs.Changes.{RedoPage, advance_by, step}
-use Rattle.redo.specs.Inputs.{InputContent}
+use Rattle.redo.specs.Parted.{PartedContent}
 use Rattle.redo.specs.Parts.{redo_page_in, image_at, numbers_of, IsUpTo, IsDone, HasPart}
 use Rattle.redo.proofs.Advance.{advance_number, advance_count}
 use Rattle.redo.proofs.Replay.{image_number, member_image}
@@ -59,26 +59,26 @@ fold_next log redo_lsn lsns i lsn old ps new lt at before is =
     ∙ ap (λ (g : RedoPage → RedoPage). map g old) (fun_ext (λ p. sym (ap (fold f p) more ∙ fold_push f p (take i lsns) lsn)))))
 
 -- AT THE END
-module _ (input : InputContent) (part : ℕ) (numbered : AreNumbered input.images) (dealt : length input.parting.part_of ≡ length input.images) (fits : last_lsn (history input.log) < 2 ^ 64) where
-  pub all_done : (ps : List RedoPage) → IsUpTo input part (last_lsn (history input.log)) ps → All (IsDone input) ps
+module _ (parted : PartedContent) (part : ℕ) (numbered : AreNumbered parted.input.images) (dealt : length parted.parting.part_of ≡ length parted.input.images) (fits : last_lsn (history parted.input.log) < 2 ^ 64) where
+  pub all_done : (ps : List RedoPage) → IsUpTo parted part (last_lsn (history parted.input.log)) ps → All (IsDone parted.input) ps
   all_done ps up k d lt =
-      let at : ℕ → RedoPage = λ number. redo_page_in input (first (last_lsn (history input.log)) (history input.log)) (image_at input.images number) in
+      let at : ℕ → RedoPage = λ number. redo_page_in parted.input (first (last_lsn (history parted.input.log)) (history parted.input.log)) (image_at parted.input.images number) in
       let below : k < length up.members = omega (arith, lt, ap length up.redone, length-map up.members at) in
       let m = get_or up.members k 0 in
       let is : get_or ps k d ≡ at m = ap (λ xs. get_or xs k d) up.redone ∙ get_or-map at up.members k 0 d below in
-      let within = (member_image input part numbered dealt fits up.members up.are k 0 below).0 in
-      let number : (get_or ps k d).page.number ≡ m = ap (λ (p : RedoPage). p.page.number) is ∙ image_number input.images m numbered within in
+      let within = (member_image parted part numbered dealt fits up.members up.are k 0 below).0 in
+      let number : (get_or ps k d).page.number ≡ m = ap (λ (p : RedoPage). p.page.number) is ∙ image_number parted.input.images m numbered within in
       record {
-        image = image_at input.images m;
-        there = ap (slice_get input.images) number ∙ slice_get-get_or input.images m (image_at input.images m) within
-            ∙ ap Some (get_or_default input.images m (image_at input.images m) (record { number = m; lsn = 0; slots = replicate 16 None }) within);
-        redone = is ∙ ap (λ h. redo_page_in input h (image_at input.images m)) (first_all (last_lsn (history input.log)) (history input.log) (omega arith));
+        image = image_at parted.input.images m;
+        there = ap (slice_get parted.input.images) number ∙ slice_get-get_or parted.input.images m (image_at parted.input.images m) within
+            ∙ ap Some (get_or_default parted.input.images m (image_at parted.input.images m) (record { number = m; lsn = 0; slots = replicate 16 None }) within);
+        redone = is ∙ ap (λ h. redo_page_in parted.input h (image_at parted.input.images m)) (first_all (last_lsn (history parted.input.log)) (history parted.input.log) (omega arith));
       }
 
-  pub all_there : (n : ℕ) (ps : List RedoPage) → IsUpTo input part n ps → HasPart input part ps
+  pub all_there : (n : ℕ) (ps : List RedoPage) → IsUpTo parted part n ps → HasPart parted.parting part ps
   all_there n ps up page given =
-      let at : ℕ → RedoPage = λ number. redo_page_in input (first n (history input.log)) (image_at input.images number) in
-      let member = up.are.found page (omega (arith, slice_get_within input.parting.part_of page part given, up.all)) given in
+      let at : ℕ → RedoPage = λ number. redo_page_in parted.input (first n (history parted.input.log)) (image_at parted.input.images number) in
+      let member = up.are.found page (omega (arith, slice_get_within parted.parting.part_of page part given, up.all)) given in
       let lt = slice_get_within up.members member.place page member.there in
       let is : get_or ps member.place (at page) ≡ at page =
       ap (λ xs. get_or xs member.place (at page)) up.redone ∙ (get_or-map at up.members member.place page (at page) lt ∙ ap at (get_or_from_slice_get up.members member.place page page member.there)) in
@@ -86,5 +86,5 @@ module _ (input : InputContent) (part : ℕ) (numbered : AreNumbered input.image
         place = member.place;
         redo_page = at page;
         there = slice_get-get_or ps member.place (at page) (omega (arith, lt, ap length up.redone, length-map up.members at)) ∙ ap Some is;
-        number = image_number input.images page numbered (omega (arith, slice_get_within input.parting.part_of page part given, dealt));
+        number = image_number parted.input.images page numbered (omega (arith, slice_get_within parted.parting.part_of page part given, dealt));
       }

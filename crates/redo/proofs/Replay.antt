@@ -19,6 +19,7 @@ use Rattle.redo.specs.declared.note.Note.{Note}
 use Rattle.redo.specs.Changes.{RedoPage, page_named, lsn_in, IsNote, part_of_page, is_part, on_part, lsns_where, redo_page_at, advance, advance_by, step}
 use Rattle.redo.specs.Parting.{AreMembers}
 use Rattle.redo.specs.Inputs.{InputContent}
+use Rattle.redo.specs.Parted.{PartedContent}
 use Rattle.redo.specs.Routes.{skipped, skipped_in, Stands}
 use Rattle.redo.specs.Parts.{redo_page_in, image_at, numbers_of, IsUpTo}
 use Rattle.redo.proofs.Reading.{get_same}
@@ -52,41 +53,41 @@ image_begun input base image count =
     ap (λ xs. record { page = record { number = image.number; lsn = image.lsn; slots = xs }; rec_lsn = rec_lsn_of image.number input.dirty; applied = 0 }) slots
 
 -- A STRETCH
-module _ (input : InputContent) (part : ℕ) (image : Page) (here : slice_get input.parting.part_of image.number ≡ Some part) where
+module _ (parted : PartedContent) (part : ℕ) (image : Page) (here : slice_get parted.parting.part_of image.number ≡ Some part) where
   -- the LSNs of the stretch from the first m records to the first m + k, applied in order
-  pub stretch : (m k : ℕ) → base_lsn (history input.log) ≤ m → m + k ≤ last_lsn (history input.log)
-      → fold (step (history input.log) input.redo_lsn) (redo_page_in input (first m (history input.log)) image) (lsns_where (on_part input.parting.part_of part) m (first (m + k) (history input.log)))
-      ≡ redo_page_in input (first (m + k) (history input.log)) image
+  pub stretch : (m k : ℕ) → base_lsn (history parted.input.log) ≤ m → m + k ≤ last_lsn (history parted.input.log)
+      → fold (step (history parted.input.log) parted.input.redo_lsn) (redo_page_in parted.input (first m (history parted.input.log)) image) (lsns_where (on_part parted.parting.part_of part) m (first (m + k) (history parted.input.log)))
+      ≡ redo_page_in parted.input (first (m + k) (history parted.input.log)) image
   stretch m zero from le =
-      let same : first (m + zero) (history input.log) ≡ first m (history input.log) = ap (λ n. first n (history input.log)) (omega arith) in
-      let none : lsns_where (on_part input.parting.part_of part) m (first (m + zero) (history input.log)) ≡ [] =
-      lsns_none (on_part input.parting.part_of part) m (first (m + zero) (history input.log)) (omega (arith, size_of_first_le (m + zero) (history input.log) (omega (arith, from)))) in
-      ap (fold (step (history input.log) input.redo_lsn) (redo_page_in input (first m (history input.log)) image)) none ∙ ap (λ h. redo_page_in input h image) (sym same)
+      let same : first (m + zero) (history parted.input.log) ≡ first m (history parted.input.log) = ap (λ n. first n (history parted.input.log)) (omega arith) in
+      let none : lsns_where (on_part parted.parting.part_of part) m (first (m + zero) (history parted.input.log)) ≡ [] =
+      lsns_none (on_part parted.parting.part_of part) m (first (m + zero) (history parted.input.log)) (omega (arith, size_of_first_le (m + zero) (history parted.input.log) (omega (arith, from)))) in
+      ap (fold (step (history parted.input.log) parted.input.redo_lsn) (redo_page_in parted.input (first m (history parted.input.log)) image)) none ∙ ap (λ h. redo_page_in parted.input h image) (sym same)
   stretch m (suc k) from le =
-      let whole = (history input.log) in
-      let log = first (m + k) (history input.log) in
-      let found = behind (history input.log) (m + k) (omega (arith, from)) (omega (arith, le)) in
+      let whole = (history parted.input.log) in
+      let log = first (m + k) (history parted.input.log) in
+      let found = behind (history parted.input.log) (m + k) (omega (arith, from)) (omega (arith, le)) in
       let r = found.entry in
-      let begun = redo_page_in input (first m (history input.log)) image in
-      let test = on_part input.parting.part_of part in
-      let f = step whole input.redo_lsn in
-      let count : last_lsn log ≡ m + k = size_of_first (m + k) (history input.log) (omega (arith, from)) (omega (arith, le)) in
-      let next : first (m + suc k) (history input.log) ≡ log ▸ r = ap (λ n. first n (history input.log)) (omega arith) ∙ found.next in
-      let lsns : lsns_where test m (first (m + suc k) (history input.log)) ≡ cond (test r) (lsns_where test m log ++ suc (last_lsn log) ∷ []) (lsns_where test m log) =
+      let begun = redo_page_in parted.input (first m (history parted.input.log)) image in
+      let test = on_part parted.parting.part_of part in
+      let f = step whole parted.input.redo_lsn in
+      let count : last_lsn log ≡ m + k = size_of_first (m + k) (history parted.input.log) (omega (arith, from)) (omega (arith, le)) in
+      let next : first (m + suc k) (history parted.input.log) ≡ log ▸ r = ap (λ n. first n (history parted.input.log)) (omega arith) ∙ found.next in
+      let lsns : lsns_where test m (first (m + suc k) (history parted.input.log)) ≡ cond (test r) (lsns_where test m log ++ suc (last_lsn log) ∷ []) (lsns_where test m log) =
       ap (lsns_where test m) next ∙ lsns_more test m log r (omega (arith, count)) in
-      let before : fold f begun (lsns_where test m log) ≡ redo_page_in input log image = stretch m k from (omega (arith, le)) in
-      let after : redo_page_in input (log ▸ r) image ≡ advance input.redo_lsn (suc (last_lsn log)) r (redo_page_in input log image) = advanced (rec_lsn_of image.number input.dirty) input.redo_lsn log r image in
+      let before : fold f begun (lsns_where test m log) ≡ redo_page_in parted.input log image = stretch m k from (omega (arith, le)) in
+      let after : redo_page_in parted.input (log ▸ r) image ≡ advance parted.input.redo_lsn (suc (last_lsn log)) r (redo_page_in parted.input log image) = advanced (rec_lsn_of image.number parted.input.dirty) parted.input.redo_lsn log r image in
       let there : record_at whole (suc (last_lsn log)) ≡ Some r = ap (record_at whole) (omega (arith, count)) ∙ found.there in
       elim (cases_Bool (test r)) [
         | inl is ↦
             (ap (fold f begun) (lsns ∙ ap (λ b. cond b (lsns_where test m log ++ suc (last_lsn log) ∷ []) (lsns_where test m log)) is)
             ∙ (fold_push f begun (lsns_where test m log) (suc (last_lsn log))
             ∙ (ap (λ p. f p (suc (last_lsn log))) before
-            ∙ (ap (λ o. advance_by input.redo_lsn (suc (last_lsn log)) o (redo_page_in input log image)) there ∙ (sym after ∙ ap (λ h. redo_page_in input h image) (sym next))))))
+            ∙ (ap (λ o. advance_by parted.input.redo_lsn (suc (last_lsn log)) o (redo_page_in parted.input log image)) there ∙ (sym after ∙ ap (λ h. redo_page_in parted.input h image) (sym next))))))
         | inr off ↦
             (ap (fold f begun) (lsns ∙ ap (λ b. cond b (lsns_where test m log ++ suc (last_lsn log) ∷ []) (lsns_where test m log)) off)
             ∙ (before
-            ∙ (sym (off_part input.parting.part_of part input.redo_lsn (suc (last_lsn log)) r (redo_page_in input log image) here off) ∙ (sym after ∙ ap (λ h. redo_page_in input h image) (sym next)))))
+            ∙ (sym (off_part parted.parting.part_of part parted.input.redo_lsn (suc (last_lsn log)) r (redo_page_in parted.input log image) here off) ∙ (sym after ∙ ap (λ h. redo_page_in parted.input h image) (sym next)))))
       ]
 
 -- a record of the log that passes a test
@@ -174,45 +175,45 @@ found_first lsn log from le k r e = sym (record_in_first lsn log k (omega (arith
 pub image_number : (images : List Page) (number : ℕ) → AreNumbered images → number < length images → (image_at images number).number ≡ number
 image_number images number numbered lt = numbered.at_place number (record { number = number; lsn = 0; slots = replicate 16 None }) lt
 
-module _ (input : InputContent) (part : ℕ) (numbered : AreNumbered input.images) (dealt : length input.parting.part_of ≡ length input.images) (fits : last_lsn (history input.log) < 2 ^ 64) where
+module _ (parted : PartedContent) (part : ℕ) (numbered : AreNumbered parted.input.images) (dealt : length parted.parting.part_of ≡ length parted.input.images) (fits : last_lsn (history parted.input.log) < 2 ^ 64) where
   -- a member has an image
-  pub member_image : (members : List ℕ) → AreMembers input.parting.part_of input.parting.place_of part members → (k d : ℕ) → k < length members
-      → (get_or members k d < length input.images) × (slice_get input.parting.part_of (image_at input.images (get_or members k d)).number ≡ Some part)
+  pub member_image : (members : List ℕ) → AreMembers parted.parting.part_of parted.parting.place_of part members → (k d : ℕ) → k < length members
+      → (get_or members k d < length parted.input.images) × (slice_get parted.parting.part_of (image_at parted.input.images (get_or members k d)).number ≡ Some part)
   member_image members are k d lt =
       let m = get_or members k d in
       let given = (are.only k m (slice_get-get_or members k d lt)).0 in
-      let within : m < length input.images = omega (arith, slice_get_within input.parting.part_of m part given, dealt) in (
+      let within : m < length parted.input.images = omega (arith, slice_get_within parted.parting.part_of m part given, dealt) in (
         within,
-        ap (slice_get input.parting.part_of) (image_number input.images m numbered within) ∙ given,
+        ap (slice_get parted.parting.part_of) (image_number parted.input.images m numbered within) ∙ given,
       )
 
   -- the pages have the members' numbers
-  numbers_are : (members : List ℕ) (log : History) → AreMembers input.parting.part_of input.parting.place_of part members → numbers_of (map (λ number. redo_page_in input log (image_at input.images number)) members) ≡ members
+  numbers_are : (members : List ℕ) (log : History) → AreMembers parted.parting.part_of parted.parting.place_of part members → numbers_of (map (λ number. redo_page_in parted.input log (image_at parted.input.images number)) members) ≡ members
   numbers_are members log are =
-      let at : ℕ → RedoPage = λ number. redo_page_in input log (image_at input.images number) in
+      let at : ℕ → RedoPage = λ number. redo_page_in parted.input log (image_at parted.input.images number) in
       ext_get_or 0 (numbers_of (map at members)) members (length-map (map at members) (λ (p : RedoPage). p.page.number) ∙ length-map members at)
       (λ k lt.
       let below : k < length members = omega (arith, length-map (map at members) (λ (p : RedoPage). p.page.number), length-map members at) in
       get_or-map (λ (p : RedoPage). p.page.number) (map at members) k (at 0) 0 (omega (arith, length-map members at))
-      ∙ (ap (λ (p : RedoPage). p.page.number) (get_or-map at members k 0 (at 0) below) ∙ image_number input.images (get_or members k 0) numbered (member_image members are k 0 below).0))
+      ∙ (ap (λ (p : RedoPage). p.page.number) (get_or-map at members k 0 (at 0) below) ∙ image_number parted.input.images (get_or members k 0) numbered (member_image members are k 0 below).0))
 
   -- the page of each noted record of the part stands among them
-  pub all_stand : (m n : ℕ) (ps : List RedoPage) (notes : List Note) → base_lsn (history input.log) ≤ n → n ≤ last_lsn (history input.log) → IsUpTo input part m ps
-      → map lsn_in notes ≡ lsns_where (on_part input.parting.part_of part) m (first n (history input.log)) → All (IsNote (history input.log) input.parting.place_of) notes
-      → All (Stands (history input.log) input.parting.place_of (numbers_of ps)) notes
+  pub all_stand : (m n : ℕ) (ps : List RedoPage) (notes : List Note) → base_lsn (history parted.input.log) ≤ n → n ≤ last_lsn (history parted.input.log) → IsUpTo parted part m ps
+      → map lsn_in notes ≡ lsns_where (on_part parted.parting.part_of part) m (first n (history parted.input.log)) → All (IsNote (history parted.input.log) parted.parting.place_of) notes
+      → All (Stands (history parted.input.log) parted.parting.place_of (numbers_of ps)) notes
   all_stand m n ps notes from le up are noted k d lt =
-      let log = first m (history input.log) in
-      let lsns = lsns_where (on_part input.parting.part_of part) m (first n (history input.log)) in
+      let log = first m (history parted.input.log) in
+      let lsns = lsns_where (on_part parted.parting.part_of part) m (first n (history parted.input.log)) in
       let numbers : numbers_of ps ≡ up.members = ap numbers_of up.redone ∙ numbers_are up.members log up.are in
       let note = get_or notes k d in
       let is = noted k d lt in
       let lsn : get_or lsns k 0 ≡ note.lsn = sym (ap (λ xs. get_or xs k 0) are) ∙ get_or-map lsn_in notes k d 0 lt in
       let below : k < length lsns = omega (arith, lt, ap (λ (xs : List ℕ). length xs) are, length-map notes lsn_in) in
-      let found = lsns_found (on_part input.parting.part_of part) m (first n (history input.log)) (history input.log) (found_first n (history input.log) from le) k 0 below in
-      let same : found.entry ≡ is.entry = same_Some _ _ (sym found.there ∙ (ap (record_at (history input.log)) lsn ∙ is.there)) in
+      let found = lsns_found (on_part parted.parting.part_of part) m (first n (history parted.input.log)) (history parted.input.log) (found_first n (history parted.input.log) from le) k 0 below in
+      let same : found.entry ≡ is.entry = same_Some _ _ (sym found.there ∙ (ap (record_at (history parted.input.log)) lsn ∙ is.there)) in
       let named : page_named is.entry ≡ Some is.page = page_of_cell is.entry is.page note.slot is.cell in
-      let given : slice_get input.parting.part_of is.page ≡ Some part = part_is (slice_get input.parting.part_of is.page) (sym (ap (λ o. is_part part (part_of_page input.parting.part_of o)) (ap page_named same ∙ named)) ∙ found.passes) in
-      let member = up.are.found is.page (omega (arith, slice_get_within input.parting.part_of is.page part given, up.all)) given in
+      let given : slice_get parted.parting.part_of is.page ≡ Some part = part_is (slice_get parted.parting.part_of is.page) (sym (ap (λ o. is_part part (part_of_page parted.parting.part_of o)) (ap page_named same ∙ named)) ∙ found.passes) in
+      let member = up.are.found is.page (omega (arith, slice_get_within parted.parting.part_of is.page part given, up.all)) given in
       record {
         entry = is.entry;
         there = is.there;
@@ -223,9 +224,9 @@ module _ (input : InputContent) (part : ℕ) (numbered : AreNumbered input.image
           place = member.place;
           noted = member.noted;
           there = ap (λ xs. slice_get xs member.place) numbers ∙ member.there;
-          only = λ j at. get_same input.parting.place_of is.page j member.place (up.are.only j is.page (sym (ap (λ xs. slice_get xs j) numbers) ∙ at)).1 member.noted;
+          only = λ j at. get_same parted.parting.place_of is.page j member.place (up.are.only j is.page (sym (ap (λ xs. slice_get xs j) numbers) ∙ at)).1 member.noted;
         };
-        place = get_same input.parting.place_of is.page note.place member.place is.place member.noted;
+        place = get_same parted.parting.place_of is.page note.place member.place is.place member.noted;
       }
     where
       part_is : (o : Option ℕ) → is_part part o ≡ true → o ≡ Some part
@@ -233,32 +234,32 @@ module _ (input : InputContent) (part : ℕ) (numbered : AreNumbered input.image
       part_is (Some x) e = ap Some (eqb-true x part e)
 
   -- no count of theirs can overflow
-  pub all_room : (m n : ℕ) (ps : List RedoPage) → base_lsn (history input.log) ≤ m → m ≤ n → n ≤ last_lsn (history input.log) → IsUpTo input part m ps
-      → All (λ p. p.applied + length (lsns_where (on_part input.parting.part_of part) m (first n (history input.log))) < 2 ^ 64) ps
+  pub all_room : (m n : ℕ) (ps : List RedoPage) → base_lsn (history parted.input.log) ≤ m → m ≤ n → n ≤ last_lsn (history parted.input.log) → IsUpTo parted part m ps
+      → All (λ p. p.applied + length (lsns_where (on_part parted.parting.part_of part) m (first n (history parted.input.log))) < 2 ^ 64) ps
   all_room m n ps from less le up k d lt =
-      let at : ℕ → RedoPage = λ number. redo_page_in input (first m (history input.log)) (image_at input.images number) in
+      let at : ℕ → RedoPage = λ number. redo_page_in parted.input (first m (history parted.input.log)) (image_at parted.input.images number) in
       let below : k < length up.members = omega (arith, ap length up.redone, length-map up.members at) in
       let is : get_or ps k d ≡ at (get_or up.members k 0) = ap (λ xs. get_or xs k d) up.redone ∙ get_or-map at up.members k 0 d below in
-      let image = image_at input.images (get_or up.members k 0) in
-      let few = applied_within (rec_lsn_of image.number input.dirty) input.redo_lsn image (first m (history input.log)) in
-      let count : (get_or ps k d).applied ≡ applied (rec_lsn_of image.number input.dirty) input.redo_lsn image (first m (history input.log)) = ap (λ (p : RedoPage). p.applied) is in
+      let image = image_at parted.input.images (get_or up.members k 0) in
+      let few = applied_within (rec_lsn_of image.number parted.input.dirty) parted.input.redo_lsn image (first m (history parted.input.log)) in
+      let count : (get_or ps k d).applied ≡ applied (rec_lsn_of image.number parted.input.dirty) parted.input.redo_lsn image (first m (history parted.input.log)) = ap (λ (p : RedoPage). p.applied) is in
       omega (
         arith,
         few,
         count,
-        lsns_few (on_part input.parting.part_of part) m (first n (history input.log)),
-        size_of_first m (history input.log) from (omega (arith, less, le)),
-        size_of_first n (history input.log) (omega (arith, from, less)) le,
+        lsns_few (on_part parted.parting.part_of part) m (first n (history parted.input.log)),
+        size_of_first m (history parted.input.log) from (omega (arith, less, le)),
+        size_of_first n (history parted.input.log) (omega (arith, from, less)) le,
         fits,
       )
 
   -- one stretch further
-  pub further : (m n : ℕ) (old new : List RedoPage) → base_lsn (history input.log) ≤ m → m ≤ n → n ≤ last_lsn (history input.log) → IsUpTo input part m old
-      → new ≡ map (λ p. fold (step (history input.log) input.redo_lsn) p (lsns_where (on_part input.parting.part_of part) m (first n (history input.log)))) old → IsUpTo input part n new
+  pub further : (m n : ℕ) (old new : List RedoPage) → base_lsn (history parted.input.log) ≤ m → m ≤ n → n ≤ last_lsn (history parted.input.log) → IsUpTo parted part m old
+      → new ≡ map (λ p. fold (step (history parted.input.log) parted.input.redo_lsn) p (lsns_where (on_part parted.parting.part_of part) m (first n (history parted.input.log)))) old → IsUpTo parted part n new
   further m n old new from less le up is =
-      let lsns = lsns_where (on_part input.parting.part_of part) m (first n (history input.log)) in
-      let run : RedoPage → RedoPage = λ p. fold (step (history input.log) input.redo_lsn) p lsns in
-      let at : ℕ → ℕ → RedoPage = λ i number. redo_page_in input (first i (history input.log)) (image_at input.images number) in
+      let lsns = lsns_where (on_part parted.parting.part_of part) m (first n (history parted.input.log)) in
+      let run : RedoPage → RedoPage = λ p. fold (step (history parted.input.log) parted.input.redo_lsn) p lsns in
+      let at : ℕ → ℕ → RedoPage = λ i number. redo_page_in parted.input (first i (history parted.input.log)) (image_at parted.input.images number) in
       let sum : m + (n - m) ≡ n = omega (arith, less) in
       record {
         members = up.members;
@@ -269,19 +270,19 @@ module _ (input : InputContent) (part : ℕ) (numbered : AreNumbered input.image
             ∙ ext_get_or (at 0 0) (map run (map (at m) up.members)) (map (at n) up.members) (length-map (map (at m) up.members) run ∙ (length-map up.members (at m) ∙ sym (length-map up.members (at n))))
             (λ k lt.
             let below : k < length up.members = omega (arith, length-map (map (at m) up.members) run, length-map up.members (at m)) in
-            let image = image_at input.images (get_or up.members k 0) in
+            let image = image_at parted.input.images (get_or up.members k 0) in
             let here = (member_image up.members up.are k 0 below).1 in
             get_or-map run (map (at m) up.members) k (at 0 0) (at 0 0) (omega (arith, length-map up.members (at m), below))
             ∙ (ap run (get_or-map (at m) up.members k 0 (at 0 0) below)
-            ∙ (subst (λ i. fold (step (history input.log) input.redo_lsn) (at m (get_or up.members k 0)) (lsns_where (on_part input.parting.part_of part) m (first i (history input.log))) ≡ at i (get_or up.members k 0)) sum
-            (stretch input part image here m (n - m) from (omega (arith, less, le)))
+            ∙ (subst (λ i. fold (step (history parted.input.log) parted.input.redo_lsn) (at m (get_or up.members k 0)) (lsns_where (on_part parted.parting.part_of part) m (first i (history parted.input.log))) ≡ at i (get_or up.members k 0)) sum
+            (stretch parted part image here m (n - m) from (omega (arith, less, le)))
             ∙ sym (get_or-map (at n) up.members k 0 (at 0 0) below)))));
       }
 
   -- redo begins with the images
-  pub begins : (ps : List RedoPage) → IsUpTo input part 0 ps → IsUpTo input part (skipped_in input) ps
+  pub begins : (ps : List RedoPage) → IsUpTo parted part 0 ps → IsUpTo parted part (skipped_in parted.input) ps
   begins ps up =
-      let at : ℕ → ℕ → RedoPage = λ i number. redo_page_in input (first i (history input.log)) (image_at input.images number) in
-      let same : at 0 ≡ at (skipped_in input) =
-      fun_ext (λ number. ap (λ h. redo_page_in input h (image_at input.images number)) (first_none (history input.log)) ∙ sym (skips_none input (image_at input.images number) (skipped_in input) (omega arith) (skipped_within (base_lsn (history input.log)) input.redo_lsn (last_lsn (history input.log)) (base_within (history input.log))))) in
+      let at : ℕ → ℕ → RedoPage = λ i number. redo_page_in parted.input (first i (history parted.input.log)) (image_at parted.input.images number) in
+      let same : at 0 ≡ at (skipped_in parted.input) =
+      fun_ext (λ number. ap (λ h. redo_page_in parted.input h (image_at parted.input.images number)) (first_none (history parted.input.log)) ∙ sym (skips_none parted.input (image_at parted.input.images number) (skipped_in parted.input) (omega arith) (skipped_within (base_lsn (history parted.input.log)) parted.input.redo_lsn (last_lsn (history parted.input.log)) (base_within (history parted.input.log))))) in
       record { members = up.members; are = up.are; all = up.all; redone = up.redone ∙ ap (λ f. map f up.members) same }

@@ -11,6 +11,7 @@ use Rattle.page.specs.declared.fault.Fault.TheVariants.{NoResource, NoSuchPage}
 use Rattle.wal.specs.Records.{LogRecord, History, start, ◌▸◌, last_lsn, history, LogContent}
 use Rattle.redo.specs.Changes.{lsns_where}
 use Rattle.redo.specs.Inputs.{InputContent}
+use Rattle.redo.specs.Parted.{PartedContent}
 use Rattle.redo.specs.declared.route.Route.{Route}
 use Rattle.redo.specs.Routes.{ExistWithin, RouteFault, IsRoute, IfRoute, IfEach, RoundFault, AreRoutes, boundary_in, skipped_in}
 use Rattle.redo.proofs.Stretches.{boundary_first}
@@ -44,31 +45,31 @@ module _ (input : InputContent) (workers : ℕ) where
       exist_join input.log (length input.images) (skipped_in input) (boundary_in input workers k) (boundary_in input workers (suc k)) (exist_first k (λ j lt. h j (omega arith))) here
 
 -- all records that are looked at are on pages of the store
-pub all_exist : (input : InputContent) (routes : List Route) → AreRoutes input routes → ExistWithin input.log (length input.images) (skipped_in input) (boundary_in input (length routes) (length routes))
-all_exist input [] are = absurd (let some = are.some in omega arith)
-all_exist input (r ∷ rs) are = exist_first input (length (r ∷ rs)) (length (r ∷ rs)) (λ j lt. (are.each j r lt).exist)
+pub all_exist : (parted : PartedContent) (routes : List Route) → AreRoutes parted routes → ExistWithin parted.input.log (length parted.input.images) (skipped_in parted.input) (boundary_in parted.input (length routes) (length routes))
+all_exist parted [] are = absurd (let some = are.some in omega arith)
+all_exist parted (r ∷ rs) are = exist_first parted.input (length (r ∷ rs)) (length (r ∷ rs)) (λ j lt. (are.each j r lt).exist)
 
-module _ (input : InputContent) (results : List (Result Route Fault)) (each : IfEach input results) where
+module _ (parted : PartedContent) (results : List (Result Route Fault)) (each : IfEach parted results) where
   -- the route of a worker that answered
-  route_at : (routes : List Route) (more : List (Result Route Fault)) → results ≡ map answered routes ++ more → (k : ℕ) (d : Route) → k < length routes → IsRoute input (boundary_in input (length results) k) (boundary_in input (length results) (k + 1)) (get_or routes k d)
+  route_at : (routes : List Route) (more : List (Result Route Fault)) → results ≡ map answered routes ++ more → (k : ℕ) (d : Route) → k < length routes → IsRoute parted (boundary_in parted.input (length results) k) (boundary_in parted.input (length results) (k + 1)) (get_or routes k d)
   route_at routes more are k d lt =
       let within : k < length results = omega (arith, ap (λ (xs : List (Result Route Fault)). length xs) are, length-append (map answered routes) more, length-map routes answered) in
       let at : get_or results k (Ok d) ≡ Ok (get_or routes k d) =
       ap (λ (xs : List (Result Route Fault)). get_or xs k (Ok d)) are
       ∙ get_or_append_left (map answered routes) more (Ok d) k (omega (arith, length-map routes answered))
       ∙ get_or-map answered routes k d in
-      subst (IfRoute input (length results) k) at (each k (Ok d) within)
+      subst (IfRoute parted (length results) k) at (each k (Ok d) within)
 
-  pub routes_are : (routes : List Route) → 0 < length results → results ≡ map answered routes → AreRoutes input routes
+  pub routes_are : (routes : List Route) → 0 < length results → results ≡ map answered routes → AreRoutes parted routes
   routes_are routes some are =
       let count : length results ≡ length routes = ap (λ (xs : List (Result Route Fault)). length xs) are ∙ length-map routes answered in
       record {
         some = omega arith;
-        each = λ k d lt. subst (λ n. IsRoute input (boundary_in input n k) (boundary_in input n (k + 1)) (get_or routes k d)) count (route_at routes [] (are ∙ sym (append-nil (map answered routes))) k d lt);
+        each = λ k d lt. subst (λ n. IsRoute parted (boundary_in parted.input n k) (boundary_in parted.input n (k + 1)) (get_or routes k d)) count (route_at routes [] (are ∙ sym (append-nil (map answered routes))) k d lt);
       }
 
   -- the first that gave no route
-  pub first_refused : (routes : List Route) (fault : Fault) (more : List (Result Route Fault)) → results ≡ map answered routes ++ Err fault ∷ more → RoundFault input fault
+  pub first_refused : (routes : List Route) (fault : Fault) (more : List (Result Route Fault)) → results ≡ map answered routes ++ Err fault ∷ more → RoundFault parted.input fault
   first_refused routes fault more are =
       let n = length results in
       let k = length routes in
@@ -78,15 +79,15 @@ module _ (input : InputContent) (results : List (Result Route Fault)) (each : If
       ap (λ (xs : List (Result Route Fault)). get_or xs k (Err fault)) are
       ∙ ap (λ i. get_or (map answered routes ++ Err fault ∷ more) i (Err fault)) (sym count)
       ∙ get_or-append_seam (map answered routes) (Err fault) more (Err fault) in
-      let cause : RouteFault input (boundary_in input n k) (boundary_in input n (k + 1)) fault = subst (IfRoute input n k) at (each k (Err fault) within) in
-      let exist : ExistWithin input.log (length input.images) (skipped_in input) (boundary_in input n k) = exist_first input n k (exist_of routes are) in
+      let cause : RouteFault parted.input (boundary_in parted.input n k) (boundary_in parted.input n (k + 1)) fault = subst (IfRoute parted n k) at (each k (Err fault) within) in
+      let exist : ExistWithin parted.input.log (length parted.input.images) (skipped_in parted.input) (boundary_in parted.input n k) = exist_first parted.input n k (exist_of routes are) in
       of fault exist cause
     where
-      exist_of : (rs : List Route) → results ≡ map answered rs ++ Err fault ∷ more → (j : ℕ) → j < length rs → ExistWithin input.log (length input.images) (boundary_in input (length results) j) (boundary_in input (length results) (j + 1))
+      exist_of : (rs : List Route) → results ≡ map answered rs ++ Err fault ∷ more → (j : ℕ) → j < length rs → ExistWithin parted.input.log (length parted.input.images) (boundary_in parted.input (length results) j) (boundary_in parted.input (length results) (j + 1))
       exist_of [] is j lt = absurd (omega arith)
       exist_of (r ∷ rs) is j lt = (route_at (r ∷ rs) (Err fault ∷ more) is j r lt).exist
 
-      of : (e : Fault) → ExistWithin input.log (length input.images) (skipped_in input) (boundary_in input (length results) (length routes)) → RouteFault input (boundary_in input (length results) (length routes)) (boundary_in input (length results) (length routes + 1)) e → RoundFault input e
+      of : (e : Fault) → ExistWithin parted.input.log (length parted.input.images) (skipped_in parted.input) (boundary_in parted.input (length results) (length routes)) → RouteFault parted.input (boundary_in parted.input (length results) (length routes)) (boundary_in parted.input (length results) (length routes + 1)) e → RoundFault parted.input e
       of NoResource exist cause = tt
       of (NoSuchPage lsn) exist cause =
           let m = cause.1 in
@@ -95,6 +96,6 @@ module _ (input : InputContent) (results : List (Result Route Fault)) (each : If
             past = omega (arith, m.past);
             there = m.there;
             beyond = m.beyond;
-            before = exist_join input.log (length input.images) (skipped_in input) (boundary_in input (length results) (length routes)) (lsn - 1) exist m.before;
+            before = exist_join parted.input.log (length parted.input.images) (skipped_in parted.input) (boundary_in parted.input (length results) (length routes)) (lsn - 1) exist m.before;
           }
       of e exist cause = absurd cause

@@ -77,24 +77,24 @@ counted_put input redo_lsn lsn slot r t there =
     ]
 
 -- a noted record, counted for its page, is that record applied to the pages
-pub counted_alone : (input : InputContent) (ts new : List Tally) (n : Note) → Stands (history input.log) input.parting.place_of (numbers_of (map (resolved input) ts)) n
+pub counted_alone : (input : InputContent) (place_of : List ℕ) (ts new : List Tally) (n : Note) → Stands (history input.log) place_of (numbers_of (map (resolved input) ts)) n
     → ((d : Tally) → new ≡ set ts n.place (counted input.redo_lsn n.lsn n.slot (get_or ts n.place d)))
     → map (resolved input) new ≡ map (λ p. step (history input.log) input.redo_lsn p n.lsn) (map (resolved input) ts)
-counted_alone input [] new n stands is = absurd (let lt = alone_within input.parting.place_of [] stands.page stands.alone in omega arith)
-counted_alone input (q ∷ qs) new n stands is =
+counted_alone input place_of [] new n stands is = absurd (let lt = alone_within place_of [] stands.page stands.alone in omega arith)
+counted_alone input place_of (q ∷ qs) new n stands is =
     let ts = q ∷ qs in
     let ps = map (resolved input) ts in
     let r = stands.entry in
     let value = image_of r in
-    let long : n.place < length ts = omega (arith, alone_within input.parting.place_of ps stands.page stands.alone, stands.place, length-map ts (resolved input)) in
-    let noted : slice_get input.parting.place_of stands.page ≡ Some n.place = stands.alone.noted ∙ ap Some (sym stands.place) in
+    let long : n.place < length ts = omega (arith, alone_within place_of ps stands.page stands.alone, stands.place, length-map ts (resolved input)) in
+    let noted : slice_get place_of stands.page ≡ Some n.place = stands.alone.noted ∙ ap Some (sym stands.place) in
     let one : resolved input (counted input.redo_lsn n.lsn n.slot (get_or ts n.place q)) ≡ put input.redo_lsn n.lsn n.slot value (resolved input (get_or ts n.place q)) =
     counted_put input input.redo_lsn n.lsn n.slot r (get_or ts n.place q) stands.there in
     let written : (d : RedoPage) → map (resolved input) new ≡ set ps n.place (put input.redo_lsn n.lsn n.slot value (get_or ps n.place d)) =
     λ d. ap (map (resolved input)) (is q)
     ∙ (map-set (resolved input) ts n.place (counted input.redo_lsn n.lsn n.slot (get_or ts n.place q))
     ∙ ap (λ p. set ps n.place p) (one ∙ ap (put input.redo_lsn n.lsn n.slot value) (sym (get_or-map (resolved input) ts n.place q d long)))) in
-    put_alone input.redo_lsn n.lsn n.slot value r input.parting.place_of ps (map (resolved input) new) stands.page n.place stands.alone noted (page_of_cell r stands.page n.slot stands.cell)
+    put_alone input.redo_lsn n.lsn n.slot value r place_of ps (map (resolved input) new) stands.page n.place stands.alone noted (page_of_cell r stands.page n.slot stands.cell)
     (does input.redo_lsn n.lsn r stands.page n.slot stands.cell) written
     ∙ ap (λ o. map (advance_by input.redo_lsn n.lsn o) ps) (sym stands.there)
 

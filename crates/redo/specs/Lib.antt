@@ -3,6 +3,7 @@ pub mod Notes
 pub mod Parting
 pub mod Changes
 pub mod Inputs
+pub mod Parted
 pub mod Routes
 pub mod Parts
 pub mod OnePass

@@ -6,11 +6,12 @@ use Rattle.wal.specs.Records.{History, history, first}
 use Rattle.wal.specs.Redo.{rec_lsn_of}
 use Rattle.board.specs.Drawn.{BoardId, AllEnded}
 use Rattle.redo.specs.declared.tally.Tally.{Tally}
-use Rattle.redo.specs.declared.crew.Job.{Job}
+use Rattle.redo.specs.declared.crew.Worker.{Worker}
 use Rattle.redo.specs.declared.crew.Share.{Share}
-use Rattle.redo.specs.Parting.{AreMembers}
+use Rattle.redo.specs.Parting.{PartingContent, AreMembers}
 use Rattle.redo.specs.Changes.{RedoPage, redo_page_at, finished}
 use Rattle.redo.specs.Inputs.{InputContent}
+use Rattle.redo.specs.Parted.{PartedContent}
 use Rattle.page.specs.declared.sizes.TheConstants.{SLOTS}
 
 -- the numbers of pages
@@ -26,11 +27,11 @@ abbrev pub image_at : List Page → ℕ → Page
 image_at images number = slice_index_or images number (record { number = number; lsn = 0; slots = replicate SLOTS None })
 
 -- the pages of a part, redone up to an LSN
-pub record IsUpTo (input : InputContent) (part lsn : ℕ) (ps : List RedoPage) : Type 0 where
+pub record IsUpTo (parted : PartedContent) (part lsn : ℕ) (ps : List RedoPage) : Type 0 where
   pub members : List ℕ
-  pub are : AreMembers input.parting.part_of input.parting.place_of part members
-  pub all : length input.parting.place_of ≡ length input.parting.part_of
-  pub redone : ps ≡ map (λ number. redo_page_in input (first lsn (history input.log)) (image_at input.images number)) members
+  pub are : AreMembers parted.parting.part_of parted.parting.place_of part members
+  pub all : length parted.parting.place_of ≡ length parted.parting.part_of
+  pub redone : ps ≡ map (λ number. redo_page_in parted.input (first lsn (history parted.input.log)) (image_at parted.input.images number)) members
 
 -- what a tally tells of a page: its image in the store, and the values of the records that are the last in their slots
 abbrev pub resolved : InputContent → Tally → RedoPage
@@ -50,8 +51,8 @@ pub record HasPage (ps : List RedoPage) (page : ℕ) : Type 0 where
   pub number : redo_page.page.number ≡ page
 
 -- all pages of a part are
-abbrev pub HasPart : InputContent → (part : ℕ) → List RedoPage → Type 0
-HasPart input part ps = (page : ℕ) → slice_get input.parting.part_of page ≡ Some part → HasPage ps page
+abbrev pub HasPart : PartingContent → (part : ℕ) → List RedoPage → Type 0
+HasPart parting part ps = (page : ℕ) → slice_get parting.part_of page ≡ Some part → HasPage ps page
 
 -- at its number stands the tally of a page, which tells of it redone
 pub record IsTallied (input : InputContent) (tallies : List Tally) (number : ℕ) : Type 0 where
@@ -63,21 +64,26 @@ pub record IsTallied (input : InputContent) (tallies : List Tally) (number : ℕ
   pub redone : resolved input tally ≡ redo_page_in input (history input.log) image
 
 -- so do those of all pages of these parts
-abbrev pub AreTallied : InputContent → List Tally → (drawn : List ℕ) → Type 0
-AreTallied input tallies drawn = (number part : ℕ) → slice_get input.parting.part_of number ≡ Some part → Contains drawn part → IsTallied input tallies number
+abbrev pub AreTallied : PartedContent → List Tally → (drawn : List ℕ) → Type 0
+AreTallied parted tallies drawn = (number part : ℕ) → slice_get parted.parting.part_of number ≡ Some part → Contains drawn part → IsTallied parted.input tallies number
+
+-- and those of all pages of the store
+pub record AreAllTallied (input : InputContent) (tallies : List Tally) : Type 0 where
+  pub count : length tallies ≡ length input.images
+  pub each : (number : ℕ) → number < length input.images → IsTallied input tallies number
 
 -- a worker begins: a seat of the board with one place and no number, and a range of the board
-pub record IsReady (board : BoardId) (job : Job) : Type 0 where
-  pub at_board : job.seat.board ≡ board
-  pub one_place : job.seat.places ≡ 1
-  pub none_drawn : job.seat.drawn ≡ []
-  pub home : job.home < board.ranges
+pub record IsReady (board : BoardId) (worker : Worker) : Type 0 where
+  pub at_board : worker.seat.board ≡ board
+  pub one_place : worker.seat.places ≡ 1
+  pub none_drawn : worker.seat.drawn ≡ []
+  pub home : worker.home < board.ranges
 
 -- and ends: its tallies tell of pages redone, and where no seat has stopped the board, of all pages of the parts that it drew, and all
 -- ranges have ended
-pub record IsBack (input : InputContent) (board : BoardId) (share : Share) : Type 0 where
+pub record IsBack (parted : PartedContent) (board : BoardId) (share : Share) : Type 0 where
   pub at_board : share.seat.board ≡ board
   pub one_place : share.seat.places ≡ 1
-  pub done : All (IsDone input) (map (resolved input) share.tallies.items)
-  pub drawn : share.seat.stopped ≡ false → share.seat.told ≡ false → (part : ℕ) → Contains share.seat.drawn part → HasPart input part (map (resolved input) share.tallies.items)
+  pub done : All (IsDone parted.input) (map (resolved parted.input) share.tallies.items)
+  pub drawn : share.seat.stopped ≡ false → share.seat.told ≡ false → (part : ℕ) → Contains share.seat.drawn part → HasPart parted.parting part (map (resolved parted.input) share.tallies.items)
   pub ended : share.seat.stopped ≡ false → share.seat.told ≡ false → AllEnded board.ranges share.seat.ended

@@ -1,13 +1,14 @@
 -- REDO. What redo answers. ARIES, section 6.2 (redo pass).
-use Rattle.std.specs.Prelude.{◌≡◌, ◌≢◌, ℕ, ◌<◌, ◌≤◌, Some, ⊤}
+use Rattle.std.specs.Prelude.{◌≡◌, ◌≢◌, ℕ, ◌<◌, ◌≤◌, List, Some, length, map, sum, ⊤}
 use Rattle.page.specs.declared.fault.Fault.{Fault}
 use Rattle.page.specs.declared.fault.Fault.TheVariants.{NoResource, BadWorkers, NoSuchPage}
 use Rattle.page.specs.declared.page.Page.{Page}
 use Rattle.page.specs.Causes.{HasOneCause, HasNoCause}
 use Rattle.wal.specs.Records.{LogRecord, LogContent, history, record_at}
 use Rattle.wal.specs.Redo.{rec_lsn_of, redo_of, applied}
-use Rattle.analysis.specs.Tables.{TablesContent}
+use Rattle.tables.specs.Tables.{TablesContent}
 use Rattle.redo.specs.Changes.{NamesBelow}
+use Rattle.redo.specs.declared.redone.Redone.{Redone}
 use Rattle.redo.specs.declared.rounds.TheConstants.{WORKERS}
 
 -- what redo by these tables makes of a page's image
@@ -33,6 +34,12 @@ ExistBelow log count redo_lsn bound = (lsn : ℕ) (r : LogRecord) → IsLookedAt
 -- so is each of the log
 abbrev pub AllExist : LogContent → (count redo_lsn : ℕ) → Type 0
 AllExist log count redo_lsn = (lsn : ℕ) (r : LogRecord) → IsLookedAt redo_lsn lsn → record_at (history log) lsn ≡ Some r → NamesBelow count r
+
+-- redo by these tables has repeated the history of a log on a store's pages, and found all pages that it looked for
+pub record RepeatsHistory (log : LogContent) (tables : TablesContent) (images : List Page) (redone : Redone) : Type 0 where
+  pub pages : redone.pages.items ≡ map (redone_page log tables) images
+  pub applied : redone.applied ≡ sum (map (applied_to log tables) images)
+  pub exist : AllExist log (length images) tables.redo_lsn
 
 -- the record at this LSN is the first that it looks at on a page past the count
 pub record IsFirstMissing (log : LogContent) (count redo_lsn lsn : ℕ) : Type 0 where

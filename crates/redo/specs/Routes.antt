@@ -13,6 +13,7 @@ use Rattle.redo.specs.declared.route.Route.{Route}
 use Rattle.redo.specs.Notes.{notes_at}
 use Rattle.redo.specs.Changes.{NamesBelow, on_part, lsns_where, lsn_in, IsNote}
 use Rattle.redo.specs.Inputs.{InputContent}
+use Rattle.redo.specs.Parted.{PartedContent}
 use Rattle.page.specs.declared.sizes.TheConstants.{SLOTS}
 
 -- THE FIRST ROUND
@@ -61,20 +62,20 @@ NoteFault count lsn r (NoSuchPage n) = (n ≡ lsn) × (NamesBelow count r → �
 NoteFault count lsn r e = ⊥
 
 -- for each part the LSNs above `from` up to `to` of the records on its pages
-pub record IsRoute (input : InputContent) (from to : ℕ) (route : Route) : Type 0 where
-  pub count : length route.lists.items ≡ input.parting.parts
-  pub lsns : (part : ℕ) → part < input.parting.parts → map lsn_in (notes_at route.lists.items part) ≡ lsns_where (on_part input.parting.part_of part) from (first to (history input.log))
-  pub notes : (part : ℕ) → part < input.parting.parts → All (IsNote (history input.log) input.parting.place_of) (notes_at route.lists.items part)
-  pub exist : ExistWithin input.log (length input.images) from to
+pub record IsRoute (parted : PartedContent) (from to : ℕ) (route : Route) : Type 0 where
+  pub count : length route.lists.items ≡ parted.parting.parts
+  pub lsns : (part : ℕ) → part < parted.parting.parts → map lsn_in (notes_at route.lists.items part) ≡ lsns_where (on_part parted.parting.part_of part) from (first to (history parted.input.log))
+  pub notes : (part : ℕ) → part < parted.parting.parts → All (IsNote (history parted.input.log) parted.parting.place_of) (notes_at route.lists.items part)
+  pub exist : ExistWithin parted.input.log (length parted.input.images) from to
 
 -- what this worker answers, of a number of workers
-abbrev pub IfRoute : InputContent → (workers worker : ℕ) → Result Route Fault → Type 0
-IfRoute input workers worker result =
-    MatchResult result (IsRoute input (boundary_in input workers worker) (boundary_in input workers (worker + 1))) (RouteFault input (boundary_in input workers worker) (boundary_in input workers (worker + 1)))
+abbrev pub IfRoute : PartedContent → (workers worker : ℕ) → Result Route Fault → Type 0
+IfRoute parted workers worker result =
+    MatchResult result (IsRoute parted (boundary_in parted.input workers worker) (boundary_in parted.input workers (worker + 1))) (RouteFault parted.input (boundary_in parted.input workers worker) (boundary_in parted.input workers (worker + 1)))
 
 -- and what all of them do
-abbrev pub IfEach : InputContent → List (Result Route Fault) → Type 0
-IfEach input results = (k : ℕ) (d : Result Route Fault) → k < length results → IfRoute input (length results) k (slice_index_or results k d)
+abbrev pub IfEach : PartedContent → List (Result Route Fault) → Type 0
+IfEach parted results = (k : ℕ) (d : Result Route Fault) → k < length results → IfRoute parted (length results) k (slice_index_or results k d)
 
 -- why the first round gives no routes
 abbrev pub RoundFault : InputContent → Fault → Type 0
@@ -83,9 +84,9 @@ RoundFault input (NoSuchPage lsn) = IsMissing input.log (length input.images) (s
 RoundFault input e = ⊥
 
 -- so have all workers done
-pub record AreRoutes (input : InputContent) (routes : List Route) : Type 0 where
+pub record AreRoutes (parted : PartedContent) (routes : List Route) : Type 0 where
   pub some : 0 < length routes
-  pub each : (k : ℕ) (d : Route) → k < length routes → IsRoute input (boundary_in input (length routes) k) (boundary_in input (length routes) (k + 1)) (slice_index_or routes k d)
+  pub each : (k : ℕ) (d : Route) → k < length routes → IsRoute parted (boundary_in parted.input (length routes) k) (boundary_in parted.input (length routes) (k + 1)) (slice_index_or routes k d)
 
 -- THE SECOND ROUND
 -- a record's page is one of these, at the place that is noted for it and at no other

@@ -31,16 +31,9 @@ impl Entered {
 }
 
 /// Tells the gate of a part that a worker drew.
-pub(crate) fn enter<G: Gate>(gate: &G, worker: u32, part: u32) -> Entered
+pub(crate) fn pass_gate<G: Gate>(gate: &G, worker: u32, part: u32) -> Entered
     ensures { result.part ≡ part }
 {
     gate.enter(worker, part);
     Entered { part }
-}
-
-/// Tells the gate of all parts, for the one worker that does the work on them.
-pub(crate) fn enter_all<G: Gate>(gate: &G, parts: u32) {
-    for part in 0..parts {
-        gate.enter(0, part);
-    }
 }

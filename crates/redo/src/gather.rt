@@ -4,17 +4,17 @@ ghost use Rattle.std.specs.Prelude.{◌≡◌, ℕ, ◌<◌, ◌⊎◌, false, l
 ghost use Rattle.page.specs.declared.fault.Fault.TheVariants.{NoResource};
 ghost use Rattle.board.specs.Drawn.{AllEnded};
 ghost use Rattle.redo.specs.Inputs.{InputContent};
-ghost use Rattle.redo.specs.Parts.{IsBack, IsDone, HasPage, IsTallied, AreTallied, resolved};
+ghost use Rattle.redo.specs.Parts.{IsBack, IsDone, HasPage, IsTallied, AreTallied, AreAllTallied, resolved};
 
 use crate::crew::Share;
-use crate::input::RedoInput;
+use crate::input::PartedInput;
 use crate::tally::Tally;
 use board::{Board, Seat};
 use page::Fault;
 use std::alloc::Global;
 
 /// Puts tallies to the numbers of their pages.
-fn place(done: &[Tally], tallies: &mut [Tally])
+fn put_tallies(done: &[Tally], tallies: &mut [Tally])
     requires below { All (λ t. t.number < length tallies.old) done.now }
     ensures count { length tallies.new ≡ length tallies.old }
     ensures put { (input : InputContent)
@@ -28,15 +28,20 @@ fn place(done: &[Tally], tallies: &mut [Tally])
 }
 
 /// Takes in what the workers bring back: one seat with all places, and the tallies.
-fn gather(input: &RedoInput, board: &Board, mut shares: Vec<Share>, tallies: &mut [Tally]) -> Seat
+fn gather(
+    parted: &PartedInput,
+    board: &Board,
+    mut shares: Vec<Share>,
+    tallies: &mut [Tally],
+) -> Seat
     requires some { 0 < vec_len shares }
-    requires each { All (IsBack input.now board.now) shares.items }
-    requires count { length tallies.old ≡ length input.now.images }
+    requires each { All (IsBack parted.now board.now) shares.items }
+    requires count { length tallies.old ≡ length parted.now.input.images }
     ensures board { result.board ≡ board.now }
     ensures places { result.places ≡ vec_len shares }
-    ensures count { length tallies.new ≡ length input.now.images }
+    ensures count { length tallies.new ≡ length parted.now.input.images }
     ensures tallied { result.stopped ≡ false → result.told ≡ false
-        → AreTallied input.now tallies.new result.drawn }
+        → AreTallied parted.now tallies.new result.drawn }
     ensures ended { result.stopped ≡ false → result.told ≡ false
         → AllEnded board.now.ranges result.ended }
 {
@@ -44,10 +49,10 @@ fn gather(input: &RedoInput, board: &Board, mut shares: Vec<Share>, tallies: &mu
         unreachable!()
     };
     let mut seat = last.seat;
-    place(&last.tallies, tallies);
+    put_tallies(&last.tallies, tallies);
     while let Some(share) = shares.pop() {
         seat = board.join(seat, share.seat);
-        place(&share.tallies, tallies);
+        put_tallies(&share.tallies, tallies);
     }
     shares.destroy_empty();
     seat
@@ -57,24 +62,22 @@ fn gather(input: &RedoInput, board: &Board, mut shares: Vec<Share>, tallies: &mu
 /// error is `NoResource`.
 pub fn tallies_of(
     alloc: Global,
-    input: &RedoInput,
+    parted: &PartedInput,
     board: Board,
     shares: Vec<Share>,
 ) -> Result<Vec<Tally>, Fault>
-    requires dealt { length input.now.parting.part_of ≡ length input.now.images }
     requires some { 0 < vec_len shares }
     requires seats { board.seats ≡ vec_len shares }
-    requires parts { board.parts ≡ input.now.parting.parts }
-    requires each { All (IsBack input.now board) shares.items }
-    ensures count { IfOk result (λ tallies. length tallies.items ≡ length input.now.images) }
-    ensures tallied { IfOk result (λ tallies. (number : ℕ) → number < length input.now.images
-        → IsTallied input.now tallies.items number) }
+    requires parts { board.parts ≡ parted.now.parting.parts }
+    requires each { All (IsBack parted.now board) shares.items }
+    ensures tallied { IfOk result (λ tallies. AreAllTallied parted.now.input tallies.items) }
     ensures err { IsOkUnless result NoResource }
 {
-    let _parts = input.parting.parts();
-    let store = input.store;
+    // The part of each page is one that the board has dealt.
+    let _parts = parted.parting.parts();
+    let store = parted.input.store;
     let mut tallies = vec![in alloc; Tally::begin(0, 0, None); store.pages.len()]?;
-    let seat = gather(input, &board, shares, &mut tallies);
+    let seat = gather(parted, &board, shares, &mut tallies);
     if board.close(seat).stopped() {
         return Err(Fault::NoResource);
     }

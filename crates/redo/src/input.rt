@@ -1,23 +1,23 @@
-//! What the first two rounds of redo look at.
+//! What redo looks at: a log, a store and what analysis found; for the rounds of workers a parting
+//! beside them.
 
 ghost use Rattle.std.specs.Prelude.{◌≡◌, length};
 ghost use Rattle.wal.specs.Records.{history, base_lsn, last_lsn};
 ghost use Rattle.redo.specs.Routes.{skipped, skipped_in};
 
 use crate::Parting;
-use analysis::Tables;
 use page::Store;
 use std::marker::Model;
+use tables::Tables;
 use wal::Log;
 
-/// A log, a store, what analysis found and a parting of the store's pages, lent to all workers.
-/// Contracts see the log, the pages, the dirty page table with redo_lsn, and the parting.
+/// A log, a store and what analysis found, lent to whoever counts the records that each page lacks.
+/// Contracts see the log, the pages, and the dirty page table with redo_lsn.
 #[derive(Drop)]
 pub struct RedoInput<'a> {
     pub log: &'a Log<'a>,
     pub store: &'a Store,
     pub tables: &'a Tables,
-    pub parting: &'a Parting,
 }
 
 impl<'a> Model for RedoInput<'a> {
@@ -30,9 +30,26 @@ impl<'a> Model for RedoInput<'a> {
     ghost invariant = { IsInput };
 }
 
+/// What redo looks at with a parting of the store's pages, lent to all workers.
+#[derive(Drop)]
+pub struct PartedInput<'a> {
+    pub input: RedoInput<'a>,
+    pub parting: &'a Parting,
+}
+
+impl<'a> Model for PartedInput<'a> {
+    ghost use Rattle.redo.specs.Parted.{PartedContent, parted_of, IsParted};
+
+    ghost Value = { PartedContent };
+
+    ghost view = { parted_of };
+
+    ghost invariant = { IsParted };
+}
+
 /// The LSN up to which redo does not look at records: the one below `redo_lsn`; the log's base LSN
 /// where `redo_lsn` is not above that; the log's last where `redo_lsn` is 0 or behind it.
-pub fn skipped(log: &Log, redo_lsn: u64) -> u64
+fn skipped_below(log: &Log, redo_lsn: u64) -> u64
     ensures { result ≡ skipped (base_lsn (history log.now)) redo_lsn (last_lsn (history log.now)) }
 {
     let last = log.last();
@@ -56,6 +73,6 @@ impl<'a> RedoInput<'a> {
     pub fn skipped(&self) -> u64
         ensures { result ≡ skipped_in self.now }
     {
-        skipped(self.log, self.redo_lsn())
+        skipped_below(self.log, self.redo_lsn())
     }
 }

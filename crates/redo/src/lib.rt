@@ -18,10 +18,12 @@ mod rounds;
 mod route;
 mod tally;
 mod unthreaded;
+mod watch;
 
 pub use gate::{Gate, OpenGate};
 pub use laws::{no_fault_of_redo, one_redo_fault};
 pub use parting::Parting;
 pub use redone::Redone;
 pub use rounds::{WORKERS, are_workers, redo, redo_in_place};
-pub use unthreaded::redo_alone;
+pub use unthreaded::{redo_alone, redo_watched};
+pub use watch::Watch;

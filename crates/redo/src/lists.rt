@@ -20,22 +20,22 @@ pub fn empty_lists<T: Drop>(alloc: Global, count: usize) -> Result<Vec<Vec<T>>, 
     Ok(lists)
 }
 
-/// How many items the list at a place has.
-pub fn len_at<T>(lists: &[Vec<T>], place: usize) -> usize
-    requires { place < length lists.now }
-    ensures { result ≡ length (list_at lists.now place) }
+/// How many items the list at an index has.
+pub fn len_at<T>(lists: &[Vec<T>], index: usize) -> usize
+    requires { index < length lists.now }
+    ensures { result ≡ length (list_at lists.now index) }
 {
-    lists[place].len()
+    lists[index].len()
 }
 
-/// Puts an item behind the list at a place. The only error is `NoResource`.
-pub fn push_to<T: Drop>(lists: &mut [Vec<T>], place: usize, item: T) -> Result<(), Fault>
-    requires { place < length lists.old }
+/// Puts an item behind the list at an index. The only error is `NoResource`.
+pub fn push_to<T: Drop>(lists: &mut [Vec<T>], index: usize, item: T) -> Result<(), Fault>
+    requires { index < length lists.old }
     ensures count { length lists.new ≡ length lists.old }
     ensures ok { OnOk result ((k : ℕ) → list_at lists.new k
-        ≡ (if k == place then list_at lists.old k ++ item ∷ [] else list_at lists.old k)) }
+        ≡ (if k == index then list_at lists.old k ++ item ∷ [] else list_at lists.old k)) }
     ensures err { IsOkUnless result NoResource }
 {
-    lists[place].push(item)?;
+    lists[index].push(item)?;
     Ok(())
 }

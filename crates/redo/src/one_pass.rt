@@ -3,21 +3,24 @@
 ghost use Rattle.std.specs.Prelude.{◌≡◌, ℕ, ◌+◌, ◌<◌, ◌≤◌, All, Some, length, slice_index_or, IfOk, OnOk, IfErr, IsOkUnless};
 ghost use Rattle.page.specs.declared.fault.Fault.TheVariants.{NoResource};
 ghost use Rattle.wal.specs.Records.{LogRecord, history, record_at, last_lsn, base_lsn};
+ghost use Rattle.redo.specs.Inputs.{input_over};
 ghost use Rattle.redo.specs.Changes.{NamesBelow, advance};
 ghost use Rattle.redo.specs.Routes.{skipped_in, NoteFault};
-ghost use Rattle.redo.specs.Redone.{AreWorkers, AllExist, RedoFault};
-ghost use Rattle.redo.specs.Parts.{IsTallied, resolved};
+ghost use Rattle.redo.specs.Redone.{AllExist, RedoFault};
+ghost use Rattle.redo.specs.Parts.{AreAllTallied, resolved};
 ghost use Rattle.redo.specs.OnePass.{AreUpTo};
 ghost use Rattle.redo.specs.declared.tally.Tally.{Tally};
 
 use crate::input::RedoInput;
 use crate::part::{begin_page, count_at};
 use crate::tally::Tally;
-use page::Fault;
+use page::{Fault, Store};
 use std::alloc::Global;
+use tables::Tables;
+use wal::Log;
 
 /// The tallies of all pages, to which no record was applied. The only error is `NoResource`.
-fn begin(alloc: Global, input: &RedoInput) -> Result<Vec<Tally>, Fault>
+fn begin_all(alloc: Global, input: &RedoInput) -> Result<Vec<Tally>, Fault>
     ensures begun { IfOk result (λ tallies. AreUpTo input.now
         (skipped_in input.now) tallies.items) }
     ensures err { IsOkUnless result NoResource }
@@ -51,51 +54,40 @@ fn count_next(input: &RedoInput, lsn: u64, tallies: &mut [Tally]) -> Result<(), 
         → record_at (history input.now.log) (lsn + 1) ≡ Some r
         → NoteFault (length tallies.old) (lsn + 1) r e) }
 {
+    // The log's last LSN fits, so the next one does.
     let _last = input.log.last();
     let Some((page, slot)) = input.log.glance_after(lsn).cell() else {
         return Ok(());
     };
-    let place = page as usize;
-    if place >= tallies.len() {
+    let number = page as usize;
+    if number >= tallies.len() {
         return Err(Fault::NoSuchPage(lsn + 1));
     }
-    count_at(tallies, place, input.redo_lsn(), lsn + 1, slot as usize);
+    count_at(tallies, number, input.redo_lsn(), lsn + 1, slot as usize);
     Ok(())
 }
 
-/// Counts the records that redo does not skip. Refuses the first of them on a page that there is
-/// not by `NoSuchPage`.
-fn count_all(input: &RedoInput, tallies: &mut [Tally]) -> Result<(), Fault>
-    requires begun { AreUpTo input.now (skipped_in input.now) tallies.old }
-    ensures done { OnOk result (AreUpTo input.now (last_lsn (history input.now.log)) tallies.new) }
-    ensures exist { OnOk result
-        (AllExist input.now.log (length input.now.images) input.now.redo_lsn) }
-    ensures fault { IfErr result (λ e. (workers : ℕ) → AreWorkers workers
-        → RedoFault input.now.log (length input.now.images) input.now.redo_lsn workers e) }
+/// The tallies of all pages by one pass over the records that redo does not skip, which leaves the
+/// store as it is. Refuses the first of them on a page that there is not by `NoSuchPage`.
+pub fn tallied_alone(
+    alloc: Global,
+    log: &Log,
+    store: &Store,
+    tables: &Tables,
+) -> Result<Vec<Tally>, Fault>
+    ensures tallied { IfOk result (λ tallies. AreAllTallied
+        (input_over log.now store.now.pages tables.now) tallies.items) }
+    ensures exist { OnOk result (AllExist log.now (length store.now.pages) tables.now.redo_lsn) }
+    ensures fault { IfErr result (RedoFault
+        log.now (length store.now.pages) tables.now.redo_lsn 1) }
 {
-    let last = input.log.last();
+    // Opens the store: its pages stand at their numbers.
+    let _ = &store.pages;
+    let input = RedoInput { log, store, tables };
+    let mut tallies = begin_all(alloc, &input)?;
+    let last = log.last();
     for lsn in input.skipped()..last {
-        if let Err(fault) = count_next(input, lsn, tallies) {
-            return Err(fault);
-        }
-    }
-    Ok(())
-}
-
-/// The tallies of all pages by one pass over the records, which leaves the store as it is.
-pub fn tallied_alone(alloc: Global, input: &RedoInput) -> Result<Vec<Tally>, Fault>
-    ensures count { IfOk result (λ tallies. length tallies.items ≡ length input.now.images) }
-    ensures tallied { IfOk result (λ tallies. (number : ℕ) → number < length input.now.images
-        → IsTallied input.now tallies.items number) }
-    ensures exist { OnOk result
-        (AllExist input.now.log (length input.now.images) input.now.redo_lsn) }
-    ensures fault { IfErr result (λ e. (workers : ℕ) → AreWorkers workers
-        → RedoFault input.now.log (length input.now.images) input.now.redo_lsn workers e) }
-{
-    let _last = input.log.last();
-    let mut tallies = begin(alloc, input)?;
-    if let Err(fault) = count_all(input, &mut tallies) {
-        return Err(fault);
+        count_next(&input, lsn, &mut tallies)?;
     }
     Ok(tallies)
 }

@@ -11,14 +11,14 @@ ghost use Rattle.redo.specs.declared.tally.Tally.{Tally};
 ghost use Rattle.page.specs.declared.sizes.TheConstants.{SLOTS};
 
 use crate::gate::Entered;
-use crate::input::RedoInput;
+use crate::input::{PartedInput, RedoInput};
 use crate::note::{Note, NoteList};
 use crate::route::Route;
 use crate::tally::Tally;
 use page::{Fault, SLOTS, Value};
 use std::alloc::Global;
 
-/// How many slots a page has.
+/// How many slots a page has. A function of its own, since an array's length is known of an argument.
 fn count_slots(slots: &[Option<Value>; SLOTS]) -> usize
     ensures { length slots.now ≡ SLOTS }
 {
@@ -55,42 +55,42 @@ pub fn begin_page(input: &RedoInput, number: u32) -> Tally
 }
 
 /// The pages of a part, to which no record was applied. The only error is `NoResource`.
-fn begin(alloc: Global, input: &RedoInput, part: u32) -> Result<Vec<Tally>, Fault>
-    requires { part < input.now.parting.parts }
-    ensures begun { IfOk result (λ tallies. IsUpTo input.now part 0
-        (map (resolved input.now) tallies.items)) }
+fn begin_part(alloc: Global, parted: &PartedInput, part: u32) -> Result<Vec<Tally>, Fault>
+    requires { part < parted.now.parting.parts }
+    ensures begun { IfOk result (λ tallies. IsUpTo parted.now part 0
+        (map (resolved parted.now.input) tallies.items)) }
     ensures err { IsOkUnless result NoResource }
 {
-    let members = input.parting.members(part);
+    let members = parted.parting.members(part);
     let mut tallies = Vec::with_capacity(alloc, members.len())?;
     for number in members {
-        tallies.push(begin_page(input, *number))?;
+        tallies.push(begin_page(&parted.input, *number))?;
     }
     Ok(tallies)
 }
 
-/// Counts the record at an LSN for the page at a place, if the page lacks it.
-pub fn count_at(tallies: &mut [Tally], place: usize, redo_lsn: u64, lsn: u64, slot: usize)
-    requires place { place < length tallies.old }
+/// Counts the record at an LSN for the page at an index, if the page lacks it.
+pub fn count_at(tallies: &mut [Tally], index: usize, redo_lsn: u64, lsn: u64, slot: usize)
+    requires index { index < length tallies.old }
     requires slot { slot < SLOTS }
     requires room { All (λ t. t.applied + 1 < 2 ^ 64) tallies.old }
     ensures { (d : Tally) → tallies.new
-        ≡ slice_set tallies.old place
-        (counted redo_lsn lsn slot (slice_index_or tallies.old place d)) }
+        ≡ slice_set tallies.old index
+        (counted redo_lsn lsn slot (slice_index_or tallies.old index d)) }
 {
-    tallies[place].count(redo_lsn, lsn, slot);
+    tallies[index].count(redo_lsn, lsn, slot);
 }
 
 /// Counts a noted record of the log for its page, one of these.
-fn redo_noted(input: &RedoInput, note: Note, tallies: &mut [Tally])
-    requires stands { Stands (history input.now.log) input.now.parting.place_of
-        (numbers_of (map (resolved input.now) tallies.old)) note }
-    requires room { All (λ p. p.applied + 1 < 2 ^ 64) (map (resolved input.now) tallies.old) }
-    ensures { map (resolved input.now) tallies.new
-        ≡ map (λ p. step (history input.now.log) input.now.redo_lsn p note.lsn)
-        (map (resolved input.now) tallies.old) }
+fn redo_noted(parted: &PartedInput, note: Note, tallies: &mut [Tally])
+    requires stands { Stands (history parted.now.input.log) parted.now.parting.place_of
+        (numbers_of (map (resolved parted.now.input) tallies.old)) note }
+    requires room { All (λ p. p.applied + 1 < 2 ^ 64) (map (resolved parted.now.input) tallies.old) }
+    ensures { map (resolved parted.now.input) tallies.new
+        ≡ map (λ p. step (history parted.now.input.log) parted.now.input.redo_lsn p note.lsn)
+        (map (resolved parted.now.input) tallies.old) }
 {
-    let redo_lsn = input.redo_lsn();
+    let redo_lsn = parted.input.redo_lsn();
     count_at(
         tallies,
         note.place as usize,
@@ -101,17 +101,17 @@ fn redo_noted(input: &RedoInput, note: Note, tallies: &mut [Tally])
 }
 
 /// Counts noted records for the pages of a part, in this order.
-fn replay(input: &RedoInput, notes: &NoteList, tallies: &mut [Tally])
-    requires stand { All (Stands (history input.now.log) input.now.parting.place_of
-        (numbers_of (map (resolved input.now) tallies.old))) notes.now }
+fn replay(parted: &PartedInput, notes: &NoteList, tallies: &mut [Tally])
+    requires stand { All (Stands (history parted.now.input.log) parted.now.parting.place_of
+        (numbers_of (map (resolved parted.now.input) tallies.old))) notes.now }
     requires room { All (λ p. p.applied + length notes.now < 2 ^ 64)
-        (map (resolved input.now) tallies.old) }
-    ensures { map (resolved input.now) tallies.new
-        ≡ map (λ p. fold (step (history input.now.log) input.now.redo_lsn) p (map lsn_in notes.now))
-        (map (resolved input.now) tallies.old) }
+        (map (resolved parted.now.input) tallies.old) }
+    ensures { map (resolved parted.now.input) tallies.new
+        ≡ map (λ p. fold (step (history parted.now.input.log) parted.now.input.redo_lsn) p (map lsn_in notes.now))
+        (map (resolved parted.now.input) tallies.old) }
 {
     for index in 0..notes.len() {
-        redo_noted(input, notes.get(index), tallies);
+        redo_noted(parted, notes.get(index), tallies);
     }
 }
 
@@ -119,22 +119,22 @@ fn replay(input: &RedoInput, notes: &NoteList, tallies: &mut [Tally])
 /// `NoResource`.
 fn count_part(
     alloc: Global,
-    input: &RedoInput,
+    parted: &PartedInput,
     routes: &[Route],
     part: u32,
 ) -> Result<Vec<Tally>, Fault>
-    requires part { part < input.now.parting.parts }
-    requires routes { AreRoutes input.now routes.now }
-    ensures done { IfOk result (λ tallies. All (IsDone input.now)
-        (map (resolved input.now) tallies.items)) }
-    ensures all { IfOk result (λ tallies. HasPart input.now part
-        (map (resolved input.now) tallies.items)) }
+    requires part { part < parted.now.parting.parts }
+    requires routes { AreRoutes parted.now routes.now }
+    ensures done { IfOk result (λ tallies. All (IsDone parted.now.input)
+        (map (resolved parted.now.input) tallies.items)) }
+    ensures all { IfOk result (λ tallies. HasPart parted.now.parting part
+        (map (resolved parted.now.input) tallies.items)) }
     ensures err { IsOkUnless result NoResource }
 {
-    let _last = input.log.last();
-    let mut tallies = begin(alloc, input, part)?;
+    let _last = parted.input.log.last();
+    let mut tallies = begin_part(alloc, parted, part)?;
     for route in routes {
-        replay(input, route.notes(part), &mut tallies);
+        replay(parted, route.notes(part), &mut tallies);
     }
     Ok(tallies)
 }
@@ -143,23 +143,23 @@ fn count_part(
 /// puts their tallies behind others. The only error is `NoResource`.
 pub(crate) fn redo_part(
     alloc: Global,
-    input: &RedoInput,
+    parted: &PartedInput,
     routes: &[Route],
     entered: Entered,
     tallies: &mut Vec<Tally>,
 ) -> Result<(), Fault>
-    requires part { entered.part < input.now.parting.parts }
-    requires routes { AreRoutes input.now routes.now }
-    requires done { All (IsDone input.now) (map (resolved input.now) tallies.old.items) }
-    ensures done { All (IsDone input.now) (map (resolved input.now) tallies.new.items) }
+    requires part { entered.part < parted.now.parting.parts }
+    requires routes { AreRoutes parted.now routes.now }
+    requires done { All (IsDone parted.now.input) (map (resolved parted.now.input) tallies.old.items) }
+    ensures done { All (IsDone parted.now.input) (map (resolved parted.now.input) tallies.new.items) }
     ensures kept { OnOk result ((other : ℕ)
-        → HasPart input.now other (map (resolved input.now) tallies.old.items)
-        → HasPart input.now other (map (resolved input.now) tallies.new.items)) }
+        → HasPart parted.now.parting other (map (resolved parted.now.input) tallies.old.items)
+        → HasPart parted.now.parting other (map (resolved parted.now.input) tallies.new.items)) }
     ensures added { OnOk result
-        (HasPart input.now entered.part (map (resolved input.now) tallies.new.items)) }
+        (HasPart parted.now.parting entered.part (map (resolved parted.now.input) tallies.new.items)) }
     ensures err { IsOkUnless result NoResource }
 {
-    let mut counted = count_part(alloc, input, routes, entered.part())?;
+    let mut counted = count_part(alloc, parted, routes, entered.part())?;
     tallies.append(&mut counted)?;
     Ok(())
 }

@@ -1,26 +1,26 @@
 //! Redo: three rounds of workers.
 
-ghost use Rattle.std.specs.Prelude.{◌≡◌, ℕ, Ok, Err, length, map, sum, IfOk, OnOk, IfErr, IsTrue, ◌↔◌, ◌<◌, All, vec_len, IsOkUnless};
-ghost use Rattle.page.specs.declared.fault.Fault.TheVariants.{NoResource, BadWorkers};
+ghost use Rattle.std.specs.Prelude.{◌≡◌, Err, length, IfOk, OnOk, IfErr, IsTrue, ◌↔◌};
+ghost use Rattle.page.specs.declared.fault.Fault.TheVariants.{BadWorkers};
 ghost use Rattle.redo.specs.Inputs.{input_over};
-ghost use Rattle.redo.specs.Routes.{AreRoutes};
-ghost use Rattle.redo.specs.Parts.{IsBack, IsTallied};
-ghost use Rattle.redo.specs.Redone.{redone_page, applied_to, AreWorkers, AllExist, RedoFault};
+ghost use Rattle.redo.specs.Parts.{AreAllTallied};
+ghost use Rattle.redo.specs.Redone.{AreWorkers, AllExist, RepeatsHistory, RedoFault};
 
-use crate::crew::{Share, deal, run};
+use crate::crew::{deal, run};
 use crate::finish::{finish_pages, total};
-use crate::gate::{Gate, enter_all};
+use crate::gate::Gate;
 use crate::gather::tallies_of;
-use crate::input::RedoInput;
-use crate::one_pass::tallied_alone;
-use crate::route::{Route, routes};
+use crate::input::{PartedInput, RedoInput};
+use crate::route::routes;
 use crate::tally::Tally;
+use crate::unthreaded::redo_watched;
+use crate::watch::Watch;
 use crate::{Parting, Redone};
-use analysis::Tables;
 use board::Board;
 use page::{Fault, Store};
 use std::alloc::Global;
 use std::thread::Threads;
+use tables::Tables;
 use wal::Log;
 
 /// How many workers redo has at most.
@@ -33,86 +33,10 @@ pub fn are_workers(workers: u32) -> bool
     (1..=WORKERS).contains(&workers)
 }
 
-/// The second round of workers: each draws parts from a board and redoes them. The board, and what
-/// they bring back. The only error is `NoResource`.
-fn second_round<G: Gate, R: Threads + Sync>(
-    rt: &R,
-    alloc: Global,
-    input: &RedoInput,
-    routes: &[Route],
-    gate: &G,
-) -> Result<(Board, Vec<Share>), Fault>
-    requires routes { AreRoutes input.now routes.now }
-    requires workers { AreWorkers (length routes.now) }
-    ensures some { IfOk result (λ x. 0 < vec_len x.1) }
-    ensures seats { IfOk result (λ x. x.0.seats ≡ vec_len x.1) }
-    ensures parts { IfOk result (λ x. x.0.parts ≡ input.now.parting.parts) }
-    ensures each { IfOk result (λ x. All (IsBack input.now x.0) x.1.items) }
-    ensures err { IsOkUnless result NoResource }
-{
-    let workers = routes.len() as u32;
-    let (board, seat) = Board::new(alloc, input.parting.parts(), workers, workers)?;
-    let jobs = deal(alloc, &board, seat, workers)?;
-    let shares = run(rt, alloc, input, routes, &board, gate, jobs)?;
-    Ok((board, shares))
-}
-
-/// The first two rounds of workers, who leave the store as it is: the tallies of its pages.
+/// The tallies of the pages of a store, which is left as it is, by two rounds of workers: in the
+/// first each makes the route of its stretch of the log, in the second each draws parts from a board
+/// and redoes them.
 fn tallied_in_rounds<G: Gate, R: Threads + Sync>(
-    rt: &R,
-    alloc: Global,
-    input: &RedoInput,
-    workers: u32,
-    gate: &G,
-) -> Result<Vec<Tally>, Fault>
-    requires dealt { length input.now.parting.part_of ≡ length input.now.images }
-    requires workers { AreWorkers workers }
-    ensures count { IfOk result (λ tallies. length tallies.items ≡ length input.now.images) }
-    ensures tallied { IfOk result (λ tallies. (number : ℕ) → number < length input.now.images
-        → IsTallied input.now tallies.items number) }
-    ensures exist { OnOk result (AllExist input.now.log (length input.now.images) input.now.redo_lsn) }
-    ensures fault { IfErr result
-        (RedoFault input.now.log (length input.now.images) input.now.redo_lsn workers) }
-{
-    let routes = match routes(rt, alloc, input, workers) {
-        Ok(routes) => routes,
-        Err(fault) => return Err(fault),
-    };
-    let (board, shares) = second_round(rt, alloc, input, &routes, gate)?;
-    let tallies = tallies_of(alloc, input, board, shares)?;
-    Ok(tallies)
-}
-
-/// The tallies of the pages of the store, which is left as it is: by one pass over the records where
-/// there is one worker, whose gate is told of all parts before that, else by two rounds of workers.
-fn tallied<G: Gate, R: Threads + Sync>(
-    rt: &R,
-    alloc: Global,
-    input: &RedoInput,
-    workers: u32,
-    gate: &G,
-) -> Result<Vec<Tally>, Fault>
-    requires dealt { length input.now.parting.part_of ≡ length input.now.images }
-    requires workers { AreWorkers workers }
-    ensures count { IfOk result (λ tallies. length tallies.items ≡ length input.now.images) }
-    ensures tallied { IfOk result (λ tallies. (number : ℕ) → number < length input.now.images
-        → IsTallied input.now tallies.items number) }
-    ensures exist { OnOk result (AllExist input.now.log (length input.now.images) input.now.redo_lsn) }
-    ensures fault { IfErr result
-        (RedoFault input.now.log (length input.now.images) input.now.redo_lsn workers) }
-{
-    if workers == 1 {
-        enter_all(gate, input.parting.parts());
-        return match tallied_alone(alloc, input) {
-            Ok(tallies) => Ok(tallies),
-            Err(fault) => Err(fault),
-        };
-    }
-    tallied_in_rounds(rt, alloc, input, workers, gate)
-}
-
-/// The tallies of the pages of a store.
-fn tallies_over<G: Gate, R: Threads + Sync>(
     rt: &R,
     alloc: Global,
     log: &Log,
@@ -124,29 +48,52 @@ fn tallies_over<G: Gate, R: Threads + Sync>(
 ) -> Result<Vec<Tally>, Fault>
     requires pages { length parting.now.part_of ≡ length store.now.pages }
     requires workers { AreWorkers workers }
-    ensures count { IfOk result (λ tallies. length tallies.items ≡ length store.now.pages) }
-    ensures tallied { IfOk result (λ tallies. (number : ℕ) → number < length store.now.pages
-        → IsTallied (input_over log.now store.now.pages tables.now parting.now)
-        tallies.items number) }
+    ensures tallied { IfOk result (λ tallies. AreAllTallied
+        (input_over log.now store.now.pages tables.now) tallies.items) }
     ensures exist { OnOk result (AllExist log.now (length store.now.pages) tables.now.redo_lsn) }
-    ensures fault { IfErr result (RedoFault log.now
-        (length store.now.pages) tables.now.redo_lsn workers) }
+    ensures fault { IfErr result (RedoFault
+        log.now (length store.now.pages) tables.now.redo_lsn workers) }
 {
-    let _count = store.pages.len();
-    let input = RedoInput {
-        log,
-        store,
-        tables,
-        parting,
-    };
-    match tallied(rt, alloc, &input, workers, gate) {
-        Ok(tallies) => Ok(tallies),
-        Err(fault) => Err(fault),
-    }
+    // Opens the store: its pages stand at their numbers.
+    let _ = &store.pages;
+    let input = RedoInput { log, store, tables };
+    let parted = PartedInput { input, parting };
+    let routes = routes(rt, alloc, &parted, workers)?;
+    let (board, seat) = Board::new(alloc, parting.parts(), workers, workers)?;
+    let crew = deal(alloc, &board, seat, workers)?;
+    let shares = run(rt, alloc, &parted, &routes, &board, gate, crew)?;
+    tallies_of(alloc, &parted, board, shares)
+}
+
+/// Redo by three rounds of workers, on the pages of a store that is given away.
+fn redo_in_rounds<G: Gate, R: Threads + Sync>(
+    rt: &R,
+    alloc: Global,
+    log: &Log,
+    store: Store,
+    tables: &Tables,
+    parting: &Parting,
+    workers: u32,
+    gate: &G,
+) -> Result<Redone, Fault>
+    requires pages { length parting.now.part_of ≡ length store.pages }
+    requires workers { AreWorkers workers }
+    ensures redone { IfOk result (RepeatsHistory log.now tables.now store.pages) }
+    ensures fault { IfErr result (RedoFault log.now
+        (length store.pages) tables.now.redo_lsn workers) }
+{
+    let tallies = tallied_in_rounds(rt, alloc, log, &store, tables, parting, workers, gate)?;
+    // Its LSNs fit, and no record counts twice: so the count fits.
+    let _last = log.last();
+    let applied = total(&tallies);
+    let mut pages = store.pages;
+    finish_pages(rt, log, &tallies, &mut pages, workers as usize);
+    Ok(Redone { pages, applied })
 }
 
 /// [`redo`] of a store that is given away: its pages are changed in place and not copied. With an
-/// error they are gone.
+/// error they are gone. One worker goes the way of [`redo_alone`](crate::redo_alone), and draws the
+/// parts beside it.
 pub fn redo_in_place<G: Gate, R: Threads + Sync>(
     rt: &R,
     alloc: Global,
@@ -158,12 +105,8 @@ pub fn redo_in_place<G: Gate, R: Threads + Sync>(
     gate: &G,
 ) -> Result<Redone, Fault>
     requires pages { length parting.now.part_of ≡ length store.pages }
-    ensures pages { IfOk result (λ redone. redone.pages.items
-        ≡ map (redone_page log.now tables.now) store.pages) }
-    ensures applied { IfOk result (λ redone. redone.applied
-        ≡ sum (map (applied_to log.now tables.now) store.pages)) }
+    ensures redone { IfOk result (RepeatsHistory log.now tables.now store.pages) }
     ensures workers { OnOk result (AreWorkers workers) }
-    ensures exist { OnOk result (AllExist log.now (length store.pages) tables.now.redo_lsn) }
 
     // A refusal has its cause, memory aside.
     ensures fault { IfErr result (RedoFault log.now
@@ -173,15 +116,10 @@ pub fn redo_in_place<G: Gate, R: Threads + Sync>(
     if !are_workers(workers) {
         return Err(Fault::BadWorkers);
     }
-    let tallies = match tallies_over(rt, alloc, log, &store, tables, parting, workers, gate) {
-        Ok(tallies) => tallies,
-        Err(fault) => return Err(fault),
-    };
-    let _last = log.last();
-    let applied = total(&tallies);
-    let mut pages = store.pages;
-    finish_pages(rt, log, &tallies, &mut pages, workers as usize);
-    Ok(Redone { pages, applied })
+    if workers == 1 {
+        return redo_watched(alloc, log, store, tables, &Watch::Gate { parting, gate });
+    }
+    redo_in_rounds(rt, alloc, log, store, tables, parting, workers, gate)
 }
 
 /// Repeats history on the pages of a store (ARIES, section 6.2): to each page that is listed in the
@@ -212,12 +150,8 @@ pub fn redo<G: Gate, R: Threads + Sync>(
     gate: &G,
 ) -> Result<Redone, Fault>
     requires pages { length parting.now.part_of ≡ length store.now.pages }
-    ensures pages { IfOk result (λ redone. redone.pages.items
-        ≡ map (redone_page log.now tables.now) store.now.pages) }
-    ensures applied { IfOk result (λ redone. redone.applied
-        ≡ sum (map (applied_to log.now tables.now) store.now.pages)) }
+    ensures redone { IfOk result (RepeatsHistory log.now tables.now store.now.pages) }
     ensures workers { OnOk result (AreWorkers workers) }
-    ensures exist { OnOk result (AllExist log.now (length store.now.pages) tables.now.redo_lsn) }
 
     // A refusal has its cause, memory aside.
     ensures fault { IfErr result (RedoFault log.now

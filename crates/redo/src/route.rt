@@ -10,7 +10,7 @@ ghost use Rattle.redo.specs.Routes.{IsRoute, AreRoutes, ExistWithin, RouteFault,
 ghost use Rattle.page.specs.declared.sizes.TheConstants.{PAGES, SLOTS};
 
 use crate::Parting;
-use crate::input::RedoInput;
+use crate::input::{PartedInput, RedoInput};
 use crate::note::{Note, NoteList};
 use page::Fault;
 use std::alloc::Global;
@@ -105,20 +105,18 @@ fn put_note(
 
 /// The route through the records with LSNs above `from`, up to `to`. Refuses the first of them on a
 /// page that there is not by `NoSuchPage`.
-fn route_through(alloc: Global, input: &RedoInput, from: u64, to: u64) -> Result<Route, Fault>
-    requires begun { base_lsn (history input.now.log) ≤ from }
+fn route_through(alloc: Global, parted: &PartedInput, from: u64, to: u64) -> Result<Route, Fault>
+    requires begun { base_lsn (history parted.now.input.log) ≤ from }
     requires stretch { from ≤ to }
-    requires within { to ≤ last_lsn (history input.now.log) }
-    ensures ok { IfOk result (IsRoute input.now from to) }
-    ensures fault { IfErr result (RouteFault input.now from to) }
+    requires within { to ≤ last_lsn (history parted.now.input.log) }
+    ensures ok { IfOk result (IsRoute parted.now from to) }
+    ensures fault { IfErr result (RouteFault parted.now.input from to) }
 {
-    let parts = input.parting.parts();
+    let parts = parted.parting.parts();
     let mut lists = empty_notes(alloc, parts, room_of(to - from, parts))?;
     for lsn in from..to {
-        let glance = input.log.glance_after(lsn);
-        if let Err(fault) = put_note(input.parting, glance, lsn + 1, &mut lists) {
-            return Err(fault);
-        }
+        let glance = parted.input.log.glance_after(lsn);
+        put_note(parted.parting, glance, lsn + 1, &mut lists)?;
     }
     Ok(Route { lists })
 }
@@ -136,33 +134,30 @@ fn boundary(input: &RedoInput, workers: u32, worker: u64) -> u64
 }
 
 /// The route of a worker.
-fn route_of(alloc: Global, input: &RedoInput, workers: u32, worker: u64) -> Result<Route, Fault>
+fn route_of(alloc: Global, parted: &PartedInput, workers: u32, worker: u64) -> Result<Route, Fault>
     requires { worker < workers }
-    ensures { IfRoute input.now workers worker result }
+    ensures { IfRoute parted.now workers worker result }
 {
-    let from = boundary(input, workers, worker);
-    let to = boundary(input, workers, worker + 1);
-    route_through(alloc, input, from, to)
+    let from = boundary(&parted.input, workers, worker);
+    let to = boundary(&parted.input, workers, worker + 1);
+    route_through(alloc, parted, from, to)
 }
 
 /// The routes, if there are all.
 fn all_of(
     alloc: Global,
-    input: &RedoInput,
+    parted: &PartedInput,
     results: Vec<Result<Route, Fault>>,
 ) -> Result<Vec<Route>, Fault>
     requires some { 0 < vec_len results }
-    requires each { IfEach input.now results.items }
-    ensures ok { IfOk result (λ routes. AreRoutes input.now routes.items) }
+    requires each { IfEach parted.now results.items }
+    ensures ok { IfOk result (λ routes. AreRoutes parted.now routes.items) }
     ensures len { IfOk result (λ routes. vec_len routes ≡ vec_len results) }
-    ensures fault { IfErr result (RoundFault input.now) }
+    ensures fault { IfErr result (RoundFault parted.now.input) }
 {
     let mut routes = Vec::new(alloc);
     for result in results {
-        match result {
-            Ok(route) => routes.push(route)?,
-            Err(fault) => return Err(fault),
-        }
+        routes.push(result?)?;
     }
     Ok(routes)
 }
@@ -171,18 +166,18 @@ fn all_of(
 pub fn routes<R: Threads + Sync>(
     rt: &R,
     alloc: Global,
-    input: &RedoInput,
+    parted: &PartedInput,
     workers: u32,
 ) -> Result<Vec<Route>, Fault>
     requires { 0 < workers }
-    ensures ok { IfOk result (λ routes. AreRoutes input.now routes.items) }
+    ensures ok { IfOk result (λ routes. AreRoutes parted.now routes.items) }
     ensures len { IfOk result (λ routes. vec_len routes ≡ workers) }
-    ensures fault { IfErr result (RoundFault input.now) }
+    ensures fault { IfErr result (RoundFault parted.now.input) }
 {
     let worker = |worker: usize| -> Result<Route, Fault>
         requires { worker < workers }
-        ensures { IfRoute input.entry.now workers worker result }
-    { route_of(alloc, input, workers, worker as u64) };
+        ensures { IfRoute parted.entry.now workers worker result }
+    { route_of(alloc, parted, workers, worker as u64) };
     let results = thread::map_indices(rt, alloc, workers as usize, &worker)?;
-    all_of(alloc, input, results)
+    all_of(alloc, parted, results)
 }

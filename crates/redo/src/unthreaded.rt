@@ -1,79 +1,55 @@
 //! Redo without threads.
 
-ghost use Rattle.std.specs.Prelude.{◌≡◌, ℕ, ◌<◌, length, map, sum, IfOk, OnOk, IfErr};
-ghost use Rattle.redo.specs.Inputs.{input_over};
-ghost use Rattle.redo.specs.Parts.{IsTallied};
-ghost use Rattle.redo.specs.Redone.{redone_page, applied_to, AreWorkers, AllExist, RedoFault};
+ghost use Rattle.std.specs.Prelude.{length, IfOk, IfErr};
+ghost use Rattle.redo.specs.Redone.{RepeatsHistory, RedoFault};
 
+use crate::Redone;
 use crate::finish::{finish_alone, total};
-use crate::input::RedoInput;
+use crate::gate::{Gate, OpenGate};
 use crate::one_pass::tallied_alone;
-use crate::tally::Tally;
-use crate::{Parting, Redone};
-use analysis::Tables;
+use crate::watch::{Watch, tell};
 use page::{Fault, Store};
 use std::alloc::Global;
+use tables::Tables;
 use wal::Log;
 
-/// The tallies of the pages of a store.
-fn tallies_over(
-    alloc: Global,
-    log: &Log,
-    store: &Store,
-    tables: &Tables,
-    parting: &Parting,
-) -> Result<Vec<Tally>, Fault>
-    requires pages { length parting.now.part_of ≡ length store.now.pages }
-    ensures count { IfOk result (λ tallies. length tallies.items ≡ length store.now.pages) }
-    ensures tallied { IfOk result (λ tallies. (number : ℕ) → number < length store.now.pages
-        → IsTallied (input_over log.now store.now.pages tables.now parting.now)
-        tallies.items number) }
-    ensures exist { OnOk result (AllExist log.now (length store.now.pages) tables.now.redo_lsn) }
-    ensures fault { IfErr result (λ e. (workers : ℕ) → AreWorkers workers
-        → RedoFault log.now (length store.now.pages) tables.now.redo_lsn workers e) }
-{
-    let _count = store.pages.len();
-    let input = RedoInput {
-        log,
-        store,
-        tables,
-        parting,
-    };
-    match tallied_alone(alloc, &input) {
-        Ok(tallies) => Ok(tallies),
-        Err(fault) => Err(fault),
-    }
-}
-
 /// [`redo`](crate::redo) in the thread of the caller, of a store that is given away: its pages are
-/// changed in place and not copied. With an error they are gone. It starts no thread, calls no gate
-/// and asks for no parting, and goes through the records from `redo_lsn` on once.
+/// changed in place and not copied. With an error they are gone. It starts no thread and asks for no
+/// parting, and goes through the records from `redo_lsn` on once. The watch is told of the parts
+/// before a page is changed.
 ///
 /// Refuses by [`Fault::NoSuchPage`] with the LSN of the first record from `redo_lsn` on that is on a
-/// page which the store lacks. [`Fault::NoResource`], where memory was refused, may come in place of
-/// any other answer.
-pub fn redo_alone(alloc: Global, log: &Log, store: Store, tables: &Tables) -> Result<Redone, Fault>
-    ensures pages { IfOk result (λ redone. redone.pages.items
-        ≡ map (redone_page log.now tables.now) store.pages) }
-    ensures applied { IfOk result (λ redone. redone.applied
-        ≡ sum (map (applied_to log.now tables.now) store.pages)) }
-    ensures exist { OnOk result (AllExist log.now (length store.pages) tables.now.redo_lsn) }
+/// page which the store lacks; the watch is told nothing then. [`Fault::NoResource`], where memory was
+/// refused, may come in place of any other answer.
+pub fn redo_watched<G: Gate>(
+    alloc: Global,
+    log: &Log,
+    store: Store,
+    tables: &Tables,
+    watch: &Watch<G>,
+) -> Result<Redone, Fault>
+    ensures redone { IfOk result (RepeatsHistory log.now tables.now store.pages) }
 
     // A refusal has its cause, memory aside.
-    ensures fault { IfErr result (λ e. (workers : ℕ) → AreWorkers workers
-        → RedoFault log.now (length store.pages) tables.now.redo_lsn workers e) }
+    ensures fault { IfErr result (RedoFault log.now (length store.pages) tables.now.redo_lsn 1) }
 {
-    let parting = match Parting::by_number(alloc, store.pages.len() as u32, 1) {
-        Ok(parting) => parting,
-        Err(_) => return Err(Fault::NoResource),
-    };
-    let tallies = match tallies_over(alloc, log, &store, tables, &parting) {
-        Ok(tallies) => tallies,
-        Err(fault) => return Err(fault),
-    };
+    let tallies = tallied_alone(alloc, log, &store, tables)?;
+    tell(alloc, watch)?;
+    // Its LSNs fit, and no record counts twice: so the count fits.
     let _last = log.last();
     let applied = total(&tallies);
     let mut pages = store.pages;
     finish_alone(log, &tallies, &mut pages);
     Ok(Redone { pages, applied })
+}
+
+/// [`redo_watched`] with nobody watching: no gate is called.
+pub fn redo_alone(alloc: Global, log: &Log, store: Store, tables: &Tables) -> Result<Redone, Fault>
+    ensures redone { IfOk result (RepeatsHistory log.now tables.now store.pages) }
+
+    // A refusal has its cause, memory aside.
+    ensures fault { IfErr result (RedoFault log.now (length store.pages) tables.now.redo_lsn 1) }
+{
+    let nobody: Watch<OpenGate> = Watch::Nobody;
+    redo_watched(alloc, log, store, tables, &nobody)
 }

@@ -9,7 +9,8 @@ use Rattle.page.specs.declared.fault.Fault.TheVariants.{NoResource, BadWorkers, 
 use Rattle.page.specs.Causes.{HasOneCause}
 use Rattle.page.specs.Store.{StoreContent}
 use Rattle.wal.specs.Records.{TableEntry, history, LogContent, last_lsn}
-use Rattle.analysis.specs.Tables.{TablesContent, losers_in, AreTablesOf, OneTables, base_of}
+use Rattle.tables.specs.Tables.{TablesContent, losers_in}
+use Rattle.analysis.specs.Tables.{AreTablesOf, OneTables, base_of}
 use Rattle.redo.specs.Parting.{PartingContent}
 use Rattle.redo.specs.Redone.{AllExist, IsFirstMissing, redone_page}
 use Rattle.restart.specs.Outcome.{OutcomeContent}
@@ -132,27 +133,27 @@ module _ (read : LogContent) (before : StoreContent) where
     no_input_fault undo x r NoResource h = refl
     no_input_fault undo x r e h =
         elim (in_order read before e (λ i. absurd cc) h) [
-          | inl a ↦ absurd (not_ahead a.0 a.2 r.none_ahead)
+          | inl a ↦ absurd (not_ahead a.0 a.2 r.is.none_ahead)
           | inr a ↦
               elim (a.1) [
-                | inl p ↦ absurd (let f : ◌≡◌ {A = Option (List TableEntry × List (ℕ × ℕ))} None (Some (r.are.transactions, r.are.dirty)) = sym p.1 ∙ r.are.base in cc)
-                | inr p ↦ by_pass e (moved e p.tables r.tables p.are r.are p.holds)
+                | inl p ↦ absurd (let f : ◌≡◌ {A = Option (List TableEntry × List (ℕ × ℕ))} None (Some (r.is.are.transactions, r.is.are.dirty)) = sym p.1 ∙ r.is.are.base in cc)
+                | inr p ↦ by_pass e (moved e p.tables r.tables p.are r.is.are p.holds)
               ]
         ]
       where
         len : length r.redone.pages.items ≡ length before.pages
-        len = ap length r.redone_pages ∙ length-map before.pages (redone_page read r.tables)
+        len = ap length r.is.redone_pages ∙ length-map before.pages (redone_page read r.tables)
 
         exist : MetExist (history read) (losers_in r.tables) (length before.pages) 0
-        exist = subst (λ n. MetExist (history read) (losers_in r.tables) n 0) len r.rolls_back.met_exist
+        exist = subst (λ n. MetExist (history read) (losers_in r.tables) n 0) len r.rolls_back.rolled_back.met_exist
 
         none : (e : Fault) → UndoFault (history read) (losers_in r.tables) (length before.pages) e → e ≡ NoResource
-        none = undo (history read) (losers_in r.tables) (length before.pages) r.rolls_back.no_bad_hop exist
+        none = undo (history read) (losers_in r.tables) (length before.pages) r.rolls_back.rolled_back.no_bad_hop exist
 
         by_pass : (e : Fault) → PassFault read (length before.pages) e r.tables → e ≡ NoResource
         by_pass (NoSuchPage n) h =
             elim h [
-              | inl p ↦ absurd (not_first read (length before.pages) r.tables n p r.exist)
+              | inl p ↦ absurd (not_first read (length before.pages) r.tables n p r.is.exist)
               | inr p ↦ none (NoSuchPage n) p.1
             ]
         by_pass (BrokenChain n) h = none (BrokenChain n) h.1

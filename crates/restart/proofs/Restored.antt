@@ -1,6 +1,5 @@
 -- A restart of a lawful log and its store.
-use Rattle.std.proofs.Common.{ℕ, suc, ◌≡◌, ◌<◌, ◌≤◌, true, cond, ◌&&◌, eqb, ltb, List, [], ◌∷◌, Some, None, Result, Ok, Err, length, get_or, map, refl, sym, ap, ap₂, ◌∙◌, subst, inl, inr, arith}
-use Rattle.std.specs.Prelude.{IfOk, MatchResult, sum}
+use Rattle.std.proofs.Common.{ℕ, suc, ◌≡◌, ◌<◌, ◌≤◌, true, cond, ◌&&◌, eqb, ltb, List, [], ◌∷◌, Some, None, length, get_or, map, refl, sym, ap, ap₂, ◌∙◌, subst, inl, inr, arith}
 use Rattle.std.specs.List.{range_with_len}
 use Rattle.std.proofs.lemmas.Bool.{cases_Bool, cond_both, lt-ltb}
 use Rattle.std.proofs.lemmas.List.{length-map, get_or-map, ext_get_or}
@@ -25,16 +24,16 @@ use Rattle.wal.proofs.Redone.{redo_suffices}
 use Rattle.wal.proofs.Settled.{store_settles}
 use Rattle.wal.proofs.Ends.{losers_end}
 use Rattle.wal.proofs.Undone.{table_tells_doubt}
-use Rattle.analysis.specs.Tables.{TablesContent, losers_in, AreTablesOf, base_of, BaseFault}
-use Rattle.analysis.specs.Lawful.{AreTrue}
+use Rattle.tables.specs.Tables.{TablesContent, losers_in}
+use Rattle.analysis.specs.Tables.{base_of, BaseFault}
+use Rattle.tables.specs.Lawful.{AreTrue}
 use Rattle.redo.specs.Changes.{NamesBelow}
 use Rattle.redo.specs.declared.redone.Redone.{Redone}
-use Rattle.redo.specs.Redone.{redone_page, IsFirstMissing, AreWorkers, RedoFault, applied_to}
-use Rattle.restart.specs.declared.outcome.BriefOutcome.{BriefOutcome}
-use Rattle.restart.specs.Outcome.{OutcomeContent, outcome_in}
+use Rattle.redo.specs.Redone.{redone_page, IsFirstMissing, AreWorkers, RedoFault}
+use Rattle.restart.specs.Outcome.{OutcomeContent}
 use Rattle.undo.specs.Undone.{undone_page}
 use Rattle.undo.proofs.UndonePages.{no_effects, no_last}
-use Rattle.restart.specs.Restart.{IsFirstAhead, AheadFault, PagesFault, clrs_in, ends_in, RollsBack, IsSettled, Restores}
+use Rattle.restart.specs.Restart.{IsFirstAhead, AheadFault, PagesFault, clrs_in, ends_in, IsRedone, RollsBack, IsSettled, Restores}
 
 some_none : {X : Type 0} {x : X} → Some x ≡ None → ⊥
 some_none e = cc
@@ -86,7 +85,7 @@ module _ (base : BasePages) (read : LogContent) (before : StoreContent) (lawful 
       ap (λ log. replayed_page base log page) whole_is
       ∙ ap (λ state. record { number = page; lsn = last_on base page (history (with_tail read)); slots = slots_in state page }) (replay_is_winners base read lawful.log)
 
-  module _ (numbered : AreNumbered before.pages) (tables : TablesContent) (are : AreTablesOf read before.master tables) (truth : AreTrue read before tables) where
+  module _ (numbered : AreNumbered before.pages) (tables : TablesContent) (truth : AreTrue read before tables) where
     -- redo by true tables, and then the tail, make the pages what the winners leave
     pages_out : map (undone_page (history read) (tail_of read)) (map (redone_page read tables) before.pages) ≡ (store_out base read before).pages
     pages_out =
@@ -122,29 +121,22 @@ module _ (base : BasePages) (read : LogContent) (before : StoreContent) (lawful 
         let end = tail_settles base read lawful.log in
         record { lawful = s.lawful; no_loser = end.no_loser; no_tail = end.no_tail; same_store = s.same_store }
 
-    restores : (redone : Redone) (x : OutcomeContent) → redone.pages.items ≡ map (redone_page read tables) before.pages → redone.applied ≡ sum (map (applied_to read tables) before.pages) → RollsBack read before.master tables redone x
-        → x.appended ≡ tail_of read → Restores base read before x
-    restores redone x redone_is applied back tail =
+    pub restores : (redone : Redone) (x : OutcomeContent) → IsRedone read before tables redone → RollsBack read before.master tables redone x → x.appended ≡ tail_of read → Restores base read before x
+    restores redone x made back tail =
         let store : x.store ≡ store_out base read before =
         ap₂ (λ m (ps : List Page). record { master = m; pages = ps }) back.master_kept
-        (back.pages ∙ ap₂ (λ rs ps. map (undone_page (history read) rs) ps) tail redone_is ∙ pages_out) in
+        (back.rolled_back.pages_are ∙ ap₂ (λ rs ps. map (undone_page (history read) rs) ps) tail made.redone_pages ∙ pages_out) in
         record {
           appended = tail;
           store = store;
           settled = subst (λ s. IsSettled base (read ⧺ x.appended) s) (sym store) (subst (λ rs. IsSettled base (read ⧺ rs) (store_out base read before)) (sym tail) settles);
-          redoes = record { tables = tables; are = are; begins = back.redo_from; applies = back.applied ∙ applied };
+          redoes = record { tables = tables; are = made.are; begins = back.redo_from; applies = back.applied ∙ made.applied };
           losers = back.losers ∙ losers_count;
           in_doubt_are = back.in_doubt_are ∙ in_doubt_is;
           still_in_doubt = λ t. ap (λ rs. in_doubt t (history (read ⧺ rs))) tail ∙ (tail_settles base read lawful.log).same_doubt t;
           ended = back.ended ∙ ap ends_in tail ∙ losers_end base read lawful.log;
           compensated = back.compensated ∙ ap clrs_in tail;
         }
-
-    pub outcome_restores : (redone : Redone) (r : Result BriefOutcome Fault) → redone.pages.items ≡ map (redone_page read tables) before.pages → redone.applied ≡ sum (map (applied_to read tables) before.pages)
-        → IfOk r (λ x. RollsBack read before.master tables redone (outcome_in (history read) x))
-        → MatchResult r (λ x. (outcome_in (history read) x).appended ≡ tail_of read) (λ e. e ≡ NoResource) → MatchResult r (λ x. Restores base read before (outcome_in (history read) x)) (λ e. e ≡ NoResource)
-    outcome_restores redone (Ok x) redone_is applied back tail = restores redone (outcome_in (history read) x) redone_is applied back tail
-    outcome_restores redone (Err e) redone_is applied back alone = alone
 
   -- WHAT DOES NOT COME
   none_ahead : (number : ℕ) → IsFirstAhead read before.pages number → ⊥

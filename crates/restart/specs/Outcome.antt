@@ -3,9 +3,10 @@ use Rattle.std.specs.Prelude.{ℕ, List, map}
 use Rattle.page.specs.Store.{StoreContent}
 use Rattle.wal.specs.Records.{LogRecord, History}
 use Rattle.wal.specs.Content.{content}
-use Rattle.undo.specs.Appended.{records_of}
+use Rattle.wal.specs.declared.record.Record.{Record}
+use Rattle.undo.specs.declared.appended.Appended.{Appended}
+use Rattle.undo.specs.Appended.{record_of}
 use Rattle.restart.specs.declared.outcome.Outcome.{Outcome}
-use Rattle.restart.specs.declared.outcome.BriefOutcome.{BriefOutcome}
 
 -- the store after it, the records that it appends, and the numbers that it tells
 pub record OutcomeContent : Type 0 where
@@ -18,10 +19,11 @@ pub record OutcomeContent : Type 0 where
   pub compensated : ℕ
   pub ended : ℕ
 
-abbrev pub outcome_of : Outcome → OutcomeContent
-outcome_of x = record {
+-- its appended records are what these tell
+abbrev pub outcome_by : {A : Type 0} → (A → LogRecord) → Outcome A → OutcomeContent
+outcome_by record_in x = record {
   store = x.store;
-  appended = map content x.appended.items;
+  appended = map record_in x.appended.items;
   redo_from = x.redo_from;
   redone = x.redone;
   losers = x.losers;
@@ -30,15 +32,9 @@ outcome_of x = record {
   ended = x.ended;
 }
 
+abbrev pub outcome_of : Outcome Record → OutcomeContent
+outcome_of x = outcome_by content x
+
 -- what is told in brief, by the log
-abbrev pub outcome_in : History → BriefOutcome → OutcomeContent
-outcome_in log x = record {
-  store = x.store;
-  appended = records_of log x.appended.items;
-  redo_from = x.redo_from;
-  redone = x.redone;
-  losers = x.losers;
-  in_doubt = x.in_doubt.items;
-  compensated = x.compensated;
-  ended = x.ended;
-}
+abbrev pub outcome_in : History → Outcome Appended → OutcomeContent
+outcome_in log x = outcome_by (record_of log) x

@@ -8,14 +8,15 @@ use Rattle.page.specs.Store.{StoreContent}
 use Rattle.wal.specs.Records.{LogRecord, LogContent, history, ◌⧺◌, last_lsn}
 use Rattle.wal.specs.Meaning.{BasePages, in_doubt, is_loser}
 use Rattle.wal.specs.Tail.{is_clr, is_end, in_doubt_of, losers_of, tail_of}
-use Rattle.wal.specs.Undo.{doubtful_in, undone_by}
-use Rattle.wal.specs.Store.{NamesPages, Lawful, store_out}
-use Rattle.analysis.specs.Tables.{TablesContent, losers_in, AreTablesOf, AreDirtyPagesOf, BaseFault, base_of}
+use Rattle.wal.specs.Undo.{doubtful_in}
+use Rattle.wal.specs.Store.{Lawful, store_out}
+use Rattle.tables.specs.Tables.{TablesContent, losers_in}
+use Rattle.analysis.specs.Tables.{AreTablesOf, AreDirtyPagesOf, BaseFault, base_of}
 use Rattle.redo.specs.Parting.{PartingContent}
 use Rattle.redo.specs.declared.redone.Redone.{Redone}
 use Rattle.redo.specs.Redone.{redone_page, applied_to, AreWorkers, AllExist, IsFirstMissing, RedoFault}
 use Rattle.restart.specs.Outcome.{OutcomeContent}
-use Rattle.undo.specs.Undone.{NoBadHop, undone_page, MetExist, MeetsMissing, Breaks}
+use Rattle.undo.specs.Undone.{RolledBack, MeetsMissing, Breaks}
 
 -- SETTINGS
 abbrev pub IsPartingOf : ℕ → PartingContent → Type 0
@@ -58,13 +59,9 @@ clrs_in records = length (filter is_clr records)
 abbrev pub ends_in : List LogRecord → ℕ
 ends_in records = length (filter is_end records)
 
--- the losers of the tables are rolled back on the pages that redo made; no hop of theirs is bad, and no page is missing
+-- the losers of the tables are rolled back on the pages that redo made, and this is told of it
 pub record RollsBack (log : LogContent) (master : ℕ) (tables : TablesContent) (redone : Redone) (x : OutcomeContent) : Type 0 where
-  pub appended : x.appended ≡ undone_by (history log) (losers_in tables)
-  pub pages : x.store.pages ≡ map (undone_page (history log) x.appended) redone.pages.items
-  pub no_bad_hop : NoBadHop (history log) (losers_in tables)
-  pub met_exist : MetExist (history log) (losers_in tables) (length redone.pages.items) 0
-  pub exist : All (NamesPages (length redone.pages.items)) x.appended
+  pub rolled_back : RolledBack log tables redone.pages.items x.store.pages x.appended
   pub master_kept : x.store.master ≡ master
   pub redo_from : x.redo_from ≡ tables.redo_lsn
   pub applied : x.redone ≡ redone.applied
@@ -101,11 +98,7 @@ PagesFault log before workers e =
 pub record Restarts (log : LogContent) (before : StoreContent) (x : OutcomeContent) : Type 0 where
   pub tables : TablesContent
   pub redone : Redone
-  pub are : AreTablesOf log before.master tables
-  pub none_ahead : NoneAhead log before
-  pub exist : AllExist log (length before.pages) tables.redo_lsn
-  pub redone_pages : redone.pages.items ≡ map (redone_page log tables) before.pages
-  pub applied : redone.applied ≡ sum (map (applied_to log tables) before.pages)
+  pub is : IsRedone log before tables redone
   pub rolls_back : RollsBack log before.master tables redone x
 
 -- LAWFUL INPUT over base pages

@@ -3,11 +3,11 @@
 ghost use Rattle.std.specs.Prelude.{◌≡◌, ◌+◌, length, IfOk, IsOkUnless};
 ghost use Rattle.page.specs.declared.fault.Fault.TheVariants.{NoResource};
 ghost use Rattle.wal.specs.Undo.{is_prepared, doubtful_in};
-ghost use Rattle.analysis.specs.Tables.{losers_in};
+ghost use Rattle.tables.specs.Tables.{losers_in};
 
-use analysis::Tables;
 use page::Fault;
 use std::alloc::Global;
+use tables::Tables;
 use wal::State;
 
 /// Whether a transaction in this state is in doubt.

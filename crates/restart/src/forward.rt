@@ -2,7 +2,7 @@
 //! asks analysis for the dirty pages alone, so where there are more workers the transactions are found
 //! beside it.
 
-ghost use Rattle.std.specs.Prelude.{◌≡◌, true, Some, None, is_some, IfSome, IfOk, IfErr, MatchResult, map, length};
+ghost use Rattle.std.specs.Prelude.{◌≡◌, ℕ, true, Some, None, is_some, IfSome, IfOk, IfErr, MatchResult, map, length};
 ghost use Rattle.page.specs.declared.fault.Fault.TheVariants.{NoResource};
 ghost use Rattle.page.specs.Store.{StoreContent};
 ghost use Rattle.wal.specs.Content.{entry_of};
@@ -10,58 +10,38 @@ ghost use Rattle.wal.specs.Meaning.{BasePages};
 ghost use Rattle.wal.specs.Records.{history};
 ghost use Rattle.wal.specs.Store.{Lawful};
 ghost use Rattle.wal.specs.Undo.{entry_for};
-ghost use Rattle.analysis.specs.Lawful.{AreTrue};
+ghost use Rattle.tables.specs.Lawful.{AreTrue};
 ghost use Rattle.analysis.specs.Tables.{AreTransactionsOf, BaseFault, entry_at};
 ghost use Rattle.restart.specs.Restart.{AreSettings, NoneAhead, IsRedone, ArePagesRedone, PagesFault, InputFault};
 
-use analysis::{Tables, analyse, analyse_pages, analyse_transactions, join_tables};
+use analysis::{analyse_pages, analyse_transactions, join_tables};
 use page::{Fault, Store};
-use redo::{Gate, Parting, Redone, redo_in_place};
+use redo::{Gate, Parting, Redone, Watch, redo_in_place, redo_watched};
 use std::alloc::Global;
 use std::collections::BTreeMap;
 use std::thread::{Threads, join_mut};
+use tables::Tables;
 use wal::{Entry, Log};
 
-/// Analysis, and redo by its tables.
-fn one_behind_the_other<G: Gate, R: Threads + Sync>(
-    rt: &R,
+/// Analysis and redo in the thread of the caller: the tables of the crash, in two halves, and the pages
+/// of the store, redone by them. No page is ahead of the log.
+pub fn forward_alone<G: Gate>(
     alloc: Global,
     log: &Log,
     store: Store,
-    parting: &Parting,
-    workers: u32,
-    gate: &G,
+    watch: &Watch<G>,
 ) -> Result<(Tables, Redone), Fault>
-    requires settings { AreSettings (length store.pages) parting.now workers }
-    requires none_ahead { NoneAhead log.now store }
+    requires { NoneAhead log.now store }
     ensures redone { IfOk result (λ x. IsRedone log.now store x.0 x.1) }
     ensures no_transaction_0 { IfOk result (λ x. entry_for 0 x.0.transactions ≡ None) }
     ensures lawful { (base : BasePages) → Lawful base log.now store
         → MatchResult result (λ x. AreTrue log.now store x.0) (λ e. e ≡ NoResource) }
     ensures fault { IfErr result (InputFault log.now store) }
 {
-    let tables = analyse(alloc, log, store.master)?;
-    let redone = redo_in_place(rt, alloc, log, store, &tables, parting, workers, gate)?;
-    Ok((tables, redone))
-}
-
-/// The dirty pages, without the transactions, and redo by them.
-fn redo_by_pages<G: Gate, R: Threads + Sync>(
-    rt: &R,
-    alloc: Global,
-    log: &Log,
-    store: Store,
-    parting: &Parting,
-    workers: u32,
-    gate: &G,
-) -> Result<(Tables, Redone), Fault>
-    requires settings { AreSettings (length store.pages) parting.now workers }
-    ensures redone { IfOk result (λ x. ArePagesRedone log.now store x.0 x.1) }
-    ensures fault { IfErr result (PagesFault log.now store workers) }
-{
-    let tables = analyse_pages(alloc, log, store.master, store.pages.len())?;
-    let redone = redo_in_place(rt, alloc, log, store, &tables, parting, workers, gate)?;
-    Ok((tables, redone))
+    let transactions = analyse_transactions(alloc, log, store.master)?;
+    let pages = analyse_pages(alloc, log, store.master, store.pages.len())?;
+    let redone = redo_watched(alloc, log, store, &pages, watch)?;
+    Ok((join_tables(transactions, pages), redone))
 }
 
 /// The transactions, and beside them the dirty pages and redo by them.
@@ -104,39 +84,20 @@ fn side_by_side<G: Gate, R: Threads + Sync>(
             → IfErr result (PagesFault log.entry.now before workers) }
     {
         match given.take() {
-            Some(store) => redo_by_pages(rt, alloc, log, store, parting, workers, gate),
+            Some(store) => {
+                let tables = analyse_pages(alloc, log, store.master, store.pages.len())?;
+                let redone = redo_in_place(rt, alloc, log, store, &tables, parting, workers, gate)?;
+                Ok((tables, redone))
+            }
             None => unreachable!(),
         }
     };
     join_mut(rt, &mut find, &mut redo)
 }
 
-/// Analysis and redo, the transactions beside redo.
-fn beside_each_other<G: Gate, R: Threads + Sync>(
-    rt: &R,
-    alloc: Global,
-    log: &Log,
-    store: Store,
-    parting: &Parting,
-    workers: u32,
-    gate: &G,
-) -> Result<(Tables, Redone), Fault>
-    requires settings { AreSettings (length store.pages) parting.now workers }
-    requires none_ahead { NoneAhead log.now store }
-    ensures redone { IfOk result (λ x. IsRedone log.now store x.0 x.1) }
-    ensures no_transaction_0 { IfOk result (λ x. entry_for 0 x.0.transactions ≡ None) }
-    ensures lawful { (base : BasePages) → Lawful base log.now store
-        → MatchResult result (λ x. AreTrue log.now store x.0) (λ e. e ≡ NoResource) }
-    ensures fault { IfErr result (InputFault log.now store) }
-{
-    let (transactions, redone) = side_by_side(rt, alloc, log, store, parting, workers, gate);
-    let transactions = transactions?;
-    let (pages, redone) = redone?;
-    Ok((join_tables(transactions, pages), redone))
-}
-
 /// Analysis and redo: the tables of the crash, and the pages of the store, redone by them. The
-/// settings hold, and no page is ahead of the log.
+/// settings hold, and no page is ahead of the log. More workers than one find the transactions beside
+/// redo.
 ///
 /// Refuses as [`restart`](crate::restart) from [`Fault::BadMaster`] on, as far as redo.
 pub fn go_forward<G: Gate, R: Threads + Sync>(
@@ -157,7 +118,10 @@ pub fn go_forward<G: Gate, R: Threads + Sync>(
     ensures fault { IfErr result (InputFault log.now store) }
 {
     if workers == 1 {
-        return one_behind_the_other(rt, alloc, log, store, parting, workers, gate);
+        return forward_alone(alloc, log, store, &Watch::Gate { parting, gate });
     }
-    beside_each_other(rt, alloc, log, store, parting, workers, gate)
+    let (transactions, redone) = side_by_side(rt, alloc, log, store, parting, workers, gate);
+    let transactions = transactions?;
+    let (pages, redone) = redone?;
+    Ok((join_tables(transactions, pages), redone))
 }

@@ -3,7 +3,7 @@
 ghost use Rattle.std.specs.Prelude.{◌≡◌, IfOk, IsOkUnless};
 ghost use Rattle.page.specs.declared.fault.Fault.TheVariants.{NoResource};
 ghost use Rattle.wal.specs.Records.{history};
-ghost use Rattle.undo.specs.Appended.{AreTold};
+ghost use Rattle.undo.specs.Appended.{HaveUpdates};
 ghost use Rattle.restart.specs.Outcome.{outcome_of, outcome_in};
 
 use page::{Fault, Store};
@@ -13,11 +13,11 @@ use wal::{Log, Record};
 
 /// What a restart makes of a log and its store.
 #[derive(Drop)]
-pub struct Outcome {
+pub struct Outcome<A = Record> {
     /// The store after it: the master as it was, the pages recovered.
     pub store: Store,
     /// The records that it adds to the log, which take the LSNs behind the log's last one.
-    pub appended: Vec<Record>,
+    pub appended: Vec<A>,
     /// The LSN from which redo looked at records, 0 where it looked at none.
     pub redo_from: u64,
     /// How many records redo applied.
@@ -36,22 +36,12 @@ pub struct Outcome {
 
 /// An [`Outcome`] of which the appended records are told in brief: what they hold stands in the
 /// log.
-#[derive(Drop)]
-pub struct BriefOutcome {
-    pub store: Store,
-    pub appended: Vec<Appended>,
-    pub redo_from: u64,
-    pub redone: u64,
-    pub losers: u64,
-    pub in_doubt: Vec<u32>,
-    pub compensated: u64,
-    pub ended: u64,
-}
+pub type BriefOutcome = Outcome<Appended>;
 
 /// The outcome that is told in brief. The only error is [`Fault::NoResource`], where memory was
 /// refused.
 pub fn outcome_of(alloc: Global, log: &Log, brief: BriefOutcome) -> Result<Outcome, Fault>
-    requires { AreTold (history log.now) brief.appended.items }
+    requires { HaveUpdates log.now brief.appended.items }
     ensures ok { IfOk result (λ x. outcome_of x ≡ outcome_in (history log.now) brief) }
     ensures err { IsOkUnless result NoResource }
 {

@@ -4,25 +4,23 @@ ghost use Rattle.std.specs.Prelude.{◌≡◌, ◌≤◌, ◌+◌, ◌*◌, ◌^
 ghost use Rattle.page.specs.declared.fault.Fault.{Fault};
 ghost use Rattle.page.specs.declared.fault.Fault.TheVariants.{NoResource};
 ghost use Rattle.page.specs.Store.{StoreContent, AreNumbered};
-ghost use Rattle.wal.specs.Records.{History, history, last_lsn};
+ghost use Rattle.wal.specs.Records.{LogContent, history, last_lsn};
 ghost use Rattle.wal.specs.Meaning.{BasePages};
 ghost use Rattle.wal.specs.Store.{Lawful};
-ghost use Rattle.wal.specs.Tail.{tail_of};
-ghost use Rattle.analysis.specs.Lawful.{AreTrue};
-ghost use Rattle.analysis.specs.Tables.{losers_in};
-ghost use Rattle.undo.specs.Appended.{records_of, AreTold, AreFit};
-ghost use Rattle.undo.specs.Undone.{HasNoTransaction0, AreWritable, UndoFault};
+ghost use Rattle.tables.specs.Lawful.{AreTrue};
+ghost use Rattle.undo.specs.Appended.{records_of, HaveUpdates, AreFit};
+ghost use Rattle.undo.specs.Undone.{HasNoTransaction0, AreWritable};
 ghost use Rattle.restart.specs.Outcome.{outcome_of, outcome_in};
-ghost use Rattle.restart.specs.Restart.{AreSettings, SettingsFault, AheadFault, clrs_in, ends_in, RollsBack, IsRedone, Restarts, Restores, InputFault, RestartFault};
+ghost use Rattle.restart.specs.Restart.{AreSettings, SettingsFault, AheadFault, clrs_in, ends_in, IsRedone, Restarts, Restores, InputFault, RestartFault};
 
 use crate::doubt::in_doubt;
 use crate::forward::go_forward;
 use crate::outcome::{BriefOutcome, Outcome, outcome_of};
-use analysis::Tables;
 use page::{Fault, Page, Store};
 use redo::{Gate, Parting, Redone, are_workers};
 use std::alloc::Global;
 use std::thread::Threads;
+use tables::Tables;
 use undo::{Appended, undo_in_brief};
 use wal::Log;
 
@@ -56,11 +54,11 @@ pub fn check_lsns(log: &Log, pages: &[Page]) -> Result<(), Fault>
 }
 
 /// How many CLRs there are among records, and how many ends.
-fn tally(appended: &[Appended]) -> (u64, u64)
-    ensures clrs { (log : History) → AreTold log appended.now
-        → result.0 ≡ clrs_in (records_of log appended.now) }
-    ensures ends { (log : History) → AreTold log appended.now
-        → result.1 ≡ ends_in (records_of log appended.now) }
+fn count_kinds(appended: &[Appended]) -> (u64, u64)
+    ensures clrs { (log : LogContent) → HaveUpdates log appended.now
+        → result.0 ≡ clrs_in (records_of (history log) appended.now) }
+    ensures ends { (log : LogContent) → HaveUpdates log appended.now
+        → result.1 ≡ ends_in (records_of (history log) appended.now) }
 {
     let mut clrs = 0;
     let mut ends = 0;
@@ -81,44 +79,6 @@ fn store_of(master: u64, pages: Vec<Page>) -> Store
     Store { master, pages }
 }
 
-/// Rolls the losers of the tables back on pages that were redone.
-fn undone(
-    alloc: Global,
-    log: &Log,
-    master: u64,
-    tables: &Tables,
-    redone: Redone,
-) -> Result<BriefOutcome, Fault>
-    requires { AreNumbered redone.pages.items }
-    ensures rolls_back { IfOk result (λ x. RollsBack log.now master tables.now redone
-        (outcome_in (history log.now) x)) }
-    ensures told { IfOk result (λ x. AreTold (history log.now) x.appended.items) }
-    ensures writable { IfOk result (λ x. HasNoTransaction0 tables.now
-        → AreFit (history log.now) x.appended.items) }
-    ensures few { IfOk result (λ x. length x.appended.items ≤ 2 * length log.now.records + 2 ^ 32) }
-    ensures fault { IfErr result (UndoFault (history log.now) (losers_in tables.now)
-        (length redone.pages.items)) }
-    ensures lawful { (base : BasePages) (store : StoreContent) → Lawful base log.now store
-        → AreTrue log.now store tables.now → length redone.pages.items ≡ length store.pages
-        → MatchResult result (λ x. records_of (history log.now) x.appended.items ≡ tail_of log.now)
-        (λ e. e ≡ NoResource) }
-{
-    let in_doubt = in_doubt(alloc, tables)?;
-    let (pages, appended) = undo_in_brief(alloc, log, tables, redone.pages)?;
-    let (compensated, ended) = tally(&appended);
-    let losers = tables.transactions.len() - in_doubt.len();
-    Ok(BriefOutcome {
-        store: store_of(master, pages),
-        appended,
-        redo_from: tables.redo_lsn,
-        redone: redone.applied,
-        losers: losers as u64,
-        in_doubt,
-        compensated,
-        ended,
-    })
-}
-
 /// Rolls the losers back on the pages of a store that were redone, which ends the restart.
 pub fn roll_back(
     alloc: Global,
@@ -137,13 +97,26 @@ pub fn roll_back(
     ensures restarts { (before : StoreContent) → before.master ≡ master
         → IsRedone log.now before tables.now redone
         → IfOk result (λ x. Restarts log.now before (outcome_in (history log.now) x)) }
-    ensures told { IfOk result (λ x. AreTold (history log.now) x.appended.items) }
-    ensures writable { IfOk result (λ x. AreFit (history log.now) x.appended.items) }
+    ensures told { IfOk result (λ x. HaveUpdates log.now x.appended.items) }
+    ensures writable { IfOk result (λ x. AreFit log.now x.appended.items) }
     ensures few { IfOk result (λ x. length x.appended.items ≤ 2 * length log.now.records + 2 ^ 32) }
     ensures fault { (before : StoreContent) → IsRedone log.now before tables.now redone
         → IfErr result (InputFault log.now before) }
 {
-    undone(alloc, log, master, tables, redone)
+    let in_doubt = in_doubt(alloc, tables)?;
+    let (pages, appended) = undo_in_brief(alloc, log, tables, redone.pages)?;
+    let (compensated, ended) = count_kinds(&appended);
+    let losers = tables.transactions.len() - in_doubt.len();
+    Ok(Outcome {
+        store: store_of(master, pages),
+        appended,
+        redo_from: tables.redo_lsn,
+        redone: redone.applied,
+        losers: losers as u64,
+        in_doubt,
+        compensated,
+        ended,
+    })
 }
 
 /// [`restart`] on a store that is given away: its pages are changed in place and not copied, and the
@@ -169,10 +142,10 @@ pub fn restart_in_place<G: Gate, R: Threads + Sync>(
         → result ≡ Err e }
 
     // Each update that is named stands in the log.
-    ensures told { IfOk result (λ x. AreTold (history log.now) x.appended.items) }
+    ensures told { IfOk result (λ x. HaveUpdates log.now x.appended.items) }
 
     // Each appended record has a spelling; they are so few that there are LSNs for them behind the log.
-    ensures writable { IfOk result (λ x. AreFit (history log.now) x.appended.items) }
+    ensures writable { IfOk result (λ x. AreFit log.now x.appended.items) }
     ensures few { IfOk result (λ x. length x.appended.items ≤ 2 * length log.now.records + 2 ^ 32) }
 
     // A refusal has its cause in the input, memory aside.

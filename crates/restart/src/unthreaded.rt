@@ -5,15 +5,15 @@ ghost use Rattle.page.specs.declared.fault.Fault.TheVariants.{NoResource};
 ghost use Rattle.wal.specs.Records.{history};
 ghost use Rattle.wal.specs.Meaning.{BasePages};
 ghost use Rattle.wal.specs.Store.{Lawful};
-ghost use Rattle.undo.specs.Appended.{AreTold, AreFit};
+ghost use Rattle.undo.specs.Appended.{HaveUpdates, AreFit};
 ghost use Rattle.restart.specs.Outcome.{outcome_in};
 ghost use Rattle.restart.specs.Restart.{Restarts, Restores, InputFault};
 
+use crate::forward::forward_alone;
 use crate::outcome::BriefOutcome;
 use crate::passes::{check_lsns, roll_back};
-use analysis::analyse;
 use page::{Fault, Store};
-use redo::redo_alone;
+use redo::{OpenGate, Watch};
 use std::alloc::Global;
 use wal::Log;
 
@@ -31,16 +31,16 @@ pub fn restart_alone(alloc: Global, log: &Log, store: Store) -> Result<BriefOutc
 
     // Each update that is named stands in the log; each appended record has a spelling, and they are so
     // few that there are LSNs for them behind the log.
-    ensures told { IfOk result (λ x. AreTold (history log.now) x.appended.items) }
-    ensures writable { IfOk result (λ x. AreFit (history log.now) x.appended.items) }
+    ensures told { IfOk result (λ x. HaveUpdates log.now x.appended.items) }
+    ensures writable { IfOk result (λ x. AreFit log.now x.appended.items) }
     ensures few { IfOk result (λ x. length x.appended.items ≤ 2 * length log.now.records + 2 ^ 32) }
 
     // A refusal has its cause in the input, memory aside.
     ensures fault { IfErr result (InputFault log.now store) }
 {
     check_lsns(log, &store.pages)?;
-    let tables = analyse(alloc, log, store.master)?;
     let master = store.master;
-    let redone = redo_alone(alloc, log, store, &tables)?;
+    let nobody: Watch<OpenGate> = Watch::Nobody;
+    let (tables, redone) = forward_alone(alloc, log, store, &nobody)?;
     roll_back(alloc, log, master, &tables, redone)
 }

@@ -13,7 +13,8 @@ use Rattle.wal.specs.Undo.{entry_for, walk_of, last_in}
 use Rattle.wal.proofs.Actions.{AllFor}
 use Rattle.undo.specs.declared.losers.Loser.{Loser}
 use Rattle.undo.specs.Undone.{EndsBadly, last_met, lowest, UndoFault}
-use Rattle.undo.specs.Rollback.{walk_from, WalkFault, Waiting, Ends, Stays, Resolved, Waits, IsDone, IsWaiting, undos, RollbackInvariant, met_by, last_by, meets_nothing, end_of, AreEnds, Begun}
+use Rattle.undo.specs.Rollback.{walk_from, WalkFault, Waiting, Ends, Stays, Resolved, Waits, IsDone, IsWaiting, undos, RollbackInvariant}
+use Rattle.undo.proofs.Begun.{met_by, last_by, meets_nothing, end_of, AreEnds, Begun}
 use Rattle.undo.proofs.Lowest.{lowest_most}
 use Rattle.undo.proofs.Rolling.{update_within, last_within}
 use Rattle.wal.proofs.Histories.{first_all}

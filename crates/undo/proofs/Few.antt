@@ -8,7 +8,8 @@ use Rattle.std.proofs.lemmas.List.{length-append}
 use Rattle.wal.specs.Records.{TableEntry, tx_in, LogRecord, End, History, last_lsn}
 use Rattle.wal.proofs.Entries.{Rise}
 use Rattle.undo.specs.declared.losers.Loser.{Loser}
-use Rattle.undo.specs.Rollback.{Waiting, IsUpdateAt, Resolved, meets_nothing, end_of}
+use Rattle.undo.specs.Rollback.{Waiting, IsUpdateAt, Resolved}
+use Rattle.undo.proofs.Begun.{meets_nothing, end_of}
 use Rattle.undo.proofs.Placed.{height, height_least}
 use Rattle.undo.proofs.Rolling.{update_within}
 

@@ -1,4 +1,5 @@
 pub mod Effects
+pub mod Begun
 pub mod Walks
 pub mod UndonePages
 pub mod Meeting

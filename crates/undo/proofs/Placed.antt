@@ -1,14 +1,15 @@
 -- How far behind the waiting losers' updates stand: a measure of what is left to undo.
-use Rattle.std.proofs.Common.{ℕ, suc, ◌≡◌, ◌≢◌, ◌<◌, ◌≤◌, Bool, true, false, ltb, cond, eqb, eq-eqb, ne_eqb, eqb-true, List, [], ◌∷◌, length, max, Some, None, IsSome, refl, sym, ap, ◌∙◌, inl, inr, arith}
+use Rattle.std.proofs.Common.{ℕ, suc, ◌≡◌, ◌≢◌, ◌<◌, ◌≤◌, false, ltb, cond, eqb, eq-eqb, ne_eqb, eqb-true, List, [], ◌∷◌, length, max, Some, None, IsSome, refl, sym, ap, ◌∙◌, inl, inr, arith}
 use Rattle.std.proofs.lemmas.Bool.{cases_Bool, false≢true, ltb-false}
 use Rattle.std.specs.Ordering.{is_eq, is_lt, nat_cmp}
 use Rattle.std.specs.declared.cmp.Ordering.TheVariants.{Less, Equal, Greater}
 use Rattle.std.specs.Prelude.{is_some}
 use Rattle.std.specs.Map.{lookup}
 use Rattle.wal.proofs.Entries.{is_eq-nat_cmp}
-use Rattle.wal.specs.Records.{History}
+use Rattle.wal.specs.Records.{LogContent}
 use Rattle.undo.specs.declared.losers.Loser.{Loser}
-use Rattle.undo.specs.Rollback.{Waiting, Taken, AreBelow, AreUpdates}
+use Rattle.undo.specs.declared.losers.Rollback.{Rollback}
+use Rattle.undo.specs.Rollback.{Waiting, loser_at, Taken, AreBelow, AreUpdates}
 
 -- one above the largest LSN at which a loser waits, 0 where nobody waits
 abbrev pub height : List (ℕ × Loser) → ℕ
@@ -38,10 +39,6 @@ height_above n l (e ∷ entries) f =
     ]
 
 -- THE LAST ENTRY TAKEN
-is_lt-cond : (b : Bool) → is_lt (cond b Equal Greater) ≡ false
-is_lt-cond true = refl
-is_lt-cond false = refl
-
 not_above : (x y : ℕ) → is_lt (nat_cmp x y) ≡ false → y ≤ x
 not_above x y h =
     elim (cases_Bool (ltb x y)) [
@@ -70,7 +67,7 @@ nobody_waits [] none n = refl
 nobody_waits (x ∷ entries) none n = absurd (none (omega arith))
 
 -- and those that are left wait at updates
-pub taken_updates : (log : History) (update_lsn : ℕ) (l : Loser) (old new : Waiting) → Taken update_lsn l old new → AreUpdates log old → AreUpdates log new
+pub taken_updates : (log : LogContent) (update_lsn : ℕ) (l : Loser) (old new : Rollback) → Taken update_lsn l (loser_at old) (loser_at new) → AreUpdates log old → AreUpdates log new
 taken_updates log update_lsn l old new taken updates n m e =
-    let apart : n ≢ update_lsn = λ i. (let f : None ≡ Some m = sym taken.gone ∙ ap new (sym i) ∙ e in cc) in
+    let apart : n ≢ update_lsn = λ i. (let f : None ≡ Some m = sym taken.gone ∙ ap (loser_at new) (sym i) ∙ e in cc) in
     updates n m (sym (taken.others n apart) ∙ e)

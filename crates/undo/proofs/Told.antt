@@ -3,7 +3,7 @@ use Rattle.std.proofs.Common.{◌≡◌, List, All, map, sym, subst, arith}
 use Rattle.std.proofs.lemmas.List.{get_or-map, length-map}
 use Rattle.std.proofs.lemmas.List.Elements.{All-map}
 use Rattle.wal.specs.declared.record.Record.{Record}
-use Rattle.wal.specs.Records.{History}
+use Rattle.wal.specs.Records.{LogContent, history}
 use Rattle.wal.specs.Content.{content}
 use Rattle.wal.specs.Spelling.{Fits}
 use Rattle.undo.specs.declared.appended.Appended.{Appended}
@@ -11,11 +11,11 @@ use Rattle.undo.specs.Undone.{AreWritable}
 use Rattle.undo.specs.Appended.{record_of, records_of, AreFit}
 
 -- what is told has a spelling
-pub told_fit : (log : History) (told : List Appended) → AreFit log told → All Fits (records_of log told)
-told_fit log told fit = All-map Fits (record_of log) told fit
+pub told_fit : (log : LogContent) (told : List Appended) → AreFit log told → All Fits (records_of (history log) told)
+told_fit log told fit = All-map Fits (record_of (history log)) told fit
 
 -- so have the records that it tells
-pub told_writable : (log : History) (told : List Appended) (records : List Record) → map content records ≡ records_of log told → AreFit log told → AreWritable records
+pub told_writable : (log : LogContent) (told : List Appended) (records : List Record) → map content records ≡ records_of (history log) told → AreFit log told → AreWritable records
 told_writable log told records is fit = λ k d lt.
     let all : All Fits (map content records) = subst (All Fits) (sym is) (told_fit log told fit) in
     subst Fits (get_or-map content records k d (content d) lt) (all k (content d) (omega (arith, lt, length-map records content)))

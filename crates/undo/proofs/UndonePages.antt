@@ -8,13 +8,12 @@ use Rattle.std.specs.List.{range_with_len}
 use Rattle.page.specs.Image.{Image}
 use Rattle.page.specs.declared.page.Page.{Page}
 use Rattle.page.specs.Store.{AreNumbered}
-use Rattle.wal.specs.Records.{UpdateRecord, LogRecord, End, PlainRecord, History, start, ◌▸◌, ◌▸▸◌, last_lsn}
+use Rattle.wal.specs.Records.{LogRecord, End, PlainRecord, History, start, ◌▸◌, ◌▸▸◌, last_lsn}
 use Rattle.wal.specs.Meaning.{Cells, effects, writes, is_on, image_of}
-use Rattle.wal.specs.Redo.{slots_in, held_by, last_where}
-use Rattle.wal.specs.Tail.{record_for, Undo}
+use Rattle.wal.specs.Redo.{held_by, last_where}
 use Rattle.wal.proofs.Histories.{after-append, size-after}
 use Rattle.undo.specs.Undone.{slots_of, undone_page}
-use Rattle.undo.specs.Rollback.{AreEnds}
+use Rattle.undo.proofs.Begun.{AreEnds}
 use Rattle.undo.proofs.Effects.{Puts, Idle}
 
 -- LISTS
@@ -150,10 +149,6 @@ module _ (log : History) (appended : List LogRecord) (r : LogRecord) (given : Li
 pub end_idle : (s : PlainRecord) → Idle (End s)
 end_idle s = record { writes_none = λ p t. refl; on_none = λ p. refl }
 
--- a CLR puts the before image back
-pub clr_puts : (last : ℕ) (u : UpdateRecord) → Puts (record_for (λ _. last) (Undo u)) u.page u.slot u.before
-clr_puts last u = record { writes_is = λ p s. refl; on_is = λ p. refl; image_is = refl }
-
 -- ends alone leave all pages
 pub ends_undo_nothing : (log : History) (appended : List LogRecord) (given : List Page) → AreEnds appended → given ≡ map (undone_page log appended) given
 ends_undo_nothing log appended given ends = sym (map-same-as given)
@@ -167,7 +162,3 @@ ends_undo_nothing log appended given ends = sym (map-same-as given)
     map-same-as [] = refl
     map-same-as (p ∷ pages) =
         ap₂ (λ x xs. x ∷ xs) (from (last_lsn log) log appended p (omega arith) ends ∙ nothing_done (last_lsn log) log p (omega arith)) (map-same-as pages)
-
--- an image of 16 slots, as every page is
-pub undone_slots : (log : History) (appended : List LogRecord) (image : Page) → length image.slots ≡ 16 → (undone_page log appended image).slots ≡ slots_in (effects (λ lsn _. ltb (last_lsn log) lsn) (held_by image) (log ▸▸ appended)) image.number
-undone_slots log appended image len = ap (λ n. map (λ slot. effects (λ lsn _. ltb (last_lsn log) lsn) (held_by image) (log ▸▸ appended) image.number slot) (range_with_len 0 n)) len

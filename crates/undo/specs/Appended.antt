@@ -1,11 +1,17 @@
 -- What undo appends, told in brief: which records are meant (own).
-use Rattle.std.specs.Prelude.{ℕ, List, All, Option, Some, map, ⊤}
-use Rattle.wal.specs.Records.{LogRecord, Update, End, CheckpointBegin, History, record_at}
-use Rattle.wal.specs.Tail.{Undo, record_for}
+use Rattle.std.specs.Prelude.{◌≡◌, ℕ, List, All, Option, Some, map, ⊤}
+use Rattle.page.specs.declared.page.Page.{Page}
+use Rattle.wal.specs.Records.{LogRecord, LogContent, Update, End, CheckpointBegin, History, history, record_at}
+use Rattle.wal.specs.Tail.{Undo, record_for, tail_of}
 use Rattle.wal.specs.Spelling.{Fits}
-use Rattle.undo.specs.Rollback.{IsUpdate}
+use Rattle.tables.specs.Tables.{TablesContent}
+use Rattle.undo.specs.Undone.{undone_page, RolledBack, HasNoTransaction0}
 use Rattle.undo.specs.declared.appended.Appended.{Appended}
 use Rattle.undo.specs.declared.appended.Appended.TheVariants as brief
+
+abbrev pub IsUpdate : Option LogRecord → Type 0
+IsUpdate (Some (Update u)) = ⊤
+IsUpdate _ = ⊥
 
 -- the CLR of an update whose transaction's last record is `last`; of no update there is none, and what stands here for it is
 -- nothing that undo appends
@@ -21,14 +27,28 @@ record_of log (brief.End tx prev) = End (record { tx = tx; prev = prev })
 abbrev pub records_of : History → List Appended → List LogRecord
 records_of log appended = map (record_of log) appended
 
--- one is: the update that is named stands in the log
-abbrev pub IsTold : History → Appended → Type 0
-IsTold log (brief.Compensation update prev) = IsUpdate (record_at log update)
-IsTold log (brief.End tx prev) = ⊤
+-- the update that is compensated stands in the log
+abbrev pub HasUpdate : LogContent → Appended → Type 0
+HasUpdate log (brief.Compensation update prev) = IsUpdate (record_at (history log) update)
+HasUpdate log (brief.End tx prev) = ⊤
 
-abbrev pub AreTold : History → List Appended → Type 0
-AreTold log appended = All (IsTold log) appended
+abbrev pub HaveUpdates : LogContent → List Appended → Type 0
+HaveUpdates log appended = All (HasUpdate log) appended
 
 -- each has a spelling
-abbrev pub AreFit : History → List Appended → Type 0
-AreFit log appended = All (λ a. Fits (record_of log a)) appended
+abbrev pub AreFit : LogContent → List Appended → Type 0
+AreFit log appended = All (λ a. Fits (record_of (history log) a)) appended
+
+-- they are the log's tail
+abbrev pub TellTail : LogContent → List Appended → Type 0
+TellTail log appended = records_of (history log) appended ≡ tail_of log
+
+-- the pages have their effects
+abbrev pub AreUndone : LogContent → (given : List Page) → List Appended → (pages : List Page) → Type 0
+AreUndone log given appended pages = pages ≡ map (undone_page (history log) (records_of (history log) appended)) given
+
+-- THE LOSERS ARE ROLLED BACK, and this is what is told of it
+pub record RolledBackInBrief (log : LogContent) (tables : TablesContent) (given pages : List Page) (appended : List Appended) : Type 0 where
+  pub rolled_back : RolledBack log tables given pages (records_of (history log) appended)
+  pub updates : HaveUpdates log appended
+  pub writable : HasNoTransaction0 tables → AreFit log appended

@@ -1,3 +1,3 @@
 pub mod Undone
-pub mod Rollback
 pub mod Appended
+pub mod Rollback

@@ -1,14 +1,24 @@
 -- A rollback under way: where each loser goes on, and what is left to be undone (own).
-use Rattle.std.specs.Prelude.{◌≡◌, ◌≢◌, ℕ, suc, ◌+◌, ◌-◌, ◌<◌, ◌≤◌, ◌⊎◌, List, [], ◌∷◌, ◌++◌, length, map, filter, flat_map, Option, Some, None, option_map, Bool, true, ◌==◌, if◌then◌else◌, ⊤}
+use Rattle.std.specs.Prelude.{◌≡◌, ◌≢◌, ℕ, suc, ◌+◌, ◌-◌, ◌<◌, ◌≤◌, ◌⊎◌, List, All, [], ◌∷◌, ◌++◌, length, flat_map, Option, Some, None, option_map, MatchOption, true, ◌==◌, if◌then◌else◌, ⊤}
+use Rattle.std.specs.Ordering.{nat_cmp}
+use Rattle.std.specs.BTreeMap.{BTreeMap, get}
+use Rattle.page.specs.declared.page.Page.{Page}
+use Rattle.page.specs.Store.{AreNumbered}
 use Rattle.page.specs.declared.fault.Fault.{Fault}
 use Rattle.page.specs.declared.fault.Fault.TheVariants.{NoResource, NoSuchPage, BrokenChain}
-use Rattle.wal.specs.Records.{TableEntry, tx_in, UpdateRecord, LogRecord, Update, End, History, last_lsn, record_at, first}
+use Rattle.wal.specs.Records.{TableEntry, UpdateRecord, LogRecord, LogContent, Update, End, History, history, last_lsn, record_at, first}
 use Rattle.wal.specs.Hops.{Walk, sent_on, hops, meet}
-use Rattle.wal.specs.Tail.{Action, Undo, record_for, records_for, is_empty, is_among, is_stacked, updates_where, undo_of}
-use Rattle.wal.specs.Undo.{entry_for, walk_of, last_in, undone_by}
+use Rattle.wal.specs.Tail.{Action, Undo, record_for, records_for, is_among, is_stacked, updates_where, undo_of}
+use Rattle.wal.specs.Store.{NamesPages}
+use Rattle.wal.specs.Undo.{entry_for, walk_of, undone_by}
+use Rattle.tables.specs.Tables.{TablesContent, losers_in}
+use Rattle.undo.specs.Undone.{UndoFault, HasNoTransaction0}
+use Rattle.undo.specs.Appended.{records_of, HaveUpdates, AreFit, AreUndone, RolledBackInBrief}
+use Rattle.undo.specs.declared.appended.Appended.{Appended}
 use Rattle.undo.specs.declared.walk.Hop.{Hop}
 use Rattle.undo.specs.declared.walk.Hop.TheVariants as hop
 use Rattle.undo.specs.declared.losers.Loser.{Loser}
+use Rattle.undo.specs.declared.losers.Rollback.{Rollback}
 
 -- A WALK
 -- where a transaction is sent by the record at an LSN, which must be an update or a CLR of it
@@ -35,6 +45,10 @@ pub record Meets (log : History) (t from lsn update_lsn : ℕ) : Type 0 where
 
 abbrev pub MeetsNothing : History → ℕ → ℕ → ℕ → Type 0
 MeetsNothing log t from lsn = walk_from log t from lsn ≡ record { met = []; ends = 0 }
+
+-- the first update that it meets, if any
+abbrev pub FirstMet : History → ℕ → ℕ → ℕ → Option ℕ → Type 0
+FirstMet log t from lsn next = MatchOption next (MeetsNothing log t from lsn) (Meets log t from lsn)
 
 -- why a walk breaks off before it meets an update, memory aside
 abbrev pub WalkFault : Walk → Fault → Type 0
@@ -72,10 +86,6 @@ pub record Taken (update_lsn : ℕ) (l : Loser) (old new : Waiting) : Type 0 whe
 
 abbrev pub AreBelow : ℕ → Waiting → Type 0
 AreBelow most at = (n : ℕ) (l : Loser) → at n ≡ Some l → n < most
-
--- each loser waits at an update of it
-abbrev pub AreUpdates : History → Waiting → Type 0
-AreUpdates log at = (n : ℕ) (l : Loser) → at n ≡ Some l → IsUpdateAt log l.tx n
 
 -- WHAT IS LEFT
 -- `left` says which updates each transaction is still to undo, `last` which record is its last one
@@ -117,43 +127,79 @@ pub record RollbackInvariant (log : History) (losers : List TableEntry) (count :
   pub each : (t : ℕ) → IsDone log losers left t ⊎ IsWaiting at t
   pub met : (t n : ℕ) → is_among n (walk_of log (entry_for t losers)).met ≡ true → (is_among n (left t) ≡ true) ⊎ IsPassed log count at n
 
--- AT THE START
-abbrev pub met_by : History → List TableEntry → ℕ → List ℕ
-met_by log losers t = (walk_of log (entry_for t losers)).met
-
-abbrev pub last_by : List TableEntry → ℕ → ℕ
-last_by losers t = last_in (entry_for t losers)
-
-abbrev pub meets_nothing : History → TableEntry → Bool
-meets_nothing log e = is_empty (hops e.tx log e.undo_next).met
-
-abbrev pub end_of : TableEntry → LogRecord
-end_of e = End (record { tx = e.tx; prev = e.last })
-
-abbrev pub AreEnds : List LogRecord → Type 0
-AreEnds [] = ⊤
-AreEnds (End s ∷ rs) = AreEnds rs
-AreEnds (_ ∷ rs) = ⊥
-
--- the losers of `done` wait, or have ended
-pub record Begun (log : History) (losers done : List TableEntry) (at : Waiting) (appended : List LogRecord) : Type 0 where
-  pub ends : appended ≡ map end_of (filter (meets_nothing log) done)
-  pub waits : (n : ℕ) (l : Loser) → at n ≡ Some l → Waits log losers (met_by log losers) (last_by losers) n l
-  pub each : (t : ℕ) → is_among t (map tx_in done) ≡ true → IsDone log losers (met_by log losers) t ⊎ IsWaiting at t
-
 -- ONE UPDATE
-abbrev pub IsUpdate : Option LogRecord → Type 0
-IsUpdate (Some (Update u)) = ⊤
-IsUpdate _ = ⊥
-
 -- its CLR is appended, and the walk goes on to its PrevLSN
 pub record Compensated (u : UpdateRecord) (last count prev : ℕ) (before after : List LogRecord) : Type 0 where
   pub exists : u.page < count
   pub goes_on : prev ≡ u.prev
   pub appended : after ≡ before ++ record_for (λ _. last) (Undo u) ∷ []
 
+-- the same of the update at an LSN, with the CLR told in brief
+abbrev pub Undoes : LogContent → (update_lsn last : ℕ) → (pages : List Page) → (before after : List Appended) → (prev : ℕ) → Type 0
+Undoes log update_lsn last pages before after prev =
+    (u : UpdateRecord) → record_at (history log) update_lsn ≡ Some (Update u)
+    → Compensated u last (length pages) prev (records_of (history log) before) (records_of (history log) after)
+
 -- why it is not undone, memory aside: its page is missing
 abbrev pub CompensationFault : History → ℕ → ℕ → Fault → Type 0
 CompensationFault log update_lsn count NoResource = ⊤
 CompensationFault log update_lsn count (NoSuchPage lsn) = (lsn ≡ update_lsn) × ((u : UpdateRecord) → record_at log update_lsn ≡ Some (Update u) → count ≤ u.page)
 CompensationFault log update_lsn count e = ⊥
+
+-- pages with the effects of what was appended have those of what is appended now
+abbrev pub KeepsUndone : LogContent → (before : List Appended) → (old : List Page) → (after : List Appended) → (new : List Page) → Type 0
+KeepsUndone log before old after new = (given : List Page) → AreNumbered given → AreUndone log given before old → AreUndone log given after new
+
+-- A ROLLBACK UNDER WAY, as the program has it
+-- the loser that waits at an LSN
+abbrev pub loser_at : Rollback → Waiting
+loser_at r = get nat_cmp r.waiting
+
+-- each loser waits at an update of it
+abbrev pub AreUpdates : LogContent → Rollback → Type 0
+AreUpdates log r = (n : ℕ) (l : Loser) → loser_at r n ≡ Some l → IsUpdateAt (history log) l.tx n
+
+-- a loser is resolved; what is appended still has its updates, and a spelling
+pub record Resolves (log : LogContent) (l : Loser) (from lsn : ℕ) (old new : Rollback) : Type 0 where
+  pub resolved : Resolved (history log) l from lsn (loser_at old) (loser_at new) (records_of (history log) old.appended.items) (records_of (history log) new.appended.items)
+  pub updates : HaveUpdates log old.appended.items → HaveUpdates log new.appended.items
+  pub writable : 0 < l.tx → AreFit log old.appended.items → AreFit log new.appended.items
+
+-- the losers of the tables are being rolled back on pages that were the given ones: what is left waits, and the pages have the
+-- effects of what is appended
+pub record IsRolling (log : LogContent) (tables : TablesContent) (given : List Page) (r : Rollback) (pages : List Page) : Type 0 where
+  pub numbered : AreNumbered given
+  pub left : RollbackInvariant (history log) (losers_in tables) (length given) (loser_at r) (records_of (history log) r.appended.items)
+  pub updates : HaveUpdates log r.appended.items
+  pub exist : All (NamesPages (length given)) (records_of (history log) r.appended.items)
+  pub pages_are : AreUndone log given r.appended.items pages
+  pub writable : HasNoTransaction0 tables → AreFit log r.appended.items
+
+-- it begins so, on any pages
+abbrev pub BeginsRollback : LogContent → TablesContent → Rollback → Type 0
+BeginsRollback log tables r = (pages : List Page) → AreNumbered pages → IsRolling log tables pages r pages
+
+-- the loser that waited at the newest update has been taken
+pub record IsTaken (log : LogContent) (tables : TablesContent) (given : List Page) (update_lsn : ℕ) (l : Loser) (r : Rollback) (pages : List Page) : Type 0 where
+  pub before : BTreeMap ℕ Loser
+  pub rolling : IsRolling log tables given (record { waiting = before; appended = r.appended }) pages
+  pub taken : Taken update_lsn l (get nat_cmp before) (loser_at r)
+
+-- its update is undone, and it is resolved again
+abbrev pub UndoesNewest : LogContent → ℕ → Loser → (old : Rollback) → (before : List Page) → (new : Rollback) → (after : List Page) → Type 0
+UndoesNewest log update_lsn l old before new after =
+    (tables : TablesContent) (given : List Page) → IsTaken log tables given update_lsn l old before → IsRolling log tables given new after
+
+-- all that was left is undone
+abbrev pub UndoesAll : LogContent → (old : Rollback) → (before : List Page) → (new : Rollback) → (after : List Page) → Type 0
+UndoesAll log old before new after =
+    (tables : TablesContent) (given : List Page) → IsRolling log tables given old before → RolledBackInBrief log tables given after new.appended.items
+
+-- why the one cannot be done, and why all cannot
+abbrev pub StopsUndo : LogContent → ℕ → Loser → Rollback → List Page → Fault → Type 0
+StopsUndo log update_lsn l r pages e =
+    (tables : TablesContent) (given : List Page) → IsTaken log tables given update_lsn l r pages → UndoFault (history log) (losers_in tables) (length given) e
+
+abbrev pub StopsRollback : LogContent → Rollback → List Page → Fault → Type 0
+StopsRollback log r pages e =
+    (tables : TablesContent) (given : List Page) → IsRolling log tables given r pages → UndoFault (history log) (losers_in tables) (length given) e

@@ -4,17 +4,20 @@ use Rattle.std.specs.List.{range_with_len}
 use Rattle.page.specs.Image.{Image}
 use Rattle.page.specs.declared.page.Page.{Page}
 use Rattle.page.specs.declared.fault.Fault.{Fault}
+use Rattle.page.specs.Store.{StoreContent}
 use Rattle.page.specs.Causes.{HasOneCause, HasNoCause}
 use Rattle.page.specs.declared.fault.Fault.TheVariants.{NoResource, NoSuchPage, BrokenChain}
-use Rattle.wal.specs.Records.{TableEntry, UpdateRecord, LogRecord, Update, History, last_lsn, record_at, ◌▸▸◌}
-use Rattle.wal.specs.Meaning.{Cells, effects}
+use Rattle.wal.specs.Records.{TableEntry, UpdateRecord, LogRecord, LogContent, Update, History, history, last_lsn, record_at, ◌▸▸◌}
+use Rattle.wal.specs.Meaning.{BasePages, Cells, effects}
 use Rattle.wal.specs.Tail.{is_among}
 use Rattle.wal.specs.Redo.{held_by, last_where}
-use Rattle.wal.specs.Undo.{entry_for, walk_of}
+use Rattle.wal.specs.Store.{NamesPages, Lawful}
+use Rattle.wal.specs.Undo.{entry_for, walk_of, undone_by}
 use Rattle.wal.specs.declared.record.Record.{Record}
 use Rattle.wal.specs.Spelling.{Fits}
 use Rattle.wal.specs.Content.{content}
-use Rattle.analysis.specs.Tables.{TablesContent, losers_in}
+use Rattle.tables.specs.Tables.{TablesContent, losers_in}
+use Rattle.tables.specs.Lawful.{AreTrue}
 
 -- no hop of a loser is bad: each walk comes to 0
 abbrev pub NoBadHop : History → List TableEntry → Type 0
@@ -45,6 +48,23 @@ pub record IsMet (log : History) (losers : List TableEntry) (lsn : ℕ) (update 
 -- each update met at this LSN or behind it is on a page below the count
 abbrev pub MetExist : History → List TableEntry → (count from : ℕ) → Type 0
 MetExist log losers count from = (lsn : ℕ) (update : UpdateRecord) → from ≤ lsn → IsMet log losers lsn update → update.page < count
+
+-- ROLLED BACK. The losers of the tables are undone on these pages: behind the log come the CLRs of their updates, the newest first,
+-- and their ends; the pages have the effects of these. No hop by UndoNxtLSN and PrevLSN is bad, and no page is missing.
+pub record RolledBack (log : LogContent) (tables : TablesContent) (given pages : List Page) (appended : List LogRecord) : Type 0 where
+  pub appended_are : appended ≡ undone_by (history log) (losers_in tables)
+  pub pages_are : pages ≡ map (undone_page (history log) appended) given
+  pub no_bad_hop : NoBadHop (history log) (losers_in tables)
+  pub met_exist : MetExist (history log) (losers_in tables) (length given) 0
+  pub exist : All (NamesPages (length given)) appended
+
+-- AFTER A CRASH. A lawful log and its store, over base pages, and true tables; there are as many pages as in the store (own).
+pub record IsLawfulCrash (log : LogContent) (tables : TablesContent) (pages : List Page) : Type 0 where
+  pub base : BasePages
+  pub store : StoreContent
+  pub lawful : Lawful base log store
+  pub are_true : AreTrue log store tables
+  pub as_many : length pages ≡ length store.pages
 
 -- the walk of t ends at a bad hop
 abbrev pub EndsBadly : History → List TableEntry → ℕ → Type 0

@@ -4,8 +4,7 @@ ghost use Rattle.std.specs.Prelude.{◌≡◌, map, IfOk, IsOkUnless};
 ghost use Rattle.page.specs.declared.fault.Fault.TheVariants.{NoResource};
 ghost use Rattle.wal.specs.Records.{history, record_at};
 ghost use Rattle.wal.specs.Content.{content};
-ghost use Rattle.undo.specs.Rollback.{IsUpdate};
-ghost use Rattle.undo.specs.Appended.{clr_of, record_of, records_of, IsTold, AreTold};
+ghost use Rattle.undo.specs.Appended.{IsUpdate, HasUpdate, HaveUpdates, clr_of, record_of, records_of};
 
 use page::Fault;
 use std::alloc::Global;
@@ -52,7 +51,7 @@ fn clr_of(log: &Log, update_lsn: u64, last: u64) -> Record
 
 /// The record that is told, with what it holds.
 pub fn record_of(log: &Log, appended: Appended) -> Record
-    requires { IsTold (history log.now) appended }
+    requires { HasUpdate log.now appended }
     ensures { content result ≡ record_of (history log.now) appended }
 {
     match appended {
@@ -64,7 +63,7 @@ pub fn record_of(log: &Log, appended: Appended) -> Record
 /// The records that are told, with what they hold. The only error is [`Fault::NoResource`], where
 /// memory was refused.
 pub fn records_of(alloc: Global, log: &Log, appended: &[Appended]) -> Result<Vec<Record>, Fault>
-    requires { AreTold (history log.now) appended.now }
+    requires { HaveUpdates log.now appended.now }
     ensures ok { IfOk result (λ x. map content x.items
         ≡ records_of (history log.now) appended.now) }
     ensures err { IsOkUnless result NoResource }

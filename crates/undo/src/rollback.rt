@@ -1,29 +1,21 @@
 //! The undo pass: the updates of all losers are undone, the newest first.
 
-ghost use Rattle.std.specs.Prelude.{◌≡◌, ◌≤◌, ◌<◌, ◌+◌, ◌*◌, ◌^◌, List, All, Some, length, map, OnOk, IfOk, IfErr, MatchResult, vec_len};
-ghost use Rattle.std.specs.Ordering.{nat_cmp};
-ghost use Rattle.std.specs.BTreeMap.{get};
-ghost use Rattle.page.specs.declared.page.Page.{Page};
+ghost use Rattle.std.specs.Prelude.{◌≡◌, ◌≤◌, ◌<◌, ◌+◌, ◌*◌, ◌^◌, length, map, OnOk, IfOk, IfErr, IsOkUnless, vec_len};
 ghost use Rattle.page.specs.declared.fault.Fault.TheVariants.{NoResource};
-ghost use Rattle.page.specs.Store.{StoreContent, AreNumbered};
-ghost use Rattle.wal.specs.Records.{TableEntry, UpdateRecord, Update, history, record_at, last_lsn};
-ghost use Rattle.wal.specs.Meaning.{BasePages};
+ghost use Rattle.page.specs.Store.{AreNumbered};
+ghost use Rattle.wal.specs.Records.{UpdateRecord, Update, history, record_at, last_lsn};
 ghost use Rattle.wal.specs.Content.{content};
 ghost use Rattle.wal.specs.Tail.{tail_of};
-ghost use Rattle.wal.specs.Undo.{undone_by};
-ghost use Rattle.wal.specs.Store.{NamesPages, Lawful};
-ghost use Rattle.analysis.specs.Lawful.{AreTrue};
-ghost use Rattle.analysis.specs.Tables.{losers_in};
-ghost use Rattle.undo.specs.Appended.{records_of, AreTold, AreFit};
-ghost use Rattle.undo.specs.Undone.{NoBadHop, undone_page, MetExist, UndoFault, HasNoTransaction0, AreWritable};
-ghost use Rattle.undo.specs.Rollback.{Waiting, IsUpdate, IsUpdateAt, Compensated, CompensationFault, Taken, AreBelow, AreUpdates, RollbackInvariant};
+ghost use Rattle.tables.specs.Tables.{losers_in};
+ghost use Rattle.undo.specs.Undone.{RolledBack, IsLawfulCrash, UndoFault, HasNoTransaction0, AreWritable};
+ghost use Rattle.undo.specs.Appended.{IsUpdate, HaveUpdates, AreFit, TellTail, RolledBackInBrief};
+ghost use Rattle.undo.specs.Rollback.{loser_at, IsUpdateAt, Undoes, KeepsUndone, CompensationFault, AreBelow, AreUpdates, UndoesNewest, UndoesAll, StopsUndo, StopsRollback};
 
 use crate::appended::{Appended, records_of};
-use crate::losers::{Loser, begin, resolve, take_newest};
-use analysis::Tables;
+use crate::losers::{Loser, Rollback};
 use page::{Fault, Page};
 use std::alloc::Global;
-use std::collections::BTreeMap;
+use tables::Tables;
 use wal::{Log, Record, RecordView, value_of};
 
 /// Undoes the update at an LSN: appends its CLR, which has this LSN, and puts the before image
@@ -39,20 +31,14 @@ fn compensate(
 ) -> Result<u64, Fault>
     requires update { IsUpdate (record_at (history log.now) update_lsn) }
     requires lsn { lsn ≡ last_lsn (history log.now) + vec_len appended.old + 1 }
-    ensures ok { IfOk result (λ prev. (u : UpdateRecord)
-        → record_at (history log.now) update_lsn ≡ Some (Update u)
-        → Compensated u last (length pages.old) prev
-        (records_of (history log.now) appended.old.items)
-        (records_of (history log.now) appended.new.items)) }
-    ensures pages { OnOk result ((given : List Page) → AreNumbered given
-        → pages.old
-        ≡ map (undone_page (history log.now) (records_of (history log.now) appended.old.items)) given
-        → pages.new
-        ≡ map (undone_page (history log.now) (records_of (history log.now) appended.new.items)) given) }
-    ensures told { OnOk result (AreTold (history log.now) appended.old.items
-        → AreTold (history log.now) appended.new.items) }
-    ensures writable { OnOk result (AreFit (history log.now) appended.old.items
-        → AreFit (history log.now) appended.new.items) }
+    ensures ok { IfOk result
+        (Undoes log.now update_lsn last pages.old appended.old.items appended.new.items) }
+    ensures pages { OnOk result
+        (KeepsUndone log.now appended.old.items pages.old appended.new.items pages.new) }
+    ensures updates { OnOk result
+        (HaveUpdates log.now appended.old.items → HaveUpdates log.now appended.new.items) }
+    ensures writable { OnOk result
+        (AreFit log.now appended.old.items → AreFit log.now appended.new.items) }
     ensures counted { (u : UpdateRecord) → record_at (history log.now) update_lsn ≡ Some (Update u)
         → 0 < u.tx }
     ensures fault { IfErr result
@@ -81,99 +67,49 @@ fn compensate(
     Ok(prev)
 }
 
-/// Undoes the newest update, at which this loser waited, and resolves the loser again.
-fn undo_at(
-    log: &Log,
-    update_lsn: u64,
-    loser: Loser,
-    waiting: &mut BTreeMap<u64, Loser>,
-    appended: &mut Vec<Appended>,
-    pages: &mut [Page],
-) -> Result<(), Fault>
-    requires update { IsUpdateAt (history log.now) loser.tx update_lsn }
-    requires room { vec_len appended.old ≤ 2 * length log.now.records + 2 ^ 32 }
-    ensures rolls { OnOk result ((losers : List TableEntry) (at : Waiting)
-        → Taken update_lsn loser at (get nat_cmp waiting.old)
-        → RollbackInvariant (history log.now) losers (length pages.old) at
-        (records_of (history log.now) appended.old.items)
-        → RollbackInvariant (history log.now) losers (length pages.old) (get nat_cmp waiting.new)
-        (records_of (history log.now) appended.new.items)) }
-    ensures updates { OnOk result (AreUpdates (history log.now) (get nat_cmp waiting.old)
-        → AreUpdates (history log.now) (get nat_cmp waiting.new)) }
-    ensures falls { OnOk result (AreBelow update_lsn (get nat_cmp waiting.old)
-        → AreBelow update_lsn (get nat_cmp waiting.new)) }
-    ensures few { OnOk result (length appended.new.items ≤ length appended.old.items + 2) }
-    ensures exist { OnOk result (All (NamesPages (length pages.old))
-        (records_of (history log.now) appended.old.items)
-        → All (NamesPages (length pages.old)) (records_of (history log.now) appended.new.items)) }
-    ensures pages { OnOk result ((given : List Page) → AreNumbered given
-        → pages.old
-        ≡ map (undone_page (history log.now) (records_of (history log.now) appended.old.items)) given
-        → pages.new
-        ≡ map (undone_page (history log.now) (records_of (history log.now) appended.new.items)) given) }
-    ensures told { OnOk result (AreTold (history log.now) appended.old.items
-        → AreTold (history log.now) appended.new.items) }
-    ensures writable { OnOk result (AreFit (history log.now) appended.old.items
-        → AreFit (history log.now) appended.new.items) }
-    ensures fault { IfErr result (λ e. (losers : List TableEntry) (at : Waiting)
-        → Taken update_lsn loser at (get nat_cmp waiting.old)
-        → RollbackInvariant (history log.now) losers (length pages.old) at
-        (records_of (history log.now) appended.old.items)
-        → UndoFault (history log.now) losers (length pages.old) e) }
-{
-    let lsn = log.next_lsn() + appended.len() as u64;
-    let prev = compensate(log, update_lsn, loser.last, lsn, appended, pages)?;
-    let rest = Loser {
-        tx: loser.tx,
-        last: lsn,
-    };
-    resolve(log, rest, update_lsn, prev, waiting, appended)
-}
-
-/// Undoes all that is left, the newest update first.
-fn undo_all(
-    log: &Log,
-    waiting: &mut BTreeMap<u64, Loser>,
-    appended: &mut Vec<Appended>,
-    pages: &mut [Page],
-) -> Result<(), Fault>
-    requires updates { AreUpdates (history log.now) (get nat_cmp waiting.old) }
-    requires room { vec_len appended.old ≤ 2 ^ 32 }
-    ensures appended { OnOk result ((losers : List TableEntry)
-        → RollbackInvariant (history log.now) losers (length pages.old) (get nat_cmp waiting.old)
-        (records_of (history log.now) appended.old.items)
-        → records_of (history log.now) appended.new.items ≡ undone_by (history log.now) losers) }
-    ensures ends { OnOk result ((losers : List TableEntry)
-        → RollbackInvariant (history log.now) losers (length pages.old) (get nat_cmp waiting.old)
-        (records_of (history log.now) appended.old.items)
-        → NoBadHop (history log.now) losers) }
-    ensures met { OnOk result ((losers : List TableEntry)
-        → RollbackInvariant (history log.now) losers (length pages.old) (get nat_cmp waiting.old)
-        (records_of (history log.now) appended.old.items)
-        → MetExist (history log.now) losers (length pages.old) 0) }
-    ensures few { OnOk result
-        (length appended.new.items ≤ length appended.old.items + 2 * length log.now.records) }
-    ensures exist { OnOk result (All (NamesPages (length pages.old))
-        (records_of (history log.now) appended.old.items)
-        → All (NamesPages (length pages.old)) (records_of (history log.now) appended.new.items)) }
-    ensures pages { OnOk result ((given : List Page) → AreNumbered given
-        → pages.old
-        ≡ map (undone_page (history log.now) (records_of (history log.now) appended.old.items)) given
-        → pages.new
-        ≡ map (undone_page (history log.now) (records_of (history log.now) appended.new.items)) given) }
-    ensures told { OnOk result (AreTold (history log.now) appended.old.items
-        → AreTold (history log.now) appended.new.items) }
-    ensures writable { OnOk result (AreFit (history log.now) appended.old.items
-        → AreFit (history log.now) appended.new.items) }
-    ensures fault { IfErr result (λ e. (losers : List TableEntry)
-        → RollbackInvariant (history log.now) losers (length pages.old) (get nat_cmp waiting.old)
-        (records_of (history log.now) appended.old.items)
-        → UndoFault (history log.now) losers (length pages.old) e) }
-{
-    while let Some((update_lsn, loser)) = take_newest(waiting) {
-        undo_at(log, update_lsn, loser, waiting, appended, pages)?;
+impl Rollback {
+    /// Undoes the newest update, at which this loser waited, and resolves the loser again.
+    fn undo_at(
+        &mut self,
+        log: &Log,
+        update_lsn: u64,
+        loser: Loser,
+        pages: &mut [Page],
+    ) -> Result<(), Fault>
+        requires update { IsUpdateAt (history log.now) loser.tx update_lsn }
+        requires room { vec_len self.old.appended ≤ 2 * length log.now.records + 2 ^ 32 }
+        ensures undoes { OnOk result
+            (UndoesNewest log.now update_lsn loser self.old pages.old self.new pages.new) }
+        ensures updates { OnOk result (AreUpdates log.now self.old → AreUpdates log.now self.new) }
+        ensures falls { OnOk result (AreBelow update_lsn (loser_at self.old)
+            → AreBelow update_lsn (loser_at self.new)) }
+        ensures few { OnOk result
+            (length self.new.appended.items ≤ length self.old.appended.items + 2) }
+        ensures fault { IfErr result (StopsUndo log.now update_lsn loser self.old pages.old) }
+    {
+        let lsn = log.next_lsn() + self.appended.len() as u64;
+        let prev = compensate(log, update_lsn, loser.last, lsn, &mut self.appended, pages)?;
+        let rest = Loser {
+            tx: loser.tx,
+            last: lsn,
+        };
+        self.resolve(log, rest, update_lsn, prev)
     }
-    Ok(())
+
+    /// Undoes all that is left, the newest update first.
+    fn undo_all(&mut self, log: &Log, pages: &mut [Page]) -> Result<(), Fault>
+        requires updates { AreUpdates log.now self.old }
+        requires room { vec_len self.old.appended ≤ 2 ^ 32 }
+        ensures undoes { OnOk result (UndoesAll log.now self.old pages.old self.new pages.new) }
+        ensures few { OnOk result (length self.new.appended.items
+            ≤ length self.old.appended.items + 2 * length log.now.records) }
+        ensures fault { IfErr result (StopsRollback log.now self.old pages.old) }
+    {
+        while let Some((update_lsn, loser)) = self.take_newest() {
+            self.undo_at(log, update_lsn, loser, pages)?;
+        }
+        Ok(())
+    }
 }
 
 /// [`undo`] with the appended records told in brief, which takes 24 bytes for each: what else they
@@ -185,42 +121,28 @@ pub fn undo_in_brief(
     mut pages: Vec<Page>,
 ) -> Result<(Vec<Page>, Vec<Appended>), Fault>
     requires { AreNumbered pages.items }
-    // What is appended: the rollback of the losers, each by the updates that its hops meet.
-    ensures appended { IfOk result (λ x. records_of (history log.now) x.1.items
-        ≡ undone_by (history log.now) (losers_in tables.now)) }
-    ensures pages { IfOk result (λ x. x.0.items
-        ≡ map (undone_page (history log.now) (records_of (history log.now) x.1.items)) pages.items) }
-
-    // Each update that is named stands in the log.
-    ensures told { IfOk result (λ x. AreTold (history log.now) x.1.items) }
+    // The losers are rolled back on the pages. Each update that is named stands in the log, and each
+    // appended record has a spelling, where no loser has the number 0.
+    ensures rolled_back { IfOk result
+        (λ x. RolledBackInBrief log.now tables.now pages.items x.0.items x.1.items) }
 
     // For each record of the log at most two are appended, and for each loser one; losers have numbers of 32 bits.
     ensures few { IfOk result (λ x. length x.1.items ≤ 2 * length log.now.records + length
         (losers_in tables.now)) }
     ensures numbers { OnOk result (length (losers_in tables.now) ≤ 2 ^ 32) }
 
-    // Each appended record has a spelling, where no loser has the number 0.
-    ensures writable { IfOk result (λ x. HasNoTransaction0 tables.now
-        → AreFit (history log.now) x.1.items) }
-
-    // An answer means that no hop is bad and no page is missing, a refusal the contrary, and which comes first, memory aside.
-    ensures ends { OnOk result (NoBadHop (history log.now) (losers_in tables.now)) }
-    ensures met { OnOk result (MetExist (history log.now) (losers_in tables.now)
-        (length pages.items) 0) }
-    ensures exist { IfOk result (λ x. All (NamesPages (length pages.items))
-        (records_of (history log.now) x.1.items)) }
+    // A refusal has its cause: a bad hop or a missing page, whichever comes first, memory aside.
     ensures fault { IfErr result (UndoFault (history log.now) (losers_in tables.now)
         (length pages.items)) }
 
     // On a lawful log and its store, with true tables: the log's tail, unless memory runs out.
-    ensures lawful { (base : BasePages) (store : StoreContent) → Lawful base log.now store
-        → AreTrue log.now store tables.now → length pages.items ≡ length store.pages
-        → MatchResult result (λ x. records_of (history log.now) x.1.items ≡ tail_of log.now)
-        (λ e. e ≡ NoResource) }
+    ensures tail { IsLawfulCrash log.now tables.now pages.items
+        → IfOk result (λ x. TellTail log.now x.1.items) }
+    ensures lawful { IsLawfulCrash log.now tables.now pages.items → IsOkUnless result NoResource }
 {
-    let (mut waiting, mut appended) = begin(alloc, log, tables)?;
-    undo_all(log, &mut waiting, &mut appended, &mut pages)?;
-    Ok((pages, appended))
+    let mut rollback = Rollback::of_losers(alloc, log, tables)?;
+    rollback.undo_all(log, &mut pages)?;
+    Ok((pages, rollback.appended))
 }
 
 /// Undoes the losers, which are the entries of the transaction table (ARIES, section 6.3). Gives
@@ -249,33 +171,24 @@ pub fn undo(
     pages: Vec<Page>,
 ) -> Result<(Vec<Page>, Vec<Record>), Fault>
     requires { AreNumbered pages.items }
-    // What is appended: the rollback of the losers, each by the updates that its hops meet.
-    ensures appended { IfOk result (λ x. map content x.1.items
-        ≡ undone_by (history log.now) (losers_in tables.now)) }
-    ensures pages { IfOk result (λ x. x.0.items
-        ≡ map (undone_page (history log.now) (map content x.1.items)) pages.items) }
+    // The losers are rolled back on the pages; each appended record has a spelling, where no loser has the number 0.
+    ensures rolled_back { IfOk result
+        (λ x. RolledBack log.now tables.now pages.items x.0.items (map content x.1.items)) }
+    ensures writable { IfOk result (λ x. HasNoTransaction0 tables.now → AreWritable x.1.items) }
 
     // For each record of the log at most two are appended, and for each loser one; losers have numbers of 32 bits.
     ensures few { IfOk result (λ x. length x.1.items ≤ 2 * length log.now.records + length
         (losers_in tables.now)) }
     ensures numbers { OnOk result (length (losers_in tables.now) ≤ 2 ^ 32) }
 
-    // Each appended record has a spelling, where no loser has the number 0.
-    ensures writable { IfOk result (λ x. HasNoTransaction0 tables.now → AreWritable x.1.items) }
-
-    // An answer means that no hop is bad and no page is missing, a refusal the contrary, and which comes first, memory aside.
-    ensures ends { OnOk result (NoBadHop (history log.now) (losers_in tables.now)) }
-    ensures met { OnOk result (MetExist (history log.now) (losers_in tables.now)
-        (length pages.items) 0) }
-    ensures exist { IfOk result (λ x. All (NamesPages (length pages.items))
-        (map content x.1.items)) }
+    // A refusal has its cause: a bad hop or a missing page, whichever comes first, memory aside.
     ensures fault { IfErr result (UndoFault (history log.now) (losers_in tables.now)
         (length pages.items)) }
 
     // On a lawful log and its store, with true tables: the log's tail, unless memory runs out.
-    ensures lawful { (base : BasePages) (store : StoreContent) → Lawful base log.now store
-        → AreTrue log.now store tables.now → length pages.items ≡ length store.pages
-        → MatchResult result (λ x. map content x.1.items ≡ tail_of log.now) (λ e. e ≡ NoResource) }
+    ensures tail { IsLawfulCrash log.now tables.now pages.items
+        → IfOk result (λ x. map content x.1.items ≡ tail_of log.now) }
+    ensures lawful { IsLawfulCrash log.now tables.now pages.items → IsOkUnless result NoResource }
 {
     let (pages, appended) = undo_in_brief(alloc, log, tables, pages)?;
     let records = records_of(alloc, log, &appended)?;

@@ -1,8 +1,8 @@
 //! The walk of a transaction through the log, by which it is undone.
 
-ghost use Rattle.std.specs.Prelude.{◌≡◌, ◌≤◌, ◌<◌, ◌+◌, length, MatchOption, IfOk, IfErr};
+ghost use Rattle.std.specs.Prelude.{◌≡◌, ◌≤◌, ◌<◌, ◌+◌, length, IfOk, IfErr};
 ghost use Rattle.wal.specs.Records.{history, record_at, last_lsn};
-ghost use Rattle.undo.specs.Rollback.{hop_of, walk_from, Meets, MeetsNothing, WalkFault};
+ghost use Rattle.undo.specs.Rollback.{hop_of, walk_from, FirstMet, WalkFault};
 
 use page::Fault;
 use wal::{Log, RecordView};
@@ -28,7 +28,12 @@ fn hop_at(log: &Log, tx: u32, lsn: u64) -> Option<Hop>
             undo_next,
             ..
         } => (owner == tx).then_some(Hop::On(undo_next)),
-        _ => None,
+        RecordView::Commit { .. }
+        | RecordView::Abort { .. }
+        | RecordView::End { .. }
+        | RecordView::Prepare { .. }
+        | RecordView::CheckpointBegin
+        | RecordView::CheckpointEnd { .. } => None,
     }
 }
 
@@ -40,9 +45,7 @@ fn hop_at(log: &Log, tx: u32, lsn: u64) -> Option<Hop>
 pub fn next_update(log: &Log, tx: u32, from: u64, lsn: u64) -> Result<Option<u64>, Fault>
     requires positive { 0 < from }
     requires within { from ≤ last_lsn (history log.now) + 1 }
-    ensures found { IfOk result (λ next. MatchOption next
-        (MeetsNothing (history log.now) tx from lsn)
-        (λ update_lsn. Meets (history log.now) tx from lsn update_lsn)) }
+    ensures found { IfOk result (FirstMet (history log.now) tx from lsn) }
     ensures fault { IfErr result (WalkFault (walk_from (history log.now) tx from lsn)) }
 {
     let mut above = from;

@@ -5,7 +5,7 @@ use Rattle.std.proofs.lemmas.List.{append-nil, nil_from_length}
 use Rattle.std.proofs.lemmas.Option.{same_Some}
 use Rattle.wal.specs.Records.{tx_in, page_in, UpdateRecord, CompensationRecord, PlainRecord, LogRecord, Update, Compensation, Commit, Abort, End, Prepare, CheckpointBegin, CheckpointEnd}
 use Rattle.wal.specs.Spelling.{image, plain, update, compensation, checkpoint, table, entry, dirty_page, kind_of, fields, body, FitsPlain, FitsTable, FitsEntry, FitsDirty, Fits}
-use Rattle.wal.specs.Reading.{◌>>=◌, number_at, slot_at, image_at, plain_at, update_at, compensation_at, commit_at, abort_at, end_at, prepare_at, transactions_at, dirties_at, checkpoint_at, fields_at, body_at}
+use Rattle.wal.specs.Reading.{◌>>=◌, number_at, slot_at, image_at, plain_at, update_at, compensation_at, plain_record_at, transactions_at, dirties_at, checkpoint_at, fields_at, body_at}
 use Rattle.wal.proofs.Loop.{chosen}
 use Rattle.page.proofs.BigEndian.{AreBytes}
 use Rattle.wal.proofs.Fields.{AreBytes-rest, bind_some, guard_ended, Takes, Takes-then, first_of_all, field32, field64, slot_field, image_field, plain_field}
@@ -69,7 +69,7 @@ checkpoint_takes bytes x fits e =
 
 -- what is read by a kind has this kind
 pub fields_take : (kind : ℕ) (bytes : List ℕ) (x : LogRecord × List ℕ) → AreBytes bytes → fields_at kind bytes ≡ Some x → Read kind bytes x
-unfolding fields_at commit_at abort_at end_at prepare_at
+unfolding fields_at plain_record_at
 fields_take kind bytes x fits e =
     elim (chosen (eqb kind 1) _ _ _ e) [
       | inl p ↦ subst (λ k. Read k bytes x) (sym (eqb-true kind 1 p.0)) (update_takes bytes x fits p.1)
@@ -105,7 +105,7 @@ fields_take kind bytes x fits e =
     ]
 
 pub fields_again : (r : LogRecord) (rest : List ℕ) → Fits r → fields_at (kind_of r) (fields r ++ rest) ≡ Some (r, rest)
-unfolding fields_at update_at compensation_at commit_at abort_at end_at prepare_at checkpoint_at
+unfolding fields_at update_at compensation_at plain_record_at checkpoint_at
 fields_again (Update u) rest fits =
     let before = image u.before in
     let after = image u.after in

@@ -1,13 +1,14 @@
 -- A record that is read is seen at a glance.
-use Rattle.std.proofs.Common.{◌≡◌, ℕ, Bool, true, false, cond, eqb, eqb-true, List, [], ◌∷◌, length, Option, Some, None, refl, sym, ap, ◌∙◌}
+use Rattle.std.proofs.Common.{◌≡◌, ℕ, Bool, true, false, cond, eqb, eqb-true, List, [], ◌∷◌, length, Option, Some, None, refl, sym, ap, ◌∙◌, rules}
 use Rattle.std.specs.Prelude.{option_map, is_some}
 use Rattle.std.specs.Int.{w32, w64}
 use Rattle.std.proofs.lemmas.Option.{same_Some}
 use Rattle.wal.specs.declared.glance.Glance.{Glance}
 use Rattle.wal.specs.declared.glance.Glance.TheVariants as seen
 use Rattle.wal.specs.Records.{PlainRecord, LogRecord, Commit, Abort, End, Prepare, CheckpointBegin}
-use Rattle.wal.specs.Reading.{◌>>=◌, number_at, slot_at, image_at, plain_at, transactions_at, dirties_at, update_at, compensation_at, commit_at, abort_at, end_at, prepare_at, checkpoint_at, fields_at, body_at}
-use Rattle.wal.specs.Glances.{glance_of, update_glance, compensation_glance, commit_glance, abort_glance, end_glance, prepare_glance, fields_glance, body_glance}
+use Rattle.wal.specs.Reading.{◌>>=◌, number_at, slot_at, image_at, plain_at, transactions_at, dirties_at, update_at, compensation_at, plain_record_at, checkpoint_at, fields_at, body_at}
+use Rattle.wal.specs.Frames.{IsBody}
+use Rattle.wal.specs.Glances.{glance_of, update_glance, compensation_glance, plain_glance, fields_glance, body_glance}
 use Rattle.wal.proofs.Fields.{bind_some, guard_ended}
 
 -- what comes after a step that gave something
@@ -59,7 +60,7 @@ either true p q s t x y f g e = f e
 either false p q s t x y f g e = g e
 
 fields_seen : (kind : ℕ) (bytes : List ℕ) (x : LogRecord × List ℕ) → fields_at kind bytes ≡ Some x → fields_glance kind bytes ≡ Some (glance_of x.0)
-unfolding fields_at fields_glance commit_at abort_at end_at prepare_at commit_glance abort_glance end_glance prepare_glance
+unfolding fields_at fields_glance plain_record_at plain_glance
 fields_seen kind bytes x e =
     either (eqb kind 1) _ _ _ _ x (glance_of x.0) (update_seen bytes x)
     (either (eqb kind 2) _ _ _ _ x (glance_of x.0) (compensation_seen bytes x)
@@ -72,8 +73,8 @@ fields_seen kind bytes x e =
     only : eqb kind 8 ≡ true → (eqb kind 6 ≡ false) × (eqb kind 7 ≡ false)
     only is = rw (eqb-true kind 8 is) (refl, refl)
 
-    others : (b c d : Bool) → (d ≡ true → (b ≡ false) × (c ≡ false)) → cond b (Some (CheckpointBegin, bytes)) (cond c (checkpoint_at bytes) (cond d (prepare_at bytes) None)) ≡ Some x
-        → cond d (prepare_glance bytes) (Some seen.Checkpoint) ≡ Some (glance_of x.0)
+    others : (b c d : Bool) → (d ≡ true → (b ≡ false) × (c ≡ false)) → cond b (Some (CheckpointBegin, bytes)) (cond c (checkpoint_at bytes) (cond d (plain_record_at Prepare bytes) None)) ≡ Some x
+        → cond d (plain_glance seen.Prepare bytes) (Some seen.Checkpoint) ≡ Some (glance_of x.0)
     others true c false alone e = ap (λ (y : LogRecord × List ℕ). Some (glance_of y.0)) (same_Some _ x e)
     others true c true alone e = absurd (let not = (alone refl).0 in cc)
     others false true false alone e = checkpoint_seen bytes x e
@@ -90,12 +91,18 @@ body_seen (kind ∷ bytes) x e =
     let g = guard_ended (eqb (length b.0.1) 0) (b.0.0, a.0.0) x b.2 in
     rw a.1 (fields_seen kind a.0.1 b.0 b.1 ∙ ap (λ (y : LogRecord × ℕ). Some (glance_of y.0)) g.1)
 
-pub glance_is : (bytes : List ℕ) → is_some (body_at bytes) ≡ true → body_glance bytes ≡ option_map (λ x. glance_of x.0) (body_at bytes)
-glance_is bytes some = by (body_at bytes) refl
+some_glance : (bytes : List ℕ) → is_some (body_at bytes) ≡ true → body_glance bytes ≡ option_map glance_of (option_map (λ x. x.0) (body_at bytes))
+some_glance bytes some = by (body_at bytes) refl
   where
-    by : (o : Option (LogRecord × ℕ)) → body_at bytes ≡ o → body_glance bytes ≡ option_map (λ x. glance_of x.0) (body_at bytes)
+    by : (o : Option (LogRecord × ℕ)) → body_at bytes ≡ o → body_glance bytes ≡ option_map glance_of (option_map (λ x. x.0) (body_at bytes))
     by None is = absurd (none (sym (ap is_some is) ∙ some))
       where
         none : false ≡ true → ⊥
         none e = cc
-    by (Some x) is = body_seen bytes x is ∙ sym (ap (option_map (λ (y : LogRecord × ℕ). glance_of y.0)) is)
+    by (Some x) is = body_seen bytes x is ∙ sym (ap (λ o. option_map glance_of (option_map (λ (y : LogRecord × ℕ). y.0) o)) is)
+
+-- a body at a glance is its record at a glance
+pub glance_is : (bytes : List ℕ) → IsBody bytes → body_glance bytes ≡ option_map glance_of (option_map (λ x. x.0) (body_at bytes))
+unfolding body_at body_glance
+glance_is [] is = refl
+glance_is (kind ∷ bytes) is = some_glance (kind ∷ bytes) (is.spelled (search rules))

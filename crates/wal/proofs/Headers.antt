@@ -21,9 +21,14 @@ pub start_small : (begins : LogStart) → FitsStart begins → lsn_before begins
 start_small Version1 h = omega arith
 start_small (Version2 base) h = omega (arith, h)
 
-header_length : (begins : LogStart) → length (header_of begins) ≡ header_bytes begins
+pub header_length : (begins : LogStart) → length (header_of begins) ≡ header_bytes begins
 header_length Version1 = refl
 header_length (Version2 base) = refl
+
+-- it has 8 bytes at least
+pub at_least : (begins : LogStart) → 8 ≤ header_bytes begins
+at_least Version1 = omega arith
+at_least (Version2 base) = omega arith
 
 -- what stands behind the header
 pub header_dropped : (begins : LogStart) (rest : List ℕ) → drop (header_bytes begins) (header_of begins ++ rest) ≡ rest

@@ -6,11 +6,11 @@ use Rattle.page.specs.declared.sizes.TheConstants.{VALUE_BYTES}
 use Rattle.wal.specs.Records.{LogRecord, Update, Compensation}
 use Rattle.wal.specs.Meaning.{image_of, image_in}
 use Rattle.wal.specs.Spelling.{Fits}
-use Rattle.wal.specs.Reading.{commit_at, abort_at, end_at, prepare_at, checkpoint_at, fields_at}
+use Rattle.wal.specs.Reading.{plain_record_at, checkpoint_at, fields_at}
 
 -- a record of another kind than an update and a CLR puts none
 pub others_put : (kind : ℕ) (bytes : List ℕ) → eqb kind 1 ≡ false → eqb kind 2 ≡ false → image_in (option_map (λ x. x.0) (fields_at kind bytes)) ≡ None
-unfolding fields_at commit_at abort_at end_at prepare_at checkpoint_at
+unfolding fields_at plain_record_at checkpoint_at
 others_put kind bytes no_update no_compensation = search rules
 
 -- an image that is put fits a slot

@@ -13,6 +13,7 @@ pub mod Glances
 pub mod Images
 pub mod Whole
 pub mod Causes
+pub mod Fronts
 pub mod Keeping
 pub mod Stacks
 pub mod Walks

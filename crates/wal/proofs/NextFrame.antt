@@ -1,32 +1,11 @@
 -- The frame in front, by its size alone.
-use Rattle.std.proofs.Common.{◌≡◌, ◌≢◌, ℕ, List, Option, Some, None, Result, Ok, Err, refl, ap, ◌∙◌, eq-eqb, ne_eqb}
-use Rattle.std.specs.Prelude.{option_map}
+use Rattle.std.proofs.Common.{◌≡◌, ◌≢◌, ℕ, List, Option, Some, None, Result, Ok, Err, refl, sym, ap, ◌∙◌, eq-eqb, ne_eqb}
+use Rattle.std.specs.Prelude.{option_map, IfSome}
 use Rattle.page.specs.declared.fault.Fault.{Fault}
 use Rattle.page.specs.declared.fault.Fault.TheVariants.{NoResource, BadRecord, BadLsn}
-use Rattle.wal.specs.Records.{PlainRecord, LogRecord, Commit, Abort, End, Prepare}
-use Rattle.wal.specs.Reading.{plain_at, commit_at, abort_at, end_at, prepare_at, ◌>>=◌}
+use Rattle.wal.specs.Records.{PlainRecord, LogRecord}
+use Rattle.wal.specs.Reading.{plain_at, plain_record_at, ◌>>=◌}
 use Rattle.wal.specs.Frames.{frame_if_right, size_in, Fails}
-
--- A RECORD WITHOUT FIELDS OF ITS OWN ends where transaction and PrevLSN do
-ends : (f : PlainRecord → LogRecord) (o : Option (PlainRecord × List ℕ)) → option_map (λ (x : LogRecord × List ℕ). x.1) (o >>= λ own. Some (f own.0, own.1)) ≡ option_map (λ x. x.1) o
-ends f None = refl
-ends f (Some x) = refl
-
-pub commit_ends : (bytes : List ℕ) → option_map (λ x. x.1) (commit_at bytes) ≡ option_map (λ x. x.1) (plain_at bytes)
-unfolding commit_at
-commit_ends bytes = ends Commit (plain_at bytes)
-
-pub abort_ends : (bytes : List ℕ) → option_map (λ x. x.1) (abort_at bytes) ≡ option_map (λ x. x.1) (plain_at bytes)
-unfolding abort_at
-abort_ends bytes = ends Abort (plain_at bytes)
-
-pub end_ends : (bytes : List ℕ) → option_map (λ x. x.1) (end_at bytes) ≡ option_map (λ x. x.1) (plain_at bytes)
-unfolding end_at
-end_ends bytes = ends End (plain_at bytes)
-
-pub prepare_ends : (bytes : List ℕ) → option_map (λ x. x.1) (prepare_at bytes) ≡ option_map (λ x. x.1) (plain_at bytes)
-unfolding prepare_at
-prepare_ends bytes = ends Prepare (plain_at bytes)
 
 -- A BODY by the LSN that it spells
 pub size_of_none : (lsn offset size : ℕ) (body : Option (LogRecord × ℕ)) → option_map (λ x. x.1) body ≡ None → size_in (frame_if_right lsn offset size body) ≡ Err (BadRecord offset)
@@ -52,7 +31,22 @@ unsized (Err e) h = absurd cc
 unsized (Ok None) h = refl
 unsized (Ok (Some x)) h = absurd cc
 
-pub fails_sized : (next : Result (Option (LogRecord × ℕ)) Fault) (e : Fault) → Fails e (size_in next) → Fails e next
-fails_sized next NoResource h = tt
-fails_sized (Err f) e h = (let same : f ≡ e = cc in ap Err same)
-fails_sized (Ok x) e h = absurd cc
+pub faulty : (next : Result (Option (LogRecord × ℕ)) Fault) (e : Fault) → size_in next ≡ Err e → next ≡ Err e
+faulty (Err f) e h = (let same : f ≡ e = cc in ap Err same)
+faulty (Ok x) e h = absurd cc
+
+pub fails_with : (next : Result (Option (LogRecord × ℕ)) Fault) (e : Fault) → size_in next ≡ Err e → Fails e next
+fails_with next NoResource h = tt
+fails_with next e h = faulty next e h
+
+-- what was not sized is no frame
+pub no_frame_none : (next : Result (Option (LogRecord × ℕ)) Fault) (r : LogRecord) (size : ℕ) → size_in next ≡ Ok None → next ≡ Ok (Some (r, size)) → ⊥
+no_frame_none next r size none e = (let both : ◌≡◌ {A = Result (Option ℕ) Fault} (Ok None) (Ok (Some size)) = sym none ∙ ap size_in e in absurd cc)
+
+pub no_frame_fault : (next : Result (Option (LogRecord × ℕ)) Fault) (r : LogRecord) (size : ℕ) (f : Fault) → size_in next ≡ Err f → next ≡ Ok (Some (r, size)) → ⊥
+no_frame_fault next r size f wrong e = (let both : ◌≡◌ {A = Result (Option ℕ) Fault} (Err f) (Ok (Some size)) = sym wrong ∙ ap size_in e in absurd cc)
+
+-- WHAT A SIZE SAYS
+pub found_size : (B : Type 0) (next : Result (Option (LogRecord × ℕ)) Fault) (found : Option ℕ) → B → size_in next ≡ Ok found → IfSome found (λ size. B × (r : LogRecord) × (next ≡ Ok (Some (r, size))))
+found_size B next None b e = tt
+found_size B next (Some size) b e = (let one = sized next size e in (b, one.0, one.1))

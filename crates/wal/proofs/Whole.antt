@@ -11,12 +11,13 @@ use Rattle.wal.specs.declared.record.State.{State}
 use Rattle.wal.specs.declared.record.State.TheVariants.{Active, Aborting, Prepared}
 use Rattle.wal.specs.Records.{TableEntry, LogRecord, Update, Compensation, CheckpointEnd, lsn_before, LogContent}
 use Rattle.wal.specs.declared.header.LogStart.{LogStart}
-use Rattle.wal.specs.Headers.{header_of, header_bytes, start_at}
+use Rattle.wal.specs.declared.header.LogStart.TheVariants.{Version1, Version2}
+use Rattle.wal.specs.Headers.{header_of, header_bytes, FitsStart, start_at}
 use Rattle.wal.specs.Spelling.{image, state, entry, dirty_page, table, body, frame, Fits}
 use Rattle.wal.specs.Reading.{body_at}
 use Rattle.wal.specs.Frames.{length_of, body_of, frame_at, frame_if_right, next_at, frames_at, frame_then, ◌>>=◌, frames_behind, as_log, log_from, log_at, Gives, Fails}
 use Rattle.wal.specs.Reads.{spellings, IsTorn, Reads, OneReading, IsWhole, HasFault, FaultBehind, HasFaultBehind, Cause}
-use Rattle.wal.proofs.Loop.{chosen, Found, next_is}
+use Rattle.wal.proofs.Loop.{chosen, Found, next_is, with_front, nothing_in_front, fails, ends}
 use Rattle.page.proofs.BigEndian.{AreBytes, AreBytes-take, AreBytes-drop}
 use Rattle.wal.proofs.Fields.{wide32}
 use Rattle.wal.proofs.Bodies.{body_takes, body_again}
@@ -182,20 +183,40 @@ frames_take (suc limit) lsn offset bytes x fits short e =
     let a = bind_ok (next_at lsn offset bytes) (frame_then bytes (λ size. frames_at limit (lsn + 1) (offset + size) (drop size bytes))) x e in
     by_next limit lsn offset bytes x fits short (λ size z le f. frames_take limit (lsn + 1) (offset + size) (drop size bytes) z (AreBytes-drop size bytes fits) le f) a.0 a.1 a.2
 
-pub frames_again : (limit lsn offset : ℕ) (records : List LogRecord) (tail : List ℕ) → length records ≤ limit → AllByRecursion Fits records → lsn + length records ≤ 2 ^ 64 → IsTorn tail
-    → frames_at limit lsn offset (spellings lsn records ++ tail) ≡ Ok (records, length tail)
+one_more : (r : LogRecord) (rs : List LogRecord) (read : Result (List LogRecord × ℕ) Fault) → (with_front rs read >>= λ z. Ok (r ∷ z.0, z.1)) ≡ with_front (r ∷ rs) read
+one_more r rs (Ok x) = refl
+one_more r rs (Err e) = refl
+
+-- where whole frames stand in front, they are read, and what is read behind them
+pub frames_on : (limit lsn offset : ℕ) (records : List LogRecord) (rest : List ℕ) → length records ≤ limit → AllByRecursion Fits records → lsn + length records ≤ 2 ^ 64
+    → frames_at limit lsn offset (spellings lsn records ++ rest) ≡ with_front records (frames_at (limit - length records) (lsn + length records) (offset + length (spellings lsn records)) rest)
 unfolding frames_at
-frames_again zero lsn offset [] tail le each few torn = refl
-frames_again zero lsn offset (r ∷ rs) tail le each few torn = absurd (omega (arith, le))
-frames_again (suc limit) lsn offset [] tail le each few torn = rw (torn_none lsn offset tail torn) refl
-frames_again (suc limit) lsn offset (r ∷ rs) tail le each few torn =
-    let rest = spellings (lsn + 1) rs ++ tail in
+frames_on limit lsn offset [] rest le each few =
+    let a : limit ≡ limit - 0 = omega arith in
+    let b : lsn ≡ lsn + 0 = omega arith in
+    let c : offset ≡ offset + 0 = omega arith in
+    sym (nothing_in_front (frames_at limit lsn offset rest))
+    ∙ ap (λ k. with_front [] (frames_at k lsn offset rest)) a
+    ∙ ap (λ n. with_front [] (frames_at (limit - 0) n offset rest)) b
+    ∙ ap (λ o. with_front [] (frames_at (limit - 0) (lsn + 0) o rest)) c
+frames_on zero lsn offset (r ∷ rs) rest le each few = absurd (omega (arith, le))
+frames_on (suc limit) lsn offset (r ∷ rs) rest le each few =
+    let behind = spellings (lsn + 1) rs ++ rest in
     let size = 4 + length (body r lsn) in
-    let again : frames_at limit (lsn + 1) (offset + size) (drop size (frame r lsn ++ rest)) ≡ Ok (rs, length tail) =
-    ap (frames_at limit (lsn + 1) (offset + size)) (frame_rest r lsn rest) ∙ frames_again limit (lsn + 1) (offset + size) rs tail (omega (arith, le)) each.1 (omega (arith, few)) torn in
-    ap (frames_at (suc limit) lsn offset) (append_assoc (frame r lsn) (spellings (lsn + 1) rs) tail)
-    ∙ ap (λ n. n >>= frame_then (frame r lsn ++ rest) (λ k. frames_at limit (lsn + 1) (offset + k) (drop k (frame r lsn ++ rest)))) (frame_next r lsn offset rest each.0 (omega (arith, few)))
-    ∙ ap (λ n. n >>= λ z. Ok (r ∷ z.0, z.1)) again
+    let last = lsn + 1 + length rs in
+    let end = offset + size + length (spellings (lsn + 1) rs) in
+    let others : frames_at limit (lsn + 1) (offset + size) (drop size (frame r lsn ++ behind)) ≡ with_front rs (frames_at (limit - length rs) last end rest) =
+    ap (frames_at limit (lsn + 1) (offset + size)) (frame_rest r lsn behind) ∙ frames_on limit (lsn + 1) (offset + size) rs rest (omega (arith, le)) each.1 (omega (arith, few)) in
+    let a : limit - length rs ≡ suc limit - length (r ∷ rs) = omega arith in
+    let b : last ≡ lsn + length (r ∷ rs) = omega arith in
+    let c : end ≡ offset + length (spellings lsn (r ∷ rs)) = omega (arith, length-append (frame r lsn) (spellings (lsn + 1) rs), length-append (to_be_bytes w32 (length (body r lsn))) (body r lsn)) in
+    ap (frames_at (suc limit) lsn offset) (append_assoc (frame r lsn) (spellings (lsn + 1) rs) rest)
+    ∙ ap (λ n. n >>= frame_then (frame r lsn ++ behind) (λ k. frames_at limit (lsn + 1) (offset + k) (drop k (frame r lsn ++ behind)))) (frame_next r lsn offset behind each.0 (omega (arith, few)))
+    ∙ ap (λ n. n >>= λ z. Ok (r ∷ z.0, z.1)) others
+    ∙ one_more r rs (frames_at (limit - length rs) last end rest)
+    ∙ ap (λ k. with_front (r ∷ rs) (frames_at k last end rest)) a
+    ∙ ap (λ n. with_front (r ∷ rs) (frames_at (suc limit - length (r ∷ rs)) n end rest)) b
+    ∙ ap (λ o. with_front (r ∷ rs) (frames_at (suc limit - length (r ∷ rs)) (lsn + length (r ∷ rs)) o rest)) c
 
 -- ---- the log
 
@@ -231,21 +252,70 @@ log_takes bytes x fits short e = by (start_at bytes) refl e
         let read = bind_ok (frames_behind begins bytes) (λ y. Ok (as_log begins y)) x h in
         subst (λ (y : LogContent × ℕ). Reads bytes y.0 y.1) (ok_is (as_log begins read.0) x read.2) (records_read begins bytes (header_taken bytes begins fits is) read.0 fits short read.1)
 
-pub log_again : (bytes : List ℕ) (log : LogContent) (torn : ℕ) → Reads bytes log torn → log_at bytes ≡ Ok (log, torn)
-unfolding log_at
-log_again bytes log torn reads =
-    let records = log.records in
-    let begins = log.begins in
+-- a header, frames, and what stands behind them
+pub record Begins (text : List ℕ) (begins : LogStart) (records : List LogRecord) (tail : List ℕ) : Type 0 where
+  pub starts : FitsStart begins
+  pub text_is : text ≡ header_of begins ++ (spellings (lsn_before begins + 1) records ++ tail)
+  pub each : AllByRecursion Fits records
+  pub few : lsn_before begins + 1 + length records ≤ 2 ^ 64
+
+-- the LSN and the offset of a frame behind them
+abbrev pub lsn_behind : LogStart → List LogRecord → ℕ
+lsn_behind begins records = lsn_before begins + 1 + length records
+
+abbrev pub offset_behind : LogStart → List LogRecord → ℕ
+offset_behind begins records = header_bytes begins + length (spellings (lsn_before begins + 1) records)
+
+fewer : (text : List ℕ) (begins : LogStart) (records : List LogRecord) (tail : List ℕ) → Begins text begins records tail → length records < length text
+fewer text begins records tail b =
+    let first = lsn_before begins + 1 in
+    omega (arith, spellings_long first records, header_room begins text (spellings first records ++ tail) b.text_is, some_header begins, length-append (spellings first records) tail)
+  where
+    some_header : (start : LogStart) → 0 < header_bytes start
+    some_header Version1 = omega arith
+    some_header (Version2 base) = omega arith
+
+read_behind : (text : List ℕ) (begins : LogStart) (records : List LogRecord) (tail : List ℕ) → Begins text begins records tail
+    → with_front records (frames_at (length text - length records) (lsn_behind begins records) (offset_behind begins records) tail) ≡ frames_behind begins text
+read_behind text begins records tail b =
     let first = lsn_before begins + 1 in
     let front = header_bytes begins in
-    let text : bytes ≡ header_of begins ++ (spellings first records ++ reads.tail) = reads.text ∙ append_assoc (header_of begins) (spellings first records) reads.tail in
-    let start : start_at bytes ≡ Some begins = ap start_at text ∙ start_again begins (spellings first records ++ reads.tail) reads.starts in
-    let rest : drop front bytes ≡ spellings first records ++ reads.tail = ap (drop front) text ∙ header_dropped begins (spellings first records ++ reads.tail) in
-    let long = header_room begins bytes (spellings first records ++ reads.tail) text in
-    let few : length records ≤ length bytes = omega (arith, spellings_long first records, long, length-append (spellings first records) reads.tail) in
-    let all : frames_behind begins bytes ≡ Ok (records, torn) =
-    ap (frames_at (length bytes) first front) rest ∙ frames_again (length bytes) first front records reads.tail few reads.each (omega (arith, reads.few, size_of_log log)) reads.torn_tail ∙ ap (λ n. Ok (records, n)) reads.torn_count in
-    ap (log_from bytes) start ∙ ap (λ read. read >>= λ y. Ok (as_log begins y)) all
+    let rest : drop front text ≡ spellings first records ++ tail = ap (drop front) b.text_is ∙ header_dropped begins (spellings first records ++ tail) in
+    sym (ap (frames_at (length text) first front) rest ∙ frames_on (length text) first front records tail (omega (arith, fewer text begins records tail b)) b.each b.few)
+
+log_begun : (text : List ℕ) (begins : LogStart) (records : List LogRecord) (tail : List ℕ) → Begins text begins records tail → log_at text ≡ (frames_behind begins text >>= λ y. Ok (as_log begins y))
+unfolding log_at
+log_begun text begins records tail b = ap (log_from text) (ap start_at b.text_is ∙ start_again begins (spellings (lsn_before begins + 1) records ++ tail) b.starts)
+
+-- the log ends where no more than a torn tail comes
+pub log_ends : (text : List ℕ) (begins : LogStart) (records : List LogRecord) (tail : List ℕ) → Begins text begins records tail → next_at (lsn_behind begins records) (offset_behind begins records) tail ≡ Ok None
+    → log_at text ≡ Ok (record { begins = begins; records = records }, length tail)
+log_ends text begins records tail b none =
+    log_begun text begins records tail b
+    ∙ ap (λ read. read >>= λ y. Ok (as_log begins y))
+    (ends records (length text) (length records) (lsn_behind begins records) (offset_behind begins records) tail (frames_behind begins text) (fewer text begins records tail b) none (read_behind text begins records tail b))
+
+-- what is wrong behind whole frames is what is wrong with the log
+pub log_fails : (text : List ℕ) (begins : LogStart) (records : List LogRecord) (tail : List ℕ) (e : Fault) → Begins text begins records tail → Fails e (next_at (lsn_behind begins records) (offset_behind begins records) tail)
+    → Fails e (log_at text)
+log_fails text begins records tail e b wrong =
+    fails_read e begins (frames_behind begins text) (log_at text) (log_begun text begins records tail b)
+    (fails e records (length text) (length records) (lsn_behind begins records) (offset_behind begins records) tail (frames_behind begins text) (fewer text begins records tail b) wrong (read_behind text begins records tail b))
+  where
+    fails_read : (e : Fault) (begins : LogStart) (read : Result (List LogRecord × ℕ) Fault) (log : Result (LogContent × ℕ) Fault) → log ≡ (read >>= λ y. Ok (as_log begins y)) → Fails e read → Fails e log
+    fails_read NoResource begins read log is h = tt
+    fails_read e begins read log is h = is ∙ ap (λ r. r >>= λ y. Ok (as_log begins y)) h
+
+pub log_again : (bytes : List ℕ) (log : LogContent) (torn : ℕ) → Reads bytes log torn → log_at bytes ≡ Ok (log, torn)
+log_again bytes log torn reads =
+    let first = lsn_before log.begins + 1 in
+    log_ends bytes log.begins log.records reads.tail (record {
+      starts = reads.starts;
+      text_is = reads.text ∙ append_assoc (header_of log.begins) (spellings first log.records) reads.tail;
+      each = reads.each;
+      few = omega (arith, reads.few, size_of_log log);
+    }) (torn_none (lsn_behind log.begins log.records) (offset_behind log.begins log.records) reads.tail reads.torn_tail)
+    ∙ ap (λ n. Ok (log, n)) reads.torn_count
 
 pub one_reading : OneReading
 one_reading bytes first second t u a b =
@@ -280,7 +350,7 @@ judged_fault lsn offset bytes e fits whole (Some x) is h =
           subst (λ d. HasFault d lsn offset bytes) (err_is {B = Option (LogRecord × ℕ)} (BadLsn offset) e p.1) (refl, whole, x.0, x.1, inner.1, inner.2, inner.0, eqb-false _ _ p.0))
     ]
 
-next_fault : (lsn offset : ℕ) (bytes : List ℕ) (e : Fault) → AreBytes bytes → next_at lsn offset bytes ≡ Err e → HasFault e lsn offset bytes
+pub next_fault : (lsn offset : ℕ) (bytes : List ℕ) (e : Fault) → AreBytes bytes → next_at lsn offset bytes ≡ Err e → HasFault e lsn offset bytes
 unfolding next_at
 next_fault lsn offset bytes e fits h =
     elim (chosen (ltb (length bytes) 4) _ _ _ h) [

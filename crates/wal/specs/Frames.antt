@@ -7,6 +7,7 @@ use Rattle.wal.specs.declared.header.LogStart.{LogStart}
 use Rattle.wal.specs.Records.{LogRecord, CheckpointBegin, lsn_before, LogContent}
 use Rattle.wal.specs.Headers.{header_bytes, FitsStart, start_at}
 use Rattle.wal.specs.Reading.{body_at}
+use Rattle.wal.specs.Spelling.{Fits}
 use Rattle.wal.specs.declared.sizes.TheConstants.{HEADER_BYTES, LARGEST_BODY, SMALLEST_BODY, SMALLEST_FRAME}
 
 -- the length that a frame in front says, and its body
@@ -20,9 +21,10 @@ body_of bytes = take (length_of bytes) (drop 4 bytes)
 abbrev pub frame_at : List ℕ → Option (LogRecord × ℕ)
 frame_at bytes = body_at (body_of bytes)
 
--- a body that spells a record, if there is one
-abbrev pub IsBody : List ℕ → Type 0
-IsBody bytes = 0 < length bytes → is_some (body_at bytes) ≡ true
+-- a body that spells a record, if there is one, and what it spells has a spelling
+pub record IsBody (bytes : List ℕ) : Type 0 where
+  pub spelled : 0 < length bytes → is_some (body_at bytes) ≡ true
+  pub fits : (r : LogRecord) (lsn : ℕ) → body_at bytes ≡ Some (r, lsn) → Fits r
 
 -- THE LOG BY ITS OFFSETS
 -- a frame stands at the offset, and its body spells a record

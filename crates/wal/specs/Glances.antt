@@ -28,11 +28,6 @@ owner_seen (seen.End tx) = Some tx
 owner_seen (seen.Prepare tx) = Some tx
 owner_seen seen.Checkpoint = None
 
--- what is seen of this record, which has a spelling
-pub record IsGlanceOf (entry : LogRecord) (glance : Glance) : Type 0 where
-  pub seen_of : glance ≡ glance_of entry
-  pub fits : Fits entry
-
 -- what is seen behind an LSN: of the record whose LSN is one more, which has a spelling
 pub record IsGlanceBehind (log : History) (lsn : ℕ) (glance : Glance) : Type 0 where
   pub entry : LogRecord
@@ -57,34 +52,19 @@ compensation_glance bytes = do
   undo_next ← number_at w64 slot.1
   Some (seen.Compensation own.0.tx page.0 slot.0 undo_next.0)
 
-unfoldable pub commit_glance : List ℕ → Option Glance
-commit_glance bytes = do
+unfoldable pub plain_glance : (ℕ → Glance) → List ℕ → Option Glance
+plain_glance see bytes = do
   own ← plain_at bytes
-  Some (seen.Commit own.0.tx)
-
-unfoldable pub abort_glance : List ℕ → Option Glance
-abort_glance bytes = do
-  own ← plain_at bytes
-  Some (seen.Abort own.0.tx)
-
-unfoldable pub end_glance : List ℕ → Option Glance
-end_glance bytes = do
-  own ← plain_at bytes
-  Some (seen.End own.0.tx)
-
-unfoldable pub prepare_glance : List ℕ → Option Glance
-prepare_glance bytes = do
-  own ← plain_at bytes
-  Some (seen.Prepare own.0.tx)
+  Some (see own.0.tx)
 
 unfoldable pub fields_glance : ℕ → List ℕ → Option Glance
 fields_glance kind bytes =
     if kind == 1 then update_glance bytes
     else if kind == 2 then compensation_glance bytes
-    else if kind == 3 then commit_glance bytes
-    else if kind == 4 then abort_glance bytes
-    else if kind == 5 then end_glance bytes
-    else if kind == 8 then prepare_glance bytes
+    else if kind == 3 then plain_glance seen.Commit bytes
+    else if kind == 4 then plain_glance seen.Abort bytes
+    else if kind == 5 then plain_glance seen.End bytes
+    else if kind == 8 then plain_glance seen.Prepare bytes
     else Some seen.Checkpoint
 
 unfoldable pub body_glance : List ℕ → Option Glance

@@ -63,25 +63,11 @@ compensation_at bytes = do
   image ← image_at undo_next.1
   Some (Compensation (record { tx = own.0.tx; prev = own.0.prev; page = page.0; slot = slot.0; undo_next = undo_next.0; image = image.0 }), image.1)
 
-unfoldable pub commit_at : List ℕ → Option (LogRecord × List ℕ)
-commit_at bytes = do
+-- a record of just these two
+unfoldable pub plain_record_at : (PlainRecord → LogRecord) → List ℕ → Option (LogRecord × List ℕ)
+plain_record_at make bytes = do
   own ← plain_at bytes
-  Some (Commit own.0, own.1)
-
-unfoldable pub abort_at : List ℕ → Option (LogRecord × List ℕ)
-abort_at bytes = do
-  own ← plain_at bytes
-  Some (Abort own.0, own.1)
-
-unfoldable pub end_at : List ℕ → Option (LogRecord × List ℕ)
-end_at bytes = do
-  own ← plain_at bytes
-  Some (End own.0, own.1)
-
-unfoldable pub prepare_at : List ℕ → Option (LogRecord × List ℕ)
-prepare_at bytes = do
-  own ← plain_at bytes
-  Some (Prepare own.0, own.1)
+  Some (make own.0, own.1)
 
 -- 0 for active, 1 for aborting, 2 for prepared
 unfoldable pub state_at : List ℕ → Option (State × List ℕ)
@@ -141,12 +127,12 @@ unfoldable pub fields_at : ℕ → List ℕ → Option (LogRecord × List ℕ)
 fields_at kind bytes =
     if kind == 1 then update_at bytes
     else if kind == 2 then compensation_at bytes
-    else if kind == 3 then commit_at bytes
-    else if kind == 4 then abort_at bytes
-    else if kind == 5 then end_at bytes
+    else if kind == 3 then plain_record_at Commit bytes
+    else if kind == 4 then plain_record_at Abort bytes
+    else if kind == 5 then plain_record_at End bytes
     else if kind == 6 then Some (CheckpointBegin, bytes)
     else if kind == 7 then checkpoint_at bytes
-    else if kind == 8 then prepare_at bytes
+    else if kind == 8 then plain_record_at Prepare bytes
     else None
 
 -- the kind, the LSN and the fields, and no byte behind them

@@ -1,12 +1,13 @@
 -- Frames that were read from the middle of a log on, before it is known whether the log's frames come to there (own).
-use Rattle.std.specs.Prelude.{◌≡◌, ℕ, suc, ◌+◌, ◌-◌, ◌*◌, ◌^◌, ◌≤◌, All, List, [], ◌∷◌, ◌++◌, length, drop, map, Option, Some, Result, Ok, Err, IfSome}
+use Rattle.std.specs.Prelude.{◌≡◌, ◌≢◌, ℕ, suc, ◌+◌, ◌*◌, ◌^◌, ◌≤◌, List, [], ◌∷◌, ◌++◌, length, take, drop, map, Option, Some, Result, Ok, Err, IfSome}
 use Rattle.page.specs.declared.fault.Fault.{Fault}
 use Rattle.page.specs.declared.fault.Fault.TheVariants.{NoResource}
 use Rattle.wal.specs.declared.header.LogStart.{LogStart}
 use Rattle.wal.specs.declared.stretch.Stretch.{Stretch}
-use Rattle.wal.specs.Records.{LogRecord, LogContent, lsn_before}
-use Rattle.wal.specs.Frames.{IsPlace, record_of, next_at, frames_at, frames_behind, ◌>>=◌}
-use Rattle.wal.specs.declared.sizes.TheConstants.{HEADER_BYTES, SMALLEST_FRAME}
+use Rattle.wal.specs.Records.{LogRecord, lsn_before}
+use Rattle.wal.specs.Headers.{header_bytes, start_at}
+use Rattle.wal.specs.Frames.{record_of, next_at}
+use Rattle.wal.specs.declared.sizes.TheConstants.{SMALLEST_FRAME}
 
 -- frames stand at these offsets, one behind the other, the first with this LSN
 abbrev pub AreFrames : List ℕ → (lsn from : ℕ) → List ℕ → (to : ℕ) → Type 0
@@ -29,18 +30,37 @@ abbrev pub IfStretch : List ℕ → Result (Option Stretch) Fault → Type 0
 IfStretch bytes (Ok found) = IfSome found (IsStretch bytes)
 IfStretch bytes (Err e) = e ≡ NoResource
 
--- the log whose frames are these of the bytes in front and those of the bytes behind
-abbrev pub log_of_stretches : LogStart → (front back : List ℕ) → (first second : Stretch) → LogContent
-log_of_stretches begins front back first second =
-    record { begins = begins; records = map (record_of front) first.offsets ++ map (record_of back) second.offsets }
+-- no frame with this LSN stands at the offset, wherever in a log these bytes are
+abbrev pub HasNoFrame : List ℕ → (lsn offset : ℕ) → Type 0
+HasNoFrame bytes lsn offset = (place : ℕ) (r : LogRecord) (size : ℕ) → next_at lsn place (drop offset bytes) ≢ Ok (Some (r, size))
 
--- what was read before, and what is still read
-abbrev pub with_front : List LogRecord → Result (List LogRecord × ℕ) Fault → Result (List LogRecord × ℕ) Fault
-with_front front read = read >>= λ x. Ok (front ++ x.0, x.1)
+-- the bytes begin with the header of a log that begins so, and these frames
+pub record AreFirst (begins : LogStart) (bytes : List ℕ) (s : Stretch) : Type 0 where
+  pub starts : start_at bytes ≡ Some begins
+  pub frames : IsStretch bytes s
+  pub begin : s.begin ≡ header_bytes begins
+  pub lsn : s.lsn ≡ lsn_before begins + 1
 
--- the first frames of a log that begins so stand at these offsets, and this offset stands behind them
-pub record ReadSoFar (begins : LogStart) (bytes offsets : List ℕ) (offset : ℕ) : Type 0 where
-  pub room : offset ≤ length bytes
-  pub long : HEADER_BYTES + SMALLEST_FRAME * length offsets ≤ offset
-  pub places : All (IsPlace bytes) offsets
-  pub read : with_front (map (record_of bytes) offsets) (frames_at (length bytes - length offsets) (lsn_before begins + length offsets + 1) offset (drop offset bytes)) ≡ frames_behind begins bytes
+-- with some header
+abbrev pub BeginsLog : List ℕ → Stretch → Type 0
+BeginsLog bytes s = (begins : LogStart) × AreFirst begins bytes s
+
+-- cut behind these frames, they are a header and the frames
+abbrev pub BeginsCut : List ℕ → Stretch → Type 0
+BeginsCut bytes s = BeginsLog (take s.end bytes) s × (s.end ≡ length (take s.end bytes))
+
+-- they are these, to their end
+pub record AreFront (begins : LogStart) (bytes : List ℕ) (s : Stretch) : Type 0 where
+  pub first : AreFirst begins bytes s
+  pub whole : s.end ≡ length bytes
+
+-- these are all frames of the bytes behind such a front
+pub record AreBehind (first : Stretch) (bytes : List ℕ) (s : Stretch) : Type 0 where
+  pub frames : IsStretch bytes s
+  pub begin : s.begin ≡ 0
+  pub lsn : s.lsn ≡ first.lsn + length first.offsets
+  pub all : HasNoFrame bytes (s.lsn + length s.offsets) s.end
+
+-- their records
+abbrev pub records_of : (front : List ℕ) → Stretch → (back : List ℕ) → Stretch → List LogRecord
+records_of front first back second = map (record_of front) first.offsets ++ map (record_of back) second.offsets

@@ -1,24 +1,14 @@
 //! The checkpoint that a master names.
 
 ghost use Rattle.std.specs.Prelude.{◌≡◌, ◌≤◌, option_map, IfSome};
-ghost use Rattle.wal.specs.Records.{CheckpointEnd, history, base_lsn, record_at};
+ghost use Rattle.wal.specs.Records.{CheckpointEnd, history, base_lsn};
 ghost use Rattle.wal.specs.Spelling.{Fits};
-ghost use Rattle.wal.specs.Checkpoint.{is_begin, first_end, checkpoint_at};
+ghost use Rattle.wal.specs.Checkpoint.{first_end, checkpoint_at};
 
 use crate::log::Log;
 use crate::view::{DirtyTable, RecordView, TransactionTable};
 
 impl<'a> Log<'a> {
-    /// Whether a checkpoint begin stands at an LSN.
-    fn begins(&self, lsn: u64) -> bool
-        ensures { result ≡ is_begin (record_at (history self.now) lsn) }
-    {
-        match self.get(lsn) {
-            Some(RecordView::CheckpointBegin) => true,
-            _ => false,
-        }
-    }
-
     /// The tables of the first checkpoint end behind the LSN `master` that names it.
     fn checkpoint_end(&self, master: u64) -> Option<(TransactionTable<'a>, DirtyTable<'a>)>
         requires { base_lsn (history self.now) ≤ master }
@@ -48,10 +38,9 @@ impl<'a> Log<'a> {
             ≡ checkpoint_at master (history self.now) }
         ensures fits { IfSome result (λ x. Fits (CheckpointEnd master x.0 x.1)) }
     {
-        if self.begins(master) {
-            self.checkpoint_end(master)
-        } else {
-            None
+        match self.get(master) {
+            Some(RecordView::CheckpointBegin) => self.checkpoint_end(master),
+            _ => None,
         }
     }
 }

@@ -4,20 +4,18 @@ ghost use Rattle.std.specs.Prelude.{◌≡◌, ◌++◌, ◌∷◌, [], ◌<◌,
 ghost use Rattle.page.specs.declared.fault.Fault.TheVariants.{NoResource};
 ghost use Rattle.std.specs.Int.{w32, w64, to_be_bytes};
 ghost use Rattle.wal.specs.Records.{CompensationRecord, PlainRecord, UpdateRecord};
-ghost use Rattle.wal.specs.Reading.{update_at, compensation_at, commit_at, abort_at, end_at, prepare_at, transactions_at, dirties_at, checkpoint_at, fields_at, body_at};
+ghost use Rattle.wal.specs.Reading.{update_at, compensation_at, transactions_at, dirties_at, checkpoint_at, fields_at, body_at};
 ghost use Rattle.wal.specs.Spelling.{image, plain, update, compensation, body, frame, checkpoint, table, entry, dirty_page, kind_of, fields, Fits, FitsCheckpoint, FitsTable};
 ghost use Rattle.wal.specs.Content.{content, Keeps, shown};
 ghost use Rattle.page.specs.Image.{FitsSlot};
 
 use crate::field::{
-    image_at, image_len, plain_at, put_cell, put_dirties, put_entries, put_image, put_plain,
-    slot_at, u32_at, u64_at,
+    image_at, plain_at, put_cell, put_dirties, put_entries, put_image, put_plain, slot_at, u32_at,
+    u64_at,
 };
+use crate::frame_size::body_len;
 use crate::record::Record;
-use crate::sizes::{
-    CELL_BYTES, CHECKPOINT_BODY, DIRTY_BYTES, ENTRY_BYTES, LARGEST_BODY, LSN_BYTES, PLAIN_BODY,
-    SMALLEST_BODY, TRANSACTIONS,
-};
+use crate::sizes::TRANSACTIONS;
 use crate::view;
 use crate::view::{DirtyTable, RecordView, TransactionTable};
 use page::{Fault, PAGES};
@@ -65,42 +63,6 @@ fn compensation_at(bytes: &[u8]) -> Option<(RecordView, &[u8])>
     Some((view, rest))
 }
 
-#[inline]
-#[tactic(auto, unfolding(crate::specs::Reading::commit_at))]
-fn commit_at(bytes: &[u8]) -> Option<(RecordView, &[u8])>
-    ensures { option_map (λ x. (shown x.0, x.1.now)) result ≡ commit_at bytes.now }
-{
-    let (tx, prev, rest) = plain_at(bytes)?;
-    Some((RecordView::Commit { tx, prev }, rest))
-}
-
-#[inline]
-#[tactic(auto, unfolding(crate::specs::Reading::abort_at))]
-fn abort_at(bytes: &[u8]) -> Option<(RecordView, &[u8])>
-    ensures { option_map (λ x. (shown x.0, x.1.now)) result ≡ abort_at bytes.now }
-{
-    let (tx, prev, rest) = plain_at(bytes)?;
-    Some((RecordView::Abort { tx, prev }, rest))
-}
-
-#[inline]
-#[tactic(auto, unfolding(crate::specs::Reading::end_at))]
-fn end_at(bytes: &[u8]) -> Option<(RecordView, &[u8])>
-    ensures { option_map (λ x. (shown x.0, x.1.now)) result ≡ end_at bytes.now }
-{
-    let (tx, prev, rest) = plain_at(bytes)?;
-    Some((RecordView::End { tx, prev }, rest))
-}
-
-#[inline]
-#[tactic(auto, unfolding(crate::specs::Reading::prepare_at))]
-fn prepare_at(bytes: &[u8]) -> Option<(RecordView, &[u8])>
-    ensures { option_map (λ x. (shown x.0, x.1.now)) result ≡ prepare_at bytes.now }
-{
-    let (tx, prev, rest) = plain_at(bytes)?;
-    Some((RecordView::Prepare { tx, prev }, rest))
-}
-
 #[tactic(auto, unfolding(crate::specs::Reading::transactions_at))]
 fn transactions_at(bytes: &[u8]) -> Option<(TransactionTable, &[u8])>
     ensures { option_map (λ x. (x.0, x.1.now)) result ≡ transactions_at bytes.now }
@@ -139,19 +101,31 @@ pub fn checkpoint_at(bytes: &[u8]) -> Option<(RecordView, &[u8])>
 }
 
 #[inline]
-#[tactic(auto, unfolding(crate::specs::Reading::fields_at))]
+#[tactic(auto, unfolding(crate::specs::Reading::fields_at, crate::specs::Reading::plain_record_at))]
 fn fields_at(kind: u8, bytes: &[u8]) -> Option<(RecordView, &[u8])>
     ensures { option_map (λ x. (shown x.0, x.1.now)) result ≡ fields_at kind bytes.now }
 {
     match kind {
         1 => update_at(bytes),
         2 => compensation_at(bytes),
-        3 => commit_at(bytes),
-        4 => abort_at(bytes),
-        5 => end_at(bytes),
+        3 => {
+            let (tx, prev, rest) = plain_at(bytes)?;
+            Some((RecordView::Commit { tx, prev }, rest))
+        }
+        4 => {
+            let (tx, prev, rest) = plain_at(bytes)?;
+            Some((RecordView::Abort { tx, prev }, rest))
+        }
+        5 => {
+            let (tx, prev, rest) = plain_at(bytes)?;
+            Some((RecordView::End { tx, prev }, rest))
+        }
         6 => Some((RecordView::CheckpointBegin, bytes)),
         7 => checkpoint_at(bytes),
-        8 => prepare_at(bytes),
+        8 => {
+            let (tx, prev, rest) = plain_at(bytes)?;
+            Some((RecordView::Prepare { tx, prev }, rest))
+        }
         _ => None,
     }
 }
@@ -172,33 +146,6 @@ pub fn body_at(bytes: &[u8]) -> Option<(RecordView, u64)>
             }
             Some((view, lsn))
         }
-    }
-}
-
-fn body_len(logged: &Record) -> u32
-    requires { Fits (content logged.now) }
-    ensures { result ≡ length (body (content logged.now) 0) }
-{
-    match logged {
-        Record::Update { before, after, .. } => {
-            (PLAIN_BODY + CELL_BYTES + image_len(before) + image_len(after)) as u32
-        }
-        Record::Compensation { image, .. } => (PLAIN_BODY
-            + CELL_BYTES
-            + LSN_BYTES
-            + image_len(image)) as u32,
-        Record::Commit { .. } => PLAIN_BODY as u32,
-        Record::Abort { .. } => PLAIN_BODY as u32,
-        Record::End { .. } => PLAIN_BODY as u32,
-        Record::Prepare { .. } => PLAIN_BODY as u32,
-        Record::CheckpointBegin => SMALLEST_BODY as u32,
-        Record::CheckpointEnd {
-            transactions,
-            dirty,
-            ..
-        } => {
-            (CHECKPOINT_BODY + ENTRY_BYTES * transactions.len() + DIRTY_BYTES * dirty.len()) as u32
-        },
     }
 }
 

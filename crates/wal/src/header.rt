@@ -2,7 +2,8 @@
 
 ghost use Rattle.std.specs.Prelude.{◌≡◌};
 ghost use Rattle.wal.specs.Records.{lsn_before};
-ghost use Rattle.wal.specs.Headers.{header_bytes, start_at};
+ghost use Rattle.wal.specs.Headers.{header_bytes, header_of, start_at};
+ghost use Rattle.wal.specs.declared.header.LogStart.TheVariants.{Version1, Version2};
 
 use crate::field::u64_at;
 use crate::sizes::{BASED_HEADER_BYTES, HEADER_BYTES, LARGEST_BASE};
@@ -41,6 +42,24 @@ impl LogStart {
             LogStart::Version2 { .. } => BASED_HEADER_BYTES,
         }
     }
+}
+
+/// The header of a log in version 1, whose base LSN is 0.
+pub fn plain_header() -> [u8; HEADER_BYTES]
+    ensures { result ≡ header_of Version1 }
+{
+    *b"ARIESLG1"
+}
+
+/// The header of a log in version 2 with this base LSN, which is to be at most
+/// 9,223,372,036,854,775,807.
+pub fn based_header(base: u64) -> [u8; BASED_HEADER_BYTES]
+    ensures { result ≡ header_of (Version2 base) }
+{
+    let mut header = [0; BASED_HEADER_BYTES];
+    header[..HEADER_BYTES].copy_from_slice(b"ARIESLG2");
+    header[HEADER_BYTES..].copy_from_slice(&base.to_be_bytes());
+    header
 }
 
 /// How the log in these bytes begins, None where it has no header: the first 8 bytes are neither

@@ -1,15 +1,17 @@
 //! The log: its records, their frames in bytes, and what a log means.
 //!
 //! `read_log` reads a log in place, `read_log_by` does so in several threads, `write_frame` appends a
-//! record's frame. A log whose bytes come in two parts is read by `first_stretch`, `next_stretch` and
-//! `log_in_parts`. The definitions of what a log means (replay, winners, pending, the laws, the tail of
+//! record's frame. A log whose bytes come in two parts is read by `first_frames` and
+//! `read_log_behind`. The definitions of what a log means (replay, winners, pending, the laws, the tail of
 //! a restart) stand in `specs/`, and their laws are the functions of `laws`.
 #![tactic(auto)]
 
+mod body;
 mod change;
 mod checkpoint;
 mod field;
 mod frame;
+mod frame_size;
 mod glance;
 mod header;
 mod image;
@@ -25,19 +27,18 @@ mod sizes;
 mod stretch;
 mod view;
 
+pub use body::Body;
 pub use change::Change;
 pub use frame::write_frame;
 pub use glance::Glance;
-pub use header::LogStart;
-pub use image::Body;
-pub use joining::{cut_of, first_stretch, next_stretch};
+pub use header::{LogStart, based_header, plain_header};
 pub use laws::{
     cuts_compose, cuts_resume, cuts_settle, hops_meet_pending, lawful_by_record, losers_end,
     no_fault_of_a_log, one_log_fault, one_reading, redo_replays, redo_suffices, replay_is_winners,
     restart_goes_on, store_settles, table_tells_doubt, tail_settles, undo_is_tail,
 };
-pub use log::{Log, log_in_parts, read_log, read_log_by};
+pub use log::{Log, first_frames, read_log, read_log_behind, read_log_by};
 pub use record::{Entry, Record, State};
-pub use sizes::TRANSACTIONS;
+pub use sizes::{BASED_HEADER_BYTES, LARGEST_BASE, LONGEST_FRAME, TRANSACTIONS};
 pub use stretch::Stretch;
 pub use view::{DirtyTable, RecordView, TransactionTable, value_of};

@@ -1,23 +1,22 @@
 //! A log that lies in bytes.
 
-ghost use Rattle.std.specs.Prelude.{◌≡◌, ◌+◌, ◌*◌, ◌<◌, ◌≤◌, ◌^◌, ◌++◌, ℕ, length, Some, None, option_map, IfErr, IfNone, IfOk, IfSome, Ok};
+ghost use Rattle.std.specs.Prelude.{◌≡◌, ◌+◌, ◌*◌, ◌<◌, ◌≤◌, ◌^◌, ◌++◌, ℕ, List, length, Some, None, option_map, IfErr, IfNone, IfOk, IfSome, Ok};
 ghost use Rattle.wal.specs.Glances.{IsGlanceBehind};
 ghost use Rattle.wal.specs.Meaning.{image_in};
 ghost use Rattle.wal.specs.Records.{LogContent, ◌▸◌, history, last_lsn, base_lsn, record_at, first};
-ghost use Rattle.wal.specs.Frames.{entry_at, log_at, Gives, IsLog};
+ghost use Rattle.wal.specs.Frames.{entry_at, log_at, Fails, Gives, IsLog};
 ghost use Rattle.wal.specs.Reads.{Cause, Reads};
-ghost use Rattle.wal.specs.Stretches.{IsStretch};
+ghost use Rattle.wal.specs.Stretches.{AreFront, AreBehind, BeginsCut, BeginsLog};
 ghost use Rattle.wal.specs.Spelling.{Fits};
 ghost use Rattle.wal.specs.Content.{shown};
-ghost use Rattle.wal.specs.declared.sizes.TheConstants.{HEADER_BYTES, LARGEST_BASE, SMALLEST_FRAME};
+ghost use Rattle.wal.specs.declared.sizes.TheConstants.{BASED_HEADER_BYTES, HEADER_BYTES, LARGEST_BASE, LONGEST_FRAME, SMALLEST_FRAME};
 
+use crate::body::Body;
 use crate::glance::Glance;
 use crate::header::{LogStart, start_at};
-use crate::image::Body;
-use crate::joining::{first_stretch, torn_behind};
-use crate::offsets::Offsets;
+use crate::joining::{stretch_alone, stretch_by};
 use crate::part::Part;
-use crate::reading::offsets_of;
+use crate::reading::torn_from;
 use crate::stretch::Stretch;
 use crate::view::RecordView;
 use page::{Fault, Value};
@@ -49,6 +48,13 @@ impl<'a> Log<'a> {
         ensures { result ≡ length self.now.records }
     {
         (self.front.len() + self.back.len()) as u64
+    }
+
+    /// How it begins: in which version it is written, and after which LSN its records come.
+    pub fn start(&self) -> LogStart
+        ensures { result ≡ self.now.begins }
+    {
+        self.begins
     }
 
     /// The LSN of its last record; where it has none, the base LSN. It is the sum of `base` and `len`.
@@ -87,8 +93,7 @@ impl<'a> Log<'a> {
         ensures found { option_map shown result ≡ record_at (history self.now) lsn }
         ensures fits { IfSome result (λ view. Fits (shown view)) }
     {
-        let (part, index) = self.place(self.number_of(lsn)?);
-        part.get(index)
+        self.body(lsn).view()
     }
 
     /// The body of the record at an LSN, that of no record up to the base LSN and past the end. Where
@@ -138,7 +143,10 @@ impl<'a> Log<'a> {
         ensures { IsGlanceBehind (history self.now) lsn result }
     {
         let (part, index) = self.place((lsn - self.base()) as usize);
-        part.glance(index)
+        match part.body(index).glance() {
+            Some(glance) => glance,
+            None => unreachable!(),
+        }
     }
 
     /// The number, from 0, of the record at an LSN; None up to the base LSN and past the end.
@@ -171,23 +179,48 @@ impl<'a> Log<'a> {
     }
 }
 
+/// The log that begins so, of which the front is the header and these frames, and these are all
+/// frames behind it. With it how many bytes its torn tail has.
+fn log_of<'a>(
+    begins: LogStart,
+    front: &'a [u8],
+    first: Stretch,
+    back: &'a [u8],
+    second: Stretch,
+) -> Result<(Log<'a>, usize), Fault>
+    requires short { length front.now + length back.now < 2 ^ 63 }
+    requires first { AreFront begins front.now first }
+    requires second { AreBehind first back.now second }
+    ensures { Gives (λ x. x) result (log_at (front.now ++ back.now)) }
+{
+    let next = second.lsn + second.offsets.len() as u64;
+    let torn = torn_from(next, front.len(), back, second.end)?;
+    let log = Log {
+        begins,
+        front: Part::new(front, first.offsets),
+        back: Part::new(back, second.offsets),
+    };
+    Ok((log, torn))
+}
+
+/// How a log begins, its header as a front without frames, and the bytes after it. The error is
+/// `BadLogHeader`.
 #[tactic(auto, unfolding(crate::specs::Frames::log_at))]
-fn read_in<'a>(alloc: Global, bytes: &'a [u8]) -> Result<(Log<'a>, usize), Fault>
-    requires { length bytes.now < 2 ^ 63 }
-    ensures { Gives (λ x. x) result (log_at bytes.now) }
+fn split_header<'a>(
+    alloc: Global,
+    bytes: &'a [u8],
+) -> Result<(LogStart, &'a [u8], Stretch, &'a [u8]), Fault>
+    ensures front { IfOk result (λ x. AreFront x.0 x.1.now x.2) }
+    ensures empty { IfOk result (λ x. length x.2.offsets ≡ 0) }
+    ensures parts { IfOk result (λ x. x.1.now ++ x.3.now ≡ bytes.now) }
+    ensures err { IfErr result (λ e. Fails e (log_at bytes.now)) }
 {
     let Some(begins) = start_at(bytes) else {
         return Err(Fault::BadLogHeader);
     };
-    let (offsets, torn) = offsets_of(alloc, begins, bytes)?;
-    Ok((
-        Log {
-            begins,
-            front: Part::new(&[], Offsets::with_room(alloc, 0)),
-            back: Part::new(bytes, offsets),
-        },
-        torn,
-    ))
+    let (header, behind) = bytes.split_at(begins.header_bytes());
+    let none = Stretch::none(alloc, begins.base() + 1, header.len(), 0);
+    Ok((begins, header, none, behind))
 }
 
 /// The log in these bytes, and how many bytes its torn tail has: up to 3 bytes, or a length that a
@@ -211,33 +244,9 @@ pub fn read_log<'a>(alloc: Global, bytes: &'a [u8]) -> Result<(Log<'a>, usize), 
     // A refusal has its cause in the bytes, memory aside.
     ensures fault { IfErr result (Cause bytes.now) }
 {
-    let _len = bytes.len();
-    read_in(alloc, bytes)
-}
-
-/// The log whose frames two stretches are: one of the bytes in front, from behind their header on, and
-/// one of those that come behind. With it how many bytes its torn tail has. None where the stretches
-/// are not all of its frames: where the first one ends before the bytes in front do and there are some
-/// behind, where the second does not go on with the LSN behind, or where what comes behind them is no
-/// torn tail.
-pub fn log_in_parts<'a>(
-    front: &'a [u8],
-    back: &'a [u8],
-    first: Stretch,
-    second: Stretch,
-) -> Option<(Log<'a>, usize)>
-    requires first { IsStretch front.now first }
-    requires second { IsStretch back.now second }
-    ensures { IfSome result (λ x. Reads (front.now ++ back.now) x.0 x.1) }
-{
-    let begins = start_at(front)?;
-    let torn = torn_behind(begins, front, back, &first, &second)?;
-    let log = Log {
-        begins,
-        front: Part::new(front, first.offsets),
-        back: Part::new(back, second.offsets),
-    };
-    Some((log, torn))
+    let (begins, header, none, behind) = split_header(alloc, bytes)?;
+    let frames = stretch_alone(alloc, behind, none.lsn, 0)?;
+    log_of(begins, header, none, behind, frames)
 }
 
 /// As [`read_log`], with its answers and errors, in as many threads as this where the log is long:
@@ -255,10 +264,59 @@ pub fn read_log_by<'a, R: Threads + Sync>(
         → Gives (λ x. x) result (Ok (log, torn)) }
     ensures fault { IfErr result (Cause bytes.now) }
 {
-    if let Some(first) = first_stretch(rt, alloc, bytes, threads)? {
-        if let Some(found) = log_in_parts(bytes, &[], first, Stretch::none(alloc)) {
-            return Ok(found);
-        }
+    let (begins, header, none, behind) = split_header(alloc, bytes)?;
+    let frames = stretch_by(rt, alloc, behind, none.lsn, 0, threads)?;
+    log_of(begins, header, none, behind, frames)
+}
+
+/// The frames that stand behind the header in the first bytes of a log, of which 16 have come at
+/// least; read as [`read_log_by`] does. What comes behind the last of them is the beginning of a frame
+/// at most. The error is the log's, whatever comes behind these bytes.
+pub fn first_frames<R: Threads + Sync>(
+    rt: &R,
+    alloc: Global,
+    front: &[u8],
+    threads: usize,
+) -> Result<Stretch, Fault>
+    requires { BASED_HEADER_BYTES ≤ length front.now }
+    ensures frames { IfOk result (BeginsCut front.now) }
+    ensures rest { IfOk result (λ first. length front.now < first.end + LONGEST_FRAME) }
+    ensures fault { IfErr result (λ e. (more : List ℕ) → Cause (front.now ++ more) e) }
+{
+    let Some(begins) = start_at(front) else {
+        return Err(Fault::BadLogHeader);
+    };
+    let first = begins.base() + 1;
+    let frames = stretch_by(rt, alloc, front, first, begins.header_bytes(), threads)?;
+    let next = frames.lsn + frames.offsets.len() as u64;
+    torn_from(next, 0, front, frames.end)?;
+    Ok(frames)
+}
+
+/// The log of which the front is a header and these frames, to its end, and what comes behind it is in
+/// other bytes; as [`read_log_by`], with its answers and errors for all of the bytes.
+pub fn read_log_behind<'a, R: Threads + Sync>(
+    rt: &R,
+    alloc: Global,
+    front: &'a [u8],
+    first: Stretch,
+    back: &'a [u8],
+    threads: usize,
+) -> Result<(Log<'a>, usize), Fault>
+    requires first { BeginsLog front.now first }
+    requires whole { first.end ≡ length front.now }
+    ensures found { IfOk result (λ x. Reads (front.now ++ back.now) x.0 x.1) }
+    ensures only { (log : LogContent) (torn : ℕ) → Reads (front.now ++ back.now) log torn
+        → Gives (λ x. x) result (Ok (log, torn)) }
+    ensures fault { IfErr result (Cause (front.now ++ back.now)) }
+{
+    let Some(begins) = start_at(front) else {
+        unreachable!()
+    };
+    if front.len() + back.len() > isize::MAX as usize {
+        return Err(Fault::NoResource);
     }
-    read_log(alloc, bytes)
+    let next = first.lsn + first.offsets.len() as u64;
+    let second = stretch_by(rt, alloc, back, next, 0, threads)?;
+    log_of(begins, front, first, back, second)
 }

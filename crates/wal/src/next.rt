@@ -2,8 +2,8 @@
 //! more of the record kept than its LSN.
 
 ghost use Rattle.std.specs.Prelude.{◌≡◌, option_map};
-ghost use Rattle.wal.specs.Reading.{update_at, compensation_at, plain_at, checkpoint_at, fields_at, body_at};
-ghost use Rattle.wal.specs.Frames.{next_at, size_in, Gives};
+ghost use Rattle.wal.specs.Reading.{update_at, compensation_at, fields_at, body_at};
+ghost use Rattle.wal.specs.Frames.{next_at, size_in};
 
 use crate::field::{image_at, plain_at, slot_at, u32_at, u64_at};
 use crate::frame::checkpoint_at;
@@ -39,38 +39,36 @@ fn compensation_end(bytes: &[u8]) -> Option<&[u8]>
     Some(rest)
 }
 
-/// What stands behind the fields of a commit, an abort, an end or a prepare.
-#[inline(always)]
-fn plain_end(bytes: &[u8]) -> Option<&[u8]>
-    ensures { option_map (λ s. s.now) result ≡ option_map (λ x. x.1) (plain_at bytes.now) }
-{
-    let (_, _, rest) = plain_at(bytes)?;
-    Some(rest)
-}
-
-/// What stands behind the fields of a checkpoint end.
-fn checkpoint_end(bytes: &[u8]) -> Option<&[u8]>
-    ensures { option_map (λ s. s.now) result ≡ option_map (λ x. x.1) (checkpoint_at bytes.now) }
-{
-    let (_, rest) = checkpoint_at(bytes)?;
-    Some(rest)
-}
-
 /// What stands behind the fields of a record of this kind.
 #[inline(always)]
-#[tactic(auto, unfolding(crate::specs::Reading::fields_at))]
+#[tactic(auto, unfolding(crate::specs::Reading::fields_at, crate::specs::Reading::plain_record_at))]
 fn fields_end(kind: u8, bytes: &[u8]) -> Option<&[u8]>
     ensures { option_map (λ s. s.now) result ≡ option_map (λ x. x.1) (fields_at kind bytes.now) }
 {
     match kind {
         1 => update_end(bytes),
         2 => compensation_end(bytes),
-        3 => plain_end(bytes),
-        4 => plain_end(bytes),
-        5 => plain_end(bytes),
+        3 => {
+            let (_, _, rest) = plain_at(bytes)?;
+            Some(rest)
+        }
+        4 => {
+            let (_, _, rest) = plain_at(bytes)?;
+            Some(rest)
+        }
+        5 => {
+            let (_, _, rest) = plain_at(bytes)?;
+            Some(rest)
+        }
         6 => Some(bytes),
-        7 => checkpoint_end(bytes),
-        8 => plain_end(bytes),
+        7 => {
+            let (_, rest) = checkpoint_at(bytes)?;
+            Some(rest)
+        }
+        8 => {
+            let (_, _, rest) = plain_at(bytes)?;
+            Some(rest)
+        }
         _ => None,
     }
 }
@@ -99,7 +97,7 @@ fn body_lsn(bytes: &[u8]) -> Option<u64>
 #[inline(always)]
 #[tactic(auto, using(crate::proofs::NextFrame::size_of_none, crate::proofs::NextFrame::size_of_other, crate::proofs::NextFrame::size_of_right), unfolding(crate::specs::Frames::next_at))]
 pub fn next_at(lsn: u64, offset: usize, bytes: &[u8]) -> Result<Option<usize>, Fault>
-    ensures { Gives (λ size. size) result (size_in (next_at lsn offset bytes.now)) }
+    ensures { result ≡ size_in (next_at lsn offset bytes.now) }
 {
     if bytes.len() < 4 {
         return Ok(None);

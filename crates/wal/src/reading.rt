@@ -1,34 +1,28 @@
-//! Reading the frames behind a header one after the other.
+//! The log that frames make: those of its first bytes, those behind them, and a torn tail.
 
-ghost use Rattle.std.specs.Prelude.{◌≤◌, length, map, IfOk};
-ghost use Rattle.wal.specs.Headers.{header_bytes, FitsStart};
-ghost use Rattle.wal.specs.Frames.{ArePlaces, record_of, frames_behind, Gives};
+ghost use Rattle.std.specs.Prelude.{◌≡◌, ◌≤◌, ◌<◌, ◌+◌, ◌^◌, ◌++◌, None, Ok, drop, length, IfErr, IfOk};
+ghost use Rattle.wal.specs.Frames.{next_at, Fails};
+ghost use Rattle.wal.specs.Stretches.{HasNoFrame};
 
-use crate::header::LogStart;
 use crate::next::next_at;
-use crate::offsets::Offsets;
 use page::Fault;
-use std::alloc::Global;
 
-/// The offsets of all frames, and how many bytes the torn tail has.
-pub fn offsets_of(alloc: Global, begins: LogStart, bytes: &[u8]) -> Result<(Offsets, usize), Fault>
-    requires starts { FitsStart begins }
-    requires room { header_bytes begins ≤ length bytes.now }
-    ensures places { IfOk result (λ x. ArePlaces bytes.now x.0) }
-    ensures read { Gives (λ x. (map (record_of bytes.now) x.0, x.1)) result
-        (frames_behind begins bytes.now) }
+/// How many bytes stand behind the last frame of a log, which ends at `end`, if they are a torn tail;
+/// else what is wrong with them. A frame there would have this LSN, and `before` bytes of the log
+/// stand in front of these.
+pub fn torn_from(lsn: u64, before: usize, bytes: &[u8], end: usize) -> Result<usize, Fault>
+    requires end { end ≤ length bytes.now }
+    requires short { before + length bytes.now < 2 ^ 63 }
+    requires all { HasNoFrame bytes.now lsn end }
+    ensures torn { IfOk result (λ torn.
+        (next_at lsn (before + end) (drop end bytes.now) ≡ Ok None)
+        × (length (drop end bytes.now) ≡ torn)) }
+    ensures fault { IfErr result (λ e. Fails e (next_at lsn (before + end) (drop end bytes.now))) }
 {
-    let mut offsets = Offsets::with_room(alloc, bytes.len());
-    let mut offset = begins.header_bytes();
-    for number in 0..bytes.len() {
-        let (_, rest) = bytes.split_at(offset);
-        match next_at(begins.base() + number as u64 + 1, offset, rest)? {
-            None => return Ok((offsets, rest.len())),
-            Some(size) => {
-                offsets.push(offset)?;
-                offset += size;
-            }
-        }
+    let (_, tail) = bytes.split_at(end);
+    match next_at(lsn, before + end, tail) {
+        Ok(None) => Ok(tail.len()),
+        Ok(Some(_)) => unreachable!(),
+        Err(fault) => Err(fault),
     }
-    Ok((offsets, bytes.len() - offset))
 }

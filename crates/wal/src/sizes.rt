@@ -37,9 +37,18 @@ pub const SMALLEST_FRAME: usize = 4 + SMALLEST_BODY;
 /// PrevLSN.
 pub const PLAIN_BODY: usize = SMALLEST_BODY + 4 + LSN_BYTES;
 
+/// How many bytes the frame of a commit, an abort, an end or a prepare takes.
+pub const PLAIN_FRAME: usize = 4 + PLAIN_BODY;
+
 /// How many bytes the body of a checkpoint end takes without its entries: kind, LSN, the LSN of its
 /// begin, and the count of each table.
 pub const CHECKPOINT_BODY: usize = SMALLEST_BODY + LSN_BYTES + 8;
 
+/// How many bytes the frame of a checkpoint end takes without its entries.
+pub const CHECKPOINT_FRAME: usize = 4 + CHECKPOINT_BODY;
+
 /// How many bytes the largest body takes, which is that of a checkpoint end with full tables.
 pub const LARGEST_BODY: usize = CHECKPOINT_BODY + ENTRY_BYTES * TRANSACTIONS + DIRTY_BYTES * PAGES;
+
+/// How many bytes the longest frame takes.
+pub const LONGEST_FRAME: usize = 4 + LARGEST_BODY;

@@ -1,8 +1,10 @@
 //! Stretches of a log, which several threads read at once: each guesses where a frame begins.
 
-ghost use Rattle.std.specs.Prelude.{◌≡◌, ◌≤◌, ◌<◌, ◌+◌, ℕ, List, All, length, IfOk, IfSome, IsOkUnless};
+ghost use Rattle.std.specs.Prelude.{◌≡◌, ◌≤◌, ◌<◌, ◌+◌, ◌^◌, ℕ, List, All, Ok, Some, drop, length, IfOk, IfSome, IfNone, IsOkUnless};
 ghost use Rattle.page.specs.declared.fault.Fault.TheVariants.{NoResource};
-ghost use Rattle.wal.specs.Stretches.{IsStretch, IfStretch, LeavesRoom};
+ghost use Rattle.wal.specs.Records.{LogRecord};
+ghost use Rattle.wal.specs.Frames.{next_at};
+ghost use Rattle.wal.specs.Stretches.{IsStretch, IfStretch, LeavesRoom, HasNoFrame};
 
 use crate::field::u64_at;
 use crate::next::next_at;
@@ -29,47 +31,51 @@ pub struct Stretch {
 }
 
 impl Stretch {
-    /// No frames, in front of any bytes.
-    pub fn none(alloc: Global) -> Stretch
-        ensures { (bytes : List ℕ) → IsStretch bytes result }
+    /// No frames yet, in bytes where the first is to begin at `begin` and to have this LSN. There is
+    /// room for those of `room` bytes.
+    pub fn none(alloc: Global, lsn: u64, begin: usize, room: usize) -> Stretch
+        requires { LeavesRoom lsn }
+        ensures frames { (bytes : List ℕ) → begin ≤ length bytes → IsStretch bytes result }
+        ensures begins { (result.lsn ≡ lsn) × (result.begin ≡ begin) }
+        ensures empty { (length result.offsets ≡ 0) × (result.end ≡ begin) }
     {
         Stretch {
-            lsn: 1,
-            begin: 0,
-            offsets: Offsets::with_room(alloc, 0),
-            end: 0,
+            lsn,
+            begin,
+            offsets: Offsets::with_room(alloc, room),
+            end: begin,
         }
     }
 }
 
-/// The frames from `begin` on, of which the first is to have this LSN: until one ends at `upto` or
-/// behind it, or what stands there is no frame. Room is made for those of `room` bytes. The only error
-/// is `NoResource`.
-pub fn stretch_from(
-    alloc: Global,
-    bytes: &[u8],
-    lsn: u64,
-    begin: usize,
-    upto: usize,
-    room: usize,
-) -> Result<Stretch, Fault>
-    requires begin { begin ≤ length bytes.now }
-    requires lsn { LeavesRoom lsn }
+/// A stretch, and the frames behind it: until one ends at `upto` or behind it, or what stands there
+/// is no frame. All frames of all logs are read here. The only error is `NoResource`.
+pub fn read_on(bytes: &[u8], known: Stretch, upto: usize) -> Result<Stretch, Fault>
+    requires known { IsStretch bytes.now known }
     ensures frames { IfOk result (IsStretch bytes.now) }
-    ensures begins { IfOk result (λ stretch. (stretch.lsn ≡ lsn) × (stretch.begin ≡ begin)) }
+    ensures begins { IfOk result (λ x. (x.lsn ≡ known.lsn) × (x.begin ≡ known.begin)) }
+    ensures end { IfOk result (λ x. x.end < upto
+        → HasNoFrame bytes.now (x.lsn + length x.offsets) x.end) }
     ensures err { IsOkUnless result NoResource }
 {
-    let mut offsets = Offsets::with_room(alloc, room);
-    let mut end = begin;
-    for number in 0..bytes.len() {
-        if end >= upto {
-            break;
-        }
+    let _len = bytes.len();
+    let mut next = known.lsn + known.offsets.len() as u64;
+    let Stretch {
+        lsn,
+        begin,
+        mut offsets,
+        mut end,
+    } = known;
+    while end < upto {
         let (_, rest) = bytes.split_at(end);
-        let Ok(Some(size)) = next_at(lsn + number as u64, end, rest) else {
+        let Ok(found) = next_at(next, end, rest) else {
+            break;
+        };
+        let Some(size) = found else {
             break;
         };
         offsets.push(end)?;
+        next += 1;
         end += size;
     }
     Ok(Stretch {
@@ -130,7 +136,8 @@ fn guessed_stretch(
     };
     // The others are put behind the first.
     let room = if number == 0 { bytes.len() } else { share };
-    Ok(Some(stretch_from(alloc, bytes, lsn, begin, from + share, room)?))
+    let none = Stretch::none(alloc, lsn, begin, room);
+    Ok(Some(read_on(bytes, none, from + share)?))
 }
 
 /// What the threads have read, if memory was there for all of it.

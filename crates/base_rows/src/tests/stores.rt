@@ -4,8 +4,8 @@ ghost use Rattle.std.specs.Prelude.{◌<◌, ◌≤◌};
 
 use super::{check, check_all, check_at};
 use page::{
-    Fault, PAGE_BYTES, Page, Store, StoreReader, Value, decode_page, decode_store, encode_header,
-    encode_page, encode_pages_into, encode_store,
+    Fault, PAGE_BYTES, Page, Store, StoreReader, Value, decode_page, decode_store, encode_page,
+    encode_pages_into, encode_store, store_header,
 };
 use std::alloc::{AllocError, Global};
 use std::test::Fail;
@@ -234,11 +234,11 @@ fn read_by(alloc: Global, bytes: &[u8], images: usize) -> Result<Store, Fault>
     requires few { images ≤ 4096 }
 {
     if bytes.len() < 24 {
-        let reader = StoreReader::begin(alloc, bytes)?;
+        let reader = StoreReader::begin(alloc, bytes);
         return reader.finish();
     }
     let (header, mut rest) = bytes.split_at(24);
-    let mut reader = StoreReader::begin(alloc, header)?;
+    let mut reader = StoreReader::begin(alloc, header);
     let size = PAGE_BYTES * images;
     while rest.len() >= size {
         let (piece, behind) = rest.split_at(size);
@@ -345,7 +345,8 @@ fn is_written_by_pieces(alloc: Global) -> Result<bool, Fault> {
     }
     let (front, back) = store.pages.split_at(65);
     let mut images = vec![in alloc; 0xff; 66_560]?;
-    let mut again = padded(alloc, &[&encode_header(&store)], 24)?;
+    let count = store.pages.len() as u32;
+    let mut again = padded(alloc, &[&store_header(count, store.master)], 24)?;
     encode_pages_into(front, &mut images);
     again.extend_from_slice(&images)?;
     encode_pages_into(back, &mut images);

@@ -13,14 +13,14 @@ use std::test::Fail;
 use std::thread::Threads;
 
 /// How many updates the log has. The first takes 33 bytes, each other one 34, and the commit 25: more
-/// than 4 MiB in all.
-const UPDATES: u64 = 125_000;
+/// than 32 MiB in all.
+const UPDATES: u64 = 990_000;
 
 /// Where the frame of an update begins which is not the first.
 const fn offset_of(lsn: u64) -> usize
     requires second { 2 ≤ lsn }
-    requires last { lsn ≤ 125000 }
-    ensures { result ≤ 4249973 }
+    requires last { lsn ≤ 990000 }
+    ensures { result ≤ 33659973 }
 {
     8 + 33 + 34 * (lsn as usize - 2)
 }
@@ -87,8 +87,8 @@ fn refusal<R: Threads + Sync>(rt: &R, alloc: Global, log: &[u8], workers: u32) -
 fn faults_of_long_logs_are_told(rt: HostRuntime) -> Result<(), Fail> {
     let alloc = rt.alloc();
     for (name, offset) in [
-        ("the first part", offset_of(20_000)),
-        ("the second", offset_of(100_000)),
+        ("the first part", offset_of(200_000)),
+        ("the second", offset_of(800_000)),
         ("the last update", offset_of(UPDATES)),
     ] {
         let mut log = long_commit(alloc, UPDATES)?.bytes;

@@ -8,7 +8,7 @@ use page::Fault;
 use std::alloc::Global;
 use std::test::Fail;
 use std::thread::Threads;
-use wal::{Log, Stretch, cut_of, first_stretch, log_in_parts, next_stretch};
+use wal::{BASED_HEADER_BYTES, first_frames, read_log, read_log_behind};
 
 /// Where the frame with this LSN begins.
 const fn offset_of(lsn: u64) -> usize
@@ -19,37 +19,30 @@ const fn offset_of(lsn: u64) -> usize
     8 + FRAME_BYTES * (lsn as usize - 1)
 }
 
-/// The log in two parts, by as many threads as this; None where it is none in these parts.
-fn in_parts<'a, R: Threads + Sync>(
+/// How many records the log has that comes in these two parts, and how many bytes its torn tail has,
+/// read by three threads: what the front ends with goes in front of the back.
+fn read_in_parts<R: Threads + Sync>(
     rt: &R,
     alloc: Global,
-    front: &'a [u8],
-    back: &'a [u8],
-    threads: usize,
-) -> Result<Option<(Log<'a>, usize)>, Fault> {
-    let Some(first) = first_stretch(rt, alloc, front, threads)? else {
-        return Ok(None);
-    };
-    let Some(second) = next_stretch(rt, alloc, back, &first, threads)? else {
-        return Ok(None);
-    };
-    Ok(log_in_parts(front, back, first, second))
+    front: &[u8],
+    back: &[u8],
+) -> Result<(u64, usize, bool), Fault> {
+    if front.len() < BASED_HEADER_BYTES {
+        return Err(Fault::BadLogHeader);
+    }
+    let first = first_frames(rt, alloc, front, 3)?;
+    let (whole, rest) = front.split_at(first.end);
+    let mut behind = Vec::from_slice(alloc, rest)?;
+    behind.extend_from_slice(back)?;
+    let (log, torn) = read_log_behind(rt, alloc, whole, first, &behind, 3)?;
+    Ok((log.len(), torn, are_at_their_lsns(&log, log.len())))
 }
 
-/// Whether the log that is cut here has all records, each at its LSN, and this many bytes of a torn
-/// tail.
-fn are_read<R: Threads + Sync>(
-    rt: &R,
-    alloc: Global,
-    log: &[u8],
-    cut: usize,
-    records: u64,
-    torn_bytes: usize,
-) -> Result<bool, Fault> {
-    let (front, back) = log.split_at(cut.min(log.len()));
-    match in_parts(rt, alloc, front, back, 3)? {
-        Some((log, torn)) => Ok(are_at_their_lsns(&log, records) && torn == torn_bytes),
-        None => Ok(false),
+/// The fault of the log in one part.
+fn fault_of(alloc: Global, log: &[u8]) -> Option<Fault> {
+    match read_log(alloc, log) {
+        Ok(_) => None,
+        Err(fault) => Some(fault),
     }
 }
 
@@ -58,13 +51,18 @@ fn parts_are_what_the_whole_is(rt: HostRuntime) -> Result<(), Fail> {
     let alloc = rt.alloc();
     let log = updates(alloc, b"thirteen byte")?;
     for (name, cut) in [
-        ("behind the header", 8),
         ("behind the first record", offset_of(2)),
+        ("within the second", offset_of(2) + 20),
         ("in the middle", offset_of(2_600)),
+        ("within a record", offset_of(2_600) + FRAME_BYTES - 1),
         ("before the last record", offset_of(RECORDS)),
         ("at the end", offset_of(RECORDS + 1)),
     ] {
-        check(are_read(&rt, alloc, &log, cut, RECORDS, 0)?, name)?;
+        let (front, back) = log.split_at(cut.min(log.len()));
+        check(
+            read_in_parts(&rt, alloc, front, back)? == (RECORDS, 0, true),
+            name,
+        )?;
     }
     Ok(())
 }
@@ -76,64 +74,42 @@ fn torn_tail_behind_two_parts(rt: HostRuntime) -> Result<(), Fail> {
     let torn = &log[..log.len().saturating_sub(5)];
     for (name, cut) in [
         ("in the middle", offset_of(2_600)),
-        ("before the torn record", offset_of(RECORDS)),
+        ("within the torn record", offset_of(RECORDS) + 7),
         ("at the end", log.len() - log.len().min(5)),
     ] {
-        let is_read = are_read(&rt, alloc, torn, cut, RECORDS - 1, FRAME_BYTES - 5)?;
-        check(is_read, name)?;
+        let (front, back) = torn.split_at(cut.min(torn.len()));
+        let read = read_in_parts(&rt, alloc, front, back)?;
+        check(read == (RECORDS - 1, FRAME_BYTES - 5, true), name)?;
     }
     Ok(())
 }
 
 #[test]
-fn other_parts_are_no_log(rt: HostRuntime) -> Result<(), Fail> {
+fn faults_are_those_of_the_whole(rt: HostRuntime) -> Result<(), Fail> {
     let alloc = rt.alloc();
-    let log = updates(alloc, b"thirteen byte")?;
-    let (front, back) = log.split_at(offset_of(2_600).min(log.len()));
-    let (short, _) = log.split_at(offset_of(2_599).min(log.len()));
-    let (within, rest) = log.split_at((offset_of(2_600) + 20).min(log.len()));
-    let (_, header_alone) = log.split_at(log.len());
-    for (name, front, back) in [
-        ("a record less in front", short, back),
-        (
-            "a record twice",
-            front,
-            &log[offset_of(2_599).min(log.len())..],
-        ),
-        ("cut within a record", within, rest),
-        ("no header", header_alone, back),
+    for (name, lsn, byte) in [
+        ("a length in the front", 1_000, 1),
+        ("a kind in the front", 1_000, 4),
+        ("an LSN in the front", 1_000, 12),
+        ("a length in the back", 4_000, 1),
+        ("a kind in the back", 4_000, 4),
+        ("an LSN in the back", 4_000, 12),
+        ("a length where the parts meet", 2_600, 1),
+        ("an LSN where the parts meet", 2_600, 12),
     ] {
-        check(in_parts(&rt, alloc, front, back, 3)?.is_none(), name)?;
+        let mut log = updates(alloc, b"thirteen byte")?;
+        let place = offset_of(lsn) + byte;
+        if place < log.len() {
+            log[place] = 99;
+        }
+        for cut in [offset_of(2_600), offset_of(2_600) + 20] {
+            let (front, back) = log.split_at(cut.min(log.len()));
+            let fault = match read_in_parts(&rt, alloc, front, back) {
+                Ok(_) => None,
+                Err(fault) => Some(fault),
+            };
+            check(fault.is_some() && fault == fault_of(alloc, &log), name)?;
+        }
     }
     Ok(())
-}
-
-#[test]
-fn frames_are_no_log_without_those_behind(rt: HostRuntime) -> Result<(), Fail> {
-    let alloc = rt.alloc();
-    let log = updates(alloc, b"thirteen byte")?;
-    let (front, back) = log.split_at(offset_of(2_600).min(log.len()));
-    let Some(first) = first_stretch(&rt, alloc, front, 1)? else {
-        return Err(Fail::new("no header"));
-    };
-    check(
-        log_in_parts(front, back, first, Stretch::none(alloc)).is_none(),
-        "no record of the back",
-    )
-}
-
-#[test]
-fn logs_are_cut_behind_the_last_whole_frame(rt: HostRuntime) -> Result<(), Fail> {
-    let alloc = rt.alloc();
-    let log = updates(alloc, b"thirteen byte")?;
-    let cut = offset_of(3_001);
-    for (name, end) in [
-        ("nothing behind", cut),
-        ("3 bytes", cut + 3),
-        ("all but one", cut + FRAME_BYTES - 1),
-    ] {
-        let (front, _) = log.split_at(end.min(log.len()));
-        check(cut_of(alloc, front)? == cut, name)?;
-    }
-    check(cut_of(alloc, b"ARIESLG1")? == 8, "no frame")
 }

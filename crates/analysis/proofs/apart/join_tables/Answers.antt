@@ -1,6 +1,6 @@
 use Rattle.std.proofs.Common.{sym, ap, subst, map}
 use Rattle.wal.specs.Content.{entry_of}
-use Rattle.analysis.specs.Lawful.{AreTrue}
+use Rattle.tables.specs.Lawful.{AreTrue}
 use Rattle.analysis.specs.Tables.{AreTablesOf, tables_with}
 use Rattle.analysis.proofs.Halves.{both_halves}
 use Rattle.analysis.proofs.Truth.{tables_true}

@@ -3,14 +3,9 @@ use Rattle.wal.specs.Records.{History, history, first, last_lsn, base_lsn}
 use Rattle.wal.specs.Redo.{rec_lsn_of}
 use Rattle.wal.proofs.Histories.{size_of_first_le, base_of_first}
 use Rattle.analysis.specs.Tables.{analysed_rec_lsn, redo_lsn_of, AreAllListed, ServesRedo}
-use Rattle.analysis.proofs.Scanned.{rec_lsn_none}
+use Rattle.analysis.proofs.Scanned.{at_first}
 use Rattle.analysis.proofs.NoFurther.{serves}
 use Rattle.analysis.proofs.dirty.list_pages.Goals as goal
-
--- behind the master there is no record yet
-at_first : (page m from : ℕ) (base : Option ℕ) (log : History) → base_lsn log ≤ from → from ≡ max m (base_lsn log) → base ≡ analysed_rec_lsn page m base (first from log)
-at_first page m from base log le is =
-    sym (rec_lsn_none page m base (first from log) (omega (arith, is, size_of_first_le from log le, base_of_first from log)))
 
 pub returns-then-redo_lsn-upto-clause-pages : goal.returns-then-redo_lsn-upto-clause-pages
 returns-then-redo_lsn-upto-clause-pages c = λ transactions pages base same rising.

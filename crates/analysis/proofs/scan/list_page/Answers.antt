@@ -1,6 +1,7 @@
 use Rattle.std.proofs.Common.{sym, ap, ◌∙◌}
 use Rattle.std.specs.Prelude.{is_some}
-use Rattle.analysis.proofs.Maps.{rec_lsn_of-lookup, listed_stays, unlisted_begins}
+use Rattle.tables.proofs.Lookups.{rec_lsn_of-lookup}
+use Rattle.analysis.proofs.Maps.{listed_stays, unlisted_begins}
 use Rattle.analysis.proofs.scan.list_page.Goals as goal
 
 pub returns-in_ok-insert-clause-ok : goal.returns-in_ok-insert-clause-ok

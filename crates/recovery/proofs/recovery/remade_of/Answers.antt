@@ -37,7 +37,7 @@ returns-clause-answer c = λ log_bytes text before reads_log spells restarts.
       outcome = outcome_in log c.args.outcome;
       restarts = restarts;
       log_is = log_is;
-      reads = reads_extended bytes read appended log_is reads_log.starts reads_log.each (told_fit log told c.requires.writable) few;
+      reads = reads_extended bytes read appended log_is reads_log.starts reads_log.each (told_fit read told c.requires.writable) few;
       store_is = ap store_text c.report_of-report.ensures.store;
       report_is = c.report_of-report.ensures.report;
     }
@@ -58,7 +58,7 @@ returns-clause-lawful c = λ base log_bytes before reads_log restored.
     kept refl
     (c.in_ok-frames.ensures.frames ∙ ap (λ xs. spellings (last_lsn log + 1) (records_of log xs)) same) in
     let few : last_lsn log + length appended < 2 ^ 64 = omega (arith, c.in_ok-frames.ensures.room, ap length same, length-map told (record_of log)) in
-    let reads = reads_extended bytes read appended log_is reads_log.starts reads_log.each (told_fit log told c.requires.writable) few in
+    let reads = reads_extended bytes read appended log_is reads_log.starts reads_log.each (told_fit read told c.requires.writable) few in
     record {
       log_is = log_is ∙ ap (λ (rs : List LogRecord). log_text (read ⧺ rs)) restored.appended;
       reads = subst (λ (rs : List LogRecord). Reads bytes (read ⧺ rs) 0) restored.appended reads;

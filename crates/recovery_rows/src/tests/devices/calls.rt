@@ -136,18 +136,23 @@ fn a_failed_recovery_is_gone_on_from(rt: HostRuntime) -> Result<(), Fail> {
     Ok(())
 }
 
-/// The header of a store is read by one call, and then 64 KiB by each. One that is longer than any
-/// store is told by the 65th of these: no failure behind it is met.
+/// The header of a store is read by one call, then 64 KiB by each, and the end is met by one more. A
+/// store that is refused for its bytes is read to its end too: a failure of each of these calls is told.
 #[test]
-fn a_long_store_is_not_read_to_its_end(rt: HostRuntime) -> Result<(), Fail> {
+fn a_refused_store_is_read_to_its_end(rt: HostRuntime) -> Result<(), Fail> {
     let alloc = rt.alloc();
     let mut long = worked_one_loser(alloc)?;
     long.before.resize(24 + 67 * 65_536, 0)?;
     let fast = Paces::all(Pace::of_step(usize::MAX));
-    for (call, fault) in [(66, Fault::ReadStore), (67, Fault::StoreSize)] {
-        let paces = fast.with(Device::StoreSource, Pace::failing(usize::MAX, call));
-        let seen = seen(&rt, alloc, &long, &paces)?;
-        check_at(call, seen == (Err(fault), 0, 0), "a failure at call")?;
+    for (first, refused) in [(b'A', Fault::StoreSize), (b'B', Fault::BadStoreHeader)] {
+        if let Some(byte) = long.before.get_mut(0) {
+            *byte = first;
+        }
+        for (call, fault) in [(2, Fault::ReadStore), (69, Fault::ReadStore), (70, refused)] {
+            let paces = fast.with(Device::StoreSource, Pace::failing(usize::MAX, call));
+            let seen = seen(&rt, alloc, &long, &paces)?;
+            check_at(call, seen == (Err(fault), 0, 0), "a failure at call")?;
+        }
     }
     Ok(())
 }

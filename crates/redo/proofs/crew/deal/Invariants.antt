@@ -7,5 +7,5 @@ invariant-loop-home l =
     (l.rest.board ≡ l.board)
     × (l.rest.places + l.home ≡ l.workers)
     × (l.rest.drawn ≡ [])
-    × (vec_len l.jobs ≡ l.home)
-    × All (IsReady l.board) l.jobs.items
+    × (vec_len l.crew ≡ l.home)
+    × All (IsReady l.board) l.crew.items

@@ -15,6 +15,6 @@ loop-part-preserved g c =
       (λ part has.
           elim (Contains-append_cases c.loop-part.seat.drawn (c.in-Part.part ∷ []) part (subst (λ xs. Contains xs part) drew.part.2 has)) [
             | inl h ↦ on_ok c.redo_part.result answered c.redo_part.ensures.kept part (old.3 part h)
-            | inr h ↦ subst (λ p. HasPart c.args.input.now p (map (resolved c.args.input.now) c.redo_part.new.tallies.items)) (c.enter-entered.ensures ∙ contains_one c.in-Part.part part h) (on_ok c.redo_part.result answered c.redo_part.ensures.added)
+            | inr h ↦ subst (λ p. HasPart c.args.parted.now.parting p (map (resolved c.args.parted.now.input) c.redo_part.new.tallies.items)) (c.pass_gate-entered.ensures ∙ contains_one c.in-Part.part part h) (on_ok c.redo_part.result answered c.redo_part.ensures.added)
           ]),
     )

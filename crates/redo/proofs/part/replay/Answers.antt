@@ -10,14 +10,14 @@ use Rattle.redo.proofs.part.replay.Goals as goal
 pub loop-index-init : goal.loop-index-init
 loop-index-init c =
     let all : length c.args.notes.now ≡ length c.args.notes.now - 0 = omega arith in (
-      fold_none (history c.args.input.now.log) c.args.input.now.redo_lsn (map (resolved c.args.input.now) c.args.tallies.now),
+      fold_none (history c.args.parted.now.input.log) c.args.parted.now.input.redo_lsn (map (resolved c.args.parted.now.input) c.args.tallies.now),
       refl,
-      subst (λ n. All (λ p. p.applied + n < 2 ^ 64) (map (resolved c.args.input.now) c.args.tallies.now)) all c.requires.room,
+      subst (λ n. All (λ p. p.applied + n < 2 ^ 64) (map (resolved c.args.parted.now.input) c.args.tallies.now)) all c.requires.room,
     )
 
 pub loop-index-preserved : goal.loop-index-preserved
 loop-index-preserved c =
-    let input = c.args.input.now in
+    let input = c.args.parted.now.input in
     let log = (history input.log) in
     let redo_lsn = input.redo_lsn in
     let lsns = map lsn_in c.args.notes.now in
@@ -37,7 +37,7 @@ loop-index-preserved c =
 
 pub returns : goal.returns
 returns c =
-    let input = c.args.input.now in
+    let input = c.args.parted.now.input in
     let lsns = map lsn_in c.args.notes.now in
     let end : length lsns ≤ c.loop-index.index = omega (arith, length-map c.args.notes.now lsn_in, c.loop-index-test.false, c.len-index-end.ensures) in
     c.loop-index.invariant.0 ∙ ap (λ xs. map (λ p. fold (step (history input.log) input.redo_lsn) p xs) (map (resolved input) c.args.tallies.now)) (take_all c.loop-index.index lsns end)

@@ -7,7 +7,7 @@ use Rattle.redo.proofs.route.route_through.Given as goal
 
 abbrev pub invariant-loop-lsn : goal.invariant-loop-lsn
 invariant-loop-lsn l =
-    (length l.lists.items ≡ l.input.parting.parts)
-    × ((part : ℕ) → part < l.input.parting.parts → map lsn_in (notes_at l.lists.items part) ≡ lsns_where (on_part l.input.parting.part_of part) l.from (first l.lsn (history l.input.log)))
-    × ExistWithin l.input.log (length l.input.images) l.from l.lsn
-    × ((part : ℕ) → part < l.input.parting.parts → All (IsNote (history l.input.log) l.input.parting.place_of) (notes_at l.lists.items part))
+    (length l.lists.items ≡ l.parted.parting.parts)
+    × ((part : ℕ) → part < l.parted.parting.parts → map lsn_in (notes_at l.lists.items part) ≡ lsns_where (on_part l.parted.parting.part_of part) l.from (first l.lsn (history l.parted.input.log)))
+    × ExistWithin l.parted.input.log (length l.parted.input.images) l.from l.lsn
+    × ((part : ℕ) → part < l.parted.parting.parts → All (IsNote (history l.parted.input.log) l.parted.parting.place_of) (notes_at l.lists.items part))

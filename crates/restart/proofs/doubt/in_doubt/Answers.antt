@@ -9,7 +9,7 @@ use Rattle.wal.specs.declared.record.Entry.{Entry}
 use Rattle.wal.specs.Records.{TableEntry, tx_in}
 use Rattle.wal.specs.Content.{entry_of}
 use Rattle.wal.specs.Undo.{is_prepared, is_lost, doubtful_in}
-use Rattle.analysis.specs.Tables.{TablesContent}
+use Rattle.tables.specs.Tables.{TablesContent}
 use Rattle.restart.proofs.doubt.in_doubt.Goals as goal
 
 -- the transactions in doubt among the entries of the turns so far, and of one turn more

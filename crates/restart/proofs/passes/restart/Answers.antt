@@ -2,7 +2,6 @@ use Rattle.std.proofs.Common.{◌≡◌, List, length, sym, ap, ◌∙◌, subst
 use Rattle.std.proofs.lemmas.Result.{err_from_is_err_and, IfOk-weaker}
 use Rattle.page.specs.declared.page.Page.{Page}
 use Rattle.page.specs.Store.{StoreContent}
-use Rattle.wal.specs.Records.{history}
 use Rattle.wal.specs.Store.{Lawful}
 use Rattle.undo.proofs.Told.{told_writable}
 use Rattle.restart.specs.Outcome.{OutcomeContent}
@@ -21,5 +20,5 @@ returns-in_err-brief-clause-lawful g c = λ base lawful fit.
 pub returns-clause-writable : goal.returns-clause-writable
 returns-clause-writable g c =
     IfOk-weaker c.outcome_of.result _ _
-    (λ x same. told_writable (history c.args.log.now) c.in_ok-brief.brief.appended.items x.appended.items (ap (λ (o : OutcomeContent). o.appended) same) c.in_ok-brief.ensures.writable)
+    (λ x same. told_writable c.args.log.now c.in_ok-brief.brief.appended.items x.appended.items (ap (λ (o : OutcomeContent). o.appended) same) c.in_ok-brief.ensures.writable)
     c.outcome_of.ensures.ok

@@ -1,49 +1,90 @@
-use Rattle.std.proofs.Common.{◌≡◌, length, sym, ap, ◌∙◌, subst}
-use Rattle.std.specs.Prelude.{IfOk}
+use Rattle.std.proofs.Common.{ℕ, ◌≡◌, ◌-◌, length, refl, sym, ap, ◌∙◌, subst, arith}
 use Rattle.std.proofs.lemmas.List.{length-map}
-use Rattle.std.proofs.lemmas.Result.{IfOk-weaker, IfErr-weaker}
-use Rattle.wal.specs.Records.{history}
-use Rattle.analysis.specs.Tables.{losers_in}
+use Rattle.std.proofs.lemmas.Result.{err_from_is_err_and}
+use Rattle.page.specs.Store.{StoreContent, AreNumbered}
+use Rattle.wal.specs.Records.{LogContent, history}
+use Rattle.wal.specs.Content.{entry_of}
+use Rattle.tables.specs.Tables.{TablesContent, losers_in}
+use Rattle.redo.specs.declared.redone.Redone.{Redone}
 use Rattle.redo.specs.Redone.{redone_page}
-use Rattle.undo.specs.Undone.{UndoFault}
-use Rattle.restart.specs.Outcome.{outcome_in}
-use Rattle.restart.specs.Restart.{RollsBack}
-use Rattle.restart.proofs.Restored.{outcome_restores}
+use Rattle.undo.specs.Appended.{records_of, HaveUpdates}
+use Rattle.undo.specs.Undone.{undone_page, RolledBack, IsLawfulCrash, UndoFault}
+use Rattle.restart.specs.Outcome.{OutcomeContent, outcome_in}
+use Rattle.restart.specs.Restart.{clrs_in, ends_in, IsRedone, RollsBack}
+use Rattle.restart.proofs.Restored.{changed_numbered, restores}
 use Rattle.restart.proofs.Causes.{undo_fault}
 use Rattle.restart.proofs.passes.roll_back.Goals as goal
 
+-- redo made as many pages as there were
+count : (log : LogContent) (before : StoreContent) (tables : TablesContent) (redone : Redone) → IsRedone log before tables redone → length redone.pages.items ≡ length before.pages
+count log before tables redone made = ap length made.redone_pages ∙ length-map before.pages (redone_page log tables)
+
+pub store_of-requires : goal.store_of-requires
+store_of-requires c =
+    subst AreNumbered (sym c.in_ok-pages.ensures.rolled_back.rolled_back.pages_are)
+    (changed_numbered (undone_page (history c.args.log.now) (records_of (history c.args.log.now) c.in_ok-pages.appended.items)) c.args.redone.pages.items (λ page. refl) c.requires.numbered)
+
+pub returns-in_err-pages-clause-lawful : goal.returns-in_err-pages-clause-lawful
+returns-in_err-pages-clause-lawful c = λ base before lawful numbered kept truth made.
+    let exit = err_from_is_err_and c.from_residual-in_err-pages.result c.from_residual-in_err-pages.ensures.1 in
+    rw (exit.1, exit.2)
+    (c.in_err-pages.ensures.lawful (record { base = base; store = before; lawful = lawful; are_true = truth; as_many = count c.args.log.now before c.args.tables.now c.args.redone made }))
+
+pub returns-in_err-pages-clause-fault : goal.returns-in_err-pages-clause-fault
+returns-in_err-pages-clause-fault c = λ before made.
+    let exit = err_from_is_err_and c.from_residual-in_err-pages.result c.from_residual-in_err-pages.ensures.1 in
+    let tables = c.args.tables.now in
+    let fault = c.in_err-pages.field-0.0 in
+    rw (exit.1, exit.2)
+    (undo_fault c.args.log.now before made.none_ahead tables made.are fault made.exist
+    (subst (λ n. UndoFault (history c.args.log.now) (losers_in tables) n fault) (count c.args.log.now before tables c.args.redone made) c.in_err-pages.ensures.fault))
+
+-- what is answered: the losers are rolled back
+abbrev outcome : goal.After-store_of → OutcomeContent
+outcome c =
+    outcome_in (history c.args.log.now)
+    (record {
+      store = c.store_of.result;
+      appended = c.in_ok-pages.appended;
+      redo_from = c.tables.inside.redo_lsn;
+      redone = c.args.redone.applied;
+      losers = c.len.result - c.len-2.result;
+      in_doubt = c.in_ok-in_doubt.in_doubt;
+      compensated = c.count_kinds-compensated.result.0;
+      ended = c.count_kinds-compensated.result.1;
+    })
+
+rolls_back : (c : goal.After-store_of) → (master : ℕ) → master ≡ c.args.master → RollsBack c.args.log.now master c.args.tables.now c.args.redone (outcome c)
+rolls_back c master kept =
+    let log = history c.args.log.now in
+    let told : HaveUpdates c.args.log.now c.deref.result.now = subst (HaveUpdates c.args.log.now) (sym c.deref.ensures.value) c.in_ok-pages.ensures.rolled_back.updates in
+    record {
+      rolled_back =
+          subst (λ (s : StoreContent). RolledBack c.args.log.now c.args.tables.now c.args.redone.pages.items s.pages (records_of log c.in_ok-pages.appended.items)) (sym c.store_of.ensures)
+          c.in_ok-pages.ensures.rolled_back.rolled_back;
+      master_kept = ap (λ (s : StoreContent). s.master) c.store_of.ensures ∙ sym kept;
+      redo_from = ap (λ (t : TablesContent). t.redo_lsn) c.tables.view_is;
+      applied = refl;
+      losers = omega (
+        arith,
+        c.in_ok-in_doubt.ensures.others,
+        c.len.ensures.len,
+        c.len-2.ensures,
+        c.in_ok-in_doubt.in_doubt.ok.0,
+        ap (λ (t : TablesContent). length t.transactions) c.tables.view_is,
+        length-map c.tables.inside.transactions.entries entry_of,
+      );
+      in_doubt_are = c.in_ok-in_doubt.ensures.ok;
+      compensated = c.count_kinds-compensated.ensures.clrs c.args.log.now told ∙ ap (λ xs. clrs_in (records_of log xs)) c.deref.ensures.value;
+      ended = c.count_kinds-compensated.ensures.ends c.args.log.now told ∙ ap (λ xs. ends_in (records_of log xs)) c.deref.ensures.value;
+    }
+
 pub returns-clause-lawful : goal.returns-clause-lawful
 returns-clause-lawful c = λ base before lawful numbered kept truth made.
-    let tables = c.args.tables.now in
-    let redone = c.args.redone in
-    let count : length redone.pages.items ≡ length before.pages = ap length made.redone_pages ∙ length-map before.pages (redone_page c.args.log.now tables) in
-    outcome_restores base c.args.log.now before lawful numbered tables made.are truth redone c.undone.result made.redone_pages made.applied
-    (subst (λ m. IfOk c.undone.result (λ x. RollsBack c.args.log.now m tables redone (outcome_in (history c.args.log.now) x))) (sym kept) c.undone.ensures.rolls_back)
-    (c.undone.ensures.lawful base before lawful truth count)
+    let crash : IsLawfulCrash c.args.log.now c.args.tables.now c.args.redone.pages.items =
+    record { base = base; store = before; lawful = lawful; are_true = truth; as_many = count c.args.log.now before c.args.tables.now c.args.redone made } in
+    restores base c.args.log.now before lawful numbered c.args.tables.now truth c.args.redone (outcome c) made (rolls_back c before.master kept) (c.in_ok-pages.ensures.tail crash)
 
 pub returns-clause-restarts : goal.returns-clause-restarts
 returns-clause-restarts c = λ before kept made.
-    let tables = c.args.tables.now in
-    IfOk-weaker c.undone.result _ _
-    (λ x back. record {
-      tables = tables;
-      redone = c.args.redone;
-      are = made.are;
-      none_ahead = made.none_ahead;
-      exist = made.exist;
-      redone_pages = made.redone_pages;
-      applied = made.applied;
-      rolls_back = subst (λ m. RollsBack c.args.log.now m tables c.args.redone (outcome_in (history c.args.log.now) x)) (sym kept) back;
-    })
-    c.undone.ensures.rolls_back
-
-pub returns-clause-fault : goal.returns-clause-fault
-returns-clause-fault c = λ before made.
-    let tables = c.args.tables.now in
-    let count : length c.args.redone.pages.items ≡ length before.pages = ap length made.redone_pages ∙ length-map before.pages (redone_page c.args.log.now tables) in
-    IfErr-weaker c.undone.result _ _
-    (λ e h. undo_fault c.args.log.now before made.none_ahead tables made.are e made.exist (subst (λ n. UndoFault (history c.args.log.now) (losers_in tables) n e) count h))
-    c.undone.ensures.fault
-
-pub returns-clause-writable : goal.returns-clause-writable
-returns-clause-writable c = IfOk-weaker c.undone.result _ _ (λ x writable. writable c.requires.no_transaction_0) c.undone.ensures.writable
+    record { tables = c.args.tables.now; redone = c.args.redone; is = made; rolls_back = rolls_back c before.master kept }

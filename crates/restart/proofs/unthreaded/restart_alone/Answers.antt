@@ -1,19 +1,13 @@
-use Rattle.std.proofs.Common.{◌≡◌, ◌≤◌, List, All, refl, sym, ap, ◌∙◌, subst, arith}
+use Rattle.std.proofs.Common.{rules, ◌≡◌, ◌≤◌, List, All, refl, sym, ap, ◌∙◌, subst}
 use Rattle.std.proofs.lemmas.Result.{err_from_is_err_and}
 use Rattle.page.specs.declared.page.Page.{Page}
 use Rattle.page.specs.Store.{StoreContent, AreNumbered}
 use Rattle.wal.specs.Records.{history, last_lsn}
-use Rattle.analysis.specs.Tables.{AreTablesOf}
-use Rattle.redo.specs.Redone.{redone_page, AreWorkers}
+use Rattle.redo.specs.Redone.{redone_page}
 use Rattle.undo.proofs.Lost.{lost_none}
-use Rattle.restart.specs.Restart.{AheadFault, NoneAhead, IsRedone}
-use Rattle.restart.proofs.Restored.{redo_alone, ahead_alone, changed_numbered}
-use Rattle.restart.proofs.Causes.{redo_fault}
+use Rattle.restart.specs.Restart.{AheadFault}
+use Rattle.restart.proofs.Restored.{ahead_alone, changed_numbered}
 use Rattle.restart.proofs.unthreaded.restart_alone.Goals as goal
-
--- one worker is a number that redo may have
-one : AreWorkers 1
-one = (omega arith, omega arith)
 
 pub returns-in_err-check_lsns-clause-lawful : goal.returns-in_err-check_lsns-clause-lawful
 returns-in_err-check_lsns-clause-lawful c = λ base lawful.
@@ -23,26 +17,20 @@ returns-in_err-check_lsns-clause-lawful c = λ base lawful.
     rw (exit.1, exit.2)
     (ahead_alone base c.args.log.now c.args.store lawful fault (subst (λ (ps : List Page). AheadFault c.args.log.now ps fault) stored c.in_err-check_lsns.ensures.fault))
 
-pub returns-in_err-redone-clause-lawful : goal.returns-in_err-redone-clause-lawful
-returns-in_err-redone-clause-lawful c = λ base lawful.
-    let exit = err_from_is_err_and c.from_residual-in_err-redone.result c.from_residual-in_err-redone.ensures.1 in
-    rw (exit.1, exit.2)
-    (redo_alone base c.args.log.now c.args.store lawful c.in_ok-tables.tables.redo_lsn 1 c.in_err-redone.field-0.0 one (c.in_err-redone.ensures.fault 1 one))
-
-pub returns-in_err-redone-clause-fault : goal.returns-in_err-redone-clause-fault
-returns-in_err-redone-clause-fault c =
-    let exit = err_from_is_err_and c.from_residual-in_err-redone.result c.from_residual-in_err-redone.ensures.1 in
+pub forward_alone-requires : goal.forward_alone-requires
+forward_alone-requires c =
     let stored : c.deref.result.now ≡ c.args.store.pages = c.deref.ensures.value ∙ ap (λ (s : StoreContent). s.pages) c.store.view_is in
-    let none_ahead : NoneAhead c.args.log.now c.args.store = subst (All (λ (page : Page). page.lsn ≤ last_lsn (history c.args.log.now))) stored c.in_ok-check_lsns.ensures.ok in
-    let are : AreTablesOf c.args.log.now c.args.store.master c.in_ok-tables.tables =
-    subst (λ m. AreTablesOf c.args.log.now m c.in_ok-tables.tables) (ap (λ (s : StoreContent). s.master) c.store.view_is) c.in_ok-tables.ensures.tables in
-    rw (exit.1, exit.2)
-    (redo_fault c.args.log.now c.args.store none_ahead c.in_ok-tables.tables are 1 c.in_err-redone.field-0.0 one (c.in_err-redone.ensures.fault 1 one))
+    (search rules, subst (All (λ (page : Page). page.lsn ≤ last_lsn (history c.args.log.now))) stored c.in_ok-check_lsns.ensures.ok)
+
+pub returns-in_err-tables-clause-lawful : goal.returns-in_err-tables-clause-lawful
+returns-in_err-tables-clause-lawful c = λ base lawful.
+    let exit = err_from_is_err_and c.from_residual-in_err-tables.result c.from_residual-in_err-tables.ensures.1 in
+    rw (exit.1, exit.2) (c.in_err-tables.ensures.lawful base lawful)
 
 pub roll_back-requires-clause-numbered : goal.roll_back-requires-clause-numbered
 roll_back-requires-clause-numbered c =
     let numbered : AreNumbered c.args.store.pages = subst AreNumbered (ap (λ (s : StoreContent). s.pages) c.store.view_is) c.store.invariant in
-    subst AreNumbered (sym c.in_ok-redone.ensures.pages) (changed_numbered (redone_page c.args.log.now c.in_ok-tables.tables) c.args.store.pages (λ page. refl) numbered)
+    subst AreNumbered (sym c.in_ok-tables.ensures.redone.redone_pages) (changed_numbered (redone_page c.args.log.now c.in_ok-tables.tables) c.args.store.pages (λ page. refl) numbered)
 
 pub roll_back-requires-clause-no_transaction_0 : goal.roll_back-requires-clause-no_transaction_0
 roll_back-requires-clause-no_transaction_0 c = lost_none 0 c.in_ok-tables.tables.transactions c.in_ok-tables.ensures.no_transaction_0
@@ -50,42 +38,11 @@ roll_back-requires-clause-no_transaction_0 c = lost_none 0 c.in_ok-tables.tables
 pub returns-clause-lawful : goal.returns-clause-lawful
 returns-clause-lawful c = λ base lawful.
     let kept : c.store.inside.master ≡ c.args.store.master = ap (λ (s : StoreContent). s.master) c.store.view_is in
-    let stored : c.deref.result.now ≡ c.args.store.pages = c.deref.ensures.value ∙ ap (λ (s : StoreContent). s.pages) c.store.view_is in
     let numbered : AreNumbered c.args.store.pages = subst AreNumbered (ap (λ (s : StoreContent). s.pages) c.store.view_is) c.store.invariant in
-    let made : IsRedone c.args.log.now c.args.store c.in_ok-tables.tables c.in_ok-redone.redone =
-    record {
-      are = subst (λ m. AreTablesOf c.args.log.now m c.in_ok-tables.tables) kept c.in_ok-tables.ensures.tables;
-      none_ahead = subst (All (λ (page : Page). page.lsn ≤ last_lsn (history c.args.log.now))) stored c.in_ok-check_lsns.ensures.ok;
-      exist = c.in_ok-redone.ensures.exist;
-      redone_pages = c.in_ok-redone.ensures.pages;
-      applied = c.in_ok-redone.ensures.applied;
-    } in
-    c.roll_back.ensures.lawful base c.args.store lawful numbered (sym kept) (c.in_ok-tables.ensures.lawful base c.args.store lawful (sym kept)) made
+    c.roll_back.ensures.lawful base c.args.store lawful numbered (sym kept) (c.in_ok-tables.ensures.lawful base lawful) c.in_ok-tables.ensures.redone
 
 pub returns-clause-restarts : goal.returns-clause-restarts
-returns-clause-restarts c =
-    let kept : c.store.inside.master ≡ c.args.store.master = ap (λ (s : StoreContent). s.master) c.store.view_is in
-    let stored : c.deref.result.now ≡ c.args.store.pages = c.deref.ensures.value ∙ ap (λ (s : StoreContent). s.pages) c.store.view_is in
-    let made : IsRedone c.args.log.now c.args.store c.in_ok-tables.tables c.in_ok-redone.redone =
-    record {
-      are = subst (λ m. AreTablesOf c.args.log.now m c.in_ok-tables.tables) kept c.in_ok-tables.ensures.tables;
-      none_ahead = subst (All (λ (page : Page). page.lsn ≤ last_lsn (history c.args.log.now))) stored c.in_ok-check_lsns.ensures.ok;
-      exist = c.in_ok-redone.ensures.exist;
-      redone_pages = c.in_ok-redone.ensures.pages;
-      applied = c.in_ok-redone.ensures.applied;
-    } in
-    c.roll_back.ensures.restarts c.args.store (sym kept) made
+returns-clause-restarts c = c.roll_back.ensures.restarts c.args.store (sym (ap (λ (s : StoreContent). s.master) c.store.view_is)) c.in_ok-tables.ensures.redone
 
 pub returns-clause-fault : goal.returns-clause-fault
-returns-clause-fault c =
-    let kept : c.store.inside.master ≡ c.args.store.master = ap (λ (s : StoreContent). s.master) c.store.view_is in
-    let stored : c.deref.result.now ≡ c.args.store.pages = c.deref.ensures.value ∙ ap (λ (s : StoreContent). s.pages) c.store.view_is in
-    let made : IsRedone c.args.log.now c.args.store c.in_ok-tables.tables c.in_ok-redone.redone =
-    record {
-      are = subst (λ m. AreTablesOf c.args.log.now m c.in_ok-tables.tables) kept c.in_ok-tables.ensures.tables;
-      none_ahead = subst (All (λ (page : Page). page.lsn ≤ last_lsn (history c.args.log.now))) stored c.in_ok-check_lsns.ensures.ok;
-      exist = c.in_ok-redone.ensures.exist;
-      redone_pages = c.in_ok-redone.ensures.pages;
-      applied = c.in_ok-redone.ensures.applied;
-    } in
-    c.roll_back.ensures.fault c.args.store made
+returns-clause-fault c = c.roll_back.ensures.fault c.args.store c.in_ok-tables.ensures.redone

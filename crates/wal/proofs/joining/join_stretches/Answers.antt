@@ -1,14 +1,15 @@
-use Rattle.std.proofs.Common.{◌∷◌, refl, sym, ◌∙◌, arith}
+use Rattle.std.proofs.Common.{◌∷◌, sym, ◌∙◌}
 use Rattle.std.proofs.lemmas.List.Elements.{All-head, All-rest, All-same}
 use Rattle.wal.specs.Stretches.{IsStretch}
+use Rattle.wal.proofs.Stretches.{read_to_end}
 use Rattle.wal.proofs.joining.join_stretches.Goals as goal
 
 pub loop-stretch-init : goal.loop-stretch-init
 loop-stretch-init c = (
   All-same (IsStretch c.args.bytes.now) c.into_iter-stretch-iterator.result.rest.items c.args.stretches.items c.into_iter-stretch-iterator.ensures.into_iter_gives.0 c.requires.each,
-  rw c.with_room.ensures (record { frames = refl; room = c.requires.begin; long = omega arith; low = c.requires.lsn }),
-  refl,
-  refl,
+  c.none-known.ensures.frames c.args.bytes.now c.requires.begin,
+  c.none-known.ensures.begins.0,
+  c.none-known.ensures.begins.1,
 )
 
 pub read_on-requires : goal.read_on-requires
@@ -29,3 +30,6 @@ loop-stretch-preserved c = (
 
 pub read_on-requires-2 : goal.read_on-requires-2
 read_on-requires-2 c = record { known = c.loop-stretch.invariant.1 }
+
+pub returns-clause-end : goal.returns-clause-end
+returns-clause-end c = read_to_end c.args.bytes.now c.read_on-2.result c.read_on-2.ensures.end

@@ -4,7 +4,7 @@ use Rattle.base_rows.proofs.tests.stores.read_by.Goals as goal
 
 pub loop-rest-init : goal.loop-rest-init
 loop-rest-init c =
-    let long : length c.in_ok-reader-2.reader ≡ 24 = ap length c.in_ok-reader-2.ensures.ok ∙ omega (arith, c.split_at.ensures.front_len) in
+    let long : length c.begin-reader-2.result ≡ 24 = ap length c.begin-reader-2.ensures ∙ omega (arith, c.split_at.ensures.front_len) in
     (omega (arith, long), omega (arith, long))
 
 pub loop-rest-smaller : goal.loop-rest-smaller

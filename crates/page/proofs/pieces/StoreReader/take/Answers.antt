@@ -15,5 +15,5 @@ invariant_of-self c =
     let le : 24 ≤ length bytes = omega (arith, same, c.requires.header) in
     let whole : length (drop 24 bytes) % 1024 ≡ 0 = omega (arith, same, c.requires.whole, length-drop 24 bytes) in
     let read = c.take_pages-self-inside.ensures.read (drop 24 bytes) whole c.self.invariant.0.read in
-    let so_far = so_far_more bytes c.args.images.now old.count old.master old.size next old.pages.items new old.bad bad le c.self.invariant.0 (omega (arith, c.saturating_add-self-inside.ensures)) read in
-    (subst (λ t. IsSoFar t old.count old.master new next bad) (sym c.joined-self-inside.ensures) so_far, c.take_pages-self-inside.ensures.room)
+    let so_far = so_far_more bytes c.args.images.now old.count old.master old.size next old.pages.items new old.bad bad old.refused le c.self.invariant.0 (omega (arith, c.saturating_add-self-inside.ensures)) read in
+    (subst (λ t. IsSoFar t old.count old.master new next bad old.refused) (sym c.joined-self-inside.ensures) so_far, c.take_pages-self-inside.ensures.room)

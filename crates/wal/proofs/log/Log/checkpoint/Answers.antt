@@ -1,7 +1,11 @@
-use Rattle.std.proofs.Common.{sym, ◌∙◌}
+use Rattle.std.proofs.Common.{Some, ap, sym, ◌∙◌}
+use Rattle.wal.specs.declared.view.RecordView.{RecordView}
+use Rattle.wal.specs.Content.{shown}
 use Rattle.wal.specs.Records.{history}
+use Rattle.wal.specs.Checkpoint.{is_begin}
 use Rattle.wal.proofs.Checkpoints.{begin_above}
 use Rattle.wal.proofs.log.Log.checkpoint.Goals as goal
 
 pub checkpoint_end-requires : goal.checkpoint_end-requires
-checkpoint_end-requires c = begin_above c.args.master (history c.args.self.now) (sym c.begins.ensures ∙ c.if-begins.true)
+checkpoint_end-requires c = begin_above c.args.master (history c.args.self.now)
+    (ap is_begin (sym c.in-Some-CheckpointBegin.ensures.found) ∙ ap (λ (view : RecordView). is_begin (Some (shown view))) c.in-Some-CheckpointBegin.field-0-is)

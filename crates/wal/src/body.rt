@@ -1,0 +1,91 @@
+//! The body of a record as it lies in the log, and what can be seen of the record.
+
+ghost use Rattle.std.specs.Prelude.{◌≡◌, None, Some, IfSome, drop, option_map};
+ghost use Rattle.wal.specs.Content.{shown};
+ghost use Rattle.wal.specs.Frames.{IsPlace, frame_at};
+ghost use Rattle.wal.specs.Glances.{glance_of};
+ghost use Rattle.wal.specs.Meaning.{image_in};
+ghost use Rattle.wal.specs.Records.{LogRecord};
+ghost use Rattle.wal.specs.Spelling.{Fits};
+
+use crate::frame::body_at;
+use crate::glance::{Glance, body_glance};
+use crate::image::body_image;
+use crate::view::{RecordView, value_of};
+use page::Value;
+use std::marker::Model;
+
+/// The body of a record as it lies in the log, of which nothing has been decoded; empty where there
+/// is no record. Contracts see the record, if there is one.
+#[derive(Drop)]
+pub struct Body<'a> {
+    bytes: &'a [u8],
+}
+
+impl<'a> Model for Body<'a> {
+    ghost use Rattle.std.specs.Prelude.{Option, option_map};
+    ghost use Rattle.wal.specs.Records.{LogRecord};
+    ghost use Rattle.wal.specs.Reading.{body_at};
+    ghost use Rattle.wal.specs.Frames.{IsBody};
+
+    ghost Value = { Option LogRecord };
+
+    ghost view = { λ b. option_map (λ x. x.0) (body_at b.bytes.now) };
+
+    ghost invariant = { λ b. IsBody b.bytes.now };
+}
+
+impl<'a> Body<'a> {
+    /// The body of no record.
+    #[tactic(auto, unfolding(crate::specs::Reading::body_at))]
+    pub(crate) fn none() -> Body<'a>
+        ensures { result ≡ None }
+    {
+        Body { bytes: &[] }
+    }
+
+    /// The body of the frame at an offset.
+    #[inline(always)]
+    pub(crate) fn at(bytes: &'a [u8], offset: usize) -> Body<'a>
+        requires { IsPlace bytes.now offset }
+        ensures { result ≡ option_map (λ x. x.0) (frame_at (drop offset bytes.now)) }
+    {
+        let (front, rest) = bytes[offset..].split_at(4);
+        let size = u32::from_be_bytes([front[0], front[1], front[2], front[3]]) as usize;
+        Body {
+            bytes: &rest[..size],
+        }
+    }
+
+    /// The record, which takes no memory; None where there is none. What it shows fits the grammar.
+    #[inline(always)]
+    pub fn view(&self) -> Option<RecordView<'a>>
+        ensures found { option_map shown result ≡ self.now }
+        ensures fits { IfSome result (λ view. Fits (shown view)) }
+    {
+        match body_at(self.bytes) {
+            Some((view, _)) => Some(view),
+            None => None,
+        }
+    }
+
+    /// The record at a glance; None where there is none. No more of it is decoded than that.
+    #[inline(always)]
+    pub fn glance(&self) -> Option<Glance>
+        ensures seen { result ≡ option_map glance_of self.now }
+        ensures fits { (r : LogRecord) → self.now ≡ Some r → Fits r }
+    {
+        body_glance(self.bytes)
+    }
+
+    /// The image that the record put into its cell: None where that was no value, for a record that
+    /// is in no cell, and where there is no record. No more of the record is decoded than that.
+    pub fn image(&self) -> Option<Value>
+        ensures { result ≡ image_in self.now }
+    {
+        if self.bytes.is_empty() {
+            return None;
+        }
+        value_of(body_image(self.bytes))
+    }
+}
