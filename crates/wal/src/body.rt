@@ -8,7 +8,7 @@ ghost use Rattle.wal.specs.Meaning.{image_in};
 ghost use Rattle.wal.specs.Records.{LogRecord};
 ghost use Rattle.wal.specs.Spelling.{Fits};
 
-use crate::frame::body_at;
+use crate::frame::body_view;
 use crate::glance::{Glance, body_glance};
 use crate::image::body_image;
 use crate::view::{RecordView, value_of};
@@ -63,10 +63,7 @@ impl<'a> Body<'a> {
         ensures found { option_map shown result ≡ self.now }
         ensures fits { IfSome result (λ view. Fits (shown view)) }
     {
-        match body_at(self.bytes) {
-            Some((view, _)) => Some(view),
-            None => None,
-        }
+        body_view(self.bytes)
     }
 
     /// The record at a glance; None where there is none. No more of it is decoded than that.

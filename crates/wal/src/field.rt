@@ -11,7 +11,7 @@ use crate::record::{Entry, State};
 use page::{SLOTS, VALUE_BYTES, Value};
 use std::alloc::{AllocError, Allocator};
 
-#[inline]
+#[inline(always)]
 pub fn u32_at(bytes: &[u8]) -> Option<(u32, &[u8])>
     ensures { option_map (λ x. (x.0, x.1.now)) result ≡ number_at w32 bytes.now }
 {
@@ -25,7 +25,7 @@ pub fn u32_at(bytes: &[u8]) -> Option<(u32, &[u8])>
     ))
 }
 
-#[inline]
+#[inline(always)]
 pub fn u64_at(bytes: &[u8]) -> Option<(u64, &[u8])>
     ensures { option_map (λ x. (x.0, x.1.now)) result ≡ number_at w64 bytes.now }
 {
@@ -39,7 +39,7 @@ pub fn u64_at(bytes: &[u8]) -> Option<(u64, &[u8])>
     Some((number, rest))
 }
 
-#[inline]
+#[inline(always)]
 #[tactic(auto, unfolding(crate::specs::Reading::tx_at))]
 pub fn tx_at(bytes: &[u8]) -> Option<(u32, &[u8])>
     ensures { option_map (λ x. (x.0, x.1.now)) result ≡ tx_at bytes.now }
@@ -51,7 +51,7 @@ pub fn tx_at(bytes: &[u8]) -> Option<(u32, &[u8])>
     Some((tx, rest))
 }
 
-#[inline]
+#[inline(always)]
 #[tactic(auto, unfolding(crate::specs::Reading::slot_at))]
 pub fn slot_at(bytes: &[u8]) -> Option<(u8, &[u8])>
     ensures { option_map (λ x. (x.0, x.1.now)) result ≡ slot_at bytes.now }
@@ -67,7 +67,7 @@ pub fn slot_at(bytes: &[u8]) -> Option<(u8, &[u8])>
     }
 }
 
-#[inline]
+#[inline(always)]
 #[tactic(auto, unfolding(crate::specs::Reading::image_at))]
 pub fn image_at(bytes: &[u8]) -> Option<(Option<&[u8]>, &[u8])>
     ensures { option_map (λ x. (option_map (λ s. s.now) x.0, x.1.now)) result ≡ image_at bytes.now }
@@ -91,7 +91,7 @@ pub fn image_at(bytes: &[u8]) -> Option<(Option<&[u8]>, &[u8])>
     }
 }
 
-#[inline]
+#[inline(always)]
 #[tactic(auto, unfolding(crate::specs::Reading::plain_at))]
 pub fn plain_at(bytes: &[u8]) -> Option<(u32, u64, &[u8])>
     ensures { option_map (λ x. (record { tx = x.0; prev = x.1 }, x.2.now)) result
@@ -102,7 +102,7 @@ pub fn plain_at(bytes: &[u8]) -> Option<(u32, u64, &[u8])>
     Some((tx, prev, rest))
 }
 
-#[inline]
+#[inline(always)]
 #[tactic(auto, unfolding(crate::specs::Reading::state_at))]
 fn state_at(bytes: &[u8]) -> Option<(State, &[u8])>
     ensures { option_map (λ x. (x.0, x.1.now)) result ≡ state_at bytes.now }
@@ -118,7 +118,7 @@ fn state_at(bytes: &[u8]) -> Option<(State, &[u8])>
     }
 }
 
-#[inline]
+#[inline(always)]
 #[tactic(auto, unfolding(crate::specs::Reading::entry_at))]
 pub fn entry_at(bytes: &[u8]) -> Option<(u32, Entry, &[u8])>
     ensures { option_map (λ x. (entry_of (x.0, x.1), x.2.now)) result ≡ entry_at bytes.now }
@@ -135,7 +135,7 @@ pub fn entry_at(bytes: &[u8]) -> Option<(u32, Entry, &[u8])>
     Some((tx, entry, rest))
 }
 
-#[inline]
+#[inline(always)]
 #[tactic(auto, unfolding(crate::specs::Reading::dirty_at))]
 pub fn dirty_at(bytes: &[u8]) -> Option<(u32, u64, &[u8])>
     ensures { option_map (λ x. ((x.0, x.1), x.2.now)) result ≡ dirty_at bytes.now }

@@ -1,6 +1,6 @@
 //! Frames: a record in bytes, read and written.
 
-ghost use Rattle.std.specs.Prelude.{◌≡◌, ◌++◌, ◌∷◌, [], ◌<◌, OnOk, OnErr, length, option_map, IsOkUnless};
+ghost use Rattle.std.specs.Prelude.{◌≡◌, ◌++◌, ◌∷◌, [], ◌<◌, true, OnOk, OnErr, length, is_some, option_map, IsOkUnless};
 ghost use Rattle.page.specs.declared.fault.Fault.TheVariants.{NoResource};
 ghost use Rattle.std.specs.Int.{w32, w64, to_be_bytes};
 ghost use Rattle.wal.specs.Records.{CompensationRecord, PlainRecord, UpdateRecord};
@@ -21,46 +21,44 @@ use crate::view::{DirtyTable, RecordView, TransactionTable};
 use page::{Fault, PAGES};
 use std::alloc::{AllocError, Allocator};
 
-#[inline]
+#[inline(always)]
 #[tactic(auto, unfolding(crate::specs::Reading::update_at))]
-fn update_at(bytes: &[u8]) -> Option<(RecordView, &[u8])>
-    ensures { option_map (λ x. (shown x.0, x.1.now)) result ≡ update_at bytes.now }
+fn update_at(bytes: &[u8]) -> Option<RecordView>
+    ensures { option_map shown result ≡ option_map (λ x. x.0) (update_at bytes.now) }
 {
     let (tx, prev, rest) = plain_at(bytes)?;
     let (page, rest) = u32_at(rest)?;
     let (slot, rest) = slot_at(rest)?;
     let (before, rest) = image_at(rest)?;
-    let (after, rest) = image_at(rest)?;
-    let view = RecordView::Update {
+    let (after, _) = image_at(rest)?;
+    Some(RecordView::Update {
         tx,
         prev,
         page,
         slot,
         before,
         after,
-    };
-    Some((view, rest))
+    })
 }
 
-#[inline]
+#[inline(always)]
 #[tactic(auto, unfolding(crate::specs::Reading::compensation_at))]
-fn compensation_at(bytes: &[u8]) -> Option<(RecordView, &[u8])>
-    ensures { option_map (λ x. (shown x.0, x.1.now)) result ≡ compensation_at bytes.now }
+fn compensation_at(bytes: &[u8]) -> Option<RecordView>
+    ensures { option_map shown result ≡ option_map (λ x. x.0) (compensation_at bytes.now) }
 {
     let (tx, prev, rest) = plain_at(bytes)?;
     let (page, rest) = u32_at(rest)?;
     let (slot, rest) = slot_at(rest)?;
     let (undo_next, rest) = u64_at(rest)?;
-    let (image, rest) = image_at(rest)?;
-    let view = RecordView::Compensation {
+    let (image, _) = image_at(rest)?;
+    Some(RecordView::Compensation {
         tx,
         prev,
         page,
         slot,
         undo_next,
         image,
-    };
-    Some((view, rest))
+    })
 }
 
 #[tactic(auto, unfolding(crate::specs::Reading::transactions_at))]
@@ -100,51 +98,59 @@ pub fn checkpoint_at(bytes: &[u8]) -> Option<(RecordView, &[u8])>
     Some((view, rest))
 }
 
-#[inline]
+/// The checkpoint end in front, whose tables take long to read.
+#[inline(never)]
+fn checkpoint_view(bytes: &[u8]) -> Option<RecordView>
+    ensures { option_map shown result ≡ option_map (λ x. x.0) (checkpoint_at bytes.now) }
+{
+    let (view, _) = checkpoint_at(bytes)?;
+    Some(view)
+}
+
+/// The record of this kind in front. Each arm makes the record where it is wanted: to copy one that was
+/// just put together waits for its fields to be written.
+#[inline(always)]
 #[tactic(auto, unfolding(crate::specs::Reading::fields_at, crate::specs::Reading::plain_record_at))]
-fn fields_at(kind: u8, bytes: &[u8]) -> Option<(RecordView, &[u8])>
-    ensures { option_map (λ x. (shown x.0, x.1.now)) result ≡ fields_at kind bytes.now }
+fn fields_at(kind: u8, bytes: &[u8]) -> Option<RecordView>
+    ensures { option_map shown result ≡ option_map (λ x. x.0) (fields_at kind bytes.now) }
 {
     match kind {
         1 => update_at(bytes),
         2 => compensation_at(bytes),
         3 => {
-            let (tx, prev, rest) = plain_at(bytes)?;
-            Some((RecordView::Commit { tx, prev }, rest))
+            let (tx, prev, _) = plain_at(bytes)?;
+            Some(RecordView::Commit { tx, prev })
         }
         4 => {
-            let (tx, prev, rest) = plain_at(bytes)?;
-            Some((RecordView::Abort { tx, prev }, rest))
+            let (tx, prev, _) = plain_at(bytes)?;
+            Some(RecordView::Abort { tx, prev })
         }
         5 => {
-            let (tx, prev, rest) = plain_at(bytes)?;
-            Some((RecordView::End { tx, prev }, rest))
+            let (tx, prev, _) = plain_at(bytes)?;
+            Some(RecordView::End { tx, prev })
         }
-        6 => Some((RecordView::CheckpointBegin, bytes)),
-        7 => checkpoint_at(bytes),
+        6 => Some(RecordView::CheckpointBegin),
+        7 => checkpoint_view(bytes),
         8 => {
-            let (tx, prev, rest) = plain_at(bytes)?;
-            Some((RecordView::Prepare { tx, prev }, rest))
+            let (tx, prev, _) = plain_at(bytes)?;
+            Some(RecordView::Prepare { tx, prev })
         }
         _ => None,
     }
 }
 
-/// The record and the LSN that these bytes spell, all of them.
-#[inline]
+/// The record whose body these bytes are; None where there are none.
+#[inline(always)]
 #[tactic(auto, unfolding(crate::specs::Reading::body_at))]
-pub fn body_at(bytes: &[u8]) -> Option<(RecordView, u64)>
-    ensures { option_map (λ x. (shown x.0, x.1)) result ≡ body_at bytes.now }
+pub fn body_view(bytes: &[u8]) -> Option<RecordView>
+    requires { 0 < length bytes.now → is_some (body_at bytes.now) ≡ true }
+    ensures { option_map shown result ≡ option_map (λ x. x.0) (body_at bytes.now) }
 {
     match bytes {
         [] => None,
         [kind, rest @ ..] => {
-            let (lsn, rest) = u64_at(rest)?;
-            let (view, rest) = fields_at(*kind, rest)?;
-            if !rest.is_empty() {
-                return None;
-            }
-            Some((view, lsn))
+            let (_, rest) = u64_at(rest)?;
+            fields_at(*kind, rest)
         }
     }
 }
@@ -225,7 +231,9 @@ fn put_frame<A: Allocator>(
     ensures ok { OnOk result (out.new.items ≡ out.old.items ++ frame (content logged.now) lsn) }
     ensures kept { Keeps out.old.items out.new.items }
 {
-    out.extend_from_slice(&body_len(logged).to_be_bytes())?;
+    let length = body_len(logged);
+    out.reserve(4 + length as usize)?;
+    out.extend_from_slice(&length.to_be_bytes())?;
     out.push(kind_of(logged))?;
     out.extend_from_slice(&lsn.to_be_bytes())?;
     put_fields(out, logged)?;

@@ -1,6 +1,7 @@
-use Rattle.std.proofs.Common.{sym}
 use Rattle.wal.specs.Content.{shown}
+use Rattle.wal.specs.Reading.{body_at}
+use Rattle.wal.proofs.Places.{shown_fits}
 use Rattle.wal.proofs.body.Body.view.Goals as goal
 
-pub returns-in-Some-clause-fits : goal.returns-in-Some-clause-fits
-returns-in-Some-clause-fits c = c.self.invariant.fits (shown c.in-Some.view) c.in-Some.field-0-1 (sym c.in-Some.ensures)
+pub returns-clause-fits : goal.returns-clause-fits
+returns-clause-fits c = shown_fits shown c.body_view.result (body_at c.self.inside.bytes.now) c.self.invariant.fits c.body_view.ensures
