@@ -120,6 +120,7 @@ impl<'a> Log<'a> {
 
     /// The record behind an LSN, which is the base LSN or above it and below the last one: the
     /// record whose LSN is one more.
+    #[inline(always)]
     pub fn after(&self, lsn: u64) -> RecordView<'a>
         requires from { base_lsn (history self.now) ≤ lsn }
         requires to { lsn < last_lsn (history self.now) }
