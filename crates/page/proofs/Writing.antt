@@ -1,6 +1,7 @@
 -- What the loops of the encoder keep.
 use Rattle.std.proofs.Common.{◌≡◌, ℕ, ◌+◌, ◌*◌, ◌<◌, ◌≤◌, List, [], ◌∷◌, ◌++◌, length, get_or, take, drop, Some, None, All, sym, ap, ap₂, subst, ◌∙◌, arith}
-use Rattle.std.proofs.lemmas.List.{append-nil, take_more, length-append, length-drop, take_at, drop_all}
+use Rattle.std.proofs.lemmas.List.{append-nil, take_more, length-append, length-drop, length-take, take-append-le, take_at, drop_all}
+use Rattle.std.proofs.Math.Seq.{take-append-add}
 use Rattle.std.proofs.lemmas.List.Elements.{All-more}
 use Rattle.std.proofs.lemmas.Slice.{take-put_mid, drop-put_mid}
 use borrow.Rule.Slice.PartMut.{put_mid}
@@ -49,17 +50,36 @@ directed_more slots i place entries next bytes d k so_far lt room e b short =
       fits = All-more FitsSlot slots i d lt so_far.fits (fits_short slot (subst (λ (t : List ℕ). length t ≤ 48) b short));
     }
 
-pub filled_more : (slots : List Image) (i end : ℕ) (room bytes now : List ℕ) (d : Image) (k : ℕ)
-    → Filled slots i end room → i < length slots → end ≤ length room
-    → now ≡ bytes → bytes ≡ cell (get_or slots i d) → length bytes ≤ 48
-    → Filled slots (i + 1) (end + length bytes) (put_mid end k room now)
-filled_more slots i end room bytes now d k so_far lt fits e b short =
-    let slot = get_or slots i d in
-    let more : cells (take (i + 1) slots) ≡ cells (take i slots) ++ cell slot = cells_more slots i d lt in
+-- a part that is written behind what stands, of which the first n bytes count
+written_in_front : (a k n : ℕ) (xs ys front : List ℕ) → take a xs ≡ front → a ≤ length xs → n ≤ length ys → take (a + n) (put_mid a k xs ys) ≡ front ++ take n ys
+written_in_front a k n xs ys front e le short =
+    let long : length (take a xs) ≡ a = omega (arith, length-take a xs) in
+    let rest = drop k (drop a xs) in
+    ap (λ m. take (m + n) (put_mid a k xs ys)) (sym long) ∙ take-append-add (take a xs) (ys ++ rest) n ∙ ap₂ (λ (f p : List ℕ). f ++ p) e (take-append-le n ys rest short)
+
+-- a value with more behind it is written behind the cells
+pub filled_value : (slots : List Image) (i end : ℕ) (room all now value : List ℕ) (slot : Image) (k : ℕ)
+    → Filled slots i end room → i < length slots → get_or slots i slot ≡ Some value → end ≤ length room
+    → now ≡ all → take (length value) all ≡ value → length value ≤ length all → length value ≤ 48
+    → Filled slots (i + 1) (end + length value) (put_mid end k room now)
+filled_value slots i end room all now value slot k so_far lt some fits e front long short =
+    let same : cell (get_or slots i slot) ≡ value = ap cell some in
+    let more : cells (take (i + 1) slots) ≡ cells (take i slots) ++ value = cells_more slots i slot lt ∙ ap (λ (t : List ℕ). cells (take i slots) ++ t) same in
     record {
-      here = omega (arith, so_far.here, ap length more, length-append (cells (take i slots)) (cell slot), ap length b);
+      here = omega (arith, so_far.here, ap length more, length-append (cells (take i slots)) value);
       near = omega (arith, so_far.near);
-      front = written_behind end k (end + length bytes) room now (cells (take i slots)) so_far.front (omega (arith, ap length e)) fits ∙ ap (λ (t : List ℕ). cells (take i slots) ++ t) (e ∙ b) ∙ sym more;
+      front = ap (λ (t : List ℕ). take (end + length value) (put_mid end k room t)) e ∙ written_in_front end k (length value) room all (cells (take i slots)) so_far.front fits long ∙ ap (λ (t : List ℕ). cells (take i slots) ++ t) front ∙ sym more;
+    }
+
+-- an absent slot has no cell
+pub filled_none : (slots : List Image) (i end : ℕ) (room : List ℕ) (slot : Image) → Filled slots i end room → i < length slots → get_or slots i slot ≡ None → Filled slots (i + 1) end room
+filled_none slots i end room slot so_far lt none =
+    let same : cell (get_or slots i slot) ≡ [] = ap cell none in
+    let more : cells (take (i + 1) slots) ≡ cells (take i slots) = cells_more slots i slot lt ∙ ap (λ (t : List ℕ). cells (take i slots) ++ t) same ∙ append-nil (cells (take i slots)) in
+    record {
+      here = so_far.here ∙ ap length (sym more);
+      near = omega (arith, so_far.near);
+      front = so_far.front ∙ sym more;
     }
 
 -- three parts written one after the other, over what stood there

@@ -8,7 +8,7 @@ ghost use Rattle.page.specs.declared.sizes.TheConstants.{SLOTS, VALUE_BYTES, PAG
 ghost use Rattle.page.specs.Parts.{BeginsWithSlot, SpellsSlots};
 
 use crate::numbers::numbers_at;
-use crate::sizes::{CELLS_AT, DIRECTORY_BYTES, PAGE_BYTES, PAGE_HEADER_BYTES, SLOTS};
+use crate::sizes::{CELLS_AT, DIRECTORY_BYTES, PAGE_BYTES, PAGE_HEADER_BYTES, SLOTS, VALUE_BYTES};
 use crate::{Fault, Page, Value};
 use byteorder::{BigEndian, ByteOrder};
 
@@ -49,16 +49,19 @@ fn put_directory(slots: &[Option<Value>; SLOTS], entries: &mut [u8])
     }
 }
 
-/// Writes the present cells of these slots, and zeros behind them.
+/// Writes the present cells of these slots, and zeros behind them. Each cell is written with what stands
+/// behind its value up to the most that one may have, since a copy of a fixed length is faster; the next one
+/// is written over that, and so are the zeros.
 fn put_cells(slots: &[Option<Value>; SLOTS], room: &mut [u8])
     requires { length room.old ≡ ROOM_BYTES }
     ensures { room.new ≡ body slots.now }
 {
     let mut end = 0;
     for slot in slots {
-        let bytes = cell(slot);
-        room[end..end + bytes.len()].copy_from_slice(bytes);
-        end += bytes.len();
+        if let Some(value) = slot {
+            room[end..end + VALUE_BYTES].copy_from_slice(value.padded());
+            end += value.as_slice().len();
+        }
     }
     room[end..].fill(0);
 }

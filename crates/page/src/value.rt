@@ -52,4 +52,14 @@ impl Value {
     {
         &self.bytes[..self.len as usize]
     }
+
+    /// Its bytes, and behind them others up to the most that a value may have.
+    #[inline(always)]
+    pub(crate) fn padded(&self) -> &[u8; VALUE_BYTES]
+        ensures front { take (length self.now) result.now ≡ self.now }
+        ensures count { length result.now ≡ VALUE_BYTES }
+        ensures short { length self.now ≤ VALUE_BYTES }
+    {
+        &self.bytes
+    }
 }
