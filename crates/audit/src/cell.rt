@@ -3,7 +3,7 @@
 ghost use Rattle.std.specs.Prelude.{◌≡◌, ◌≤◌, ◌*◌, ℕ, length, IfOk, IsOkUnless};
 ghost use Rattle.page.specs.declared.fault.Fault.TheVariants.{NoResource};
 ghost use Rattle.page.specs.declared.sizes.TheConstants.{PAGES, SLOTS};
-ghost use Rattle.wal.specs.Records.{start};
+ghost use Rattle.wal.specs.Records.{start, history, base_lsn, last_lsn};
 ghost use Rattle.wal.specs.Pages.{base_pages};
 ghost use Rattle.wal.specs.Spelling.{Fits};
 ghost use Rattle.wal.specs.Content.{shown};
@@ -12,7 +12,10 @@ ghost use Rattle.audit.specs.Cells.{HasCell, KeepsCells, cell_in, cells_after};
 use crate::base::base_value;
 use page::{Fault, Page, SLOTS, Value};
 use std::alloc::Global;
-use wal::{RecordView, value_of};
+use wal::{Log, RecordView, value_of};
+
+/// How many records are looked at ahead.
+pub const AHEAD: usize = 8;
 
 /// What is kept of a cell.
 #[derive(Clone, Copy)]
@@ -53,5 +56,34 @@ pub fn note_cell(cells: &mut [Cell], view: &RecordView)
             writer: view.tx(),
             image: value_of(change.image),
         };
+    }
+}
+
+/// Whether a record is in the cell with this number; no, where there is no such cell.
+#[inline(always)]
+fn is_written(cells: &[Cell], number: usize) -> bool {
+    match cells.get(number) {
+        Some(cell) => cell.writer.is_some(),
+        None => false,
+    }
+}
+
+/// Looks at the cells of the next records behind an LSN, as many as there are places for what is seen.
+/// The cells take more memory than is near the processor, and it fetches those that are asked for
+/// together beside each other: so they are near when the records are gone through. Of each the front is
+/// looked at and, by the front of the next cell, the end. What is seen is told to nobody, but kept, since
+/// else the compiler leaves the looking out.
+pub fn look_ahead(log: &Log, cells: &[Cell], lsn: u64, seen: &mut [u32])
+    requires from { base_lsn (history log.now) ≤ lsn }
+    requires to { lsn ≤ last_lsn (history log.now) }
+{
+    let left = log.last() - lsn;
+    for (step, seen) in seen.iter_mut().enumerate() {
+        if (step as u64) < left {
+            if let Some((page, slot)) = log.glance_after(lsn + step as u64).cell() {
+                let number = SLOTS * page as usize + slot as usize;
+                *seen = is_written(cells, number) as u32 + is_written(cells, number + 1) as u32;
+            }
+        }
     }
 }

@@ -18,6 +18,7 @@ ghost use Rattle.audit.specs.FirstFault.{BrokenAt, AreSound, RecordFault};
 ghost use Rattle.page.specs.declared.sizes.TheConstants.{PAGES, SLOTS};
 
 use crate::audit_state::AuditState;
+use crate::cell::{AHEAD, look_ahead};
 use crate::decide::{
     keeps_before, keeps_chain, keeps_compensation, keeps_finish, keeps_strictness, names_pages,
 };
@@ -131,8 +132,12 @@ pub fn check_records(
 {
     let begins = log.base();
     let mut audit_state = AuditState::start(alloc, begins, base, count)?;
+    let mut seen = vec![in alloc; 0; AHEAD]?;
     let mut is_true = true;
     for lsn in begins..log.last() {
+        if lsn % AHEAD as u64 == 0 {
+            look_ahead(log, &audit_state.cells, lsn, &mut seen);
+        }
         if let Err(fault) = check_next(log, &mut audit_state, count, lsn) {
             return Err(fault);
         }
