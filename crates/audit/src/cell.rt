@@ -68,22 +68,36 @@ fn is_written(cells: &[Cell], number: usize) -> bool {
     }
 }
 
+/// Puts the number of the cell of each of the next records behind an LSN, as many as there are places;
+/// 0 for a record that is in none.
+#[inline(always)]
+fn number_cells(log: &Log, lsn: u64, numbers: &mut [usize])
+    requires from { base_lsn (history log.now) ≤ lsn }
+    requires to { lsn ≤ last_lsn (history log.now) }
+{
+    let left = log.last() - lsn;
+    for (step, number) in numbers.iter_mut().enumerate() {
+        if (step as u64) < left {
+            *number = match log.glance_after(lsn + step as u64).cell() {
+                Some((page, slot)) => SLOTS * page as usize + slot as usize,
+                None => 0,
+            };
+        }
+    }
+}
+
 /// Looks at the cells of the next records behind an LSN, as many as there are places for what is seen.
 /// The cells take more memory than is near the processor, and it fetches those that are asked for
 /// together beside each other: so they are near when the records are gone through. Of each the front is
 /// looked at and, by the front of the next cell, the end. What is seen is told to nobody, but kept, since
 /// else the compiler leaves the looking out.
-pub fn look_ahead(log: &Log, cells: &[Cell], lsn: u64, seen: &mut [u32])
+pub fn look_ahead(log: &Log, cells: &[Cell], lsn: u64, seen: &mut [usize])
     requires from { base_lsn (history log.now) ≤ lsn }
     requires to { lsn ≤ last_lsn (history log.now) }
 {
-    let left = log.last() - lsn;
-    for (step, seen) in seen.iter_mut().enumerate() {
-        if (step as u64) < left {
-            if let Some((page, slot)) = log.glance_after(lsn + step as u64).cell() {
-                let number = SLOTS * page as usize + slot as usize;
-                *seen = is_written(cells, number) as u32 + is_written(cells, number + 1) as u32;
-            }
-        }
+    number_cells(log, lsn, seen);
+    for number in seen {
+        let ends = is_written(cells, number.wrapping_add(1));
+        *number = is_written(cells, *number) as usize + ends as usize;
     }
 }
