@@ -1,4 +1,5 @@
-pub mod Statuses
+pub mod Blocks
+mod Statuses
 pub mod StandingAfter
 pub mod Finishing
 pub mod Cells

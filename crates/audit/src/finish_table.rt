@@ -1,6 +1,6 @@
 //! The finished transactions: some two bytes each, where their numbers lie close together.
 
-ghost use Rattle.std.specs.Prelude.{◌≡◌, ◌==◌, ◌/◌, ℕ, Some, None, OnOk, IsOkUnless, if◌then◌else◌};
+ghost use Rattle.std.specs.Prelude.{◌≡◌, ◌==◌, ◌/◌, ◌%◌, ℕ, Some, None, OnOk, IsOkUnless, if◌then◌else◌, length, slice_set};
 ghost use Rattle.page.specs.declared.fault.Fault.TheVariants.{NoResource};
 ghost use Rattle.audit.specs.Standings.{block_in, finish_in};
 
@@ -18,6 +18,15 @@ const BLOCK: usize = 16;
 pub struct FinishTable {
     /// By a sixteenth of their numbers; None for one that has not finished.
     pub blocks: HashMap<u32, [Option<Finish>; BLOCK]>,
+}
+
+/// Puts into its block how a transaction has finished.
+#[inline(always)]
+fn put(block: &mut [Option<Finish>; BLOCK], tx: u32, finish: Finish)
+    ensures count { length block.old ≡ 16 }
+    ensures put { block.new ≡ slice_set block.old (tx % 16) (Some finish) }
+{
+    block[tx as usize % BLOCK] = Some(finish);
 }
 
 impl FinishTable {
@@ -54,8 +63,12 @@ impl FinishTable {
         ensures err { IsOkUnless result NoResource }
     {
         let number = tx / BLOCK as u32;
-        let mut block = self.block(number);
-        block[tx as usize % BLOCK] = Some(finish);
+        if let Some(block) = self.blocks.get_mut(&number) {
+            put(block, tx, finish);
+            return Ok(());
+        }
+        let mut block = [None; BLOCK];
+        put(&mut block, tx, finish);
         self.blocks.insert(number, block)?;
         Ok(())
     }
