@@ -4,6 +4,7 @@ use Rattle.std.proofs.lemmas.Bool.{cases_Bool, ltb-true, ltb-false, le-leb, lt-l
 use Rattle.std.proofs.lemmas.List.FromFn.{get_or-map-range_with_len, length-map-range_with_len}
 use Rattle.std.proofs.lemmas.List.{ext_get_or, get_or_default}
 use Rattle.page.specs.Image.{Image}
+use Rattle.std.specs.Prelude.{◌⊎◌}
 use Rattle.page.specs.declared.page.Page.{Page}
 use Rattle.wal.specs.Records.{LogRecord, Update, Compensation, History, ◌▸◌, first, last_lsn, record_at, base_lsn}
 use Rattle.wal.specs.Meaning.{BasePages, cell_of, replay, writes}
@@ -14,7 +15,7 @@ use Rattle.audit.specs.Cells.{image_or, last_write, KeepsWriters}
 use Rattle.audit.specs.Pages.{page_lsn, log_at, writers_after, KeepsPage}
 use Rattle.audit.proofs.Cells.{last_write_within, image_in_last}
 use Rattle.audit.proofs.Noting.{put_there, left_there}
-use Rattle.wal.proofs.Histories.{first_all, size_of_first_le, record_in_first, first_base}
+use Rattle.wal.proofs.Histories.{first_all, first_first, size_of_first_le, record_in_first, first_base}
 
 -- BEGINNINGS
 -- one record more, for a page whose PageLSN is k
@@ -136,3 +137,16 @@ keeps_page pages log ws i page is lt number keeps slot lt' =
     ap (λ n. get_or ws (16 * n + slot) 0) number
     ∙ keeps.each i slot 0 lt lt'
     ∙ ap₂ (λ n k. last_write n slot (first k log)) (sym number) lsn
+
+-- WRITERS
+-- the records up to the highest PageLSN are enough
+pub writers_all : (pages : List Page) (log : History) (lsn highest : ℕ) (ws : List ℕ) → ((page : ℕ) → page < length pages → page_lsn pages page ≤ highest) → (last_lsn log ≤ lsn) ⊎ (highest ≤ lsn)
+    → KeepsWriters (length pages) (log_at pages (first lsn log)) ws → KeepsWriters (length pages) (log_at pages log) ws
+writers_all pages log lsn highest ws low enough keeps = record { size_is = keeps.size_is; each = λ page slot d lt small. keeps.each page slot d lt small ∙ ap (last_write page slot) (same page lt) }
+  where
+    same : (page : ℕ) → page < length pages → first (page_lsn pages page) (first lsn log) ≡ first (page_lsn pages page) log
+    same page lt =
+        elim enough [
+          | inl all ↦ ap (first (page_lsn pages page)) (first_all lsn log all)
+          | inr above ↦ first_first (page_lsn pages page) lsn log (omega (arith, low page lt, above))
+        ]

@@ -33,6 +33,17 @@ fn note_writer(writers: &mut [u64], cell: Option<(u32, u8)>, pages: &[Page], lsn
     }
 }
 
+/// The highest PageLSN, 0 where there is no page.
+fn highest_in(pages: &[Page]) -> u64
+    ensures { All (λ page. page.lsn ≤ result) pages.now }
+{
+    let mut highest = 0;
+    for page in pages {
+        highest = page.lsn.max(highest);
+    }
+    highest
+}
+
 /// For each cell the LSN of its last writer at or before its page's PageLSN, 0 for none. The only
 /// error is `NoResource`.
 fn writers_at(alloc: Global, log: &Log, pages: &[Page]) -> Result<Vec<u64>, Fault>
@@ -44,7 +55,9 @@ fn writers_at(alloc: Global, log: &Log, pages: &[Page]) -> Result<Vec<u64>, Faul
 {
     let mut writers = vec![in alloc; 0; SLOTS * pages.len()]?;
     let base = log.base();
-    for lsn in base..log.last() {
+    // No record behind the highest PageLSN counts for a page.
+    let upto = highest_in(pages).min(log.last());
+    for lsn in base..upto {
         let cell = log.glance_after(lsn).cell();
         note_writer(&mut writers, cell, pages, lsn + 1);
     }

@@ -1,6 +1,7 @@
+use Rattle.std.proofs.lemmas.Bool.{cases_lt}
 use Rattle.std.proofs.lemmas.List.{get_or-replicate, length-replicate}
-use Rattle.std.proofs.Common.{◌*◌, ◌≡◌, ◌+◌, ◌++◌, take, drop, length, sym, ap, subst, ◌∙◌, arith, List, ℕ, get_or}
-use Rattle.wal.proofs.Histories.{size_of_first, first_at_base, first_all}
+use Rattle.std.proofs.Common.{◌*◌, ◌≡◌, ◌≤◌, ◌+◌, ◌++◌, [], take, drop, length, sym, ap, subst, ◌∙◌, arith, inl, inr, List, ℕ, get_or}
+use Rattle.wal.proofs.Histories.{size_of_first, first_at_base}
 use Rattle.wal.specs.Records.{History, LogRecord, history, last_lsn, ◌▸◌, first}
 use Rattle.wal.specs.Meaning.{cell_of}
 use Rattle.wal.specs.Store.{NamesPages}
@@ -8,7 +9,8 @@ use Rattle.audit.specs.Cells.{KeepsWriters}
 use Rattle.audit.specs.Pages.{log_at, page_lsn, writers_after}
 use Rattle.audit.proofs.Noting.{page_below, cell_below}
 use Rattle.audit.proofs.Passing.{written_back}
-use Rattle.audit.proofs.PageImages.{writers_noted}
+use Rattle.page.specs.declared.page.Page.{Page}
+use Rattle.audit.proofs.PageImages.{writers_noted, writers_all}
 use Rattle.audit.proofs.pages.writers_at.Goals as goal
 
 pub note_writer-requires-clause-page : goal.note_writer-requires-clause-page
@@ -53,5 +55,11 @@ loop-lsn-init c =
 
 pub returns-clause-ok : goal.returns-clause-ok
 returns-clause-ok c =
-    subst (λ (h : History). KeepsWriters (length c.args.pages.now) (log_at c.args.pages.now h) c.loop-lsn.writers.items)
-    (first_all c.loop-lsn.lsn (history c.args.log.now) (omega (arith, c.loop-lsn-test.false, c.last-lsn-end.ensures))) c.loop-lsn.invariant
+    let blank : Page = record { number = 0; lsn = 0; slots = [] } in
+    let end : c.min-upto.result ≤ c.loop-lsn.lsn = c.loop-lsn-test.false in
+    writers_all c.args.pages.now (history c.args.log.now) c.loop-lsn.lsn c.highest_in.result c.loop-lsn.writers.items (λ page lt. c.highest_in.ensures page blank lt)
+    (elim (cases_lt c.highest_in.result c.last.result) [
+      | inl under ↦ inr (omega (arith, under, end, c.min-upto.ensures))
+      | inr over ↦ inl (omega (arith, over, end, c.min-upto.ensures, c.last.ensures))
+    ])
+    c.loop-lsn.invariant
