@@ -175,13 +175,25 @@ pub fn keeps_compensation(log: &Log, view: &RecordView, standing: Standing) -> b
     }
 }
 
-/// What is kept of a cell.
-fn cell_at(cells: &[Cell], page: u32, slot: u8) -> Cell
+/// The transaction that wrote a cell last.
+fn writer_at(cells: &[Cell], page: u32, slot: u8) -> Option<u32>
     requires { SLOTS * page + slot < length cells.now }
     ensures { (default : Cell) → result
-        ≡ slice_index_or cells.now (SLOTS * page + slot) default }
+        ≡ (slice_index_or cells.now (SLOTS * page + slot) default).writer }
 {
-    cells[SLOTS * page as usize + slot as usize]
+    cells[SLOTS * page as usize + slot as usize].writer
+}
+
+/// Whether a cell holds this value or none.
+fn holds(cells: &[Cell], page: u32, slot: u8, image: Option<&[u8]>) -> bool
+    requires { SLOTS * page + slot < length cells.now }
+    ensures { (default : Cell) → IsTrue result ↔ option_map (λ s. s.now) image.entry
+        ≡ (slice_index_or cells.now (SLOTS * page + slot) default).image }
+{
+    are_same(
+        image,
+        cells[SLOTS * page as usize + slot as usize].image.get(),
+    )
 }
 
 /// Whether the writer of a cell, if it has one, is this transaction or not among the unfinished.
@@ -207,7 +219,7 @@ pub fn keeps_strictness(standings: &Standings, cells: &[Cell], view: &RecordView
 {
     match view {
         RecordView::Update { tx, page, slot, .. } => {
-            is_free_for(standings, cell_at(cells, *page, *slot).writer, *tx)
+            is_free_for(standings, writer_at(cells, *page, *slot), *tx)
         }
         RecordView::Compensation { .. }
         | RecordView::Commit { .. }
@@ -243,7 +255,7 @@ pub fn keeps_before(cells: &[Cell], view: &RecordView) -> bool
             slot,
             before,
             ..
-        } => is_value(*before, cell_at(cells, *page, *slot).image),
+        } => holds(cells, *page, *slot, *before),
         RecordView::Compensation { .. }
         | RecordView::Commit { .. }
         | RecordView::Abort { .. }
