@@ -1,3 +1,4 @@
 mod Texts
+mod Writes
 mod Places
 mod Fronts

@@ -1,11 +1,14 @@
 -- Texts put together entry by entry.
-use Rattle.std.proofs.Common.{ℕ, zero, suc, ◌≡◌, ◌+◌, ◌<◌, List, [], ◌∷◌, ◌++◌, length, get_or, take, sym, ap, ◌∙◌, arith, append_assoc, append-nil, false, eqb, ne_eqb, if◌then◌else◌}
-use Rattle.std.specs.Prelude.{◌==◌}
+use Rattle.std.proofs.Common.{ℕ, zero, suc, ◌≡◌, ◌+◌, ◌<◌, List, [], ◌∷◌, ◌++◌, length, get_or, take, refl, sym, ap, ◌∙◌, arith, append_assoc, append-nil, false, eqb, ne_eqb, if◌then◌else◌}
+use Rattle.std.specs.Prelude.{◌==◌, codes}
 use Rattle.std.specs.List.{flat_map}
 use Rattle.std.proofs.lemmas.Grind.{flat_map-append}
 use Rattle.std.proofs.lemmas.List.{take_more}
 use Rattle.page.specs.Image.{Image}
 use Rattle.dump.specs.declared.style.Style.{Style}
+use Rattle.wal.specs.Records.{LogRecord, Update, Compensation, Commit, Abort, End, Prepare, CheckpointBegin, CheckpointEnd}
+use Rattle.dump.specs.Line.{opening, closing, number_field}
+use Rattle.dump.specs.Record.{kind_word, record_line, fields, short_fields, table_fields}
 use Rattle.dump.specs.Tables.{listed}
 use Rattle.dump.specs.StoreLines.{slot_field, slot_fields}
 
@@ -43,3 +46,29 @@ slot_fields_more style (s ∷ ss) from (suc i) d lt =
 pub put_behind : (old front between entry text mid new : List ℕ) → text ≡ old ++ front → mid ≡ text ++ between → new ≡ mid ++ entry → new ≡ old ++ (front ++ (between ++ entry))
 put_behind old front between entry text mid new text_is mid_is new_is =
     new_is ∙ ap (λ xs. xs ++ entry) (mid_is ∙ ap (λ xs. xs ++ between) text_is) ∙ append_assoc (old ++ front) between entry ∙ append_assoc old front (between ++ entry)
+
+-- the fields of a record: those of a bounded length, and its tables
+pub fields_parts : (style : Style) (r : LogRecord) → fields style r ≡ short_fields style r ++ table_fields style r
+fields_parts style (CheckpointEnd begin transactions dirty) = append_assoc (number_field style (codes "BeginLSN") begin) _ _
+fields_parts style (Update u) = sym (append-nil _)
+fields_parts style (Compensation k) = sym (append-nil _)
+fields_parts style (Commit p) = sym (append-nil _)
+fields_parts style (Abort p) = sym (append-nil _)
+fields_parts style (End p) = sym (append-nil _)
+fields_parts style (Prepare p) = sym (append-nil _)
+fields_parts style CheckpointBegin = refl
+
+parts : (old opened numbered short tables fields ending : List ℕ) → fields ≡ short ++ tables → ((old ++ ((opened ++ numbered) ++ short)) ++ tables) ++ ending ≡ old ++ (((opened ++ numbered) ++ fields) ++ ending)
+parts old opened numbered short tables fields ending is = rw is (simp append_assoc)
+
+-- the line of a record, put together part by part
+pub record_written : (style : Style) (offset lsn : ℕ) (r : LogRecord) (old kind opened numbered short tables front ending new : List ℕ) → kind ≡ kind_word r → opened ≡ opening style offset kind
+    → numbered ≡ opened ++ number_field style (codes "LSN") lsn → short ≡ numbered ++ short_fields style r → front ≡ old ++ short → tables ≡ front ++ table_fields style r → ending ≡ closing style
+    → new ≡ tables ++ ending → new ≡ old ++ record_line style offset lsn r
+record_written style offset lsn r old kind opened numbered short tables front ending new kind_is opened_is numbered_is short_is front_is tables_is ending_is new_is =
+    let number = number_field style (codes "LSN") lsn in
+    let numbered_all : numbered ≡ opening style offset (kind_word r) ++ number = numbered_is ∙ ap (λ l. l ++ number) (opened_is ∙ ap (opening style offset) kind_is) in
+    let short_all = short_is ∙ ap (λ l. l ++ short_fields style r) numbered_all in
+    let tables_all = tables_is ∙ ap (λ l. l ++ table_fields style r) (front_is ∙ ap (λ l. old ++ l) short_all) in
+    new_is ∙ ap (λ l. tables ++ l) ending_is ∙ ap (λ l. l ++ closing style) tables_all
+    ∙ parts old (opening style offset (kind_word r)) number (short_fields style r) (table_fields style r) (fields style r) (closing style) (fields_parts style r)

@@ -44,6 +44,18 @@ fields style (CheckpointEnd begin transactions dirty) =
     ++ table_field style (codes "transactions") transaction_entry transactions
     ++ table_field style (codes "dirty") dirty_entry dirty
 
+-- the fields of a record but for the tables of a checkpoint end, which are as long as they will
+abbrev pub short_fields : Style → LogRecord → List ℕ
+short_fields style (CheckpointEnd begin transactions dirty) = number_field style (codes "BeginLSN") begin
+short_fields style r = fields style r
+
+-- and those tables
+abbrev pub table_fields : Style → LogRecord → List ℕ
+table_fields style (CheckpointEnd begin transactions dirty) =
+    table_field style (codes "transactions") transaction_entry transactions
+    ++ table_field style (codes "dirty") dirty_entry dirty
+table_fields style r = []
+
 -- a record with this LSN, whose frame stands at this offset
 abbrev pub record_line : Style → (offset lsn : ℕ) → LogRecord → List ℕ
 record_line style offset lsn r = opening style offset (kind_word r) ++ number_field style (codes "LSN") lsn ++ fields style r ++ closing style

@@ -1,132 +1,152 @@
 //! The parts of a line: where it lies and of what it tells, and named fields.
+//!
+//! A line is spelled in a buffer that has room for all that is put there, and each function answers
+//! where in the buffer that ends: so no part asks whether there is room for it.
 
-ghost use Rattle.std.specs.Prelude.{◌≡◌, ◌≤◌, ◌++◌, OnOk, IfSome, length, option_map, decimal};
+ghost use Rattle.std.specs.Prelude.{◌≡◌, ◌+◌, ◌≤◌, ◌++◌, IfSome, length, option_map, take, decimal};
 ghost use Rattle.page.specs.declared.sizes.TheConstants.{VALUE_BYTES};
 ghost use Rattle.dump.specs.Line.{opening, closing, named, number_field, word, word_field, image_field};
 
 use crate::Style;
 use crate::value::put_image;
-use itoa::Buffer;
+use itoa::write_digits;
 use page::VALUE_BYTES;
-use std::alloc::AllocError;
 
-/// Appends a number in decimal.
-pub fn put_number(line: &mut Vec<u8>, number: u64) -> Result<(), AllocError>
-    ensures { OnOk result (line.new.items ≡ line.old.items ++ decimal number) }
+/// Writes a text behind the first bytes of a line, which are so many. Answers where it ends.
+#[inline(always)]
+pub fn put_text(line: &mut [u8], at: usize, text: &[u8]) -> usize
+    requires { at + length text.now ≤ length line.old }
+    ensures end { result ≡ at + length text.now }
+    ensures text { take result line.new ≡ take at line.old ++ text.now }
 {
-    line.extend_from_slice(Buffer::new().format(number).as_bytes())
+    let end = at + text.len();
+    line[at..end].copy_from_slice(text);
+    end
 }
 
-/// Appends the beginning of a line: where in the file it lies that the line tells of, and what it is.
-pub fn put_opening(
-    line: &mut Vec<u8>,
-    style: Style,
-    offset: u64,
-    kind: &str,
-) -> Result<(), AllocError>
-    ensures { OnOk result (line.new.items ≡ line.old.items ++ opening style offset kind.now) }
+/// Writes a number in decimal. All of the twenty bytes that a number may take are written, since a
+/// copy of a fixed size takes the least time; those behind the number count for nothing.
+#[inline]
+pub fn put_number(line: &mut [u8], at: usize, number: u64) -> usize
+    requires { at + 20 ≤ length line.old }
+    ensures end { result ≤ at + 20 }
+    ensures text { take result line.new ≡ take at line.old ++ decimal number }
 {
-    match style {
-        Style::Text => {
-            put_number(line, offset)?;
-            line.extend_from_slice(b": ")?;
-            line.extend_from_slice(kind.as_bytes())?;
-        }
-        Style::Json => {
-            line.extend_from_slice(b"{\"offset\":")?;
-            put_number(line, offset)?;
-            line.extend_from_slice(b",\"kind\":\"")?;
-            line.extend_from_slice(kind.as_bytes())?;
-            line.push(b'"')?;
-        }
-    }
-    Ok(())
+    let mut digits = [0; 40];
+    let start = write_digits(number, &mut digits, 20);
+    line[at..at + 20].copy_from_slice(&digits[start..start + 20]);
+    at + (20 - start)
 }
 
-/// Appends the end of a line.
-pub fn put_closing(line: &mut Vec<u8>, style: Style) -> Result<(), AllocError>
-    ensures { OnOk result (line.new.items ≡ line.old.items ++ closing style) }
-{
-    match style {
-        Style::Text => line.extend_from_slice(b"\n"),
-        Style::Json => line.extend_from_slice(b"}\n"),
-    }
-}
-
-/// Appends the name of a field, behind other fields.
-pub fn put_name(line: &mut Vec<u8>, style: Style, name: &str) -> Result<(), AllocError>
-    ensures { OnOk result (line.new.items ≡ line.old.items ++ named style name.now) }
+/// Writes the beginning of a line: where in the file it lies that the line tells of, and what it is.
+#[inline(always)]
+pub fn put_opening(line: &mut [u8], style: Style, offset: u64, kind: &str) -> usize
+    requires { 40 + length kind.now ≤ length line.old }
+    ensures end { result ≤ 40 + length kind.now }
+    ensures text { take result line.new ≡ opening style offset kind.now }
 {
     match style {
         Style::Text => {
-            line.extend_from_slice(b", ")?;
-            line.extend_from_slice(name.as_bytes())?;
-            line.push(b' ')?;
+            let at = put_number(line, 0, offset);
+            let at = put_text(line, at, b": ");
+            put_text(line, at, kind.as_bytes())
         }
         Style::Json => {
-            line.extend_from_slice(b",\"")?;
-            line.extend_from_slice(name.as_bytes())?;
-            line.extend_from_slice(b"\":")?;
+            let at = put_text(line, 0, b"{\"offset\":");
+            let at = put_number(line, at, offset);
+            let at = put_text(line, at, b",\"kind\":\"");
+            let at = put_text(line, at, kind.as_bytes());
+            put_text(line, at, b"\"")
         }
     }
-    Ok(())
 }
 
-/// Appends a field that is a number.
-pub fn put_number_field(
-    line: &mut Vec<u8>,
-    style: Style,
-    name: &str,
-    number: u64,
-) -> Result<(), AllocError>
-    ensures { OnOk result (line.new.items
-        ≡ line.old.items ++ number_field style name.now number) }
-{
-    put_name(line, style, name)?;
-    put_number(line, number)
-}
-
-/// Appends a word: one of the words of the formats.
-fn put_word(line: &mut Vec<u8>, style: Style, text: &str) -> Result<(), AllocError>
-    ensures { OnOk result (line.new.items ≡ line.old.items ++ word style text.now) }
+/// The end of a line.
+#[inline(always)]
+pub fn closing(style: Style) -> &'static [u8]
+    ensures { result.now ≡ closing style }
 {
     match style {
-        Style::Text => line.extend_from_slice(text.as_bytes())?,
+        Style::Text => b"\n",
+        Style::Json => b"}\n",
+    }
+}
+
+/// Writes the name of a field, behind other fields.
+#[inline(always)]
+pub fn put_name(line: &mut [u8], at: usize, style: Style, name: &str) -> usize
+    requires { at + length name.now + 4 ≤ length line.old }
+    ensures end { result ≤ at + length name.now + 4 }
+    ensures text { take result line.new ≡ take at line.old ++ named style name.now }
+{
+    match style {
+        Style::Text => {
+            let at = put_text(line, at, b", ");
+            let at = put_text(line, at, name.as_bytes());
+            put_text(line, at, b" ")
+        }
         Style::Json => {
-            line.push(b'"')?;
-            line.extend_from_slice(text.as_bytes())?;
-            line.push(b'"')?;
+            let at = put_text(line, at, b",\"");
+            let at = put_text(line, at, name.as_bytes());
+            put_text(line, at, b"\":")
         }
     }
-    Ok(())
 }
 
-/// Appends a field that is a word.
-pub fn put_word_field(
-    line: &mut Vec<u8>,
-    style: Style,
-    name: &str,
-    text: &str,
-) -> Result<(), AllocError>
-    ensures { OnOk result (line.new.items
-        ≡ line.old.items ++ word_field style name.now text.now) }
+/// Writes a field that is a number.
+#[inline(always)]
+pub fn put_number_field(line: &mut [u8], at: usize, style: Style, name: &str, number: u64) -> usize
+    requires { at + length name.now + 24 ≤ length line.old }
+    ensures end { result ≤ at + length name.now + 24 }
+    ensures text { take result line.new
+        ≡ take at line.old ++ number_field style name.now number }
 {
-    put_name(line, style, name)?;
-    put_word(line, style, text)
+    let at = put_name(line, at, style, name);
+    put_number(line, at, number)
 }
 
-/// Appends a field that is what a slot holds.
+/// Writes a word: one of the words of the formats.
+fn put_word(line: &mut [u8], at: usize, style: Style, text: &str) -> usize
+    requires { at + length text.now + 2 ≤ length line.old }
+    ensures end { result ≤ at + length text.now + 2 }
+    ensures text { take result line.new ≡ take at line.old ++ word style text.now }
+{
+    match style {
+        Style::Text => put_text(line, at, text.as_bytes()),
+        Style::Json => {
+            let at = put_text(line, at, b"\"");
+            let at = put_text(line, at, text.as_bytes());
+            put_text(line, at, b"\"")
+        }
+    }
+}
+
+/// Writes a field that is a word.
+pub fn put_word_field(line: &mut [u8], at: usize, style: Style, name: &str, text: &str) -> usize
+    requires { at + length name.now + length text.now + 6 ≤ length line.old }
+    ensures end { result ≤ at + length name.now + length text.now + 6 }
+    ensures text { take result line.new
+        ≡ take at line.old ++ word_field style name.now text.now }
+{
+    let at = put_name(line, at, style, name);
+    put_word(line, at, style, text)
+}
+
+/// Writes a field that is what a slot holds.
+#[inline(always)]
 pub fn put_image_field(
-    line: &mut Vec<u8>,
+    line: &mut [u8],
+    at: usize,
     style: Style,
     name: &str,
     held: Option<&[u8]>,
-) -> Result<(), AllocError>
-    requires { IfSome held (λ bytes. length bytes.now ≤ VALUE_BYTES) }
-    ensures { OnOk result (line.new.items
-        ≡ line.old.items
-        ++ image_field style name.now (option_map (λ bytes. bytes.now) held.entry)) }
+) -> usize
+    requires fits { IfSome held (λ bytes. length bytes.now ≤ VALUE_BYTES) }
+    requires room { at + length name.now + 408 ≤ length line.old }
+    ensures end { result ≤ at + length name.now + 408 }
+    ensures text { take result line.new ≡ take at line.old
+        ++ image_field style name.now (option_map (λ bytes. bytes.now) held.entry) }
 {
-    put_name(line, style, name)?;
-    put_image(line, style, held)
+    let at = put_name(line, at, style, name);
+    put_image(line, at, style, held)
 }

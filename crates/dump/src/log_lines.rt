@@ -11,8 +11,8 @@ ghost use Rattle.wal.specs.Records.{LogContent, history};
 ghost use Rattle.wal.specs.Spelling.{Fits};
 ghost use Rattle.dump.specs.LogLines.{log_line, place_behind, line_if_asked, record_lines, torn_line, log_lines, ListsLog, ListsFront, ListsToFault, fault_at, IsNoFault};
 
-use crate::line::{put_closing, put_number_field, put_opening};
-use crate::record::put_record;
+use crate::line::{closing, put_number_field, put_opening, put_text};
+use crate::record::{RECORD_ROOM, put_record};
 use crate::{Choice, Stop, Style};
 use page::Fault;
 use std::alloc::{AllocError, Global};
@@ -27,14 +27,16 @@ fn put_start(line: &mut Vec<u8>, style: Style, start: LogStart) -> Result<(), Al
         LogStart::Version1 => 1,
         LogStart::Version2 { .. } => 2,
     };
-    put_opening(line, style, 0, "log")?;
-    put_number_field(line, style, "version", version)?;
-    put_number_field(line, style, "BaseLSN", start.base())?;
-    put_closing(line, style)
+    let mut text = [0; 112];
+    let at = put_opening(&mut text, style, 0, "log");
+    let at = put_number_field(&mut text, at, style, "version", version);
+    let at = put_number_field(&mut text, at, style, "BaseLSN", start.base());
+    let at = put_text(&mut text, at, closing(style));
+    line.extend_from_slice(&text[..at])
 }
 
 /// Prints the line of a record where it is asked for; its frame stands at this offset. What `line`
-/// holds counts for nothing.
+/// and `text` hold counts for nothing.
 fn print_record<W: Write>(
     view: &RecordView,
     lsn: u64,
@@ -42,6 +44,7 @@ fn print_record<W: Write>(
     style: Style,
     choice: &Choice,
     line: &mut Vec<u8>,
+    text: &mut [u8; RECORD_ROOM],
     out: &mut W,
 ) -> Result<(), Stop>
     requires { Fits (shown view.now) }
@@ -53,7 +56,7 @@ fn print_record<W: Write>(
         return Ok(());
     }
     line.clear();
-    put_record(line, style, offset, lsn, view)?;
+    put_record(line, text, style, offset, lsn, view)?;
     out.write_all(line)?;
     Ok(())
 }
@@ -75,9 +78,10 @@ fn print_records<W: Write>(
     ensures err { IfErr result IsNoFault }
 {
     let mut place = header;
+    let mut text = [0; RECORD_ROOM];
     for lsn in log.base()..log.last() {
         let view = log.after(lsn);
-        print_record(&view, lsn + 1, place, style, choice, line, out)?;
+        print_record(&view, lsn + 1, place, style, choice, line, &mut text, out)?;
         place += view.frame_bytes();
     }
     Ok(place)
@@ -99,9 +103,11 @@ fn print_torn_tail<W: Write>(
         return Ok(());
     }
     line.clear();
-    put_opening(line, style, offset, "torn tail")?;
-    put_number_field(line, style, "bytes", torn)?;
-    put_closing(line, style)?;
+    let mut text = [0; 80];
+    let at = put_opening(&mut text, style, offset, "torn tail");
+    let at = put_number_field(&mut text, at, style, "bytes", torn);
+    let at = put_text(&mut text, at, closing(style));
+    line.extend_from_slice(&text[..at])?;
     out.write_all(line)?;
     Ok(())
 }

@@ -1,19 +1,23 @@
 //! The line of a record.
 
-ghost use Rattle.std.specs.Prelude.{◌≡◌, ◌++◌, OnOk};
+ghost use Rattle.std.specs.Prelude.{◌≡◌, ◌+◌, ◌≤◌, ◌++◌, OnOk, length, take};
 ghost use Rattle.wal.specs.Content.{shown};
 ghost use Rattle.wal.specs.Spelling.{Fits};
-ghost use Rattle.dump.specs.Record.{kind_word, plain_fields, cell_fields, fields, record_line};
+ghost use Rattle.dump.specs.Record.{kind_word, plain_fields, cell_fields, short_fields, table_fields, record_line};
 
 use crate::Style;
-use crate::line::{put_closing, put_image_field, put_number_field, put_opening};
+use crate::line::{closing, put_image_field, put_number_field, put_opening};
 use crate::tables::{put_dirty, put_transactions};
 use std::alloc::AllocError;
 use wal::RecordView;
 
+/// Room for the line of a record but for its tables, in bytes.
+pub const RECORD_ROOM: usize = 1032;
+
 /// What a record is, in the words of the formats.
 fn kind_word(view: &RecordView) -> &'static str
-    ensures { result.now ≡ kind_word (shown view.now) }
+    ensures word { result.now ≡ kind_word (shown view.now) }
+    ensures short { length result.now ≤ 16 }
 {
     match view {
         RecordView::Update { .. } => "update",
@@ -27,26 +31,35 @@ fn kind_word(view: &RecordView) -> &'static str
     }
 }
 
-/// Appends whose record it is, and where its transaction's chain goes on.
-fn put_plain(line: &mut Vec<u8>, style: Style, tx: u32, prev: u64) -> Result<(), AllocError>
-    ensures { OnOk result (line.new.items ≡ line.old.items ++ plain_fields style tx prev) }
+/// Writes whose record it is, and where its transaction's chain goes on.
+#[inline(always)]
+fn put_plain(line: &mut [u8], at: usize, style: Style, tx: u32, prev: u64) -> usize
+    requires { at + 66 ≤ length line.old }
+    ensures end { result ≤ at + 66 }
+    ensures text { take result line.new ≡ take at line.old ++ plain_fields style tx prev }
 {
-    put_number_field(line, style, "transaction", tx as u64)?;
-    put_number_field(line, style, "PrevLSN", prev)
+    let at = put_number_field(line, at, style, "transaction", tx as u64);
+    put_number_field(line, at, style, "PrevLSN", prev)
 }
 
-/// Appends the cell that a record changes.
-fn put_cell(line: &mut Vec<u8>, style: Style, page: u32, slot: u8) -> Result<(), AllocError>
-    ensures { OnOk result (line.new.items ≡ line.old.items ++ cell_fields style page slot) }
+/// Writes the cell that a record changes.
+#[inline(always)]
+fn put_cell(line: &mut [u8], at: usize, style: Style, page: u32, slot: u8) -> usize
+    requires { at + 56 ≤ length line.old }
+    ensures end { result ≤ at + 56 }
+    ensures text { take result line.new ≡ take at line.old ++ cell_fields style page slot }
 {
-    put_number_field(line, style, "page", page as u64)?;
-    put_number_field(line, style, "slot", slot as u64)
+    let at = put_number_field(line, at, style, "page", page as u64);
+    put_number_field(line, at, style, "slot", slot as u64)
 }
 
-/// Appends the fields of a record behind its LSN.
-fn put_fields(line: &mut Vec<u8>, style: Style, view: &RecordView) -> Result<(), AllocError>
-    requires { Fits (shown view.now) }
-    ensures { OnOk result (line.new.items ≡ line.old.items ++ fields style (shown view.now)) }
+/// Writes the fields of a record behind its LSN, but for the tables of a checkpoint end.
+fn put_short_fields(line: &mut [u8], at: usize, style: Style, view: &RecordView) -> usize
+    requires fits { Fits (shown view.now) }
+    requires room { at + 949 ≤ length line.old }
+    ensures end { result ≤ at + 949 }
+    ensures text { take result line.new
+        ≡ take at line.old ++ short_fields style (shown view.now) }
 {
     match view {
         RecordView::Update {
@@ -57,10 +70,10 @@ fn put_fields(line: &mut Vec<u8>, style: Style, view: &RecordView) -> Result<(),
             before,
             after,
         } => {
-            put_plain(line, style, *tx, *prev)?;
-            put_cell(line, style, *page, *slot)?;
-            put_image_field(line, style, "before", *before)?;
-            put_image_field(line, style, "after", *after)
+            let at = put_plain(line, at, style, *tx, *prev);
+            let at = put_cell(line, at, style, *page, *slot);
+            let at = put_image_field(line, at, style, "before", *before);
+            put_image_field(line, at, style, "after", *after)
         }
         RecordView::Compensation {
             tx,
@@ -70,31 +83,46 @@ fn put_fields(line: &mut Vec<u8>, style: Style, view: &RecordView) -> Result<(),
             undo_next,
             image,
         } => {
-            put_plain(line, style, *tx, *prev)?;
-            put_cell(line, style, *page, *slot)?;
-            put_number_field(line, style, "UndoNxtLSN", *undo_next)?;
-            put_image_field(line, style, "image", *image)
+            let at = put_plain(line, at, style, *tx, *prev);
+            let at = put_cell(line, at, style, *page, *slot);
+            let at = put_number_field(line, at, style, "UndoNxtLSN", *undo_next);
+            put_image_field(line, at, style, "image", *image)
         }
-        RecordView::Commit { tx, prev } => put_plain(line, style, *tx, *prev),
-        RecordView::Abort { tx, prev } => put_plain(line, style, *tx, *prev),
-        RecordView::End { tx, prev } => put_plain(line, style, *tx, *prev),
-        RecordView::Prepare { tx, prev } => put_plain(line, style, *tx, *prev),
-        RecordView::CheckpointBegin => Ok(()),
-        RecordView::CheckpointEnd {
-            begin,
-            transactions,
-            dirty,
-        } => {
-            put_number_field(line, style, "BeginLSN", *begin)?;
-            put_transactions(line, style, transactions)?;
-            put_dirty(line, style, dirty)
+        RecordView::Commit { tx, prev } => put_plain(line, at, style, *tx, *prev),
+        RecordView::Abort { tx, prev } => put_plain(line, at, style, *tx, *prev),
+        RecordView::End { tx, prev } => put_plain(line, at, style, *tx, *prev),
+        RecordView::Prepare { tx, prev } => put_plain(line, at, style, *tx, *prev),
+        RecordView::CheckpointBegin => at,
+        RecordView::CheckpointEnd { begin, .. } => {
+            put_number_field(line, at, style, "BeginLSN", *begin)
         }
     }
 }
 
-/// Appends the line of a record, whose frame stands at this offset in bytes.
+/// Appends the tables of a checkpoint end; of other records, nothing.
+#[inline]
+fn put_tables(line: &mut Vec<u8>, style: Style, view: &RecordView) -> Result<(), AllocError>
+    ensures { OnOk result (line.new.items
+        ≡ line.old.items ++ table_fields style (shown view.now)) }
+{
+    match view {
+        RecordView::CheckpointEnd {
+            transactions,
+            dirty,
+            ..
+        } => {
+            put_transactions(line, style, transactions)?;
+            put_dirty(line, style, dirty)
+        }
+        _ => Ok(()),
+    }
+}
+
+/// Appends the line of a record, whose frame stands at this offset in bytes. What `text` holds counts
+/// for nothing.
 pub fn put_record(
     line: &mut Vec<u8>,
+    text: &mut [u8; RECORD_ROOM],
     style: Style,
     offset: u64,
     lsn: u64,
@@ -104,8 +132,11 @@ pub fn put_record(
     ensures { OnOk result (line.new.items
         ≡ line.old.items ++ record_line style offset lsn (shown view.now)) }
 {
-    put_opening(line, style, offset, kind_word(view))?;
-    put_number_field(line, style, "LSN", lsn)?;
-    put_fields(line, style, view)?;
-    put_closing(line, style)
+    let at = put_opening(text, style, offset, kind_word(view));
+    let at = put_number_field(text, at, style, "LSN", lsn);
+    let at = put_short_fields(text, at, style, view);
+    line.extend_from_slice(&text[..at])?;
+    put_tables(line, style, view)?;
+    line.extend_from_slice(closing(style))?;
+    Ok(())
 }

@@ -1,6 +1,6 @@
 //! The lines of a store.
 
-ghost use Rattle.std.specs.Prelude.{ℕ, List, length, ◌≤◌, ◌*◌, ◌/◌, ◌≡◌, ◌<◌, ◌++◌, ◌^◌, OnOk, IfErr};
+ghost use Rattle.std.specs.Prelude.{ℕ, List, length, take, ◌+◌, ◌≤◌, ◌*◌, ◌/◌, ◌≡◌, ◌<◌, ◌++◌, ◌^◌, OnOk, IfErr};
 ghost use Rattle.std.specs.List.{flat_map};
 ghost use Rattle.std.specs.Io.KnownBytes.{Appends};
 ghost use Rattle.page.specs.declared.sizes.TheConstants.{PAGES, PAGE_BYTES};
@@ -11,7 +11,7 @@ ghost use Rattle.page.specs.declared.fault.Fault.{Fault};
 ghost use Rattle.dump.specs.LogLines.{IsNoFault};
 
 use crate::choice::meets;
-use crate::line::{put_closing, put_number, put_number_field, put_opening};
+use crate::line::{closing, put_number, put_number_field, put_opening, put_text};
 use crate::value::put_value;
 use crate::{Stop, Style};
 use page::{Fault, PAGE_BYTES, Page, SLOTS, Store, Value, decode_page, decode_store};
@@ -25,29 +25,32 @@ const FIRST_IMAGE: u64 = 24;
 fn put_store(line: &mut Vec<u8>, style: Style, store: &Store) -> Result<(), AllocError>
     ensures { OnOk result (line.new.items ≡ line.old.items ++ store_line style store.now) }
 {
-    put_opening(line, style, 0, "store")?;
-    put_number_field(line, style, "pages", store.pages.len() as u64)?;
-    put_number_field(line, style, "master", store.master)?;
-    put_closing(line, style)
+    let mut text = [0; 112];
+    let at = put_opening(&mut text, style, 0, "store");
+    let at = put_number_field(&mut text, at, style, "pages", store.pages.len() as u64);
+    let at = put_number_field(&mut text, at, style, "master", store.master);
+    let at = put_text(&mut text, at, closing(style));
+    line.extend_from_slice(&text[..at])
 }
 
-/// Appends the name of a slot's field.
-fn put_slot_name(line: &mut Vec<u8>, style: Style, slot: usize) -> Result<(), AllocError>
-    ensures { OnOk result (line.new.items ≡ line.old.items ++ slot_name style slot) }
+/// Writes the name of a slot's field.
+fn put_slot_name(line: &mut [u8], style: Style, slot: usize) -> usize
+    requires { 32 ≤ length line.old }
+    ensures end { result ≤ 32 }
+    ensures text { take result line.new ≡ slot_name style slot }
 {
     match style {
         Style::Text => {
-            line.extend_from_slice(b", slot ")?;
-            put_number(line, slot as u64)?;
-            line.push(b' ')?;
+            let at = put_text(line, 0, b", slot ");
+            let at = put_number(line, at, slot as u64);
+            put_text(line, at, b" ")
         }
         Style::Json => {
-            line.extend_from_slice(b",\"slot ")?;
-            put_number(line, slot as u64)?;
-            line.extend_from_slice(b"\":")?;
+            let at = put_text(line, 0, b",\"slot ");
+            let at = put_number(line, at, slot as u64);
+            put_text(line, at, b"\":")
         }
     }
-    Ok(())
 }
 
 /// Appends the field of a slot; of one that holds nothing, none.
@@ -62,8 +65,10 @@ fn put_slot(
     match held {
         None => Ok(()),
         Some(value) => {
-            put_slot_name(line, style, slot)?;
-            put_value(line, style, value.as_slice())
+            let mut text = [0; 436];
+            let at = put_slot_name(&mut text, style, slot);
+            let at = put_value(&mut text, at, style, value.as_slice());
+            line.extend_from_slice(&text[..at])
         }
     }
 }
@@ -87,11 +92,13 @@ fn put_page(line: &mut Vec<u8>, style: Style, page: &Page) -> Result<(), AllocEr
     ensures { OnOk result (line.new.items ≡ line.old.items ++ page_line style page.now) }
 {
     let offset = FIRST_IMAGE + PAGE_BYTES as u64 * page.number as u64;
-    put_opening(line, style, offset, "page")?;
-    put_number_field(line, style, "number", page.number as u64)?;
-    put_number_field(line, style, "PageLSN", page.lsn)?;
+    let mut text = [0; 112];
+    let at = put_opening(&mut text, style, offset, "page");
+    let at = put_number_field(&mut text, at, style, "number", page.number as u64);
+    let at = put_number_field(&mut text, at, style, "PageLSN", page.lsn);
+    line.extend_from_slice(&text[..at])?;
     put_slots(line, style, &page.slots)?;
-    put_closing(line, style)
+    line.extend_from_slice(closing(style))
 }
 
 /// Prints the line of a page where it is asked for. What `line` holds counts for nothing.

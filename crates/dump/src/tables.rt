@@ -1,45 +1,47 @@
 //! The tables of a checkpoint end, within a line.
 
-ghost use Rattle.std.specs.Prelude.{◌≡◌, ◌<◌, ◌++◌, OnOk, codes, length};
+ghost use Rattle.std.specs.Prelude.{◌≡◌, ◌+◌, ◌≤◌, ◌<◌, ◌++◌, OnOk, codes, length, take};
 ghost use Rattle.wal.specs.Content.{entry_of};
+ghost use Rattle.dump.specs.Line.{named};
 ghost use Rattle.dump.specs.Tables.{entry_opening, entry_closing, between_at, state_word, transaction_entry, dirty_entry, table_field};
 
 use crate::Style;
-use crate::line::{put_name, put_number, put_number_field, put_word_field};
+use crate::line::{put_name, put_number, put_number_field, put_text, put_word_field};
 use std::alloc::AllocError;
 use wal::{DirtyTable, Entry, State, TransactionTable};
 
-/// Appends the beginning of an entry: the number that it is found by.
-fn put_entry_opening(
-    line: &mut Vec<u8>,
-    style: Style,
-    name: &str,
-    number: u64,
-) -> Result<(), AllocError>
-    ensures { OnOk result (line.new.items
-        ≡ line.old.items ++ entry_opening style name.now number) }
+/// Room for an entry.
+const ENTRY_ROOM: usize = 192;
+
+/// Writes the beginning of an entry: the number that it is found by.
+#[inline(always)]
+fn put_entry_opening(line: &mut [u8], style: Style, name: &str, number: u64) -> usize
+    requires { length name.now + 24 ≤ length line.old }
+    ensures end { result ≤ length name.now + 24 }
+    ensures text { take result line.new ≡ entry_opening style name.now number }
 {
-    match style {
+    let at = match style {
         Style::Text => {
-            line.extend_from_slice(name.as_bytes())?;
-            line.push(b' ')?;
+            let at = put_text(line, 0, name.as_bytes());
+            put_text(line, at, b" ")
         }
         Style::Json => {
-            line.extend_from_slice(b"{\"")?;
-            line.extend_from_slice(name.as_bytes())?;
-            line.extend_from_slice(b"\":")?;
+            let at = put_text(line, 0, b"{\"");
+            let at = put_text(line, at, name.as_bytes());
+            put_text(line, at, b"\":")
         }
-    }
-    put_number(line, number)
+    };
+    put_number(line, at, number)
 }
 
-/// Appends the end of an entry.
-fn put_entry_closing(line: &mut Vec<u8>, style: Style) -> Result<(), AllocError>
-    ensures { OnOk result (line.new.items ≡ line.old.items ++ entry_closing style) }
+/// The end of an entry.
+#[inline(always)]
+fn entry_closing(style: Style) -> &'static [u8]
+    ensures { result.now ≡ entry_closing style }
 {
     match style {
-        Style::Text => Ok(()),
-        Style::Json => line.extend_from_slice(b"}"),
+        Style::Text => b"",
+        Style::Json => b"}",
     }
 }
 
@@ -58,7 +60,8 @@ fn put_between(line: &mut Vec<u8>, style: Style, place: usize) -> Result<(), All
 
 /// How a transaction stands.
 fn state_word(state: State) -> &'static str
-    ensures { result.now ≡ state_word state }
+    ensures word { result.now ≡ state_word state }
+    ensures short { length result.now ≤ 8 }
 {
     match state {
         State::Active => "active",
@@ -73,11 +76,13 @@ fn put_transaction(line: &mut Vec<u8>, style: Style, entry: (u32, Entry)) -> Res
         ≡ line.old.items ++ transaction_entry style (entry_of entry)) }
 {
     let (tx, entry) = entry;
-    put_entry_opening(line, style, "transaction", tx as u64)?;
-    put_word_field(line, style, "state", state_word(entry.state))?;
-    put_number_field(line, style, "LastLSN", entry.last)?;
-    put_number_field(line, style, "UndoNxtLSN", entry.undo_next)?;
-    put_entry_closing(line, style)
+    let mut text = [0; ENTRY_ROOM];
+    let at = put_entry_opening(&mut text, style, "transaction", tx as u64);
+    let at = put_word_field(&mut text, at, style, "state", state_word(entry.state));
+    let at = put_number_field(&mut text, at, style, "LastLSN", entry.last);
+    let at = put_number_field(&mut text, at, style, "UndoNxtLSN", entry.undo_next);
+    let at = put_text(&mut text, at, entry_closing(style));
+    line.extend_from_slice(&text[..at])
 }
 
 /// Appends an entry of a dirty page table: a page and its RecLSN.
@@ -85,9 +90,23 @@ fn put_dirty_page(line: &mut Vec<u8>, style: Style, entry: (u32, u64)) -> Result
     ensures { OnOk result (line.new.items ≡ line.old.items ++ dirty_entry style entry) }
 {
     let (page, rec_lsn) = entry;
-    put_entry_opening(line, style, "page", page as u64)?;
-    put_number_field(line, style, "RecLSN", rec_lsn)?;
-    put_entry_closing(line, style)
+    let mut text = [0; ENTRY_ROOM];
+    let at = put_entry_opening(&mut text, style, "page", page as u64);
+    let at = put_number_field(&mut text, at, style, "RecLSN", rec_lsn);
+    let at = put_text(&mut text, at, entry_closing(style));
+    line.extend_from_slice(&text[..at])
+}
+
+/// Appends the name of a table, and what opens its list.
+fn put_table_name(line: &mut Vec<u8>, style: Style, name: &str) -> Result<(), AllocError>
+    requires { length name.now ≤ 16 }
+    ensures { OnOk result (line.new.items
+        ≡ line.old.items ++ (named style name.now ++ codes "[")) }
+{
+    let mut text = [0; 24];
+    let at = put_name(&mut text, 0, style, name);
+    let at = put_text(&mut text, at, b"[");
+    line.extend_from_slice(&text[..at])
 }
 
 /// Appends a transaction table as a field.
@@ -99,8 +118,7 @@ pub fn put_transactions(
     ensures { OnOk result (line.new.items ≡ line.old.items
         ++ table_field style (codes "transactions") transaction_entry table.now) }
 {
-    put_name(line, style, "transactions")?;
-    line.push(b'[')?;
+    put_table_name(line, style, "transactions")?;
     for place in 0..table.len() {
         put_between(line, style, place)?;
         put_transaction(line, style, table.entry(place))?;
@@ -114,8 +132,7 @@ pub fn put_dirty(line: &mut Vec<u8>, style: Style, table: &DirtyTable) -> Result
     ensures { OnOk result (line.new.items
         ≡ line.old.items ++ table_field style (codes "dirty") dirty_entry table.now) }
 {
-    put_name(line, style, "dirty")?;
-    line.push(b'[')?;
+    put_table_name(line, style, "dirty")?;
     for place in 0..table.len() {
         put_between(line, style, place)?;
         put_dirty_page(line, style, table.entry(place))?;

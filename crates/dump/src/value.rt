@@ -1,89 +1,138 @@
 //! What a slot holds, as people and programs read it.
 
-ghost use Rattle.std.specs.Prelude.{◌≡◌, ◌≤◌, ◌∷◌, [], ◌++◌, OnOk, IfSome, length, option_map};
+ghost use Rattle.std.specs.Prelude.{◌≡◌, ◌+◌, ◌*◌, ◌≤◌, ◌∷◌, [], ◌++◌, IfSome, length, option_map, take, if◌then◌else◌, ◌==◌, ◌||◌, nat_lt};
 ghost use Rattle.std.specs.List.{flat_map};
 ghost use Rattle.hex.specs.Hex.{encode_lower};
 ghost use Rattle.page.specs.declared.sizes.TheConstants.{VALUE_BYTES};
 ghost use Rattle.dump.specs.Values.{lead, escaped, quoted, value, absent, image};
 
 use crate::Style;
+use crate::line::put_text;
 use page::VALUE_BYTES;
-use std::alloc::AllocError;
 
-/// Appends two hexadecimal digits for each byte.
-fn put_hex(line: &mut Vec<u8>, bytes: &[u8]) -> Result<(), AllocError>
-    requires { length bytes.now ≤ VALUE_BYTES }
-    ensures { OnOk result (line.new.items ≡ line.old.items ++ encode_lower bytes.now) }
+/// The hexadecimal digits.
+const DIGITS: &[u8; 16] = b"0123456789abcdef";
+
+/// Writes two hexadecimal digits for each byte.
+#[inline(always)]
+fn put_hex(line: &mut [u8], at: usize, bytes: &[u8]) -> usize
+    requires { at + 2 * length bytes.now ≤ length line.old }
+    ensures end { result ≡ at + 2 * length bytes.now }
+    ensures text { take result line.new ≡ take at line.old ++ encode_lower bytes.now }
 {
-    let mut digits = [0; 2 * VALUE_BYTES];
-    let written = &mut digits[..2 * bytes.len()];
-    match hex::encode_to_slice(bytes, written) {
-        Ok(()) => line.extend_from_slice(written),
+    let end = at + 2 * bytes.len();
+    match hex::encode_to_slice(bytes, &mut line[at..end]) {
+        Ok(()) => end,
         Err(_) => unreachable!(),
     }
 }
 
-/// What stands in front of the two digits of a byte that is not printable.
-fn lead(style: Style) -> &'static [u8]
-    ensures { result.now ≡ lead style }
+/// Whether a byte stands behind a backslash between quotes.
+#[inline(always)]
+fn is_quote(byte: u8) -> bool
+    ensures { result ≡ (byte == 34 || byte == 92) }
 {
+    byte == b'"' || byte == b'\\'
+}
+
+/// Whether a byte is not printable.
+#[inline(always)]
+fn is_other(byte: u8) -> bool
+    ensures { result ≡ (nat_lt byte 32 || nat_lt 126 byte) }
+{
+    byte < b' ' || b'~' < byte
+}
+
+/// One of two bytes.
+#[inline(always)]
+fn either(test: bool, yes: u8, no: u8) -> u8
+    ensures { result ≡ (if test then yes else no) }
+{
+    if test { yes } else { no }
+}
+
+/// How many bytes a byte takes between quotes.
+#[inline(always)]
+fn escaped_bytes(quote: bool, other: bool, wide: usize) -> usize
+    ensures { result ≡ (if quote then 2 else if other then wide else 1) }
+{
+    if quote {
+        2
+    } else if other {
+        wide
+    } else {
+        1
+    }
+}
+
+/// Writes a byte that stands between quotes. All of the bytes that it may take are written, whatever
+/// it is, so that no branch waits for the byte; those behind it count for nothing.
+#[inline(always)]
+fn put_escaped(line: &mut [u8], at: usize, style: Style, byte: u8) -> usize
+    requires { at + 6 ≤ length line.old }
+    ensures end { result ≤ at + 6 }
+    ensures text { take result line.new ≡ take at line.old ++ escaped style byte }
+{
+    let (quote, other) = (is_quote(byte), is_other(byte));
+    let high = DIGITS[byte as usize / 16];
+    let low = DIGITS[byte as usize % 16];
+    let plain = either(other, b'\\', byte);
+    let first = either(quote, b'\\', plain);
+    line[at] = first;
     match style {
-        Style::Text => b"\\x",
-        Style::Json => b"\\u00",
+        Style::Text => {
+            line[at + 1] = either(quote, byte, b'x');
+            line[at + 2] = high;
+            line[at + 3] = low;
+            at + escaped_bytes(quote, other, 4)
+        }
+        Style::Json => {
+            line[at + 1] = either(quote, byte, b'u');
+            line[at + 2] = b'0';
+            line[at + 3] = b'0';
+            line[at + 4] = high;
+            line[at + 5] = low;
+            at + escaped_bytes(quote, other, 6)
+        }
     }
 }
 
-/// Appends a byte that stands between quotes.
-fn put_escaped(line: &mut Vec<u8>, style: Style, byte: u8) -> Result<(), AllocError>
-    ensures { OnOk result (line.new.items ≡ line.old.items ++ escaped style byte) }
+/// Writes bytes between quotes.
+#[inline(always)]
+fn put_quoted(line: &mut [u8], at: usize, style: Style, bytes: &[u8]) -> usize
+    requires { at + 2 + 6 * length bytes.now ≤ length line.old }
+    ensures end { result ≤ at + 2 + 6 * length bytes.now }
+    ensures text { take result line.new ≡ take at line.old ++ quoted style bytes.now }
 {
-    match byte {
-        b'"' | b'\\' => {
-            line.push(b'\\')?;
-            line.push(byte)?;
-        }
-        b' '..=b'~' => line.push(byte)?,
-        _ => {
-            line.extend_from_slice(lead(style))?;
-            put_hex(line, &[byte])?;
-        }
-    }
-    Ok(())
-}
-
-/// Appends bytes between quotes.
-fn put_quoted(line: &mut Vec<u8>, style: Style, bytes: &[u8]) -> Result<(), AllocError>
-    ensures { OnOk result (line.new.items ≡ line.old.items ++ quoted style bytes.now) }
-{
-    line.push(b'"')?;
+    let mut end = put_text(line, at, b"\"");
     for byte in bytes {
-        put_escaped(line, style, *byte)?;
+        end = put_escaped(line, end, style, *byte);
     }
-    line.push(b'"')?;
-    Ok(())
+    put_text(line, end, b"\"")
 }
 
-/// Appends a value: its bytes as text between quotes, and in hexadecimal.
-pub fn put_value(line: &mut Vec<u8>, style: Style, bytes: &[u8]) -> Result<(), AllocError>
-    requires { length bytes.now ≤ VALUE_BYTES }
-    ensures { OnOk result (line.new.items ≡ line.old.items ++ value style bytes.now) }
+/// Writes a value: its bytes as text between quotes, and in hexadecimal.
+pub fn put_value(line: &mut [u8], at: usize, style: Style, bytes: &[u8]) -> usize
+    requires short { length bytes.now ≤ VALUE_BYTES }
+    requires room { at + 404 ≤ length line.old }
+    ensures end { result ≤ at + 404 }
+    ensures text { take result line.new ≡ take at line.old ++ value style bytes.now }
 {
     match style {
         Style::Text => {
-            put_quoted(line, style, bytes)?;
-            line.extend_from_slice(b" (")?;
-            put_hex(line, bytes)?;
-            line.push(b')')?;
+            let at = put_quoted(line, at, style, bytes);
+            let at = put_text(line, at, b" (");
+            let at = put_hex(line, at, bytes);
+            put_text(line, at, b")")
         }
         Style::Json => {
-            line.extend_from_slice(b"{\"text\":")?;
-            put_quoted(line, style, bytes)?;
-            line.extend_from_slice(b",\"hex\":\"")?;
-            put_hex(line, bytes)?;
-            line.extend_from_slice(b"\"}")?;
+            let at = put_text(line, at, b"{\"text\":");
+            let at = put_quoted(line, at, style, bytes);
+            let at = put_text(line, at, b",\"hex\":\"");
+            let at = put_hex(line, at, bytes);
+            put_text(line, at, b"\"}")
         }
     }
-    Ok(())
 }
 
 /// What is written for a slot that holds nothing.
@@ -96,14 +145,16 @@ fn absent(style: Style) -> &'static [u8]
     }
 }
 
-/// Appends what a slot holds.
-pub fn put_image(line: &mut Vec<u8>, style: Style, held: Option<&[u8]>) -> Result<(), AllocError>
-    requires { IfSome held (λ bytes. length bytes.now ≤ VALUE_BYTES) }
-    ensures { OnOk result (line.new.items
-        ≡ line.old.items ++ image style (option_map (λ bytes. bytes.now) held.entry)) }
+/// Writes what a slot holds.
+pub fn put_image(line: &mut [u8], at: usize, style: Style, held: Option<&[u8]>) -> usize
+    requires fits { IfSome held (λ bytes. length bytes.now ≤ VALUE_BYTES) }
+    requires room { at + 404 ≤ length line.old }
+    ensures end { result ≤ at + 404 }
+    ensures text { take result line.new ≡ take at line.old
+        ++ image style (option_map (λ bytes. bytes.now) held.entry) }
 {
     match held {
-        None => line.extend_from_slice(absent(style)),
-        Some(bytes) => put_value(line, style, bytes),
+        None => put_text(line, at, absent(style)),
+        Some(bytes) => put_value(line, at, style, bytes),
     }
 }
