@@ -10,6 +10,7 @@ use Rattle.wal.specs.Records.{LogRecord, Update, Compensation, Commit, Abort, En
 use Rattle.dump.specs.Line.{opening, closing, number_field}
 use Rattle.dump.specs.Record.{kind_word, record_line, fields, short_fields, table_fields}
 use Rattle.dump.specs.Tables.{listed}
+use Rattle.dump.specs.Values.{IsPlain, escaped}
 use Rattle.dump.specs.StoreLines.{slot_field, slot_fields}
 
 -- one entry more
@@ -72,3 +73,11 @@ record_written style offset lsn r old kind opened numbered short tables front en
     let tables_all = tables_is ∙ ap (λ l. l ++ table_fields style r) (front_is ∙ ap (λ l. old ++ l) short_all) in
     new_is ∙ ap (λ l. tables ++ l) ending_is ∙ ap (λ l. l ++ closing style) tables_all
     ∙ parts old (opening style offset (kind_word r)) number (short_fields style r) (table_fields style r) (fields style r) (closing style) (fields_parts style r)
+
+-- bytes that stand for themselves between quotes
+pub plain_stays : (style : Style) (bytes : List ℕ) → ((k : ℕ) → k < length bytes → IsPlain (get_or bytes k 0)) → flat_map (escaped style) bytes ≡ bytes
+plain_stays style [] each = refl
+plain_stays style (byte ∷ bytes) each =
+    let (quote, other) = each 0 (omega arith) in
+    let one : escaped style byte ≡ byte ∷ [] = rw (quote, other) refl in
+    ap (λ l. l ++ flat_map (escaped style) bytes) one ∙ ap (λ l. byte ∷ l) (plain_stays style bytes (λ k h. each (suc k) (omega arith)))

@@ -1,5 +1,5 @@
 -- What a slot holds, as a line of a dump says it (own).
-use Rattle.std.specs.Prelude.{ℕ, List, [], ◌∷◌, ◌++◌, Some, None, ◌==◌, ◌||◌, nat_lt, if◌then◌else◌, codes}
+use Rattle.std.specs.Prelude.{◌≡◌, ℕ, false, List, [], ◌∷◌, ◌++◌, Some, None, ◌==◌, ◌||◌, nat_lt, if◌then◌else◌, codes}
 use Rattle.std.specs.List.{flat_map}
 use Rattle.hex.specs.Hex.{encode_lower}
 use Rattle.page.specs.Image.{Image}
@@ -17,6 +17,10 @@ escaped style byte =
     if byte == 34 || byte == 92 then 92 ∷ byte ∷ []
     else if nat_lt byte 32 || nat_lt 126 byte then lead style ++ encode_lower (byte ∷ [])
     else byte ∷ []
+
+-- a byte that stands for itself there
+abbrev pub IsPlain : ℕ → Type 0
+IsPlain byte = ((byte == 34 || byte == 92) ≡ false) × ((nat_lt byte 32 || nat_lt 126 byte) ≡ false)
 
 abbrev pub quoted : Style → List ℕ → List ℕ
 quoted style bytes = codes "\"" ++ flat_map (escaped style) bytes ++ codes "\""

@@ -5,7 +5,7 @@
 
 ghost use Rattle.std.specs.Prelude.{◌≡◌, ◌+◌, ◌≤◌, ◌++◌, IfSome, length, option_map, take, decimal};
 ghost use Rattle.page.specs.declared.sizes.TheConstants.{VALUE_BYTES};
-ghost use Rattle.dump.specs.Line.{opening, closing, named, number_field, word, word_field, image_field};
+ghost use Rattle.dump.specs.Line.{opening, closing, named, number_field, word_field, image_field};
 
 use crate::Style;
 use crate::value::put_image;
@@ -19,9 +19,10 @@ pub fn put_text(line: &mut [u8], at: usize, text: &[u8]) -> usize
     ensures end { result ≡ at + length text.now }
     ensures text { take result line.new ≡ take at line.old ++ text.now }
 {
-    let end = at + text.len();
-    line[at..end].copy_from_slice(text);
-    end
+    for (place, byte) in text.iter().enumerate() {
+        line[at + place] = *byte;
+    }
+    at + text.len()
 }
 
 /// Writes a number in decimal. All of the twenty bytes that a number may take are written, since a
@@ -105,12 +106,14 @@ pub fn put_number_field(line: &mut [u8], at: usize, style: Style, name: &str, nu
     put_number(line, at, number)
 }
 
-/// Writes a word: one of the words of the formats.
-fn put_word(line: &mut [u8], at: usize, style: Style, text: &str) -> usize
-    requires { at + length text.now + 2 ≤ length line.old }
-    ensures end { result ≤ at + length text.now + 2 }
-    ensures text { take result line.new ≡ take at line.old ++ word style text.now }
+/// Writes a field that is a word: one of the words of the formats.
+pub fn put_word_field(line: &mut [u8], at: usize, style: Style, name: &str, text: &str) -> usize
+    requires { at + length name.now + length text.now + 6 ≤ length line.old }
+    ensures end { result ≤ at + length name.now + length text.now + 6 }
+    ensures text { take result line.new
+        ≡ take at line.old ++ word_field style name.now text.now }
 {
+    let at = put_name(line, at, style, name);
     match style {
         Style::Text => put_text(line, at, text.as_bytes()),
         Style::Json => {
@@ -119,17 +122,6 @@ fn put_word(line: &mut [u8], at: usize, style: Style, text: &str) -> usize
             put_text(line, at, b"\"")
         }
     }
-}
-
-/// Writes a field that is a word.
-pub fn put_word_field(line: &mut [u8], at: usize, style: Style, name: &str, text: &str) -> usize
-    requires { at + length name.now + length text.now + 6 ≤ length line.old }
-    ensures end { result ≤ at + length name.now + length text.now + 6 }
-    ensures text { take result line.new
-        ≡ take at line.old ++ word_field style name.now text.now }
-{
-    let at = put_name(line, at, style, name);
-    put_word(line, at, style, text)
 }
 
 /// Writes a field that is what a slot holds.

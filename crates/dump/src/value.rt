@@ -1,10 +1,10 @@
 //! What a slot holds, as people and programs read it.
 
-ghost use Rattle.std.specs.Prelude.{◌≡◌, ◌+◌, ◌*◌, ◌≤◌, ◌∷◌, [], ◌++◌, IfSome, length, option_map, take, if◌then◌else◌, ◌==◌, ◌||◌, nat_lt};
+ghost use Rattle.std.specs.Prelude.{◌≡◌, ◌+◌, ◌*◌, ◌≤◌, ◌∷◌, [], ◌++◌, IfSome, IsTrue, EachIndex, slice_index, length, option_map, take, if◌then◌else◌, ◌==◌, ◌||◌, nat_lt};
 ghost use Rattle.std.specs.List.{flat_map};
 ghost use Rattle.hex.specs.Hex.{encode_lower};
 ghost use Rattle.page.specs.declared.sizes.TheConstants.{VALUE_BYTES};
-ghost use Rattle.dump.specs.Values.{lead, escaped, quoted, value, absent, image};
+ghost use Rattle.dump.specs.Values.{IsPlain, escaped, quoted, value, image};
 
 use crate::Style;
 use crate::line::put_text;
@@ -97,6 +97,37 @@ fn put_escaped(line: &mut [u8], at: usize, style: Style, byte: u8) -> usize
     }
 }
 
+/// Whether each byte stands for itself between quotes.
+#[inline(always)]
+fn are_plain(bytes: &[u8]) -> bool
+    ensures { IsTrue result → EachIndex bytes.now (λ k. IsPlain (slice_index bytes.now k)) }
+{
+    bytes
+        .iter()
+        .all(|byte| !is_quote(*byte) && !is_other(*byte))
+}
+
+/// Writes what stands between quotes. Bytes that all stand for themselves, as those of most texts, are
+/// copied at once.
+#[inline(always)]
+fn put_each(line: &mut [u8], at: usize, style: Style, bytes: &[u8]) -> usize
+    requires { at + 6 * length bytes.now ≤ length line.old }
+    ensures end { result ≤ at + 6 * length bytes.now }
+    ensures text { take result line.new
+        ≡ take at line.old ++ flat_map (escaped style) bytes.now }
+{
+    if are_plain(bytes) {
+        let end = at + bytes.len();
+        line[at..end].copy_from_slice(bytes);
+        return end;
+    }
+    let mut end = at;
+    for byte in bytes {
+        end = put_escaped(line, end, style, *byte);
+    }
+    end
+}
+
 /// Writes bytes between quotes.
 #[inline(always)]
 fn put_quoted(line: &mut [u8], at: usize, style: Style, bytes: &[u8]) -> usize
@@ -104,11 +135,9 @@ fn put_quoted(line: &mut [u8], at: usize, style: Style, bytes: &[u8]) -> usize
     ensures end { result ≤ at + 2 + 6 * length bytes.now }
     ensures text { take result line.new ≡ take at line.old ++ quoted style bytes.now }
 {
-    let mut end = put_text(line, at, b"\"");
-    for byte in bytes {
-        end = put_escaped(line, end, style, *byte);
-    }
-    put_text(line, end, b"\"")
+    let at = put_text(line, at, b"\"");
+    let at = put_each(line, at, style, bytes);
+    put_text(line, at, b"\"")
 }
 
 /// Writes a value: its bytes as text between quotes, and in hexadecimal.
@@ -135,16 +164,6 @@ pub fn put_value(line: &mut [u8], at: usize, style: Style, bytes: &[u8]) -> usiz
     }
 }
 
-/// What is written for a slot that holds nothing.
-fn absent(style: Style) -> &'static [u8]
-    ensures { result.now ≡ absent style }
-{
-    match style {
-        Style::Text => b"absent",
-        Style::Json => b"null",
-    }
-}
-
 /// Writes what a slot holds.
 pub fn put_image(line: &mut [u8], at: usize, style: Style, held: Option<&[u8]>) -> usize
     requires fits { IfSome held (λ bytes. length bytes.now ≤ VALUE_BYTES) }
@@ -154,7 +173,10 @@ pub fn put_image(line: &mut [u8], at: usize, style: Style, held: Option<&[u8]>) 
         ++ image style (option_map (λ bytes. bytes.now) held.entry) }
 {
     match held {
-        None => put_text(line, at, absent(style)),
+        None => match style {
+            Style::Text => put_text(line, at, b"absent"),
+            Style::Json => put_text(line, at, b"null"),
+        },
         Some(bytes) => put_value(line, at, style, bytes),
     }
 }
