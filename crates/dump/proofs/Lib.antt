@@ -1,4 +1,5 @@
 mod Texts
 mod Writes
+mod Pairs
 mod Places
 mod Fronts

@@ -1,8 +1,8 @@
 //! What a slot holds, as people and programs read it.
 
-ghost use Rattle.std.specs.Prelude.{◌≡◌, ◌+◌, ◌*◌, ◌≤◌, ◌∷◌, [], ◌++◌, IfSome, IsTrue, EachIndex, slice_index, length, option_map, take, if◌then◌else◌, ◌==◌, ◌||◌, nat_lt};
+ghost use Rattle.std.specs.Prelude.{◌≡◌, ◌+◌, ◌*◌, ◌/◌, ◌%◌, ◌≤◌, ◌∷◌, [], ◌++◌, IfSome, IsTrue, EachIndex, slice_index, length, option_map, take, if◌then◌else◌, ◌==◌, ◌||◌, nat_lt};
 ghost use Rattle.std.specs.List.{flat_map};
-ghost use Rattle.hex.specs.Hex.{encode_lower};
+ghost use Rattle.hex.specs.Hex.{encode_lower, lower_digits};
 ghost use Rattle.page.specs.declared.sizes.TheConstants.{VALUE_BYTES};
 ghost use Rattle.dump.specs.Values.{IsPlain, escaped, quoted, value, image};
 
@@ -10,8 +10,19 @@ use crate::Style;
 use crate::line::put_text;
 use page::VALUE_BYTES;
 
-/// The hexadecimal digits.
-const DIGITS: &[u8; 16] = b"0123456789abcdef";
+/// The two hexadecimal digits of each byte.
+static PAIRS: [u8; 512] =
+    *b"000102030405060708090a0b0c0d0e0f101112131415161718191a1b1c1d1e1f202122232425262728292a2b2c2d2e2f303132333435363738393a3b3c3d3e3f404142434445464748494a4b4c4d4e4f505152535455565758595a5b5c5d5e5f606162636465666768696a6b6c6d6e6f707172737475767778797a7b7c7d7e7f808182838485868788898a8b8c8d8e8f909192939495969798999a9b9c9d9e9fa0a1a2a3a4a5a6a7a8a9aaabacadaeafb0b1b2b3b4b5b6b7b8b9babbbcbdbebfc0c1c2c3c4c5c6c7c8c9cacbcccdcecfd0d1d2d3d4d5d6d7d8d9dadbdcdddedfe0e1e2e3e4e5e6e7e8e9eaebecedeeeff0f1f2f3f4f5f6f7f8f9fafbfcfdfeff";
+
+/// The two hexadecimal digits of a byte.
+#[inline(always)]
+fn digits_of(byte: u8) -> (u8, u8)
+    ensures high { result.0 ≡ slice_index lower_digits (byte / 16) }
+    ensures low { result.1 ≡ slice_index lower_digits (byte % 16) }
+{
+    let from = byte as usize * 2;
+    (PAIRS[from], PAIRS[from + 1])
+}
 
 /// Writes two hexadecimal digits for each byte.
 #[inline(always)]
@@ -20,11 +31,12 @@ fn put_hex(line: &mut [u8], at: usize, bytes: &[u8]) -> usize
     ensures end { result ≡ at + 2 * length bytes.now }
     ensures text { take result line.new ≡ take at line.old ++ encode_lower bytes.now }
 {
-    let end = at + 2 * bytes.len();
-    match hex::encode_to_slice(bytes, &mut line[at..end]) {
-        Ok(()) => end,
-        Err(_) => unreachable!(),
+    for (place, byte) in bytes.iter().enumerate() {
+        let (high, low) = digits_of(*byte);
+        line[at + 2 * place] = high;
+        line[at + 2 * place + 1] = low;
     }
+    at + 2 * bytes.len()
 }
 
 /// Whether a byte stands behind a backslash between quotes.
@@ -43,26 +55,12 @@ fn is_other(byte: u8) -> bool
     byte < b' ' || b'~' < byte
 }
 
-/// One of two bytes.
+/// One of two values.
 #[inline(always)]
-fn either(test: bool, yes: u8, no: u8) -> u8
+fn either<T: Copy>(test: bool, yes: T, no: T) -> T
     ensures { result ≡ (if test then yes else no) }
 {
     if test { yes } else { no }
-}
-
-/// How many bytes a byte takes between quotes.
-#[inline(always)]
-fn escaped_bytes(quote: bool, other: bool, wide: usize) -> usize
-    ensures { result ≡ (if quote then 2 else if other then wide else 1) }
-{
-    if quote {
-        2
-    } else if other {
-        wide
-    } else {
-        1
-    }
 }
 
 /// Writes a byte that stands between quotes. All of the bytes that it may take are written, whatever
@@ -74,8 +72,7 @@ fn put_escaped(line: &mut [u8], at: usize, style: Style, byte: u8) -> usize
     ensures text { take result line.new ≡ take at line.old ++ escaped style byte }
 {
     let (quote, other) = (is_quote(byte), is_other(byte));
-    let high = DIGITS[byte as usize / 16];
-    let low = DIGITS[byte as usize % 16];
+    let (high, low) = digits_of(byte);
     let plain = either(other, b'\\', byte);
     let first = either(quote, b'\\', plain);
     line[at] = first;
@@ -84,7 +81,7 @@ fn put_escaped(line: &mut [u8], at: usize, style: Style, byte: u8) -> usize
             line[at + 1] = either(quote, byte, b'x');
             line[at + 2] = high;
             line[at + 3] = low;
-            at + escaped_bytes(quote, other, 4)
+            at + either(quote, 2, either(other, 4, 1))
         }
         Style::Json => {
             line[at + 1] = either(quote, byte, b'u');
@@ -92,7 +89,7 @@ fn put_escaped(line: &mut [u8], at: usize, style: Style, byte: u8) -> usize
             line[at + 3] = b'0';
             line[at + 4] = high;
             line[at + 5] = low;
-            at + escaped_bytes(quote, other, 6)
+            at + either(quote, 2, either(other, 6, 1))
         }
     }
 }
