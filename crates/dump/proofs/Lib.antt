@@ -1,5 +1,6 @@
 mod Texts
 mod Writes
 mod Pairs
+mod Digits
 mod Places
 mod Fronts

@@ -1,17 +1,16 @@
 -- Texts written into a buffer, each behind those before it.
-use Rattle.std.proofs.Common.{ℕ, ◌≡◌, ◌+◌, ◌<◌, ◌≤◌, Bool, true, false, if◌then◌else◌, List, [], ◌∷◌, ◌++◌, length, take, set, refl, sym, ap, ◌∙◌, arith, append_assoc}
+use Rattle.std.proofs.Common.{ℕ, ◌≡◌, ◌+◌, ◌<◌, ◌≤◌, Bool, true, false, if◌then◌else◌, List, [], ◌∷◌, ◌++◌, length, take, drop, set, refl, sym, ap, ap₂, ◌∙◌, take_at, arith, append_assoc}
 use Rattle.std.proofs.Math.ListN.{length-set}
-use Rattle.std.proofs.Math.Seq.{take-append-add}
-use Rattle.std.proofs.lemmas.List.{take-append-le, length-take-le, take-set-le}
+use Rattle.std.proofs.Math.Seq.{take-add}
+use Rattle.std.proofs.lemmas.List.{take-set-le}
 use Rattle.std.proofs.lemmas.Grind.{take-set_at}
-use borrow.Rule.Slice.PartMut.{put_mid}
 
--- a part of the buffer is written over, of which the first bytes count
-pub front_counts : (line part text : List ℕ) (at k n : ℕ) → at ≤ length line → n ≤ length part → take n part ≡ text → take (at + n) (put_mid at k line part) ≡ take at line ++ text
-front_counts line part text at k n fits few is =
-    let front = length-take-le at line fits in
-    ap (λ m. take (m + n) (put_mid at k line part)) (sym front) ∙ take-append-add (take at line) _ n
-    ∙ ap (λ t. take at line ++ t) (take-append-le n part _ few ∙ is)
+-- a text is written in front of an end, and nothing before it
+pub written_before : (old new text rest : List ℕ) (at start n : ℕ) → start ≡ at → length text ≡ n → take start new ≡ take start old → drop start new ≡ text ++ rest → take (at + n) new ≡ take at old ++ text
+written_before old new text rest at start n same size before behind =
+    ap (λ m. take (m + n) new) (sym same) ∙ take-add start n new
+    ∙ ap₂ (λ x y. x ++ y) before (ap (take n) behind ∙ take_at text rest n size)
+    ∙ ap (λ m. take m old ++ text) same
 
 -- one byte more
 byte_more : (line text : List ℕ) (i n byte : ℕ) → n ≡ i + 1 → i < length line → take i line ≡ text → take n (set line i byte) ≡ text ++ byte ∷ []

@@ -25,18 +25,39 @@ pub fn put_text(line: &mut [u8], at: usize, text: &[u8]) -> usize
     at + text.len()
 }
 
-/// Writes a number in decimal. All of the twenty bytes that a number may take are written, since a
-/// copy of a fixed size takes the least time; those behind the number count for nothing.
+/// How many digits a number has.
+#[inline]
+fn digits_in(number: u64) -> usize
+    ensures { result ≡ length (decimal number) }
+{
+    let mut left = number;
+    let mut digits = 0;
+    while left >= 10_000 {
+        left /= 10_000;
+        digits += 4;
+    }
+    if left < 10 {
+        digits + 1
+    } else if left < 100 {
+        digits + 2
+    } else if left < 1000 {
+        digits + 3
+    } else {
+        digits + 4
+    }
+}
+
+/// Writes a number in decimal. Its digits are counted first, since they are written from the last to
+/// the first: where it ends is known then, and none is written twice.
 #[inline]
 pub fn put_number(line: &mut [u8], at: usize, number: u64) -> usize
     requires { at + 20 ≤ length line.old }
     ensures end { result ≤ at + 20 }
     ensures text { take result line.new ≡ take at line.old ++ decimal number }
 {
-    let mut digits = [0; 40];
-    let start = write_digits(number, &mut digits, 20);
-    line[at..at + 20].copy_from_slice(&digits[start..start + 20]);
-    at + (20 - start)
+    let end = at + digits_in(number);
+    write_digits(number, line, end);
+    end
 }
 
 /// Writes the beginning of a line: where in the file it lies that the line tells of, and what it is.

@@ -2,7 +2,6 @@
 
 ghost use Rattle.std.specs.Prelude.{◌≡◌, ◌+◌, ◌≤◌, ◌<◌, ◌++◌, OnOk, codes, length, take};
 ghost use Rattle.wal.specs.Content.{entry_of};
-ghost use Rattle.dump.specs.Line.{named};
 ghost use Rattle.dump.specs.Tables.{entry_opening, entry_closing, between_at, state_word, transaction_entry, dirty_entry, table_field};
 
 use crate::Style;
@@ -97,18 +96,6 @@ fn put_dirty_page(line: &mut Vec<u8>, style: Style, entry: (u32, u64)) -> Result
     line.extend_from_slice(&text[..at])
 }
 
-/// Appends the name of a table, and what opens its list.
-fn put_table_name(line: &mut Vec<u8>, style: Style, name: &str) -> Result<(), AllocError>
-    requires { length name.now ≤ 16 }
-    ensures { OnOk result (line.new.items
-        ≡ line.old.items ++ (named style name.now ++ codes "[")) }
-{
-    let mut text = [0; 24];
-    let at = put_name(&mut text, 0, style, name);
-    let at = put_text(&mut text, at, b"[");
-    line.extend_from_slice(&text[..at])
-}
-
 /// Appends a transaction table as a field.
 pub fn put_transactions(
     line: &mut Vec<u8>,
@@ -118,7 +105,10 @@ pub fn put_transactions(
     ensures { OnOk result (line.new.items ≡ line.old.items
         ++ table_field style (codes "transactions") transaction_entry table.now) }
 {
-    put_table_name(line, style, "transactions")?;
+    let mut text = [0; 24];
+    let at = put_name(&mut text, 0, style, "transactions");
+    let at = put_text(&mut text, at, b"[");
+    line.extend_from_slice(&text[..at])?;
     for place in 0..table.len() {
         put_between(line, style, place)?;
         put_transaction(line, style, table.entry(place))?;
@@ -132,7 +122,10 @@ pub fn put_dirty(line: &mut Vec<u8>, style: Style, table: &DirtyTable) -> Result
     ensures { OnOk result (line.new.items
         ≡ line.old.items ++ table_field style (codes "dirty") dirty_entry table.now) }
 {
-    put_table_name(line, style, "dirty")?;
+    let mut text = [0; 24];
+    let at = put_name(&mut text, 0, style, "dirty");
+    let at = put_text(&mut text, at, b"[");
+    line.extend_from_slice(&text[..at])?;
     for place in 0..table.len() {
         put_between(line, style, place)?;
         put_dirty_page(line, style, table.entry(place))?;

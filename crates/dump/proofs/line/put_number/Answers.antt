@@ -1,15 +1,17 @@
-use Rattle.std.proofs.Common.{◌+◌, ◌-◌, length, take, decimal, arith, ap, ◌∙◌, drop, take-take, take_at}
-use Rattle.std.proofs.lemmas.Fmt.{length-decimal-le}
-use Rattle.dump.proofs.Writes.{front_counts}
+use Rattle.std.proofs.Common.{decimal, arith}
+use Rattle.dump.proofs.Digits.{at_most}
+use Rattle.dump.proofs.Writes.{written_before}
 use Rattle.dump.proofs.line.put_number.Goals as goal
 
-pub write_digits-start-requires : goal.write_digits-start-requires
-write_digits-start-requires c = (length-decimal-le 20 c.args.number (omega arith) (omega arith) (omega arith), omega arith)
+pub overflow_add-end : goal.overflow_add-end
+overflow_add-end c = omega (arith, at_most c.args.number (omega arith))
+
+pub write_digits-requires : goal.write_digits-requires
+write_digits-requires c = (omega arith, omega (arith, at_most c.args.number (omega arith)))
+
+pub returns-clause-end : goal.returns-clause-end
+returns-clause-end c = omega (arith, at_most c.args.number (omega arith))
 
 pub returns-clause-text : goal.returns-clause-text
 returns-clause-text c =
-    front_counts c.args.line.now c.copy_from_slice.new.self (decimal c.args.number) c.args.at (c.args.at + 20 - c.args.at) (20 - c.write_digits-start.result) (omega arith) (omega (arith, ap length c.copy_from_slice.ensures.after))
-    (ap (take (20 - c.write_digits-start.result)) c.copy_from_slice.ensures.after
-    ∙ take-take (20 - c.write_digits-start.result) _ (drop c.write_digits-start.result c.write_digits-start.new.buf) (omega arith)
-    ∙ ap (take (20 - c.write_digits-start.result)) c.write_digits-start.ensures.written
-    ∙ take_at (decimal c.args.number) _ (20 - c.write_digits-start.result) (omega arith))
+    written_before c.args.line.now c.write_digits.new.buf (decimal c.args.number) _ c.args.at c.write_digits.result _ (omega arith) (omega arith) c.write_digits.ensures.before c.write_digits.ensures.written

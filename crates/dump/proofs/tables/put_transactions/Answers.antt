@@ -12,5 +12,5 @@ loop-place-preserved c =
     let next : suc place ≡ place + 1 = omega arith in
     let spell = transaction_entry style in
     put_behind _ (listed (between style) spell (take place c.args.table.now)) (between_at style place) (spell entry) _ _ _ c.loop-place.invariant c.in_ok-put_between.ensures c.in_ok-put_transaction.ensures
-    ∙ ap (λ e. c.put_table_name.new.line.items ++ (listed (between style) spell (take place c.args.table.now) ++ (between_at style place ++ spell e))) (sym (c.entry.ensures entry))
-    ∙ ap (λ text. c.put_table_name.new.line.items ++ text) (sym (listed_more (between style) spell c.args.table.now place entry (omega arith)) ∙ ap (λ n. listed (between style) spell (take n c.args.table.now)) next)
+    ∙ ap (λ e. c.extend_from_slice.new.self.items ++ (listed (between style) spell (take place c.args.table.now) ++ (between_at style place ++ spell e))) (sym (c.entry.ensures entry))
+    ∙ ap (λ text. c.extend_from_slice.new.self.items ++ text) (sym (listed_more (between style) spell c.args.table.now place entry (omega arith)) ∙ ap (λ n. listed (between style) spell (take n c.args.table.now)) next)
