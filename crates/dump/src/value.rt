@@ -4,7 +4,7 @@ ghost use Rattle.std.specs.Prelude.{◌≡◌, ◌+◌, ◌*◌, ◌/◌, ◌%�
 ghost use Rattle.std.specs.List.{flat_map};
 ghost use Rattle.hex.specs.Hex.{encode_lower, lower_digits};
 ghost use Rattle.page.specs.declared.sizes.TheConstants.{VALUE_BYTES};
-ghost use Rattle.dump.specs.Values.{IsPlain, escaped, quoted, value, image};
+ghost use Rattle.dump.specs.Values.{IsPlain, escaped, value, image};
 
 use crate::Style;
 use crate::line::put_text;
@@ -125,18 +125,6 @@ fn put_each(line: &mut [u8], at: usize, style: Style, bytes: &[u8]) -> usize
     end
 }
 
-/// Writes bytes between quotes.
-#[inline(always)]
-fn put_quoted(line: &mut [u8], at: usize, style: Style, bytes: &[u8]) -> usize
-    requires { at + 2 + 6 * length bytes.now ≤ length line.old }
-    ensures end { result ≤ at + 2 + 6 * length bytes.now }
-    ensures text { take result line.new ≡ take at line.old ++ quoted style bytes.now }
-{
-    let at = put_text(line, at, b"\"");
-    let at = put_each(line, at, style, bytes);
-    put_text(line, at, b"\"")
-}
-
 /// Writes a value: its bytes as text between quotes, and in hexadecimal.
 pub fn put_value(line: &mut [u8], at: usize, style: Style, bytes: &[u8]) -> usize
     requires short { length bytes.now ≤ VALUE_BYTES }
@@ -146,15 +134,16 @@ pub fn put_value(line: &mut [u8], at: usize, style: Style, bytes: &[u8]) -> usiz
 {
     match style {
         Style::Text => {
-            let at = put_quoted(line, at, style, bytes);
-            let at = put_text(line, at, b" (");
+            let at = put_text(line, at, b"\"");
+            let at = put_each(line, at, style, bytes);
+            let at = put_text(line, at, b"\" (");
             let at = put_hex(line, at, bytes);
             put_text(line, at, b")")
         }
         Style::Json => {
-            let at = put_text(line, at, b"{\"text\":");
-            let at = put_quoted(line, at, style, bytes);
-            let at = put_text(line, at, b",\"hex\":\"");
+            let at = put_text(line, at, b"{\"text\":\"");
+            let at = put_each(line, at, style, bytes);
+            let at = put_text(line, at, b"\",\"hex\":\"");
             let at = put_hex(line, at, bytes);
             put_text(line, at, b"\"}")
         }
