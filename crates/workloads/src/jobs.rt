@@ -29,8 +29,13 @@ fn take_report(digest: &mut Digest, report: &Report) {
     digest.take_number(report.torn);
     digest.take_number(report.redo_from);
     digest.take_number(report.redone);
+    digest.take_number(report.losers);
     digest.take_number(report.compensated);
     digest.take_number(report.ended);
+    digest.take_number(report.pages);
+    for transaction in &report.in_doubt {
+        digest.take_number(*transaction as u64);
+    }
 }
 
 /// Recovers over memory, and takes what is written and reported.
