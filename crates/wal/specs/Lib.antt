@@ -11,6 +11,7 @@ pub mod Cut
 pub mod Undo
 pub mod Spelling
 pub mod Reading
+pub mod Head
 pub mod Headers
 pub mod Frames
 pub mod Reads

@@ -1,6 +1,6 @@
 //! The fields of a record in bytes: numbers, transaction numbers, slots, images.
 
-ghost use Rattle.std.specs.Prelude.{◌≡◌, ◌++◌, ◌∷◌, [], OnOk, length, map, option_map, ◌<◌, ◌^◌};
+ghost use Rattle.std.specs.Prelude.{◌≡◌, ◌++◌, OnOk, length, map, option_map, ◌<◌, ◌^◌};
 ghost use Rattle.std.specs.Int.{w32, w64, to_be_bytes};
 ghost use Rattle.wal.specs.Reading.{number_at, tx_at, slot_at, image_at, plain_at, state_at, entry_at, dirty_at};
 ghost use Rattle.wal.specs.Spelling.{image, state as state_text, entry as entry_text, dirty_page, table};
@@ -171,28 +171,6 @@ pub fn put_image<A: Allocator>(
             out.extend_from_slice(value)?;
         }
     }
-    Ok(())
-}
-
-#[tactic(auto, using(crate::proofs::Keeping::keeps_same, crate::proofs::Keeping::keeps_if))]
-pub fn put_plain<A: Allocator>(out: &mut Vec<u8, A>, tx: u32, prev: u64) -> Result<(), AllocError>
-    ensures ok { OnOk result (out.new.items
-        ≡ out.old.items ++ (to_be_bytes w32 tx ++ to_be_bytes w64 prev)) }
-    ensures kept { Keeps out.old.items out.new.items }
-{
-    out.extend_from_slice(&tx.to_be_bytes())?;
-    out.extend_from_slice(&prev.to_be_bytes())?;
-    Ok(())
-}
-
-#[tactic(auto, using(crate::proofs::Keeping::keeps_same, crate::proofs::Keeping::keeps_if))]
-pub fn put_cell<A: Allocator>(out: &mut Vec<u8, A>, page: u32, slot: u8) -> Result<(), AllocError>
-    ensures ok { OnOk result (out.new.items
-        ≡ out.old.items ++ (to_be_bytes w32 page ++ (slot ∷ []))) }
-    ensures kept { Keeps out.old.items out.new.items }
-{
-    out.extend_from_slice(&page.to_be_bytes())?;
-    out.push(slot)?;
     Ok(())
 }
 

@@ -6,14 +6,15 @@ ghost use Rattle.std.specs.Int.{w32, w64, to_be_bytes};
 ghost use Rattle.wal.specs.Records.{CompensationRecord, PlainRecord, UpdateRecord};
 ghost use Rattle.wal.specs.Reading.{update_at, compensation_at, transactions_at, dirties_at, checkpoint_at, fields_at, body_at};
 ghost use Rattle.wal.specs.Spelling.{image, plain, update, compensation, body, frame, checkpoint, table, entry, dirty_page, kind_of, fields, Fits, FitsCheckpoint, FitsTable};
+ghost use Rattle.wal.specs.Head.{begin_text};
 ghost use Rattle.wal.specs.Content.{content, Keeps, shown};
 ghost use Rattle.page.specs.Image.{FitsSlot};
 
 use crate::field::{
-    image_at, plain_at, put_cell, put_dirties, put_entries, put_image, put_plain, slot_at, u32_at,
-    u64_at,
+    image_at, plain_at, put_dirties, put_entries, put_image, slot_at, u32_at, u64_at,
 };
 use crate::frame_size::body_len;
+use crate::head::Begin;
 use crate::record::Record;
 use crate::sizes::TRANSACTIONS;
 use crate::view;
@@ -83,6 +84,8 @@ fn dirties_at(bytes: &[u8]) -> Option<(DirtyTable, &[u8])>
     view::dirties_at(count, rest)
 }
 
+/// The checkpoint end in front. It is not inlined, since its tables take long to read.
+#[inline(never)]
 #[tactic(auto, unfolding(crate::specs::Reading::checkpoint_at))]
 pub fn checkpoint_at(bytes: &[u8]) -> Option<(RecordView, &[u8])>
     ensures { option_map (λ x. (shown x.0, x.1.now)) result ≡ checkpoint_at bytes.now }
@@ -96,15 +99,6 @@ pub fn checkpoint_at(bytes: &[u8]) -> Option<(RecordView, &[u8])>
         dirty,
     };
     Some((view, rest))
-}
-
-/// The checkpoint end in front, whose tables take long to read.
-#[inline(never)]
-fn checkpoint_view(bytes: &[u8]) -> Option<RecordView>
-    ensures { option_map shown result ≡ option_map (λ x. x.0) (checkpoint_at bytes.now) }
-{
-    let (view, _) = checkpoint_at(bytes)?;
-    Some(view)
 }
 
 /// The record of this kind in front. Each arm makes the record where it is wanted: to copy one that was
@@ -130,7 +124,10 @@ fn fields_at(kind: u8, bytes: &[u8]) -> Option<RecordView>
             Some(RecordView::End { tx, prev })
         }
         6 => Some(RecordView::CheckpointBegin),
-        7 => checkpoint_view(bytes),
+        7 => {
+            let (view, _) = checkpoint_at(bytes)?;
+            Some(view)
+        }
         8 => {
             let (tx, prev, _) = plain_at(bytes)?;
             Some(RecordView::Prepare { tx, prev })
@@ -155,10 +152,16 @@ pub fn body_view(bytes: &[u8]) -> Option<RecordView>
     }
 }
 
+/// Appends what a frame begins with, and the fields of its record.
 #[tactic(auto, using(crate::proofs::Keeping::keeps_same, crate::proofs::Keeping::keeps_then, crate::proofs::Keeping::keeps_if))]
-fn put_fields<A: Allocator>(out: &mut Vec<u8, A>, logged: &Record) -> Result<(), AllocError>
+fn put_fields<A: Allocator>(
+    out: &mut Vec<u8, A>,
+    begin: Begin,
+    logged: &Record,
+) -> Result<(), AllocError>
     requires { Fits (content logged.now) }
-    ensures ok { OnOk result (out.new.items ≡ out.old.items ++ fields (content logged.now)) }
+    ensures ok { OnOk result (out.new.items
+        ≡ out.old.items ++ (begin_text begin ++ fields (content logged.now))) }
     ensures kept { Keeps out.old.items out.new.items }
 {
     match logged {
@@ -170,8 +173,7 @@ fn put_fields<A: Allocator>(out: &mut Vec<u8, A>, logged: &Record) -> Result<(),
             before,
             after,
         } => {
-            put_plain(out, *tx, *prev)?;
-            put_cell(out, *page, *slot)?;
+            out.extend_from_slice(&begin.with_cell(*tx, *prev, *page, *slot))?;
             put_image(out, before)?;
             put_image(out, after)?;
         }
@@ -183,22 +185,22 @@ fn put_fields<A: Allocator>(out: &mut Vec<u8, A>, logged: &Record) -> Result<(),
             undo_next,
             image,
         } => {
-            put_plain(out, *tx, *prev)?;
-            put_cell(out, *page, *slot)?;
+            out.extend_from_slice(&begin.with_cell(*tx, *prev, *page, *slot))?;
             out.extend_from_slice(&undo_next.to_be_bytes())?;
             put_image(out, image)?;
         }
-        Record::Commit { tx, prev } => put_plain(out, *tx, *prev)?,
-        Record::Abort { tx, prev } => put_plain(out, *tx, *prev)?,
-        Record::End { tx, prev } => put_plain(out, *tx, *prev)?,
-        Record::Prepare { tx, prev } => put_plain(out, *tx, *prev)?,
-        Record::CheckpointBegin => {}
+        Record::Commit { tx, prev } => out.extend_from_slice(&begin.with_plain(*tx, *prev))?,
+        Record::Abort { tx, prev } => out.extend_from_slice(&begin.with_plain(*tx, *prev))?,
+        Record::End { tx, prev } => out.extend_from_slice(&begin.with_plain(*tx, *prev))?,
+        Record::Prepare { tx, prev } => out.extend_from_slice(&begin.with_plain(*tx, *prev))?,
+        Record::CheckpointBegin => out.extend_from_slice(&begin.bytes())?,
         Record::CheckpointEnd {
-            begin,
+            begin: begin_lsn,
             transactions,
             dirty,
         } => {
-            out.extend_from_slice(&begin.to_be_bytes())?;
+            out.extend_from_slice(&begin.bytes())?;
+            out.extend_from_slice(&begin_lsn.to_be_bytes())?;
             put_entries(out, transactions)?;
             put_dirties(out, dirty)?;
         }
@@ -231,12 +233,13 @@ fn put_frame<A: Allocator>(
     ensures ok { OnOk result (out.new.items ≡ out.old.items ++ frame (content logged.now) lsn) }
     ensures kept { Keeps out.old.items out.new.items }
 {
-    let length = body_len(logged);
-    out.reserve(4 + length as usize)?;
-    out.extend_from_slice(&length.to_be_bytes())?;
-    out.push(kind_of(logged))?;
-    out.extend_from_slice(&lsn.to_be_bytes())?;
-    put_fields(out, logged)?;
+    let begin = Begin {
+        length: body_len(logged),
+        kind: kind_of(logged),
+        lsn,
+    };
+    out.reserve(4 + begin.length as usize)?;
+    put_fields(out, begin, logged)?;
     Ok(())
 }
 

@@ -13,6 +13,7 @@ mod field;
 mod frame;
 mod frame_size;
 mod glance;
+mod head;
 mod header;
 mod image;
 mod joining;
