@@ -13,7 +13,8 @@ use Rattle.wal.specs.Undo.{entry_for, walk_of, last_in}
 use Rattle.wal.proofs.Actions.{AllFor}
 use Rattle.undo.specs.declared.losers.Loser.{Loser}
 use Rattle.undo.specs.Undone.{EndsBadly, last_met, lowest, UndoFault}
-use Rattle.undo.specs.Rollback.{walk_from, WalkFault, Waiting, Ends, Stays, Resolved, Waits, IsDone, IsWaiting, undos, RollbackInvariant}
+use Rattle.undo.specs.Turns.{Waiting}
+use Rattle.undo.specs.Rollback.{AreOthers, walk_from, WalkFault, Ends, Stays, Resolved, Waits, IsDone, IsWaiting, undos, RollbackInvariant}
 use Rattle.undo.proofs.Begun.{met_by, last_by, meets_nothing, end_of, AreEnds, Begun}
 use Rattle.undo.proofs.Lowest.{lowest_most}
 use Rattle.undo.proofs.Rolling.{update_within, last_within}
@@ -154,6 +155,18 @@ ends_more log (x ∷ es) e =
       | inr i ↦ rw i (ends_more log es e)
     ]
 
+among_longer : (t : ℕ) (es : List TableEntry) (e : TableEntry) → is_among t (map tx_in es) ≡ true → is_among t (map tx_in (es ++ e ∷ [])) ≡ true
+among_longer t [] e h = absurd (false≢true h)
+among_longer t (x ∷ es) e h =
+    elim (or_cases (eqb t x.tx) (is_among t (map tx_in es)) h) [
+      | inl i ↦ or_left (eqb t x.tx) (is_among t (map tx_in (es ++ e ∷ []))) i
+      | inr i ↦ or_right (eqb t x.tx) (is_among t (map tx_in (es ++ e ∷ []))) (among_longer t es e i)
+    ]
+
+among_last : (t : ℕ) (es : List TableEntry) (e : TableEntry) → t ≡ e.tx → is_among t (map tx_in (es ++ e ∷ [])) ≡ true
+among_last t [] e i = or_left (eqb t e.tx) false (eq-eqb t e.tx i)
+among_last t (x ∷ es) e i = or_right (eqb t x.tx) (is_among t (map tx_in (es ++ e ∷ []))) (among_last t es e i)
+
 among_more : (t : ℕ) (es : List TableEntry) (e : TableEntry) → is_among t (map tx_in (es ++ e ∷ [])) ≡ true → (is_among t (map tx_in es) ≡ true) ⊎ (t ≡ e.tx)
 among_more t [] e h =
     elim (or_cases (eqb t e.tx) false h) [
@@ -228,6 +241,7 @@ module _ (log : History) (losers done : List TableEntry) (at new : Waiting) (app
         s.appended ∙ ap (λ rs. rs ++ end_of e ∷ []) b.ends
         ∙ sym (ends_more log done e ∙ ap (λ c. map end_of (filter (meets_nothing log) done) ++ cond c (end_of e ∷ []) []) i));
     waits = λ n l there. b.waits n l (sym (s.waiting n) ∙ there);
+    known = λ n l there. among_longer l.tx done e (b.known n l (sym (s.waiting n) ∙ there));
     each = λ t h.
         elim (among_more t done e h) [
           | inl i ↦
@@ -256,6 +270,14 @@ module _ (log : History) (losers done : List TableEntry) (at new : Waiting) (app
               let g : ◌≡◌ {A = Loser} loser l = cc in
               subst (λ k. Waits log losers (met_by log losers) (last_by losers) k l) (sym i) (subst (λ x. Waits log losers (met_by log losers) (last_by losers) s.update_lsn x) g waits_here))
           | inr d ↦ b.waits n l (sym (elsewhere n d) ∙ there)
+        ];
+    known = λ n l there.
+        elim (cases_eq n s.update_lsn) [
+          | inl i ↦
+              (let f : Some loser ≡ Some l = sym here ∙ ap new (sym i) ∙ there in
+              let g : ◌≡◌ {A = Loser} loser l = cc in
+              among_last l.tx done e (sym (ap (λ x. x.tx) g)))
+          | inr d ↦ among_longer l.tx done e (b.known n l (sym (elsewhere n d) ∙ there))
         ];
     each = λ t h.
         elim (among_more t done e h) [
@@ -307,6 +329,23 @@ stands_earlier bound (d ∷ done) rest e rises t x lt some =
           or_right (eqb t d.tx) (is_among t (map tx_in done))
           (stands_earlier (suc d.tx) done rest e rises.1 t x lt (sym (ap (λ c. cond c (Some d) (entry_for t (done ++ e ∷ rest))) (ne_eqb d.tx t i)) ∙ some))
     ]
+
+-- those that stand earlier have smaller numbers
+earlier_below : (bound : ℕ) (done rest : List TableEntry) (e : TableEntry) → Rise bound (done ++ e ∷ rest) → (t : ℕ) → is_among t (map tx_in done) ≡ true → (bound ≤ t) × (t < e.tx)
+earlier_below bound [] rest e rises t h = absurd (false≢true h)
+earlier_below bound (d ∷ done) rest e rises t h =
+    elim (or_cases (eqb t d.tx) (is_among t (map tx_in done)) h) [
+      | inl i ↦ (omega (arith, eqb-true t d.tx i, rises.0), omega (arith, eqb-true t d.tx i, rise_least (suc d.tx) done rest e rises.1))
+      | inr i ↦ (let r = earlier_below (suc d.tx) done rest e rises.1 t i in (omega (arith, r.0, rises.0), r.1))
+    ]
+  where
+    rise_least : (low : ℕ) (front back : List TableEntry) (x : TableEntry) → Rise low (front ++ x ∷ back) → low ≤ x.tx
+    rise_least low [] back x r = r.0
+    rise_least low (f ∷ front) back x r = omega (arith, r.0, rise_least (suc f.tx) front back x r.1)
+
+-- so those that wait are others than the next one
+pub begun_others : (log : History) (losers done rest : List TableEntry) (e : TableEntry) (at : Waiting) (appended : List LogRecord) → Begun log losers done at appended → Rise 0 (done ++ e ∷ rest) → AreOthers e.tx at
+begun_others log losers done rest e at appended b rises n l there same = omega (arith, same, (earlier_below 0 done rest e rises l.tx (b.known n l there)).1)
 
 -- ENDS ALONE
 pub are_ends : (es : List TableEntry) → AreEnds (map end_of es)

@@ -5,7 +5,8 @@ use Rattle.wal.specs.Hops.{hops}
 use Rattle.wal.specs.Tail.{is_empty, is_among}
 use Rattle.wal.specs.Undo.{entry_for, walk_of, last_in}
 use Rattle.undo.specs.declared.losers.Loser.{Loser}
-use Rattle.undo.specs.Rollback.{Waiting, Waits, IsDone, IsWaiting}
+use Rattle.undo.specs.Turns.{Waiting}
+use Rattle.undo.specs.Rollback.{Waits, IsDone, IsWaiting}
 
 abbrev pub met_by : History → List TableEntry → ℕ → List ℕ
 met_by log losers t = (walk_of log (entry_for t losers)).met
@@ -28,4 +29,5 @@ AreEnds (_ ∷ rs) = ⊥
 pub record Begun (log : History) (losers done : List TableEntry) (at : Waiting) (appended : List LogRecord) : Type 0 where
   pub ends : appended ≡ map end_of (filter (meets_nothing log) done)
   pub waits : (n : ℕ) (l : Loser) → at n ≡ Some l → Waits log losers (met_by log losers) (last_by losers) n l
+  pub known : (n : ℕ) (l : Loser) → at n ≡ Some l → is_among l.tx (map tx_in done) ≡ true
   pub each : (t : ℕ) → is_among t (map tx_in done) ≡ true → IsDone log losers (met_by log losers) t ⊎ IsWaiting at t

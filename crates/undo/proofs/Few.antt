@@ -1,14 +1,14 @@
 -- How many records undo appends.
-use Rattle.std.proofs.Common.{ℕ, suc, ◌≡◌, ◌+◌, ◌*◌, ◌-◌, ◌<◌, ◌≤◌, ◌^◌, ◌++◌, List, [], ◌∷◌, length, map, Some, ap, arith, inl, inr}
+use Rattle.std.proofs.Common.{ℕ, suc, ◌≡◌, ◌+◌, ◌*◌, ◌-◌, ◌<◌, ◌≤◌, ◌^◌, ◌++◌, List, [], ◌∷◌, length, map, Some, ap, arith, inl, inr, eqb}
 use Rattle.std.specs.Prelude.{All, filter}
 use Rattle.std.specs.Map.{lookup}
-use Rattle.std.specs.Ordering.{is_eq, nat_cmp}
 use Rattle.std.proofs.lemmas.Bool.{cases_Bool}
 use Rattle.std.proofs.lemmas.List.{length-append}
 use Rattle.wal.specs.Records.{TableEntry, tx_in, LogRecord, End, History, last_lsn}
 use Rattle.wal.proofs.Entries.{Rise}
 use Rattle.undo.specs.declared.losers.Loser.{Loser}
-use Rattle.undo.specs.Rollback.{Waiting, IsUpdateAt, Resolved}
+use Rattle.undo.specs.Turns.{Waiting}
+use Rattle.undo.specs.Rollback.{IsUpdateAt, Resolved}
 use Rattle.undo.proofs.Begun.{meets_nothing, end_of}
 use Rattle.undo.proofs.Placed.{height, height_least}
 use Rattle.undo.proofs.Rolling.{update_within}
@@ -47,7 +47,7 @@ resolved_few log l from lsn old new before after r =
     ]
 
 -- losers that wait stand at most so high
-pub height_within : (log : History) (entries : List (ℕ × Loser)) → ((n : ℕ) (l : Loser) → lookup (λ k. is_eq (nat_cmp n k)) entries ≡ Some l → IsUpdateAt log l.tx n) → height entries ≤ last_lsn log + 1
+pub height_within : (log : History) (entries : List (ℕ × Loser)) → ((n : ℕ) (l : Loser) → lookup (eqb n) entries ≡ Some l → IsUpdateAt log l.tx n) → height entries ≤ last_lsn log + 1
 height_within log entries updates = height_least (last_lsn log + 1) entries (λ n l e. omega (arith, update_within log l.tx n (updates n l e)))
 
 -- a turn appends two records at most, and all that wait behind it undo an earlier update next

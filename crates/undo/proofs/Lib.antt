@@ -4,6 +4,7 @@ pub mod Walks
 pub mod UndonePages
 pub mod Meeting
 pub mod Lowest
+pub mod Reordered
 pub mod Placed
 pub mod Rolling
 pub mod Few

@@ -16,7 +16,8 @@ use Rattle.wal.proofs.Filters.{leading, no_update}
 use Rattle.wal.proofs.Rollback.{AreStacks, on_top, taken_off}
 use Rattle.undo.specs.declared.losers.Loser.{Loser}
 use Rattle.undo.specs.Undone.{NoBadHop, undone_page, MetExist, EndsBadly, last_met, UndoFault}
-use Rattle.undo.specs.Rollback.{walk_from, WalkFault, IsUpdateAt, Waiting, Ends, Stays, Resolved, Taken, AreBelow, Waits, IsDone, IsWaiting, undos, IsPassed, RollbackInvariant, CompensationFault}
+use Rattle.undo.specs.Turns.{Waiting, Taken}
+use Rattle.undo.specs.Rollback.{walk_from, WalkFault, IsUpdateAt, Ends, Stays, Resolved, AreBelow, Waits, IsDone, IsWaiting, undos, IsPassed, RollbackInvariant, CompensationFault}
 use Rattle.undo.proofs.Lowest.{lowest_among, lowest_least}
 use Rattle.undo.proofs.Meeting.{walk_falls, walk_found}
 use Rattle.undo.proofs.Placed.{left_below}

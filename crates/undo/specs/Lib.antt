@@ -1,3 +1,4 @@
 pub mod Undone
 pub mod Appended
+pub mod Turns
 pub mod Rollback

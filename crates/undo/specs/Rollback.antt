@@ -1,7 +1,5 @@
 -- A rollback under way: where each loser goes on, and what is left to be undone (own).
 use Rattle.std.specs.Prelude.{◌≡◌, ◌≢◌, ℕ, suc, ◌+◌, ◌-◌, ◌<◌, ◌≤◌, ◌⊎◌, List, All, [], ◌∷◌, ◌++◌, length, flat_map, Option, Some, None, option_map, MatchOption, true, ◌==◌, if◌then◌else◌, ⊤}
-use Rattle.std.specs.Ordering.{nat_cmp}
-use Rattle.std.specs.BTreeMap.{BTreeMap, get}
 use Rattle.page.specs.declared.page.Page.{Page}
 use Rattle.page.specs.Store.{AreNumbered}
 use Rattle.page.specs.declared.fault.Fault.{Fault}
@@ -19,6 +17,8 @@ use Rattle.undo.specs.declared.walk.Hop.{Hop}
 use Rattle.undo.specs.declared.walk.Hop.TheVariants as hop
 use Rattle.undo.specs.declared.losers.Loser.{Loser}
 use Rattle.undo.specs.declared.losers.Rollback.{Rollback}
+use Rattle.undo.specs.declared.turns.Turns.{Turns}
+use Rattle.undo.specs.Turns.{Waiting, Taken, turn_at}
 
 -- A WALK
 -- where a transaction is sent by the record at an LSN, which must be an update or a CLR of it
@@ -57,10 +57,6 @@ WalkFault walk (BrokenChain lsn) = (lsn ≢ 0) × (walk ≡ record { met = []; e
 WalkFault walk e = ⊥
 
 -- WAITING LOSERS
--- the loser that waits at an LSN
-abbrev pub Waiting : Type 0
-Waiting = ℕ → Option Loser
-
 -- nothing is left of a loser: its end is appended
 pub record Ends (log : History) (l : Loser) (from lsn : ℕ) (old new : Waiting) (before after : List LogRecord) : Type 0 where
   pub nothing : MeetsNothing log l.tx from lsn
@@ -77,12 +73,13 @@ pub record Stays (log : History) (l : Loser) (from lsn : ℕ) (old new : Waiting
 abbrev pub Resolved : History → Loser → ℕ → ℕ → Waiting → Waiting → List LogRecord → List LogRecord → Type 0
 Resolved log l from lsn old new before after = Ends log l from lsn old new before after ⊎ Stays log l from lsn old new before after
 
--- the loser that waits at the newest update is taken
-pub record Taken (update_lsn : ℕ) (l : Loser) (old new : Waiting) : Type 0 where
-  pub there : old update_lsn ≡ Some l
-  pub newest : (n : ℕ) (m : Loser) → old n ≡ Some m → n ≤ update_lsn
-  pub gone : new update_lsn ≡ None
-  pub others : (n : ℕ) → n ≢ update_lsn → new n ≡ old n
+-- all that wait are other transactions than t
+abbrev pub AreOthers : ℕ → Waiting → Type 0
+AreOthers t at = (n : ℕ) (l : Loser) → at n ≡ Some l → l.tx ≢ t
+
+-- no transaction waits twice
+abbrev pub WaitOnce : Waiting → Type 0
+WaitOnce at = (n m : ℕ) (l k : Loser) → at n ≡ Some l → at m ≡ Some k → l.tx ≡ k.tx → n ≡ m
 
 abbrev pub AreBelow : ℕ → Waiting → Type 0
 AreBelow most at = (n : ℕ) (l : Loser) → at n ≡ Some l → n < most
@@ -153,7 +150,7 @@ KeepsUndone log before old after new = (given : List Page) → AreNumbered given
 -- A ROLLBACK UNDER WAY, as the program has it
 -- the loser that waits at an LSN
 abbrev pub loser_at : Rollback → Waiting
-loser_at r = get nat_cmp r.waiting
+loser_at r = turn_at r.waiting
 
 -- each loser waits at an update of it
 abbrev pub AreUpdates : LogContent → Rollback → Type 0
@@ -181,9 +178,9 @@ BeginsRollback log tables r = (pages : List Page) → AreNumbered pages → IsRo
 
 -- the loser that waited at the newest update has been taken
 pub record IsTaken (log : LogContent) (tables : TablesContent) (given : List Page) (update_lsn : ℕ) (l : Loser) (r : Rollback) (pages : List Page) : Type 0 where
-  pub before : BTreeMap ℕ Loser
+  pub before : Turns
   pub rolling : IsRolling log tables given (record { waiting = before; appended = r.appended }) pages
-  pub taken : Taken update_lsn l (get nat_cmp before) (loser_at r)
+  pub taken : Taken update_lsn l (turn_at before) (loser_at r)
 
 -- its update is undone, and it is resolved again
 abbrev pub UndoesNewest : LogContent → ℕ → Loser → (old : Rollback) → (before : List Page) → (new : Rollback) → (after : List Page) → Type 0

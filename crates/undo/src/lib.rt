@@ -6,6 +6,7 @@ mod appended;
 mod laws;
 mod losers;
 mod rollback;
+mod turns;
 mod walk;
 
 pub use appended::{Appended, record_of, records_of};

@@ -6,18 +6,19 @@ ghost use Rattle.wal.specs.Content.{entry_of};
 ghost use Rattle.wal.specs.Undo.{is_lost};
 ghost use Rattle.tables.specs.Tables.{losers_in};
 ghost use Rattle.undo.specs.Undone.{UndoFault};
-ghost use Rattle.undo.specs.Rollback.{walk_from, WalkFault, loser_at, Resolves, Taken, BeginsRollback};
+ghost use Rattle.undo.specs.Rollback.{walk_from, WalkFault, loser_at, AreUpdates, AreOthers, Resolves, BeginsRollback};
 
 use crate::Appended;
+use crate::turns::Turns;
 use crate::walk::next_update;
 use page::Fault;
 use std::alloc::Global;
-use std::collections::BTreeMap;
+use std::collections::BinaryHeap;
 use tables::Tables;
 use wal::{Entry, Log, State};
 
 /// A transaction that is rolled back.
-#[derive(Clone, Copy, Debug, PartialEq, Eq)]
+#[derive(Clone, Copy, Debug, PartialEq, Eq, PartialOrd, Ord)]
 pub struct Loser {
     /// Its number.
     pub tx: u32,
@@ -29,7 +30,7 @@ pub struct Loser {
 #[derive(Drop)]
 pub struct Rollback {
     /// The losers that wait, by the LSNs of the updates that they undo next.
-    pub waiting: BTreeMap<u64, Loser>,
+    pub waiting: Turns,
     /// What has been appended.
     pub appended: Vec<Appended>,
 }
@@ -55,7 +56,9 @@ impl Rollback {
             → UndoFault (history log.now) (losers_in tables.now) count e) }
     {
         let mut rollback = Rollback {
-            waiting: BTreeMap::new(alloc),
+            waiting: Turns {
+                heap: BinaryHeap::new(alloc),
+            },
             appended: Vec::new(alloc),
         };
         let end = log.next_lsn();
@@ -72,16 +75,18 @@ impl Rollback {
     }
 
     /// Resolves a loser that the record at the LSN `from` sends to `lsn`: it waits at the update
-    /// that it undoes next; where nothing is left, its end is appended.
+    /// that it undoes next; where nothing is left, its end is appended. It did not wait before.
     pub fn resolve(&mut self, log: &Log, loser: Loser, from: u64, lsn: u64) -> Result<(), Fault>
         requires positive { 0 < from }
         requires within { from ≤ last_lsn (history log.now) + 1 }
+        requires updates { AreUpdates log.now self.old }
+        requires others { AreOthers loser.tx (loser_at self.old) }
         ensures ok { OnOk result (Resolves log.now loser from lsn self.old self.new) }
         ensures fault { IfErr result (WalkFault (walk_from (history log.now) loser.tx from lsn)) }
     {
         match next_update(log, loser.tx, from, lsn)? {
             Some(update_lsn) => {
-                self.waiting.insert(update_lsn, loser)?;
+                self.waiting.put(update_lsn, loser)?;
             }
             None => self.appended.push(Appended::End {
                 tx: loser.tx,
@@ -89,15 +94,5 @@ impl Rollback {
             })?,
         }
         Ok(())
-    }
-
-    /// Takes the loser that waits at the newest update; None where nobody waits.
-    #[tactic(auto, using(crate::proofs::Placed::last_taken, crate::proofs::Placed::nobody_waits))]
-    pub fn take_newest(&mut self) -> Option<(u64, Loser)>
-        ensures taken { IfSome result (λ x. Taken x.0 x.1 (loser_at self.old) (loser_at self.new)) }
-        ensures nobody { IfNone result ((n : ℕ) → loser_at self.old n ≡ None) }
-        ensures appended { self.new.appended ≡ self.old.appended }
-    {
-        self.waiting.pop_last()
     }
 }

@@ -9,7 +9,7 @@ ghost use Rattle.wal.specs.Tail.{tail_of};
 ghost use Rattle.tables.specs.Tables.{losers_in};
 ghost use Rattle.undo.specs.Undone.{RolledBack, IsLawfulCrash, UndoFault, HasNoTransaction0, AreWritable};
 ghost use Rattle.undo.specs.Appended.{IsUpdate, HaveUpdates, AreFit, TellTail, RolledBackInBrief};
-ghost use Rattle.undo.specs.Rollback.{loser_at, IsUpdateAt, Undoes, KeepsUndone, CompensationFault, AreBelow, AreUpdates, UndoesNewest, UndoesAll, StopsUndo, StopsRollback};
+ghost use Rattle.undo.specs.Rollback.{loser_at, IsUpdateAt, Undoes, KeepsUndone, CompensationFault, AreBelow, AreOthers, WaitOnce, AreUpdates, UndoesNewest, UndoesAll, StopsUndo, StopsRollback};
 
 use crate::appended::{Appended, records_of};
 use crate::losers::{Loser, Rollback};
@@ -78,9 +78,12 @@ impl Rollback {
     ) -> Result<(), Fault>
         requires update { IsUpdateAt (history log.now) loser.tx update_lsn }
         requires room { vec_len self.old.appended ≤ 2 * length log.now.records + 2 ^ 32 }
+        requires updates { AreUpdates log.now self.old }
+        requires others { AreOthers loser.tx (loser_at self.old) }
         ensures undoes { OnOk result
             (UndoesNewest log.now update_lsn loser self.old pages.old self.new pages.new) }
         ensures updates { OnOk result (AreUpdates log.now self.old → AreUpdates log.now self.new) }
+        ensures once { OnOk result (WaitOnce (loser_at self.old) → WaitOnce (loser_at self.new)) }
         ensures falls { OnOk result (AreBelow update_lsn (loser_at self.old)
             → AreBelow update_lsn (loser_at self.new)) }
         ensures few { OnOk result
@@ -99,13 +102,14 @@ impl Rollback {
     /// Undoes all that is left, the newest update first.
     fn undo_all(&mut self, log: &Log, pages: &mut [Page]) -> Result<(), Fault>
         requires updates { AreUpdates log.now self.old }
+        requires once { WaitOnce (loser_at self.old) }
         requires room { vec_len self.old.appended ≤ 2 ^ 32 }
         ensures undoes { OnOk result (UndoesAll log.now self.old pages.old self.new pages.new) }
         ensures few { OnOk result (length self.new.appended.items
             ≤ length self.old.appended.items + 2 * length log.now.records) }
         ensures fault { IfErr result (StopsRollback log.now self.old pages.old) }
     {
-        while let Some((update_lsn, loser)) = self.take_newest() {
+        while let Some((update_lsn, loser)) = self.waiting.take_newest() {
             self.undo_at(log, update_lsn, loser, pages)?;
         }
         Ok(())
@@ -154,7 +158,7 @@ pub fn undo_in_brief(
 /// update with the largest LSN at which a loser waits is undone, again and again: its CLR is
 /// appended, slot and PageLSN of its page are set, and the loser is resolved again from the
 /// update's PrevLSN. Time is near linear in the records met; beside the records it takes 24 bytes
-/// for each and one map entry for each loser.
+/// for each, and 24 bytes for each loser, which are requested before the first update is undone.
 ///
 /// Errors, of which the first met in this order is given, the page of an update before the walk
 /// goes on from it:

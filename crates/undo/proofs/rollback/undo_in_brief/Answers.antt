@@ -9,6 +9,7 @@ use Rattle.undo.specs.declared.losers.Rollback.{Rollback}
 use Rattle.undo.specs.Appended.{records_of, RolledBackInBrief}
 use Rattle.undo.specs.Undone.{undone_page, UndoFault}
 use Rattle.undo.specs.Rollback.{IsRolling}
+use Rattle.undo.proofs.Placed.{rolling_once}
 use Rattle.undo.proofs.LawfulUndo.{tail_is, memory_alone}
 use Rattle.undo.proofs.rollback.undo_in_brief.Goals as goal
 
@@ -28,6 +29,11 @@ undo_all-requires-clause-room c = omega (arith, c.in_ok-rollback.ensures.few, c.
 
 pub undo_all-requires-clause-updates : goal.undo_all-requires-clause-updates
 undo_all-requires-clause-updates c = λ n l e. ((c.in_ok-rollback.ensures.ok c.args.pages.items c.requires).left.waits n l e).is_update
+
+pub undo_all-requires-clause-once : goal.undo_all-requires-clause-once
+undo_all-requires-clause-once c =
+    let rolling = c.in_ok-rollback.ensures.ok c.args.pages.items c.requires in
+    rolling_once (history c.args.log.now) (losers_in c.args.tables.now) (length c.args.pages.items) _ _ rolling.left
 
 -- the rollback begins on the pages, lent as a slice
 begins : (log : LogContent) (tables : TablesContent) (given lent : List Page) (r : Rollback) → lent ≡ given → IsRolling log tables given r given → IsRolling log tables given r lent

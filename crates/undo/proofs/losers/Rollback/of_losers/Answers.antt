@@ -1,4 +1,4 @@
-use Rattle.std.proofs.Common.{◌≡◌, ◌<◌, ◌^◌, ◌++◌, ◌∷◌, [], length, Some, true, map, sym, ap, ◌∙◌, subst, arith, false, List, ℕ, Bor}
+use Rattle.std.proofs.Common.{rules, ◌≡◌, ◌<◌, ◌^◌, ◌++◌, ◌∷◌, [], length, Some, true, map, refl, sym, ap, ◌∙◌, subst, arith, false, List, ℕ, Bor}
 use Rattle.std.specs.Prelude.{All, filter}
 use Rattle.std.proofs.lemmas.List.{map_push, map-append, length-map}
 use Rattle.std.proofs.lemmas.List.Elements.{All-push}
@@ -19,10 +19,18 @@ use Rattle.undo.specs.Appended.{record_of, records_of}
 use Rattle.undo.specs.Rollback.{loser_at}
 use Rattle.undo.proofs.Begun.{AreEnds, Begun, meets_nothing}
 use Rattle.undo.proofs.Lost.{one_lost, none_lost, lost_about, lost_rise, lost_found}
-use Rattle.undo.proofs.Beginning.{broken_start, begun_more, begun_rolls, stands_earlier, are_ends, ends_name_no_page, some_tx}
+use Rattle.undo.proofs.Beginning.{broken_start, begun_more, begun_others, begun_rolls, stands_earlier, are_ends, ends_name_no_page, some_tx}
 use Rattle.undo.proofs.UndonePages.{ends_undo_nothing}
 use Rattle.undo.proofs.Few.{ends_few, numbers_few}
+use Rattle.undo.proofs.Reordered.{none_apart}
 use Rattle.undo.proofs.losers.Rollback.of_losers.Goals as goal
+
+-- at first nobody waits
+pub invariant_of-rollback : goal.invariant_of-rollback
+invariant_of-rollback c = record {
+  in_order = search rules;
+  apart = rw c.new.ensures.items none_apart;
+}
 
 -- the entry of a turn is found among the losers, where it is one
 own : (t : ℕ) (entry : Entry) (entries : List (ℕ × Entry)) (losers : List TableEntry) → lost_in (map entry_of entries) ≡ losers
@@ -33,6 +41,29 @@ own t entry entries losers same found lost = sym (ap (entry_for t) same) ∙ los
 one_more : (yielded : List (Bor ℕ × Bor Entry)) (tx : Bor ℕ) (entry : Bor Entry)
     → map entry_of (map deref_pair (yielded ++ (tx, entry) ∷ [])) ≡ map entry_of (map deref_pair yielded) ++ entry_of (tx.now, entry.now) ∷ []
 one_more yielded tx entry = ap (map entry_of) (map_push deref_pair yielded (tx, entry)) ∙ map_push entry_of (map deref_pair yielded) (tx.now, entry.now)
+
+-- the losers of the table are those of the turns so far, that of this turn, and those to come
+about : (yielded : List (Bor ℕ × Bor Entry)) (e : TableEntry) (this : ℕ × Entry) (next entries : List (ℕ × Entry)) (losers : List TableEntry) → entry_of this ≡ e → entries ≡ map deref_pair yielded ++ this ∷ next
+    → lost_in (map entry_of entries) ≡ losers → is_lost e ≡ true → losers ≡ lost_in (map entry_of (map deref_pair yielded)) ++ e ∷ lost_in (map entry_of next)
+about yielded e this next entries losers is split same lost =
+    let done : List TableEntry = map entry_of (map deref_pair yielded) in
+    sym same ∙ ap (λ es. lost_in (map entry_of es)) split ∙ ap lost_in (map-append entry_of (map deref_pair yielded) (this ∷ next))
+    ∙ ap (λ x. lost_in (done ++ x ∷ map entry_of next)) is ∙ lost_about done (map entry_of next) e lost
+
+pub resolve-requires-clause-updates : goal.resolve-requires-clause-updates
+resolve-requires-clause-updates c = λ n l there. (c.loop-tx.invariant.begun.waits n l there).is_update
+
+pub resolve-requires-clause-others : goal.resolve-requires-clause-others
+resolve-requires-clause-others c =
+    let gives = c.into_iter-tx-iterator.ensures.into_iter_gives in
+    let e : TableEntry = entry_of (c.in-Some.tx.now, c.in-Some.entry.now) in
+    let lost : is_lost e ≡ true = sym (c.is_lost.ensures c.in-Some.tx.now) ∙ c.if-is_lost.true in
+    let entries : List (ℕ × Entry) = c.tables.inside.transactions.entries in
+    let taken = rest_more deref_pair c.loop-tx.tx-iterator c.next.new.self c.next.result (c.in-Some.tx, c.in-Some.entry) c.in-Some.is c.next.ensures.steps in
+    let split : entries ≡ map deref_pair c.loop-tx.yielded ++ (c.in-Some.tx.now, c.in-Some.entry.now) ∷ c.next.new.self =
+    sym gives.0 ∙ rest_so_far deref_pair c.loop-tx.yielded c.into_iter-tx-iterator.result c.loop-tx.tx-iterator c.loop-tx.yielded_by ∙ ap (λ es. map deref_pair c.loop-tx.yielded ++ es) taken in
+    begun_others (history c.args.log.now) (losers_in c.args.tables.now) (lost_in (map entry_of (map deref_pair c.loop-tx.yielded))) (lost_in (map entry_of c.next.new.self)) e (loser_at c.loop-tx.rollback) _ c.loop-tx.invariant.begun
+    (subst (Rise 0) (about c.loop-tx.yielded e _ c.next.new.self entries _ refl split refl lost) (lost_rise 0 (map entry_of entries) (rise entries gives.5)))
 
 pub returns-in_err-resolve-clause-fault : goal.returns-in_err-resolve-clause-fault
 returns-in_err-resolve-clause-fault c =
@@ -49,9 +80,7 @@ returns-in_err-resolve-clause-fault c =
     let split : c.tables.inside.transactions.entries ≡ map deref_pair c.loop-tx.yielded ++ (c.in-Some.tx.now, c.in-Some.entry.now) ∷ c.next.new.self =
     sym gives.0 ∙ rest_so_far deref_pair c.loop-tx.yielded c.into_iter-tx-iterator.result c.loop-tx.tx-iterator c.loop-tx.yielded_by ∙ ap (λ es. map deref_pair c.loop-tx.yielded ++ es) taken in
     let losers : losers_in c.args.tables.now ≡ lost_in done ++ e ∷ lost_in (map entry_of c.next.new.self) =
-    sym same ∙ ap (λ es. lost_in (map entry_of es)) split
-    ∙ ap lost_in (map-append entry_of (map deref_pair c.loop-tx.yielded) ((c.in-Some.tx.now, c.in-Some.entry.now) ∷ c.next.new.self))
-    ∙ lost_about done (map entry_of c.next.new.self) e lost in
+    about c.loop-tx.yielded e _ c.next.new.self c.tables.inside.transactions.entries _ refl split same lost in
     let rises : Rise 0 (losers_in c.args.tables.now) = subst (Rise 0) same (lost_rise 0 (map entry_of c.tables.inside.transactions.entries) (rise c.tables.inside.transactions.entries gives.5)) in
     let earlier = stands_earlier 0 (lost_in done) (lost_in (map entry_of c.next.new.self)) e (subst (Rise 0) losers rises) in
     rw (exit.1, exit.2)

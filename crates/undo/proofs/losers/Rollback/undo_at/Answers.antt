@@ -1,6 +1,4 @@
 use Rattle.std.proofs.Common.{◌≡◌, ◌+◌, ◌<◌, length, ap, subst, ◌∙◌, arith}
-use Rattle.std.specs.Ordering.{nat_cmp}
-use Rattle.std.specs.BTreeMap.{get}
 use Rattle.std.proofs.lemmas.List.{length-map}
 use Rattle.std.proofs.lemmas.Result.{err_from_is_err_and, on_ok_weaker, IfErr-weaker}
 use Rattle.wal.specs.Records.{history}
@@ -8,8 +6,10 @@ use Rattle.wal.proofs.Histories.{size_of_log, base_of_log}
 use Rattle.tables.specs.Tables.{losers_in}
 use Rattle.undo.specs.Appended.{record_of, records_of}
 use Rattle.undo.specs.Undone.{undone_page}
+use Rattle.undo.specs.Turns.{turn_at}
 use Rattle.undo.specs.Rollback.{CompensationFault}
 use Rattle.undo.proofs.Rolling.{update_positive, update_within, undone_rolling, missing_page, broken_walk, pages_named, pages_kept}
+use Rattle.undo.proofs.Placed.{resolved_once}
 use Rattle.undo.proofs.Few.{one_more, resolved_few}
 use Rattle.undo.proofs.losers.Rollback.undo_at.Goals as goal
 
@@ -31,7 +31,7 @@ returns-in_err-prev-clause-fault c =
     rw (exit.1, exit.2)
     (λ tables given at.
     let count : length c.args.pages.now ≡ length given = ap length at.rolling.pages_are ∙ length-map given (undone_page log before) in
-    missing_page log (losers_in tables) (length given) (get nat_cmp at.before) _ before c.args.update_lsn c.args.loser at.taken at.rolling.left fault
+    missing_page log (losers_in tables) (length given) (turn_at at.before) _ before c.args.update_lsn c.args.loser at.taken at.rolling.left fault
     (subst (λ n. CompensationFault log c.args.update_lsn n fault) count c.in_err-prev.ensures.fault))
 
 pub returns-clause-undoes : goal.returns-clause-undoes
@@ -51,7 +51,7 @@ returns-clause-undoes c =
     record {
       numbered = rolling.numbered;
       left =
-          undone_rolling log (losers_in tables) (length given) (get nat_cmp at.before) _ before c.args.update_lsn c.args.loser at.taken rolling.left u c.requires.update.found exists
+          undone_rolling log (losers_in tables) (length given) (turn_at at.before) _ before c.args.update_lsn c.args.loser at.taken rolling.left u c.requires.update.found exists
           _ (c.next_lsn.result + c.len.result) c.in_ok-prev.prev between after
           (omega (arith, c.next_lsn.ensures.next, c.len.ensures, size_of_log c.args.log.now, length-map c.args.self.now.appended.items (record_of log), c.args.self.now.appended.ok.0))
           done.goes_on done.appended resolves.resolved;
@@ -72,8 +72,14 @@ returns-clause-fault c =
     (λ e h tables given at.
     let count : length c.args.pages.now ≡ length given = ap length at.rolling.pages_are ∙ length-map given (undone_page log before) in
     let exists : u.page < length given = omega (arith, done.exists, count) in
-    broken_walk log (losers_in tables) (length given) (get nat_cmp at.before) _ before c.args.update_lsn c.args.loser at.taken at.rolling.left u c.requires.update.found exists c.in_ok-prev.prev done.goes_on e h)
+    broken_walk log (losers_in tables) (length given) (turn_at at.before) _ before c.args.update_lsn c.args.loser at.taken at.rolling.left u c.requires.update.found exists c.in_ok-prev.prev done.goes_on e h)
     c.resolve.ensures.fault
+
+pub returns-clause-once : goal.returns-clause-once
+returns-clause-once c =
+    on_ok_weaker c.resolve.result
+    (λ resolves. resolved_once (history c.args.log.now) _ c.args.update_lsn c.in_ok-prev.prev _ _ _ _ resolves.resolved c.requires.others)
+    c.resolve.ensures.ok
 
 pub returns-clause-few : goal.returns-clause-few
 returns-clause-few c =
