@@ -14,7 +14,7 @@ import os, re, sys
 from collections import defaultdict, deque
 
 CRATES = os.path.join(os.path.dirname(os.path.dirname(os.path.abspath(__file__))), 'crates')
-TESTS = {'base_rows', 'log_rows', 'core_rows', 'redo_rows', 'restart_rows', 'recovery_rows', 'rows'}
+TESTS = {'base_rows', 'log_rows', 'core_rows', 'redo_rows', 'restart_rows', 'recovery_rows', 'rows', 'workloads'}
 
 # what a method stands for in a file (or in all files of a crate: `crate/`), where std has one of that name too
 METHODS = '''
@@ -32,6 +32,7 @@ wal/stretch.rt           push      Offsets::push
 wal/joining.rt           base      LogStart::base
 wal/joining.rt           len       Offsets::len
 wal/joining.rt           append    Offsets::append
+wal/frame.rt             bytes     Begin::bytes
 wal/checkpoint.rt        get       Log::get
 wal/checkpoint.rt        last      Log::last
 wal/view.rt              len       TransactionTable::len, DirtyTable::len
@@ -71,6 +72,8 @@ analysis/                last      Log::last
 analysis/base.rt         entry     TransactionTable::entry, DirtyTable::entry
 analysis/base.rt         len       TransactionTable::len, DirtyTable::len
 undo/                    get       Log::get
+undo/rollback.rt         take_newest Turns::take_newest
+undo/losers.rt           put       Turns::put
 undo/                    set       Page::set
 redo/input.rt            last      Log::last
 redo/input.rt            base      Log::base
@@ -91,7 +94,8 @@ restart/                 last      Log::last
 restart/                 pages     Parting::pages
 board/claim.rt           range     Board::range
 audit/                   get       Standings::get
-audit/decide.rt          get       Log::get
+audit/decide.rt          get       Log::get, Held::get
+audit/cell.rt            put       Held::put
 audit/decide.rt          entry     DirtyTable::entry
 audit/decide.rt          len       DirtyTable::len
 audit/pages.rt           get       Log::get
@@ -131,7 +135,7 @@ after begins of any value page insert'''.split())
 CUTS = {
     'nothing fails': '''aries/verbose.rt words/refusal.rt words/fault.rt device/memory.rt device/slow.rt aries/files.rt:refuse
         Failures::rise Failures::risen Notes::fail Board::stop''',
-    'no checkpoint': '''wal/checkpoint.rt wal/frame.rt:checkpoint_at wal/frame.rt:transactions_at wal/frame.rt:dirties_at
+    'no checkpoint': '''wal/checkpoint.rt Begin::bytes wal/frame.rt:checkpoint_at wal/frame.rt:transactions_at wal/frame.rt:dirties_at
         analysis/base.rt:transactions_of analysis/base.rt:dirty_pages_of''',
     'updates and commits alone are read': '''wal/frame.rt:compensation_at wal/next.rt:compensation_end wal/glance.rt:compensation_glance
         wal/image.rt:compensation_image
