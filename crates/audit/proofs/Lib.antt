@@ -1,5 +1,5 @@
 pub mod Blocks
-mod Statuses
+pub mod Statuses
 pub mod StandingAfter
 pub mod Finishing
 pub mod Cells

@@ -151,8 +151,8 @@ fn is_written(cells: &[Cell], number: usize) -> bool {
     }
 }
 
-/// Puts the number of the cell of each of the next records behind an LSN, as many as there are places;
-/// 0 for a record that is in none.
+/// Puts the number of the cell of each of the next records after an LSN, as many as there are places;
+/// 0 for a record that is in none. Where the log has no more records, the places stay as they were.
 #[inline(always)]
 fn number_cells(log: &Log, lsn: u64, numbers: &mut [usize])
     requires from { base_lsn (history log.now) ≤ lsn }
@@ -169,7 +169,7 @@ fn number_cells(log: &Log, lsn: u64, numbers: &mut [usize])
     }
 }
 
-/// Looks at the cells of the next records behind an LSN, as many as there are places for what is seen.
+/// Looks at the cells of the next records after an LSN, as many as there are places for what is seen.
 /// The cells take more memory than is near the processor, and it fetches those that are asked for
 /// together beside each other: so they are near when the records are gone through. Of each the front is
 /// looked at and, by the front of the next cell, the end. What is seen is told to nobody, but kept, since

@@ -55,7 +55,7 @@ fn writers_at(alloc: Global, log: &Log, pages: &[Page]) -> Result<Vec<u64>, Faul
 {
     let mut writers = vec![in alloc; 0; SLOTS * pages.len()]?;
     let base = log.base();
-    // No record behind the highest PageLSN counts for a page.
+    // No record after the highest PageLSN counts for a page.
     let upto = highest_in(pages).min(log.last());
     for lsn in base..upto {
         let cell = log.glance_after(lsn).cell();

@@ -1,4 +1,4 @@
--- Texts written into a buffer, each behind those before it.
+-- Texts written into a buffer, each after those before it.
 use Rattle.std.proofs.Common.{ℕ, ◌≡◌, ◌+◌, ◌<◌, ◌≤◌, Bool, true, false, if◌then◌else◌, List, [], ◌∷◌, ◌++◌, length, take, drop, set, refl, sym, ap, ap₂, ◌∙◌, take_at, arith, append_assoc}
 use Rattle.std.proofs.Math.ListN.{length-set}
 use Rattle.std.proofs.Math.Seq.{take-add}
@@ -7,9 +7,9 @@ use Rattle.std.proofs.lemmas.Grind.{take-set_at}
 
 -- a text is written in front of an end, and nothing before it
 pub written_before : (old new text rest : List ℕ) (at start n : ℕ) → start ≡ at → length text ≡ n → take start new ≡ take start old → drop start new ≡ text ++ rest → take (at + n) new ≡ take at old ++ text
-written_before old new text rest at start n same size before behind =
+written_before old new text rest at start n same size before after =
     ap (λ m. take (m + n) new) (sym same) ∙ take-add start n new
-    ∙ ap₂ (λ x y. x ++ y) before (ap (take n) behind ∙ take_at text rest n size)
+    ∙ ap₂ (λ x y. x ++ y) before (ap (take n) after ∙ take_at text rest n size)
     ∙ ap (λ m. take m old ++ text) same
 
 -- one byte more

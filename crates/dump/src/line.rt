@@ -1,6 +1,6 @@
 //! The parts of a line: where it lies and of what it tells, and named fields.
 //!
-//! A line is spelled in a buffer that has room for all that is put there, and each function answers
+//! A line is spelled in a buffer that has room for all that is put there, and each function returns
 //! where in the buffer that ends: so no part asks whether there is room for it.
 
 ghost use Rattle.std.specs.Prelude.{◌≡◌, ◌+◌, ◌≤◌, ◌++◌, IfSome, length, option_map, take, decimal};
@@ -12,7 +12,7 @@ use crate::value::put_image;
 use itoa::write_digits;
 use page::VALUE_BYTES;
 
-/// Writes a text behind the first bytes of a line, which are so many. Answers where it ends.
+/// Writes a text at this place of a line. Returns where it ends.
 #[inline(always)]
 pub fn put_text(line: &mut [u8], at: usize, text: &[u8]) -> usize
     requires { at + length text.now ≤ length line.old }
@@ -94,7 +94,7 @@ pub fn closing(style: Style) -> &'static [u8]
     }
 }
 
-/// Writes the name of a field, behind other fields.
+/// Writes the name of a field, after other fields.
 #[inline(always)]
 pub fn put_name(line: &mut [u8], at: usize, style: Style, name: &str) -> usize
     requires { at + length name.now + 4 ≤ length line.old }

@@ -39,7 +39,7 @@ fn put_hex(line: &mut [u8], at: usize, bytes: &[u8]) -> usize
     at + 2 * bytes.len()
 }
 
-/// Whether a byte stands behind a backslash between quotes.
+/// Whether a byte stands after a backslash between quotes.
 #[inline(always)]
 fn is_quote(byte: u8) -> bool
     ensures { result ≡ (byte == 34 || byte == 92) }
@@ -64,7 +64,7 @@ fn either<T: Copy>(test: bool, yes: T, no: T) -> T
 }
 
 /// Writes a byte that stands between quotes. All of the bytes that it may take are written, whatever
-/// it is, so that no branch waits for the byte; those behind it count for nothing.
+/// it is, so that no branch waits for the byte; those after its end count for nothing.
 #[inline(always)]
 fn put_escaped(line: &mut [u8], at: usize, style: Style, byte: u8) -> usize
     requires { at + 6 ≤ length line.old }
