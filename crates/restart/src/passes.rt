@@ -71,14 +71,6 @@ fn count_kinds(appended: &[Appended]) -> (u64, u64)
     (clrs, ends)
 }
 
-/// The store of these pages.
-fn store_of(master: u64, pages: Vec<Page>) -> Store
-    requires { AreNumbered pages.items }
-    ensures { result ≡ record { master = master; pages = pages.items } }
-{
-    Store { master, pages }
-}
-
 /// Rolls the losers back on the pages of a store that were redone, which ends the restart.
 pub fn roll_back(
     alloc: Global,
@@ -108,7 +100,7 @@ pub fn roll_back(
     let (compensated, ended) = count_kinds(&appended);
     let losers = tables.transactions.len() - in_doubt.len();
     Ok(Outcome {
-        store: store_of(master, pages),
+        store: Store { master, pages },
         appended,
         redo_from: tables.redo_lsn,
         redone: redone.applied,
@@ -206,7 +198,10 @@ pub fn restart<G: Gate, R: Threads + Sync>(
 {
     check_settings(store, parting, workers)?;
     let pages = Vec::from_slice(alloc, &store.pages)?;
-    let copy = store_of(store.master, pages);
+    let copy = Store {
+        master: store.master,
+        pages,
+    };
     let brief = restart_in_place(rt, alloc, log, copy, parting, workers, gate)?;
     outcome_of(alloc, log, brief)
 }

@@ -11,8 +11,8 @@ use Rattle.restart.proofs.passes.restart.Goals as goal
 pub returns-in_err-brief-clause-lawful : goal.returns-in_err-brief-clause-lawful
 returns-in_err-brief-clause-lawful g c = λ base lawful fit.
     let exit = err_from_is_err_and c.from_residual-in_err-brief.result c.from_residual-in_err-brief.ensures.1 in
-    let same : c.store_of-copy.result ≡ c.args.store.now =
-    c.store_of-copy.ensures ∙ ap (λ (ps : List Page). record { master = c.store.inside.master; pages = ps }) (c.in_ok-pages.ensures.items ∙ c.deref.ensures.value) ∙ c.store.view_is in
+    let same : ◌≡◌ {A = StoreContent} (record { master = c.store.inside.master; pages = c.in_ok-pages.pages.items }) c.args.store.now =
+    ap (λ (ps : List Page). record { master = c.store.inside.master; pages = ps }) (c.in_ok-pages.ensures.items ∙ c.deref.ensures.value) ∙ c.store.view_is in
     rw (exit.1, exit.2)
     (c.in_err-brief.ensures.lawful base (subst (Lawful base c.args.log.now) (sym same) lawful)
     (subst (λ (s : StoreContent). AreSettings (length s.pages) c.args.parting.now c.args.workers) (sym same) fit))

@@ -8,7 +8,7 @@ use Rattle.tables.specs.Tables.{TablesContent, losers_in}
 use Rattle.redo.specs.declared.redone.Redone.{Redone}
 use Rattle.redo.specs.Redone.{redone_page}
 use Rattle.undo.specs.Appended.{records_of, HaveUpdates}
-use Rattle.undo.specs.Undone.{undone_page, RolledBack, IsLawfulCrash, UndoFault}
+use Rattle.undo.specs.Undone.{undone_page, IsLawfulCrash, UndoFault}
 use Rattle.restart.specs.Outcome.{OutcomeContent, outcome_in}
 use Rattle.restart.specs.Restart.{clrs_in, ends_in, IsRedone, RollsBack}
 use Rattle.restart.proofs.Restored.{changed_numbered, restores}
@@ -19,8 +19,8 @@ use Rattle.restart.proofs.passes.roll_back.Goals as goal
 count : (log : LogContent) (before : StoreContent) (tables : TablesContent) (redone : Redone) → IsRedone log before tables redone → length redone.pages.items ≡ length before.pages
 count log before tables redone made = ap length made.redone_pages ∙ length-map before.pages (redone_page log tables)
 
-pub store_of-requires : goal.store_of-requires
-store_of-requires c =
+pub invariant_of-result : goal.invariant_of-result
+invariant_of-result c =
     subst AreNumbered (sym c.in_ok-pages.ensures.rolled_back.rolled_back.pages_are)
     (changed_numbered (undone_page (history c.args.log.now) (records_of (history c.args.log.now) c.in_ok-pages.appended.items)) c.args.redone.pages.items (λ page. refl) c.requires.numbered)
 
@@ -40,11 +40,11 @@ returns-in_err-pages-clause-fault c = λ before made.
     (subst (λ n. UndoFault (history c.args.log.now) (losers_in tables) n fault) (count c.args.log.now before tables c.args.redone made) c.in_err-pages.ensures.fault))
 
 -- what is answered: the losers are rolled back
-abbrev outcome : goal.After-store_of → OutcomeContent
+abbrev outcome : goal.After-len-2 → OutcomeContent
 outcome c =
     outcome_in (history c.args.log.now)
     (record {
-      store = c.store_of.result;
+      store = record { master = c.args.master; pages = c.in_ok-pages.pages.items };
       appended = c.in_ok-pages.appended;
       redo_from = c.tables.inside.redo_lsn;
       redone = c.args.redone.applied;
@@ -54,15 +54,13 @@ outcome c =
       ended = c.count_kinds-compensated.result.1;
     })
 
-rolls_back : (c : goal.After-store_of) → (master : ℕ) → master ≡ c.args.master → RollsBack c.args.log.now master c.args.tables.now c.args.redone (outcome c)
+rolls_back : (c : goal.After-len-2) → (master : ℕ) → master ≡ c.args.master → RollsBack c.args.log.now master c.args.tables.now c.args.redone (outcome c)
 rolls_back c master kept =
     let log = history c.args.log.now in
     let told : HaveUpdates c.args.log.now c.deref.result.now = subst (HaveUpdates c.args.log.now) (sym c.deref.ensures.value) c.in_ok-pages.ensures.rolled_back.updates in
     record {
-      rolled_back =
-          subst (λ (s : StoreContent). RolledBack c.args.log.now c.args.tables.now c.args.redone.pages.items s.pages (records_of log c.in_ok-pages.appended.items)) (sym c.store_of.ensures)
-          c.in_ok-pages.ensures.rolled_back.rolled_back;
-      master_kept = ap (λ (s : StoreContent). s.master) c.store_of.ensures ∙ sym kept;
+      rolled_back = c.in_ok-pages.ensures.rolled_back.rolled_back;
+      master_kept = sym kept;
       redo_from = ap (λ (t : TablesContent). t.redo_lsn) c.tables.view_is;
       applied = refl;
       losers = omega (
