@@ -65,16 +65,15 @@ slot_there entries bytes at_entry at_cell i end slots others d so_far s lt e b =
     }
 
 -- one more slot was read
-pub read_more : (entries bytes at_entry at_cell taken : List ℕ) (i end : ℕ) (slots : List Image) (slot : Image) → ReadSoFar entries bytes i end slots → i < 16
+pub read_more : (entries bytes at_entry at_cell : List ℕ) (i end later : ℕ) (slots : List Image) (slot : Image) → ReadSoFar entries bytes i end slots → i < 16
     → at_entry ≡ drop (4 * i) entries → at_cell ≡ drop end bytes
     → BeginsWithSlot at_entry at_cell (80 + end) slot
     → ((other : Image) → BeginsWithSlot at_entry at_cell (80 + end) other → ◌≡◌ {A = Option Image} (Some slot) (Some other))
-    → taken ≡ cell slot
-    → ReadSoFar entries bytes (i + 1) (end + length taken) (set slots i slot)
-read_more entries bytes at_entry at_cell taken i end slots slot so_far lt ee eb found only e =
+    → later ≡ end + length (cell slot)
+    → ReadSoFar entries bytes (i + 1) later (set slots i slot)
+read_more entries bytes at_entry at_cell i end later slots slot so_far lt ee eb found only after =
     let inside : i < length slots = omega (arith, so_far.count) in
     let more : take (i + 1) (set slots i slot) ≡ take i slots ++ slot ∷ [] = take_more_set slots i slot inside in
-    let long : length taken ≡ length (cell slot) = ap length e in
     let front = cells (take i slots) in
     let cells_more : cells (take (i + 1) (set slots i slot)) ≡ front ++ cell slot = ap cells more ∙ cells-append (take i slots) (slot ∷ []) ∙ ap (λ (t : List ℕ). front ++ t) (append-nil (cell slot)) in
     let directory_more : directory 80 (take (i + 1) (set slots i slot)) ≡ directory 80 (take i slots) ++ entry (80 + end) slot =
@@ -82,11 +81,11 @@ read_more entries bytes at_entry at_cell taken i end slots slot so_far lt ee eb 
     let four : 4 * (i + 1) ≡ 4 * i + 4 = omega arith in
     record {
       count = length-set slots i slot ∙ so_far.count;
-      here = omega (arith, long, so_far.here, ap length cells_more, length-append front (cell slot));
-      near = omega (arith, long, so_far.near, short_cell slot found.fits);
+      here = omega (arith, after, so_far.here, ap length cells_more, length-append front (cell slot));
+      near = omega (arith, after, so_far.near, short_cell slot found.fits);
       values = subst (All FitsSlot) (sym more) (All-push FitsSlot (take i slots) slot so_far.values found.fits);
       directory = ap (λ n. take n entries) four ∙ take-add (4 * i) 4 entries ∙ ap₂ (λ (x y : List ℕ). x ++ y) so_far.directory (ap (take 4) (sym ee) ∙ found.entry) ∙ sym directory_more;
-      cells = ap (λ n. take (end + n) bytes) long ∙ take-add end (length (cell slot)) bytes ∙ ap₂ (λ (x y : List ℕ). x ++ y) so_far.cells (ap (take (length (cell slot))) (sym eb) ∙ found.cell) ∙ sym cells_more;
+      cells = ap (λ n. take n bytes) after ∙ take-add end (length (cell slot)) bytes ∙ ap₂ (λ (x y : List ℕ). x ++ y) so_far.cells (ap (take (length (cell slot))) (sym eb) ∙ found.cell) ∙ sym cells_more;
       only = λ others s.
           let there = slot_there entries bytes at_entry at_cell i end slots others slot so_far s lt ee eb in
           take_more others i slot (omega (arith, s.count)) ∙ ap₂ (λ (xs : List Image) x. xs ++ x ∷ []) (so_far.only others s) (sym (same_Some slot (get_or others i slot) (only (get_or others i slot) there))) ∙ sym more;

@@ -10,7 +10,7 @@ use Rattle.std.proofs.lemmas.Grind.{flat_map-append}
 use Rattle.page.specs.Image.{Image, cell, cells, entry, directory, FitsSlot, page_text, FitsPage}
 use Rattle.page.specs.declared.page.Page.{Page}
 use Rattle.page.specs.Images.{AreImages}
-use Rattle.page.proofs.Slots.{cells_more, directory_more, length-entry}
+use Rattle.page.proofs.Slots.{cells_more, directory_more, length-entry, short_cell}
 
 -- the entries of the first i slots stand in front, and the next cell has this place
 pub record Directed (slots : List Image) (i place : ℕ) (entries : List ℕ) : Type 0 where
@@ -25,39 +25,36 @@ pub record Filled (slots : List Image) (i end : ℕ) (room : List ℕ) : Type 0 
   pub near : end ≤ 48 * i
   pub front : take end room ≡ cells (take i slots)
 
-fits_short : (slot : Image) → length (cell slot) ≤ 48 → FitsSlot slot
-fits_short None h = tt
-fits_short (Some value) h = h
-
 -- a part that is written behind what stands
 pub written_behind : (a k n : ℕ) (xs ys front : List ℕ) → take a xs ≡ front → n ≡ a + length ys → a ≤ length xs → take n (put_mid a k xs ys) ≡ front ++ ys
 written_behind a k n xs ys front e m le = take-put_mid a k xs ys n m le ∙ ap (λ (t : List ℕ). t ++ ys) e
 
-pub directed_more : (slots : List Image) (i place : ℕ) (entries next bytes : List ℕ) (d : Image) (k : ℕ)
+-- the entry of one more slot is written, and the next cell comes after this one
+pub directed_more : (slots : List Image) (i place later : ℕ) (entries next : List ℕ) (d : Image) (k : ℕ)
     → Directed slots i place entries → i < length slots → 4 * i + 4 ≤ length entries
-    → next ≡ entry place (get_or slots i d) → bytes ≡ cell (get_or slots i d) → length bytes ≤ 48
-    → Directed slots (i + 1) (place + length bytes) (put_mid (4 * i) k entries next)
-directed_more slots i place entries next bytes d k so_far lt room e b short =
+    → next ≡ entry place (get_or slots i d) → later ≡ place + length (cell (get_or slots i d)) → FitsSlot (get_or slots i d)
+    → Directed slots (i + 1) later (put_mid (4 * i) k entries next)
+directed_more slots i place later entries next d k so_far lt room e after fits =
     let slot = get_or slots i d in
     let more : cells (take (i + 1) slots) ≡ cells (take i slots) ++ cell slot = cells_more slots i d lt in
     let text : directory 80 (take (i + 1) slots) ≡ directory 80 (take i slots) ++ entry place slot =
     directory_more 80 slots i d lt ∙ ap (λ p. directory 80 (take i slots) ++ entry p slot) (sym so_far.next) in
     let long : length next ≡ 4 = ap length e ∙ length-entry place slot in
     record {
-      next = omega (arith, so_far.next, ap length more, length-append (cells (take i slots)) (cell slot), ap length b);
-      near = omega (arith, so_far.near);
+      next = omega (arith, after, so_far.next, ap length more, length-append (cells (take i slots)) (cell slot));
+      near = omega (arith, after, so_far.near, short_cell slot fits);
       front = written_behind (4 * i) k (4 * (i + 1)) entries next (directory 80 (take i slots)) so_far.front (omega arith) (omega arith) ∙ ap (λ (t : List ℕ). directory 80 (take i slots) ++ t) e ∙ sym text;
-      fits = All-more FitsSlot slots i d lt so_far.fits (fits_short slot (subst (λ (t : List ℕ). length t ≤ 48) b short));
+      fits = All-more FitsSlot slots i d lt so_far.fits fits;
     }
 
--- a part that is written behind what stands, of which the first n bytes count
+-- a part that is written after what stands, of which the first n bytes count
 written_in_front : (a k n : ℕ) (xs ys front : List ℕ) → take a xs ≡ front → a ≤ length xs → n ≤ length ys → take (a + n) (put_mid a k xs ys) ≡ front ++ take n ys
 written_in_front a k n xs ys front e le short =
     let long : length (take a xs) ≡ a = omega (arith, length-take a xs) in
     let rest = drop k (drop a xs) in
     ap (λ m. take (m + n) (put_mid a k xs ys)) (sym long) ∙ take-append-add (take a xs) (ys ++ rest) n ∙ ap₂ (λ (f p : List ℕ). f ++ p) e (take-append-le n ys rest short)
 
--- a value with more behind it is written behind the cells
+-- a value and the bytes after it are written after the cells
 pub filled_value : (slots : List Image) (i end : ℕ) (room all now value : List ℕ) (slot : Image) (k : ℕ)
     → Filled slots i end room → i < length slots → get_or slots i slot ≡ Some value → end ≤ length room
     → now ≡ all → take (length value) all ≡ value → length value ≤ length all → length value ≤ 48

@@ -3,7 +3,7 @@
 ghost use Rattle.std.specs.Prelude.{◌≡◌, ◌≢◌, ◌<◌, ◌≤◌, ◌^◌, ◌↔◌, ◌++◌, List, All, IsTrue, IfSome, IfOk, IfErr, length, take, replicate};
 ghost use Rattle.std.specs.Int.{w16, w32, w64, to_be_bytes};
 ghost use Rattle.page.specs.declared.page.Page.{Page};
-ghost use Rattle.page.specs.Image.{Image, cell, entry, directory, header, body, page_text, FitsSlot, FitsPage, SpellsPage};
+ghost use Rattle.page.specs.Image.{Image, entry, directory, header, body, page_text, FitsSlot, FitsPage, SpellsPage};
 ghost use Rattle.page.specs.declared.sizes.TheConstants.{SLOTS, VALUE_BYTES, PAGE_BYTES, DIRECTORY_BYTES, CELLS_AT, ROOM_BYTES};
 ghost use Rattle.page.specs.Parts.{BeginsWithSlot, SpellsSlots};
 
@@ -11,17 +11,6 @@ use crate::numbers::numbers_at;
 use crate::sizes::{CELLS_AT, DIRECTORY_BYTES, PAGE_BYTES, PAGE_HEADER_BYTES, SLOTS, VALUE_BYTES};
 use crate::{Fault, Page, Value};
 use byteorder::{BigEndian, ByteOrder};
-
-/// The bytes that a slot takes among the cells.
-fn cell(slot: &Option<Value>) -> &[u8]
-    ensures bytes { result.now ≡ cell slot.now }
-    ensures short { length result.now ≤ VALUE_BYTES }
-{
-    match slot {
-        None => &[],
-        Some(value) => value.as_slice(),
-    }
-}
 
 /// The directory entry of a slot whose cell has this place.
 fn entry(place: u16, slot: &Option<Value>) -> [u8; 4]
@@ -45,13 +34,15 @@ fn put_directory(slots: &[Option<Value>; SLOTS], entries: &mut [u8])
     let mut place = CELLS_AT as u16;
     for (i, slot) in slots.iter().enumerate() {
         entries[4 * i..4 * i + 4].copy_from_slice(&entry(place, slot));
-        place += cell(slot).len() as u16;
+        if let Some(value) = slot {
+            place += value.as_slice().len() as u16;
+        }
     }
 }
 
-/// Writes the present cells of these slots, and zeros behind them. Each cell is written with what stands
-/// behind its value up to the most that one may have, since a copy of a fixed length is faster; the next one
-/// is written over that, and so are the zeros.
+/// Writes the present cells of these slots, and zeros after them. Each cell is copied at the full
+/// length that a value may have, since a copy of a fixed length is faster. What is copied after the
+/// value is then written over by the next cell or by the zeros.
 fn put_cells(slots: &[Option<Value>; SLOTS], room: &mut [u8])
     requires { length room.old ≡ ROOM_BYTES }
     ensures { room.new ≡ body slots.now }
@@ -154,7 +145,9 @@ fn slots_at(entries: &[u8], bytes: &[u8]) -> Option<[Option<Value>; SLOTS]>
         let (_, entry) = entries.split_at(4 * i);
         let (_, rest) = bytes.split_at(end);
         let slot = slot_at(entry, rest, (CELLS_AT + end) as u16)?;
-        end += cell(&slot).len();
+        if let Some(cell) = &slot {
+            end += cell.as_slice().len();
+        }
         slots[i] = slot;
     }
     let (_, rest) = bytes.split_at(end);

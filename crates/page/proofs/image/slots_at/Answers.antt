@@ -1,6 +1,8 @@
-use Rattle.std.proofs.Common.{Some, None, arith, rules, ap}
+use Rattle.std.proofs.Common.{Some, None, arith, rules, ap, length}
+use Rattle.page.specs.Image.{cell}
 use Rattle.page.proofs.Reading.{slot_there, read_more, read_all, only_these}
 use Rattle.page.proofs.image.slots_at.Goals as goal
+use Rattle.page.proofs.image.slots_at.Goals.{in-Some, in_default}
 
 pub returns-in_err-slot-clause-only : goal.returns-in_err-slot-clause-only
 returns-in_err-slot-clause-only c = λ others s.
@@ -10,7 +12,11 @@ returns-in_err-slot-clause-only c = λ others s.
 
 pub loop-i-preserved : goal.loop-i-preserved
 loop-i-preserved c =
-    read_more _ _ _ _ _ _ _ _ _ c.loop-i.invariant (omega arith) c.split_at.ensures.back c.split_at-in-loop-i.ensures.back c.in_ok-slot.ensures.found c.in_ok-slot.ensures.only c.cell.ensures.bytes
+    let more = read_more _ _ _ _ _ _ c.match-slot.end _ _ c.loop-i.invariant (omega arith) c.split_at.ensures.back c.split_at-in-loop-i.ensures.back c.in_ok-slot.ensures.found c.in_ok-slot.ensures.only in
+    elim c.match-slot.branch [
+      | in-Some w ↦ more (omega (arith, w.end-is, ap length w.as_slice.ensures.value, ap (λ s. length (cell s)) w.in-Some.is))
+      | in_default w ↦ more (omega (arith, w.end-is, ap (λ s. length (cell s)) w.in_default.is))
+    ]
 
 pub returns-clause-found : goal.returns-clause-found
 returns-clause-found c =
