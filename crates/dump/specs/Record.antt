@@ -44,7 +44,7 @@ fields style (CheckpointEnd begin transactions dirty) =
     ++ table_field style (codes "transactions") transaction_entry transactions
     ++ table_field style (codes "dirty") dirty_entry dirty
 
--- the fields of a record but for the tables of a checkpoint end, which may have any length
+-- the fields of a record without the tables of a checkpoint end, which may have any length
 abbrev pub short_fields : Style → LogRecord → List ℕ
 short_fields style (CheckpointEnd begin transactions dirty) = number_field style (codes "BeginLSN") begin
 short_fields style r = fields style r

@@ -1,6 +1,6 @@
 //! The parts of a line: where it lies and of what it tells, and named fields.
 //!
-//! A line is spelled in a buffer that has room for all that is put there, and each function returns
+//! A line is written into a buffer that has room for all that is put there. Each function returns
 //! where in the buffer that ends: so no part asks whether there is room for it.
 
 ghost use Rattle.std.specs.Prelude.{◌≡◌, ◌+◌, ◌≤◌, ◌++◌, IfSome, length, option_map, take, decimal};

@@ -53,7 +53,7 @@ fn put_cell(line: &mut [u8], at: usize, style: Style, page: u32, slot: u8) -> us
     put_number_field(line, at, style, "slot", slot as u64)
 }
 
-/// Writes the fields of a record after its LSN, but for the tables of a checkpoint end.
+/// Writes the fields of a record after its LSN, without the tables of a checkpoint end.
 fn put_short_fields(line: &mut [u8], at: usize, style: Style, view: &RecordView) -> usize
     requires fits { Fits (shown view.now) }
     requires room { at + 949 ≤ length line.old }

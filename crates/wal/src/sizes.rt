@@ -18,9 +18,6 @@ pub const LARGEST_BASE: u64 = 9_223_372_036_854_775_807;
 /// How many bytes an LSN takes.
 pub const LSN_BYTES: usize = 8;
 
-/// How many bytes a transaction and its PrevLSN take.
-pub const PLAIN_BYTES: usize = 4 + LSN_BYTES;
-
 /// How many bytes a cell takes: page and slot.
 pub const CELL_BYTES: usize = 5;
 
@@ -38,7 +35,7 @@ pub const SMALLEST_FRAME: usize = 4 + SMALLEST_BODY;
 
 /// How many bytes the body of a commit, an abort, an end or a prepare takes: kind, LSN, transaction,
 /// PrevLSN.
-pub const PLAIN_BODY: usize = SMALLEST_BODY + PLAIN_BYTES;
+pub const PLAIN_BODY: usize = SMALLEST_BODY + 4 + LSN_BYTES;
 
 /// How many bytes the frame of a commit, an abort, an end or a prepare takes.
 pub const PLAIN_FRAME: usize = 4 + PLAIN_BODY;
