@@ -72,7 +72,6 @@ analysis/                last      Log::last
 analysis/base.rt         entry     TransactionTable::entry, DirtyTable::entry
 analysis/base.rt         len       TransactionTable::len, DirtyTable::len
 undo/                    get       Log::get
-undo/rollback.rt         take_newest Turns::take_newest
 undo/losers.rt           put       Turns::put
 undo/                    set       Page::set
 redo/input.rt            last      Log::last

@@ -169,11 +169,11 @@ fn number_cells(log: &Log, lsn: u64, numbers: &mut [usize])
     }
 }
 
-/// Looks at the cells of the next records after an LSN, as many as there are places for what is seen.
-/// The cells take more memory than is near the processor, and it fetches those that are asked for
-/// together beside each other: so they are near when the records are gone through. Of each the front is
-/// looked at and, by the front of the next cell, the end. What is seen is told to nobody, but kept, since
-/// else the compiler leaves the looking out.
+/// Reads the cells of the next records after an LSN, as many as there are places for what is seen. The
+/// cells of a full store do not fit into the processor's cache; those that are read one right after
+/// another are fetched at the same time, before the records need them. The front of each is read, and
+/// its end by the front of the next. What is read is stored, since the compiler would drop a read that
+/// nothing uses; no one asks for it, so it may hold anything before and after.
 pub fn look_ahead(log: &Log, cells: &[Cell], lsn: u64, seen: &mut [usize])
     requires from { base_lsn (history log.now) ≤ lsn }
     requires to { lsn ≤ last_lsn (history log.now) }

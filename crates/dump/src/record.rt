@@ -11,7 +11,7 @@ use crate::tables::{put_dirty, put_transactions};
 use std::alloc::AllocError;
 use wal::RecordView;
 
-/// Room for the line of a record but for its tables, in bytes.
+/// Room for what stands before the tables of a record, in bytes.
 pub const RECORD_ROOM: usize = 1032;
 
 /// What a record is, in the words of the formats.

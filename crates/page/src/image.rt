@@ -4,7 +4,7 @@ ghost use Rattle.std.specs.Prelude.{◌≡◌, ◌≢◌, ◌<◌, ◌≤◌, �
 ghost use Rattle.std.specs.Int.{w16, w32, w64, to_be_bytes};
 ghost use Rattle.page.specs.declared.page.Page.{Page};
 ghost use Rattle.page.specs.Image.{Image, entry, directory, header, body, page_text, FitsSlot, FitsPage, SpellsPage};
-ghost use Rattle.page.specs.declared.sizes.TheConstants.{SLOTS, VALUE_BYTES, PAGE_BYTES, DIRECTORY_BYTES, CELLS_AT, ROOM_BYTES};
+ghost use Rattle.page.specs.declared.sizes.TheConstants.{SLOTS, PAGE_BYTES, DIRECTORY_BYTES, CELLS_AT, ROOM_BYTES};
 ghost use Rattle.page.specs.Parts.{BeginsWithSlot, SpellsSlots};
 
 use crate::numbers::numbers_at;

@@ -53,7 +53,7 @@ impl Value {
         &self.bytes[..self.len as usize]
     }
 
-    /// Its bytes, and after them others up to the most that a value may have.
+    /// Its bytes, and after them zeros up to the most bytes that a value may have.
     #[inline(always)]
     pub(crate) fn padded(&self) -> &[u8; VALUE_BYTES]
         ensures front { take (length self.now) result.now ≡ self.now }

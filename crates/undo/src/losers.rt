@@ -1,6 +1,6 @@
 //! The losers of a rollback, each at the update that it undoes next.
 
-ghost use Rattle.std.specs.Prelude.{◌≡◌, ◌≤◌, ◌<◌, ◌+◌, ◌^◌, ℕ, length, OnOk, IfOk, IfErr, IfSome, IfNone};
+ghost use Rattle.std.specs.Prelude.{◌≡◌, ◌≤◌, ◌<◌, ◌+◌, ◌^◌, ℕ, length, OnOk, IfOk, IfErr};
 ghost use Rattle.wal.specs.Records.{history, last_lsn};
 ghost use Rattle.wal.specs.Content.{entry_of};
 ghost use Rattle.wal.specs.Undo.{is_lost};
@@ -75,7 +75,8 @@ impl Rollback {
     }
 
     /// Resolves a loser that the record at the LSN `from` sends to `lsn`: it waits at the update
-    /// that it undoes next; where nothing is left, its end is appended. It did not wait before.
+    /// that it undoes next; where nothing is left, its end is appended. Its transaction
+    /// does not wait yet.
     pub fn resolve(&mut self, log: &Log, loser: Loser, from: u64, lsn: u64) -> Result<(), Fault>
         requires positive { 0 < from }
         requires within { from ≤ last_lsn (history log.now) + 1 }

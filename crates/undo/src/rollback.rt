@@ -158,7 +158,8 @@ pub fn undo_in_brief(
 /// update with the largest LSN at which a loser waits is undone, again and again: its CLR is
 /// appended, slot and PageLSN of its page are set, and the loser is resolved again from the
 /// update's PrevLSN. Time is near linear in the records met; beside the records it takes 24 bytes
-/// for each, and 24 bytes for each loser, which are requested before the first update is undone.
+/// for each, and 24 to 48 bytes for each loser, which are requested before the first update is
+/// undone.
 ///
 /// Errors, of which the first met in this order is given, the page of an update before the walk
 /// goes on from it:

@@ -13,6 +13,7 @@ pub struct Begin {
     pub length: u32,
     /// The number of the record's kind.
     pub kind: u8,
+    /// Its LSN.
     pub lsn: u64,
 }
 
