@@ -100,6 +100,7 @@ audit/decide.rt          len       DirtyTable::len
 audit/pages.rt           get       Log::get
 audit/pages.rt           image     Log::image
 audit/base.rt            get       -
+audit/cell.rt            get       -
 audit/finish_table.rt    get       -
 audit/standings.rt       get       FinishTable::get
 audit/standings.rt       note      FinishTable::note

@@ -6,6 +6,7 @@
 ghost use Rattle.std.specs.Prelude.{◌≡◌, ◌+◌, ◌≤◌, ◌++◌, IfSome, length, option_map, take, decimal};
 ghost use Rattle.page.specs.declared.sizes.TheConstants.{VALUE_BYTES};
 ghost use Rattle.dump.specs.Line.{opening, closing, named, number_field, word_field, image_field};
+ghost use Rattle.dump.specs.declared.value.TheConstants.{IMAGE_ROOM};
 
 use crate::Style;
 use crate::value::put_image;
@@ -155,8 +156,8 @@ pub fn put_image_field(
     held: Option<&[u8]>,
 ) -> usize
     requires fits { IfSome held (λ bytes. length bytes.now ≤ VALUE_BYTES) }
-    requires room { at + length name.now + 408 ≤ length line.old }
-    ensures end { result ≤ at + length name.now + 408 }
+    requires room { at + length name.now + IMAGE_ROOM + 4 ≤ length line.old }
+    ensures end { result ≤ at + length name.now + IMAGE_ROOM + 4 }
     ensures text { take result line.new ≡ take at line.old
         ++ image_field style name.now (option_map (λ bytes. bytes.now) held.entry) }
 {

@@ -4,15 +4,22 @@ ghost use Rattle.std.specs.Prelude.{◌≡◌, ◌+◌, ◌≤◌, ◌++◌, OnO
 ghost use Rattle.wal.specs.Content.{shown};
 ghost use Rattle.wal.specs.Spelling.{Fits};
 ghost use Rattle.dump.specs.Record.{kind_word, plain_fields, cell_fields, short_fields, table_fields, record_line};
+ghost use Rattle.dump.specs.declared.record.TheConstants.{FIELDS_ROOM};
 
 use crate::Style;
 use crate::line::{closing, put_image_field, put_number_field, put_opening};
 use crate::tables::{put_dirty, put_transactions};
+use crate::value::IMAGE_ROOM;
 use std::alloc::AllocError;
 use wal::RecordView;
 
-/// Room for what stands before the tables of a record, in bytes.
-pub const RECORD_ROOM: usize = 1032;
+/// The fields of a record after its LSN, without tables, take at most so many bytes: an update has the
+/// most, of which 133 are beside its two images and the marks before these.
+const FIELDS_ROOM: usize = 2 * (IMAGE_ROOM + 4) + 133;
+
+/// What stands before the tables of a record takes at most so many bytes: 56 for the opening of its
+/// line, 27 for its LSN, and the fields.
+pub const RECORD_ROOM: usize = FIELDS_ROOM + 83;
 
 /// What a record is, in the words of the formats.
 fn kind_word(view: &RecordView) -> &'static str
@@ -56,8 +63,8 @@ fn put_cell(line: &mut [u8], at: usize, style: Style, page: u32, slot: u8) -> us
 /// Writes the fields of a record after its LSN, without the tables of a checkpoint end.
 fn put_short_fields(line: &mut [u8], at: usize, style: Style, view: &RecordView) -> usize
     requires fits { Fits (shown view.now) }
-    requires room { at + 949 ≤ length line.old }
-    ensures end { result ≤ at + 949 }
+    requires room { at + FIELDS_ROOM ≤ length line.old }
+    ensures end { result ≤ at + FIELDS_ROOM }
     ensures text { take result line.new
         ≡ take at line.old ++ short_fields style (shown view.now) }
 {

@@ -12,7 +12,7 @@ ghost use Rattle.dump.specs.LogLines.{IsNoFault};
 
 use crate::choice::meets;
 use crate::line::{closing, put_number, put_number_field, put_opening, put_text};
-use crate::value::put_value;
+use crate::value::{IMAGE_ROOM, put_value};
 use crate::{Stop, Style};
 use page::{Fault, PAGE_BYTES, Page, SLOTS, Store, Value, decode_page, decode_store};
 use std::alloc::{AllocError, Global};
@@ -65,7 +65,7 @@ fn put_slot(
     match held {
         None => Ok(()),
         Some(value) => {
-            let mut text = [0; 436];
+            let mut text = [0; 32 + IMAGE_ROOM];
             let at = put_slot_name(&mut text, style, slot);
             let at = put_value(&mut text, at, style, value.as_slice());
             line.extend_from_slice(&text[..at])

@@ -5,10 +5,15 @@ ghost use Rattle.std.specs.List.{flat_map};
 ghost use Rattle.hex.specs.Hex.{encode_lower, lower_digits};
 ghost use Rattle.page.specs.declared.sizes.TheConstants.{VALUE_BYTES};
 ghost use Rattle.dump.specs.Values.{IsPlain, escaped, value, image};
+ghost use Rattle.dump.specs.declared.value.TheConstants.{IMAGE_ROOM};
 
 use crate::Style;
 use crate::line::put_text;
 use page::VALUE_BYTES;
+
+/// What is written for a slot takes at most so many bytes: as JSON, each byte of a value up to six as
+/// text and two as digits, and twenty around them.
+pub const IMAGE_ROOM: usize = 8 * VALUE_BYTES + 20;
 
 /// The two hexadecimal digits of each byte.
 static PAIRS: [u8; 512] =
@@ -128,8 +133,8 @@ fn put_each(line: &mut [u8], at: usize, style: Style, bytes: &[u8]) -> usize
 /// Writes a value: its bytes as text between quotes, and in hexadecimal.
 pub fn put_value(line: &mut [u8], at: usize, style: Style, bytes: &[u8]) -> usize
     requires short { length bytes.now ≤ VALUE_BYTES }
-    requires room { at + 404 ≤ length line.old }
-    ensures end { result ≤ at + 404 }
+    requires room { at + IMAGE_ROOM ≤ length line.old }
+    ensures end { result ≤ at + IMAGE_ROOM }
     ensures text { take result line.new ≡ take at line.old ++ value style bytes.now }
 {
     match style {
@@ -153,8 +158,8 @@ pub fn put_value(line: &mut [u8], at: usize, style: Style, bytes: &[u8]) -> usiz
 /// Writes what a slot holds.
 pub fn put_image(line: &mut [u8], at: usize, style: Style, held: Option<&[u8]>) -> usize
     requires fits { IfSome held (λ bytes. length bytes.now ≤ VALUE_BYTES) }
-    requires room { at + 404 ≤ length line.old }
-    ensures end { result ≤ at + 404 }
+    requires room { at + IMAGE_ROOM ≤ length line.old }
+    ensures end { result ≤ at + IMAGE_ROOM }
     ensures text { take result line.new ≡ take at line.old
         ++ image style (option_map (λ bytes. bytes.now) held.entry) }
 {
