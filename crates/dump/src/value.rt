@@ -46,7 +46,7 @@ fn put_hex(line: &mut [u8], at: usize, bytes: &[u8]) -> usize
 
 /// Whether a byte stands after a backslash between quotes.
 #[inline(always)]
-fn is_quote(byte: u8) -> bool
+fn is_quote_or_backslash(byte: u8) -> bool
     ensures { result ≡ (byte == 34 || byte == 92) }
 {
     byte == b'"' || byte == b'\\'
@@ -54,7 +54,7 @@ fn is_quote(byte: u8) -> bool
 
 /// Whether a byte is not printable.
 #[inline(always)]
-fn is_other(byte: u8) -> bool
+fn is_unprintable(byte: u8) -> bool
     ensures { result ≡ (nat_lt byte 32 || nat_lt 126 byte) }
 {
     byte < b' ' || b'~' < byte
@@ -76,7 +76,7 @@ fn put_escaped(line: &mut [u8], at: usize, style: Style, byte: u8) -> usize
     ensures end { result ≤ at + 6 }
     ensures text { take result line.new ≡ take at line.old ++ escaped style byte }
 {
-    let (quote, other) = (is_quote(byte), is_other(byte));
+    let (quote, other) = (is_quote_or_backslash(byte), is_unprintable(byte));
     let (high, low) = digits_of(byte);
     let plain = either(other, b'\\', byte);
     let first = either(quote, b'\\', plain);
@@ -104,9 +104,7 @@ fn put_escaped(line: &mut [u8], at: usize, style: Style, byte: u8) -> usize
 fn are_plain(bytes: &[u8]) -> bool
     ensures { IsTrue result → EachIndex bytes.now (λ k. IsPlain (slice_index bytes.now k)) }
 {
-    bytes
-        .iter()
-        .all(|byte| !is_quote(*byte) && !is_other(*byte))
+    bytes.iter().all(|byte| !is_quote_or_backslash(*byte) && !is_unprintable(*byte))
 }
 
 /// Writes what stands between quotes. Bytes that all stand for themselves, as those of most texts, are
