@@ -175,25 +175,13 @@ pub fn keeps_compensation(log: &Log, view: &RecordView, standing: Standing) -> b
     }
 }
 
-/// The transaction that wrote a cell last.
-fn writer_at(cells: &[Cell], page: u32, slot: u8) -> Option<u32>
+/// What is kept of a cell.
+fn cell_at(cells: &[Cell], page: u32, slot: u8) -> Cell
     requires { SLOTS * page + slot < length cells.now }
     ensures { (default : Cell) → result
-        ≡ (slice_index_or cells.now (SLOTS * page + slot) default).writer }
+        ≡ slice_index_or cells.now (SLOTS * page + slot) default }
 {
-    cells[SLOTS * page as usize + slot as usize].writer
-}
-
-/// Whether a cell holds this value or none.
-fn holds(cells: &[Cell], page: u32, slot: u8, image: Option<&[u8]>) -> bool
-    requires { SLOTS * page + slot < length cells.now }
-    ensures { (default : Cell) → IsTrue result ↔ option_map (λ s. s.now) image.entry
-        ≡ (slice_index_or cells.now (SLOTS * page + slot) default).image }
-{
-    are_same(
-        image,
-        cells[SLOTS * page as usize + slot as usize].image.get(),
-    )
+    cells[SLOTS * page as usize + slot as usize]
 }
 
 /// Whether the writer of a cell, if it has one, is this transaction or not among the unfinished.
@@ -219,7 +207,7 @@ pub fn keeps_strictness(standings: &Standings, cells: &[Cell], view: &RecordView
 {
     match view {
         RecordView::Update { tx, page, slot, .. } => {
-            is_free_for(standings, writer_at(cells, *page, *slot), *tx)
+            is_free_for(standings, cell_at(cells, *page, *slot).writer, *tx)
         }
         RecordView::Compensation { .. }
         | RecordView::Commit { .. }
@@ -255,7 +243,7 @@ pub fn keeps_before(cells: &[Cell], view: &RecordView) -> bool
             slot,
             before,
             ..
-        } => holds(cells, *page, *slot, *before),
+        } => is_value(*before, cell_at(cells, *page, *slot).image),
         RecordView::Compensation { .. }
         | RecordView::Commit { .. }
         | RecordView::Abort { .. }
