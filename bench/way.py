@@ -93,8 +93,7 @@ restart/                 last      Log::last
 restart/                 pages     Parting::pages
 board/claim.rt           range     Board::range
 audit/                   get       Standings::get
-audit/decide.rt          get       Log::get, Held::get
-audit/cell.rt            put       Held::put
+audit/decide.rt          get       Log::get
 audit/decide.rt          entry     DirtyTable::entry
 audit/decide.rt          len       DirtyTable::len
 audit/pages.rt           get       Log::get

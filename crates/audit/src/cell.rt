@@ -88,9 +88,10 @@ fn number_cells(log: &Log, lsn: u64, numbers: &mut [usize])
 
 /// Reads the cells of the next records after an LSN, as many as there are places for what is seen. The
 /// cells of a full store do not fit into the processor's cache; those that are read one right after
-/// another are fetched at the same time, before the records need them. The front of each is read, and
-/// its end by the front of the next. What is read is stored, since the compiler would drop a read that
-/// nothing uses; no one asks for it, so it may hold anything before and after.
+/// another are fetched at the same time, before the records need them. The writer of each is read, and
+/// that of the next, since a cell may lie in two lines of the cache. What is read is stored, since the
+/// compiler would drop a read that nothing uses; no one asks for it, so it may hold anything before and
+/// after.
 pub fn look_ahead(log: &Log, cells: &[Cell], lsn: u64, seen: &mut [usize])
     requires from { base_lsn (history log.now) ≤ lsn }
     requires to { lsn ≤ last_lsn (history log.now) }

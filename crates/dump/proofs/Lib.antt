@@ -1,6 +1,5 @@
 mod Texts
 mod Writes
-mod Pairs
 mod Digits
 mod Places
 mod Fronts

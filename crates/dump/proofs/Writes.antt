@@ -24,7 +24,7 @@ one_of_four line i a b c d fits =
     ∙ take-set-le (i + 1) (set line i a) (i + 1) b (omega arith)
     ∙ byte_more line _ i (i + 1) a refl (omega arith) refl
 
-pub two_bytes : (line : List ℕ) (i a b : ℕ) → i + 2 ≤ length line → take (i + 2) (set (set line i a) (i + 1) b) ≡ take i line ++ a ∷ b ∷ []
+two_bytes : (line : List ℕ) (i a b : ℕ) → i + 2 ≤ length line → take (i + 2) (set (set line i a) (i + 1) b) ≡ take i line ++ a ∷ b ∷ []
 two_bytes line i a b fits =
     byte_more (set line i a) _ (i + 1) (i + 2) b (omega arith) (omega (arith, length-set {A = ℕ})) (byte_more line _ i (i + 1) a refl (omega arith) refl)
     ∙ append_assoc (take i line) (a ∷ []) (b ∷ [])

@@ -1,8 +1,8 @@
 //! What a slot holds, as people and programs read it.
 
-ghost use Rattle.std.specs.Prelude.{◌≡◌, ◌+◌, ◌*◌, ◌/◌, ◌%◌, ◌≤◌, ◌∷◌, [], ◌++◌, IfSome, IsTrue, EachIndex, slice_index, length, option_map, take, if◌then◌else◌, ◌==◌, ◌||◌, nat_lt};
+ghost use Rattle.std.specs.Prelude.{◌≡◌, ◌+◌, ◌*◌, ◌≤◌, ◌∷◌, [], ◌++◌, IfSome, IsTrue, EachIndex, slice_index, length, option_map, take, if◌then◌else◌, ◌==◌, ◌||◌, nat_lt};
 ghost use Rattle.std.specs.List.{flat_map};
-ghost use Rattle.hex.specs.Hex.{encode_lower, lower_digits};
+ghost use Rattle.hex.specs.Hex.{encode_lower};
 ghost use Rattle.page.specs.declared.sizes.TheConstants.{VALUE_BYTES};
 ghost use Rattle.dump.specs.Values.{IsPlain, escaped, value, image};
 ghost use Rattle.dump.specs.declared.value.TheConstants.{IMAGE_ROOM};
@@ -15,19 +15,8 @@ use page::VALUE_BYTES;
 /// text and two as digits, and twenty around them.
 pub const IMAGE_ROOM: usize = 8 * VALUE_BYTES + 20;
 
-/// The two hexadecimal digits of each byte.
-static PAIRS: [u8; 512] =
-    *b"000102030405060708090a0b0c0d0e0f101112131415161718191a1b1c1d1e1f202122232425262728292a2b2c2d2e2f303132333435363738393a3b3c3d3e3f404142434445464748494a4b4c4d4e4f505152535455565758595a5b5c5d5e5f606162636465666768696a6b6c6d6e6f707172737475767778797a7b7c7d7e7f808182838485868788898a8b8c8d8e8f909192939495969798999a9b9c9d9e9fa0a1a2a3a4a5a6a7a8a9aaabacadaeafb0b1b2b3b4b5b6b7b8b9babbbcbdbebfc0c1c2c3c4c5c6c7c8c9cacbcccdcecfd0d1d2d3d4d5d6d7d8d9dadbdcdddedfe0e1e2e3e4e5e6e7e8e9eaebecedeeeff0f1f2f3f4f5f6f7f8f9fafbfcfdfeff";
-
-/// The two hexadecimal digits of a byte.
-#[inline(always)]
-fn digits_of(byte: u8) -> (u8, u8)
-    ensures high { result.0 ≡ slice_index lower_digits (byte / 16) }
-    ensures low { result.1 ≡ slice_index lower_digits (byte % 16) }
-{
-    let from = byte as usize * 2;
-    (PAIRS[from], PAIRS[from + 1])
-}
+/// The hexadecimal digits.
+const DIGITS: &[u8; 16] = b"0123456789abcdef";
 
 /// Writes two hexadecimal digits for each byte.
 #[inline(always)]
@@ -36,12 +25,11 @@ fn put_hex(line: &mut [u8], at: usize, bytes: &[u8]) -> usize
     ensures end { result ≡ at + 2 * length bytes.now }
     ensures text { take result line.new ≡ take at line.old ++ encode_lower bytes.now }
 {
-    for (place, byte) in bytes.iter().enumerate() {
-        let (high, low) = digits_of(*byte);
-        line[at + 2 * place] = high;
-        line[at + 2 * place + 1] = low;
+    let end = at + 2 * bytes.len();
+    match hex::encode_to_slice(bytes, &mut line[at..end]) {
+        Ok(()) => end,
+        Err(_) => unreachable!(),
     }
-    at + 2 * bytes.len()
 }
 
 /// Whether a byte stands after a backslash between quotes.
@@ -77,7 +65,8 @@ fn put_escaped(line: &mut [u8], at: usize, style: Style, byte: u8) -> usize
     ensures text { take result line.new ≡ take at line.old ++ escaped style byte }
 {
     let (quote, other) = (is_quote_or_backslash(byte), is_unprintable(byte));
-    let (high, low) = digits_of(byte);
+    let high = DIGITS[byte as usize / 16];
+    let low = DIGITS[byte as usize % 16];
     let plain = either(other, b'\\', byte);
     let first = either(quote, b'\\', plain);
     line[at] = first;
