@@ -13,12 +13,12 @@ use crate::value::IMAGE_ROOM;
 use std::alloc::AllocError;
 use wal::RecordView;
 
-/// The fields of a record after its LSN, without tables, take at most so many bytes: an update has the
-/// most, of which 133 are beside its two images and the marks before these.
+/// The most bytes that the fields of a record take after its LSN, without tables. They are those of an
+/// update: two images, each after four marks, and 133 bytes more.
 const FIELDS_ROOM: usize = 2 * (IMAGE_ROOM + 4) + 133;
 
-/// What stands before the tables of a record takes at most so many bytes: 56 for the opening of its
-/// line, 27 for its LSN, and the fields.
+/// The most bytes of a line before the tables of a record: 56 for the opening, 27 for the LSN, and the
+/// fields.
 pub const RECORD_ROOM: usize = FIELDS_ROOM + 83;
 
 /// What a record is, in the words of the formats.

@@ -9,7 +9,7 @@ use crate::line::{put_name, put_number, put_number_field, put_text, put_word_fie
 use std::alloc::AllocError;
 use wal::{DirtyTable, Entry, State, TransactionTable};
 
-/// An entry takes at most so many bytes: one of a transaction, as JSON.
+/// The most bytes that an entry takes. It is that of a transaction, as JSON.
 const ENTRY_ROOM: usize = 120;
 
 /// Writes the beginning of an entry: the number that it is found by.

@@ -11,8 +11,8 @@ use crate::Style;
 use crate::line::put_text;
 use page::VALUE_BYTES;
 
-/// What is written for a slot takes at most so many bytes: as JSON, each byte of a value up to six as
-/// text and two as digits, and twenty around them.
+/// The most bytes that are written for a slot. They are those of the longest value as JSON: for each
+/// byte up to six as text and two digits, and twenty more.
 pub const IMAGE_ROOM: usize = 8 * VALUE_BYTES + 20;
 
 /// The hexadecimal digits.
