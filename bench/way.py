@@ -32,7 +32,7 @@ wal/stretch.rt           push      Offsets::push
 wal/joining.rt           base      LogStart::base
 wal/joining.rt           len       Offsets::len
 wal/joining.rt           append    Offsets::append
-wal/frame.rt             bytes     Begin::bytes
+wal/frame.rt             bytes     FrameHead::bytes
 wal/checkpoint.rt        get       Log::get
 wal/checkpoint.rt        last      Log::last
 wal/view.rt              len       TransactionTable::len, DirtyTable::len
@@ -134,7 +134,7 @@ after begins of any value page insert'''.split())
 CUTS = {
     'nothing fails': '''aries/verbose.rt words/refusal.rt words/fault.rt device/memory.rt device/slow.rt aries/files.rt:refuse
         Failures::rise Failures::risen Notes::fail Board::stop''',
-    'no checkpoint': '''wal/checkpoint.rt Begin::bytes wal/frame.rt:checkpoint_at wal/frame.rt:transactions_at wal/frame.rt:dirties_at
+    'no checkpoint': '''wal/checkpoint.rt FrameHead::bytes wal/frame.rt:checkpoint_at wal/frame.rt:transactions_at wal/frame.rt:dirties_at
         analysis/base.rt:transactions_of analysis/base.rt:dirty_pages_of''',
     'updates and commits alone are read': '''wal/frame.rt:compensation_at wal/next.rt:compensation_end wal/glance.rt:compensation_glance
         wal/image.rt:compensation_image

@@ -1,5 +1,5 @@
 -- Texts put together entry by entry.
-use Rattle.std.proofs.Common.{ℕ, zero, suc, ◌≡◌, ◌+◌, ◌<◌, List, [], ◌∷◌, ◌++◌, length, get_or, take, refl, sym, ap, ◌∙◌, arith, append_assoc, append-nil, false, eqb, ne_eqb, if◌then◌else◌}
+use Rattle.std.proofs.Common.{ℕ, zero, suc, ◌≡◌, ◌+◌, ◌<◌, List, [], ◌∷◌, ◌++◌, length, get_or, take, drop, refl, sym, ap, ◌∙◌, arith, append_assoc, append-nil, false, eqb, ne_eqb, if◌then◌else◌}
 use Rattle.std.specs.Prelude.{◌==◌, codes}
 use Rattle.std.specs.List.{flat_map}
 use Rattle.std.proofs.lemmas.Grind.{flat_map-append}
@@ -74,10 +74,11 @@ record_written style offset lsn r old kind opened numbered short tables front en
     new_is ∙ ap (λ l. tables ++ l) ending_is ∙ ap (λ l. l ++ closing style) tables_all
     ∙ parts old (opening style offset (kind_word r)) number (short_fields style r) (table_fields style r) (fields style r) (closing style) (fields_parts style r)
 
--- bytes that stand for themselves between quotes
-pub plain_stays : (style : Style) (bytes : List ℕ) → ((k : ℕ) → k < length bytes → IsPlain (get_or bytes k 0)) → flat_map (escaped style) bytes ≡ bytes
-plain_stays style [] each = refl
-plain_stays style (byte ∷ bytes) each =
+-- bytes of which the first stand for themselves between quotes
+pub plain_stay : (style : Style) (bytes : List ℕ) (n : ℕ) → ((k : ℕ) → k < n → IsPlain (get_or bytes k 0)) → flat_map (escaped style) bytes ≡ take n bytes ++ flat_map (escaped style) (drop n bytes)
+plain_stay style bytes zero each = refl
+plain_stay style [] (suc n) each = refl
+plain_stay style (byte ∷ bytes) (suc n) each =
     let (quote, other) = each 0 (omega arith) in
     let one : escaped style byte ≡ byte ∷ [] = rw (quote, other) refl in
-    ap (λ l. l ++ flat_map (escaped style) bytes) one ∙ ap (λ l. byte ∷ l) (plain_stays style bytes (λ k h. each (suc k) (omega arith)))
+    ap (λ l. l ++ flat_map (escaped style) bytes) one ∙ ap (λ l. byte ∷ l) (plain_stay style bytes n (λ k h. each (suc k) (omega arith)))

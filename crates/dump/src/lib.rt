@@ -5,6 +5,7 @@
 #![tactic(auto)]
 
 mod choice;
+mod escape;
 mod laws;
 mod line;
 mod log_lines;

@@ -9,19 +9,20 @@ ghost use Rattle.dump.specs.Line.{opening, closing, named, number_field, word_fi
 ghost use Rattle.dump.specs.declared.value.TheConstants.{IMAGE_ROOM};
 
 use crate::Style;
+use crate::escape::Escapes;
 use crate::value::put_image;
 use itoa::write_digits;
 use page::VALUE_BYTES;
 
 /// Writes a text at this place of a line. Returns where it ends.
 #[inline(always)]
-pub fn put_text(line: &mut [u8], at: usize, text: &[u8]) -> usize
-    requires { at + length text.now ≤ length line.old }
+pub fn put_text(buffer: &mut [u8], at: usize, text: &[u8]) -> usize
+    requires { at + length text.now ≤ length buffer.old }
     ensures end { result ≡ at + length text.now }
-    ensures text { take result line.new ≡ take at line.old ++ text.now }
+    ensures text { take result buffer.new ≡ take at buffer.old ++ text.now }
 {
     for (place, byte) in text.iter().enumerate() {
-        line[at + place] = *byte;
+        buffer[at + place] = *byte;
     }
     at + text.len()
 }
@@ -51,35 +52,35 @@ fn digits_in(number: u64) -> usize
 /// Writes a number in decimal. Its digits are counted first, since they are written from the last to
 /// the first: where it ends is known then, and none is written twice.
 #[inline]
-pub fn put_number(line: &mut [u8], at: usize, number: u64) -> usize
-    requires { at + 20 ≤ length line.old }
+pub fn put_number(buffer: &mut [u8], at: usize, number: u64) -> usize
+    requires { at + 20 ≤ length buffer.old }
     ensures end { result ≤ at + 20 }
-    ensures text { take result line.new ≡ take at line.old ++ decimal number }
+    ensures text { take result buffer.new ≡ take at buffer.old ++ decimal number }
 {
     let end = at + digits_in(number);
-    write_digits(number, line, end);
+    write_digits(number, buffer, end);
     end
 }
 
 /// Writes the beginning of a line: where in the file it lies that the line tells of, and what it is.
 #[inline(always)]
-pub fn put_opening(line: &mut [u8], style: Style, offset: u64, kind: &str) -> usize
-    requires { 40 + length kind.now ≤ length line.old }
+pub fn put_opening(buffer: &mut [u8], style: Style, offset: u64, kind: &str) -> usize
+    requires { 40 + length kind.now ≤ length buffer.old }
     ensures end { result ≤ 40 + length kind.now }
-    ensures text { take result line.new ≡ opening style offset kind.now }
+    ensures text { take result buffer.new ≡ opening style offset kind.now }
 {
     match style {
         Style::Text => {
-            let at = put_number(line, 0, offset);
-            let at = put_text(line, at, b": ");
-            put_text(line, at, kind.as_bytes())
+            let at = put_number(buffer, 0, offset);
+            let at = put_text(buffer, at, b": ");
+            put_text(buffer, at, kind.as_bytes())
         }
         Style::Json => {
-            let at = put_text(line, 0, b"{\"offset\":");
-            let at = put_number(line, at, offset);
-            let at = put_text(line, at, b",\"kind\":\"");
-            let at = put_text(line, at, kind.as_bytes());
-            put_text(line, at, b"\"")
+            let at = put_text(buffer, 0, b"{\"offset\":");
+            let at = put_number(buffer, at, offset);
+            let at = put_text(buffer, at, b",\"kind\":\"");
+            let at = put_text(buffer, at, kind.as_bytes());
+            put_text(buffer, at, b"\"")
         }
     }
 }
@@ -97,51 +98,57 @@ pub fn closing(style: Style) -> &'static [u8]
 
 /// Writes the name of a field, after other fields.
 #[inline(always)]
-pub fn put_name(line: &mut [u8], at: usize, style: Style, name: &str) -> usize
-    requires { at + length name.now + 4 ≤ length line.old }
+pub fn put_name(buffer: &mut [u8], at: usize, style: Style, name: &str) -> usize
+    requires { at + length name.now + 4 ≤ length buffer.old }
     ensures end { result ≤ at + length name.now + 4 }
-    ensures text { take result line.new ≡ take at line.old ++ named style name.now }
+    ensures text { take result buffer.new ≡ take at buffer.old ++ named style name.now }
 {
     match style {
         Style::Text => {
-            let at = put_text(line, at, b", ");
-            let at = put_text(line, at, name.as_bytes());
-            put_text(line, at, b" ")
+            let at = put_text(buffer, at, b", ");
+            let at = put_text(buffer, at, name.as_bytes());
+            put_text(buffer, at, b" ")
         }
         Style::Json => {
-            let at = put_text(line, at, b",\"");
-            let at = put_text(line, at, name.as_bytes());
-            put_text(line, at, b"\":")
+            let at = put_text(buffer, at, b",\"");
+            let at = put_text(buffer, at, name.as_bytes());
+            put_text(buffer, at, b"\":")
         }
     }
 }
 
 /// Writes a field that is a number.
 #[inline(always)]
-pub fn put_number_field(line: &mut [u8], at: usize, style: Style, name: &str, number: u64) -> usize
-    requires { at + length name.now + 24 ≤ length line.old }
+pub fn put_number_field(
+    buffer: &mut [u8],
+    at: usize,
+    style: Style,
+    name: &str,
+    number: u64,
+) -> usize
+    requires { at + length name.now + 24 ≤ length buffer.old }
     ensures end { result ≤ at + length name.now + 24 }
-    ensures text { take result line.new
-        ≡ take at line.old ++ number_field style name.now number }
+    ensures text { take result buffer.new
+        ≡ take at buffer.old ++ number_field style name.now number }
 {
-    let at = put_name(line, at, style, name);
-    put_number(line, at, number)
+    let at = put_name(buffer, at, style, name);
+    put_number(buffer, at, number)
 }
 
 /// Writes a field that is a word: one of the words of the formats.
-pub fn put_word_field(line: &mut [u8], at: usize, style: Style, name: &str, text: &str) -> usize
-    requires { at + length name.now + length text.now + 6 ≤ length line.old }
+pub fn put_word_field(buffer: &mut [u8], at: usize, style: Style, name: &str, text: &str) -> usize
+    requires { at + length name.now + length text.now + 6 ≤ length buffer.old }
     ensures end { result ≤ at + length name.now + length text.now + 6 }
-    ensures text { take result line.new
-        ≡ take at line.old ++ word_field style name.now text.now }
+    ensures text { take result buffer.new
+        ≡ take at buffer.old ++ word_field style name.now text.now }
 {
-    let at = put_name(line, at, style, name);
+    let at = put_name(buffer, at, style, name);
     match style {
-        Style::Text => put_text(line, at, text.as_bytes()),
+        Style::Text => put_text(buffer, at, text.as_bytes()),
         Style::Json => {
-            let at = put_text(line, at, b"\"");
-            let at = put_text(line, at, text.as_bytes());
-            put_text(line, at, b"\"")
+            let at = put_text(buffer, at, b"\"");
+            let at = put_text(buffer, at, text.as_bytes());
+            put_text(buffer, at, b"\"")
         }
     }
 }
@@ -149,18 +156,18 @@ pub fn put_word_field(line: &mut [u8], at: usize, style: Style, name: &str, text
 /// Writes a field that is what a slot holds.
 #[inline(always)]
 pub fn put_image_field(
-    line: &mut [u8],
+    buffer: &mut [u8],
     at: usize,
-    style: Style,
+    escapes: &Escapes,
     name: &str,
     held: Option<&[u8]>,
 ) -> usize
     requires fits { IfSome held (λ bytes. length bytes.now ≤ VALUE_BYTES) }
-    requires room { at + length name.now + IMAGE_ROOM + 4 ≤ length line.old }
+    requires room { at + length name.now + IMAGE_ROOM + 4 ≤ length buffer.old }
     ensures end { result ≤ at + length name.now + IMAGE_ROOM + 4 }
-    ensures text { take result line.new ≡ take at line.old
-        ++ image_field style name.now (option_map (λ bytes. bytes.now) held.entry) }
+    ensures text { take result buffer.new ≡ take at buffer.old
+        ++ image_field escapes.now.style name.now (option_map (λ bytes. bytes.now) held.entry) }
 {
-    let at = put_name(line, at, style, name);
-    put_image(line, at, style, held)
+    let at = put_name(buffer, at, escapes.style, name);
+    put_image(buffer, at, escapes, held)
 }

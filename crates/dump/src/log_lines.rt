@@ -11,13 +11,20 @@ ghost use Rattle.wal.specs.Records.{LogContent, history};
 ghost use Rattle.wal.specs.Spelling.{Fits};
 ghost use Rattle.dump.specs.LogLines.{log_line, place_behind, line_if_asked, record_lines, torn_line, log_lines, ListsLog, ListsFront, ListsToFault, fault_at, IsNoFault};
 
+use crate::escape::Escapes;
 use crate::line::{closing, put_number_field, put_opening, put_text};
-use crate::record::{RECORD_ROOM, put_record};
+use crate::record::{LineRoom, RECORD_ROOM, put_record};
 use crate::{Choice, Stop, Style};
 use page::Fault;
 use std::alloc::{AllocError, Global};
 use std::io::Write;
 use wal::{Log, LogStart, RecordView, read_log};
+
+/// The most bytes that the line of a header takes, and more that are kept free.
+const HEADER_ROOM: usize = 112;
+
+/// The most bytes that the line of a torn tail takes, and more that are kept free.
+const TORN_ROOM: usize = 80;
 
 /// Appends the line of a log's header.
 fn put_start(line: &mut Vec<u8>, style: Style, start: LogStart) -> Result<(), AllocError>
@@ -27,48 +34,54 @@ fn put_start(line: &mut Vec<u8>, style: Style, start: LogStart) -> Result<(), Al
         LogStart::Version1 => 1,
         LogStart::Version2 { .. } => 2,
     };
-    let mut text = [0; 112];
-    let at = put_opening(&mut text, style, 0, "log");
-    let at = put_number_field(&mut text, at, style, "version", version);
-    let at = put_number_field(&mut text, at, style, "BaseLSN", start.base());
-    let at = put_text(&mut text, at, closing(style));
-    line.extend_from_slice(&text[..at])
+    let mut buffer = [0; HEADER_ROOM];
+    let at = put_opening(&mut buffer, style, 0, "log");
+    let at = put_number_field(&mut buffer, at, style, "version", version);
+    let at = put_number_field(&mut buffer, at, style, "BaseLSN", start.base());
+    let at = put_text(&mut buffer, at, closing(style));
+    line.extend_from_slice(&buffer[..at])
 }
 
-/// Prints the line of a record where it is asked for; its frame stands at this offset. What `line`
-/// and `text` hold counts for nothing.
+/// Prints the line of a record if it is asked for; its frame stands at this offset. What `room` holds counts
+/// for nothing.
 fn print_record<W: Write>(
     view: &RecordView,
     lsn: u64,
     offset: u64,
-    style: Style,
     choice: &Choice,
-    line: &mut Vec<u8>,
-    text: &mut [u8; RECORD_ROOM],
+    room: &mut LineRoom,
     out: &mut W,
 ) -> Result<(), Stop>
     requires { Fits (shown view.now) }
     ensures printed { OnOk result (Appends (W.contents out.old) (W.contents out.new)
-        (line_if_asked style choice.now offset lsn (shown view.now))) }
+        (line_if_asked room.old.escapes.style choice.now offset lsn (shown view.now))) }
+    ensures style { room.new.escapes.style ≡ room.old.escapes.style }
     ensures err { IfErr result IsNoFault }
 {
     if !choice.asks_for(lsn, view) {
         return Ok(());
     }
-    line.clear();
-    put_record(line, text, style, offset, lsn, view)?;
-    out.write_all(line)?;
+    room.line.clear();
+    put_record(
+        &mut room.line,
+        &mut room.buffer,
+        &room.escapes,
+        offset,
+        lsn,
+        view,
+    )?;
+    out.write_all(&room.line)?;
     Ok(())
 }
 
-/// Prints the lines of a log's records, the first of whose frames stands behind a header of so many
-/// bytes. Answers where the frame behind them would stand.
+/// Prints the lines of a log's records, the first of whose frames stands after a header of so many
+/// bytes. Returns where the frame after them would stand.
 fn print_records<W: Write>(
+    alloc: Global,
     log: &Log,
     header: u64,
     style: Style,
     choice: &Choice,
-    line: &mut Vec<u8>,
     out: &mut W,
 ) -> Result<u64, Stop>
     requires { place_behind header (history log.now) < 2 ^ 64 }
@@ -78,10 +91,14 @@ fn print_records<W: Write>(
     ensures err { IfErr result IsNoFault }
 {
     let mut place = header;
-    let mut text = [0; RECORD_ROOM];
+    let mut room = LineRoom {
+        escapes: Escapes::of(style),
+        buffer: [0; RECORD_ROOM],
+        line: Vec::new(alloc),
+    };
     for lsn in log.base()..log.last() {
         let view = log.after(lsn);
-        print_record(&view, lsn + 1, place, style, choice, line, &mut text, out)?;
+        print_record(&view, lsn + 1, place, choice, &mut room, out)?;
         place += view.frame_bytes();
     }
     Ok(place)
@@ -103,11 +120,11 @@ fn print_torn_tail<W: Write>(
         return Ok(());
     }
     line.clear();
-    let mut text = [0; 80];
-    let at = put_opening(&mut text, style, offset, "torn tail");
-    let at = put_number_field(&mut text, at, style, "bytes", torn);
-    let at = put_text(&mut text, at, closing(style));
-    line.extend_from_slice(&text[..at])?;
+    let mut buffer = [0; TORN_ROOM];
+    let at = put_opening(&mut buffer, style, offset, "torn tail");
+    let at = put_number_field(&mut buffer, at, style, "bytes", torn);
+    let at = put_text(&mut buffer, at, closing(style));
+    line.extend_from_slice(&buffer[..at])?;
     out.write_all(line)?;
     Ok(())
 }
@@ -132,7 +149,7 @@ fn print_log<W: Write>(
     put_start(&mut line, style, start)?;
     out.write_all(&line)?;
     let header = start.header_bytes() as u64;
-    let end = print_records(log, header, style, choice, &mut line, out)?;
+    let end = print_records(alloc, log, header, style, choice, out)?;
     print_torn_tail(torn as u64, end, style, &mut line, out)
 }
 

@@ -7,6 +7,7 @@ ghost use Rattle.dump.specs.Record.{kind_word, plain_fields, cell_fields, short_
 ghost use Rattle.dump.specs.declared.record.TheConstants.{FIELDS_ROOM};
 
 use crate::Style;
+use crate::escape::Escapes;
 use crate::line::{closing, put_image_field, put_number_field, put_opening};
 use crate::tables::{put_dirty, put_transactions};
 use crate::value::IMAGE_ROOM;
@@ -20,6 +21,17 @@ const FIELDS_ROOM: usize = 2 * (IMAGE_ROOM + 4) + 133;
 /// The most bytes of a line before the tables of a record: 56 for the opening, 27 for the LSN, and the
 /// fields.
 pub const RECORD_ROOM: usize = FIELDS_ROOM + 83;
+
+/// What the lines of records are put together in.
+#[derive(Drop)]
+pub struct LineRoom {
+    /// What each byte of a value is between quotes.
+    pub escapes: Escapes,
+    /// Where a line is put together up to the tables of its record.
+    pub buffer: [u8; RECORD_ROOM],
+    /// The whole line.
+    pub line: Vec<u8>,
+}
 
 /// What a record is, in the words of the formats.
 fn kind_word(view: &RecordView) -> &'static str
@@ -40,34 +52,35 @@ fn kind_word(view: &RecordView) -> &'static str
 
 /// Writes whose record it is, and where its transaction's chain goes on.
 #[inline(always)]
-fn put_plain(line: &mut [u8], at: usize, style: Style, tx: u32, prev: u64) -> usize
-    requires { at + 66 ≤ length line.old }
+fn put_plain(buffer: &mut [u8], at: usize, style: Style, tx: u32, prev: u64) -> usize
+    requires { at + 66 ≤ length buffer.old }
     ensures end { result ≤ at + 66 }
-    ensures text { take result line.new ≡ take at line.old ++ plain_fields style tx prev }
+    ensures text { take result buffer.new ≡ take at buffer.old ++ plain_fields style tx prev }
 {
-    let at = put_number_field(line, at, style, "transaction", tx as u64);
-    put_number_field(line, at, style, "PrevLSN", prev)
+    let at = put_number_field(buffer, at, style, "transaction", tx as u64);
+    put_number_field(buffer, at, style, "PrevLSN", prev)
 }
 
 /// Writes the cell that a record changes.
 #[inline(always)]
-fn put_cell(line: &mut [u8], at: usize, style: Style, page: u32, slot: u8) -> usize
-    requires { at + 56 ≤ length line.old }
+fn put_cell(buffer: &mut [u8], at: usize, style: Style, page: u32, slot: u8) -> usize
+    requires { at + 56 ≤ length buffer.old }
     ensures end { result ≤ at + 56 }
-    ensures text { take result line.new ≡ take at line.old ++ cell_fields style page slot }
+    ensures text { take result buffer.new ≡ take at buffer.old ++ cell_fields style page slot }
 {
-    let at = put_number_field(line, at, style, "page", page as u64);
-    put_number_field(line, at, style, "slot", slot as u64)
+    let at = put_number_field(buffer, at, style, "page", page as u64);
+    put_number_field(buffer, at, style, "slot", slot as u64)
 }
 
 /// Writes the fields of a record after its LSN, without the tables of a checkpoint end.
-fn put_short_fields(line: &mut [u8], at: usize, style: Style, view: &RecordView) -> usize
+fn put_short_fields(buffer: &mut [u8], at: usize, escapes: &Escapes, view: &RecordView) -> usize
     requires fits { Fits (shown view.now) }
-    requires room { at + FIELDS_ROOM ≤ length line.old }
+    requires room { at + FIELDS_ROOM ≤ length buffer.old }
     ensures end { result ≤ at + FIELDS_ROOM }
-    ensures text { take result line.new
-        ≡ take at line.old ++ short_fields style (shown view.now) }
+    ensures text { take result buffer.new
+        ≡ take at buffer.old ++ short_fields escapes.now.style (shown view.now) }
 {
+    let style = escapes.style;
     match view {
         RecordView::Update {
             tx,
@@ -77,10 +90,10 @@ fn put_short_fields(line: &mut [u8], at: usize, style: Style, view: &RecordView)
             before,
             after,
         } => {
-            let at = put_plain(line, at, style, *tx, *prev);
-            let at = put_cell(line, at, style, *page, *slot);
-            let at = put_image_field(line, at, style, "before", *before);
-            put_image_field(line, at, style, "after", *after)
+            let at = put_plain(buffer, at, style, *tx, *prev);
+            let at = put_cell(buffer, at, style, *page, *slot);
+            let at = put_image_field(buffer, at, escapes, "before", *before);
+            put_image_field(buffer, at, escapes, "after", *after)
         }
         RecordView::Compensation {
             tx,
@@ -90,18 +103,18 @@ fn put_short_fields(line: &mut [u8], at: usize, style: Style, view: &RecordView)
             undo_next,
             image,
         } => {
-            let at = put_plain(line, at, style, *tx, *prev);
-            let at = put_cell(line, at, style, *page, *slot);
-            let at = put_number_field(line, at, style, "UndoNxtLSN", *undo_next);
-            put_image_field(line, at, style, "image", *image)
+            let at = put_plain(buffer, at, style, *tx, *prev);
+            let at = put_cell(buffer, at, style, *page, *slot);
+            let at = put_number_field(buffer, at, style, "UndoNxtLSN", *undo_next);
+            put_image_field(buffer, at, escapes, "image", *image)
         }
-        RecordView::Commit { tx, prev } => put_plain(line, at, style, *tx, *prev),
-        RecordView::Abort { tx, prev } => put_plain(line, at, style, *tx, *prev),
-        RecordView::End { tx, prev } => put_plain(line, at, style, *tx, *prev),
-        RecordView::Prepare { tx, prev } => put_plain(line, at, style, *tx, *prev),
+        RecordView::Commit { tx, prev } => put_plain(buffer, at, style, *tx, *prev),
+        RecordView::Abort { tx, prev } => put_plain(buffer, at, style, *tx, *prev),
+        RecordView::End { tx, prev } => put_plain(buffer, at, style, *tx, *prev),
+        RecordView::Prepare { tx, prev } => put_plain(buffer, at, style, *tx, *prev),
         RecordView::CheckpointBegin => at,
         RecordView::CheckpointEnd { begin, .. } => {
-            put_number_field(line, at, style, "BeginLSN", *begin)
+            put_number_field(buffer, at, style, "BeginLSN", *begin)
         }
     }
 }
@@ -125,24 +138,25 @@ fn put_tables(line: &mut Vec<u8>, style: Style, view: &RecordView) -> Result<(),
     }
 }
 
-/// Appends the line of a record, whose frame stands at this offset in bytes. What `text` holds counts
-/// for nothing.
+/// Appends the line of a record, whose frame stands at this offset in bytes. What `buffer` holds counts for
+/// nothing.
 pub fn put_record(
     line: &mut Vec<u8>,
-    text: &mut [u8; RECORD_ROOM],
-    style: Style,
+    buffer: &mut [u8; RECORD_ROOM],
+    escapes: &Escapes,
     offset: u64,
     lsn: u64,
     view: &RecordView,
 ) -> Result<(), AllocError>
     requires { Fits (shown view.now) }
     ensures { OnOk result (line.new.items
-        ≡ line.old.items ++ record_line style offset lsn (shown view.now)) }
+        ≡ line.old.items ++ record_line escapes.now.style offset lsn (shown view.now)) }
 {
-    let at = put_opening(text, style, offset, kind_word(view));
-    let at = put_number_field(text, at, style, "LSN", lsn);
-    let at = put_short_fields(text, at, style, view);
-    line.extend_from_slice(&text[..at])?;
+    let style = escapes.style;
+    let at = put_opening(buffer, style, offset, kind_word(view));
+    let at = put_number_field(buffer, at, style, "LSN", lsn);
+    let at = put_short_fields(buffer, at, escapes, view);
+    line.extend_from_slice(&buffer[..at])?;
     put_tables(line, style, view)?;
     line.extend_from_slice(closing(style))?;
     Ok(())

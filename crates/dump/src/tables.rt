@@ -12,25 +12,29 @@ use wal::{DirtyTable, Entry, State, TransactionTable};
 /// The most bytes that an entry takes. It is that of a transaction, as JSON.
 const ENTRY_ROOM: usize = 120;
 
+/// The most bytes that stand before the first entry of a table. They are those of the longer name, as JSON, and
+/// seven more are kept free.
+const TABLE_NAME_ROOM: usize = 24;
+
 /// Writes the beginning of an entry: the number that it is found by.
 #[inline(always)]
-fn put_entry_opening(line: &mut [u8], style: Style, name: &str, number: u64) -> usize
-    requires { length name.now + 24 ≤ length line.old }
+fn put_entry_opening(buffer: &mut [u8], style: Style, name: &str, number: u64) -> usize
+    requires { length name.now + 24 ≤ length buffer.old }
     ensures end { result ≤ length name.now + 24 }
-    ensures text { take result line.new ≡ entry_opening style name.now number }
+    ensures text { take result buffer.new ≡ entry_opening style name.now number }
 {
     let at = match style {
         Style::Text => {
-            let at = put_text(line, 0, name.as_bytes());
-            put_text(line, at, b" ")
+            let at = put_text(buffer, 0, name.as_bytes());
+            put_text(buffer, at, b" ")
         }
         Style::Json => {
-            let at = put_text(line, 0, b"{\"");
-            let at = put_text(line, at, name.as_bytes());
-            put_text(line, at, b"\":")
+            let at = put_text(buffer, 0, b"{\"");
+            let at = put_text(buffer, at, name.as_bytes());
+            put_text(buffer, at, b"\":")
         }
     };
-    put_number(line, at, number)
+    put_number(buffer, at, number)
 }
 
 /// The end of an entry.
@@ -75,13 +79,13 @@ fn put_transaction(line: &mut Vec<u8>, style: Style, entry: (u32, Entry)) -> Res
         ≡ line.old.items ++ transaction_entry style (entry_of entry)) }
 {
     let (tx, entry) = entry;
-    let mut text = [0; ENTRY_ROOM];
-    let at = put_entry_opening(&mut text, style, "transaction", tx as u64);
-    let at = put_word_field(&mut text, at, style, "state", state_word(entry.state));
-    let at = put_number_field(&mut text, at, style, "LastLSN", entry.last);
-    let at = put_number_field(&mut text, at, style, "UndoNxtLSN", entry.undo_next);
-    let at = put_text(&mut text, at, entry_closing(style));
-    line.extend_from_slice(&text[..at])
+    let mut buffer = [0; ENTRY_ROOM];
+    let at = put_entry_opening(&mut buffer, style, "transaction", tx as u64);
+    let at = put_word_field(&mut buffer, at, style, "state", state_word(entry.state));
+    let at = put_number_field(&mut buffer, at, style, "LastLSN", entry.last);
+    let at = put_number_field(&mut buffer, at, style, "UndoNxtLSN", entry.undo_next);
+    let at = put_text(&mut buffer, at, entry_closing(style));
+    line.extend_from_slice(&buffer[..at])
 }
 
 /// Appends an entry of a dirty page table: a page and its RecLSN.
@@ -89,11 +93,11 @@ fn put_dirty_page(line: &mut Vec<u8>, style: Style, entry: (u32, u64)) -> Result
     ensures { OnOk result (line.new.items ≡ line.old.items ++ dirty_entry style entry) }
 {
     let (page, rec_lsn) = entry;
-    let mut text = [0; ENTRY_ROOM];
-    let at = put_entry_opening(&mut text, style, "page", page as u64);
-    let at = put_number_field(&mut text, at, style, "RecLSN", rec_lsn);
-    let at = put_text(&mut text, at, entry_closing(style));
-    line.extend_from_slice(&text[..at])
+    let mut buffer = [0; ENTRY_ROOM];
+    let at = put_entry_opening(&mut buffer, style, "page", page as u64);
+    let at = put_number_field(&mut buffer, at, style, "RecLSN", rec_lsn);
+    let at = put_text(&mut buffer, at, entry_closing(style));
+    line.extend_from_slice(&buffer[..at])
 }
 
 /// Appends a transaction table as a field.
@@ -105,10 +109,10 @@ pub fn put_transactions(
     ensures { OnOk result (line.new.items ≡ line.old.items
         ++ table_field style (codes "transactions") transaction_entry table.now) }
 {
-    let mut text = [0; 24];
-    let at = put_name(&mut text, 0, style, "transactions");
-    let at = put_text(&mut text, at, b"[");
-    line.extend_from_slice(&text[..at])?;
+    let mut buffer = [0; TABLE_NAME_ROOM];
+    let at = put_name(&mut buffer, 0, style, "transactions");
+    let at = put_text(&mut buffer, at, b"[");
+    line.extend_from_slice(&buffer[..at])?;
     for place in 0..table.len() {
         put_between(line, style, place)?;
         put_transaction(line, style, table.entry(place))?;
@@ -122,10 +126,10 @@ pub fn put_dirty(line: &mut Vec<u8>, style: Style, table: &DirtyTable) -> Result
     ensures { OnOk result (line.new.items
         ≡ line.old.items ++ table_field style (codes "dirty") dirty_entry table.now) }
 {
-    let mut text = [0; 24];
-    let at = put_name(&mut text, 0, style, "dirty");
-    let at = put_text(&mut text, at, b"[");
-    line.extend_from_slice(&text[..at])?;
+    let mut buffer = [0; TABLE_NAME_ROOM];
+    let at = put_name(&mut buffer, 0, style, "dirty");
+    let at = put_text(&mut buffer, at, b"[");
+    line.extend_from_slice(&buffer[..at])?;
     for place in 0..table.len() {
         put_between(line, style, place)?;
         put_dirty_page(line, style, table.entry(place))?;

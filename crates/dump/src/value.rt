@@ -1,6 +1,6 @@
 //! What a slot holds, as people and programs read it.
 
-ghost use Rattle.std.specs.Prelude.{◌≡◌, ◌+◌, ◌*◌, ◌≤◌, ◌∷◌, [], ◌++◌, IfSome, IsTrue, EachIndex, slice_index, length, option_map, take, if◌then◌else◌, ◌==◌, ◌||◌, nat_lt};
+ghost use Rattle.std.specs.Prelude.{◌≡◌, ◌+◌, ◌*◌, ◌≤◌, ◌<◌, ℕ, ◌++◌, IfSome, slice_index, length, option_map, take};
 ghost use Rattle.std.specs.List.{flat_map};
 ghost use Rattle.hex.specs.Hex.{encode_lower};
 ghost use Rattle.page.specs.declared.sizes.TheConstants.{VALUE_BYTES};
@@ -8,6 +8,7 @@ ghost use Rattle.dump.specs.Values.{IsPlain, escaped, value, image};
 ghost use Rattle.dump.specs.declared.value.TheConstants.{IMAGE_ROOM};
 
 use crate::Style;
+use crate::escape::{ESCAPE_ROOM, Escapes, is_plain};
 use crate::line::put_text;
 use page::VALUE_BYTES;
 
@@ -15,146 +16,105 @@ use page::VALUE_BYTES;
 /// byte up to six as text and two digits, and twenty more.
 pub const IMAGE_ROOM: usize = 8 * VALUE_BYTES + 20;
 
-/// The hexadecimal digits.
-const DIGITS: &[u8; 16] = b"0123456789abcdef";
-
 /// Writes two hexadecimal digits for each byte.
 #[inline(always)]
-fn put_hex(line: &mut [u8], at: usize, bytes: &[u8]) -> usize
-    requires { at + 2 * length bytes.now ≤ length line.old }
+fn put_hex(buffer: &mut [u8], at: usize, bytes: &[u8]) -> usize
+    requires { at + 2 * length bytes.now ≤ length buffer.old }
     ensures end { result ≡ at + 2 * length bytes.now }
-    ensures text { take result line.new ≡ take at line.old ++ encode_lower bytes.now }
+    ensures text { take result buffer.new ≡ take at buffer.old ++ encode_lower bytes.now }
 {
     let end = at + 2 * bytes.len();
-    match hex::encode_to_slice(bytes, &mut line[at..end]) {
+    match hex::encode_to_slice(bytes, &mut buffer[at..end]) {
         Ok(()) => end,
         Err(_) => unreachable!(),
     }
 }
 
-/// Whether a byte stands after a backslash between quotes.
+/// How many bytes in front stand for themselves between quotes.
 #[inline(always)]
-fn is_quote_or_backslash(byte: u8) -> bool
-    ensures { result ≡ (byte == 34 || byte == 92) }
+fn plain_in_front(bytes: &[u8]) -> usize
+    ensures end { result ≤ length bytes.now }
+    ensures plain { (k : ℕ) → k < result → IsPlain (slice_index bytes.now k) }
 {
-    byte == b'"' || byte == b'\\'
-}
-
-/// Whether a byte is not printable.
-#[inline(always)]
-fn is_unprintable(byte: u8) -> bool
-    ensures { result ≡ (nat_lt byte 32 || nat_lt 126 byte) }
-{
-    byte < b' ' || b'~' < byte
-}
-
-/// One of two values.
-#[inline(always)]
-fn either<T: Copy>(test: bool, yes: T, no: T) -> T
-    ensures { result ≡ (if test then yes else no) }
-{
-    if test { yes } else { no }
-}
-
-/// Writes a byte that stands between quotes. All of the bytes that it may take are written, whatever
-/// it is, so that no branch waits for the byte; those after its end count for nothing.
-#[inline(always)]
-fn put_escaped(line: &mut [u8], at: usize, style: Style, byte: u8) -> usize
-    requires { at + 6 ≤ length line.old }
-    ensures end { result ≤ at + 6 }
-    ensures text { take result line.new ≡ take at line.old ++ escaped style byte }
-{
-    let (quote, other) = (is_quote_or_backslash(byte), is_unprintable(byte));
-    let high = DIGITS[byte as usize / 16];
-    let low = DIGITS[byte as usize % 16];
-    let plain = either(other, b'\\', byte);
-    let first = either(quote, b'\\', plain);
-    line[at] = first;
-    match style {
-        Style::Text => {
-            line[at + 1] = either(quote, byte, b'x');
-            line[at + 2] = high;
-            line[at + 3] = low;
-            at + either(quote, 2, either(other, 4, 1))
-        }
-        Style::Json => {
-            line[at + 1] = either(quote, byte, b'u');
-            line[at + 2] = b'0';
-            line[at + 3] = b'0';
-            line[at + 4] = high;
-            line[at + 5] = low;
-            at + either(quote, 2, either(other, 6, 1))
+    for (place, byte) in bytes.iter().enumerate() {
+        if !is_plain(*byte) {
+            return place;
         }
     }
+    bytes.len()
 }
 
-/// Whether each byte stands for itself between quotes.
+/// Writes what each byte is between quotes. Of each [`ESCAPE_ROOM`] bytes are written; those that do not count
+/// are then written over by what comes next.
 #[inline(always)]
-fn are_plain(bytes: &[u8]) -> bool
-    ensures { IsTrue result → EachIndex bytes.now (λ k. IsPlain (slice_index bytes.now k)) }
-{
-    bytes.iter().all(|byte| !is_quote_or_backslash(*byte) && !is_unprintable(*byte))
-}
-
-/// Writes what stands between quotes. Bytes that all stand for themselves, as those of most texts, are
-/// copied at once.
-#[inline(always)]
-fn put_each(line: &mut [u8], at: usize, style: Style, bytes: &[u8]) -> usize
-    requires { at + 6 * length bytes.now ≤ length line.old }
+fn put_escapes(buffer: &mut [u8], at: usize, escapes: &Escapes, bytes: &[u8]) -> usize
+    requires { at + 6 * length bytes.now + 2 ≤ length buffer.old }
     ensures end { result ≤ at + 6 * length bytes.now }
-    ensures text { take result line.new
-        ≡ take at line.old ++ flat_map (escaped style) bytes.now }
+    ensures text { take result buffer.new
+        ≡ take at buffer.old ++ flat_map (escaped escapes.now.style) bytes.now }
 {
-    if are_plain(bytes) {
-        let end = at + bytes.len();
-        line[at..end].copy_from_slice(bytes);
-        return end;
-    }
     let mut end = at;
     for byte in bytes {
-        end = put_escaped(line, end, style, *byte);
+        let escape = escapes.get(*byte);
+        buffer[end..end + ESCAPE_ROOM].copy_from_slice(&escape.text);
+        end += escape.length;
     }
     end
 }
 
-/// Writes a value: its bytes as text between quotes, and in hexadecimal.
-pub fn put_value(line: &mut [u8], at: usize, style: Style, bytes: &[u8]) -> usize
-    requires short { length bytes.now ≤ VALUE_BYTES }
-    requires room { at + IMAGE_ROOM ≤ length line.old }
-    ensures end { result ≤ at + IMAGE_ROOM }
-    ensures text { take result line.new ≡ take at line.old ++ value style bytes.now }
+/// Writes what stands between quotes. The bytes in front that stand for themselves, of most texts all, are
+/// copied at once.
+#[inline(always)]
+fn put_each(buffer: &mut [u8], at: usize, escapes: &Escapes, bytes: &[u8]) -> usize
+    requires { at + 6 * length bytes.now + 2 ≤ length buffer.old }
+    ensures end { result ≤ at + 6 * length bytes.now }
+    ensures text { take result buffer.new
+        ≡ take at buffer.old ++ flat_map (escaped escapes.now.style) bytes.now }
 {
-    match style {
+    let (plain, rest) = bytes.split_at(plain_in_front(bytes));
+    let end = at + plain.len();
+    buffer[at..end].copy_from_slice(plain);
+    put_escapes(buffer, end, escapes, rest)
+}
+
+/// Writes a value: its bytes as text between quotes, and in hexadecimal.
+pub fn put_value(buffer: &mut [u8], at: usize, escapes: &Escapes, bytes: &[u8]) -> usize
+    requires short { length bytes.now ≤ VALUE_BYTES }
+    requires room { at + IMAGE_ROOM ≤ length buffer.old }
+    ensures end { result ≤ at + IMAGE_ROOM }
+    ensures text { take result buffer.new ≡ take at buffer.old ++ value escapes.now.style bytes.now }
+{
+    match escapes.style {
         Style::Text => {
-            let at = put_text(line, at, b"\"");
-            let at = put_each(line, at, style, bytes);
-            let at = put_text(line, at, b"\" (");
-            let at = put_hex(line, at, bytes);
-            put_text(line, at, b")")
+            let at = put_text(buffer, at, b"\"");
+            let at = put_each(buffer, at, escapes, bytes);
+            let at = put_text(buffer, at, b"\" (");
+            let at = put_hex(buffer, at, bytes);
+            put_text(buffer, at, b")")
         }
         Style::Json => {
-            let at = put_text(line, at, b"{\"text\":\"");
-            let at = put_each(line, at, style, bytes);
-            let at = put_text(line, at, b"\",\"hex\":\"");
-            let at = put_hex(line, at, bytes);
-            put_text(line, at, b"\"}")
+            let at = put_text(buffer, at, b"{\"text\":\"");
+            let at = put_each(buffer, at, escapes, bytes);
+            let at = put_text(buffer, at, b"\",\"hex\":\"");
+            let at = put_hex(buffer, at, bytes);
+            put_text(buffer, at, b"\"}")
         }
     }
 }
 
 /// Writes what a slot holds.
-pub fn put_image(line: &mut [u8], at: usize, style: Style, held: Option<&[u8]>) -> usize
+pub fn put_image(buffer: &mut [u8], at: usize, escapes: &Escapes, held: Option<&[u8]>) -> usize
     requires fits { IfSome held (λ bytes. length bytes.now ≤ VALUE_BYTES) }
-    requires room { at + IMAGE_ROOM ≤ length line.old }
+    requires room { at + IMAGE_ROOM ≤ length buffer.old }
     ensures end { result ≤ at + IMAGE_ROOM }
-    ensures text { take result line.new ≡ take at line.old
-        ++ image style (option_map (λ bytes. bytes.now) held.entry) }
+    ensures text { take result buffer.new ≡ take at buffer.old
+        ++ image escapes.now.style (option_map (λ bytes. bytes.now) held.entry) }
 {
     match held {
-        None => match style {
-            Style::Text => put_text(line, at, b"absent"),
-            Style::Json => put_text(line, at, b"null"),
+        None => match escapes.style {
+            Style::Text => put_text(buffer, at, b"absent"),
+            Style::Json => put_text(buffer, at, b"null"),
         },
-        Some(bytes) => put_value(line, at, style, bytes),
+        Some(bytes) => put_value(buffer, at, escapes, bytes),
     }
 }

@@ -48,7 +48,7 @@ directed_more slots i place later entries next d k so_far lt room e after fits =
     }
 
 -- a part that is written after what stands, of which the first n bytes count
-written_in_front : (a k n : ℕ) (xs ys front : List ℕ) → take a xs ≡ front → a ≤ length xs → n ≤ length ys → take (a + n) (put_mid a k xs ys) ≡ front ++ take n ys
+pub written_in_front : (a k n : ℕ) (xs ys front : List ℕ) → take a xs ≡ front → a ≤ length xs → n ≤ length ys → take (a + n) (put_mid a k xs ys) ≡ front ++ take n ys
 written_in_front a k n xs ys front e le short =
     let long : length (take a xs) ≡ a = omega (arith, length-take a xs) in
     let rest = drop k (drop a xs) in

@@ -145,8 +145,8 @@ fn slots_at(entries: &[u8], bytes: &[u8]) -> Option<[Option<Value>; SLOTS]>
         let (_, entry) = entries.split_at(4 * i);
         let (_, rest) = bytes.split_at(end);
         let slot = slot_at(entry, rest, (CELLS_AT + end) as u16)?;
-        if let Some(cell) = &slot {
-            end += cell.as_slice().len();
+        if let Some(value) = &slot {
+            end += value.as_slice().len();
         }
         slots[i] = slot;
     }

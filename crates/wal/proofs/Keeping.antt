@@ -21,17 +21,17 @@ keeps_if false old mid more new a e = record { more = a.more; is = e ∙ a.is }
 pub cut_back : (old new : List ℕ) → Keeps old new → take (length old) new ≡ old
 cut_back old new k = ap (take (length old)) k.is ∙ take_at old k.more (length old) refl
 
--- what a frame begins with, and its fields in parts
-pub begin_cell : (old begin plain page slot d e m1 m2 m3 : List ℕ) → m1 ≡ old ++ (begin ++ (plain ++ (page ++ slot))) → m2 ≡ m1 ++ d → m3 ≡ m2 ++ e
-    → m3 ≡ old ++ (begin ++ (plain ++ (page ++ (slot ++ (d ++ e)))))
-begin_cell old begin plain page slot d e m1 m2 m3 p q r = rw (r, q, p) (simp append_assoc)
+-- the head of a frame, and its fields in parts
+pub head_cell : (old head plain page slot d e m1 m2 m3 : List ℕ) → m1 ≡ old ++ (head ++ (plain ++ (page ++ slot))) → m2 ≡ m1 ++ d → m3 ≡ m2 ++ e
+    → m3 ≡ old ++ (head ++ (plain ++ (page ++ (slot ++ (d ++ e)))))
+head_cell old head plain page slot d e m1 m2 m3 p q r = rw (r, q, p) (simp append_assoc)
 
-pub begin_three : (old begin a b c m1 m2 m3 m4 : List ℕ) → m1 ≡ old ++ begin → m2 ≡ m1 ++ a → m3 ≡ m2 ++ b → m4 ≡ m3 ++ c → m4 ≡ old ++ (begin ++ (a ++ (b ++ c)))
-begin_three old begin a b c m1 m2 m3 m4 p q r s = rw (s, r, q, p) (simp append_assoc)
+pub head_three : (old head a b c m1 m2 m3 m4 : List ℕ) → m1 ≡ old ++ head → m2 ≡ m1 ++ a → m3 ≡ m2 ++ b → m4 ≡ m3 ++ c → m4 ≡ old ++ (head ++ (a ++ (b ++ c)))
+head_three old head a b c m1 m2 m3 m4 p q r s = rw (s, r, q, p) (simp append_assoc)
 
--- the parts that a frame begins with
-pub begin_parts : (old length lsn fields new : List ℕ) (kind : ℕ) → new ≡ old ++ ((length ++ (kind ∷ lsn)) ++ fields) → new ≡ old ++ (length ++ (kind ∷ lsn ++ fields))
-begin_parts old length lsn fields new kind p = rw p (simp append_assoc)
+-- the parts of a frame's head
+pub head_parts : (old length lsn fields new : List ℕ) (kind : ℕ) → new ≡ old ++ ((length ++ (kind ∷ lsn)) ++ fields) → new ≡ old ++ (length ++ (kind ∷ lsn ++ fields))
+head_parts old length lsn fields new kind p = rw p (simp append_assoc)
 
 -- four writes in a row
 pub four_apart : (old a b c d m1 m2 m3 m4 : List ℕ) → m1 ≡ old ++ a → m2 ≡ m1 ++ b → m3 ≡ m2 ++ c → m4 ≡ m3 ++ d → m4 ≡ old ++ (a ++ (b ++ (c ++ d)))

@@ -6,7 +6,7 @@ ghost use Rattle.std.specs.Int.{w32, w64, to_be_bytes};
 ghost use Rattle.wal.specs.Records.{CompensationRecord, PlainRecord, UpdateRecord};
 ghost use Rattle.wal.specs.Reading.{update_at, compensation_at, transactions_at, dirties_at, checkpoint_at, fields_at, body_at};
 ghost use Rattle.wal.specs.Spelling.{image, plain, update, compensation, body, frame, checkpoint, table, entry, dirty_page, kind_of, fields, Fits, FitsCheckpoint, FitsTable};
-ghost use Rattle.wal.specs.Head.{begin_text};
+ghost use Rattle.wal.specs.Head.{head_text};
 ghost use Rattle.wal.specs.Content.{content, Keeps, shown};
 ghost use Rattle.page.specs.Image.{FitsSlot};
 
@@ -14,7 +14,7 @@ use crate::field::{
     image_at, plain_at, put_dirties, put_entries, put_image, slot_at, u32_at, u64_at,
 };
 use crate::frame_size::body_len;
-use crate::head::Begin;
+use crate::head::FrameHead;
 use crate::record::Record;
 use crate::sizes::TRANSACTIONS;
 use crate::view;
@@ -152,16 +152,16 @@ pub fn body_view(bytes: &[u8]) -> Option<RecordView>
     }
 }
 
-/// Appends what a frame begins with, and the fields of its record.
+/// Appends the head of a frame, and the fields of its record.
 #[tactic(auto, using(crate::proofs::Keeping::keeps_same, crate::proofs::Keeping::keeps_then, crate::proofs::Keeping::keeps_if))]
 fn put_fields<A: Allocator>(
     out: &mut Vec<u8, A>,
-    begin: Begin,
+    head: FrameHead,
     logged: &Record,
 ) -> Result<(), AllocError>
     requires { Fits (content logged.now) }
     ensures ok { OnOk result (out.new.items
-        ≡ out.old.items ++ (begin_text begin ++ fields (content logged.now))) }
+        ≡ out.old.items ++ (head_text head ++ fields (content logged.now))) }
     ensures kept { Keeps out.old.items out.new.items }
 {
     match logged {
@@ -173,7 +173,7 @@ fn put_fields<A: Allocator>(
             before,
             after,
         } => {
-            out.extend_from_slice(&begin.with_cell(*tx, *prev, *page, *slot))?;
+            out.extend_from_slice(&head.with_cell(*tx, *prev, *page, *slot))?;
             put_image(out, before)?;
             put_image(out, after)?;
         }
@@ -185,22 +185,22 @@ fn put_fields<A: Allocator>(
             undo_next,
             image,
         } => {
-            out.extend_from_slice(&begin.with_cell(*tx, *prev, *page, *slot))?;
+            out.extend_from_slice(&head.with_cell(*tx, *prev, *page, *slot))?;
             out.extend_from_slice(&undo_next.to_be_bytes())?;
             put_image(out, image)?;
         }
-        Record::Commit { tx, prev } => out.extend_from_slice(&begin.with_plain(*tx, *prev))?,
-        Record::Abort { tx, prev } => out.extend_from_slice(&begin.with_plain(*tx, *prev))?,
-        Record::End { tx, prev } => out.extend_from_slice(&begin.with_plain(*tx, *prev))?,
-        Record::Prepare { tx, prev } => out.extend_from_slice(&begin.with_plain(*tx, *prev))?,
-        Record::CheckpointBegin => out.extend_from_slice(&begin.bytes())?,
+        Record::Commit { tx, prev } => out.extend_from_slice(&head.with_plain(*tx, *prev))?,
+        Record::Abort { tx, prev } => out.extend_from_slice(&head.with_plain(*tx, *prev))?,
+        Record::End { tx, prev } => out.extend_from_slice(&head.with_plain(*tx, *prev))?,
+        Record::Prepare { tx, prev } => out.extend_from_slice(&head.with_plain(*tx, *prev))?,
+        Record::CheckpointBegin => out.extend_from_slice(&head.bytes())?,
         Record::CheckpointEnd {
-            begin: begin_lsn,
+            begin,
             transactions,
             dirty,
         } => {
-            out.extend_from_slice(&begin.bytes())?;
-            out.extend_from_slice(&begin_lsn.to_be_bytes())?;
+            out.extend_from_slice(&head.bytes())?;
+            out.extend_from_slice(&begin.to_be_bytes())?;
             put_entries(out, transactions)?;
             put_dirties(out, dirty)?;
         }
@@ -233,13 +233,13 @@ fn put_frame<A: Allocator>(
     ensures ok { OnOk result (out.new.items ≡ out.old.items ++ frame (content logged.now) lsn) }
     ensures kept { Keeps out.old.items out.new.items }
 {
-    let begin = Begin {
+    let head = FrameHead {
         length: body_len(logged),
         kind: kind_of(logged),
         lsn,
     };
-    out.reserve(4 + begin.length as usize)?;
-    put_fields(out, begin, logged)?;
+    out.reserve(4 + head.length as usize)?;
+    put_fields(out, head, logged)?;
     Ok(())
 }
 

@@ -1,14 +1,15 @@
-//! What frames begin with. It is put together here, so that a frame takes few appends.
+//! The head of a frame: what stands before its images and tables. It is put together here, so that a frame
+//! takes few appends.
 
 ghost use Rattle.std.specs.Prelude.{◌≡◌, ◌++◌, ◌∷◌, []};
 ghost use Rattle.std.specs.Int.{w32, w64, to_be_bytes};
-ghost use Rattle.wal.specs.Head.{begin_text};
+ghost use Rattle.wal.specs.Head.{head_text};
 
-use crate::sizes::{CELL_FRAME, PLAIN_FRAME, SMALLEST_FRAME};
+use crate::sizes::{CELL_HEAD, PLAIN_FRAME, SMALLEST_FRAME};
 
 /// What each frame begins with.
 #[derive(Clone, Copy)]
-pub struct Begin {
+pub struct FrameHead {
     /// How many bytes the body has.
     pub length: u32,
     /// The number of the record's kind.
@@ -17,11 +18,11 @@ pub struct Begin {
     pub lsn: u64,
 }
 
-impl Begin {
+impl FrameHead {
     /// Its bytes.
     #[inline(always)]
     pub fn bytes(self) -> [u8; SMALLEST_FRAME]
-        ensures { result ≡ begin_text self }
+        ensures { result ≡ head_text self }
     {
         let mut head = [0; SMALLEST_FRAME];
         head[..4].copy_from_slice(&self.length.to_be_bytes());
@@ -30,27 +31,25 @@ impl Begin {
         head
     }
 
-    /// Its bytes, and a transaction and a PrevLSN.
+    /// Its bytes, and after them a transaction and a PrevLSN.
     #[inline(always)]
     pub fn with_plain(self, tx: u32, prev: u64) -> [u8; PLAIN_FRAME]
-        ensures { result ≡ begin_text self ++ (to_be_bytes w32 tx ++ to_be_bytes w64 prev) }
+        ensures { result ≡ head_text self ++ (to_be_bytes w32 tx ++ to_be_bytes w64 prev) }
     {
         let mut head = [0; PLAIN_FRAME];
-        head[..4].copy_from_slice(&self.length.to_be_bytes());
-        head[4] = self.kind;
-        head[5..SMALLEST_FRAME].copy_from_slice(&self.lsn.to_be_bytes());
+        head[..SMALLEST_FRAME].copy_from_slice(&self.bytes());
         head[SMALLEST_FRAME..SMALLEST_FRAME + 4].copy_from_slice(&tx.to_be_bytes());
         head[SMALLEST_FRAME + 4..].copy_from_slice(&prev.to_be_bytes());
         head
     }
 
-    /// The same, and a page and a slot.
+    /// The same, and after them a page and a slot.
     #[inline(always)]
-    pub fn with_cell(self, tx: u32, prev: u64, page: u32, slot: u8) -> [u8; CELL_FRAME]
-        ensures { result ≡ begin_text self ++ ((to_be_bytes w32 tx ++ to_be_bytes w64 prev)
+    pub fn with_cell(self, tx: u32, prev: u64, page: u32, slot: u8) -> [u8; CELL_HEAD]
+        ensures { result ≡ head_text self ++ ((to_be_bytes w32 tx ++ to_be_bytes w64 prev)
             ++ (to_be_bytes w32 page ++ (slot ∷ []))) }
     {
-        let mut head = [0; CELL_FRAME];
+        let mut head = [0; CELL_HEAD];
         head[..PLAIN_FRAME].copy_from_slice(&self.with_plain(tx, prev));
         head[PLAIN_FRAME..PLAIN_FRAME + 4].copy_from_slice(&page.to_be_bytes());
         head[PLAIN_FRAME + 4] = slot;

@@ -40,8 +40,9 @@ pub const PLAIN_BODY: usize = SMALLEST_BODY + 4 + LSN_BYTES;
 /// How many bytes the frame of a commit, an abort, an end or a prepare takes.
 pub const PLAIN_FRAME: usize = 4 + PLAIN_BODY;
 
-/// How many bytes the frame of an update or a CLR takes up to its slot, with it.
-pub const CELL_FRAME: usize = PLAIN_FRAME + CELL_BYTES;
+/// How many bytes of the frame of an update or a CLR stand before its images and UndoNxtLSN: the frame's
+/// head, the transaction, the PrevLSN, the page and the slot.
+pub const CELL_HEAD: usize = PLAIN_FRAME + CELL_BYTES;
 
 /// How many bytes the body of a checkpoint end takes without its entries: kind, LSN, the LSN of its
 /// begin, and the count of each table.

@@ -14,4 +14,4 @@ returns-clause-end c = omega (arith, at_most c.args.number (omega arith))
 
 pub returns-clause-text : goal.returns-clause-text
 returns-clause-text c =
-    written_before c.args.line.now c.write_digits.new.buf (decimal c.args.number) _ c.args.at c.write_digits.result _ (omega arith) (omega arith) c.write_digits.ensures.before c.write_digits.ensures.written
+    written_before c.args.buffer.now c.write_digits.new.buf (decimal c.args.number) _ c.args.at c.write_digits.result _ (omega arith) (omega arith) c.write_digits.ensures.before c.write_digits.ensures.written

@@ -13,6 +13,7 @@ loop-lsn-init g c =
     let none = first_at_base (history c.args.log.now) c.base-lsn.result c.base-lsn.ensures.is in
     record {
       printed = subst (λ log. Appends (g.W.Write.contents c.args.out.now) (g.W.Write.contents c.args.out.now) (record_lines c.args.style c.args.choice.now c.args.header log)) (sym none) (Appends-nil (g.W.Write.contents c.args.out.now));
+      style = c.of.ensures;
       at = ap (place_behind c.args.header) (sym none);
     }
 
@@ -34,13 +35,15 @@ loop-lsn-preserved g c =
     let own : lsn + 1 ≡ suc (last_lsn before) = omega (arith, size) in
     let lines = record_lines c.args.style c.args.choice.now c.args.header in
     let line = line_if_asked c.args.style c.args.choice.now c.loop-lsn.place (lsn + 1) r in
-    let both = Appends-trans _ _ _ (lines before) line c.loop-lsn.invariant.printed c.in_ok-print_record.ensures.printed in
+    let printed = subst (λ style. Appends (g.W.Write.contents c.loop-lsn.out) (g.W.Write.contents c.print_record.new.out) (line_if_asked style c.args.choice.now c.loop-lsn.place (lsn + 1) r)) c.loop-lsn.invariant.style c.in_ok-print_record.ensures.printed in
+    let both = Appends-trans _ _ _ (lines before) line c.loop-lsn.invariant.printed printed in
     let is : lines before ++ line ≡ lines (first (lsn + 1) log) =
     ap (λ place. lines before ++ line_if_asked c.args.style c.args.choice.now place (lsn + 1) r) c.loop-lsn.invariant.at
     ∙ ap (λ n. lines before ++ line_if_asked c.args.style c.args.choice.now (place_behind c.args.header before) n r) own
     ∙ ap lines (sym c.after-view.ensures.next) in
     record {
       printed = subst (Appends (g.W.Write.contents c.args.out.now) (g.W.Write.contents c.print_record.new.out)) is both;
+      style = c.in_ok-print_record.ensures.style ∙ c.loop-lsn.invariant.style;
       at = omega (arith, c.loop-lsn.invariant.at, c.frame_bytes-place.ensures (suc (last_lsn before)), ap (place_behind c.args.header) c.after-view.ensures.next);
     }
 

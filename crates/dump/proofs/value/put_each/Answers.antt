@@ -1,10 +1,20 @@
-use Rattle.std.proofs.Common.{◌+◌, ◌-◌, ◌∙◌, length, arith, ap, refl, sym}
+use Rattle.std.proofs.Common.{◌+◌, ◌-◌, ◌++◌, ◌∙◌, length, take, drop, arith, ap, ap₂, sym, append_assoc}
 use Rattle.std.proofs.lemmas.Slice.{take-put_mid}
-use Rattle.dump.proofs.Texts.{plain_stays}
+use Rattle.std.specs.List.{flat_map}
+use Rattle.dump.specs.Values.{escaped}
+use Rattle.dump.proofs.Texts.{plain_stay}
 use Rattle.dump.proofs.value.put_each.Goals as goal
 
-pub returns-then-are_plain-clause-text : goal.returns-then-are_plain-clause-text
-returns-then-are_plain-clause-text c =
+pub returns-clause-text : goal.returns-clause-text
+returns-clause-text c =
+    let old = c.args.buffer.now in
+    let at = c.args.at in
     let bytes = c.args.bytes.now in
-    let copied = c.copy_from_slice.ensures.after ∙ sym (plain_stays c.args.style bytes (c.if-are_plain.ensures refl)) in
-    rw (sym copied) (take-put_mid c.args.at (c.args.at + length bytes - c.args.at) c.args.line.now c.copy_from_slice.new.self (c.args.at + length bytes) (omega (arith, ap length c.copy_from_slice.ensures.after)) (omega arith))
+    let count = c.plain_in_front.result in
+    let each = flat_map (escaped c.args.escapes.now.style) in
+    let copied = c.copy_from_slice.ensures.after ∙ c.split_at.ensures.front in
+    let end = at + length c.split_at.result.0.now in
+    let front = take-put_mid at (end - at) old c.copy_from_slice.new.self end (omega (arith, ap length c.copy_from_slice.ensures.after)) (omega arith) in
+    c.put_escapes.ensures.text ∙ ap₂ (λ x y. x ++ each y) (front ∙ ap (λ x. take at old ++ x) copied) c.split_at.ensures.back
+    ∙ append_assoc (take at old) (take count bytes) (each (drop count bytes))
+    ∙ ap (λ x. take at old ++ x) (sym (plain_stay c.args.escapes.now.style bytes count c.plain_in_front.ensures.plain))

@@ -2,18 +2,18 @@ use Rattle.std.proofs.Common.{ℕ, List, [], ◌∷◌, ◌++◌, map, ap, ◌�
 use Rattle.std.specs.Int.{w32, w64, to_be_bytes}
 use Rattle.wal.specs.Spelling.{image, entry, dirty_page, table}
 use Rattle.wal.specs.Content.{entry_of}
-use Rattle.wal.specs.Head.{begin_text}
-use Rattle.wal.proofs.Keeping.{begin_cell, begin_three}
+use Rattle.wal.specs.Head.{head_text}
+use Rattle.wal.proofs.Keeping.{head_cell, head_three}
 use Rattle.wal.proofs.frame.put_fields.Goals as goal
 
 pub returns-in_ok-put_image-in-Update-2-clause-ok : goal.returns-in_ok-put_image-in-Update-2-clause-ok
 returns-in_ok-put_image-in-Update-2-clause-ok g c =
-    rw c.in-Update.is (begin_cell c.args.out.now.items (begin_text c.args.begin) (to_be_bytes w32 c.in-Update.tx ++ to_be_bytes w64 c.in-Update.prev) (to_be_bytes w32 c.in-Update.page) (c.in-Update.slot ∷ []) (image c.in-Update.before) (image c.in-Update.after)
+    rw c.in-Update.is (head_cell c.args.out.now.items (head_text c.args.head) (to_be_bytes w32 c.in-Update.tx ++ to_be_bytes w64 c.in-Update.prev) (to_be_bytes w32 c.in-Update.page) (c.in-Update.slot ∷ []) (image c.in-Update.before) (image c.in-Update.after)
     _ _ _ (c.in_ok-extend_from_slice-in-Update.ensures.items ∙ ap (λ (x : List ℕ). c.args.out.now.items ++ x) c.with_cell.ensures) c.in_ok-put_image-in-Update.ensures.ok c.in_ok-put_image-in-Update-2.ensures.ok)
 
 pub returns-in_ok-put_image-in-Compensation-clause-ok : goal.returns-in_ok-put_image-in-Compensation-clause-ok
 returns-in_ok-put_image-in-Compensation-clause-ok g c =
-    rw c.in-Compensation.is (begin_cell c.args.out.now.items (begin_text c.args.begin) (to_be_bytes w32 c.in-Compensation.tx ++ to_be_bytes w64 c.in-Compensation.prev) (to_be_bytes w32 c.in-Compensation.page) (c.in-Compensation.slot ∷ []) (to_be_bytes w64 c.in-Compensation.undo_next) (image c.in-Compensation.image)
+    rw c.in-Compensation.is (head_cell c.args.out.now.items (head_text c.args.head) (to_be_bytes w32 c.in-Compensation.tx ++ to_be_bytes w64 c.in-Compensation.prev) (to_be_bytes w32 c.in-Compensation.page) (c.in-Compensation.slot ∷ []) (to_be_bytes w64 c.in-Compensation.undo_next) (image c.in-Compensation.image)
     _ _ _ (c.in_ok-extend_from_slice-in-Compensation.ensures.items ∙ ap (λ (x : List ℕ). c.args.out.now.items ++ x) c.with_cell-in-Compensation.ensures)
     (c.in_ok-extend_from_slice-in-Compensation-2.ensures.items ∙ ap (λ (x : List ℕ). c.extend_from_slice-in-Compensation.new.self.items ++ x) c.to_be_bytes.ensures) c.in_ok-put_image-in-Compensation.ensures.ok)
 
@@ -23,7 +23,7 @@ returns-in_ok-put_dirties-in-CheckpointEnd-clause-ok g c =
     let first = c.extend_from_slice-in-CheckpointEnd.new.self.items in
     let second = c.extend_from_slice-in-CheckpointEnd-2.new.self.items in
     let third = c.put_entries.new.out.items in
-    rw c.in-CheckpointEnd.is (begin_three old (begin_text c.args.begin) (to_be_bytes w64 c.in-CheckpointEnd.begin_lsn) (table entry (map entry_of c.in-CheckpointEnd.transactions.items)) (table dirty_page c.in-CheckpointEnd.dirty.items)
+    rw c.in-CheckpointEnd.is (head_three old (head_text c.args.head) (to_be_bytes w64 c.in-CheckpointEnd.begin) (table entry (map entry_of c.in-CheckpointEnd.transactions.items)) (table dirty_page c.in-CheckpointEnd.dirty.items)
     first second third c.put_dirties.new.out.items
     (c.in_ok-extend_from_slice-in-CheckpointEnd.ensures.items ∙ ap (λ (x : List ℕ). old ++ x) c.bytes-in-CheckpointEnd.ensures)
     (c.in_ok-extend_from_slice-in-CheckpointEnd-2.ensures.items ∙ ap (λ (x : List ℕ). first ++ x) c.to_be_bytes-in-CheckpointEnd.ensures)
