@@ -1,6 +1,6 @@
 //! Recovery in memory: from a log and a store to the bytes of a new log and the new store.
 
-ghost use Rattle.std.specs.Prelude.{◌≡◌, ◌≤◌, ◌<◌, ◌+◌, ◌*◌, ◌^◌, ℕ, List, length, IfOk, OnOk, IfErr, MatchResult, IsOkUnless};
+ghost use Rattle.std.specs.Prelude.{◌≡◌, ◌≤◌, ◌<◌, ◌+◌, ◌*◌, ◌^◌, ℕ, List, length, min, IfOk, OnOk, IfErr, MatchResult, IsOkUnless};
 ghost use Rattle.page.specs.declared.fault.Fault.{Fault};
 ghost use Rattle.page.specs.declared.fault.Fault.TheVariants.{NoResource};
 ghost use Rattle.wal.specs.Records.{history, last_lsn};
@@ -20,11 +20,25 @@ use redo::{Gate, Parting};
 use restart::{BriefOutcome, Options, restart_in_place};
 use std::alloc::Global;
 use std::thread::Threads;
-use undo::{Appended, record_of};
+use undo::{Appended, frame_bytes_of, record_of};
 use wal::{Log, write_frame};
 
-/// The frames of the records that are appended to a log. One record at a time is made of what is
-/// told of it.
+/// How many bytes the frames take of the records that are appended to a log; 2^64 - 1 if they take more.
+fn tail_bytes(log: &Log, appended: &[Appended]) -> u64
+    requires told { HaveUpdates log.now appended.now }
+    requires writable { AreFit log.now appended.now }
+    ensures { (lsn : ℕ) → result
+        ≡ min u64.MAX (length (spellings lsn (records_of (history log.now) appended.now))) }
+{
+    let mut bytes: u64 = 0;
+    for entry in appended {
+        bytes = bytes.saturating_add(frame_bytes_of(log, *entry));
+    }
+    bytes
+}
+
+/// The frames of the records that are appended to a log. Room for all of them is made at once, and one record
+/// at a time is made of what is told of it.
 fn frames_of(alloc: Global, log: &Log, appended: &[Appended]) -> Result<Vec<u8>, Fault>
     requires told { HaveUpdates log.now appended.now }
     requires writable { AreFit log.now appended.now }
@@ -34,7 +48,7 @@ fn frames_of(alloc: Global, log: &Log, appended: &[Appended]) -> Result<Vec<u8>,
     ensures room { OnOk result (last_lsn (history log.now) + length appended.now < 2 ^ 64) }
     ensures err { IsOkUnless result NoResource }
 {
-    let mut frames = Vec::new(alloc);
+    let mut frames = Vec::with_capacity(alloc, tail_bytes(log, appended) as usize)?;
     let mut lsn = log.next_lsn();
     for entry in appended {
         let record = record_of(log, *entry);

@@ -1,9 +1,10 @@
 //! What undo appends, told in brief: a CLR by the LSN of the update that it compensates.
 
-ghost use Rattle.std.specs.Prelude.{◌≡◌, map, IfOk, IsOkUnless};
+ghost use Rattle.std.specs.Prelude.{◌≡◌, ℕ, length, map, IfOk, IsOkUnless};
 ghost use Rattle.page.specs.declared.fault.Fault.TheVariants.{NoResource};
 ghost use Rattle.wal.specs.Records.{history, record_at};
-ghost use Rattle.wal.specs.Content.{content};
+ghost use Rattle.wal.specs.Content.{content, shown};
+ghost use Rattle.wal.specs.Spelling.{Fits, frame};
 ghost use Rattle.undo.specs.Appended.{IsUpdate, HasUpdate, HaveUpdates, clr_of, record_of, records_of};
 
 use page::Fault;
@@ -46,6 +47,48 @@ fn clr_of(log: &Log, update_lsn: u64, last: u64) -> Record
         slot,
         undo_next: prev,
         image: value_of(before),
+    }
+}
+
+/// The same CLR, its image lent from the log.
+#[inline(always)]
+fn clr_view<'a>(log: &Log<'a>, update_lsn: u64, last: u64) -> RecordView<'a>
+    requires { IsUpdate (record_at (history log.now) update_lsn) }
+    ensures { shown result ≡ clr_of last (record_at (history log.now) update_lsn) }
+{
+    let Some(
+        RecordView::Update {
+            tx,
+            prev: undo_next,
+            page,
+            slot,
+            before: image,
+            ..
+        },
+    ) = log.get(update_lsn)
+    else {
+        unreachable!()
+    };
+    RecordView::Compensation {
+        tx,
+        prev: last,
+        page,
+        slot,
+        undo_next,
+        image,
+    }
+}
+
+/// How many bytes the frame takes of the record that is told.
+#[inline]
+pub fn frame_bytes_of(log: &Log, appended: Appended) -> u64
+    requires told { HasUpdate log.now appended }
+    requires writable { Fits (record_of (history log.now) appended) }
+    ensures { (lsn : ℕ) → result ≡ length (frame (record_of (history log.now) appended) lsn) }
+{
+    match appended {
+        Appended::Compensation { update, prev } => clr_view(log, update, prev).frame_bytes(),
+        Appended::End { tx, prev } => RecordView::End { tx, prev }.frame_bytes(),
     }
 }
 

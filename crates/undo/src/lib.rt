@@ -9,6 +9,6 @@ mod rollback;
 mod turns;
 mod walk;
 
-pub use appended::{Appended, record_of, records_of};
+pub use appended::{Appended, frame_bytes_of, record_of, records_of};
 pub use laws::{no_fault_of_undo, one_undo_fault};
 pub use rollback::{undo, undo_in_brief};

@@ -13,7 +13,6 @@ use crate::turns::Turns;
 use crate::walk::next_update;
 use page::Fault;
 use std::alloc::Global;
-use std::collections::BinaryHeap;
 use tables::Tables;
 use wal::{Entry, Log, State};
 
@@ -56,9 +55,7 @@ impl Rollback {
             → UndoFault (history log.now) (losers_in tables.now) count e) }
     {
         let mut rollback = Rollback {
-            waiting: Turns {
-                heap: BinaryHeap::new(alloc),
-            },
+            waiting: Turns::new(alloc),
             appended: Vec::new(alloc),
         };
         let end = log.next_lsn();

@@ -116,8 +116,8 @@ impl Rollback {
     }
 }
 
-/// [`undo`] with the appended records told in brief, which takes 24 bytes for each: what else they
-/// hold stands in the log.
+/// [`undo`] with the appended records told in brief, which takes 24 to 48 bytes for each: what else
+/// they hold stands in the log.
 pub fn undo_in_brief(
     alloc: Global,
     log: &Log,
@@ -157,9 +157,9 @@ pub fn undo_in_brief(
 /// CLR it goes on at the CLR's UndoNxtLSN; at 0 nothing is left, and its end is appended. Then the
 /// update with the largest LSN at which a loser waits is undone, again and again: its CLR is
 /// appended, slot and PageLSN of its page are set, and the loser is resolved again from the
-/// update's PrevLSN. Time is near linear in the records met; beside the records it takes 24 bytes
-/// for each, and 24 to 48 bytes for each loser, which are requested before the first update is
-/// undone.
+/// update's PrevLSN. Time is near linear in the records met. Memory is the records appended, 24 to 48
+/// bytes more for each of them, and 24 to 48 bytes for each loser, at least 96 if there is one; what
+/// the losers take is requested before the first update is undone.
 ///
 /// Errors, of which the first met in this order is given, the page of an update before the walk
 /// goes on from it:

@@ -6,10 +6,11 @@ ghost use Rattle.std.specs.List.{IsDistinct};
 ghost use Rattle.std.proofs.Props.{props};
 
 use crate::losers::Loser;
-use std::alloc::AllocError;
+use std::alloc::{AllocError, Global};
 use std::collections::BinaryHeap;
 
-/// The turn of a loser. Turns are compared by the LSN first.
+/// The turn of a loser. Turns are compared by their fields in the order in which these stand here: the LSN
+/// decides.
 #[derive(Clone, Copy, Debug, PartialEq, Eq, PartialOrd, Ord)]
 pub struct Turn {
     /// The LSN of the update that is undone.
@@ -22,7 +23,7 @@ pub struct Turn {
 #[derive(Drop)]
 pub struct Turns {
     /// A turn for each of them; the newest update comes first.
-    pub heap: BinaryHeap<Turn>,
+    heap: BinaryHeap<Turn>,
     ghost in_order: { IsHeap ⟦<Turn as Ord>⟧.cmp (heap_items heap) } by { Prim.hlevel props },
     ghost apart: { IsDistinct nat_eq
         (map (λ t. t.lsn) (heap_items heap)) } by { Prim.hlevel props },
@@ -30,6 +31,15 @@ pub struct Turns {
 
 impl Turns {
     ghost use Rattle.undo.specs.Turns.{turn_at, Taken};
+
+    /// Nobody waits.
+    pub fn new(alloc: Global) -> Turns
+        ensures { (lsn : ℕ) → turn_at result lsn ≡ None }
+    {
+        Turns {
+            heap: BinaryHeap::new(alloc),
+        }
+    }
 
     /// The loser waits at an LSN, at which nobody waits yet.
     pub fn put(&mut self, lsn: u64, loser: Loser) -> Result<(), AllocError>

@@ -84,6 +84,48 @@ fn torn_tail_behind_two_parts(rt: HostRuntime) -> Result<(), Fail> {
     Ok(())
 }
 
+/// The fault of a log that comes in these two parts, if it is the same as that of both in one.
+fn fault_of_parts<R: Threads + Sync>(
+    rt: &R,
+    alloc: Global,
+    front: &[u8],
+    back: &[u8],
+) -> Result<Option<Fault>, Fault> {
+    let mut log = Vec::from_slice(alloc, front)?;
+    log.extend_from_slice(back)?;
+    match read_in_parts(rt, alloc, front, back) {
+        Ok(_) => Ok(None),
+        Err(fault) if Some(fault) == fault_of(alloc, &log) => Ok(Some(fault)),
+        Err(_) => Ok(None),
+    }
+}
+
+#[test]
+fn header_of_two_parts(rt: HostRuntime) -> Result<(), Fail> {
+    let alloc = rt.alloc();
+    let mut log = updates(alloc, b"thirteen byte")?;
+    if let Some(byte) = log.get_mut(3) {
+        *byte = 99;
+    }
+    let (front, back) = log.split_at(offset_of(2_600).min(log.len()));
+    let fault = fault_of_parts(&rt, alloc, front, back)?;
+    check(fault == Some(Fault::BadLogHeader), "a bad header")
+}
+
+#[test]
+fn records_where_the_parts_meet(rt: HostRuntime) -> Result<(), Fail> {
+    let alloc = rt.alloc();
+    let log = updates(alloc, b"thirteen byte")?;
+    let (at, after) = (
+        offset_of(2_600).min(log.len()),
+        offset_of(2_601).min(log.len()),
+    );
+    let twice = fault_of_parts(&rt, alloc, &log[..after], &log[at..])?;
+    check(twice == Some(Fault::BadLsn(after as u64)), "a record twice")?;
+    let less = fault_of_parts(&rt, alloc, &log[..at], &log[after..])?;
+    check(less == Some(Fault::BadLsn(at as u64)), "a record less")
+}
+
 #[test]
 fn faults_are_those_of_the_whole(rt: HostRuntime) -> Result<(), Fail> {
     let alloc = rt.alloc();

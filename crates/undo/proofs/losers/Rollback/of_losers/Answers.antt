@@ -22,15 +22,7 @@ use Rattle.undo.proofs.Lost.{one_lost, none_lost, lost_about, lost_rise, lost_fo
 use Rattle.undo.proofs.Beginning.{broken_start, begun_more, begun_others, begun_rolls, stands_earlier, are_ends, ends_name_no_page, some_tx}
 use Rattle.undo.proofs.UndonePages.{ends_undo_nothing}
 use Rattle.undo.proofs.Few.{ends_few, numbers_few}
-use Rattle.undo.proofs.Reordered.{none_apart}
 use Rattle.undo.proofs.losers.Rollback.of_losers.Goals as goal
-
--- at first nobody waits
-pub invariant_of-rollback : goal.invariant_of-rollback
-invariant_of-rollback c = record {
-  in_order = search rules;
-  apart = rw c.new.ensures.items none_apart;
-}
 
 -- the entry of a turn is found among the losers, where it is one
 own : (t : ℕ) (entry : Entry) (entries : List (ℕ × Entry)) (losers : List TableEntry) → lost_in (map entry_of entries) ≡ losers
