@@ -1,13 +1,16 @@
 #!/usr/bin/env python3
-"""The wrong bodies that the prover must refuse: those that the gate tries, crates/NAME/must-fail/*.edit, and the others, edits/NAME/*.edit.
+"""Tries the wrong bodies that the prover must refuse: those that the gate tries, crates/NAME/must-fail/*.edit, and the others, edits/NAME/*.edit.
 
-usage: tests/edits.py NAME..    at the top of the repository: tries the others of these crates, each in a copy of the repository
-       tests/run.py             sees that each edit can be applied
+usage: tests/edits.py [--others] NAME..   at the top of the repository: tries those of these crates; with --others only those that the gate does not try
+       tests/run.py                       sees that each edit can be applied
 
-Trying takes a check of the crate and half a minute or more for each edit. Prints what `rt must-fail` prints.
+An edit counts as refused only if a contract refuses it. One that the prover refuses for a name or a form says nothing of a contract and counts as bad: a proof
+file names what the edit took away, a function has no proof for its form, the text cannot be read, or the prover stopped at a limit. Prints a line for each edit
+and one for each crate; the status is 1 if one edit is bad or not refused. Trying takes a check of the crate and half a minute or more for each edit.
 """
 import glob
 import os
+import re
 import shutil
 import subprocess
 import sys
@@ -60,23 +63,69 @@ def check_edits(tally):
     tally.say("each wrong body has its own name", len(names) == len(set(names)))
 
 
-def try_others(crate):
-    """Tries the edits of a crate that the gate does not try; whether all are refused."""
+# What `rt must-fail` says of an edit, and the words by which it says that no contract refused it.
+TRIED = re.compile(r"(?:rt: )?must-fail (?P<edit>\S+): (?P<verdict>[A-Za-z ,]+?)(?: (?P<remark>\(only .*)|: (?P<reason>.*))?$")
+NO_CONTRACT = re.compile(r"\(only |does not cover|is no goal|has no goal|not in scope|error\[[\w-]+\]")
+
+
+def verdicts(lines):
+    """Of each edit that was tried its name, and why it is bad or None."""
+    for line in lines:
+        found = TRIED.match(line.strip())
+        if not found or not found["edit"].endswith(".edit"):
+            continue
+        is_refused = found["verdict"].startswith("refused") and not NO_CONTRACT.search(line)
+        yield found["edit"], None if is_refused else line.strip()
+
+
+def put(source, target):
+    """Copies a file; what was built is linked, since a check replaces such a file and changes none."""
+    try:
+        if f"{os.sep}out{os.sep}" in source:
+            return os.link(source, target)
+    except OSError:
+        pass
+    return shutil.copy2(source, target)
+
+
+def copied(folder, crate, kinds):
+    """A copy of the repository in which these edits of the crate are those that are tried."""
+    copy = os.path.join(folder, "aries")
+    shutil.copytree(TOP, copy, symlinks=True, ignore=shutil.ignore_patterns(".git"), copy_function=put)
+    tried = os.path.join(copy, "crates", crate, "must-fail")
+    shutil.rmtree(tried, ignore_errors=True)
+    os.makedirs(tried)
+    for pattern in kinds:
+        for name, edit in edits_in(pattern):
+            if name == crate:
+                shutil.copy(edit, tried)
+    return copy, len(os.listdir(tried))
+
+
+def try_edits(crate, kinds):
+    """Tries edits of a crate; whether a contract refuses each."""
     with tempfile.TemporaryDirectory(prefix="aries-edits-") as room:
-        copy = os.path.join(room, "aries")
-        shutil.copytree(TOP, copy, symlinks=True, ignore=shutil.ignore_patterns(".git"))
-        folder = os.path.join(copy, "crates", crate, "must-fail")
-        shutil.rmtree(folder)
-        shutil.copytree(os.path.join(TOP, "edits", crate), folder)
-        return subprocess.run(["rt", "must-fail", crate], cwd=copy).returncode == 0
+        copy, count = copied(room, crate, kinds)
+        ran = subprocess.run(["rt", "must-fail", "--anew", crate], cwd=copy, stdout=subprocess.PIPE, stderr=subprocess.STDOUT, text=True)
+    said = dict(verdicts(ran.stdout.splitlines()))
+    bad = [why for why in said.values() if why]
+    for edit, why in sorted(said.items()):
+        print(why or f"{edit}: refused by a contract")
+    if len(said) != count:
+        print(f"{crate}: of {count} edits {len(said)} were tried; the last lines:", *ran.stdout.splitlines()[-5:], sep="\n")
+    print(f"{crate}: {count} edits, {len(said) - len(bad)} refused by a contract, {len(bad)} not", flush=True)
+    return not bad and len(said) == count
 
 
 def main():
-    if len(sys.argv) < 2 or any(not os.path.isdir(os.path.join(TOP, "edits", name)) for name in sys.argv[1:]):
-        names = " ".join(sorted(os.path.basename(it) for it in glob.glob(os.path.join(TOP, "edits/*/").rstrip("/")) if os.path.isdir(it)))
-        print(f"usage: tests/edits.py NAME..\ncrates with other edits: {names}", file=sys.stderr)
+    words = sys.argv[1:]
+    kinds = ["edits/*"] if "--others" in words else ["crates/*/must-fail", "edits/*"]
+    names = [word for word in words if word != "--others"]
+    known = {name for kind in kinds for name, _ in edits_in(kind)}
+    if not names or any(name not in known for name in names):
+        print(f"usage: tests/edits.py [--others] NAME..\ncrates with such edits: {' '.join(sorted(known))}", file=sys.stderr)
         return 2
-    return 0 if all([try_others(name) for name in sys.argv[1:]]) else 1
+    return 0 if all([try_edits(name, kinds) for name in names]) else 1
 
 
 if __name__ == "__main__":
