@@ -46,8 +46,9 @@ static void make_files(int folder, uint32_t page_count) {
     start_log(folder, 1, 0);
 }
 
-/* Recovers the files. The log comes first: until the new store is in place, the old one goes with the longer log. The
- * tail of a lawful log has at most twice its bytes. */
+/* Recovers the files. The cut is synced before the tail is written: else a power cut may keep some of the tail and lose
+ * the cut, and bytes of the torn frame then complete a frame of the tail. The log comes first: until the new store is in
+ * place, the old one goes with the longer log. The tail of a lawful log has at most twice its bytes. */
 static struct recovery recover_files(int folder) {
     struct bytes log = read_file(folder, "log"), store = read_file(folder, "store");
     struct bytes tail = bytes_of(2 * log.length), new_store = bytes_of(store.length);
@@ -58,6 +59,7 @@ static struct recovery recover_files(int folder) {
     size_t kept = log.length - it.made.torn;
     int file = open_file(folder, "log");
     cut_file(file, kept);
+    sync_file(file);
     write_at(file, tail.at, it.made.tail_length, kept);
     sync_file(file);
     replace_file(folder, "store", new_store.at, it.made.store_length);

@@ -22,6 +22,7 @@ import os
 import random
 import shutil
 import signal
+import struct
 import subprocess
 import sys
 import tempfile
@@ -31,9 +32,14 @@ PAGES = 128
 OPENING_BALANCE = 1000
 # How a day is ended; half of the ends come behind a page's image, where it shows whether the log was there before.
 HOW = ("at a time", "at a call", "behind a page", "behind a page")
-# The calls that change files: a new bank has eight; an opening six or seven, and more where someone is in doubt; an
+# The calls that change files: a new bank has eight; an opening seven or eight, and more where someone is in doubt; an
 # archive has nine from the opening of its base store on, a checkpoint two from the writing of its master on.
-CALLS_OF_A_NEW_BANK, CALLS_OF_AN_OPENING, CALLS_OF_AN_ARCHIVE, CALLS_OF_A_CHECKPOINT = 8, 7, 9, 2
+CALLS_OF_A_NEW_BANK, CALLS_OF_AN_OPENING, CALLS_OF_AN_ARCHIVE, CALLS_OF_A_CHECKPOINT = 8, 8, 9, 2
+# Power cuts at an opening: at the calls until its log is synced. What each loses are five binary digits, after a 1: the
+# cut or not, of four ways the growth, each of two sectors or not.
+CALLS_OF_A_LOG, LOSSES = range(1, 5), range(32, 64)
+# Numbers of transactions that no day comes to, and sizes and kinds that docs/FORMATS.md has.
+FIRST_NUMBER, SECTOR, SLOTS, UPDATE, COMMIT = 1 << 20, 512, 16, 1, 3
 
 
 class Lost(Exception):
@@ -83,6 +89,35 @@ def check(old, new, acknowledged):
         expected[target] += amount
     for account, amount in expected.items():
         need(new.accounts[account] == amount, f"account {account} holds {new.accounts[account]}, not {amount}")
+
+
+# What a crash may leave of a log: frames, as docs/FORMATS.md has them.
+
+def frame(kind, lsn, transaction, more=b""):
+    """The frame of its transaction's first record."""
+    body = struct.pack(">BQIQ", kind, lsn, transaction, 0) + more
+    return struct.pack(">I", len(body)) + body
+
+
+def update(lsn, transaction, account, balance, after):
+    """The frame of an update of an account with this balance."""
+    cell = struct.pack(">IB", account // SLOTS, account % SLOTS)
+    return frame(UPDATE, lsn, transaction, cell + struct.pack(">BQB", 8, balance, len(after)) + after)
+
+
+def torn_end(length, lsn, accounts):
+    """What a crash may leave after so many bytes of a log: commits, an update that is to be undone, and another one that
+    is torn. The CLR of the first is just as long as what is left of the torn one, and is written over it. Its image is
+    the account's balance, of which the last four bytes stand in the next sector. So where the sectors of both meet, the
+    CLR is whole, and the balance is wrong."""
+    of_clr, in_first_sector = 47, 43
+    distance = (-length - in_first_sector) % SECTOR + SECTOR
+    commits, filling = divmod(distance - 40, 25)
+    frames = b"".join(frame(COMMIT, lsn + i, FIRST_NUMBER + i) for i in range(commits))
+    (first, balance), (second, other_balance) = accounts
+    frames += update(lsn + commits, FIRST_NUMBER + commits, first, balance, bytes(filling))
+    torn = update(lsn + commits + 1, FIRST_NUMBER + commits + 1, second, other_balance, b"\1" * 48)
+    return frames + torn[:of_clr]
 
 
 class Driver:
@@ -181,10 +216,54 @@ class Driver:
         self.all_acknowledged += len(self.acknowledged)
         self.held, self.acknowledged = shown, {}
 
+    def start_anew(self):
+        shutil.rmtree(self.folder, ignore_errors=True)
+        self.held, self.acknowledged = Shown(""), {}
+
+    def tear(self):
+        """Leaves the log of a bank in which nothing is unfinished as a crash may leave it."""
+        path = os.path.join(self.folder, "log")
+        with open(path, "rb") as file:
+            log = file.read()
+        base_lsn = int.from_bytes(log[8:16], "big") if log.startswith(b"ARIESLG2") else 0
+        accounts = [entry for entry in self.held.accounts.items() if entry[1] != OPENING_BALANCE][:2]
+        with open(path, "ab") as file:
+            file.write(torn_end(len(log), base_lsn + self.held.opened["records"] + 1, accounts))
+
+    def loss_by_power_cut(self, torn, call, lost):
+        """What is lost when the power is cut off at this call of an opening of these files; nothing where it is None. No
+        audit comes between the cut and the next opening, which must not need one."""
+        shutil.rmtree(self.folder)
+        shutil.copytree(torn, self.folder)
+        self.killed_at_call(["show", self.folder], call, DIE_LOSES=str(lost))
+        try:
+            self.open_and_check()
+            self.audit("opened again")
+        except Lost as loss:
+            return f"at call {call}, {loss}"
+        return None
+
+    def each_power_cut(self):
+        """Cuts off the power at each call of an opening until its log is synced, in many ways."""
+        self.start_anew()
+        words = ["run", self.folder, "1", "8"]
+        self.note(self.ended(self.started(words), words))
+        self.look("after a day")
+        self.open_and_check()
+        self.tear()
+        self.audit("with a torn log")
+        cuts = [(call, lost) for call in CALLS_OF_A_LOG for lost in LOSSES]
+        with tempfile.TemporaryDirectory(prefix="aries-bank-torn-") as room:
+            torn = shutil.copytree(self.folder, os.path.join(room, "torn"))
+            losses = [loss for loss in (self.loss_by_power_cut(torn, *cut) for cut in cuts) if loss]
+        what = "; ".join(sorted(set(losses)))
+        need(not losses, f"{len(losses)} of {len(cuts)} power cuts at an opening: {what}")
+        self.start_anew()
+
     def each_call(self):
         """Kills the bank at each call that changes a file while it is made, opened, checkpointed, and archived."""
         for call in range(1, CALLS_OF_A_NEW_BANK + 1):
-            shutil.rmtree(self.folder)
+            self.start_anew()
             self.interrupt_opening(call)
             self.look(f"behind call {call} of a new bank")
         for call in range(1, CALLS_OF_AN_OPENING + 1):
@@ -229,6 +308,7 @@ def main():
     driver = Driver(asked, folder)
     try:
         if asked.at_calls:
+            driver.each_power_cut()
             driver.each_call()
         kills = driver.kills + asked.kills
         while driver.kills < kills:
