@@ -219,19 +219,40 @@ def check_rows(tally, toolchain, archive, how):
 
 # The bank.
 
+def driven(toolchain, engine, kills, **how):
+    """A run of the driver with this bank."""
+    words = [sys.executable, os.path.join(BANK, "drive.py"), "--kills", str(kills)]
+    words += ["--aries", ARIES] if os.path.exists(ARIES) else []
+    words += ["--at-calls", library_of(toolchain.room, "embed/die_at_call")]
+    return run([*words, engine], text=True, timeout=900, **how)
+
+
 def check_bank(tally, toolchain, archive, kills):
     sources = [os.path.join(BANK, name) for name in sorted(os.listdir(BANK)) if name.endswith(".c")]
     engine = toolchain.program("bank", sources, archive, toolchain.flags())
     if not engine:
         tally.say("the bank", False, "not built")
         return
-    words = [sys.executable, os.path.join(BANK, "drive.py"), "--kills", str(kills)]
-    words += ["--aries", ARIES] if os.path.exists(ARIES) else []
-    words += ["--at-calls", library_of(toolchain.room, "embed/die_at_call")]
-    ran = run([*words, engine], text=True, timeout=900)
+    ran = driven(toolchain, engine, kills)
     lines = ran.stdout.splitlines() or [""]
     is_well = ran.returncode == 0 and lines[-1].endswith(" kills, nothing lost")
     tally.say(f"the bank: {lines[-1]}", is_well, ran.stderr)
+    check_driver(tally, toolchain, archive, sources)
+
+
+SYNCED_CUT, CUT = "    cut_file(file, kept);\n    sync_file(file);\n", "    cut_file(file, kept);\n"
+
+
+def check_driver(tally, toolchain, archive, sources):
+    """The driver finds a bank that writes the tail of a recovery before the cut of a torn record is synced."""
+    bank, wrong = os.path.join(BANK, "bank.c"), toolchain.at("wrong_bank.c")
+    with open(wrong, "w") as file:
+        file.write(text_of(bank).replace(SYNCED_CUT, CUT))
+    others = [source for source in sources if source != bank]
+    engine = toolchain.program("wrong-bank", [wrong, *others], archive, [*toolchain.flags(), "-I", BANK])
+    ran = engine and driven(toolchain, engine, 0, env=dict(os.environ, TMPDIR=toolchain.room))
+    is_found = bool(ran) and ran.returncode == 1 and "power cuts at an opening" in ran.stdout
+    tally.say("the driver finds a cut that is not synced", is_found, ran and ran.stdout + ran.stderr)
 
 
 def is_code_of_the_bank(document):

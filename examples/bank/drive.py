@@ -4,11 +4,12 @@
 usage: drive.py [--kills N] [--seed S] [--aries PROGRAM] [--at-calls LIBRARY] ENGINE
 
 ENGINE is the built example, PROGRAM is `aries`: its audit is asked too. LIBRARY is tests/embed/die_at_call.c, built as
-a library that is loaded before a program: with it the bank is first killed at each call that changes a file while it
-is made, opened, checkpointed and archived, and then most of the N kills come at such calls; half of these lose what
-was not synced, as by a power cut. Behind each kill:
+a library that is loaded before a program. With it the power is first cut off at each call of an opening until its log
+is synced, after a crash whose torn record would complete a record of the new tail. Next the bank is killed at each call
+that changes a file while it is made, opened, checkpointed and archived. Then most of the N kills come at such calls;
+half of these lose some of what was not synced, as by a power cut. After each kill:
 
-- the files are lawful, before the bank is opened again and behind it, over the base store where the log was begun anew;
+- the files are lawful, before the bank is opened again and after it, over the base store where the log was begun anew;
 - every transfer that was acknowledged is in the ledger;
 - each account holds what the transfers that came into the ledger make of what it held before: of no transfer one half
   is there, whether it was acknowledged or not, and nobody's money is gone;
@@ -35,11 +36,12 @@ HOW = ("at a time", "at a call", "behind a page", "behind a page")
 # The calls that change files: a new bank has eight; an opening seven or eight, and more where someone is in doubt; an
 # archive has nine from the opening of its base store on, a checkpoint two from the writing of its master on.
 CALLS_OF_A_NEW_BANK, CALLS_OF_AN_OPENING, CALLS_OF_AN_ARCHIVE, CALLS_OF_A_CHECKPOINT = 8, 8, 9, 2
-# Power cuts at an opening: at the calls until its log is synced. What each loses are five binary digits, after a 1: the
-# cut or not, of four ways the growth, each of two sectors or not.
+# Power cuts at an opening come at the calls until its log is synced. The binary digits of a loss say, after the first one,
+# whether the cut is lost, how much of the growth is left, and which of two sectors are lost: so all losses are tried.
 CALLS_OF_A_LOG, LOSSES = range(1, 5), range(32, 64)
-# Numbers of transactions that no day comes to, and sizes and kinds that docs/FORMATS.md has.
-FIRST_NUMBER, SECTOR, SLOTS, UPDATE, COMMIT = 1 << 20, 512, 16, 1, 3
+SECTOR = 512
+# Of docs/FORMATS.md. No day of the bank comes to these numbers of transactions.
+SLOTS, UPDATE, COMMIT, FIRST_NUMBER = 16, 1, 3, 1 << 20
 
 
 class Lost(Exception):
@@ -107,17 +109,16 @@ def update(lsn, transaction, account, balance, after):
 
 def torn_end(length, lsn, accounts):
     """What a crash may leave after so many bytes of a log: commits, an update that is to be undone, and another one that
-    is torn. The CLR of the first is just as long as what is left of the torn one, and is written over it. Its image is
-    the account's balance, of which the last four bytes stand in the next sector. So where the sectors of both meet, the
-    CLR is whole, and the balance is wrong."""
-    of_clr, in_first_sector = 47, 43
-    distance = (-length - in_first_sector) % SECTOR + SECTOR
-    commits, filling = divmod(distance - 40, 25)
+    is torn. The CLR of the first is as long as what is left of the torn one, and is written over it. It ends with the
+    account's balance, the last four bytes of it in the next sector. If that sector is lost and the cut too, the torn
+    update has the place of these four bytes: the CLR is whole, and the balance is wrong."""
+    clr, before_border = 47, 43
+    commits, filling = divmod((-length - before_border) % SECTOR + SECTOR - 40, 25)
     frames = b"".join(frame(COMMIT, lsn + i, FIRST_NUMBER + i) for i in range(commits))
     (first, balance), (second, other_balance) = accounts
     frames += update(lsn + commits, FIRST_NUMBER + commits, first, balance, bytes(filling))
     torn = update(lsn + commits + 1, FIRST_NUMBER + commits + 1, second, other_balance, b"\1" * 48)
-    return frames + torn[:of_clr]
+    return frames + torn[:clr]
 
 
 class Driver:
@@ -240,11 +241,11 @@ class Driver:
             self.open_and_check()
             self.audit("opened again")
         except Lost as loss:
-            return f"at call {call}, {loss}"
+            return f"at call {call}: {loss}"
         return None
 
     def each_power_cut(self):
-        """Cuts off the power at each call of an opening until its log is synced, in many ways."""
+        """Cuts off the power at each call of an opening until its log is synced, with each loss."""
         self.start_anew()
         words = ["run", self.folder, "1", "8"]
         self.note(self.ended(self.started(words), words))
