@@ -32,7 +32,8 @@ pub struct Report {
 pub struct Recovery {
     /// How many bytes of the log stay: all but its torn tail.
     pub kept: usize,
-    /// What is to be appended behind them. It has to be on disk before the new store is put in place.
+    /// What is to be appended after them. In the file of the old log, sync the cut before you write this: else a power
+    /// cut may mix both. It has to be on disk before the new store is put in place.
     pub tail: Vec<u8>,
     /// The new store, of the length of the old one.
     pub store: Vec<u8>,
