@@ -146,6 +146,18 @@ def check_sizes(tally, row):
     check_why(tally, "a new log too long", lambda more: row.recover(more=more, preexec_fn=limited(16, True)), line)
 
 
+def check_unprinted(tally, row):
+    """Without a line status 1 does not say whether the new files are whole; an audit of them does."""
+    new = Row(row.new, row.new)
+    with open("/dev/full", "wb") as full:
+        ran = row.recover(stdout=full, stderr=subprocess.PIPE, capture_output=False)
+        is_well = ran.returncode == 1 and not ran.stderr and has_printed(new.audit(), b"lawful\n")
+        tally.say("new files whose report is not printed, by an audit", is_well, ran.stderr)
+        ran = row.recover(preexec_fn=limited(16, True), stdout=subprocess.PIPE, stderr=full, capture_output=False)
+        is_well = ran.returncode == 1 and not ran.stdout and has_refused(new.audit(), b"fault 10: bad store header\n")
+        tally.say("new files whose fault is not printed, by an audit", is_well, ran.stdout)
+
+
 def check_stack(tally, room):
     row = Row(os.path.join(SMALL_ROWS, "ten-pages"), room)
     for workers in (1, 64):
@@ -163,4 +175,5 @@ def check_operation(tally, room):
     check_modes(tally, row)
     check_syncs(tally, room, row)
     check_sizes(tally, row)
+    check_unprinted(tally, row)
     check_stack(tally, room)

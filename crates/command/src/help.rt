@@ -7,7 +7,7 @@ pub(crate) const VERBOSE: &str =
 /// The program.
 pub(crate) const ARIES: &str = "Statuses:\n  \
     0  done, or help or the version was asked for\n  \
-    1  refused: `fault N: text` on standard error; without that line only a print failed\n  \
+    1  refused: `fault N: text` on standard error; without it a print failed, maybe that of the line\n  \
     2  a wrong command line\n\
     \n\
     More: aries recover --help, aries(1), aries-formats(5)";
@@ -30,11 +30,12 @@ pub(crate) const RECOVER: &str = "Example:\n  \
     \n\
     Statuses:\n  \
     0  both new files are written and synced: put them in place of the old ones, the log first\n  \
-    1  refused: `fault N: text` on standard error; without that line only the report is not printed\n  \
+    1  refused: `fault N: text` on standard error; without it a print failed, maybe that of the line\n  \
     2  a wrong command line\n\
     \n\
-    The old files are never changed. A refused run may leave new ones, empty, in part or whole: remove\n\
-    them, and run it again. Fault 4 or 5 at once mostly says that such a file stands there still.";
+    The old files are never changed. Put new ones in place after status 0 alone, or after an audit of\n\
+    them. A refused run may leave some, empty, in part or whole: remove them, and run it again. Fault\n\
+    4 or 5 at once mostly says that such a file stands there still.";
 
 /// The command `audit`.
 pub(crate) const AUDIT: &str = "Example:\n  \
@@ -44,5 +45,5 @@ pub(crate) const AUDIT: &str = "Example:\n  \
     \n\
     Statuses:\n  \
     0  lawful\n  \
-    1  unlawful or unread: `fault N: text` on standard error; without that line only a print failed\n  \
+    1  unlawful or unread: `fault N: text` on standard error; without it a print failed\n  \
     2  a wrong command line";
