@@ -68,12 +68,12 @@ struct aries_recovered {
 };
 
 /*
- * Recovers a store by its log. The new log is log[0 .. log_length - made->torn] and behind it
+ * Recovers a store by its log. The new log is log[0 .. log_length - made->torn] and after it
  * tail[0 .. made->tail_length]; the new store is out_store[0 .. made->store_length]; in_doubt[0 .. made->in_doubt]
  * has the numbers of the transactions in doubt, rising. After these the buffers are as they were. Put the new log in
  * place before the new store: an interrupted recovery is done again from what stands then, to the same end. To make
  * the new log in the file of the old one, cut off the torn tail, sync the file, write the tail, and sync it again.
- * Without the first sync a power cut may lose the cut and keep some of the tail; torn bytes then complete a frame.
+ * Without the first sync a power cut may lose the cut and keep some of the tail; torn bytes can then complete a frame.
  *
  * The room that is needed is known before: for the store store_length; for the tail of a lawful log twice log_length
  * at most. Where the room for the tail or for the numbers does not do, ARIES_NO_ROOM tells in `made` what a recovery

@@ -31,13 +31,13 @@ import time
 
 PAGES = 128
 OPENING_BALANCE = 1000
-# How a day is ended; half of the ends come behind a page's image, where it shows whether the log was there before.
-HOW = ("at a time", "at a call", "behind a page", "behind a page")
+# How a day is ended; half of the ends come after a page's image, where it shows whether the log was there before.
+HOW = ("at a time", "at a call", "after a page", "after a page")
 # The calls that change files: a new bank has eight; an opening seven or eight, and more where someone is in doubt; an
 # archive has nine from the opening of its base store on, a checkpoint two from the writing of its master on.
 CALLS_OF_A_NEW_BANK, CALLS_OF_AN_OPENING, CALLS_OF_AN_ARCHIVE, CALLS_OF_A_CHECKPOINT = 8, 8, 9, 2
-# Power cuts at an opening come at the calls until its log is synced. The binary digits of a loss say, after the first one,
-# whether the cut is lost, how much of the growth is left, and which of two sectors are lost: so all losses are tried.
+# Power cuts at an opening come at the calls until its log is synced. The binary digits of a loss, after the first one,
+# say whether the cut is lost, how much of the growth is left, and which of two sectors are lost: all losses are tried.
 CALLS_OF_A_LOG, LOSSES = range(1, 5), range(32, 64)
 SECTOR = 512
 # Of docs/FORMATS.md. No day of the bank comes to these numbers of transactions.
@@ -108,8 +108,8 @@ def update(lsn, transaction, account, balance, after):
 
 
 def torn_end(length, lsn, accounts):
-    """What a crash may leave after so many bytes of a log: commits, an update that is to be undone, and another one that
-    is torn. The CLR of the first is as long as what is left of the torn one, and is written over it. It ends with the
+    """What a crash may leave after so many bytes of a log: commits, an update that is to be undone, and another one
+    that is torn. The CLR of the first is as long as what is left of the torn one, and is written over it. It ends with the
     account's balance, the last four bytes of it in the next sector. If that sector is lost and the cut too, the torn
     update has the place of these four bytes: the CLR is whole, and the balance is wrong."""
     clr, before_border = 47, 43
@@ -146,7 +146,7 @@ class Driver:
             [self.engine, *words], stdout=subprocess.PIPE, stderr=subprocess.PIPE, text=True, env=settings)
 
     def killed_at_time(self, words, lines):
-        """The lines of the engine, killed some time behind so many of them."""
+        """The lines of the engine, killed some time after so many of them."""
         process = self.started(words)
         first = [line for _, line in zip(range(lines), process.stdout)]
         time.sleep(self.random.uniform(0, 0.01 if lines else self.opening_seconds))
@@ -232,8 +232,8 @@ class Driver:
             file.write(torn_end(len(log), base_lsn + self.held.opened["records"] + 1, accounts))
 
     def loss_by_power_cut(self, torn, call, lost):
-        """What is lost when the power is cut off at this call of an opening of these files; nothing where it is None. No
-        audit comes between the cut and the next opening, which must not need one."""
+        """What is lost when the power is cut off at this call of an opening of these files; None where it is nothing.
+        No audit comes between the cut and the next opening, which must not need one."""
         shutil.rmtree(self.folder)
         shutil.copytree(torn, self.folder)
         self.killed_at_call(["show", self.folder], call, DIE_LOSES=str(lost))
@@ -266,21 +266,21 @@ class Driver:
         for call in range(1, CALLS_OF_A_NEW_BANK + 1):
             self.start_anew()
             self.interrupt_opening(call)
-            self.look(f"behind call {call} of a new bank")
+            self.look(f"after call {call} of a new bank")
         for call in range(1, CALLS_OF_AN_OPENING + 1):
             self.note(self.killed_at_time(self.day(), 10))
             self.interrupt_opening(call)
-            self.look(f"behind call {call} of an opening")
-        # Behind the last call of a checkpoint come those of the work that goes on.
+            self.look(f"after call {call} of an opening")
+        # After the last call of a checkpoint come those of the work that goes on.
         for call in range(1, CALLS_OF_A_CHECKPOINT + 3):
             for _ in range(5):
                 self.note(self.killed_at_call(self.day(), call, DIE_MASTER="1", **self.loss()))
-                self.look(f"behind call {call} of a checkpoint")
+                self.look(f"after call {call} of a checkpoint")
         # A day of so many lines has an archive, so each of the others has a base store in its way.
         self.note(self.killed_at_time(self.day(), 400))
         for call in range(1, CALLS_OF_AN_ARCHIVE + 1):
             self.note(self.killed_at_call(self.day(), call, DIE_FROM="base-"))
-            self.look(f"behind call {call} of an archive")
+            self.look(f"after call {call} of an archive")
 
     def look(self, when):
         """Audits, opens, checks, and audits again."""
@@ -289,12 +289,12 @@ class Driver:
         self.audit(f"{when}, opened again")
 
     def round(self, kills):
-        """A day, and at times kills at the opening behind it."""
+        """A day, and at times kills at the opening after it."""
         self.work()
         while self.kills < kills and self.random.random() < 0.4:
-            self.audit("behind the kill")
+            self.audit("after the kill")
             self.interrupt_opening()
-        self.look("behind the kill")
+        self.look("after the kill")
 
 
 def main():
