@@ -47,8 +47,8 @@ static void make_files(int folder, uint32_t page_count) {
 }
 
 /* Recovers the files. The cut is synced before the tail is written: else a power cut may keep some of the tail and lose
- * the cut, and bytes of the torn frame then complete a frame of the tail. The log comes first: until the new store is in
- * place, the old one goes with the longer log. The tail of a lawful log has at most twice its bytes. */
+ * the cut, and bytes of the torn frame can then complete a frame of the tail. The log comes before the store: until the
+ * new store is in place, the old one goes with the longer log. The tail of a lawful log has at most twice its bytes. */
 static struct recovery recover_files(int folder) {
     struct bytes log = read_file(folder, "log"), store = read_file(folder, "store");
     struct bytes tail = bytes_of(2 * log.length), new_store = bytes_of(store.length);

@@ -109,9 +109,9 @@ def update(lsn, transaction, account, balance, after):
 
 def torn_end(length, lsn, accounts):
     """What a crash may leave after so many bytes of a log: commits, an update that is to be undone, and another one
-    that is torn. The CLR of the first is as long as what is left of the torn one, and is written over it. It ends with the
-    account's balance, the last four bytes of it in the next sector. If that sector is lost and the cut too, the torn
-    update has the place of these four bytes: the CLR is whole, and the balance is wrong."""
+    that is torn. The CLR of the first is as long as what is left of the torn one, and is written over it. It ends with
+    the account's balance, whose last four bytes stand in the next sector. If that sector is lost and the cut too, bytes
+    of the torn update stand there: the CLR is whole, and the balance is wrong."""
     clr, before_border = 47, 43
     commits, filling = divmod((-length - before_border) % SECTOR + SECTOR - 40, 25)
     frames = b"".join(frame(COMMIT, lsn + i, FIRST_NUMBER + i) for i in range(commits))
