@@ -40,21 +40,11 @@ impl<'a> OldFiles<'a> {
     }
 }
 
-/// What a recovery writes.
+/// What a recovery writes. Nothing is noted of it yet when it is made.
 #[derive(Drop)]
 pub struct NewFiles<'a> {
     pub log: Notes<'a>,
     pub store: Notes<'a>,
-}
-
-impl<'a> NewFiles<'a> {
-    /// Files at these paths, of which nothing is noted yet.
-    pub fn new(log: &'a str, store: &'a str) -> NewFiles<'a> {
-        NewFiles {
-            log: Notes::new("new log", log),
-            store: Notes::new("new store", store),
-        }
-    }
 }
 
 /// Notes that a file was not opened or made, and gives its fault: want of memory, or that file's.
@@ -71,31 +61,25 @@ fn open<R: Files>(rt: &R, file: &Notes, fault: Fault) -> Result<R::File, Fault> 
     File::open(rt, file.path).map_err(|error| refuse(file, Call::Open, error, fault))
 }
 
-/// Who may read, write and run an open file; where that is not told, its owner alone may read and
-/// write it.
-fn mode_of<F: OpenFile>(file: &F) -> u32 {
-    match file.metadata() {
-        Ok(metadata) => metadata.permissions().mode() & 0o777,
-        Err(_) => 0o600,
-    }
-}
-
-/// Makes a file anew, which nobody but those who may read and write `old` may read and write.
+/// Makes a new file, which nobody but those who may read and write `old` may read and write; where the mode
+/// of that is not known, its owner alone. `fault` where the file could not be made.
 ///
 /// The system takes the umask's bits away from the mode that a file is made with, so it is set once
 /// more; on a file system that keeps no modes that fails, and changes nothing.
-fn make_like<R: Files>(rt: &R, path: &str, old: &R::File) -> io::Result<R::File> {
-    let mode = mode_of(old);
+fn make<R: Files>(rt: &R, file: &Notes, old: &R::File, fault: Fault) -> Result<R::File, Fault> {
+    let mode = match old.metadata() {
+        Ok(metadata) => metadata.permissions().mode() & 0o777,
+        Err(_) => 0o600,
+    };
     let mut options = OpenOptions::new();
     options.read(true).write(true).create_new(true).mode(mode);
-    let file = options.open(rt, path)?;
-    let _ = file.set_permissions(Permissions::from_mode(mode));
-    Ok(file)
-}
-
-/// Makes a new file with the mode of an old one; `fault` where that failed.
-fn make<R: Files>(rt: &R, file: &Notes, old: &R::File, fault: Fault) -> Result<R::File, Fault> {
-    make_like(rt, file.path, old).map_err(|error| refuse(file, Call::Make, error, fault))
+    match options.open(rt, file.path) {
+        Ok(made) => {
+            let _ = made.set_permissions(Permissions::from_mode(mode));
+            Ok(made)
+        }
+        Err(error) => Err(refuse(file, Call::Make, error, fault)),
+    }
 }
 
 /// Asks that the name of a new file reaches the disk, which stands in its folder; `fault` where the

@@ -1,6 +1,7 @@
 //! The program: from its words to its exit status.
 
 use crate::files::{NewFiles, OldFiles, audit_files, recover_files};
+use crate::noted::Notes;
 use crate::verbose::{tell_audit, tell_recovery, tell_why};
 use command::{Job, Task, command_of};
 use recovery::{Report, report_text};
@@ -104,7 +105,10 @@ fn run_job<R: Files + Clock + Threads + Sync, O: Write, E: Write>(
             may_be_one,
         } => {
             let old = OldFiles::new(log.as_str(), store.as_str(), None);
-            let new = NewFiles::new(out_log.as_str(), out_store.as_str());
+            let new = NewFiles {
+                log: Notes::new("new log", out_log.as_str()),
+                store: Notes::new("new store", out_store.as_str()),
+            };
             let how = (options, *may_be_one);
             run_recovery(rt, alloc, (&old, &new), how, job.verbose, out, err)
         }

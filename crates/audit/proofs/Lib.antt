@@ -1,4 +1,3 @@
-pub mod Blocks
 pub mod Statuses
 pub mod StandingAfter
 pub mod Finishing

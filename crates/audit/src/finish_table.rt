@@ -62,14 +62,11 @@ impl FinishTable {
             ≡ (if tx == t then Some finish else finish_in self.old t)) }
         ensures err { IsOkUnless result NoResource }
     {
-        let number = tx / BLOCK as u32;
-        if let Some(block) = self.blocks.get_mut(&number) {
-            put(block, tx, finish);
-            return Ok(());
-        }
-        let mut block = [None; BLOCK];
-        put(&mut block, tx, finish);
-        self.blocks.insert(number, block)?;
+        let block = self
+            .blocks
+            .entry(tx / BLOCK as u32)?
+            .or_insert([None; BLOCK]);
+        put(block, tx, finish);
         Ok(())
     }
 }

@@ -46,19 +46,7 @@ pub fn read_source<S: Source>(
     }
 }
 
-/// Writes bytes to a sink and flushes it.
-fn write_whole<S: Sink>(sink: &mut S, bytes: &[u8]) -> Result<(), Failed>
-    ensures all { OnOk result (AreOut bytes.now (S.taken sink.old) (S.taken sink.new)
-        (S.flushed sink.old) (S.flushed sink.new)) }
-    ensures beginning { OnErr result
-        (TookBeginning (S.taken sink.old) (S.taken sink.new) bytes.now) }
-    ensures cause { Counts (S.failures sink.old) (S.failures sink.new) result }
-{
-    write_all(sink, bytes)?;
-    sink.flush()
-}
-
-/// Writes a log and flushes it: what is kept of the log read, and behind it the frames appended.
+/// Writes a log and flushes it: what is kept of the log read, and after it the frames appended.
 fn write_log<S: Sink>(sink: &mut S, kept: &LogBytes, frames: &[u8]) -> Result<(), Failed>
     ensures all { OnOk result (AreOut (kept.now ++ frames.now) (S.taken sink.old) (S.taken sink.new)
         (S.flushed sink.old) (S.flushed sink.new)) }
@@ -67,7 +55,8 @@ fn write_log<S: Sink>(sink: &mut S, kept: &LogBytes, frames: &[u8]) -> Result<()
     ensures cause { Counts (S.failures sink.old) (S.failures sink.new) result }
 {
     kept.write(sink)?;
-    write_whole(sink, frames)
+    write_all(sink, frames)?;
+    sink.flush()
 }
 
 /// Writes the new log, and then the new store, each whole and flushed before the next thing is

@@ -52,17 +52,11 @@ pub fn recovery_alone<'a>(
         report,
     } = remade_of(alloc, &records, torn, outcome)?;
     encode_store_into(&made, &mut store)?;
+    let kept = log.len().saturating_sub(report.torn as usize);
     Ok(Recovery {
-        kept: without_last(log, report.torn),
+        kept: &log[..kept],
         frames,
         store,
         report,
     })
-}
-
-/// Bytes without so many of the last ones.
-fn without_last(bytes: &[u8], count: u64) -> &[u8]
-    ensures { result.now ≡ take (length bytes.now - count) bytes.now }
-{
-    &bytes[..bytes.len().saturating_sub(count as usize)]
 }

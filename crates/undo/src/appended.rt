@@ -2,10 +2,10 @@
 
 ghost use Rattle.std.specs.Prelude.{◌≡◌, ℕ, length, map, IfOk, IsOkUnless};
 ghost use Rattle.page.specs.declared.fault.Fault.TheVariants.{NoResource};
-ghost use Rattle.wal.specs.Records.{history, record_at};
+ghost use Rattle.wal.specs.Records.{history};
 ghost use Rattle.wal.specs.Content.{content, shown};
 ghost use Rattle.wal.specs.Spelling.{Fits, frame};
-ghost use Rattle.undo.specs.Appended.{IsUpdate, HasUpdate, HaveUpdates, clr_of, record_of, records_of};
+ghost use Rattle.undo.specs.Appended.{HasUpdate, HaveUpdates, record_of, records_of};
 
 use page::Fault;
 use std::alloc::Global;
@@ -22,63 +22,6 @@ pub enum Appended {
     End { tx: u32, prev: u64 },
 }
 
-/// The CLR of the update at an LSN. `last` is the LSN of its transaction's last record.
-fn clr_of(log: &Log, update_lsn: u64, last: u64) -> Record
-    requires { IsUpdate (record_at (history log.now) update_lsn) }
-    ensures { content result ≡ clr_of last (record_at (history log.now) update_lsn) }
-{
-    let Some(
-        RecordView::Update {
-            tx,
-            prev,
-            page,
-            slot,
-            before,
-            ..
-        },
-    ) = log.get(update_lsn)
-    else {
-        unreachable!()
-    };
-    Record::Compensation {
-        tx,
-        prev: last,
-        page,
-        slot,
-        undo_next: prev,
-        image: value_of(before),
-    }
-}
-
-/// The same CLR, its image lent from the log.
-#[inline(always)]
-fn clr_view<'a>(log: &Log<'a>, update_lsn: u64, last: u64) -> RecordView<'a>
-    requires { IsUpdate (record_at (history log.now) update_lsn) }
-    ensures { shown result ≡ clr_of last (record_at (history log.now) update_lsn) }
-{
-    let Some(
-        RecordView::Update {
-            tx,
-            prev: undo_next,
-            page,
-            slot,
-            before: image,
-            ..
-        },
-    ) = log.get(update_lsn)
-    else {
-        unreachable!()
-    };
-    RecordView::Compensation {
-        tx,
-        prev: last,
-        page,
-        slot,
-        undo_next,
-        image,
-    }
-}
-
 /// How many bytes the frame takes of the record that is told.
 #[inline]
 pub fn frame_bytes_of(log: &Log, appended: Appended) -> u64
@@ -87,7 +30,30 @@ pub fn frame_bytes_of(log: &Log, appended: Appended) -> u64
     ensures { (lsn : ℕ) → result ≡ length (frame (record_of (history log.now) appended) lsn) }
 {
     match appended {
-        Appended::Compensation { update, prev } => clr_view(log, update, prev).frame_bytes(),
+        Appended::Compensation { update, prev } => {
+            let Some(
+                RecordView::Update {
+                    tx,
+                    prev: undo_next,
+                    page,
+                    slot,
+                    before: image,
+                    ..
+                },
+            ) = log.get(update)
+            else {
+                unreachable!()
+            };
+            let clr = RecordView::Compensation {
+                tx,
+                prev,
+                page,
+                slot,
+                undo_next,
+                image,
+            };
+            clr.frame_bytes()
+        }
         Appended::End { tx, prev } => RecordView::End { tx, prev }.frame_bytes(),
     }
 }
@@ -98,7 +64,29 @@ pub fn record_of(log: &Log, appended: Appended) -> Record
     ensures { content result ≡ record_of (history log.now) appended }
 {
     match appended {
-        Appended::Compensation { update, prev } => clr_of(log, update, prev),
+        Appended::Compensation { update, prev } => {
+            let Some(
+                RecordView::Update {
+                    tx,
+                    prev: next,
+                    page,
+                    slot,
+                    before,
+                    ..
+                },
+            ) = log.get(update)
+            else {
+                unreachable!()
+            };
+            Record::Compensation {
+                tx,
+                prev,
+                page,
+                slot,
+                undo_next: next,
+                image: value_of(before),
+            }
+        }
         Appended::End { tx, prev } => Record::End { tx, prev },
     }
 }

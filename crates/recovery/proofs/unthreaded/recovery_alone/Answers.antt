@@ -45,7 +45,7 @@ returns-clause-answer c =
     let log = c.args.log.now in
     let before = c.in_ok-before.before in
     let made = c.in_ok-frames.field-0 in
-    let kept : c.without_last.result.now ≡ take (length log - made.report.torn) log = c.without_last.ensures ∙ ap (λ n. take (length log - n) log) (ap (λ (report : ReportContent). report.torn) c.report.view_is) in
+    let kept : take c.saturating_sub-kept.result log ≡ take (length log - made.report.torn) log = ap (λ n. take n log) (c.saturating_sub-kept.ensures ∙ ap (λ n. length log - n) (ap (λ (report : ReportContent). report.torn) c.report.view_is)) in
     subst (λ (kept : List ℕ). Recovers log c.args.store.items (kept ++ made.frames.items) c.encode_store_into.new.bytes.items made.report) (sym kept)
     (subst (λ new. Recovers log c.args.store.items (log_of log made) new made.report) (sym c.in_ok-encode_store_into.ensures.ok)
     (c.in_ok-frames.ensures.answer log c.args.store.items before c.in_ok-records.ensures.found (subst (λ (text : List ℕ). SpellsStore text before) c.deref.ensures.value c.in_ok-before.ensures.found) c.in_ok-outcome.ensures.restarts))
@@ -59,7 +59,7 @@ returns-clause-lawful c = λ base bytes.
     let one = read_same (read, c.in_ok-records.torn) (bytes.decoded.read, bytes.decoded.torn) (c.in_ok-records.ensures.only bytes.decoded.read bytes.decoded.torn bytes.decoded.reads) in
     let same : before ≡ bytes.decoded.before = c.in_ok-before.ensures.only bytes.decoded.before (subst (λ (text : List ℕ). SpellsStore text bytes.decoded.before) (sym c.deref.ensures.value) bytes.decoded.spells) in
     let restored = c.in_ok-outcome.ensures.lawful base (is_lawful bytes read before (ap (λ x. x.0) one) same) in
-    let kept : c.without_last.result.now ≡ take (length log - made.report.torn) log = c.without_last.ensures ∙ ap (λ n. take (length log - n) log) (ap (λ (report : ReportContent). report.torn) c.report.view_is) in
+    let kept : take c.saturating_sub-kept.result log ≡ take (length log - made.report.torn) log = ap (λ n. take n log) (c.saturating_sub-kept.ensures ∙ ap (λ n. length log - n) (ap (λ (report : ReportContent). report.torn) c.report.view_is)) in
     subst (λ (kept : List ℕ). Recovered base bytes.decoded.read bytes.decoded.before (kept ++ made.frames.items) c.encode_store_into.new.bytes.items made.report) (sym kept)
     (subst (λ rs. Recovered base rs bytes.decoded.before (log_of log made) c.encode_store_into.new.bytes.items made.report) (ap (λ x. x.0) one)
     (subst (λ b. Recovered base read b (log_of log made) c.encode_store_into.new.bytes.items made.report) same
