@@ -1,6 +1,7 @@
 //! A log as an engine writes it, and what its records leave in the pages.
 
 use crate::chance::{Chance, in_order, low_16, low_32};
+use crate::values::Values;
 use anyhow::{Context, Result};
 use page::{PAGES, Page, SLOTS, Value, encode_page, store_header};
 use std::alloc::Global;
@@ -24,15 +25,6 @@ impl Running {
     pub fn new(number: u32) -> Running {
         Running { number, last: 0 }
     }
-}
-
-/// What values look like.
-#[derive(Clone, Copy, PartialEq, Eq)]
-pub enum Values {
-    /// The LSN and up to eight bytes by chance.
-    Bytes,
-    /// Eight to sixteen letters.
-    Letters,
 }
 
 /// A log that is being written.
@@ -86,9 +78,9 @@ impl Writer {
         })
     }
 
-    /// A log behind one that was archived, beside pages all of whose cells have values.
-    pub fn behind(alloc: Global, seed: u64) -> Result<Writer> {
-        let mut writer = Writer::new(alloc, seed, Values::Bytes)?;
+    /// A log after one that was archived, beside pages all of whose cells have values.
+    pub fn behind(alloc: Global, seed: u64, values: Values) -> Result<Writer> {
+        let mut writer = Writer::new(alloc, seed, values)?;
         let base = BASE + writer.chance.draw() % BASE;
         writer.bytes.clear();
         writer.bytes.extend_from_slice(&based_header(base))?;
@@ -128,19 +120,10 @@ impl Writer {
         Ok(lsn)
     }
 
-    /// A value that no cell has had.
+    /// A value that no cell has had, JSON aside.
     fn new_value(&mut self) -> Option<Value> {
         let drawn = self.chance.draw();
-        let mut bytes = [0; 16];
-        let (front, back) = bytes.split_at_mut(8);
-        front.copy_from_slice(&self.lsn.to_be_bytes());
-        back.copy_from_slice(&drawn.to_be_bytes());
-        if self.values == Values::Letters {
-            for byte in bytes.iter_mut() {
-                *byte = b'a' + (*byte & 15);
-            }
-        }
-        Value::new(&bytes[..8 + (drawn % 9) as usize])
+        self.values.value(self.lsn, drawn)
     }
 
     /// Appends an update of a cell.
