@@ -1,11 +1,12 @@
 #!/usr/bin/env python3
 """Runs the proved programs as they are: on rows of real size, on logs that are read in two parts, on the small rows in version 2, with threads counted, with
 files that are missing or stand already, with wrong lines, with --verbose, with prints that fail, and with each growth of memory refused in turn. And looks
-whether the documents and the man pages are true of them, and whether each wrong body that the prover must refuse can still be applied.
+whether the documents and the man pages are true of them, whether each wrong body that the prover must refuse can still be applied, and whether a workload takes
+more instructions than it may.
 
 usage: tests/run.py        at the top of the repository, behind `rt ci`, which builds the programs
 
-Prints a line for each check, and at last `N passed, N failed`; the status is 1 where one failed. Takes python3 and cc.
+Prints a line for each check, and at last `N passed, N failed`; the status is 1 where one failed. Takes python3 and cc, and valgrind for the instructions.
 """
 import os
 import re
@@ -327,6 +328,14 @@ def check_documents(tally):
     tally.say("rows in crates/rows/data/README.md", listed == folders, set(listed) ^ set(folders))
 
 
+def check_instructions(tally):
+    """Returns the lines that ask for a lower count to be kept, since among all others nobody sees them."""
+    ran = run([sys.executable, os.path.join(TOP, "bench/count.py")], text=True)
+    print(ran.stdout, end="")
+    tally.say("instructions of the workloads", ran.returncode == 0, ran.stderr)
+    return [line for line in ran.stdout.splitlines() if "KEEP" in line]
+
+
 def main():
     for program in (ARIES, ROW_RUNNER):
         if not os.path.exists(program):
@@ -337,6 +346,7 @@ def main():
     check_edits(tally)
     ways = run([sys.executable, os.path.join(TOP, "bench/way.py")])
     tally.say("no way through the crates is longer than it is to be", ways.returncode == 0, ways.stdout)
+    asked = check_instructions(tally)
     with tempfile.TemporaryDirectory(prefix="aries-tests-") as room:
         check_large_rows(tally, room)
         check_long_logs(tally, room)
@@ -349,7 +359,7 @@ def main():
         check_prints(tally, room)
         check_refusals(tally, room)
         check_dump(tally, room, Refuser(room))
-    print(f"{tally.passed} passed, {tally.failed} failed")
+    print(*asked, f"{tally.passed} passed, {tally.failed} failed", sep="\n")
     sys.exit(1 if tally.failed else 0)
 
 
