@@ -3,3 +3,4 @@ mod Writes
 mod Digits
 mod Places
 mod Fronts
+mod Escapes

@@ -1,10 +1,9 @@
 -- What a slot holds, as a line of a dump says it (own).
-use Rattle.std.specs.Prelude.{◌≡◌, ◌≤◌, ℕ, false, take, List, [], ◌∷◌, ◌++◌, Some, None, ◌==◌, ◌||◌, nat_lt, if◌then◌else◌, codes}
+use Rattle.std.specs.Prelude.{◌≡◌, ◌≤◌, ◌-◌, ℕ, false, take, length, slice_index, List, [], ◌∷◌, ◌++◌, Some, None, ◌==◌, ◌||◌, nat_lt, if◌then◌else◌, codes}
 use Rattle.std.specs.List.{flat_map}
 use Rattle.hex.specs.Hex.{encode_lower}
 use Rattle.page.specs.Image.{Image}
 use Rattle.dump.specs.declared.style.Style.{Style}
-use Rattle.dump.specs.declared.escape.Escape.{Escape}
 use Rattle.dump.specs.declared.style.Style.TheVariants.{Text, Json}
 
 -- what stands in front of the two digits of a byte that is not printable
@@ -23,10 +22,12 @@ escaped style byte =
 abbrev pub IsPlain : ℕ → Type 0
 IsPlain byte = ((byte == 34 || byte == 92) ≡ false) × ((nat_lt byte 32 || nat_lt 126 byte) ≡ false)
 
--- what a byte is between quotes, with other bytes after it
-pub record IsEscape (style : Style) (byte : ℕ) (e : Escape) : Type 0 where
-  pub text : take e.length e.text ≡ escaped style byte
-  pub short : e.length ≤ 6
+-- eight bytes that begin with what a byte is between quotes, and end with the digit for how many bytes that has
+pub record IsEscape (style : Style) (byte : ℕ) (entry : List ℕ) : Type 0 where
+  pub size : length entry ≡ 8
+  pub digit : 48 ≤ slice_index entry 7
+  pub text : take (slice_index entry 7 - 48) entry ≡ escaped style byte
+  pub short : slice_index entry 7 ≤ 54
 
 abbrev pub quoted : Style → List ℕ → List ℕ
 quoted style bytes = codes "\"" ++ flat_map (escaped style) bytes ++ codes "\""

@@ -9,7 +9,6 @@ ghost use Rattle.dump.specs.Line.{opening, closing, named, number_field, word_fi
 ghost use Rattle.dump.specs.declared.value.TheConstants.{IMAGE_ROOM};
 
 use crate::Style;
-use crate::escape::Escapes;
 use crate::value::put_image;
 use itoa::write_digits;
 use page::VALUE_BYTES;
@@ -158,7 +157,7 @@ pub fn put_word_field(buffer: &mut [u8], at: usize, style: Style, name: &str, te
 pub fn put_image_field(
     buffer: &mut [u8],
     at: usize,
-    escapes: &Escapes,
+    style: Style,
     name: &str,
     held: Option<&[u8]>,
 ) -> usize
@@ -166,8 +165,8 @@ pub fn put_image_field(
     requires room { at + length name.now + IMAGE_ROOM + 4 ≤ length buffer.old }
     ensures end { result ≤ at + length name.now + IMAGE_ROOM + 4 }
     ensures text { take result buffer.new ≡ take at buffer.old
-        ++ image_field escapes.now.style name.now (option_map (λ bytes. bytes.now) held.entry) }
+        ++ image_field style name.now (option_map (λ bytes. bytes.now) held.entry) }
 {
-    let at = put_name(buffer, at, escapes.style, name);
-    put_image(buffer, at, escapes, held)
+    let at = put_name(buffer, at, style, name);
+    put_image(buffer, at, style, held)
 }

@@ -11,7 +11,6 @@ ghost use Rattle.wal.specs.Records.{LogContent, history};
 ghost use Rattle.wal.specs.Spelling.{Fits};
 ghost use Rattle.dump.specs.LogLines.{log_line, place_behind, line_if_asked, record_lines, torn_line, log_lines, ListsLog, ListsFront, ListsToFault, fault_at, IsNoFault};
 
-use crate::escape::Escapes;
 use crate::line::{closing, put_number_field, put_opening, put_text};
 use crate::record::{LineRoom, RECORD_ROOM, put_record};
 use crate::{Choice, Stop, Style};
@@ -54,8 +53,8 @@ fn print_record<W: Write>(
 ) -> Result<(), Stop>
     requires { Fits (shown view.now) }
     ensures printed { OnOk result (Appends (W.contents out.old) (W.contents out.new)
-        (line_if_asked room.old.escapes.style choice.now offset lsn (shown view.now))) }
-    ensures style { room.new.escapes.style ≡ room.old.escapes.style }
+        (line_if_asked room.old.style choice.now offset lsn (shown view.now))) }
+    ensures style { room.new.style ≡ room.old.style }
     ensures err { IfErr result IsNoFault }
 {
     if !choice.asks_for(lsn, view) {
@@ -65,7 +64,7 @@ fn print_record<W: Write>(
     put_record(
         &mut room.line,
         &mut room.buffer,
-        &room.escapes,
+        room.style,
         offset,
         lsn,
         view,
@@ -92,7 +91,7 @@ fn print_records<W: Write>(
 {
     let mut place = header;
     let mut room = LineRoom {
-        escapes: Escapes::of(style),
+        style,
         buffer: [0; RECORD_ROOM],
         line: Vec::new(alloc),
     };

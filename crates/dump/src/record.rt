@@ -7,7 +7,6 @@ ghost use Rattle.dump.specs.Record.{kind_word, plain_fields, cell_fields, short_
 ghost use Rattle.dump.specs.declared.record.TheConstants.{FIELDS_ROOM};
 
 use crate::Style;
-use crate::escape::Escapes;
 use crate::line::{closing, put_image_field, put_number_field, put_opening};
 use crate::tables::{put_dirty, put_transactions};
 use crate::value::IMAGE_ROOM;
@@ -25,8 +24,8 @@ pub const RECORD_ROOM: usize = FIELDS_ROOM + 83;
 /// What the lines of records are put together in.
 #[derive(Drop)]
 pub struct LineRoom {
-    /// What each byte of a value is between quotes.
-    pub escapes: Escapes,
+    /// How they are written.
+    pub style: Style,
     /// Where a line is put together up to the tables of its record.
     pub buffer: [u8; RECORD_ROOM],
     /// The whole line.
@@ -73,14 +72,13 @@ fn put_cell(buffer: &mut [u8], at: usize, style: Style, page: u32, slot: u8) -> 
 }
 
 /// Writes the fields of a record after its LSN, without the tables of a checkpoint end.
-fn put_short_fields(buffer: &mut [u8], at: usize, escapes: &Escapes, view: &RecordView) -> usize
+fn put_short_fields(buffer: &mut [u8], at: usize, style: Style, view: &RecordView) -> usize
     requires fits { Fits (shown view.now) }
     requires room { at + FIELDS_ROOM ≤ length buffer.old }
     ensures end { result ≤ at + FIELDS_ROOM }
     ensures text { take result buffer.new
-        ≡ take at buffer.old ++ short_fields escapes.now.style (shown view.now) }
+        ≡ take at buffer.old ++ short_fields style (shown view.now) }
 {
-    let style = escapes.style;
     match view {
         RecordView::Update {
             tx,
@@ -92,8 +90,8 @@ fn put_short_fields(buffer: &mut [u8], at: usize, escapes: &Escapes, view: &Reco
         } => {
             let at = put_plain(buffer, at, style, *tx, *prev);
             let at = put_cell(buffer, at, style, *page, *slot);
-            let at = put_image_field(buffer, at, escapes, "before", *before);
-            put_image_field(buffer, at, escapes, "after", *after)
+            let at = put_image_field(buffer, at, style, "before", *before);
+            put_image_field(buffer, at, style, "after", *after)
         }
         RecordView::Compensation {
             tx,
@@ -106,7 +104,7 @@ fn put_short_fields(buffer: &mut [u8], at: usize, escapes: &Escapes, view: &Reco
             let at = put_plain(buffer, at, style, *tx, *prev);
             let at = put_cell(buffer, at, style, *page, *slot);
             let at = put_number_field(buffer, at, style, "UndoNxtLSN", *undo_next);
-            put_image_field(buffer, at, escapes, "image", *image)
+            put_image_field(buffer, at, style, "image", *image)
         }
         RecordView::Commit { tx, prev } => put_plain(buffer, at, style, *tx, *prev),
         RecordView::Abort { tx, prev } => put_plain(buffer, at, style, *tx, *prev),
@@ -143,19 +141,18 @@ fn put_tables(line: &mut Vec<u8>, style: Style, view: &RecordView) -> Result<(),
 pub fn put_record(
     line: &mut Vec<u8>,
     buffer: &mut [u8; RECORD_ROOM],
-    escapes: &Escapes,
+    style: Style,
     offset: u64,
     lsn: u64,
     view: &RecordView,
 ) -> Result<(), AllocError>
     requires { Fits (shown view.now) }
     ensures { OnOk result (line.new.items
-        ≡ line.old.items ++ record_line escapes.now.style offset lsn (shown view.now)) }
+        ≡ line.old.items ++ record_line style offset lsn (shown view.now)) }
 {
-    let style = escapes.style;
     let at = put_opening(buffer, style, offset, kind_word(view));
     let at = put_number_field(buffer, at, style, "LSN", lsn);
-    let at = put_short_fields(buffer, at, escapes, view);
+    let at = put_short_fields(buffer, at, style, view);
     line.extend_from_slice(&buffer[..at])?;
     put_tables(line, style, view)?;
     line.extend_from_slice(closing(style))?;

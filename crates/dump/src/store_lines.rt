@@ -11,7 +11,6 @@ ghost use Rattle.page.specs.declared.fault.Fault.{Fault};
 ghost use Rattle.dump.specs.LogLines.{IsNoFault};
 
 use crate::choice::meets;
-use crate::escape::Escapes;
 use crate::line::{closing, put_number, put_number_field, put_opening, put_text};
 use crate::value::{IMAGE_ROOM, put_value};
 use crate::{Stop, Style};
@@ -67,19 +66,19 @@ fn put_slot_name(buffer: &mut [u8], style: Style, slot: usize) -> usize
 /// Appends the field of a slot; of one that holds nothing, none.
 fn put_slot(
     line: &mut Vec<u8>,
-    escapes: &Escapes,
+    style: Style,
     slot: usize,
     held: &Option<Value>,
 ) -> Result<(), AllocError>
     ensures { OnOk result (line.new.items
-        ≡ line.old.items ++ slot_field escapes.now.style slot held.now) }
+        ≡ line.old.items ++ slot_field style slot held.now) }
 {
     match held {
         None => Ok(()),
         Some(value) => {
             let mut buffer = [0; SLOT_ROOM];
-            let at = put_slot_name(&mut buffer, escapes.style, slot);
-            let at = put_value(&mut buffer, at, escapes, value.as_slice());
+            let at = put_slot_name(&mut buffer, style, slot);
+            let at = put_value(&mut buffer, at, style, value.as_slice());
             line.extend_from_slice(&buffer[..at])
         }
     }
@@ -88,50 +87,49 @@ fn put_slot(
 /// Appends the fields of a page's slots.
 fn put_slots(
     line: &mut Vec<u8>,
-    escapes: &Escapes,
+    style: Style,
     slots: &[Option<Value>; SLOTS],
 ) -> Result<(), AllocError>
     ensures { OnOk result (line.new.items
-        ≡ line.old.items ++ slot_fields escapes.now.style 0 slots.now) }
+        ≡ line.old.items ++ slot_fields style 0 slots.now) }
 {
     for (slot, held) in slots.iter().enumerate() {
-        put_slot(line, escapes, slot, held)?;
+        put_slot(line, style, slot, held)?;
     }
     Ok(())
 }
 
 /// Appends the line of a page.
-fn put_page(line: &mut Vec<u8>, escapes: &Escapes, page: &Page) -> Result<(), AllocError>
-    ensures { OnOk result (line.new.items ≡ line.old.items ++ page_line escapes.now.style page.now) }
+fn put_page(line: &mut Vec<u8>, style: Style, page: &Page) -> Result<(), AllocError>
+    ensures { OnOk result (line.new.items ≡ line.old.items ++ page_line style page.now) }
 {
-    let style = escapes.style;
     let offset = FIRST_IMAGE + PAGE_BYTES as u64 * page.number as u64;
     let mut buffer = [0; OPENING_ROOM];
     let at = put_opening(&mut buffer, style, offset, "page");
     let at = put_number_field(&mut buffer, at, style, "number", page.number as u64);
     let at = put_number_field(&mut buffer, at, style, "PageLSN", page.lsn);
     line.extend_from_slice(&buffer[..at])?;
-    put_slots(line, escapes, &page.slots)?;
+    put_slots(line, style, &page.slots)?;
     line.extend_from_slice(closing(style))
 }
 
 /// Prints the line of a page where it is asked for. What `line` holds counts for nothing.
 fn print_page<W: Write>(
     page: &Page,
-    escapes: &Escapes,
+    style: Style,
     asked: Option<u32>,
     line: &mut Vec<u8>,
     out: &mut W,
 ) -> Result<(), Stop>
     ensures printed { OnOk result (Appends (W.contents out.old) (W.contents out.new)
-        (page_if_asked escapes.now.style asked page.now)) }
+        (page_if_asked style asked page.now)) }
     ensures err { IfErr result IsNoFault }
 {
     if !meets(asked, Some(page.number)) {
         return Ok(());
     }
     line.clear();
-    put_page(line, escapes, page)?;
+    put_page(line, style, page)?;
     out.write_all(line)?;
     Ok(())
 }
@@ -148,12 +146,11 @@ fn print_store<W: Write>(
         (store_lines style asked store.now)) }
     ensures err { IfErr result IsNoFault }
 {
-    let escapes = Escapes::of(style);
     let mut line = Vec::new(alloc);
     put_store(&mut line, style, store)?;
     out.write_all(&line)?;
     for page in &store.pages {
-        print_page(page, &escapes, asked, &mut line, out)?;
+        print_page(page, style, asked, &mut line, out)?;
     }
     Ok(())
 }
@@ -163,18 +160,18 @@ fn print_store<W: Write>(
 fn print_image<W: Write>(
     image: &[u8; PAGE_BYTES],
     number: u32,
-    escapes: &Escapes,
+    style: Style,
     asked: Option<u32>,
     line: &mut Vec<u8>,
     out: &mut W,
 ) -> Result<(), Stop>
     ensures printed { OnOk result ((text : List ℕ)
-        × IsLineOf escapes.now.style asked image.now number text
+        × IsLineOf style asked image.now number text
         × Appends (W.contents out.old) (W.contents out.new) text) }
     ensures err { IfErr result IsNoFault }
 {
     match decode_page(image, number) {
-        Ok(page) => print_page(&page, escapes, asked, line, out),
+        Ok(page) => print_page(&page, style, asked, line, out),
         Err(_) => Ok(()),
     }
 }
@@ -206,11 +203,10 @@ fn print_images<W: Write>(
     ensures err { IfErr result IsNoFault }
 {
     let count = images.len() / PAGE_BYTES;
-    let escapes = Escapes::of(style);
     let mut line = Vec::new(alloc);
     for number in 0..count {
         let image = image_at(images, number);
-        print_image(image, number as u32, &escapes, asked, &mut line, out)?;
+        print_image(image, number as u32, style, asked, &mut line, out)?;
     }
     Ok(())
 }

@@ -8,7 +8,7 @@ ghost use Rattle.dump.specs.Values.{IsPlain, escaped, value, image};
 ghost use Rattle.dump.specs.declared.value.TheConstants.{IMAGE_ROOM};
 
 use crate::Style;
-use crate::escape::{ESCAPE_ROOM, Escapes, is_plain};
+use crate::escape::{ESCAPE_BYTES, escape_of, is_plain};
 use crate::line::put_text;
 use page::VALUE_BYTES;
 
@@ -44,20 +44,20 @@ fn plain_in_front(bytes: &[u8]) -> usize
     bytes.len()
 }
 
-/// Writes what each byte is between quotes. Of each [`ESCAPE_ROOM`] bytes are written; those that do not count
+/// Writes what each byte is between quotes. Of each [`ESCAPE_BYTES`] bytes are written; those that do not count
 /// are then written over by what comes next.
 #[inline(always)]
-fn put_escapes(buffer: &mut [u8], at: usize, escapes: &Escapes, bytes: &[u8]) -> usize
+fn put_escapes(buffer: &mut [u8], at: usize, style: Style, bytes: &[u8]) -> usize
     requires { at + 6 * length bytes.now + 2 ≤ length buffer.old }
     ensures end { result ≤ at + 6 * length bytes.now }
     ensures text { take result buffer.new
-        ≡ take at buffer.old ++ flat_map (escaped escapes.now.style) bytes.now }
+        ≡ take at buffer.old ++ flat_map (escaped style) bytes.now }
 {
     let mut end = at;
     for byte in bytes {
-        let escape = escapes.get(*byte);
-        buffer[end..end + ESCAPE_ROOM].copy_from_slice(&escape.text);
-        end += escape.length;
+        let escape = escape_of(style, *byte);
+        buffer[end..end + ESCAPE_BYTES].copy_from_slice(escape);
+        end += (escape[ESCAPE_BYTES - 1] - b'0') as usize;
     }
     end
 }
@@ -65,36 +65,36 @@ fn put_escapes(buffer: &mut [u8], at: usize, escapes: &Escapes, bytes: &[u8]) ->
 /// Writes what stands between quotes. The bytes in front that stand for themselves, of most texts all, are
 /// copied at once.
 #[inline(always)]
-fn put_each(buffer: &mut [u8], at: usize, escapes: &Escapes, bytes: &[u8]) -> usize
+fn put_each(buffer: &mut [u8], at: usize, style: Style, bytes: &[u8]) -> usize
     requires { at + 6 * length bytes.now + 2 ≤ length buffer.old }
     ensures end { result ≤ at + 6 * length bytes.now }
     ensures text { take result buffer.new
-        ≡ take at buffer.old ++ flat_map (escaped escapes.now.style) bytes.now }
+        ≡ take at buffer.old ++ flat_map (escaped style) bytes.now }
 {
     let (plain, rest) = bytes.split_at(plain_in_front(bytes));
     let end = at + plain.len();
     buffer[at..end].copy_from_slice(plain);
-    put_escapes(buffer, end, escapes, rest)
+    put_escapes(buffer, end, style, rest)
 }
 
 /// Writes a value: its bytes as text between quotes, and in hexadecimal.
-pub fn put_value(buffer: &mut [u8], at: usize, escapes: &Escapes, bytes: &[u8]) -> usize
+pub fn put_value(buffer: &mut [u8], at: usize, style: Style, bytes: &[u8]) -> usize
     requires short { length bytes.now ≤ VALUE_BYTES }
     requires room { at + IMAGE_ROOM ≤ length buffer.old }
     ensures end { result ≤ at + IMAGE_ROOM }
-    ensures text { take result buffer.new ≡ take at buffer.old ++ value escapes.now.style bytes.now }
+    ensures text { take result buffer.new ≡ take at buffer.old ++ value style bytes.now }
 {
-    match escapes.style {
+    match style {
         Style::Text => {
             let at = put_text(buffer, at, b"\"");
-            let at = put_each(buffer, at, escapes, bytes);
+            let at = put_each(buffer, at, style, bytes);
             let at = put_text(buffer, at, b"\" (");
             let at = put_hex(buffer, at, bytes);
             put_text(buffer, at, b")")
         }
         Style::Json => {
             let at = put_text(buffer, at, b"{\"text\":\"");
-            let at = put_each(buffer, at, escapes, bytes);
+            let at = put_each(buffer, at, style, bytes);
             let at = put_text(buffer, at, b"\",\"hex\":\"");
             let at = put_hex(buffer, at, bytes);
             put_text(buffer, at, b"\"}")
@@ -103,18 +103,18 @@ pub fn put_value(buffer: &mut [u8], at: usize, escapes: &Escapes, bytes: &[u8]) 
 }
 
 /// Writes what a slot holds.
-pub fn put_image(buffer: &mut [u8], at: usize, escapes: &Escapes, held: Option<&[u8]>) -> usize
+pub fn put_image(buffer: &mut [u8], at: usize, style: Style, held: Option<&[u8]>) -> usize
     requires fits { IfSome held (λ bytes. length bytes.now ≤ VALUE_BYTES) }
     requires room { at + IMAGE_ROOM ≤ length buffer.old }
     ensures end { result ≤ at + IMAGE_ROOM }
     ensures text { take result buffer.new ≡ take at buffer.old
-        ++ image escapes.now.style (option_map (λ bytes. bytes.now) held.entry) }
+        ++ image style (option_map (λ bytes. bytes.now) held.entry) }
 {
     match held {
-        None => match escapes.style {
+        None => match style {
             Style::Text => put_text(buffer, at, b"absent"),
             Style::Json => put_text(buffer, at, b"null"),
         },
-        Some(bytes) => put_value(buffer, at, escapes, bytes),
+        Some(bytes) => put_value(buffer, at, style, bytes),
     }
 }

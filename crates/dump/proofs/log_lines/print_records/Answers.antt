@@ -1,4 +1,4 @@
-use Rattle.std.proofs.Common.{suc, ◌≡◌, ◌+◌, ◌++◌, ◌∙◌, ap, sym, subst, arith}
+use Rattle.std.proofs.Common.{suc, ◌≡◌, ◌+◌, ◌++◌, ◌∙◌, ap, sym, refl, subst, arith}
 use Rattle.std.proofs.KnownBytes.{Appends-nil, Appends-trans}
 use Rattle.std.specs.Io.KnownBytes.{Appends}
 use Rattle.wal.specs.Content.{shown}
@@ -13,7 +13,7 @@ loop-lsn-init g c =
     let none = first_at_base (history c.args.log.now) c.base-lsn.result c.base-lsn.ensures.is in
     record {
       printed = subst (λ log. Appends (g.W.Write.contents c.args.out.now) (g.W.Write.contents c.args.out.now) (record_lines c.args.style c.args.choice.now c.args.header log)) (sym none) (Appends-nil (g.W.Write.contents c.args.out.now));
-      style = c.of.ensures;
+      style = refl;
       at = ap (place_behind c.args.header) (sym none);
     }
 

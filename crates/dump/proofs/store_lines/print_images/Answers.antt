@@ -8,10 +8,9 @@ loop-number-preserved g c =
     let number = c.loop-number.number in
     let next : suc number ≡ number + 1 = omega arith in
     let (front, lines, printed) = c.loop-number.invariant in
-    let (line, is, more) = c.in_ok-print_image.ensures.printed in
-    let own = subst (λ style. IsLineOf style c.args.asked c.image_at-image.result.now number line) c.of-escapes.ensures is in (
+    let (line, is, more) = c.in_ok-print_image.ensures.printed in (
       front ++ line,
       subst (λ n. AreLinesOf c.args.style c.args.asked c.args.images.now n (front ++ line)) next
-          (front, line, lines, subst (λ (image : List ℕ). IsLineOf c.args.style c.args.asked image number line) c.image_at-image.ensures own, refl),
+          (front, line, lines, subst (λ (image : List ℕ). IsLineOf c.args.style c.args.asked image number line) c.image_at-image.ensures is, refl),
       Appends-trans _ _ _ front line printed more,
     )

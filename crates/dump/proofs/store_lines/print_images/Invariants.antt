@@ -5,4 +5,4 @@ use Rattle.dump.proofs.store_lines.print_images.Given as goal
 
 abbrev pub invariant-loop-number : goal.invariant-loop-number
 invariant-loop-number g l =
-    (text : List ℕ) × AreLinesOf l.fn.style l.asked l.images l.number text × Appends (g.W.Write.contents l.fn.out) (g.W.Write.contents l.out) text
+    (text : List ℕ) × AreLinesOf l.style l.asked l.images l.number text × Appends (g.W.Write.contents l.fn.out) (g.W.Write.contents l.out) text

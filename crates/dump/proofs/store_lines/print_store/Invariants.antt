@@ -6,4 +6,4 @@ use Rattle.dump.proofs.store_lines.print_store.Given as goal
 
 abbrev pub invariant-loop-page : goal.invariant-loop-page
 invariant-loop-page g l =
-    Appends (g.W.Write.contents l.initial.out) (g.W.Write.contents l.out) (flat_map (page_if_asked l.fn.style l.asked) (take l.page-index l.store.pages))
+    Appends (g.W.Write.contents l.initial.out) (g.W.Write.contents l.out) (flat_map (page_if_asked l.style l.asked) (take l.page-index l.store.pages))

@@ -5,7 +5,7 @@ use Rattle.dump.proofs.store_lines.put_slots.Goals as goal
 
 pub loop-slot-preserved : goal.loop-slot-preserved
 loop-slot-preserved c =
-    let style = c.args.escapes.now.style in
+    let style = c.args.style in
     let slot = c.loop-slot.slot in
     let slots = c.args.slots.now in
     let held = c.index-slots-slot.result in

@@ -11,10 +11,10 @@ returns-clause-text c =
     let at = c.args.at in
     let bytes = c.args.bytes.now in
     let count = c.plain_in_front.result in
-    let each = flat_map (escaped c.args.escapes.now.style) in
+    let each = flat_map (escaped c.args.style) in
     let copied = c.copy_from_slice.ensures.after ∙ c.split_at.ensures.front in
     let end = at + length c.split_at.result.0.now in
     let front = take-put_mid at (end - at) old c.copy_from_slice.new.self end (omega (arith, ap length c.copy_from_slice.ensures.after)) (omega arith) in
     c.put_escapes.ensures.text ∙ ap₂ (λ x y. x ++ each y) (front ∙ ap (λ x. take at old ++ x) copied) c.split_at.ensures.back
     ∙ append_assoc (take at old) (take count bytes) (each (drop count bytes))
-    ∙ ap (λ x. take at old ++ x) (sym (plain_stay c.args.escapes.now.style bytes count c.plain_in_front.ensures.plain))
+    ∙ ap (λ x. take at old ++ x) (sym (plain_stay c.args.style bytes count c.plain_in_front.ensures.plain))
