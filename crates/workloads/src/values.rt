@@ -23,7 +23,8 @@ pub enum Values {
 }
 
 impl Values {
-    /// The value that is written at an LSN, made from that and a number by chance.
+    /// The value that is written at an LSN, made from that and a number by chance. What makes a long
+    /// value is not inlined, since each call would clear its locals.
     pub fn value(self, lsn: u64, drawn: u64) -> Option<Value> {
         match self {
             Values::Bytes => short_of(numbered(lsn, drawn), drawn),
@@ -60,6 +61,7 @@ fn in_letters<const N: usize>(mut bytes: [u8; N]) -> [u8; N] {
 }
 
 /// Bytes by chance.
+#[inline(never)]
 fn by_chance(drawn: u64) -> [u8; VALUE_BYTES] {
     let mut chance = Chance::new(drawn);
     let mut bytes = [0; VALUE_BYTES];
@@ -71,6 +73,7 @@ fn by_chance(drawn: u64) -> [u8; VALUE_BYTES] {
 }
 
 /// Letters and a line feed.
+#[inline(never)]
 fn line_of(drawn: u64) -> Option<Value> {
     let mut bytes = in_letters(by_chance(drawn));
     if let Some(last) = bytes.last_mut() {
@@ -80,6 +83,7 @@ fn line_of(drawn: u64) -> Option<Value> {
 }
 
 /// An object as engines keep them: `{"id":7,"name":"x"}`.
+#[inline(never)]
 fn json_of(drawn: u64) -> Option<Value> {
     let digit = b'0' + (drawn % 10) as u8;
     let [first, second, third, ..] = in_letters(drawn.to_be_bytes());
@@ -92,6 +96,7 @@ fn json_of(drawn: u64) -> Option<Value> {
 }
 
 /// Words of six letters, one of which has an accent.
+#[inline(never)]
 fn words_of(drawn: u64) -> Option<Value> {
     let mut bytes = by_chance(drawn);
     let (eights, _) = bytes.as_mut_slice().as_chunks_mut::<8>();
