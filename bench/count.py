@@ -5,7 +5,8 @@ usage: bench/count.py [--keep] [--program FILE] [JOB..]
 
 The runs are the small ones of crates/workloads/stdout and the LARGER ones below, or those of each JOB. Each is run under
 `valgrind --tool=callgrind`. What the program's own functions take counts; what the C library takes does not, since its
-copies differ from processor to processor. A run fails that takes more than 3 % above what is kept, and prints the ten
+copies differ from processor to processor. So a request for memory, which the library serves, counts as much as it takes
+there, about. A run fails that takes more than 3 % above what is kept, and prints the ten
 functions that grew most. One that takes more than 3 % below asks for its count to be kept: --keep does that, for the runs
 that are counted. The status is 1 where a run fails. Where valgrind is missing nothing is counted, which fails where CI is
 set in the environment.
@@ -25,6 +26,8 @@ KEPT = os.path.join(HERE, "instructions.txt")
 ALLOWED = 0.03  # what a count may differ from the one kept
 SHARE = 0.01  # a function with a smaller share of its run is not kept
 AT_ONCE = 4
+REQUEST = 200  # the instructions that count for a request for memory, and what is asked through
+ASKED_THROUGH = ("rattle_alloc", "rattle_realloc")
 # Of a small run the pages of its stores take most, so that little is seen of what a record takes. These are the longest
 # first, so that no processor waits for them at the end.
 LARGER = {"mixed": 500_000, "rollback": 20_000, "recover": 1_000_000, "dump": 1_000_000, "audit": 1_000_000, "write": 200_000}
@@ -67,7 +70,11 @@ class Names:
 def own_costs(path, program):
     """What each function of the program takes by itself. Instances of one function count together: what is in `<#..>` changes with any of their types."""
     objects, functions, costs = Names(), Names(), {}
-    is_own, function, is_call = False, None, False
+
+    def add(name, cost):
+        costs[name] = costs.get(name, 0) + cost
+
+    is_own, function, called, is_call = False, None, None, False
     for line in lines_of(path):
         key, equals, text = line.partition("=")
         if key == "ob":
@@ -77,12 +84,14 @@ def own_costs(path, program):
         elif key == "fn":
             function = re.sub(r"(::)?<#\w+>", "", functions.name(text))
         elif key == "cfn":
-            functions.name(text)
+            called = functions.name(text)
         elif key == "calls":
             is_call = True
+            if called in ASKED_THROUGH:
+                add("requests for memory", REQUEST * int(text.split()[0]))
         elif not equals and line[:1] in "0123456789+-*" and line:
             if is_own and not is_call:
-                costs[function] = costs.get(function, 0) + int(line.split()[1])
+                add(function, int(line.split()[1]))
             is_call = False
     return costs
 
@@ -126,7 +135,7 @@ def print_grown(total, kept, costs):
     """Prints the ten functions that grew most. Of one that is not kept it is known that it took less than a share of its run."""
     most = int(SHARE * total)
     grown = sorted(((cost - kept.get(name, most), name) for name, cost in costs.items()), reverse=True)
-    for more, name in grown[:10]:
+    for more, name in [entry for entry in grown[:10] if entry[0] > 0]:
         before = kept.get(name, f"below {most}")
         print(f"  {name}: {before} kept, {costs[name]} now, {more:+}")
 
