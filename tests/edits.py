@@ -65,7 +65,7 @@ def check_edits(tally):
 
 # What `rt must-fail` says of an edit, and the words by which it says that no contract refused it.
 TRIED = re.compile(r"(?:rt: )?must-fail (?P<edit>\S+): (?P<verdict>[A-Za-z ,]+?)(?: (?P<remark>\(only .*)|: (?P<reason>.*))?$")
-NO_CONTRACT = re.compile(r"\(only |does not cover|is no goal|has no goal|not in scope|error\[[\w-]+\]")
+NO_CONTRACT = re.compile(r"\(only |does not cover|is no goal|has no goal|not in scope|: record `Rattle\.|error\[[\w-]+\]")
 
 
 def verdicts(lines):
