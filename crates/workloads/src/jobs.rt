@@ -1,19 +1,23 @@
 //! The jobs that a user waits for.
 
-use crate::calls::{audit_into, list_into, put_frame, recover_alone_into, recover_into};
+mod buffers;
+mod calls;
+pub mod mixed;
+
 use crate::chance::{Chance, low_32};
-use crate::digest::Digest;
+use crate::digest::{Digest, DigestSink};
 use crate::other::{Change, change_pair, change_store};
-use crate::shapes::{pending, rounds, short};
-use crate::values::Values;
-use crate::writer::Writer;
+use crate::shapes::{Pair, pending, rounds, short};
+use crate::writer::{Values, Writer};
 use anyhow::Result;
-use aries::audit_texts_over;
-use dump::Style;
+use aries::{
+    MemorySource, OpenGate, Options, Report, audit_texts, audit_texts_over, recover, recovery_alone,
+};
+use dump::{Choice, Style, list_log};
 use page::Value;
 use std::alloc::Global;
 use std::thread::Threads;
-use wal::Record;
+use wal::{Record, write_frame};
 
 /// How large a job's input is, and the number that it is made from.
 #[derive(Clone, Copy)]
@@ -21,6 +25,63 @@ pub struct Input {
     /// In bytes, updates or records, as the job has it.
     pub size: usize,
     pub seed: u64,
+}
+
+/// Takes what a report says.
+fn take_report(digest: &mut Digest, report: &Report) {
+    digest.take_number(report.records);
+    digest.take_number(report.torn);
+    digest.take_number(report.redo_from);
+    digest.take_number(report.redone);
+    digest.take_number(report.losers);
+    digest.take_number(report.compensated);
+    digest.take_number(report.ended);
+    digest.take_number(report.pages);
+    for transaction in &report.in_doubt {
+        digest.take_number(*transaction as u64);
+    }
+}
+
+/// Recovers over memory, and takes what is written and reported.
+fn recover_into<R: Threads + Sync>(
+    rt: &R,
+    alloc: Global,
+    log: &[u8],
+    store: &[u8],
+    workers: u32,
+    digest: &mut Digest,
+) -> Result<()> {
+    let mut new_log = DigestSink::new();
+    let mut new_store = DigestSink::new();
+    let options = Options {
+        workers,
+        parts: workers,
+    };
+    let report = recover(
+        rt,
+        alloc,
+        &mut MemorySource::new(log),
+        &mut MemorySource::new(store),
+        &mut new_log,
+        &mut new_store,
+        &options,
+        &OpenGate,
+    )?;
+    digest.take_number(new_log.digest.value());
+    digest.take_number(new_store.digest.value());
+    take_report(digest, &report);
+    Ok(())
+}
+
+/// Recovers in one thread, in memory, and takes what is made.
+fn recover_alone_into(alloc: Global, pair: &Pair, digest: &mut Digest) -> Result<()> {
+    let store = Vec::from_slice(alloc, &pair.store)?;
+    let recovery = recovery_alone(alloc, &pair.log, store)?;
+    digest.take(recovery.kept);
+    digest.take(&recovery.frames);
+    digest.take(&recovery.store);
+    take_report(digest, &recovery.report);
+    Ok(())
 }
 
 /// Recovery of long logs, with empty pages and with a checkpoint at 90 percent, by one worker and by four.
@@ -67,6 +128,13 @@ pub fn of_rollback<R: Threads + Sync>(
             recover_alone_into(alloc, &pair, digest)?;
         }
     }
+    Ok(())
+}
+
+/// Audits a pair, which has to be lawful.
+fn audit_into(alloc: Global, log: &[u8], store: &[u8], digest: &mut Digest) -> Result<()> {
+    audit_texts(alloc, log, store)?;
+    digest.take_number(log.len() as u64);
     Ok(())
 }
 
@@ -121,6 +189,15 @@ fn record_of(drawn: u64, before: u64) -> Record {
     }
 }
 
+/// Appends the frame of a record that has a spelling.
+fn put_frame(logged: &Record, lsn: u64, out: &mut Vec<u8>) -> Result<()> {
+    if lsn == 0 || !logged.is_writable() {
+        return Err(anyhow::Error::msg("a record has no spelling"));
+    }
+    write_frame(logged, lsn, out)?;
+    Ok(())
+}
+
 /// Writes frames of some thousand records, again and again at other LSNs: every other one into a buffer that
 /// is emptied at 64 KiB, and the others each into one of its own. The size is the number of frames.
 pub fn of_writing(alloc: Global, input: Input, digest: &mut Digest) -> Result<()> {
@@ -154,6 +231,19 @@ pub fn of_writing(alloc: Global, input: Input, digest: &mut Digest) -> Result<()
     Ok(())
 }
 
+/// Lists a whole log.
+fn list_into(alloc: Global, log: &[u8], style: Style, digest: &mut Digest) -> Result<()> {
+    let all = Choice {
+        from: 0,
+        to: u64::MAX,
+        transaction: None,
+        page: None,
+    };
+    list_log(alloc, log, style, &all, digest).map_err(|_| anyhow::Error::msg(
+        "a log was not listed",
+    ))
+}
+
 /// Lists logs as text and as JSON, with values of bytes and of letters. The size is that of a log in bytes.
 pub fn of_listing(alloc: Global, input: Input, digest: &mut Digest) -> Result<()> {
     let mut chance = Chance::new(input.seed);
@@ -180,7 +270,7 @@ pub fn of_small_ones<R: Threads + Sync>(
 ) -> Result<()> {
     let mut chance = Chance::new(input.seed);
     for size in [1_000_000, 100_000] {
-        let writer = Writer::behind(alloc, chance.draw(), Values::Bytes)?;
+        let writer = Writer::behind(alloc, chance.draw())?;
         let mut pair = rounds(alloc, writer, size)?;
         for at in 0..input.size / 2 {
             if at % 2 == 0 {
@@ -211,7 +301,7 @@ pub fn of_inputs(alloc: Global, input: Input, digest: &mut Digest) -> Result<()>
     let mut pair = pending(alloc, writer, input.size / 50, 64)?;
     change_pair(&mut pair, &Change::by(&mut chance));
     audit_into(alloc, &pair.log, &pair.store, digest)?;
-    let writer = Writer::behind(alloc, chance.draw(), Values::Bytes)?;
+    let writer = Writer::behind(alloc, chance.draw())?;
     let mut base = writer.store(0)?;
     let mut pair = rounds(alloc, writer, input.size)?;
     let change = Change::by(&mut chance);

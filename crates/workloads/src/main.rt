@@ -4,12 +4,9 @@
 //! usage: workloads JOB SIZE SEED, or workloads all SEED, which runs each job on a small input
 #![tactic(auto)]
 
-mod buffers;
-mod calls;
 mod chance;
 mod digest;
 mod jobs;
-mod mixed;
 mod other;
 mod shapes;
 mod values;
@@ -33,13 +30,16 @@ fn run_job<R: Print + AllocGlobal + Threads + Sync>(rt: &R, job: &str, input: In
         "dump" => jobs::of_listing(rt.alloc(), input, &mut digest)?,
         "inputs" => jobs::of_inputs(rt.alloc(), input, &mut digest)?,
         "small" => jobs::of_small_ones(rt, rt.alloc(), input, &mut digest)?,
-        "mixed" => mixed::of_mixed(rt, rt.alloc(), input, &mut digest)?,
+        "mixed" => jobs::mixed::of_mixed(rt, rt.alloc(), input, &mut digest)?,
         _ => return Err(anyhow::Error::msg("no such job")),
     }
     let value = digest.value();
     println!(rt; "{job} {}: {value:016x}", input.size)?;
     Ok(())
 }
+
+/// How many bytes the logs of a small `mixed` have.
+const MIXED: usize = 100_000;
 
 /// Runs each job on a small input.
 fn run_all<R: Print + AllocGlobal + Threads + Sync>(rt: &R, seed: u64) -> Result<()> {
@@ -77,15 +77,8 @@ fn run_all<R: Print + AllocGlobal + Threads + Sync>(rt: &R, seed: u64) -> Result
             seed,
         },
     )?;
-    run_job(rt, "small", Input { size: 4, seed })?;
-    run_job(
-        rt,
-        "mixed",
-        Input {
-            size: 100_000,
-            seed,
-        },
-    )
+    run_job(rt, "mixed", Input { size: MIXED, seed })?;
+    run_job(rt, "small", Input { size: 4, seed })
 }
 
 /// Runs what the words ask for.

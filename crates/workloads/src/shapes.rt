@@ -1,6 +1,6 @@
 //! The shapes of logs.
 
-use crate::writer::{CELLS, Running, Writer};
+use crate::writer::{CELLS, Running, Values, Writer};
 use anyhow::Result;
 use std::alloc::Global;
 use wal::Record;

@@ -1,7 +1,7 @@
 //! A log as an engine writes it, and what its records leave in the pages.
 
 use crate::chance::{Chance, in_order, low_16, low_32};
-use crate::values::Values;
+use crate::values::{accents_of, json_of, key_of, line_of, longest_of};
 use anyhow::{Context, Result};
 use page::{PAGES, Page, SLOTS, Value, encode_page, store_header};
 use std::alloc::Global;
@@ -25,6 +25,25 @@ impl Running {
     pub fn new(number: u32) -> Running {
         Running { number, last: 0 }
     }
+}
+
+/// What values look like.
+#[derive(Clone, Copy, PartialEq, Eq)]
+pub enum Values {
+    /// The LSN and up to eight bytes by chance.
+    Bytes,
+    /// Eight to sixteen letters.
+    Letters,
+    /// 47 letters and a line feed.
+    Lines,
+    /// An object of a number and a name, as JSON.
+    Json,
+    /// 48 bytes of words in UTF-8, in which one letter of six takes two bytes.
+    Accents,
+    /// 16 bytes by chance.
+    Keys,
+    /// As many bytes by chance as a value can have.
+    Longest,
 }
 
 /// A log that is being written.
@@ -78,9 +97,15 @@ impl Writer {
         })
     }
 
-    /// A log after one that was archived, beside pages all of whose cells have values.
-    pub fn behind(alloc: Global, seed: u64, values: Values) -> Result<Writer> {
-        let mut writer = Writer::new(alloc, seed, values)?;
+    /// A log behind one that was archived, beside pages all of whose cells have values.
+    pub fn behind(alloc: Global, seed: u64) -> Result<Writer> {
+        Writer::behind_with(alloc, seed, Values::Bytes)
+    }
+
+    /// The same, with values of this kind.
+    pub fn behind_with(alloc: Global, seed: u64, values: Values) -> Result<Writer> {
+        let mut writer = Writer::new(alloc, seed, Values::Bytes)?;
+        writer.values = values;
         let base = BASE + writer.chance.draw() % BASE;
         writer.bytes.clear();
         writer.bytes.extend_from_slice(&based_header(base))?;
@@ -120,10 +145,28 @@ impl Writer {
         Ok(lsn)
     }
 
-    /// A value that no cell has had, JSON aside.
+    /// A value that no cell has had.
+    /// Of JSON there are 40,960 values, so one of these can come again.
     fn new_value(&mut self) -> Option<Value> {
         let drawn = self.chance.draw();
-        self.values.value(self.lsn, drawn)
+        match self.values {
+            Values::Bytes | Values::Letters => {}
+            Values::Lines => return line_of(drawn),
+            Values::Json => return json_of(drawn),
+            Values::Accents => return accents_of(drawn),
+            Values::Keys => return key_of(drawn),
+            Values::Longest => return longest_of(drawn),
+        }
+        let mut bytes = [0; 16];
+        let (front, back) = bytes.split_at_mut(8);
+        front.copy_from_slice(&self.lsn.to_be_bytes());
+        back.copy_from_slice(&drawn.to_be_bytes());
+        if self.values == Values::Letters {
+            for byte in bytes.iter_mut() {
+                *byte = b'a' + (*byte & 15);
+            }
+        }
+        Value::new(&bytes[..8 + (drawn % 9) as usize])
     }
 
     /// Appends an update of a cell.

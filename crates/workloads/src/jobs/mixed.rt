@@ -1,16 +1,13 @@
 //! A job of what the other jobs leave out.
 
-use crate::buffers::{Buffers, write_to_buffer};
-use crate::calls::{
-    judge_into, list_log_into, list_store_into, put_frame, recover_alone_into, recover_into,
-};
+use super::buffers::{Buffers, write_to_buffer};
+use super::calls::{judge_into, list_log_into, list_store_into};
+use super::{Input, put_frame, recover_alone_into, recover_into};
 use crate::chance::Chance;
 use crate::digest::Digest;
-use crate::jobs::Input;
 use crate::other::{Change, change_pair};
 use crate::shapes::{Pair, pending, rounds};
-use crate::values::Values;
-use crate::writer::Writer;
+use crate::writer::{Values, Writer};
 use anyhow::Result;
 use aries::{Recovery, recovery_alone};
 use dump::Style;
@@ -51,7 +48,7 @@ pub fn of_mixed<R: Threads + Sync>(
 /// Lists a log and a full store, as text and as JSON, of each kind of values.
 fn list_each(alloc: Global, size: usize, chance: &mut Chance, digest: &mut Digest) -> Result<()> {
     for values in [Values::Lines, Values::Json, Values::Accents, Values::Keys] {
-        let writer = Writer::behind(alloc, chance.draw(), values)?;
+        let writer = Writer::behind_with(alloc, chance.draw(), values)?;
         let mut pair = rounds(alloc, writer, size)?;
         list_log_into(alloc, &pair.log, Style::Text, digest);
         list_store_into(alloc, &pair.store, Style::Text, digest);
@@ -166,7 +163,7 @@ fn recover_longest<R: Threads + Sync>(
     chance: &mut Chance,
     digest: &mut Digest,
 ) -> Result<()> {
-    let writer = Writer::behind(alloc, chance.draw(), Values::Longest)?;
+    let writer = Writer::behind_with(alloc, chance.draw(), Values::Longest)?;
     let mut pair = rounds(alloc, writer, size)?;
     recover_each_way(rt, alloc, &mut pair, chance, digest)?;
     let torn = pair.log.len().saturating_sub(7);

@@ -2,11 +2,10 @@
 //! recovery is copied into buffers. They stand in a static library, on which no crate can depend; so
 //! the functions below them are called here in the same order, with the same copies.
 
-use crate::calls::{put_frame, take_report};
+use super::{put_frame, take_report};
 use crate::chance::{Chance, low_32};
 use crate::digest::Digest;
 use crate::shapes::Pair;
-use crate::values::Values;
 use anyhow::{Context, Result};
 use aries::{Recovery, recovery_alone};
 use page::{VALUE_BYTES, Value};
@@ -52,6 +51,15 @@ impl Image {
     }
 }
 
+/// A value by chance: the first eight to sixteen bytes of a number that stands there twice.
+fn twice(drawn: u64) -> Option<Value> {
+    let mut bytes = [0; 16];
+    let (front, back) = bytes.split_at_mut(8);
+    front.copy_from_slice(&drawn.to_be_bytes());
+    back.copy_from_slice(&drawn.to_be_bytes());
+    Value::new(&bytes[..8 + (drawn % 9) as usize])
+}
+
 /// A record as C names it.
 #[derive(Clone, Copy)]
 struct Named {
@@ -74,8 +82,8 @@ impl Named {
             page: low_32(drawn >> 8) & 4095,
             kind: if drawn % 11 == 0 { 3 } else { 1 },
             slot: (drawn & 15) as u8,
-            before: Image::of(Values::Bytes.value(before, before)),
-            after: Image::of(Values::Bytes.value(drawn, drawn)),
+            before: Image::of(twice(before)),
+            after: Image::of(twice(drawn)),
         }
     }
 
