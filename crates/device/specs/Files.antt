@@ -2,6 +2,7 @@
 use Rattle.std.specs.Prelude.{ℕ}
 use Rattle.device.specs.declared.file.FileSource.{FileSource}
 use Rattle.device.specs.declared.file.FileSink.{FileSink}
+use Rattle.device.specs.declared.file.FileLog.{FileLog}
 
 -- the file that is read
 abbrev pub read_file : {F : Type 0} → FileSource F → F
@@ -18,3 +19,7 @@ written_file sink = sink.file
 -- how often it failed
 abbrev pub write_failures : {F : Type 0} → FileSink F → ℕ
 write_failures sink = sink.failures.count
+
+-- how often a log that is continued failed
+abbrev pub log_failures : {F : Type 0} → FileLog F → ℕ
+log_failures log = log.sink.failures.count

@@ -1,3 +1,4 @@
+pub mod Continued
 pub mod Failures
 pub mod Files
 pub mod Kept

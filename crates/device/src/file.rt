@@ -5,9 +5,9 @@
 ghost use Rattle.std.specs.Prelude.{◌≡◌, IfOk, ◌<◌, length};
 ghost use Rattle.std.specs.Io.{ReadsAtMost, WritesAtMost};
 ghost use Rattle.std.specs.Io.KnownBytes.{Keeps, ReadConsumes, WriteAppends};
-ghost use Rattle.device.specs.Files.{read_file, read_failures, written_file, write_failures};
+ghost use Rattle.device.specs.Files.{read_file, read_failures, written_file, write_failures, log_failures};
 
-use crate::{Failed, Failures, Sink, Source};
+use crate::{Continue, Failed, Failures, Sink, Source};
 use std::fs::OpenFile;
 use std::io::{ErrorKind, Read, Write};
 
@@ -155,6 +155,56 @@ impl<F: Write + OpenFile> Sink for FileSink<F> {
             return Ok(());
         }
         self.failures.rise();
+        Err(Failed)
+    }
+}
+
+/// A log in an open file that is continued where it lies. It tells no bytes, since no file tells what
+/// it holds.
+#[derive(Drop)]
+pub struct FileLog<F> {
+    sink: FileSink<F>,
+}
+
+impl<F> FileLog<F> {
+    /// A log in a file that was opened to append: each write goes to the file's end.
+    pub fn new(file: F) -> FileLog<F>
+        ensures { log_failures result ≡ 0 }
+    {
+        FileLog {
+            sink: FileSink::new(file),
+        }
+    }
+}
+
+impl<F: Write + OpenFile> Sink for FileLog<F> {
+    ghost failures = { log_failures };
+
+    fn write(&mut self, bytes: &[u8]) -> Result<usize, Failed> {
+        self.sink.write(bytes)
+    }
+
+    fn flush(&mut self) -> Result<(), Failed> {
+        self.sink.flush()
+    }
+}
+
+/// Cuts off what stands in a file after so many bytes. Whether that was done: it is not if the file
+/// is shorter, since the cut would fill it up with zeros.
+fn is_cut<F: OpenFile>(file: &F, length: u64) -> bool {
+    match file.metadata() {
+        Ok(metadata) => length <= metadata.len() && file.set_len(length).is_ok(),
+        Err(_) => false,
+    }
+}
+
+impl<F: Write + OpenFile> Continue for FileLog<F> {
+    /// `Failed` too if the file holds fewer bytes.
+    fn cut(&mut self, length: u64) -> Result<(), Failed> {
+        if is_cut(&self.sink.file, length) {
+            return Ok(());
+        }
+        self.sink.failures.rise();
         Err(Failed)
     }
 }

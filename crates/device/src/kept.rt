@@ -1,6 +1,6 @@
 //! What a sink over memory keeps.
 
-ghost use Rattle.std.specs.Prelude.{◌≡◌, ◌≤◌, ◌++◌, [], vec_len, OnOk, OnErr};
+ghost use Rattle.std.specs.Prelude.{◌≡◌, ◌≤◌, ◌++◌, ℕ, [], take, vec_len, OnOk, OnErr};
 
 use std::alloc::AllocError;
 
@@ -22,6 +22,15 @@ impl Kept {
         ensures flushed { bytes_flushed result ≡ [] }
     {
         Kept { bytes, flushed: 0 }
+    }
+
+    /// These bytes, all of which are flushed.
+    pub fn flushed_of(bytes: Vec<u8>) -> Kept
+        ensures taken { bytes_taken result ≡ bytes.items }
+        ensures flushed { bytes_flushed result ≡ bytes.items }
+    {
+        let flushed = bytes.len();
+        Kept { bytes, flushed }
     }
 
     /// The bytes taken so far.
@@ -53,5 +62,15 @@ impl Kept {
         ensures all { bytes_flushed self.new ≡ bytes_taken self.new }
     {
         self.flushed = self.bytes.len();
+    }
+
+    /// Cuts off what stands after the first `length` bytes.
+    pub fn cut(&mut self, length: u64)
+        ensures taken { bytes_taken self.new ≡ take length (bytes_taken self.old) }
+        ensures flushed { (count : ℕ) × (bytes_flushed self.new
+            ≡ take count (bytes_flushed self.old)) }
+    {
+        self.bytes.truncate(length as usize);
+        self.flushed = self.flushed.min(self.bytes.len());
     }
 }

@@ -12,8 +12,8 @@ mod traits;
 mod transfer;
 
 pub use failures::Failures;
-pub use file::{FileSink, FileSource};
+pub use file::{FileLog, FileSink, FileSource};
 pub use memory::{MemorySink, MemorySource};
 pub use slow::{Pace, SlowSink, SlowSource};
-pub use traits::{Failed, Sink, Source};
+pub use traits::{Continue, Failed, Sink, Source};
 pub use transfer::{ReadFault, read_all, read_front, read_full, read_rest, write_all};

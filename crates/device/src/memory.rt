@@ -4,7 +4,7 @@ ghost use Rattle.std.specs.Prelude.{◌≡◌, ℕ, Some, []};
 ghost use Rattle.device.specs.Memory.{bytes_left, bytes_taken, bytes_flushed, failures_met};
 
 use crate::kept::Kept;
-use crate::{Failed, Failures, Sink, Source};
+use crate::{Continue, Failed, Failures, Sink, Source};
 use std::alloc::Global;
 use std::io::Read;
 
@@ -61,6 +61,18 @@ impl MemorySink {
         }
     }
 
+    /// A sink that holds these bytes, all of them flushed.
+    pub fn holding(bytes: Vec<u8>) -> MemorySink
+        ensures taken { bytes_taken result ≡ bytes.items }
+        ensures flushed { bytes_flushed result ≡ bytes.items }
+        ensures failures { failures_met result ≡ 0 }
+    {
+        MemorySink {
+            kept: Kept::flushed_of(bytes),
+            failures: Failures::new(),
+        }
+    }
+
     /// The bytes taken so far.
     pub fn bytes(&self) -> &[u8]
         ensures { result.now ≡ bytes_taken self.now }
@@ -95,6 +107,13 @@ impl Sink for MemorySink {
 
     fn flush(&mut self) -> Result<(), Failed> {
         self.kept.flush();
+        Ok(())
+    }
+}
+
+impl Continue for MemorySink {
+    fn cut(&mut self, length: u64) -> Result<(), Failed> {
+        self.kept.cut(length);
         Ok(())
     }
 }

@@ -5,7 +5,7 @@ ghost use Rattle.std.specs.Prelude.{◌≡◌, Some, None, true, false, [], IfOk
 ghost use Rattle.device.specs.Slow.{bytes_left, bytes_taken, bytes_flushed, read_failures, write_failures};
 
 use crate::kept::Kept;
-use crate::{Failed, Failures, Sink, Source};
+use crate::{Continue, Failed, Failures, Sink, Source};
 use std::alloc::{AllocError, Global};
 
 /// How fast a device is, and at which call it fails.
@@ -144,6 +144,27 @@ impl SlowSink {
         })
     }
 
+    /// A sink that holds these bytes, all of them flushed, and has room for `room` bytes in all.
+    /// `AllocError` where that was refused.
+    pub fn holding(
+        alloc: Global,
+        bytes: &[u8],
+        room: usize,
+        pace: Pace,
+    ) -> Result<SlowSink, AllocError>
+        ensures taken { IfOk result (λ sink. bytes_taken sink ≡ bytes.now) }
+        ensures flushed { IfOk result (λ sink. bytes_flushed sink ≡ bytes.now) }
+        ensures failures { IfOk result (λ sink. write_failures sink ≡ 0) }
+    {
+        let mut held = Vec::with_capacity(alloc, room)?;
+        held.extend_from_slice(bytes)?;
+        Ok(SlowSink {
+            kept: Kept::flushed_of(held),
+            pace,
+            failures: Failures::new(),
+        })
+    }
+
     /// The bytes taken so far.
     pub fn bytes(&self) -> &[u8]
         ensures { result.now ≡ bytes_taken self.now }
@@ -181,6 +202,17 @@ impl Sink for SlowSink {
             return Err(Failed);
         }
         self.kept.flush();
+        Ok(())
+    }
+}
+
+impl Continue for SlowSink {
+    fn cut(&mut self, length: u64) -> Result<(), Failed> {
+        if self.pace.is_due() {
+            self.failures.rise();
+            return Err(Failed);
+        }
+        self.kept.cut(length);
         Ok(())
     }
 }

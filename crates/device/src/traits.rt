@@ -1,11 +1,12 @@
 //! What a device is.
 
-ghost use Rattle.std.specs.Prelude.{ℕ, List, None, IfOk, OnOk, ◌<◌, length};
+ghost use Rattle.std.specs.Prelude.{ℕ, List, None, IfOk, OnOk, OnErr, ◌<◌, length};
 ghost use Rattle.std.specs.declared.option.Option.{Option};
 ghost use Rattle.std.specs.Io.{ReadsAtMost, WritesAtMost};
 ghost use Rattle.std.specs.Io.KnownBytes.{Keeps, ReadConsumes, WriteAppends};
 ghost use Rattle.device.specs.Failures.{Counts};
 ghost use Rattle.device.specs.Transfer.{Flushes};
+ghost use Rattle.device.specs.Continued.{Cuts, Shortens};
 
 /// A device failed. Why, it does not say.
 #[derive(Clone, Copy, Debug, PartialEq, Eq, Drop)]
@@ -72,4 +73,19 @@ pub trait Sink {
         ensures bytes { Keeps (taken self.old) (taken self.new) }
         ensures all { OnOk result (Flushes (flushed self.old) (flushed self.new) (taken self.new)) }
         ensures cause { Counts (failures self.old) (failures self.new) result };
+}
+
+/// A sink that may hold bytes from before, and whose end can be cut off: a log that is continued where
+/// it lies. The bytes taken so far are all that it holds.
+pub trait Continue: Sink {
+    /// Cuts off what stands after the first `length` bytes. A device that holds no more keeps all.
+    /// Until a flush the bytes that are cut off may come back, if the power fails.
+    ///
+    /// `Failed` if the device failed. Its count of failures has then risen by one, and nothing was cut
+    /// off.
+    fn cut(&mut self, length: u64) -> Result<(), Failed>
+        ensures bytes { OnOk result (Cuts (Self.taken self.old) (Self.taken self.new) length) }
+        ensures uncut { OnErr result (Keeps (Self.taken self.old) (Self.taken self.new)) }
+        ensures flushed { Shortens (Self.flushed self.old) (Self.flushed self.new) }
+        ensures cause { Counts (Self.failures self.old) (Self.failures self.new) result };
 }
