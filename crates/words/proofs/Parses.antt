@@ -1,7 +1,7 @@
 -- What a parse of a command line finds.
-use Rattle.std.proofs.Common.{ℕ, ◌≡◌, ◌∙◌, ◌⊎◌, ◌<◌, ◌^◌, inl, inr, ap, ap₂, refl, subst, sym, true, false, List, [], Option, Some, None, option_map, IsSomeAnd}
-use Rattle.std.specs.Prelude.{Result, Ok, Err, IfErr, IsErrAnd, decimal}
-use Rattle.std.specs.Str.Parse.{ParsesUnsigned}
+use Rattle.std.proofs.Common.{ℕ, ◌≡◌, ◌∙◌, ◌⊎◌, ◌↔◌, ◌<◌, ◌^◌, inl, inr, ap, ap₂, refl, subst, sym, true, false, Bool, IsTrue, List, [], Option, Some, None, codes, option_map, IsSomeAnd}
+use Rattle.std.specs.Prelude.{Result, Ok, Err, IfErr, IsErrAnd, decimal, unwrap_or}
+use Rattle.std.specs.Str.Parse.{ParsesBool, ParsesUnsigned}
 use Rattle.std.proofs.lemmas.Fmt.{parse-decimal}
 use Rattle.clap.proofs.SimpleLemmas.{plain_fields}
 use Rattle.clap.specs.declared.builder.arg.Arg.{Arg}
@@ -78,6 +78,16 @@ fails_by_memory line known words kind free line_is fails none =
       | inl is ↦ is
       | inr among ↦ absurd (subst (IsAmong kind) (ap (λ a. fault_of a words) line_is ∙ none) among)
     ]
+
+-- FLAGS
+-- a flag that is read from a text is set exactly where the text is `true`, and one without a text is not set
+pub flag_read : (E : Type 0) (text : Option Text) (read : Option Bool) (flag : Bool) → flag ≡ unwrap_or read false → (text ≡ None → read ≡ None)
+    → ((t : Text) → text ≡ Some t → ReadsOne (λ bs (r : Result Bool E). ParsesBool bs r) t read) → IsTrue flag ↔ (text ≡ Some (codes "true"))
+flag_read E None (Some v) flag is none parses = absurd (let none_read : Some v ≡ None = none refl in cc)
+flag_read E None None flag is none parses = (λ set. absurd cc, λ given. absurd cc)
+flag_read E (Some t) None flag is none parses = (λ set. absurd cc, λ given. absurd ((parses t refl).1.0 cc))
+flag_read E (Some t) (Some true) flag is none parses = (λ set. ap (λ (bs : Text). Some bs) (parses t refl), λ given. is)
+flag_read E (Some t) (Some false) flag is none parses = (λ set. absurd cc, λ given. absurd (let false_read = parses t refl in cc))
 
 -- NUMBERS
 -- the decimal digits of a number are read as that number

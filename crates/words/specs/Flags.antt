@@ -1,5 +1,5 @@
 -- Options without a value.
-use Rattle.std.specs.Prelude.{◌≡◌, List, Bool, true, false, Some, codes}
+use Rattle.std.specs.Prelude.{◌≡◌, ◌↔◌, List, Bool, IsTrue, Some, codes}
 use Rattle.clap.specs.Words.{Row, Rule, Text, new_rule, one_of}
 use Rattle.clap.specs.declared.builder.action.ArgAction.TheVariants.{SetTrue}
 
@@ -7,8 +7,6 @@ use Rattle.clap.specs.declared.builder.action.ArgAction.TheVariants.{SetTrue}
 abbrev pub flag_rule : Text → Rule
 flag_rule name = record (new_rule name) { long = Some name; action = Some SetTrue }
 
--- the flag is set where its value is true, as that of a flag on the line is, and not where its value is false
+-- the flag is set exactly where its value is true, as that of a flag on the line is
 abbrev pub IsFlagOf : (values : List Row) → (option : Text) → (flag : Bool) → Type 0
-IsFlagOf values option flag =
-    (one_of option values ≡ Some (codes "true") → flag ≡ true)
-    × (one_of option values ≡ Some (codes "false") → flag ≡ false)
+IsFlagOf values option flag = IsTrue flag ↔ (one_of option values ≡ Some (codes "true"))

@@ -22,5 +22,5 @@ pub fn flag_option<'a>(alloc: Global, name: &'a str, help: &'a str) -> Arg<'a>
 pub fn flag_of(matches: &ArgMatches, name: &str) -> bool
     ensures { IsFlagOf (rows_of (found_of matches.now)) name.now result }
 {
-    matches.get_flag(name)
+    matches.get_one::<bool>(name).unwrap_or(false)
 }
