@@ -9,7 +9,7 @@ use Rattle.command.specs.Job.{HasFiles, IsFaultless, NamesFiles}
 use Rattle.command.specs.Line.{aries_line, audit_line, recover_line}
 use Rattle.command.specs.declared.job.Job.{Job}
 use Rattle.command.specs.declared.job.Task.{Task}
-use Rattle.command.specs.declared.job.Task.TheVariants.{Recover, Audit}
+use Rattle.command.specs.declared.job.Task.TheVariants.{Recover, RecoverInPlace, Audit}
 
 pub is_simple-aries_line : is_simple aries_line ≡ true
 unfolding clap_on_literals aries_line recover_line audit_line
@@ -24,6 +24,7 @@ command_is : {B : Type 0} (o : Option B) (found : B → Text × List Row) (task 
     → IsSomeAnd (option_map (λ b. (found b).0) o) IsCommand
 command_is None found task names = absurd names
 command_is (Some b) found (Recover log store out_log out_store options may_be_one) names = inl names.0
+command_is (Some b) found (RecoverInPlace log store out_store options may_be_one) names = inl names.0
 command_is (Some b) found (Audit log store base) names = inr names.0
 
 -- so a parse of words that give a job its files entered `recover` or `audit`

@@ -1,28 +1,49 @@
 -- What a command line may ask for.
-use Rattle.std.specs.Prelude.{◌≡◌, ℕ, ◌≤◌, List, [], Some, None, IsSomeAnd, IsTrue, ◌↔◌, codes, decimal, option_map, string_bytes, ⊤}
+use Rattle.std.specs.Prelude.{◌≡◌, ℕ, ◌≤◌, Bool, true, false, List, [], Option, Some, None, String, IsSomeAnd, IsTrue, ◌↔◌, codes, decimal, is_none, option_map, string_bytes, ⊤}
+use Rattle.std.specs.declared.alloc.Global.{Global}
 use Rattle.clap.specs.Words.{Row, Text, fault_of, first_of, one_of, subcommand_of}
 use Rattle.command.specs.declared.job.Job.{Job}
 use Rattle.command.specs.declared.job.Task.{Task}
-use Rattle.command.specs.declared.job.Task.TheVariants.{Recover, Audit}
+use Rattle.command.specs.declared.job.Task.TheVariants.{Recover, RecoverInPlace, Audit}
 use Rattle.words.specs.Flags.{IsFlagOf}
 use Rattle.command.specs.Line.{aries_line}
 use Rattle.restart.specs.Options.{AreInRange}
+use Rattle.restart.specs.declared.options.Options.{Options}
 use Rattle.page.specs.declared.sizes.TheConstants.{PAGES}
 use Rattle.redo.specs.declared.rounds.TheConstants.{WORKERS}
 
 -- its numbers lie in their ranges
 abbrev pub HasRanges : Task → Type 0
 HasRanges (Recover log store out_log out_store options may_be_one) = AreInRange options
+HasRanges (RecoverInPlace log store out_store options may_be_one) = AreInRange options
 HasRanges (Audit log store base) = ⊤
 
--- the command is the task's, and the values of its options name the task's files
+-- a file's name
+abbrev pub FileName : Type 0
+FileName = String Global
+
+-- the values name the file of the new store; or they name none, and it takes the place of the old one, as the flag says
+abbrev pub NamesNewStore : (values : List Row) → (out_store : Option FileName) → Type 0
+NamesNewStore values out_store =
+    (first_of (codes "out-store") values ≡ option_map string_bytes out_store)
+    × IsFlagOf values (codes "replace") (is_none out_store)
+
+-- the command is the task's, and the values of its options name the task's files and no other
 abbrev pub NamesFiles : (command : Text) → (values : List Row) → Task → Type 0
 NamesFiles command values (Recover log store out_log out_store options may_be_one) =
     (command ≡ codes "recover")
     × (first_of (codes "log") values ≡ Some (string_bytes log))
     × (first_of (codes "store") values ≡ Some (string_bytes store))
+    × IsFlagOf values (codes "in-place") false
     × (first_of (codes "out-log") values ≡ Some (string_bytes out_log))
-    × (first_of (codes "out-store") values ≡ Some (string_bytes out_store))
+    × NamesNewStore values (Some out_store)
+NamesFiles command values (RecoverInPlace log store out_store options may_be_one) =
+    (command ≡ codes "recover")
+    × (first_of (codes "log") values ≡ Some (string_bytes log))
+    × (first_of (codes "store") values ≡ Some (string_bytes store))
+    × IsFlagOf values (codes "in-place") true
+    × (first_of (codes "out-log") values ≡ None)
+    × NamesNewStore values out_store
 NamesFiles command values (Audit log store base) =
     (command ≡ codes "audit")
     × (first_of (codes "log") values ≡ Some (string_bytes log))
@@ -46,12 +67,17 @@ abbrev pub IsNumberOf : (values : List Row) → (option : Text) → (most : ℕ)
 IsNumberOf values option most n =
     (given : ℕ) → 1 ≤ given → given ≤ most → one_of option values ≡ Some (decimal given) → n ≡ given
 
--- the values of the options give the task's numbers, and the number of workers is open where they give none
-abbrev pub GivesNumbers : (values : List Row) → Task → Type 0
-GivesNumbers values (Recover log store out_log out_store options may_be_one) =
+-- the values of the options give the numbers of a recovery, and the number of workers is open where they give none
+abbrev pub GivesOptions : (values : List Row) → Options → (may_be_one : Bool) → Type 0
+GivesOptions values options may_be_one =
     IsNumberOf values (codes "workers") WORKERS options.workers
     × (IsTrue may_be_one ↔ (first_of (codes "workers") values ≡ None))
     × IsNumberOf values (codes "parts") PAGES options.parts
+
+-- the values of the options give the task's numbers
+abbrev pub GivesNumbers : (values : List Row) → Task → Type 0
+GivesNumbers values (Recover log store out_log out_store options may_be_one) = GivesOptions values options may_be_one
+GivesNumbers values (RecoverInPlace log store out_store options may_be_one) = GivesOptions values options may_be_one
 GivesNumbers values (Audit log store base) = ⊤
 
 -- the job has the numbers that the words give, or the defaults of the line

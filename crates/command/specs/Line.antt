@@ -29,13 +29,15 @@ number_rule name most default = record (new_rule name) {
   defaults = as_list default;
 }
 
--- `aries recover`
+-- `aries recover`; which of the options that may be left out go together, `NamesFiles` says
 unfoldable pub recover_line : Shape
 recover_line = record (new_shape (codes "recover")) {
   rules = file_rule (codes "log")
       ∷ file_rule (codes "store")
-      ∷ file_rule (codes "out-log")
-      ∷ file_rule (codes "out-store")
+      ∷ free_file_rule (codes "out-log")
+      ∷ free_file_rule (codes "out-store")
+      ∷ flag_rule (codes "in-place")
+      ∷ flag_rule (codes "replace")
       ∷ number_rule (codes "workers") WORKERS None
       ∷ number_rule (codes "parts") PAGES (Some (codes "16"))
       ∷ flag_rule (codes "verbose")

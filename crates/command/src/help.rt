@@ -12,9 +12,35 @@ pub(crate) const ARIES: &str = "Statuses:\n  \
     \n\
     More: aries recover --help, aries(1), aries-formats(5)";
 
+/// The three forms of the command `recover`.
+pub(crate) const RECOVER_USAGE: &str =
+    "aries recover [OPTIONS] --log <FILE> --store <FILE> --out-log <FILE> --out-store <FILE>\n       \
+    aries recover [OPTIONS] --in-place --log <FILE> --store <FILE> --out-store <FILE>\n       \
+    aries recover [OPTIONS] --in-place --log <FILE> --store <FILE> --replace";
+
+/// A line of `recover` that says nothing of the new log.
+pub(crate) const NO_LOG: &str = "'--out-log <FILE>' is needed, or '--in-place'";
+
+/// A line of `recover` that leaves out the file of the recovered store, and makes a new log.
+pub(crate) const REPLACE_ALONE: &str =
+    "the argument '--replace' cannot be used without '--in-place'";
+
+/// A line of `recover` that both continues the log and makes a new one.
+pub(crate) const TWO_LOGS: &str =
+    "the argument '--in-place' cannot be used with '--out-log <FILE>'";
+
+/// A line of `recover` that says nothing of the recovered store.
+pub(crate) const NO_STORE: &str =
+    "'--out-store <FILE>' is needed, or '--replace' with '--in-place'";
+
+/// A line of `recover` that puts the recovered store in two places.
+pub(crate) const TWO_STORES: &str =
+    "the argument '--replace' cannot be used with '--out-store <FILE>'";
+
 /// The command `recover`.
-pub(crate) const RECOVER: &str = "Example:\n  \
-    aries recover --log log --store store --out-log new-log --out-store new-store\n\
+pub(crate) const RECOVER: &str = "Examples:\n  \
+    aries recover --log log --store store --out-log new-log --out-store new-store\n  \
+    aries recover --in-place --log log --store store --replace\n\
     \n\
     It prints eight lines:\n  \
     records      whole records of the log\n  \
@@ -29,13 +55,17 @@ pub(crate) const RECOVER: &str = "Example:\n  \
     `transaction` with the number of each.\n\
     \n\
     Statuses:\n  \
-    0  both new files are written and synced: put them in place of the old ones, the log first\n  \
+    0  all is written and synced; put new files in place of the old ones, the log first\n  \
     1  refused: `fault N: text` on standard error; without it a print failed, maybe that of the line\n  \
     2  a wrong command line\n\
     \n\
-    The old files are never changed. Put new ones in place after status 0 alone, or after an audit of\n\
-    them. A refused run may leave some, empty, in part or whole: remove them, and run it again. Fault\n\
-    4 or 5 at once mostly says that such a file stands there still.";
+    Without --in-place the old files are never changed. Put new ones in place after status 0 alone, or\n\
+    after an audit of them. A refused run may leave some, empty, in part or whole: remove them, and run\n\
+    it again. Fault 4 or 5 at once mostly says that such a file stands there still.\n\
+    \n\
+    With --in-place the log file is continued where its last whole record ends. With --replace the\n\
+    recovered store then takes the place of the old one. After a crash run it again: it finishes what\n\
+    was begun.";
 
 /// The command `audit`.
 pub(crate) const AUDIT: &str = "Example:\n  \

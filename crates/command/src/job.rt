@@ -1,14 +1,16 @@
 //! The command line.
 
 ghost use Rattle.std.specs.Prelude.{◌≡◌, ◌≤◌, Some, IfErr, IfOk, codes, false, is_some, map, option_map};
-ghost use Rattle.std.specs.Prelude.{OnOk, string_bytes, true};
+ghost use Rattle.std.specs.Prelude.{OnOk, Option, string_bytes, true};
 ghost use Rattle.clap.specs.Words.{app_of, first_of, found_of, rows_of, rule_of, shape_of};
-ghost use Rattle.command.specs.Job.{AsksFor, GivesNumbers, HasFiles, HasFlag, HasNumbers, HasRanges};
-ghost use Rattle.command.specs.Job.{IsFaultless, IsNumberOf, NamesFiles};
+ghost use Rattle.command.specs.Job.{AsksFor, FileName, GivesNumbers, GivesOptions, HasFiles};
+ghost use Rattle.command.specs.Job.{HasFlag, HasNumbers, HasRanges, IsFaultless, IsNumberOf};
+ghost use Rattle.command.specs.Job.{NamesFiles, NamesNewStore};
 ghost use Rattle.command.specs.Line.{aries_line, audit_line, file_rule, free_file_rule, number_rule};
 ghost use Rattle.command.specs.Line.{recover_line};
 ghost use Rattle.command.specs.declared.job.Job.{Job};
 ghost use Rattle.command.specs.declared.job.Task.{Task};
+ghost use Rattle.restart.specs.Options.{AreInRange};
 ghost use Rattle.words.specs.Flags.{IsFlagOf};
 ghost use Rattle.words.specs.declared.refusal.Refusal.TheVariants.{Memory};
 
@@ -40,6 +42,17 @@ pub enum Task {
         store: String,
         out_log: String,
         out_store: String,
+        options: Options,
+        /// Whether one worker may do instead where the log is short: the line names no number.
+        may_be_one: bool,
+    },
+    /// Recover the store `store` by the log `log`, which is continued in its place. The new store
+    /// is written to `out_store`, a file that is made, or takes the place of the old one if that is
+    /// `None`.
+    RecoverInPlace {
+        log: String,
+        store: String,
+        out_store: Option<String>,
         options: Options,
         /// Whether one worker may do instead where the log is short: the line names no number.
         may_be_one: bool,
@@ -105,19 +118,30 @@ fn recover_command<'a>(alloc: Global) -> Result<Command<'a>, AllocError>
     ensures { IfOk result (λ c. shape_of c ≡ recover_line) }
 {
     Command::new(alloc, "recover")
-        .about("Restart after a crash: write log and store anew, and list transactions in doubt")
+        .about("Restart after a crash: write log and store, and list transactions in doubt")
+        .override_usage(help::RECOVER_USAGE)
         .after_help(help::RECOVER)
         .arg(file_option(alloc, "log", "The log to restart by"))?
         .arg(file_option(alloc, "store", "The store to recover"))?
-        .arg(file_option(
+        .arg(free_file_option(
             alloc,
             "out-log",
-            "The new log, made anew; no file may stand there",
+            "The new log, a file that is made; no file may stand there",
         ))?
-        .arg(file_option(
+        .arg(free_file_option(
             alloc,
             "out-store",
-            "The recovered store, made anew; no file may stand there",
+            "The recovered store, a file that is made; no file may stand there",
+        ))?
+        .arg(flag_option(
+            alloc,
+            "in-place",
+            "Continue the log file where it lies; there is no new log then",
+        ))?
+        .arg(flag_option(
+            alloc,
+            "replace",
+            "Put the recovered store in the place of the old one; with --in-place alone",
         ))?
         .arg(number_option(
             alloc,
@@ -214,7 +238,85 @@ fn number_of(matches: &ArgMatches, name: &str, most: u32, default: u32) -> u32
         .clamp(1, most)
 }
 
+/// The numbers that the options of `recover` give, and whether one worker may do.
+fn options_of(matches: &ArgMatches) -> (Options, bool)
+    ensures given { GivesOptions (rows_of (found_of matches.now)) result.0 result.1 }
+    ensures ranges { AreInRange result.0 }
+{
+    let options = Options {
+        workers: number_of(matches, "workers", WORKERS, 4),
+        parts: number_of(matches, "parts", PAGES as u32, 16),
+    };
+    (options, matches.get_str("workers").is_none())
+}
+
+/// The refusal of a line of `recover`.
+fn wrong_line(alloc: Global, kind: ErrorKind, message: &str) -> Result<Refusal, AllocError> {
+    let mut command = recover_command(alloc)?;
+    Ok(Refusal::Line(command.error(kind, message)?))
+}
+
+/// The refusal of a line of `recover` that leaves out an option.
+fn missing_option(alloc: Global, message: &str) -> Result<Refusal, AllocError> {
+    wrong_line(alloc, ErrorKind::MissingRequiredArgument, message)
+}
+
+/// The refusal of a line of `recover` with two options that do not go together.
+fn option_conflict(alloc: Global, message: &str) -> Result<Refusal, AllocError> {
+    wrong_line(alloc, ErrorKind::ArgumentConflict, message)
+}
+
+/// The name of the file that the recovered store is written to, or `None` where it takes the place
+/// of the old store. A line that says neither, or both, is refused.
+fn new_store_of(alloc: Global, matches: &ArgMatches) -> Result<Option<String>, Refusal>
+    ensures given { IfOk result (λ file. NamesNewStore (rows_of (found_of matches.now)) file) }
+    ensures refused { IfErr result (λ refusal. (file : Option FileName)
+        → NamesNewStore (rows_of (found_of matches.now)) file → refusal ≡ Memory) }
+{
+    let file = given_file(alloc, matches, "out-store")?;
+    match (file.is_some(), flag_of(matches, "replace")) {
+        (true, false) | (false, true) => Ok(file),
+        (true, true) => Err(option_conflict(alloc, help::TWO_STORES)?),
+        (false, false) => Err(missing_option(alloc, help::NO_STORE)?),
+    }
+}
+
 /// What the options of `recover` ask for.
+fn recover_task(alloc: Global, command: &mut Command, matches: &ArgMatches) -> Result<Task, Refusal>
+    ensures files { IfOk result (NamesFiles (codes "recover") (rows_of (found_of matches.now))) }
+    ensures numbers { IfOk result (GivesNumbers (rows_of (found_of matches.now))) }
+    ensures ranges { IfOk result HasRanges }
+    ensures refused { IfErr result (λ refusal. (task : Task)
+        → NamesFiles (codes "recover") (rows_of (found_of matches.now)) task → refusal ≡ Memory) }
+{
+    let log = file_of(alloc, command, matches, "log")?;
+    let store = file_of(alloc, command, matches, "store")?;
+    let out_log = given_file(alloc, matches, "out-log")?;
+    let out_store = new_store_of(alloc, matches)?;
+    let (options, may_be_one) = options_of(matches);
+    match (flag_of(matches, "in-place"), out_log, out_store) {
+        (false, Some(out_log), Some(out_store)) => Ok(Task::Recover {
+            log,
+            store,
+            out_log,
+            out_store,
+            options,
+            may_be_one,
+        }),
+        (true, None, out_store) => Ok(Task::RecoverInPlace {
+            log,
+            store,
+            out_store,
+            options,
+            may_be_one,
+        }),
+        (false, None, _) => Err(missing_option(alloc, help::NO_LOG)?),
+        (false, Some(_), None) => Err(missing_option(alloc, help::REPLACE_ALONE)?),
+        (true, Some(_), _) => Err(option_conflict(alloc, help::TWO_LOGS)?),
+    }
+}
+
+/// What the options of `recover` ask for, and whether it is to say more.
 fn recover_job(alloc: Global, command: &mut Command, matches: &ArgMatches) -> Result<Job, Refusal>
     ensures files { IfOk result (λ job.
         NamesFiles (codes "recover") (rows_of (found_of matches.now)) job.task) }
@@ -225,19 +327,8 @@ fn recover_job(alloc: Global, command: &mut Command, matches: &ArgMatches) -> Re
     ensures refused { IfErr result (λ refusal. (task : Task)
         → NamesFiles (codes "recover") (rows_of (found_of matches.now)) task → refusal ≡ Memory) }
 {
-    let task = Task::Recover {
-        log: file_of(alloc, command, matches, "log")?,
-        store: file_of(alloc, command, matches, "store")?,
-        out_log: file_of(alloc, command, matches, "out-log")?,
-        out_store: file_of(alloc, command, matches, "out-store")?,
-        options: Options {
-            workers: number_of(matches, "workers", WORKERS, 4),
-            parts: number_of(matches, "parts", PAGES as u32, 16),
-        },
-        may_be_one: matches.get_str("workers").is_none(),
-    };
     Ok(Job {
-        task,
+        task: recover_task(alloc, command, matches)?,
         verbose: flag_of(matches, "verbose"),
     })
 }
