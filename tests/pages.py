@@ -24,7 +24,7 @@ def words_of_line(line):
 
 
 def synopses(page):
-    """The synopses of a page, each the set of its words, `[..]` kept together, by its command."""
+    """The synopses of a page by their commands: of each form the set of its words, `[..]` kept together."""
     lines = text_of(os.path.join("man", page)).partition(".SH SYNOPSIS\n")[2].partition("\n.SH")[0]
     found = {}
     for part in lines.split("\n.PP\n"):
@@ -33,21 +33,25 @@ def synopses(page):
         text = re.sub(r"(?<= )(--[\w-]+) ([A-Z]+)", r"\1=\2", text)
         words = text.split()
         if len(words) > 2:
-            found[words[1]] = set(words[2:])
+            found.setdefault(words[1], []).append(set(words[2:]))
     return found
 
 
-def synopsis_by_help(program, command):
-    """The same by what a program prints for --help of a command."""
+def words_of_form(form, options, named):
+    """The words of a form that a usage has: what stands in it, and in brackets the options that no form names."""
+    words = set(re.findall(r"<([A-Z]+)>", re.sub(r"--[\w-]+ <[A-Z]+>", "", form)))
+    words |= {word for name, word in options.items() if name in form.split()}
+    return words | {f"[{word}]" for name, word in options.items() if name not in named}
+
+
+def synopses_by_help(program, command):
+    """The same of one command by what a program prints for its --help."""
     text = run([program, command, "--help"], text=True).stdout
-    usage = re.search(r"^Usage: (.*)$", text, re.M)[1]
-    words = set(re.findall(r"<([A-Z]+)>", re.sub(r"--[\w-]+ <[A-Z]+>", "", usage)))
-    for name, value in re.findall(r"^\s+(?:-\w, )?--([\w-]+)(?: <([A-Z]+)>)?", text, re.M):
-        if name in ("help", "version"):
-            continue
-        word = f"--{name}={value}" if value else f"--{name}"
-        words.add(word if f"--{name}" in usage.split() else f"[{word}]")
-    return words
+    forms = re.search(r"^Usage: (.*(?:\n {7}\S.*)*)$", text, re.M)[1].splitlines()
+    listed = re.findall(r"^\s+(?:-\w, )?(--[\w-]+)(?: <([A-Z]+)>)?", text, re.M)
+    options = {name: f"{name}={value}" if value else name for name, value in listed if name not in ("--help", "--version")}
+    named = {word for form in forms for word in form.split()}
+    return [words_of_form(form, options, named) for form in forms]
 
 
 def faults_of_the_page():
@@ -71,8 +75,8 @@ def check_pages(tally):
     for page, program, commands in COMMANDS:
         if os.path.exists(program):
             told = synopses(page)
-            wrong = [(command, told.get(command), synopsis_by_help(program, command)) for command in commands]
-            wrong = [(command, here ^ there) for command, here, there in wrong if here != there]
+            wrong = [(command, told.get(command), synopses_by_help(program, command)) for command in commands]
+            wrong = [(command, here, there) for command, here, there in wrong if here != there]
             tally.say(f"synopses of man/{page}", not wrong and set(told) == set(commands), wrong)
     if shutil.which("groff"):
         for page in (*(f"man/{page}" for page, _, _ in COMMANDS), FORMATS):

@@ -147,17 +147,29 @@ def check_words(tally, room):
     tally.say("+4 workers", has_printed(ran, bytes_of(row.at("printed"))) and row.is_recovered(), ran.stderr)
     files = ["--log", row.at("log"), "--store", row.at("store")]
     made = [os.path.join(room, name) for name in ("made-log", "made-store")]
-    recover = ["recover", *files, "--out-log", made[0], "--out-store", made[1]]
-    for what, words in (
-        ("no command", []),
-        ("no store", ["audit", *files[:2]]),
-        ("no workers", [*recover, "--workers", "0"]),
-        ("too many parts", [*recover, "--parts", "4097"]),
-        ("a base store for a recovery", [*recover, "--base", row.at("store")]),
+    out_log, out_store, in_place = ["--out-log", made[0]], ["--out-store", made[1]], ["recover", *files, "--in-place"]
+    recover = ["recover", *files, *out_log, *out_store]
+    for what, words, named in (
+        ("no command", [], "Usage: "),
+        ("no store", ["audit", *files[:2]], "--store <FILE>"),
+        ("no workers", [*recover, "--workers", "0"], "--workers <N>"),
+        ("too many parts", [*recover, "--parts", "4097"], "--parts <N>"),
+        ("a base store for a recovery", [*recover, "--base", row.at("store")], "--base"),
+        ("no new files", ["recover", *files], "'--out-store <FILE>' is needed"),
+        ("no new log", ["recover", *files, *out_store], "'--out-log <FILE>' is needed"),
+        ("no new store", ["recover", *files, *out_log], "'--out-store <FILE>' is needed"),
+        ("a new log, and the store replaced", ["recover", *files, *out_log, "--replace"], "without '--in-place'"),
+        ("the store replaced beside a new one", [*recover, "--replace"], "'--replace' cannot be used with '--out-store <FILE>'"),
+        ("a recovery in place without a new store", in_place, "'--out-store <FILE>' is needed"),
+        ("a new log in place", [*in_place, *out_log, *out_store], "'--in-place' cannot be used with '--out-log <FILE>'"),
+        ("a new log in place, and the store replaced", [*in_place, *out_log, "--replace"], "'--in-place' cannot be used with '--out-log <FILE>'"),
+        ("two stores in place", [*in_place, *out_store, "--replace"], "'--replace' cannot be used with '--out-store <FILE>'"),
+        ("an audit in place", ["audit", *files, "--in-place"], "--in-place"),
     ):
         ran = run([ARIES, *words])
         is_none_made = not any(os.path.exists(file) for file in made)
-        tally.say(f"a wrong line: {what}", ran.returncode == 2 and not ran.stdout and ran.stderr and is_none_made)
+        is_explained = named in ran.stderr.decode() and not ran.stdout
+        tally.say(f"a wrong line: {what}", ran.returncode == 2 and is_explained and is_none_made, ran.stderr)
 
 
 # Prints that fail: nobody can write to /dev/full.
@@ -269,6 +281,8 @@ def check_refusals(tally, room):
     refuser, behind = Refuser(room), Refuser(room, behind=True)
     line = [ARIES, "audit", "--log", "none", "--log", "none"]
     check_refused_growth(tally, "a wrong line, and all behind", behind, lambda **how: run(line, **how), is_right_line)
+    unplaced = [ARIES, "recover", "--log", "none", "--store", "none"]
+    check_refused_growth(tally, "a recovery without new files, and all behind", behind, lambda **how: run(unplaced, **how), is_right_line)
     row = Row(os.path.join(SMALL_ROWS, "one-commit"), room)
     check_refused_growth(tally, "a recovery, and all behind", behind, row.recover, lambda *ran: is_right_recovery(row, *ran))
     check_refused_growth(tally, "an audit, and all behind", behind, row.audit, lambda *ran: is_right_audit(row, *ran))
