@@ -64,7 +64,7 @@ pub(crate) const RECOVER: &str = "Examples:\n  \
     it again. Fault 4 or 5 at once mostly says that such a file stands there still.\n\
     \n\
     With --in-place the log file is continued where its last whole record ends. With --replace the\n\
-    recovered store then takes the place of the old one. After a crash run it again: it finishes what\n\
+    recovered store then takes the place of the old one. Run it again after a crash: it finishes what\n\
     was begun.";
 
 /// The command `audit`.

@@ -126,22 +126,22 @@ fn recover_command<'a>(alloc: Global) -> Result<Command<'a>, AllocError>
         .arg(free_file_option(
             alloc,
             "out-log",
-            "The new log, a file that is made; no file may stand there",
+            "Where the new log is made; no file may stand there",
         ))?
         .arg(free_file_option(
             alloc,
             "out-store",
-            "The recovered store, a file that is made; no file may stand there",
+            "Where the recovered store is made; no file may stand there",
         ))?
         .arg(flag_option(
             alloc,
             "in-place",
-            "Continue the log file where it lies; there is no new log then",
+            "Continue the log file where it lies; then no new log is made",
         ))?
         .arg(flag_option(
             alloc,
             "replace",
-            "Put the recovered store in the place of the old one; with --in-place alone",
+            "Put the recovered store in the place of the old one; only with --in-place",
         ))?
         .arg(number_option(
             alloc,
@@ -281,7 +281,7 @@ fn new_store_of(alloc: Global, matches: &ArgMatches) -> Result<Option<String>, R
     }
 }
 
-/// What the options of `recover` ask for.
+/// What is to be recovered, and into which files, by the options of `recover`.
 fn recover_task(alloc: Global, command: &mut Command, matches: &ArgMatches) -> Result<Task, Refusal>
     ensures files { IfOk result (NamesFiles (codes "recover") (rows_of (found_of matches.now))) }
     ensures numbers { IfOk result (GivesNumbers (rows_of (found_of matches.now))) }
@@ -316,7 +316,7 @@ fn recover_task(alloc: Global, command: &mut Command, matches: &ArgMatches) -> R
     }
 }
 
-/// What the options of `recover` ask for, and whether it is to say more.
+/// What a line of `recover` asks for.
 fn recover_job(alloc: Global, command: &mut Command, matches: &ArgMatches) -> Result<Job, Refusal>
     ensures files { IfOk result (λ job.
         NamesFiles (codes "recover") (rows_of (found_of matches.now)) job.task) }
