@@ -1,14 +1,15 @@
 -- What a parse of the command line of `aries` finds.
-use Rattle.std.proofs.Common.{◌≡◌, ◌⊎◌, inl, inr, refl, subst, sym, true, map, List, [], ◌∷◌, Option, Some, None, codes, option_map, IsSomeAnd}
+use Rattle.std.proofs.Common.{◌≡◌, ◌⊎◌, inl, inr, refl, subst, sym, true, false, map, List, [], ◌∷◌, Option, Some, None, codes, option_map, IsSomeAnd, Bool, ap, string_bytes}
 use Rattle.clap.proofs.OnLiterals.{clap_on_literals}
 use Rattle.clap.specs.declared.parser.matches.ArgMatches.{ArgMatches}
 use Rattle.clap.specs.Words.{App, HasMatchesOf, Row, Text, fault_of, is_simple, is_simple_and_free, one_of, subcommand_name_of, subcommand_of, subcommand_rows_of}
 use Rattle.clap.specs.declared.error.kind.ErrorKind.TheVariants.{MissingRequiredArgument}
 use Rattle.words.proofs.Parses.{rows_met}
-use Rattle.command.specs.Job.{HasFiles, IsFaultless, NamesFiles}
+use Rattle.command.specs.Job.{FileName, HasFiles, IsFaultless, NamesFiles}
 use Rattle.command.specs.Line.{aries_line, audit_line, recover_line}
 use Rattle.command.specs.declared.job.Job.{Job}
 use Rattle.command.specs.declared.job.Task.{Task}
+use Rattle.restart.specs.declared.options.Options.{Options}
 use Rattle.command.specs.declared.job.Task.TheVariants.{Recover, RecoverInPlace, Audit}
 
 pub is_simple-aries_line : is_simple aries_line ≡ true
@@ -42,6 +43,28 @@ is_free-aries_line = refl
 words_without_fault : IsFaultless (map codes ("aries" ∷ "audit" ∷ "--log" ∷ "a" ∷ "--store" ∷ "b" ∷ []))
 unfolding clap_on_literals aries_line recover_line audit_line
 words_without_fault = refl
+
+-- so are those of a recovery in place
+words_in_place : List Text
+words_in_place = map codes ("aries" ∷ "recover" ∷ "--in-place" ∷ "--log" ∷ "a" ∷ "--store" ∷ "b" ∷ "--replace" ∷ [])
+
+in_place_without_fault : IsFaultless words_in_place
+unfolding clap_on_literals aries_line recover_line audit_line words_in_place
+in_place_without_fault = refl
+
+-- which ask for it
+in_place_named : (log store : FileName) (options : Options) (may_be_one verbose : Bool) → string_bytes log ≡ codes "a" → string_bytes store ≡ codes "b"
+    → HasFiles words_in_place (record { task = RecoverInPlace log store None options may_be_one; verbose = verbose })
+unfolding clap_on_literals aries_line recover_line audit_line words_in_place
+in_place_named log store options may_be_one verbose log_is store_is =
+    let given : (name : Text) (file : FileName) → string_bytes file ≡ name → Some name ≡ Some (string_bytes file) = λ name file is. ap (λ (t : Text). Some t) (sym is) in
+    (refl, given _ log log_is, given _ store store_is, (λ _. refl, λ _. refl), refl, (refl, (λ _. refl, λ _. refl)))
+
+-- no values ask for a recovery into new files and for one in place
+not_both : (command : Text) (values : List Row) (log store out_log out_store log' store' : FileName) (new : Option FileName) (options options' : Options) (may_be_one may_be_one' : Bool)
+    → NamesFiles command values (Recover log store out_log out_store options may_be_one) → NamesFiles command values (RecoverInPlace log' store' new options' may_be_one') → ⊥
+not_both command values log store out_log out_store log' store' new options options' may_be_one may_be_one' names names' =
+    let set : false ≡ true = names.3.1 (names'.3.0 refl) in cc
 
 -- and words that are at fault
 words_at_fault : fault_of aries_line (map codes ("aries" ∷ "audit" ∷ "--log" ∷ "a" ∷ [])) ≡ MissingRequiredArgument ∷ []
