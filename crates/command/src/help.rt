@@ -1,4 +1,4 @@
-//! What `--help` says behind the options.
+//! What `--help` says beside the options, and what is said of a line of `recover` that is wrong.
 
 /// The option `--verbose`.
 pub(crate) const VERBOSE: &str =
