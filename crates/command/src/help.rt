@@ -18,10 +18,23 @@ pub(crate) const RECOVER_USAGE: &str =
     aries recover [OPTIONS] --in-place --log <FILE> --store <FILE> --out-store <FILE>\n       \
     aries recover [OPTIONS] --in-place --log <FILE> --store <FILE> --replace";
 
+/// The option `--out-log`.
+pub(crate) const OUT_LOG: &str = "Where the new log is made; no file may stand there";
+
+/// The option `--out-store`.
+pub(crate) const OUT_STORE: &str = "Where the recovered store is made; no file may stand there";
+
+/// The option `--in-place`.
+pub(crate) const IN_PLACE: &str = "Continue the log file where it lies; then no new log is made";
+
+/// The option `--replace`.
+pub(crate) const REPLACE: &str =
+    "Put the recovered store in the place of the old one; only with --in-place";
+
 /// A line of `recover` that says nothing of the new log.
 pub(crate) const NO_LOG: &str = "'--out-log <FILE>' is needed, or '--in-place'";
 
-/// A line of `recover` that leaves out the file of the recovered store, and makes a new log.
+/// A line of `recover` that makes a new log and replaces the store.
 pub(crate) const REPLACE_ALONE: &str =
     "the argument '--replace' cannot be used without '--in-place'";
 

@@ -123,26 +123,10 @@ fn recover_command<'a>(alloc: Global) -> Result<Command<'a>, AllocError>
         .after_help(help::RECOVER)
         .arg(file_option(alloc, "log", "The log to restart by"))?
         .arg(file_option(alloc, "store", "The store to recover"))?
-        .arg(free_file_option(
-            alloc,
-            "out-log",
-            "Where the new log is made; no file may stand there",
-        ))?
-        .arg(free_file_option(
-            alloc,
-            "out-store",
-            "Where the recovered store is made; no file may stand there",
-        ))?
-        .arg(flag_option(
-            alloc,
-            "in-place",
-            "Continue the log file where it lies; then no new log is made",
-        ))?
-        .arg(flag_option(
-            alloc,
-            "replace",
-            "Put the recovered store in the place of the old one; only with --in-place",
-        ))?
+        .arg(free_file_option(alloc, "out-log", help::OUT_LOG))?
+        .arg(free_file_option(alloc, "out-store", help::OUT_STORE))?
+        .arg(flag_option(alloc, "in-place", help::IN_PLACE))?
+        .arg(flag_option(alloc, "replace", help::REPLACE))?
         .arg(number_option(
             alloc,
             "workers",
