@@ -3,9 +3,11 @@
 ghost use Rattle.std.specs.Prelude.{IfOk, ◌≤◌};
 
 use super::{check, check_all};
-use device::{Failed, FileSink, FileSource, ReadFault, Sink, read_all, write_all};
+use device::{
+    Continue, Failed, FileLog, FileSink, FileSource, ReadFault, Sink, read_all, write_all,
+};
 use std::alloc::Global;
-use std::fs::{File, Metadata, OpenFile};
+use std::fs::{File, Metadata, OpenFile, OpenOptions};
 use std::io::{Error, ErrorKind, Read, Write};
 use std::test::Fail;
 use std::{fs, io};
@@ -201,4 +203,30 @@ fn a_file_of_the_system(rt: HostRuntime) -> Result<(), Fail> {
     let is_read = holds_bytes(rt.alloc(), File::open(&rt, path)?);
     fs::remove_file(&rt, path)?;
     check(is_read?, "read")
+}
+
+/// A log in a new file of the system that holds "bytes", opened to append.
+fn new_log(rt: &HostRuntime, path: &str) -> Result<FileLog<File>, Fail> {
+    let _ = fs::remove_file(rt, path);
+    write_new(rt, path)?;
+    let mut options = OpenOptions::new();
+    options.append(true);
+    Ok(FileLog::new(options.open(rt, path)?))
+}
+
+/// A log is cut to fewer bytes, and never to more: it would be filled up with zeros.
+#[test]
+fn a_log_of_the_system_is_continued(rt: HostRuntime) -> Result<(), Fail> {
+    let path = "log-to-continue";
+    let mut log = new_log(&rt, path)?;
+    let is_longer = log.cut(6).is_ok();
+    let is_cut = log.cut(1).is_ok() && log.flush().is_ok();
+    let is_out = write_all(&mut log, b"xy").is_ok() && log.flush().is_ok();
+    let bytes = fs::read(&rt, path)?;
+    fs::remove_file(&rt, path)?;
+    check_all(&[
+        (!is_longer, "longer"),
+        (is_cut && is_out, "continued"),
+        (bytes.len() == 3 && bytes.ends_with(b"xy"), "bytes"),
+    ])
 }

@@ -2,8 +2,8 @@
 
 use super::{check, check_all, check_at};
 use device::{
-    MemorySink, MemorySource, Pace, ReadFault, Sink, SlowSink, SlowSource, read_all, read_front,
-    read_rest, write_all,
+    Continue, MemorySink, MemorySource, Pace, ReadFault, Sink, SlowSink, SlowSource, read_all,
+    read_front, read_rest, write_all,
 };
 use std::alloc::{AllocError, Global};
 use std::test::Fail;
@@ -219,6 +219,31 @@ fn flush_that_fails_reaches_nothing(rt: HostRuntime) -> Result<(), Fail> {
     let mut slow = SlowSink::new(rt.alloc(), 5, Pace::unflushed())?;
     let has_failed = write_all(&mut slow, b"abcde").is_ok() && slow.flush().is_err();
     check(has_failed && slow.flushed().is_empty(), "flushed")
+}
+
+/// Bytes that a sink holds are flushed; a cut leaves the first of them, and then more are taken.
+#[test]
+fn what_is_held_is_cut_and_continued(rt: HostRuntime) -> Result<(), Fail> {
+    let alloc = rt.alloc();
+    let mut memory = MemorySink::holding(Vec::from_slice(alloc, b"abcde")?);
+    let is_held = memory.flushed() == b"abcde".as_slice();
+    let is_cut = memory.cut(3).is_ok() && memory.bytes() == b"abc".as_slice();
+    let is_whole = memory.cut(4).is_ok() && memory.bytes() == b"abc".as_slice();
+    let is_out = is_out(&mut memory, b"xy") && memory.flushed() == b"abcxy".as_slice();
+    check_all(&[
+        (is_held, "held"),
+        (is_cut && is_whole, "cut"),
+        (is_out, "continued"),
+    ])
+}
+
+/// A device that fails at its first call keeps all.
+#[test]
+fn a_cut_that_fails_cuts_nothing(rt: HostRuntime) -> Result<(), Fail> {
+    let mut slow = SlowSink::holding(rt.alloc(), b"abcde", 5, Pace::failing(7, 1))?;
+    let has_failed = slow.cut(3).is_err() && slow.bytes() == b"abcde".as_slice();
+    let is_cut = slow.cut(3).is_ok() && slow.bytes() == b"abc".as_slice();
+    check_all(&[(has_failed, "kept"), (is_cut, "cut")])
 }
 
 #[test]
