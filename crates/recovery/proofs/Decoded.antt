@@ -1,15 +1,13 @@
 -- A store whose bytes come piece by piece: what the decoder of all of them answers.
-use Rattle.std.proofs.Common.{◌≡◌, ℕ, ◌+◌, ◌*◌, ◌≤◌, List, [], ◌++◌, length, drop, Result, Ok, Err, Option, Some, None, true, refl, sym, ◌∙◌, subst, arith, length-append, length-drop}
+use Rattle.std.proofs.Common.{◌≡◌, ℕ, List, [], ◌++◌, Result, Ok, Option, Some, None, refl, sym, subst}
 use Rattle.std.specs.Prelude.{IfOk, OnOk, IfErr, MatchResult}
-use Rattle.std.proofs.lemmas.List.{take-append-le}
 use Rattle.std.proofs.lemmas.Result.{IfOk-at_ok}
 use Rattle.std.specs.Io.KnownBytes.{Consumes, IsAtEnd}
 use Rattle.std.proofs.KnownBytes.{Consumes-all}
 use Rattle.page.specs.declared.fault.Fault.{Fault}
-use Rattle.page.specs.declared.fault.Fault.TheVariants.{NoResource, BadStoreHeader, StoreSize, BadPage}
+use Rattle.page.specs.declared.fault.Fault.TheVariants.{NoResource}
 use Rattle.page.specs.Store.{StoreContent}
-use Rattle.page.specs.File.{BeginsWithHeader, SpellsStore, StoreFault}
-use Rattle.page.proofs.Files.{length-images, store_pages_of}
+use Rattle.page.specs.File.{SpellsStore, StoreFault}
 use Rattle.recovery.specs.declared.store_pieces.DecodedStore.{DecodedStore}
 use Rattle.recovery.specs.Recovery.{Decodes}
 use Rattle.recovery.specs.Devices.{Gave, AreRead}

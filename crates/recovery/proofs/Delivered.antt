@@ -60,7 +60,7 @@ device_cause log_left store_left options log store BadParting read h = h
 device_cause log_left store_left options log store e read h = (log, store, read, h)
 
 -- and none of a sink, so nothing is out
-never_sink : (log store : List ℕ) (options : Options) → (Cause log store options WriteLog → ⊥) × (Cause log store options WriteStore → ⊥)
+pub never_sink : (log store : List ℕ) (options : Options) → (Cause log store options WriteLog → ⊥) × (Cause log store options WriteStore → ⊥)
 never_sink log store options = (
   λ h.
       elim h.1 [

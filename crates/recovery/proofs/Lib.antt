@@ -7,3 +7,5 @@ pub mod OneTextCause
 pub mod Resuming
 pub mod TailLength
 pub mod Taken
+pub mod TailFiles
+pub mod InPlace

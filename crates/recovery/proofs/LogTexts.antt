@@ -1,5 +1,5 @@
 -- The bytes of a log that were read in two parts.
-use Rattle.std.proofs.Common.{◌≡◌, ℕ, ◌+◌, ◌-◌, ◌≤◌, List, [], ◌++◌, length, take, drop, Ok, Err, Option, refl, sym, ap, ap₂, subst, ◌∙◌, arith, inl, inr, length-append, append_assoc}
+use Rattle.std.proofs.Common.{◌≡◌, ℕ, ◌+◌, ◌-◌, ◌≤◌, List, ◌++◌, length, take, drop, Ok, Err, Option, sym, ap, ap₂, subst, ◌∙◌, arith, inl, inr, length-append}
 use Rattle.std.specs.Prelude.{min, OnOk, Result}
 use Rattle.std.proofs.lemmas.List.{append-nil, take_at, drop_at, take_all, length-take, take-append-le}
 use Rattle.std.proofs.Math.Seq.{take-append-add}

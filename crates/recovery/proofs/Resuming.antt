@@ -177,7 +177,7 @@ module _ (base : BasePages) (read : LogContent) (before : StoreContent) (lawful 
 
 -- WHAT A FAULT OF A SINK LEAVES
 module _ {base : BasePages} {log store : List ℕ} (bytes : AreLawful base log store) (new_log : List ℕ) (reads : Reads new_log (with_tail bytes.decoded.read) 0) where
-  cut_of : (out written missing : List ℕ) → out ≡ log_text bytes.decoded.read ++ written → new_log ≡ out ++ missing → AreCutOf base bytes.decoded.read bytes.decoded.before out store
+  pub cut_of : (out written missing : List ℕ) → out ≡ log_text bytes.decoded.read ++ written → new_log ≡ out ++ missing → AreCutOf base bytes.decoded.read bytes.decoded.before out store
   cut_of out written missing begins goes_on =
       record {
         cut = record {

@@ -4,3 +4,5 @@ pub mod Audit
 pub mod Devices
 pub mod LogText
 pub mod OneAnswer
+pub mod TailFile
+pub mod InPlace

@@ -4,21 +4,25 @@
 
 mod decoding;
 mod devices;
+mod in_place;
 mod laws;
 mod log_bytes;
 mod log_text;
 mod recovery;
 mod report;
 mod store_pieces;
+mod tail_file;
 mod texts;
 mod unthreaded;
 
 pub use devices::{read_source, recover};
+pub use in_place::{continue_log, recover_in_place};
 pub use laws::{
     no_fault_of_a_recovery, no_fault_of_lawful_texts, no_fault_of_lawful_texts_over,
     one_audit_fault, one_audit_fault_over, one_recovery, one_recovery_fault,
 };
 pub use recovery::Recovery;
 pub use report::{Report, report_text};
+pub use tail_file::TailFile;
 pub use texts::{audit_texts, audit_texts_over};
 pub use unthreaded::recovery_alone;

@@ -5,9 +5,11 @@ ghost use Rattle.std.specs.Io.KnownBytes.{Appends, Keeps};
 ghost use Rattle.device.specs.Failures.{Counts};
 ghost use Rattle.device.specs.Transfer.{TookBeginning};
 ghost use Rattle.recovery.specs.LogText.{text_of};
+ghost use Rattle.recovery.specs.TailFile.{sum_of, end_of};
 
 use crate::log_text::LogText;
 use crate::recovery::Remade;
+use crate::tail_file::sum_of_end;
 use device::{Failed, Sink, write_all};
 use std::marker::Model;
 
@@ -39,6 +41,20 @@ impl<'a> LogBytes<'a> {
             front: &text.front[..text.front.len() - torn_in_front],
             back: &back[..back.len().saturating_sub(torn)],
         }
+    }
+
+    /// How many they are.
+    pub fn len(&self) -> u64
+        ensures { result ≡ length self.now }
+    {
+        self.front.len() as u64 + self.back.len() as u64
+    }
+
+    /// The sum of the last 4,096 of them, or of all if there are fewer.
+    pub fn sum_of_end(&self) -> u64
+        ensures { result ≡ sum_of (end_of self.now) }
+    {
+        sum_of_end(self.front, self.back)
     }
 
     /// Writes all of them to a sink, behind those that it took before. The sink is not flushed.

@@ -39,6 +39,17 @@ pub struct LogText {
     pub from: usize,
 }
 
+impl LogText {
+    /// How many bytes they are.
+    pub fn len(&self) -> u64
+        requires { self.now.from ≤ length self.now.back.items }
+        ensures { result ≡ length (text_of self.now) }
+    {
+        let (_, back) = self.back.split_at(self.from);
+        self.front.len() as u64 + back.len() as u64
+    }
+}
+
 /// What is known of the bytes of a log before all of them are decoded.
 #[derive(Drop)]
 pub enum Known {

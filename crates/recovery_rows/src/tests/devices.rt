@@ -1,6 +1,7 @@
 //! Recovery over devices that pass a few bytes a call, and fail.
 
 mod calls;
+mod in_place;
 
 use super::{check, check_all};
 use aries::{Options, recover};

@@ -1,8 +1,7 @@
-use Rattle.std.proofs.Common.{◌≡◌, ◌++◌, List, ℕ, length, drop, take, ap, sym, ◌∙◌, arith, take-append-drop}
+use Rattle.std.proofs.Common.{◌≡◌, ◌++◌, List, ℕ, drop, take, ap, sym, ◌∙◌, arith, take-append-drop}
 use Rattle.std.proofs.lemmas.List.{take_all}
 use Rattle.std.proofs.lemmas.Result.{IfOk-at_ok}
-use Rattle.std.specs.Io.KnownBytes.{Consumes, IsAtEnd}
-use Rattle.recovery.specs.LogText.{CameBehind}
+use Rattle.std.specs.Io.KnownBytes.{Consumes}
 use Rattle.recovery.proofs.LogTexts.{gave_both, at_ok}
 use Rattle.recovery.proofs.log_text.read_parts.Goals as goal
 

@@ -1,4 +1,4 @@
-use Rattle.std.proofs.Common.{◌≡◌, ◌++◌, ◌-◌, List, ℕ, length, drop, take, ap, ap₂, sym, subst, ◌∙◌, arith}
+use Rattle.std.proofs.Common.{◌≡◌, ◌++◌, ◌-◌, List, ℕ, length, drop, take, ap, ap₂, sym, ◌∙◌, arith}
 use Rattle.recovery.specs.declared.recovery.Remade.{Remade}
 use Rattle.recovery.proofs.LogTexts.{kept_is}
 use Rattle.recovery.proofs.log_bytes.LogBytes.kept_of.Goals as goal

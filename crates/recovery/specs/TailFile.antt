@@ -1,0 +1,28 @@
+-- The file of a tail (own): what a recovery in place keeps on the disk while it continues the log.
+use Rattle.std.specs.Prelude.{ℕ, ◌-◌, ◌*◌, ◌%◌, ◌^◌, List, [], ◌∷◌, ◌++◌, bit_xor, codes, drop, length}
+use Rattle.std.specs.Int.{w64, to_be_bytes}
+
+-- FNV-1a of 64 bits (Fowler, Noll, Vo), gone on with over more bytes
+abbrev pub sum_on : ℕ → List ℕ → ℕ
+sum_on sum [] = sum
+sum_on sum (byte ∷ rest) = sum_on ((bit_xor sum byte * 0x0000_0100_0000_01b3) % 2 ^ 64) rest
+
+abbrev pub sum_of : List ℕ → ℕ
+sum_of bytes = sum_on 0xcbf2_9ce4_8422_2325 bytes
+
+-- the last 4,096 bytes, or all if there are fewer
+abbrev pub end_of : List ℕ → List ℕ
+end_of bytes = drop (length bytes - 4096) bytes
+
+-- a magic, how long the log was, how much of it is kept, how long the tail is, and the sum of the end of what is kept
+unfoldable pub head_of : (log kept tail end : ℕ) → List ℕ
+head_of log kept tail end =
+    (((codes "ARIESTL1" ++ to_be_bytes w64 log) ++ to_be_bytes w64 kept) ++ to_be_bytes w64 tail) ++ to_be_bytes w64 end
+
+-- then the tail's frames
+unfoldable pub front_of : (log kept end : ℕ) (frames : List ℕ) → List ℕ
+front_of log kept end frames = head_of log kept (length frames) end ++ frames
+
+-- and then the sum of all this
+unfoldable pub tail_text : (log kept end : ℕ) (frames : List ℕ) → List ℕ
+tail_text log kept end frames = front_of log kept end frames ++ to_be_bytes w64 (sum_of (front_of log kept end frames))

@@ -1,0 +1,238 @@
+//! Recovery in place: the log that is read is cut and continued where it lies, and only then the new
+//! store is written. Before the log is touched, the file of its tail is out, with which a continuation
+//! that the power cut is made again.
+
+ghost use Rattle.std.specs.Prelude.{◌≡◌, ◌≤◌, ◌⊎◌, ◌+◌, ℕ, List, length, Some, IfOk, IfErr, OnOk, OnErr, Err, MatchResult};
+ghost use Rattle.std.specs.Io.KnownBytes.{IsAtEnd};
+ghost use Rattle.page.specs.declared.fault.Fault.{Fault};
+ghost use Rattle.page.specs.declared.fault.Fault.TheVariants.{ReadLog, ReadStore, WriteLog, WriteStore};
+ghost use Rattle.page.specs.File.{store_text};
+ghost use Rattle.device.specs.Failures.{Counts};
+ghost use Rattle.device.specs.Transfer.{Flushes};
+ghost use Rattle.wal.specs.Meaning.{BasePages};
+ghost use Rattle.restart.specs.Options.{AreInRange, OptionsFault};
+ghost use Rattle.recovery.specs.Recovery.{AreLawful, AreCut};
+ghost use Rattle.recovery.specs.Devices.{Fails, AreOut, DeviceCause, IsResourceOrDevice};
+ghost use Rattle.recovery.specs.LogText.{text_of};
+ghost use Rattle.recovery.specs.TailFile.{tail_text, sum_of, end_of};
+ghost use Rattle.recovery.specs.InPlace.{IsContinued, IsLeft, IsLeftIn, Prepares, HasTail, Completed, DeliversInPlace, CompletesInPlace, HoldsCut, IsFlushed, Stays};
+ghost use Rattle.recovery.specs.declared.store_pieces.TheConstants.{PIECE};
+
+use crate::Report;
+use crate::decoding::decode_both;
+use crate::log_bytes::LogBytes;
+use crate::log_text::{LogText, read_log_text};
+use crate::recovery::remake;
+use crate::store_pieces::{room_for_pieces, write_store};
+use crate::tail_file::TailFile;
+use device::{Continue, Failed, Sink, Source, write_all};
+use page::{Fault, Store};
+use redo::Gate;
+use restart::{Options, check_options};
+use std::alloc::Global;
+use std::thread::Threads;
+
+/// Cuts a log after the bytes that are kept, and flushes that; then appends frames, and flushes them.
+pub fn continue_log<L: Continue>(log: &mut L, kept: u64, frames: &[u8]) -> Result<(), Failed>
+    ensures done { OnOk result (IsContinued kept frames.now (L.taken log.old) (L.taken log.new)
+        (L.flushed log.old) (L.flushed log.new)) }
+    ensures left { OnErr result (IsLeft kept frames.now (L.taken log.old) (L.taken log.new)
+        (L.flushed log.old) (L.flushed log.new)) }
+    ensures cause { Counts (L.failures log.old) (L.failures log.new) result }
+{
+    log.cut(kept)?;
+    log.flush()?;
+    write_all(log, frames)?;
+    log.flush()
+}
+
+/// The file of the tail that continues these bytes of a log.
+fn file_of<'a>(text: &LogText, kept: &LogBytes, frames: &'a [u8]) -> TailFile<'a>
+    requires { text.now.from ≤ length text.now.back.items }
+    ensures length { result.length ≡ length (text_of text.now) }
+    ensures kept { result.kept ≡ length kept.now }
+    ensures end { result.end ≡ sum_of (end_of kept.now) }
+    ensures frames { result.frames.now ≡ frames.entry.now }
+{
+    TailFile {
+        length: text.len(),
+        kept: kept.len(),
+        end: kept.sum_of_end(),
+        frames,
+    }
+}
+
+/// Writes the file of a tail and flushes it, and then continues the log by the tail.
+fn write_tail<T: Sink, L: Continue>(
+    tail: &mut T,
+    log: &mut L,
+    file: &TailFile,
+) -> Result<(), Failed>
+    ensures tail_first { (log.new ≡ log.old) ⊎ AreOut
+        (tail_text file.now.length file.now.kept file.now.end file.now.frames.now)
+        (T.taken tail.old) (T.taken tail.new) (T.flushed tail.old) (T.flushed tail.new) }
+    ensures tail_out { OnOk result (AreOut
+        (tail_text file.now.length file.now.kept file.now.end file.now.frames.now)
+        (T.taken tail.old) (T.taken tail.new) (T.flushed tail.old) (T.flushed tail.new)) }
+    ensures done { OnOk result (IsContinued file.now.kept file.now.frames.now (L.taken log.old)
+        (L.taken log.new) (L.flushed log.old) (L.flushed log.new)) }
+    ensures left { OnErr result (IsLeft file.now.kept file.now.frames.now (L.taken log.old)
+        (L.taken log.new) (L.flushed log.old) (L.flushed log.new)) }
+    ensures cause { Counts (T.failures tail.old + L.failures log.old)
+        (T.failures tail.new + L.failures log.new) result }
+{
+    file.write(tail)?;
+    continue_log(log, file.kept, file.frames)
+}
+
+/// Writes the file of a tail, continues the log by the tail, and then writes the new store, each
+/// flushed before the next thing is done.
+fn write_in_place<T: Sink, L: Continue, S: Sink>(
+    tail: &mut T,
+    log: &mut L,
+    store: &mut S,
+    file: &TailFile,
+    made: &Store,
+    room: &mut [u8],
+) -> Result<(), Fault>
+    requires { length room.old ≡ PIECE }
+    ensures tail_first { (log.new ≡ log.old) ⊎ AreOut
+        (tail_text file.now.length file.now.kept file.now.end file.now.frames.now)
+        (T.taken tail.old) (T.taken tail.new) (T.flushed tail.old) (T.flushed tail.new) }
+    ensures log_first { (store.new ≡ store.old) ⊎ IsContinued file.now.kept file.now.frames.now
+        (L.taken log.old) (L.taken log.new) (L.flushed log.old) (L.flushed log.new) }
+    ensures log_done { OnOk result (IsContinued file.now.kept file.now.frames.now
+        (L.taken log.old) (L.taken log.new) (L.flushed log.old) (L.flushed log.new)) }
+    ensures store_out { OnOk result (AreOut (store_text made.now) (S.taken store.old)
+        (S.taken store.new) (S.flushed store.old) (S.flushed store.new)) }
+    ensures fault { IfErr result (Stays file.now.kept file.now.frames.now (store_text made.now)
+        (L.taken log.old) (L.taken log.new) (L.flushed log.old) (L.flushed log.new)
+        (S.taken store.old) (S.taken store.new)) }
+    ensures log_sinks { Fails WriteLog result (T.failures tail.old + L.failures log.old)
+        (T.failures tail.new + L.failures log.new) }
+    ensures store_sink { Fails WriteStore result (S.failures store.old) (S.failures store.new) }
+{
+    match write_tail(tail, log, file) {
+        Ok(()) => match write_store(store, made, room) {
+            Ok(()) => Ok(()),
+            Err(Failed) => Err(Fault::WriteStore),
+        },
+        Err(Failed) => Err(Fault::WriteLog),
+    }
+}
+
+/// Recovers as [`recover`](crate::recover) does, and continues the log where it lies: `out_log` is
+/// the log that `log` reads, and holds the same bytes. It is cut after its last whole record and
+/// flushed; what the recovery appends is appended, and flushed; and only then the new store is
+/// written to `out_store`, and flushed. Nothing of the log is copied.
+///
+/// Before the log is touched, all that is appended is written to `tail` and flushed, with the lengths
+/// of the log and a sum: the file of a tail, [`TailFile`](crate::TailFile). If the power fails while
+/// the log is continued, its end may hold anything; with this file the continuation is made again.
+///
+/// Refuses as `recover` does, in the same order. [`Fault::WriteLog`] also stands for a failure of
+/// `tail`.
+///
+/// After any fault but `WriteLog` and `WriteStore` the log is as it was. After `WriteLog` it is as it
+/// was, or cut and continued by a beginning of what is appended; after `WriteStore` it is whole. In
+/// each case a recovery of what the log holds and the old store ends as this one would have.
+pub fn recover_in_place<
+    LR: Source,
+    SR: Source,
+    T: Sink,
+    LW: Continue,
+    SW: Sink,
+    G: Gate,
+    R: Threads + Sync,
+>(
+    rt: &R,
+    alloc: Global,
+    log: &mut LR,
+    store: &mut SR,
+    tail: &mut T,
+    out_log: &mut LW,
+    out_store: &mut SW,
+    options: &Options,
+    gate: &G,
+) -> Result<Report, Fault>
+    // On the bytes of a log and its store that are lawful over any base pages: the log is continued by
+    // its tail, the new store is out, and a fault is a refusal of memory or a device's.
+    ensures lawful { (base : BasePages) (log_text store_text : List ℕ)
+        → LR.left log.old ≡ Some log_text → SR.left store.old ≡ Some store_text
+        → LW.taken out_log.old ≡ Some log_text → AreInRange options.now
+        → (bytes : AreLawful base log_text store_text)
+        → MatchResult result (DeliversInPlace base bytes.decoded.read bytes.decoded.before
+        (LW.taken out_log.new) (SW.taken out_store.old) (SW.taken out_store.new))
+        IsResourceOrDevice }
+
+    // On what a restart of them may leave that was interrupted: all is as it would have left it.
+    ensures interrupted { (base : BasePages) (log_text store_text : List ℕ)
+        → LR.left log.old ≡ Some log_text → SR.left store.old ≡ Some store_text
+        → LW.taken out_log.old ≡ Some log_text → AreInRange options.now
+        → (bytes : AreCut base log_text store_text)
+        → MatchResult result (λ _. CompletesInPlace base bytes.first.decoded.read
+        bytes.first.decoded.before (LW.taken out_log.new) (SW.taken out_store.old)
+        (SW.taken out_store.new)) IsResourceOrDevice }
+
+    // After any fault the log holds what was read, or such bytes.
+    ensures resumable { (base : BasePages) (log_text store_text : List ℕ)
+        → LR.left log.old ≡ Some log_text → SR.left store.old ≡ Some store_text
+        → LW.taken out_log.old ≡ Some log_text → AreInRange options.now
+        → (bytes : AreLawful base log_text store_text)
+        → OnErr result (HoldsCut base bytes.decoded.read bytes.decoded.before log_text store_text
+        (LW.taken out_log.new)) }
+
+    // Wherever it returns a report.
+    ensures answer { IfOk result (Completed (LR.left log.old) (SR.left store.old)
+        (LW.taken out_log.old) (LW.taken out_log.new) (SW.taken out_store.old)
+        (SW.taken out_store.new)) }
+    ensures options { (e : Fault) → OptionsFault options.now e → result ≡ Err e }
+
+    // A refusal has its cause, and what is left after it.
+    ensures cause { IfErr result (DeviceCause (LR.left log.old) (SR.left store.old) options.now) }
+    ensures left { IfErr result (IsLeftIn (LR.left log.old) (SR.left store.old)
+        (LW.taken out_log.old) (LW.taken out_log.new) (LW.flushed out_log.old)
+        (LW.flushed out_log.new) (SW.taken out_store.old) (SW.taken out_store.new)) }
+
+    // A report means that both are flushed.
+    ensures log_flushed { OnOk result (IsFlushed (LW.taken out_log.old) (LW.taken out_log.new)
+        (LW.flushed out_log.old) (LW.flushed out_log.new)) }
+    ensures store_flushed { OnOk result
+        (Flushes (SW.flushed out_store.old) (SW.flushed out_store.new) (SW.taken out_store.new)) }
+
+    // The sources are read to their ends, the log first, before anything is written; the file of the
+    // tail is out and flushed before the log is touched, and the log is continued and flushed before
+    // the new store is.
+    ensures log_read_first { (store.new ≡ store.old) ⊎ IsAtEnd (LR.left log.new) }
+    ensures log_unread { result ≡ Err ReadLog → store.new ≡ store.old }
+    ensures read_first { ((tail.new ≡ tail.old) × (out_log.new ≡ out_log.old) × (out_store.new ≡ out_store.old))
+        ⊎ (IsAtEnd (LR.left log.new) × IsAtEnd (SR.left store.new)) }
+    ensures tail_first { (out_log.new ≡ out_log.old)
+        ⊎ ((made : Prepares (LR.left log.old) (SR.left store.old))
+        × HasTail made (T.taken tail.old) (T.taken tail.new) (T.flushed tail.old)
+        (T.flushed tail.new)) }
+    ensures log_first { (out_store.new ≡ out_store.old)
+        ⊎ ((made : Prepares (LR.left log.old) (SR.left store.old))
+        × IsContinued made.kept made.frames (LW.taken out_log.old) (LW.taken out_log.new)
+        (LW.flushed out_log.old) (LW.flushed out_log.new)) }
+
+    // A device is blamed where it failed, and nowhere else.
+    ensures log_source { Fails ReadLog result (LR.failures log.old) (LR.failures log.new) }
+    ensures store_source { Fails ReadStore result (SR.failures store.old) (SR.failures store.new) }
+    ensures log_sinks { Fails WriteLog result (T.failures tail.old + LW.failures out_log.old)
+        (T.failures tail.new + LW.failures out_log.new) }
+    ensures store_sink { Fails WriteStore result (SW.failures out_store.old)
+        (SW.failures out_store.new) }
+{
+    check_options(options)?;
+    let mut room = room_for_pieces(alloc)?;
+    let workers = options.workers;
+    let (text, known) = read_log_text(rt, alloc, log, workers)?;
+    let (records, decoded) = decode_both(rt, alloc, &text, known, workers, store, &mut room);
+    let decoded = decoded?;
+    let remade = remake(rt, alloc, records, decoded.store, options, gate)?;
+    let kept = LogBytes::kept_of(&text, &remade);
+    let file = file_of(&text, &kept, &remade.frames);
+    write_in_place(tail, out_log, out_store, &file, &remade.store, &mut room)?;
+    Ok(remade.report)
+}

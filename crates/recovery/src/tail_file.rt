@@ -1,0 +1,155 @@
+//! The file of a tail: what a recovery in place keeps on the disk while it continues the log. With it a
+//! continuation that the power cut can be made again.
+
+ghost use Rattle.std.specs.Prelude.{◌≡◌, ◌↔◌, ◌+◌, ◌-◌, ◌<◌, ◌≤◌, ◌^◌, ◌++◌, ℕ, List, drop, length, take, IfSome, IsTrue, OnOk, OnErr, is_some, true};
+ghost use Rattle.std.specs.Int.{w64, from_be_bytes};
+ghost use Rattle.device.specs.Failures.{Counts};
+ghost use Rattle.device.specs.Transfer.{TookBeginning};
+ghost use Rattle.recovery.specs.Devices.{AreOut};
+ghost use Rattle.recovery.specs.TailFile.{sum_on, sum_of, end_of, head_of, front_of, tail_text};
+
+use device::{Failed, Sink, write_all};
+
+/// What the sum of no bytes is.
+const SUM_OF_NONE: u64 = 0xcbf2_9ce4_8422_2325;
+
+/// What the sum is multiplied by after each byte.
+const PRIME: u64 = 0x0000_0100_0000_01b3;
+
+/// How many bytes stand before the frames.
+const HEAD_BYTES: usize = 40;
+
+/// How many bytes a number takes.
+const NUMBER_BYTES: usize = 8;
+
+/// How many bytes of a log its end has, by which it is known again.
+const END_BYTES: usize = 4096;
+
+/// The sum of some bytes and then of these (FNV-1a).
+fn sum_on(sum: u64, bytes: &[u8]) -> u64
+    ensures { result ≡ sum_on sum bytes.now }
+{
+    let mut sum = sum;
+    for byte in bytes {
+        sum = (sum ^ u64::from(*byte)).wrapping_mul(PRIME);
+    }
+    sum
+}
+
+/// The sum of the last 4,096 bytes of a log that lies in two parts, or of all if there are fewer.
+pub fn sum_of_end(front: &[u8], back: &[u8]) -> u64
+    ensures { result ≡ sum_of (end_of (front.now ++ back.now)) }
+{
+    let (_, back) = back.split_at(back.len().saturating_sub(END_BYTES));
+    let more = END_BYTES - back.len();
+    let (_, front) = front.split_at(front.len().saturating_sub(more));
+    sum_on(sum_on(SUM_OF_NONE, front), back)
+}
+
+/// The number that stands at an offset in the head.
+fn number_at(head: &[u8], offset: usize) -> u64
+    requires { offset + NUMBER_BYTES ≤ length head.now }
+    ensures { result ≡ from_be_bytes w64 (take NUMBER_BYTES (drop offset head.now)) }
+{
+    let mut number = [0; NUMBER_BYTES];
+    number.copy_from_slice(&head[offset..offset + NUMBER_BYTES]);
+    u64::from_be_bytes(number)
+}
+
+/// What stands in the file of a tail.
+#[derive(Clone, Copy)]
+pub struct TailFile<'a> {
+    /// How many bytes the log had when it was read.
+    pub length: u64,
+    /// How many of them are kept: all but those of the torn tail.
+    pub kept: u64,
+    /// The sum of the last 4,096 bytes that are kept, or of all if there are fewer: the log to which the
+    /// tail belongs ends with them.
+    pub end: u64,
+    /// The frames that come after them.
+    pub frames: &'a [u8],
+}
+
+impl<'a> TailFile<'a> {
+    /// What stands before the frames.
+    #[tactic(auto, unfolding(crate::specs::TailFile::head_of))]
+    fn head(&self) -> [u8; HEAD_BYTES]
+        ensures { result ≡ head_of self.now.length self.now.kept (length self.now.frames.now) self.now.end }
+    {
+        let mut head = [0; HEAD_BYTES];
+        head[..8].copy_from_slice(b"ARIESTL1");
+        head[8..16].copy_from_slice(&self.length.to_be_bytes());
+        head[16..24].copy_from_slice(&self.kept.to_be_bytes());
+        head[24..32].copy_from_slice(&(self.frames.len() as u64).to_be_bytes());
+        head[32..].copy_from_slice(&self.end.to_be_bytes());
+        head
+    }
+
+    /// The sum of what stands before it.
+    fn sum(&self) -> u64
+        ensures { result ≡ sum_of
+            (front_of self.now.length self.now.kept self.now.end self.now.frames.now) }
+    {
+        sum_on(sum_on(SUM_OF_NONE, &self.head()), self.frames)
+    }
+
+    /// Writes the file to a sink, after what that took before, and flushes it.
+    ///
+    /// `Failed` if the sink failed. Its count of failures has then risen by one, and it has taken a
+    /// beginning of the file.
+    pub fn write<S: Sink>(&self, sink: &mut S) -> Result<(), Failed>
+        ensures all { OnOk result (AreOut (tail_text self.now.length self.now.kept self.now.end self.now.frames.now) (S.taken sink.old) (S.taken sink.new)
+            (S.flushed sink.old) (S.flushed sink.new)) }
+        ensures beginning { OnErr result
+            (TookBeginning (S.taken sink.old) (S.taken sink.new) (tail_text self.now.length self.now.kept self.now.end self.now.frames.now)) }
+        ensures cause { Counts (S.failures sink.old) (S.failures sink.new) result }
+    {
+        write_all(sink, &self.head())?;
+        write_all(sink, self.frames)?;
+        write_all(sink, &self.sum().to_be_bytes())?;
+        sink.flush()
+    }
+
+    /// What stands in these bytes; `None` if they are not the whole file of a tail, as after a crash
+    /// while it was written.
+    pub fn read(bytes: &'a [u8]) -> Option<TailFile<'a>>
+        ensures found { IfSome result (λ file. bytes.entry.now
+            ≡ tail_text file.length file.kept file.end file.frames.now) }
+        ensures whole { (log kept end : ℕ) (frames : List ℕ) → log < 2 ^ 64 → kept < 2 ^ 64
+            → end < 2 ^ 64 → bytes.entry.now ≡ tail_text log kept end frames
+            → is_some result ≡ true }
+    {
+        if bytes.len() < HEAD_BYTES + NUMBER_BYTES {
+            return None;
+        }
+        let (front, sum) = bytes.split_at(bytes.len() - NUMBER_BYTES);
+        let (head, frames) = front.split_at(HEAD_BYTES);
+        let file = TailFile {
+            length: number_at(head, 8),
+            kept: number_at(head, 16),
+            end: number_at(head, 32),
+            frames,
+        };
+        if head != file.head().as_slice() {
+            return None;
+        }
+        if sum != file.sum().to_be_bytes().as_slice() {
+            return None;
+        }
+        Some(file)
+    }
+
+    /// Where in the log its end begins, of which the file has the sum.
+    pub fn end_offset(&self) -> u64
+        ensures { result ≡ self.now.kept - END_BYTES }
+    {
+        self.kept.saturating_sub(END_BYTES as u64)
+    }
+
+    /// Whether the file has the sum of these bytes: whether they end the log to which it belongs.
+    pub fn belongs_to(&self, end: &[u8]) -> bool
+        ensures { IsTrue result ↔ (self.now.end ≡ sum_of end.now) }
+    {
+        self.end == sum_on(SUM_OF_NONE, end)
+    }
+}

@@ -1,0 +1,231 @@
+//! Recovery in place over devices that pass a few bytes a call, and fail.
+
+use super::super::{check, check_all, check_at};
+use super::{OPTIONS, Worked, worked_one_commit, worked_two_losers};
+use aries::{TailFile, recover_in_place};
+use device::{MemorySource, Pace, SlowSink};
+use page::Fault;
+use redo::OpenGate;
+use std::alloc::Global;
+use std::test::Fail;
+use std::thread::Threads;
+
+/// Room for the file of a tail.
+const ROOM: usize = 4096;
+
+/// The beginning of a frame, which a crash left.
+const TORN: [u8; 5] = [0, 0, 0, 40, 1];
+
+/// How the three sinks of a recovery in place go.
+#[derive(Clone, Copy)]
+struct Sinks {
+    tail: Pace,
+    log: Pace,
+    store: Pace,
+}
+
+impl Sinks {
+    /// Sinks that take all they are given.
+    fn fast() -> Sinks {
+        let pace = Pace::of_step(usize::MAX);
+        Sinks {
+            tail: pace,
+            log: pace,
+            store: pace,
+        }
+    }
+}
+
+/// What a recovery in place returned, and what it left.
+#[derive(Drop)]
+struct Left {
+    answer: Result<(), Fault>,
+    tail: SlowSink,
+    log: SlowSink,
+    store: SlowSink,
+}
+
+/// Recovers a row's store in place, by a log of these bytes.
+fn left_of<R: Threads + Sync>(
+    rt: &R,
+    alloc: Global,
+    worked: &Worked,
+    bytes: &[u8],
+    sinks: Sinks,
+) -> Result<Left, Fail> {
+    let room = bytes.len().max(worked.row.made.bytes.len());
+    let mut left = Left {
+        answer: Ok(()),
+        tail: SlowSink::new(alloc, ROOM, sinks.tail)?,
+        log: SlowSink::holding(alloc, bytes, room, sinks.log)?,
+        store: SlowSink::new(alloc, worked.after.len(), sinks.store)?,
+    };
+    let answer = recover_in_place(
+        rt,
+        alloc,
+        &mut MemorySource::new(bytes),
+        &mut MemorySource::new(&worked.before),
+        &mut left.tail,
+        &mut left.log,
+        &mut left.store,
+        &OPTIONS,
+        &OpenGate,
+    );
+    left.answer = answer.map(|_| ());
+    Ok(left)
+}
+
+/// The log of a row with a torn tail.
+fn torn_log(alloc: Global, worked: &Worked) -> Result<Vec<u8>, Fail> {
+    let mut bytes = Vec::from_slice(alloc, &worked.row.given.bytes)?;
+    bytes.extend_from_slice(&TORN)?;
+    Ok(bytes)
+}
+
+/// Whether the log and the new store are the row's, flushed.
+fn is_whole(worked: &Worked, left: &Left) -> bool {
+    let new_log = worked.row.made.bytes.as_slice();
+    let new_store = worked.after.as_slice();
+    left.answer.is_ok()
+        && left.log.bytes() == new_log
+        && left.log.flushed() == new_log
+        && left.store.bytes() == new_store
+        && left.store.flushed() == new_store
+}
+
+/// Whether these bytes are the file of the row's tail for a log of `length` bytes.
+fn is_tail_file(worked: &Worked, length: usize, bytes: &[u8]) -> bool {
+    let kept = worked.row.given.bytes.as_slice();
+    let Some(file) = TailFile::read(bytes) else {
+        return false;
+    };
+    file.length == length as u64
+        && file.kept == kept.len() as u64
+        && file.belongs_to(kept)
+        && worked.row.made.bytes.strip_prefix(kept) == Some(file.frames)
+}
+
+/// Recovers a row in place, its log with and without a torn tail.
+fn check_row<R: Threads + Sync>(rt: &R, alloc: Global, worked: &Worked) -> Result<(), Fail> {
+    let torn = torn_log(alloc, worked)?;
+    for bytes in [worked.row.given.bytes.as_slice(), torn.as_slice()] {
+        let left = left_of(rt, alloc, worked, bytes, Sinks::fast())?;
+        check_all(&[
+            (is_whole(worked, &left), "recovered"),
+            (
+                is_tail_file(worked, bytes.len(), left.tail.bytes()),
+                "the file of the tail",
+            ),
+        ])?;
+    }
+    Ok(())
+}
+
+#[test]
+fn rows_in_place(rt: HostRuntime) -> Result<(), Fail> {
+    let alloc = rt.alloc();
+    check_row(&rt, alloc, &worked_one_commit(alloc)?)?;
+    check_row(&rt, alloc, &worked_two_losers(alloc)?)
+}
+
+/// A file of a tail that was not written to its end is none.
+#[test]
+fn a_torn_tail_file_is_none(rt: HostRuntime) -> Result<(), Fail> {
+    let alloc = rt.alloc();
+    let worked = worked_two_losers(alloc)?;
+    let left = left_of(&rt, alloc, &worked, &worked.row.given.bytes, Sinks::fast())?;
+    let whole = left.tail.bytes();
+    for length in 0..whole.len() {
+        let (front, _) = whole.split_at(length);
+        check_at(
+            length as u32,
+            TailFile::read(front).is_none(),
+            "a file of length",
+        )?;
+    }
+    Ok(())
+}
+
+/// After a fault of a sink the log is as it was, or continued by a beginning of its tail, and a recovery
+/// in place of that ends as the first would have.
+fn check_left<R: Threads + Sync>(
+    rt: &R,
+    alloc: Global,
+    worked: &Worked,
+    read: &[u8],
+    left: &Left,
+    call: u32,
+) -> Result<(), Fail> {
+    let new_log = worked.row.made.bytes.as_slice();
+    let log = left.log.bytes();
+    let is_cut = log.len() >= worked.row.given.bytes.len() && new_log.starts_with(log);
+    check_at(call, log == read || is_cut, "the log after call")?;
+    check_at(
+        call,
+        left.store.bytes().is_empty() || log == new_log,
+        "the store after call",
+    )?;
+    let again = left_of(rt, alloc, worked, log, Sinks::fast())?;
+    check_at(call, is_whole(worked, &again), "gone on from call")
+}
+
+/// How many calls fail, each by this fault, before one comes at which the recovery goes through.
+fn failing_calls<R: Threads + Sync>(
+    rt: &R,
+    alloc: Global,
+    worked: &Worked,
+    fault: Fault,
+    sinks_at: fn(u32) -> Sinks,
+) -> Result<u32, Fail> {
+    let read = torn_log(alloc, worked)?;
+    for call in 1..1000u32 {
+        let left = left_of(rt, alloc, worked, &read, sinks_at(call))?;
+        if left.answer.is_ok() {
+            check(is_whole(worked, &left), "recovered")?;
+            return Ok(call - 1);
+        }
+        check_at(call, left.answer == Err(fault), "the fault of call")?;
+        check_left(rt, alloc, worked, &read, &left, call)?;
+    }
+    Err(Fail::new("no end"))
+}
+
+/// The sink of the tail's file fails at a call of seven bytes.
+fn tail_fails(call: u32) -> Sinks {
+    Sinks {
+        tail: Pace::failing(7, call),
+        ..Sinks::fast()
+    }
+}
+
+/// The log fails at a call, of seven bytes if it appends.
+fn log_fails(call: u32) -> Sinks {
+    Sinks {
+        log: Pace::failing(7, call),
+        ..Sinks::fast()
+    }
+}
+
+/// The sink of the store fails at a call of seven bytes.
+fn store_fails(call: u32) -> Sinks {
+    Sinks {
+        store: Pace::failing(7, call),
+        ..Sinks::fast()
+    }
+}
+
+/// The head of the tail's file takes 6 calls, its 164 bytes of frames 24, its sum 2. The log is cut and
+/// flushed before the same frames. Each sink is flushed at last.
+#[test]
+fn each_sink_in_place_fails_at_each_call(rt: HostRuntime) -> Result<(), Fail> {
+    let alloc = rt.alloc();
+    let worked = worked_two_losers(alloc)?;
+    let tail = failing_calls(&rt, alloc, &worked, Fault::WriteLog, tail_fails)?;
+    let log = failing_calls(&rt, alloc, &worked, Fault::WriteLog, log_fails)?;
+    let store = failing_calls(&rt, alloc, &worked, Fault::WriteStore, store_fails)?;
+    check_all(&[
+        (tail == 33, "calls of the tail's file"),
+        (log == 27, "calls of the log"),
+        (store == 152, "calls of the store"),
+    ])
+}
