@@ -48,7 +48,7 @@ pub struct NewFiles<'a> {
 }
 
 /// Notes that a file was not opened or made, and gives its fault: want of memory, or that file's.
-fn refuse(file: &Notes, call: Call, error: io::Error, fault: Fault) -> Fault {
+pub fn refuse(file: &Notes, call: Call, error: io::Error, fault: Fault) -> Fault {
     file.fail(call, error);
     match error.kind() {
         ErrorKind::OutOfMemory => Fault::NoResource,
@@ -57,7 +57,7 @@ fn refuse(file: &Notes, call: Call, error: io::Error, fault: Fault) -> Fault {
 }
 
 /// Opens a file to be read; `fault` where that failed.
-fn open<R: Files>(rt: &R, file: &Notes, fault: Fault) -> Result<R::File, Fault> {
+pub fn open<R: Files>(rt: &R, file: &Notes, fault: Fault) -> Result<R::File, Fault> {
     File::open(rt, file.path).map_err(|error| refuse(file, Call::Open, error, fault))
 }
 
@@ -66,7 +66,7 @@ fn open<R: Files>(rt: &R, file: &Notes, fault: Fault) -> Result<R::File, Fault> 
 ///
 /// The system takes the umask's bits away from the mode that a file is made with, so it is set once
 /// more; on a file system that keeps no modes that fails, and changes nothing.
-fn make<R: Files>(rt: &R, file: &Notes, old: &R::File, fault: Fault) -> Result<R::File, Fault> {
+pub fn make<R: Files>(rt: &R, file: &Notes, old: &R::File, fault: Fault) -> Result<R::File, Fault> {
     let mode = match old.metadata() {
         Ok(metadata) => metadata.permissions().mode() & 0o777,
         Err(_) => 0o600,
@@ -85,7 +85,7 @@ fn make<R: Files>(rt: &R, file: &Notes, old: &R::File, fault: Fault) -> Result<R
 /// Asks that the name of a new file reaches the disk, which stands in its folder; `fault` where the
 /// folder could not be synced. Where the system lets nobody sync it, who may not read it or where a
 /// file system has no such thing, that is noted alone.
-fn sync_folder<R: Files>(rt: &R, file: &Notes, fault: Fault) -> Result<(), Fault> {
+pub fn sync_folder<R: Files>(rt: &R, file: &Notes, fault: Fault) -> Result<(), Fault> {
     let folder = match Path::new(file.path).parent() {
         Some(folder) if !folder.as_str().is_empty() => folder.as_str(),
         _ => ".",
@@ -99,6 +99,15 @@ fn sync_folder<R: Files>(rt: &R, file: &Notes, fault: Fault) -> Result<(), Fault
         ErrorKind::PermissionDenied | ErrorKind::InvalidInput | ErrorKind::Unsupported => Ok(()),
         _ => Err(fault),
     }
+}
+
+/// These options, with one worker if it may be one and the log has few bytes.
+pub fn options_for(options: &Options, may_be_one: bool, bytes: usize) -> Options {
+    let mut chosen = *options;
+    if may_be_one && bytes < SHORT {
+        chosen.workers = 1;
+    }
+    chosen
 }
 
 /// Recovers the store in a file by the log in another, into two files that are made anew, each with
@@ -120,10 +129,7 @@ pub fn recover_files<R: Files + Clock + Threads + Sync>(
     let new_log = make(rt, &new.log, &log, Fault::WriteLog)?;
     let new_store = make(rt, &new.store, &store, Fault::WriteStore)?;
     let mut log = FileSource::sized(NotedFile::new(log, rt, &old.log));
-    let mut options = *options;
-    if may_be_one && log.hint() < SHORT {
-        options.workers = 1;
-    }
+    let options = options_for(options, may_be_one, log.hint());
     let report = recover(
         rt,
         alloc,

@@ -3,6 +3,7 @@
 #![tactic(auto)]
 
 mod files;
+mod in_place;
 mod noted;
 mod program;
 mod verbose;
@@ -11,12 +12,15 @@ pub use program::run;
 
 // What a caller needs of the crates below.
 pub use command::{Job, Refusal, Task, command_of};
-pub use device::{Failed, FileSink, FileSource, MemorySink, MemorySource, Sink, Source};
+pub use device::{
+    Continue, Failed, FileLog, FileSink, FileSource, MemorySink, MemorySource, Sink, Source,
+};
 pub use page::{Fault, Page, Store};
 pub use recovery::{
-    Recovery, Report, audit_texts, audit_texts_over, no_fault_of_a_recovery,
-    no_fault_of_lawful_texts, no_fault_of_lawful_texts_over, one_audit_fault, one_audit_fault_over,
-    one_recovery, one_recovery_fault, recover, recovery_alone, report_text,
+    Recovery, Report, TailFile, audit_texts, audit_texts_over, continue_log,
+    no_fault_of_a_recovery, no_fault_of_lawful_texts, no_fault_of_lawful_texts_over,
+    one_audit_fault, one_audit_fault_over, one_recovery, one_recovery_fault, recover,
+    recover_in_place, recovery_alone, report_text,
 };
 pub use redo::{Gate, OpenGate, Parting};
 pub use restart::{

@@ -18,6 +18,10 @@ pub enum Call {
     Write,
     Sync,
     SyncFolder,
+    Rename,
+    Remove,
+    /// Finds out whether the file of a tail belongs to a log.
+    Fit,
 }
 
 impl fmt::Display for Call {
@@ -29,6 +33,9 @@ impl fmt::Display for Call {
             Call::Write => "writing",
             Call::Sync => "syncing",
             Call::SyncFolder => "syncing the folder of",
+            Call::Rename => "renaming",
+            Call::Remove => "removing",
+            Call::Fit => "fitting to the log",
         })
     }
 }

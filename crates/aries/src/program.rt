@@ -1,9 +1,11 @@
 //! The program: from its words to its exit status.
 
 use crate::files::{NewFiles, OldFiles, audit_files, recover_files};
+use crate::in_place::recover_files_in_place;
 use crate::noted::Notes;
 use crate::verbose::{tell_audit, tell_recovery, tell_why};
 use command::{Job, Task, command_of};
+use page::Fault;
 use recovery::{Report, report_text};
 use restart::Options;
 use std::alloc::Global;
@@ -31,30 +33,27 @@ fn status_of_print<E: Write>(printed: io::Result<()>, verbose: bool, err: &mut E
     1
 }
 
-/// Recovers with these options, or with one worker where it may be one and the log is short, and
-/// prints the report or the fault; where it is to be verbose, before them what it did or why it was
-/// refused.
-fn run_recovery<R: Files + Clock + Threads + Sync, O: Write, E: Write>(
-    rt: &R,
+/// Prints the report of a recovery or its fault; if it is to be verbose, before them what it did or why
+/// it was refused.
+fn tell_end<O: Write, E: Write>(
     alloc: Global,
-    files: (&OldFiles, &NewFiles),
-    how: (&Options, bool),
+    answer: Result<Report, Fault>,
+    old: &OldFiles,
+    (tail, new): (Option<&Notes>, &NewFiles),
     verbose: bool,
     out: &mut O,
     err: &mut E,
 ) -> u8 {
-    let (old, new) = files;
-    let (options, may_be_one) = how;
-    match recover_files(rt, alloc, old, new, options, may_be_one) {
+    match answer {
         Ok(report) => {
             if verbose {
-                tell_recovery(old, new, err);
+                tell_recovery(old, tail, new, err);
             }
             status_of_print(print_report(alloc, &report, out), verbose, err)
         }
         Err(fault) => {
             if verbose {
-                tell_why(fault, old, Some(new), err);
+                tell_why(fault, old, tail, Some(new), err);
             }
             refuse(fault, err)
         }
@@ -80,11 +79,51 @@ fn run_audit<R: Files + Clock, O: Write, E: Write>(
         }
         Err(fault) => {
             if verbose {
-                tell_why(fault, files, None, err);
+                tell_why(fault, files, None, None, err);
             }
             refuse(fault, err)
         }
     }
+}
+
+/// A path with an ending more.
+fn with_ending(alloc: Global, path: &str, ending: &str) -> Result<String, Fault> {
+    Ok(format!(in alloc; "{path}{ending}")?)
+}
+
+/// Recovers in place, with the tail in a file whose name is the log's and `.tail`, and a new store that
+/// replaces the old one in a file whose name is the store's and `.new`.
+fn run_in_place<'x, R: Files + Clock + Threads + Sync, O: Write, E: Write>(
+    rt: &R,
+    alloc: Global,
+    (log, store, out_store): (&'x str, &'x str, Option<&'x str>),
+    how: (&Options, bool),
+    verbose: bool,
+    out: &mut O,
+    err: &mut E,
+) -> u8 {
+    let (tail, beside) = match names_beside(alloc, log, store) {
+        Ok(names) => names,
+        Err(fault) => return refuse(fault, err),
+    };
+    let (new_store, replaced) = match out_store {
+        Some(path) => (path, None),
+        None => (beside.as_str(), Some(store)),
+    };
+    let old = OldFiles::new(log, store, None);
+    let tail = Notes::new("file of the tail", tail.as_str());
+    let new = NewFiles {
+        log: Notes::new("log", log),
+        store: Notes::new("new store", new_store),
+    };
+    let answer = recover_files_in_place(rt, alloc, &old, &tail, &new, replaced, how);
+    tell_end(alloc, answer, &old, (Some(&tail), &new), verbose, out, err)
+}
+
+/// The names of the file of a log's tail and of the file that is to replace a store.
+fn names_beside(alloc: Global, log: &str, store: &str) -> Result<(String, String), Fault> {
+    let tail = with_ending(alloc, log, ".tail")?;
+    Ok((tail, with_ending(alloc, store, ".new")?))
 }
 
 /// Does the job.
@@ -109,17 +148,39 @@ fn run_job<R: Files + Clock + Threads + Sync, O: Write, E: Write>(
                 log: Notes::new("new log", out_log.as_str()),
                 store: Notes::new("new store", out_store.as_str()),
             };
-            let how = (options, *may_be_one);
-            run_recovery(rt, alloc, (&old, &new), how, job.verbose, out, err)
+            let answer = recover_files(rt, alloc, &old, &new, options, *may_be_one);
+            tell_end(alloc, answer, &old, (None, &new), job.verbose, out, err)
+        }
+        Task::RecoverInPlace {
+            log,
+            store,
+            out_store,
+            options,
+            may_be_one,
+        } => {
+            let names = (log.as_str(), store.as_str(), text_of(out_store));
+            run_in_place(
+                rt,
+                alloc,
+                names,
+                (options, *may_be_one),
+                job.verbose,
+                out,
+                err,
+            )
         }
         Task::Audit { log, store, base } => {
-            let base = match base {
-                Some(base) => Some(base.as_str()),
-                None => None,
-            };
-            let files = OldFiles::new(log.as_str(), store.as_str(), base);
+            let files = OldFiles::new(log.as_str(), store.as_str(), text_of(base));
             run_audit(rt, alloc, &files, job.verbose, out, err)
         }
+    }
+}
+
+/// The text of a name, if it is there.
+fn text_of(name: &Option<String>) -> Option<&str> {
+    match name {
+        Some(name) => Some(name.as_str()),
+        None => None,
     }
 }
 

@@ -110,10 +110,19 @@ fn tell_failure<E: Write>(file: &Notes, err: &mut E) -> bool {
 
 /// Says why a job was refused: which call on which file failed, and what the system said of it;
 /// where none has, in which file the fault lies.
-pub fn tell_why<E: Write>(fault: Fault, old: &OldFiles, new: Option<&NewFiles>, err: &mut E) {
+pub fn tell_why<E: Write>(
+    fault: Fault,
+    old: &OldFiles,
+    tail: Option<&Notes>,
+    new: Option<&NewFiles>,
+    err: &mut E,
+) {
     let mut is_told = tell_failure(&old.log, err) || tell_failure(&old.store, err);
     if let Some(base) = &old.base {
         is_told = is_told || tell_failure(base, err);
+    }
+    if let Some(tail) = tail {
+        is_told = is_told || tell_failure(tail, err);
     }
     if let Some(new) = new {
         is_told = is_told || tell_failure(&new.log, err) || tell_failure(&new.store, err);
@@ -139,11 +148,19 @@ fn between(from: Option<Instant>, to: Option<Instant>) -> Took {
 
 /// Says what a recovery read and wrote and how long each part took; and the folders that it could
 /// not sync, where the system lets nobody.
-pub fn tell_recovery<E: Write>(old: &OldFiles, new: &NewFiles, err: &mut E) {
+pub fn tell_recovery<E: Write>(old: &OldFiles, tail: Option<&Notes>, new: &NewFiles, err: &mut E) {
     tell_file("read", &old.log, err);
     tell_file("read", &old.store, err);
-    let took = between(old.store.ended(), new.log.began());
+    let began = match tail {
+        Some(tail) => tail.began(),
+        None => new.log.began(),
+    };
+    let took = between(old.store.ended(), began);
     let _ = writeln!(err, "aries: recovered in memory{took}");
+    if let Some(tail) = tail {
+        tell_file("wrote and synced", tail, err);
+        tell_failure(tail, err);
+    }
     tell_file("wrote and synced", &new.log, err);
     tell_file("wrote and synced", &new.store, err);
     tell_failure(&new.log, err);
