@@ -133,7 +133,8 @@ after begins of any value page insert'''.split())
 # what a way does not take
 CUTS = {
     'nothing fails': '''aries/verbose.rt words/refusal.rt words/fault.rt device/memory.rt device/slow.rt aries/files.rt:refuse
-        Failures::rise Failures::risen Notes::fail Board::stop''',
+        command/job.rt:missing_option command/job.rt:option_conflict command/job.rt:wrong_line Failures::rise Failures::risen
+        Notes::fail Board::stop''',
     'no checkpoint': '''wal/checkpoint.rt FrameHead::bytes wal/frame.rt:checkpoint_at wal/frame.rt:transactions_at wal/frame.rt:dirties_at
         analysis/base.rt:transactions_of analysis/base.rt:dirty_pages_of''',
     'updates and commits alone are read': '''wal/frame.rt:compensation_at wal/next.rt:compensation_end wal/glance.rt:compensation_glance
@@ -141,7 +142,11 @@ CUTS = {
         analysis/scan.rt:prepared wal/field.rt:put_entries wal/field.rt:put_dirties wal/field.rt:put_entry
         wal/field.rt:put_dirty wal/field.rt:put_state''',
     'a recovery': 'aries/files.rt:audit_files aries/files.rt:read_file aries/program.rt:run_audit command/job.rt:audit_job',
-    'an audit': '''aries/files.rt:recover_files aries/program.rt:run_recovery command/job.rt:recover_job
+    'new files': '''aries/in_place.rt recovery/in_place.rt recovery/tail_file.rt aries/program.rt:run_in_place
+        aries/program.rt:text_of LogBytes::sum_of_end''',
+    'in place': 'aries/files.rt:recover_files recovery/devices.rt:recover',
+    'an audit': '''aries/files.rt:recover_files aries/in_place.rt recovery/in_place.rt aries/program.rt:run_in_place
+        command/job.rt:recover_job
         recovery/texts.rt:audit_texts_over''',
     'a log': 'dump/store_lines.rt page/image.rt page/file.rt',
     'several workers': '''redo/one_pass.rt redo/watch.rt restart/forward.rt:forward_alone recovery/unthreaded.rt redo/unthreaded.rt
@@ -158,10 +163,11 @@ CUTS = {
 FEW = ['nothing fails', 'no checkpoint', 'updates and commits alone are read']
 # each way: its name, the most functions that it is to have, where it begins, and what it does not take
 WAYS = [
-    ('recover, 3 records, 1 worker', 262, 'aries_cli/main.rt:main', FEW + ['a recovery', 'one worker']),
-    ('recover, 3 records, 4 workers', 300, 'aries_cli/main.rt:main', FEW + ['a recovery', 'several workers', 'a short log']),
-    ('recover, 100 MB with a checkpoint, 4 workers', 350, 'aries_cli/main.rt:main',
-     ['nothing fails', 'a recovery', 'several workers', 'a long log']),
+    ('recover, 3 records, 1 worker', 267, 'aries_cli/main.rt:main', FEW + ['a recovery', 'new files', 'one worker']),
+    ('recover in place, 3 records, 1 worker', 293, 'aries_cli/main.rt:main', FEW + ['a recovery', 'in place', 'one worker']),
+    ('recover, 3 records, 4 workers', 303, 'aries_cli/main.rt:main', FEW + ['a recovery', 'new files', 'several workers', 'a short log']),
+    ('recover, 100 MB with a checkpoint, 4 workers', 355, 'aries_cli/main.rt:main',
+     ['nothing fails', 'a recovery', 'new files', 'several workers', 'a long log']),
     ('aries_recover (C)', 165, 'aries_c/recovered.rt:aries_recover', FEW + ['no threads']),
     ('audit, with a checkpoint', 220, 'aries_cli/main.rt:main', ['nothing fails', 'an audit']),
     ('aries_dump log', 145, 'aries_dump/main.rt:main', ['nothing fails', 'a log']),
