@@ -205,6 +205,7 @@ pub fn recover_files_in_place<R: Files + Clock + Threads + Sync>(
 ) -> Result<Report, Fault> {
     let report = recover_opened(rt, alloc, old, tail, new, replaced.is_some(), how)?;
     place_store(rt, &new.store, replaced)?;
-    remove_tail(rt, tail)?;
+    // Its folder is not synced: if the file comes back, the next run sees that the log has all of it.
+    remove(rt, tail, Fault::WriteLog)?;
     Ok(report)
 }

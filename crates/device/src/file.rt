@@ -190,10 +190,12 @@ impl<F: Write + OpenFile> Sink for FileLog<F> {
 }
 
 /// Cuts off what stands in a file after so many bytes. Whether that was done: it is not if the file
-/// is shorter, since the cut would fill it up with zeros.
+/// is shorter, since the cut would fill it up with zeros. A file of just this length is left alone, so
+/// that a sync of it costs nothing.
 fn is_cut<F: OpenFile>(file: &F, length: u64) -> bool {
     match file.metadata() {
-        Ok(metadata) => length <= metadata.len() && file.set_len(length).is_ok(),
+        Ok(metadata) if length == metadata.len() => true,
+        Ok(metadata) => length < metadata.len() && file.set_len(length).is_ok(),
         Err(_) => false,
     }
 }
