@@ -1,6 +1,7 @@
 #!/usr/bin/env python3
 """Runs the proved programs as they are: on rows of real size, on logs that are read in two parts, on the small rows in version 2, with threads counted, with
-files that are missing or stand already, with wrong lines, with --verbose, with prints that fail, and with each growth of memory refused in turn. And looks
+files that are missing or stand already, with wrong lines, with --verbose, in place with kills and power cuts, with prints that fail, and with each growth of
+memory refused in turn. And looks
 whether the documents and the man pages are true of them, whether each wrong body that the prover must refuse can still be applied, and whether a workload takes
 more instructions than it may.
 
@@ -19,6 +20,7 @@ import tempfile
 sys.dont_write_bytecode = True  # no folder of it beside the tests
 from dump import check_dump
 from edits import check_edits
+from in_place import check_in_place
 from long_logs import check_long_logs, long_row
 from operate import check_operation
 from pages import check_pages
@@ -370,6 +372,7 @@ def main():
         check_missing_files(tally, room)
         check_words(tally, room)
         check_operation(tally, room)
+        check_in_place(tally, room)
         check_prints(tally, room)
         check_refusals(tally, room)
         check_dump(tally, room, Refuser(room))
