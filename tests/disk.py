@@ -46,6 +46,10 @@ class Disk:
         """What the program sees."""
         return {name: versions[-1] for name, versions in self.folder[-1].items()}
 
+    def is_synced(self):
+        """Whether a power cut loses nothing."""
+        return len(self.folder) == 1 and all(len(versions) == 1 for versions in self.folder[0].values())
+
     def after_power_cut(self, chooser):
         return {name: left_of(versions, chooser) for name, versions in chooser.choice(self.folder).items()}
 

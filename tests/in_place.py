@@ -1,11 +1,11 @@
 #!/usr/bin/env python3
-"""What `aries recover --in-place` leaves in files: on each row, where it refuses, beside the file of a tail that an earlier run left, after kills at each of its
-calls, after failures of each, and after power cuts.
+"""What `aries recover --in-place` leaves in files: on each row, where it refuses, beside the file of a tail that an earlier run left, after kills at each of
+its calls, after failures of each, and after power cuts.
 
 usage: tests/in_place.py [--all | --plant]        at the top of the repository, when the program is built
 
-`tests/run.py` calls `check_in_place`. Run alone, `--all` tries more kills and power cuts. `--plant` leaves out each sync in turn from what the power cuts see, and
-says how many of them the program then does not repair: so many would be lost if the program did not make that sync.
+`tests/run.py` calls `check_in_place`. Run alone, `--all` tries more kills and power cuts. `--plant` leaves out each sync in turn from what the power cuts see,
+and says how many of them the program then does not repair: so many would lose something if the program did not make that sync.
 """
 import concurrent.futures
 import functools
@@ -20,13 +20,18 @@ import tempfile
 
 sys.dont_write_bytecode = True  # no folder of it beside the tests
 from disk import Disk, power_cuts
+from long_logs import update
 from program import ARIES, LARGE_ROWS, SMALL_ROWS, Row, Tally, bytes_of, has_printed, has_refused, in_doubt, library_of, run
 
-# The rows on which the program is killed and the power cut: losers, checkpoints, torn tails, transactions in doubt, logs of version 2. All are lawful. After a log
-# that is not, a second run may find other pages to redo than the first.
-ROWS = ("one-commit", "empty-log", "two-losers", "several-kinds-of-loser", "partial-rollback-loser", "rollback-interrupted", "prepared-abort", "checkpoint-loser",
-        "checkpoint-commit", "checkpoint-loser-flushed", "torn-tail", "torn-length-largest", "cut-at-232", "cut-twice-1", "prepared-at-checkpoint",
-        "prepared-beside-loser", "two-pages-cut", "base-loser", "base-largest", "base-checkpoint")
+# The rows on which the program is killed and the power cut: losers, checkpoints, torn tails, transactions in doubt, logs of version 2. All are lawful. After a
+# log that is not, a second run may find other pages to redo than the first.
+ROWS = ("one-commit", "empty-log", "two-losers", "several-kinds-of-loser", "partial-rollback-loser", "rollback-interrupted", "prepared-abort",
+        "checkpoint-loser", "checkpoint-commit", "checkpoint-loser-flushed", "torn-tail", "torn-length-largest", "cut-at-232", "cut-twice-1",
+        "prepared-at-checkpoint", "prepared-beside-loser", "two-pages-cut", "base-loser", "base-largest", "base-checkpoint")
+# Rows with 100 bytes of a torn record more, which is longer than what is appended.
+TORN_ROWS = ("one-commit torn", "one-loser torn", "base-loser torn")
+TORN_BYTES = 100
+PLANTED_ROWS = ("two-losers", "torn-tail", "prepared-beside-loser", "one-loser torn", "base-loser torn")
 ROWS_OF_SECTORS = ("three-hundred-pages", "many-in-doubt")  # what these append takes many sectors
 ROWS_OUT = ("torn-tail", "prepared-beside-loser", "base-loser")  # killed with a new store beside the old one, too
 REPLACE = ("--replace",)
@@ -67,8 +72,28 @@ class Place:
         return "--out-store", self.at("new")
 
 
+def next_lsn(log):
+    """The LSN of the record that comes after this log, whose records are whole."""
+    at, lsn = (8, 0) if log.startswith(b"ARIESLG1") else (16, int.from_bytes(log[8:16], "big"))
+    while at < len(log):
+        at, lsn = at + 4 + int.from_bytes(log[at:at + 4], "big"), lsn + 1
+    return lsn + 1
+
+
+def torn_row(row, room):
+    """A row with a torn record more, of a transaction of its own: the same comes of it."""
+    torn = Row(shutil.copytree(row.folder, os.path.join(room, f"{name_of(row)} torn")), room)
+    with open(torn.at("log"), "ab") as log:
+        log.write(update(next_lsn(bytes_of(row.at("log"))), 1 << 30, 0, 0, 15, b"0" * 48, b"1" * 48)[:TORN_BYTES])
+    with open(torn.at("printed"), "wb") as printed:
+        printed.write(bytes_of(row.at("printed")).replace(b"torn 0\n", b"torn %d\n" % TORN_BYTES))
+    return torn
+
+
 @functools.cache
 def row_named(name, room):
+    if name.endswith(" torn"):
+        return torn_row(row_named(name[:-len(" torn")], room), room)
     if os.path.isdir(os.path.join(SMALL_ROWS, name)):
         return Row(os.path.join(SMALL_ROWS, name), room)
     folder = os.path.join(room, "in-place-rows")
@@ -126,7 +151,7 @@ def wrong_at_row(room, row, workers, is_replaced):
 def check_rows(tally, room):
     rows = [row_named(name, room) for name in sorted(os.listdir(SMALL_ROWS)) if os.path.exists(os.path.join(SMALL_ROWS, name, "printed"))]
     rows = [row for row in rows if os.path.exists(row.at("log")) and os.path.exists(row.at("store"))]
-    chosen = [row_named(name, room) for name in (*ROWS, *ROWS_OF_SECTORS, "bad-master", "undo-of-missing-page")]
+    chosen = [row_named(name, room) for name in (*ROWS, *TORN_ROWS, *ROWS_OF_SECTORS, "bad-master", "undo-of-missing-page")]
     jobs = [(row, 1) for row in rows] + [(row, workers) for row in chosen for workers in (2, 4, 64)]
     for what, is_replaced in (("the store replaced", True), ("a new store", False)):
         wrong = each(lambda job: wrong_at_row(room, *job, is_replaced), jobs)
@@ -157,6 +182,7 @@ def check_refusals(tally, room, library):
     writing = b"fault 4: writing the log failed\n"
     check_refused(tally, room, "no log", {"store": files["store"]}, b"fault 2: reading the log failed\n")
     check_refused(tally, room, "no store", {"log": files["log"]}, b"fault 3: reading the store failed\n")
+    check_refused(tally, room, "no store beside the file of a tail", {"log": files["log"], "log.tail": tail_of(row)}, b"fault 3: reading the store failed\n")
     check_refused(tally, room, "a file stands where the new store goes", {**files, "new": b"mine"}, b"fault 5: writing the store failed\n", more=())
     # After the log and the store were opened to be read, the log is opened to be appended to.
     check_refused(tally, room, "a log that nobody may write", files, writing, library=library, FAIL_AT=3)
@@ -224,18 +250,15 @@ def with_a_wrong_byte(text):
 
 def commit_after(log):
     """The frame of a commit of a new transaction, which comes after this log."""
-    is_old, at, count = log.startswith(b"ARIESLG1"), 8 if log.startswith(b"ARIESLG1") else 16, 0
-    while at < len(log):
-        at, count = at + 4 + int.from_bytes(log[at:at + 4], "big"), count + 1
-    base = 0 if is_old else int.from_bytes(log[8:16], "big")
-    return struct.pack(">IBQIQ", 21, 3, base + count + 1, 1 << 30, 0)
+    return struct.pack(">IBQIQ", 21, 3, next_lsn(log), 1 << 30, 0)
 
 
 def wrong_with_tail(room, row):
     """What is wrong beside the whole file of a row's tail."""
     log, kept, frames, tail = bytes_of(row.at("log")), kept_of(row), frames_of(row), tail_of(row)
     commit, store = commit_after(kept + frames), bytes_of(row.at("out-store"))
-    cases = [("the log as before", log, b""), ("a log filled with zeros", kept + bytes(len(frames)), b""), ("a log with old bytes", (log + frames)[:len(kept + frames)], b"")]
+    cases = [("the log as before", log, b""), ("a torn record of zeros", kept.ljust(len(log), b"\0"), b"")]
+    cases += [("a tail of zeros", kept + bytes(len(frames)), b""), ("old bytes in the tail", (log + frames)[:len(kept + frames)], b"")]
     cases += [(f"{len(part)} bytes appended", kept + part, b"") for part in [*beginnings(frames)[::5], frames]]
     cases += [(f"{len(part)} bytes filled", kept + part.ljust(len(frames), b"\0"), b"") for part in beginnings(frames)[::25]]
     cases += [("a record more", kept + frames + commit, commit), ("a torn record more", kept + frames + commit[:9], b"")]
@@ -244,12 +267,17 @@ def wrong_with_tail(room, row):
     return [it for found in wrong + stores for it in found]
 
 
-def check_tails(tally, room):
+def check_damaged_tails(tally, room, what, texts):
     row = row_named("torn-tail", room)
-    for what, texts in (("a beginning of the file of a tail", beginnings(tail_of(row))), ("a wrong byte in the file of a tail", with_a_wrong_byte(tail_of(row)))):
-        wrong = each(lambda text: wrong_with(room, row, f"{what}, {len(text)} bytes", {"log.tail": text}), texts)
-        say(tally, f"{what}, {len(texts)} of them", wrong)
-    rows = [row_named(name, room) for name in ROWS]
+    wrong = each(lambda text: wrong_with(room, row, f"{what}, {len(text)} bytes", {"log.tail": text}), texts)
+    say(tally, f"{what}, {len(texts)} of them", wrong)
+
+
+def check_tails(tally, room):
+    tail = tail_of(row_named("torn-tail", room))
+    check_damaged_tails(tally, room, "a beginning of the file of a tail", beginnings(tail))
+    check_damaged_tails(tally, room, "a wrong byte in the file of a tail", with_a_wrong_byte(tail))
+    rows = [row_named(name, room) for name in (*ROWS, *TORN_ROWS)]
     say(tally, f"the whole file of a tail, {len(rows)} rows", each(lambda row: wrong_with_tail(room, row), rows))
 
 
@@ -310,8 +338,8 @@ def check_each_call(tally, room, what, job, cases):
 
 
 def check_calls(tally, room, library, is_all):
-    within = [(name, "KILL_WITHIN") for name in ROWS]
-    others = [(name, how) for how in ("KILL_BEFORE", "KILL_AFTER") for name in ROWS]
+    within = [(name, "KILL_WITHIN") for name in (*ROWS, *TORN_ROWS)]
+    others = [(name, how) for how in ("KILL_BEFORE", "KILL_AFTER") for name in (*ROWS, *TORN_ROWS)]
     kills = within + (others if is_all else others[::9])
     job = lambda job: lambda room, *case: job(room, library, *case)
     check_each_call(tally, room, "killed at each call", job(wrong_after_kill), kills)
@@ -350,32 +378,45 @@ def states_of(room, library, row, count):
     return different(states + [state for cuts in seconds for state in cuts])
 
 
+def after(row, calls):
+    """The disk after these calls, as it is with no power cut."""
+    disk = Disk(before(row))
+    for call in calls:
+        disk.do(call)
+    return disk
+
+
 def is_as_defined(row, calls):
     """Whether the file of the tail, when it is synced, is that of the definition."""
-    disk = Disk(before(row))
-    for call in calls[:calls.index("sync log.tail")]:
-        disk.do(call)
-    return disk.files()["log.tail"] == tail_of(row)
+    return after(row, calls[:calls.index("sync log.tail")]).files()["log.tail"] == tail_of(row)
+
+
+def is_synced(row, calls):
+    """Whether a power cut after the run leaves what the row says, and nothing else."""
+    disk = after(row, calls)
+    return disk.is_synced() and disk.files() == replaced(row)
 
 
 def check_power_cuts(tally, room, library, is_all):
-    rows = [row_named(name, room) for name in (*ROWS, *ROWS_OF_SECTORS)]
-    undefined = [name_of(row) for row in rows if not is_as_defined(row, traced(room, library, before(row)))]
-    say(tally, "the file of the tail as it is defined", undefined)
-    cuts = [(row, state) for row in rows for state in states_of(room, library, row, 40 if is_all else 4)]
+    rows = [row_named(name, room) for name in (*ROWS, *TORN_ROWS, *ROWS_OF_SECTORS)]
+    traces = [(row, traced(room, library, before(row))) for row in rows]
+    say(tally, "the file of the tail as it is defined", [name_of(row) for row, calls in traces if not is_as_defined(row, calls)])
+    say(tally, "all synced at last", [name_of(row) for row, calls in traces if not is_synced(row, calls)])
+    cuts = [(row, state) for row in rows for state in states_of(room, library, row, 60 if is_all else 6)]
     say(tally, f"{len(cuts)} power cuts", each(lambda cut: wrong_after_cut(room, *cut), cuts))
 
 
 def plant(room, library):
     """Says for each sync of a recovery how many power cuts would not be repaired without it."""
-    rows = [row_named(name, room) for name in ROWS]
+    rows = [row_named(name, room) for name in PLANTED_ROWS]
     traces = [(row, traced(room, library, before(row))) for row in rows]
     calls = traces[0][1]
-    for number, at in enumerate(syncs_of(calls)):
+    for at in (None, *syncs_of(calls)):
+        number = None if at is None else syncs_of(calls).index(at)
         cuts = [cut for trace in traces for cut in cuts_without(*trace, number)]
         wrong = each(lambda cut: wrong_after_cut(room, *cut), cuts)
-        after = " ".join(calls[at - 1].split()[:2])
-        print(f"no `{calls[at]}` after `{after}`: {len(wrong)} of {len(cuts)} power cuts are not repaired {wrong[:1]}", flush=True)
+        what = "all syncs" if at is None else f"no `{calls[at]}` after `{' '.join(calls[at - 1].split()[:2])}`"
+        print(f"{what}: {len(wrong)} of {len(cuts)} power cuts are not repaired {wrong[:2]}", flush=True)
 
 
 def syncs_of(calls):
@@ -383,10 +424,11 @@ def syncs_of(calls):
 
 
 def cuts_without(row, calls, number):
-    """The power cuts of a run without the sync of this number."""
-    at = syncs_of(calls)[number]
+    """The power cuts of a run without the sync of this number, or with all if there is none."""
+    left_out = None if number is None else syncs_of(calls)[number]
+    calls = [call for at, call in enumerate(calls) if at != left_out]
     chooser = random.Random(f"{name_of(row)} {number}")
-    return [(row, state) for state in different(power_cuts(before(row), calls[:at] + calls[at + 1:], chooser, 6))]
+    return [(row, state) for state in different(power_cuts(before(row), calls, chooser, 60))]
 
 
 def check_in_place(tally, room, is_all=False):

@@ -1,9 +1,8 @@
 #!/usr/bin/env python3
 """Runs the proved programs as they are: on rows of real size, on logs that are read in two parts, on the small rows in version 2, with threads counted, with
 files that are missing or stand already, with wrong lines, with --verbose, in place with kills and power cuts, with prints that fail, and with each growth of
-memory refused in turn. And looks
-whether the documents and the man pages are true of them, whether each wrong body that the prover must refuse can still be applied, and whether a workload takes
-more instructions than it may.
+memory refused in turn. And looks whether the documents and the man pages are true of them, whether each wrong body that the prover must refuse can still be
+applied, and whether a workload takes more instructions than it may.
 
 usage: tests/run.py        at the top of the repository, behind `rt ci`, which builds the programs
 
