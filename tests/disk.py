@@ -1,8 +1,8 @@
 """What a power cut may leave in a folder, from the calls that a program made there, which tests/watch_calls.c notes.
 
 A file has versions: what the disk holds, and what each call since the last sync of the file made of it. So has the list of the folder's files, since the last
-sync of the folder. After a power cut the list is one of its versions. A file is as long as one of its versions, or between two, and each of its sectors comes
-from any version, with zeros where that version has no bytes.
+sync of the folder. After a power cut the list is one of its versions. A file is as long as one of its versions, or, while it grew, between two, and each of its
+sectors comes from any version, with zeros where that version has no bytes.
 """
 
 SECTORS = (512, 16)  # no disk has the second, but most logs in the rows are shorter than the first
@@ -60,8 +60,8 @@ def left_of(versions, chooser):
     if how != "mixed" or len(versions) == 1:
         return versions[0 if how == "old" else -1]
     later, sector = chooser.randrange(1, len(versions)), chooser.choice(SECTORS)
-    lengths = len(versions[later - 1]), len(versions[later])
-    size = chooser.choice((*lengths, chooser.randint(min(lengths), max(lengths))))
+    earlier_length, length = len(versions[later - 1]), len(versions[later])
+    size = chooser.choice((earlier_length, length, chooser.randint(min(earlier_length, length), length)))
     sectors = (chooser.choice(versions)[at:at + sector].ljust(sector, b"\0") for at in range(0, size, sector))
     return b"".join(sectors)[:size]
 

@@ -4,7 +4,7 @@ its calls, after failures of each, and after power cuts.
 
 usage: tests/in_place.py [--all | --plant]        at the top of the repository, when the program is built
 
-`tests/run.py` calls `check_in_place`. Run alone, `--all` tries more kills and power cuts. `--plant` leaves out each sync in turn from what the power cuts see,
+`tests/run.py` calls `check_in_place`. Run alone, `--all` tries more power cuts. `--plant` leaves out each sync in turn from what the power cuts see,
 and says how many of them the program then does not repair: so many would lose something if the program did not make that sync.
 """
 import concurrent.futures
@@ -33,7 +33,7 @@ TORN_ROWS = ("one-commit torn", "one-loser torn", "base-loser torn")
 TORN_BYTES = 100
 PLANTED_ROWS = ("two-losers", "torn-tail", "prepared-beside-loser", "one-loser torn", "base-loser torn")
 ROWS_OF_SECTORS = ("three-hundred-pages", "many-in-doubt")  # what these append takes many sectors
-ROWS_OUT = ("torn-tail", "prepared-beside-loser", "base-loser")  # killed with a new store beside the old one, too
+ROWS_OUT = ("torn-tail", "prepared-beside-loser", "base-loser", "one-loser torn")  # killed with a new store beside the old one, too
 REPLACE = ("--replace",)
 IN_MEMORY = "/dev/shm"  # where files are synced in no time
 SUM_OF_NONE, PRIME = 0xcbf29ce484222325, 0x100000001b3
@@ -337,24 +337,22 @@ def check_each_call(tally, room, what, job, cases):
     say(tally, f"{what}, {len(cases)} cases", wrong)
 
 
-def check_calls(tally, room, library, is_all):
-    within = [(name, "KILL_WITHIN") for name in (*ROWS, *TORN_ROWS)]
-    others = [(name, how) for how in ("KILL_BEFORE", "KILL_AFTER") for name in (*ROWS, *TORN_ROWS)]
-    kills = within + (others if is_all else others[::9])
+def check_calls(tally, room, library):
+    kills = [(name, how) for how in ("KILL_BEFORE", "KILL_WITHIN", "KILL_AFTER") for name in (*ROWS, *TORN_ROWS)]
+    out = [(name, how) for name, how in kills if name in ROWS_OUT]
+    failures = [(name, "FAIL_AT") for name in (*ROWS, *TORN_ROWS)]
     job = lambda job: lambda room, *case: job(room, library, *case)
     check_each_call(tally, room, "killed at each call", job(wrong_after_kill), kills)
-    out = [(name, how) for how in ("KILL_WITHIN", "KILL_BEFORE") for name in ROWS_OUT]
     check_each_call(tally, room, "killed at each call, a new store", job(wrong_after_kill_beside), out)
-    failures = [(name, "FAIL_AT") for name in (ROWS if is_all else ROWS[::3])]
     check_each_call(tally, room, "each call fails", job(wrong_after_failure), failures)
 
 
 # Power cuts.
 
-def traced(room, library, files):
+def traced(room, library, files, is_replaced=True):
     """The calls of a recovery of these files that change or sync something."""
     with Place(room, files) as place, tempfile.NamedTemporaryFile(dir=room, mode="r", encoding="ascii") as calls:
-        place.recover(*REPLACE, library=library, CALLS=calls.name)
+        place.recover(*(REPLACE if is_replaced else place.out()), library=library, CALLS=calls.name)
         return calls.read().splitlines()
 
 
@@ -364,9 +362,18 @@ def different(states):
 
 
 def wrong_after_cut(room, row, state):
-    names = {name: len(text) for name, text in sorted(state.items())}
+    sizes = {name: len(text) for name, text in sorted(state.items())}
     with Place(room, state) as place:
-        return wrong_again(place, row, f"a power cut that left {names}")
+        return wrong_again(place, row, f"a power cut that left {sizes}")
+
+
+def wrong_after_cut_beside(room, row, state):
+    """The same with a new store beside the old one: what is there of it is removed before the next run."""
+    sizes = {name: len(text) for name, text in sorted(state.items())}
+    with Place(room, {name: text for name, text in state.items() if name != "new"}) as place:
+        ran = place.recover(*place.out())
+        is_well = ran.returncode == 0 and not ran.stderr and place.files() == beside(row)
+        return [] if is_well else [f"{name_of(row)}, a power cut that left {sizes}: {shown(ran, place)}"]
 
 
 def states_of(room, library, row, count):
@@ -376,6 +383,12 @@ def states_of(room, library, row, count):
     with_tail = [state for state in states if state.get("log.tail") == tail_of(row)]
     seconds = [power_cuts(state, traced(room, library, state), chooser, 2) for state in chooser.sample(with_tail, min(len(with_tail), count))]
     return different(states + [state for cuts in seconds for state in cuts])
+
+
+def states_beside(room, library, row, count):
+    """What power cuts may leave while a row is recovered with a new store beside the old one."""
+    calls = traced(room, library, before(row), is_replaced=False)
+    return different(power_cuts(before(row), calls, random.Random(name_of(row)), count))
 
 
 def after(row, calls):
@@ -402,8 +415,11 @@ def check_power_cuts(tally, room, library, is_all):
     traces = [(row, traced(room, library, before(row))) for row in rows]
     say(tally, "the file of the tail as it is defined", [name_of(row) for row, calls in traces if not is_as_defined(row, calls)])
     say(tally, "all synced at last", [name_of(row) for row, calls in traces if not is_synced(row, calls)])
-    cuts = [(row, state) for row in rows for state in states_of(room, library, row, 60 if is_all else 6)]
+    cuts = [(row, state) for row in rows for state in states_of(room, library, row, 100 if is_all else 12)]
     say(tally, f"{len(cuts)} power cuts", each(lambda cut: wrong_after_cut(room, *cut), cuts))
+    rows = [row_named(name, room) for name in ROWS_OUT]
+    cuts = [(row, state) for row in rows for state in states_beside(room, library, row, 100 if is_all else 20)]
+    say(tally, f"{len(cuts)} power cuts, a new store", each(lambda cut: wrong_after_cut_beside(room, *cut), cuts))
 
 
 def plant(room, library):
@@ -437,7 +453,7 @@ def check_in_place(tally, room, is_all=False):
     check_modes(tally, room)
     check_refusals(tally, room, library)
     check_tails(tally, room)
-    check_calls(tally, room, library, is_all)
+    check_calls(tally, room, library)
     check_power_cuts(tally, room, library, is_all)
 
 
