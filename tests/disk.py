@@ -56,7 +56,7 @@ class Disk:
 
 def left_of(versions, chooser):
     """What a power cut leaves of a file: what the disk held, all that was written, or any sectors of any versions."""
-    how = chooser.choice(("old", "new", "mixed", "mixed"))
+    how = chooser.choice(("old", "new", "mixed", "mixed", "mixed", "mixed"))
     if how != "mixed" or len(versions) == 1:
         return versions[0 if how == "old" else -1]
     later, sector = chooser.randrange(1, len(versions)), chooser.choice(SECTORS)

@@ -332,8 +332,8 @@ def wrong_at_each_call(job, row, how):
 
 
 def check_each_call(tally, room, what, job, cases):
-    """The job takes the room, a row, a setting of the library and a number."""
-    wrong = each(lambda case: wrong_at_each_call(functools.partial(job, room), row_named(case[0], room), case[1]), cases)
+    """The job takes a row, a setting of the library and a number."""
+    wrong = each(lambda case: wrong_at_each_call(job, row_named(case[0], room), case[1]), cases)
     say(tally, f"{what}, {len(cases)} cases", wrong)
 
 
@@ -341,10 +341,9 @@ def check_calls(tally, room, library):
     kills = [(name, how) for how in ("KILL_BEFORE", "KILL_WITHIN", "KILL_AFTER") for name in (*ROWS, *TORN_ROWS)]
     out = [(name, how) for name, how in kills if name in ROWS_OUT]
     failures = [(name, "FAIL_AT") for name in (*ROWS, *TORN_ROWS)]
-    job = lambda job: lambda room, *case: job(room, library, *case)
-    check_each_call(tally, room, "killed at each call", job(wrong_after_kill), kills)
-    check_each_call(tally, room, "killed at each call, a new store", job(wrong_after_kill_beside), out)
-    check_each_call(tally, room, "each call fails", job(wrong_after_failure), failures)
+    check_each_call(tally, room, "killed at each call", functools.partial(wrong_after_kill, room, library), kills)
+    check_each_call(tally, room, "killed at each call, a new store", functools.partial(wrong_after_kill_beside, room, library), out)
+    check_each_call(tally, room, "each call fails", functools.partial(wrong_after_failure, room, library), failures)
 
 
 # Power cuts.
@@ -415,7 +414,7 @@ def check_power_cuts(tally, room, library, is_all):
     traces = [(row, traced(room, library, before(row))) for row in rows]
     say(tally, "the file of the tail as it is defined", [name_of(row) for row, calls in traces if not is_as_defined(row, calls)])
     say(tally, "all synced at last", [name_of(row) for row, calls in traces if not is_synced(row, calls)])
-    cuts = [(row, state) for row in rows for state in states_of(room, library, row, 100 if is_all else 12)]
+    cuts = [(row, state) for row in rows for state in states_of(room, library, row, 100 if is_all else 20)]
     say(tally, f"{len(cuts)} power cuts", each(lambda cut: wrong_after_cut(room, *cut), cuts))
     rows = [row_named(name, room) for name in ROWS_OUT]
     cuts = [(row, state) for row in rows for state in states_beside(room, library, row, 100 if is_all else 20)]

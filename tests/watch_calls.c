@@ -4,7 +4,8 @@
  *   KILL_WITHIN  kills it when half of that call is done if the call is a write, and after any other call
  *   KILL_AFTER   kills it after that call
  *   FAIL_AT      the call with this number does nothing, and fails with EIO
- *   CALLS        a file in which each call that changed or synced something is noted, and one that failed by FAIL_AT, a line each
+ *   CALLS        a file in which each call that changed or synced something is noted, a line each, and one that
+ *                FAIL_AT named
  *
  * Build: cc -O1 -shared -fPIC -o watch_calls.so watch_calls.c -ldl */
 #define _GNU_SOURCE
