@@ -57,17 +57,22 @@ fn read_from<R: Files + Clock>(
 
 /// Whether a log that holds these bytes from the tail's end of it on is still to be continued by the
 /// tail; `None` if the file of the tail belongs to another log. `after` are the bytes of the log from
-/// [`TailFile::end_offset`] on.
+/// [`TailFile::end_offset`] on. If nothing is to be appended, a log of its old length may have its torn
+/// tail still, or zeros in the place of it.
 fn is_to_be_continued(file: &TailFile, after: &[u8]) -> Option<bool> {
     let length = file.kept.saturating_sub(file.end_offset()) as usize;
     let (end, rest) = after.split_at_checked(length)?;
     if !file.belongs_to(end) {
         return None;
     }
+    let torn = file.length.saturating_sub(file.kept);
+    if file.frames.is_empty() {
+        return Some(torn > 0 && rest.len() as u64 == torn);
+    }
     if rest.starts_with(file.frames) {
         return Some(false);
     }
-    let longest = (file.frames.len() as u64).max(file.length.saturating_sub(file.kept));
+    let longest = torn.max(file.frames.len() as u64);
     (rest.len() as u64 <= longest).then_some(true)
 }
 
@@ -153,9 +158,9 @@ fn recover_opened<R: Files + Clock + Threads + Sync>(
     let store = open(rt, &old.store, Fault::ReadStore)?;
     let appended = open_to_append(rt, &new.log)?;
     finish(rt, alloc, tail, &new.log)?;
+    let new_store = make_store(rt, &new.store, is_replacing, &store)?;
     let tail_file = make(rt, tail, &log, Fault::WriteLog)?;
     sync_folder(rt, tail, Fault::WriteLog)?;
-    let new_store = make_store(rt, &new.store, is_replacing, &store)?;
     let mut log = FileSource::sized(NotedFile::new(log, rt, &old.log));
     let options = options_for(options, may_be_one, log.hint());
     let answer = recover_in_place(
@@ -205,7 +210,6 @@ pub fn recover_files_in_place<R: Files + Clock + Threads + Sync>(
 ) -> Result<Report, Fault> {
     let report = recover_opened(rt, alloc, old, tail, new, replaced.is_some(), how)?;
     place_store(rt, &new.store, replaced)?;
-    // Its folder is not synced: if the file comes back, the next run sees that the log has all of it.
-    remove(rt, tail, Fault::WriteLog)?;
+    remove_tail(rt, tail)?;
     Ok(report)
 }

@@ -134,8 +134,9 @@ fn write_in_place<T: Sink, L: Continue, S: Sink>(
 /// `tail`.
 ///
 /// After any fault but `WriteLog` and `WriteStore` the log is as it was. After `WriteLog` it is as it
-/// was, or cut and continued by a beginning of what is appended; after `WriteStore` it is whole. In
-/// each case a recovery of what the log holds and the old store ends as this one would have.
+/// was, or cut and continued by a beginning of what is appended; after `WriteStore` it is whole. If
+/// the log and the store were lawful, a recovery of what the log holds and the old store then ends as
+/// this one would have.
 pub fn recover_in_place<
     LR: Source,
     SR: Source,
