@@ -36,6 +36,30 @@ impl Sinks {
     }
 }
 
+/// A sink of a recovery in place.
+#[derive(Clone, Copy)]
+enum Sink {
+    Tail,
+    Log,
+    Store,
+}
+
+impl Sink {
+    /// This sink fails at a call, each of which passes seven bytes; the others take all they are given.
+    fn fails_at(self, call: u32) -> Sinks {
+        let fast = Sinks::fast();
+        let pace = Pace::failing(7, call);
+        match self {
+            Sink::Tail => Sinks { tail: pace, ..fast },
+            Sink::Log => Sinks { log: pace, ..fast },
+            Sink::Store => Sinks {
+                store: pace,
+                ..fast
+            },
+        }
+    }
+}
+
 /// What a recovery in place returned, and what it left.
 #[derive(Drop)]
 struct Left {
@@ -137,11 +161,7 @@ fn a_torn_tail_file_is_none(rt: HostRuntime) -> Result<(), Fail> {
     let whole = left.tail.bytes();
     for length in 0..whole.len() {
         let (front, _) = whole.split_at(length);
-        check_at(
-            length as u32,
-            TailFile::read(front).is_none(),
-            "a file of length",
-        )?;
+        check(TailFile::read(front).is_none(), "a torn file")?;
     }
     Ok(())
 }
@@ -175,11 +195,11 @@ fn failing_calls<R: Threads + Sync>(
     alloc: Global,
     worked: &Worked,
     fault: Fault,
-    sinks_at: fn(u32) -> Sinks,
+    sink: Sink,
 ) -> Result<u32, Fail> {
     let read = torn_log(alloc, worked)?;
     for call in 1..1000u32 {
-        let left = left_of(rt, alloc, worked, &read, sinks_at(call))?;
+        let left = left_of(rt, alloc, worked, &read, sink.fails_at(call))?;
         if left.answer.is_ok() {
             check(is_whole(worked, &left), "recovered")?;
             return Ok(call - 1);
@@ -190,39 +210,15 @@ fn failing_calls<R: Threads + Sync>(
     Err(Fail::new("no end"))
 }
 
-/// The sink of the tail's file fails at a call of seven bytes.
-fn tail_fails(call: u32) -> Sinks {
-    Sinks {
-        tail: Pace::failing(7, call),
-        ..Sinks::fast()
-    }
-}
-
-/// The log fails at a call, of seven bytes if it appends.
-fn log_fails(call: u32) -> Sinks {
-    Sinks {
-        log: Pace::failing(7, call),
-        ..Sinks::fast()
-    }
-}
-
-/// The sink of the store fails at a call of seven bytes.
-fn store_fails(call: u32) -> Sinks {
-    Sinks {
-        store: Pace::failing(7, call),
-        ..Sinks::fast()
-    }
-}
-
 /// The head of the tail's file takes 6 calls, its 164 bytes of frames 24, its sum 2. The log is cut and
 /// flushed before the same frames. Each sink is flushed at last.
 #[test]
 fn each_sink_in_place_fails_at_each_call(rt: HostRuntime) -> Result<(), Fail> {
     let alloc = rt.alloc();
     let worked = worked_two_losers(alloc)?;
-    let tail = failing_calls(&rt, alloc, &worked, Fault::WriteLog, tail_fails)?;
-    let log = failing_calls(&rt, alloc, &worked, Fault::WriteLog, log_fails)?;
-    let store = failing_calls(&rt, alloc, &worked, Fault::WriteStore, store_fails)?;
+    let tail = failing_calls(&rt, alloc, &worked, Fault::WriteLog, Sink::Tail)?;
+    let log = failing_calls(&rt, alloc, &worked, Fault::WriteLog, Sink::Log)?;
+    let store = failing_calls(&rt, alloc, &worked, Fault::WriteStore, Sink::Store)?;
     check_all(&[
         (tail == 33, "calls of the tail's file"),
         (log == 27, "calls of the log"),
