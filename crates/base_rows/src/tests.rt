@@ -1,5 +1,6 @@
 //! Pages, stores and fault texts; boards; devices over memory, that are slow or fail, and over files.
 
+mod again;
 mod boards;
 mod files;
 mod stores;

@@ -1,10 +1,12 @@
 -- Bytes that go piece by piece.
 use Rattle.std.proofs.Common.{◌≡◌, ℕ, ◌+◌, ◌-◌, List, ◌++◌, length, take, drop, sym, ap, ◌∙◌, subst, arith, append_assoc, length-append, take-append-drop, take-add}
-use Rattle.std.proofs.lemmas.List.{take_rest}
+use Rattle.std.proofs.lemmas.List.{take_rest, drop-drop}
 use Rattle.std.proofs.Math.Seq.{take-append_seam}
 use Rattle.std.specs.declared.option.Option.{Option}
+use Rattle.std.specs.declared.option.Option.TheVariants.{None, Some}
 use Rattle.std.specs.Io.KnownBytes.{Appends, Consumes, Keeps}
 use Rattle.std.proofs.KnownBytes.{Appends-kept, Consumes-trans}
+use Rattle.device.specs.Reread.{ReadsFrom}
 use Rattle.device.specs.Transfer.{ReadBehind, TookBeginning}
 
 -- what is done grows by a piece of the rest, and the rest is what stands behind it
@@ -35,3 +37,13 @@ behind_by a b c front old room new f n kept same before read =
     let all : take (f + n) new ≡ front ++ (rest ++ piece) =
     take-add f n new ∙ ap (λ l. l ++ piece) (same ∙ kept ∙ split) ∙ append_assoc front rest piece in
     (rest ++ piece, all, Consumes-trans a b c rest piece consumed read)
+
+-- a buffer filled from an offset on up to f, and then by n bytes more, while the device holds the same
+pub filled_from : (before now : Option (List ℕ)) (offset f n : ℕ) (old new : List ℕ) → Keeps before now → take f new ≡ take f old
+    → ReadsFrom before offset f old → ReadsFrom now (offset + f) n (drop f new) → ReadsFrom before offset (f + n) new
+filled_from None now offset f n old new kept front done read = tt
+filled_from (Some held) None offset f n old new kept front done read = absurd kept
+filled_from (Some held) (Some same) offset f n old new kept front done read =
+    let rest = drop offset held in
+    let behind : take n (drop f new) ≡ take n (drop f rest) = read ∙ ap (λ l. take n (drop (offset + f) l)) kept ∙ ap (take n) (sym (drop-drop f offset held)) in
+    take-add f n new ∙ ap (λ l. l ++ take n (drop f new)) (front ∙ done) ∙ ap (λ l. take f rest ++ l) behind ∙ sym (take-add f n rest)

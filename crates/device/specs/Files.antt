@@ -1,5 +1,7 @@
 -- What the devices over files tell (own).
-use Rattle.std.specs.Prelude.{ℕ}
+use Rattle.std.specs.Prelude.{◌≡◌, ℕ, List, Some, IfSome, OnOk, Result}
+use Rattle.std.specs.declared.option.Option.{Option}
+use Rattle.std.specs.Io.KnownBytes.{ReadConsumes}
 use Rattle.device.specs.declared.file.FileSource.{FileSource}
 use Rattle.device.specs.declared.file.FileSink.{FileSink}
 use Rattle.device.specs.declared.file.FileLog.{FileLog}
@@ -11,6 +13,12 @@ read_file source = source.file
 -- how often it failed
 abbrev pub read_failures : {F : Type 0} → FileSource F → ℕ
 read_failures source = source.failures.count
+
+-- where a read was answered, the file stood at the offset before it, as far as it tells its position, and gave these bytes from there
+abbrev pub ReadsThere : {F E : Type 0} → (position : F → Option ℕ) → (remaining : F → Option (List ℕ)) → (before after : F) → (offset : ℕ)
+    → Result ℕ E → (buffer : List ℕ) → Type 0
+ReadsThere {F} position remaining before after offset result buffer = OnOk result ((there : F)
+    × IfSome (position before) (λ _. position there ≡ Some offset) × ReadConsumes (remaining there) (remaining after) result buffer)
 
 -- the file that is written
 abbrev pub written_file : {F : Type 0} → FileSink F → F

@@ -8,6 +8,10 @@ use Rattle.device.specs.Kept.{bytes_taken as kept_taken, bytes_flushed as kept_f
 abbrev pub bytes_left : MemorySource → List ℕ
 bytes_left source = source.rest.now
 
+-- all bytes that the source holds
+abbrev pub bytes_held : MemorySource → List ℕ
+bytes_held source = source.all.now
+
 -- the bytes taken so far
 abbrev pub bytes_taken : MemorySink → List ℕ
 bytes_taken sink = kept_taken sink.kept

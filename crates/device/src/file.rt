@@ -5,11 +5,12 @@
 ghost use Rattle.std.specs.Prelude.{◌≡◌, IfOk, ◌<◌, length};
 ghost use Rattle.std.specs.Io.{ReadsAtMost, WritesAtMost};
 ghost use Rattle.std.specs.Io.KnownBytes.{Keeps, ReadConsumes, WriteAppends};
-ghost use Rattle.device.specs.Files.{read_file, read_failures, written_file, write_failures, log_failures};
+ghost use Rattle.device.specs.Failures.{Counts};
+ghost use Rattle.device.specs.Files.{ReadsThere, read_file, read_failures, written_file, write_failures, log_failures};
 
-use crate::{Continue, Failed, Failures, Sink, Source};
+use crate::{Continue, Failed, Failures, Reread, Sink, Source};
 use std::fs::OpenFile;
-use std::io::{ErrorKind, Read, Write};
+use std::io::{ErrorKind, Read, Seek, SeekFrom, Write};
 
 /// A source over an open file.
 #[derive(Drop)]
@@ -81,6 +82,40 @@ impl<F: Read> Source for FileSource<F> {
 
     fn read(&mut self, buffer: &mut [u8]) -> Result<usize, Failed> {
         let answer = read_once(&mut self.file, buffer);
+        if answer.is_err() {
+            self.failures.rise();
+        }
+        answer
+    }
+}
+
+/// Goes to a place of a file, and reads once there.
+fn read_once_at<F: Read + Seek>(
+    file: &mut F,
+    offset: u64,
+    buffer: &mut [u8],
+) -> Result<usize, Failed>
+    ensures within { ReadsAtMost result buffer.new }
+    ensures there { ReadsThere F.stream_position F.remaining file.old file.new offset
+        result buffer.new }
+{
+    match file.seek(SeekFrom::Start(offset)) {
+        Ok(_) => read_once(file, buffer),
+        Err(_) => Err(Failed),
+    }
+}
+
+/// It tells no bytes, since no file tells what it holds.
+impl<F: Read + Seek> Reread for FileSource<F> {
+    /// `Failed` too if the file cannot go to the offset, as to 2^63 or more. `read` goes on after the
+    /// bytes that this read.
+    fn read_at(&mut self, offset: u64, buffer: &mut [u8]) -> Result<usize, Failed>
+        ensures bound { ReadsAtMost result buffer.new }
+        ensures there { ReadsThere F.stream_position F.remaining (read_file self.old)
+            (read_file self.new) offset result buffer.new }
+        ensures cause { Counts (read_failures self.old) (read_failures self.new) result }
+    {
+        let answer = read_once_at(&mut self.file, offset, buffer);
         if answer.is_err() {
             self.failures.rise();
         }

@@ -3,6 +3,7 @@
 //! told to, for tests.
 #![tactic(auto)]
 
+mod again;
 mod failures;
 mod file;
 mod kept;
@@ -11,9 +12,10 @@ mod slow;
 mod traits;
 mod transfer;
 
+pub use again::read_full_at;
 pub use failures::Failures;
 pub use file::{FileLog, FileSink, FileSource};
 pub use memory::{MemorySink, MemorySource};
 pub use slow::{Pace, SlowSink, SlowSource};
-pub use traits::{Continue, Failed, Sink, Source};
+pub use traits::{Continue, Failed, Reread, Sink, Source};
 pub use transfer::{ReadFault, read_all, read_front, read_full, read_rest, write_all};

@@ -1,25 +1,31 @@
 //! Devices over memory. They tell their bytes.
 
 ghost use Rattle.std.specs.Prelude.{◌≡◌, ℕ, Some, []};
-ghost use Rattle.device.specs.Memory.{bytes_left, bytes_taken, bytes_flushed, failures_met};
+ghost use Rattle.device.specs.Memory.{bytes_left, bytes_held, bytes_taken, bytes_flushed, failures_met};
 
+use crate::again::bytes_from;
 use crate::kept::Kept;
-use crate::{Continue, Failed, Failures, Sink, Source};
+use crate::{Continue, Failed, Failures, Reread, Sink, Source};
 use std::alloc::Global;
 use std::io::Read;
 
 /// A source of lent bytes. It never fails.
 #[derive(Drop)]
 pub struct MemorySource<'a> {
+    all: &'a [u8],
     rest: &'a [u8],
 }
 
 impl<'a> MemorySource<'a> {
     /// A source that has all of these bytes left.
     pub fn new(bytes: &'a [u8]) -> MemorySource<'a>
-        ensures { bytes_left result ≡ bytes.now }
+        ensures left { bytes_left result ≡ bytes.now }
+        ensures text { bytes_held result ≡ bytes.now }
     {
-        MemorySource { rest: bytes }
+        MemorySource {
+            all: bytes,
+            rest: bytes,
+        }
     }
 }
 
@@ -37,6 +43,17 @@ impl<'a> Source for MemorySource<'a> {
         let (front, rest) = self.rest.split_at(count);
         buffer[..count].copy_from_slice(front);
         self.rest = rest;
+        Ok(count)
+    }
+}
+
+impl<'a> Reread for MemorySource<'a> {
+    ghost text = { λ source. Some (bytes_held source) };
+
+    fn read_at(&mut self, offset: u64, buffer: &mut [u8]) -> Result<usize, Failed> {
+        let held = bytes_from(self.all, offset);
+        let count = held.len().min(buffer.len());
+        buffer[..count].copy_from_slice(&held[..count]);
         Ok(count)
     }
 }

@@ -2,10 +2,11 @@
 //! beforehand. They tell their bytes.
 
 ghost use Rattle.std.specs.Prelude.{◌≡◌, Some, None, true, false, [], IfOk, ◌<◌, ◌≤◌, ◌-◌, ◌^◌};
-ghost use Rattle.device.specs.Slow.{bytes_left, bytes_taken, bytes_flushed, read_failures, write_failures};
+ghost use Rattle.device.specs.Slow.{bytes_left, bytes_held, bytes_taken, bytes_flushed, read_failures, write_failures};
 
+use crate::again::bytes_from;
 use crate::kept::Kept;
-use crate::{Continue, Failed, Failures, Sink, Source};
+use crate::{Continue, Failed, Failures, Reread, Sink, Source};
 use std::alloc::{AllocError, Global};
 
 /// How fast a device is, and at which call it fails.
@@ -80,6 +81,7 @@ impl Pace {
 /// A source of lent bytes.
 #[derive(Drop)]
 pub struct SlowSource<'a> {
+    all: &'a [u8],
     rest: &'a [u8],
     pace: Pace,
     failures: Failures,
@@ -90,8 +92,10 @@ impl<'a> SlowSource<'a> {
     pub fn new(bytes: &'a [u8], pace: Pace) -> SlowSource<'a>
         ensures left { bytes_left result ≡ bytes.now }
         ensures failures { read_failures result ≡ 0 }
+        ensures text { bytes_held result ≡ bytes.now }
     {
         SlowSource {
+            all: bytes,
             rest: bytes,
             pace,
             failures: Failures::new(),
@@ -118,6 +122,21 @@ impl<'a> Source for SlowSource<'a> {
         let (front, rest) = self.rest.split_at(count);
         buffer[..count].copy_from_slice(front);
         self.rest = rest;
+        Ok(count)
+    }
+}
+
+impl<'a> Reread for SlowSource<'a> {
+    ghost text = { λ source. Some (bytes_held source) };
+
+    fn read_at(&mut self, offset: u64, buffer: &mut [u8]) -> Result<usize, Failed> {
+        if self.pace.is_due() {
+            self.failures.rise();
+            return Err(Failed);
+        }
+        let held = bytes_from(self.all, offset);
+        let count = self.pace.count_of(held.len().min(buffer.len()));
+        buffer[..count].copy_from_slice(&held[..count]);
         Ok(count)
     }
 }

@@ -1,12 +1,13 @@
 //! What a device is.
 
-ghost use Rattle.std.specs.Prelude.{ℕ, List, None, IfOk, OnOk, OnErr, ◌<◌, length};
+ghost use Rattle.std.specs.Prelude.{◌≡◌, ℕ, List, None, IfOk, OnOk, OnErr, ◌<◌, length};
 ghost use Rattle.std.specs.declared.option.Option.{Option};
 ghost use Rattle.std.specs.Io.{ReadsAtMost, WritesAtMost};
 ghost use Rattle.std.specs.Io.KnownBytes.{Keeps, ReadConsumes, WriteAppends};
 ghost use Rattle.device.specs.Failures.{Counts};
 ghost use Rattle.device.specs.Transfer.{Flushes};
 ghost use Rattle.device.specs.Continued.{Cuts, Shortens};
+ghost use Rattle.device.specs.Reread.{EndsBy, ReadsFrom};
 
 /// A device failed. Why, it does not say.
 #[derive(Clone, Copy, Debug, PartialEq, Eq, Drop)]
@@ -87,5 +88,26 @@ pub trait Continue: Sink {
         ensures bytes { OnOk result (Cuts (Self.taken self.old) (Self.taken self.new) length) }
         ensures uncut { OnErr result (Keeps (Self.taken self.old) (Self.taken self.new)) }
         ensures flushed { Shortens (Self.flushed self.old) (Self.flushed self.new) }
+        ensures cause { Counts (Self.failures self.old) (Self.failures self.new) result };
+}
+
+/// A source that can be read again, from any offset.
+pub trait Reread: Source {
+    /// All bytes that the device holds, from its beginning on, or `None` where it does not tell them.
+    ghost text: { Self → Option (List ℕ) } = { λ _. None };
+
+    /// Puts bytes that the device holds from `offset` on to the front of the buffer, and returns how
+    /// many: 0 only where `offset` is at or past the end, or where the buffer is empty. There may be
+    /// fewer than the device holds and the buffer takes. What stands after them in the buffer is not
+    /// told, nor where `read` goes on after this.
+    ///
+    /// `Failed` if the device failed. Its count of failures has then risen by one, and what the buffer
+    /// holds is not told. The device still holds the same bytes.
+    fn read_at(&mut self, offset: u64, buffer: &mut [u8]) -> Result<usize, Failed>
+        ensures bound { ReadsAtMost result buffer.new }
+        ensures bytes { IfOk result (λ count. ReadsFrom (text self.old) offset count buffer.new) }
+        ensures end { IfOk result (λ count. count ≡ 0 → 0 < length buffer.new
+            → EndsBy (text self.old) offset) }
+        ensures same { Keeps (text self.old) (text self.new) }
         ensures cause { Counts (Self.failures self.old) (Self.failures self.new) result };
 }

@@ -4,11 +4,11 @@ ghost use Rattle.std.specs.Prelude.{IfOk, ◌≤◌};
 
 use super::{check, check_all};
 use device::{
-    Continue, Failed, FileLog, FileSink, FileSource, ReadFault, Sink, read_all, write_all,
+    Continue, Failed, FileLog, FileSink, FileSource, ReadFault, Reread, Sink, read_all, write_all,
 };
 use std::alloc::Global;
 use std::fs::{File, Metadata, OpenFile, OpenOptions};
-use std::io::{Error, ErrorKind, Read, Write};
+use std::io::{Error, ErrorKind, Read, Seek, SeekFrom, Write};
 use std::test::Fail;
 use std::{fs, io};
 
@@ -58,6 +58,13 @@ impl<'a> Read for Fake<'a> {
         let count = self.turn(buf.len())?;
         buf[..count].fill(b'x');
         Ok(count)
+    }
+}
+
+impl<'a> Seek for Fake<'a> {
+    fn seek(&mut self, _to: SeekFrom) -> io::Result<u64> {
+        self.turn(0)?;
+        Ok(0)
     }
 }
 
@@ -147,6 +154,26 @@ fn reads_fail_in_mid_stream(rt: HostRuntime) -> Result<(), Fail> {
     let turns = [Turn::Pass(2), Turn::Broken, Turn::Pass(1)];
     let read = is_read(rt.alloc(), &turns, b"xx");
     check(matches!(read, Err(ReadFault::Failed)), "read")
+}
+
+/// What a read of a file with these turns answers from an offset. A seek takes the first turn.
+fn read_again(turns: &[Turn]) -> Result<usize, Failed> {
+    source(turns).read_at(7, &mut [0; 4])
+}
+
+#[test]
+fn a_file_is_read_again_or_fails() -> Result<(), Fail> {
+    let seek = Turn::Pass(0);
+    let interrupted = [seek, Turn::Interrupted, Turn::Pass(3), Turn::Pass(1)];
+    check_all(&[
+        (read_again(&interrupted) == Ok(3), "an interrupted read"),
+        (read_again(&[seek]) == Ok(0), "the end"),
+        (read_again(&[Turn::Broken]).is_err(), "a seek that fails"),
+        (
+            read_again(&[seek, Turn::Broken]).is_err(),
+            "a read that fails",
+        ),
+    ])
 }
 
 #[test]

@@ -1,0 +1,68 @@
+//! Reading a source again, from an offset.
+
+ghost use Rattle.std.specs.Prelude.{◌≡◌, ◌+◌, ◌^◌, ◌≤◌, ◌<◌, take, drop, length, IfOk};
+ghost use Rattle.std.specs.Io.KnownBytes.{Keeps};
+ghost use Rattle.device.specs.Failures.{Counts};
+ghost use Rattle.device.specs.Reread.{EndsBy, ReadsFrom};
+
+use crate::{Failed, Reread};
+
+/// The bytes from an offset on: none if it is at or past their end.
+pub fn bytes_from(bytes: &[u8], offset: u64) -> &[u8]
+    ensures { result.now ≡ drop offset bytes.now }
+{
+    let start = bytes.len().min(offset as usize);
+    &bytes[start..]
+}
+
+/// One read behind the bytes of a buffer that were read before it, the first of which stands at
+/// `start`.
+fn read_behind_at<S: Reread>(
+    source: &mut S,
+    start: u64,
+    buffer: &mut [u8],
+    filled: usize,
+) -> Result<usize, Failed>
+    requires room { filled < length buffer.old }
+    requires reach { start + length buffer.old ≤ 2 ^ 64 }
+    ensures front { take filled buffer.new ≡ take filled buffer.old }
+    ensures within { IfOk result (λ count. filled + count ≤ length buffer.new) }
+    ensures bytes { IfOk result (λ count. ReadsFrom (S.text source.old) (start + filled) count
+        (drop filled buffer.new)) }
+    ensures end { IfOk result (λ count. count ≡ 0 → EndsBy (S.text source.old) (start + filled)) }
+    ensures same { Keeps (S.text source.old) (S.text source.new) }
+    ensures cause { Counts (S.failures source.old) (S.failures source.new) result }
+{
+    source.read_at(start + filled as u64, &mut buffer[filled..])
+}
+
+/// Fills a buffer with the bytes that a source holds from `offset` on, and returns how many they are:
+/// fewer than the buffer takes only where the source ends. What stands after them in the buffer is not
+/// told, nor where `read` goes on after this. `offset` and the buffer's length are together 2^64 at
+/// most.
+///
+/// `Failed` if the source failed. Its count of failures has then risen by one, and what the buffer
+/// holds is not told. The source still holds the same bytes.
+pub fn read_full_at<S: Reread>(
+    source: &mut S,
+    offset: u64,
+    buffer: &mut [u8],
+) -> Result<usize, Failed>
+    requires { offset + length buffer.old ≤ 2 ^ 64 }
+    ensures within { IfOk result (λ count. count ≤ length buffer.new) }
+    ensures bytes { IfOk result (λ count. ReadsFrom (S.text source.old) offset count buffer.new) }
+    ensures end { IfOk result (λ count. count < length buffer.new
+        → EndsBy (S.text source.old) (offset + count)) }
+    ensures same { Keeps (S.text source.old) (S.text source.new) }
+    ensures cause { Counts (S.failures source.old) (S.failures source.new) result }
+{
+    let mut filled = 0;
+    while filled < buffer.len() {
+        let count = read_behind_at(source, offset, buffer, filled)?;
+        if count == 0 {
+            return Ok(filled);
+        }
+        filled += count;
+    }
+    Ok(filled)
+}
