@@ -1,2 +1,3 @@
 pub mod Tables
 pub mod Lawful
+pub mod Pieces
