@@ -1,5 +1,5 @@
 -- Entries that are kept aside.
-use Rattle.std.proofs.Common.{◌≡◌, ℕ, zero, suc, replicate, ◌%◌, ◌+◌, ◌<◌, ◌≤◌, cond, eqb, List, Option, Some, None, length, get_or, set, refl, sym, ap, ◌∙◌, inl, inr, arith, eq-eqb, ne_eqb}
+use Rattle.std.proofs.Common.{◌≡◌, ℕ, zero, suc, replicate, ◌%◌, ◌+◌, ◌<◌, ◌≤◌, cond, eqb, List, [], ◌∷◌, ◌++◌, Option, Some, None, length, get_or, set, refl, sym, ap, ◌∙◌, inl, inr, arith, eq-eqb, ne_eqb}
 use Rattle.std.proofs.lemmas.Bool.{cases_eq}
 use Rattle.std.proofs.lemmas.List.{get_or-set_same, get_or-set_other}
 use Rattle.std.proofs.Math.Nat.{mod-lt}
@@ -8,7 +8,7 @@ use Rattle.wal.specs.Records.{TableEntry}
 use Rattle.wal.specs.declared.record.Entry.{Entry}
 use Rattle.wal.specs.Content.{entry_of}
 use Rattle.analysis.specs.Tables.{entry_at}
-use Rattle.analysis.specs.Steps.{kept_entry, held_entry, AreKept, IsMoved, HasNoneAbove}
+use Rattle.analysis.specs.Steps.{those_kept, kept_entry, held_entry, AreKept, IsMoved, HasNoneAbove}
 
 abbrev pub Slots : Type 0
 Slots = List (Option (ℕ × Entry))
@@ -47,6 +47,46 @@ none_kept place p is = absurd (none (sym (empty_at 256 place) ∙ is))
   where
     none : {X : Type 0} {x : X} → None ≡ Some x → ⊥
     none e = cc
+
+-- THE LIST of the entries that are kept, and those of the table
+-- kept from a place on
+abbrev AreKeptFrom : ℕ → Slots → Type 0
+AreKeptFrom from kept = (i : ℕ) (p : ℕ × Entry) → get_or kept i None ≡ Some p → p.0 % 256 ≡ from + i
+
+kept_later : (from : ℕ) (o : Option (ℕ × Entry)) (kept : Slots) → AreKeptFrom from (o ∷ kept) → AreKeptFrom (from + 1) kept
+kept_later from o kept are i p is = are (suc i) p is ∙ omega arith
+
+-- another transaction's comes in front
+another_first : (t : ℕ) (p : ℕ × Entry) (entries : List (ℕ × Entry)) → (p.0 ≡ t → ⊥) → entry_at t (p ∷ entries) ≡ entry_at t entries
+another_first t p entries ne = ap (λ b. cond b (Some (entry_of p)) (entry_at t entries)) (ne_eqb p.0 t ne)
+
+-- none is of a transaction whose place is in front
+none_behind : (t from : ℕ) (kept : Slots) (entries : List (ℕ × Entry)) → t % 256 < from → AreKeptFrom from kept → entry_at t (those_kept kept ++ entries) ≡ entry_at t entries
+none_behind t from [] entries lt are = refl
+none_behind t from (None ∷ kept) entries lt are = none_behind t (from + 1) kept entries (omega (arith, lt)) (kept_later from None kept are)
+none_behind t from (Some p ∷ kept) entries lt are =
+    let at : p.0 % 256 ≡ from + 0 = are 0 p refl in
+    another_first t p (those_kept kept ++ entries) (λ e. omega (arith, lt, at, ap (λ n. n % 256) e))
+    ∙ none_behind t (from + 1) kept entries (omega (arith, lt)) (kept_later from (Some p) kept are)
+
+held_from : (t from i : ℕ) (kept : Slots) (entries : List (ℕ × Entry)) → t % 256 ≡ from + i → AreKeptFrom from kept → entry_at t (those_kept kept ++ entries) ≡ kept_entry t (get_or kept i None) (entry_at t entries)
+held_from t from i [] entries at are = refl
+held_from t from zero (None ∷ kept) entries at are = none_behind t (from + 1) kept entries (omega (arith, at)) (kept_later from None kept are)
+held_from t from zero (Some p ∷ kept) entries at are =
+    elim (cases_eq p.0 t) [
+      | inl own ↦ ap (λ b. cond b (Some (entry_of p)) (entry_at t (those_kept kept ++ entries))) (eq-eqb p.0 t own) ∙ (ap (λ n. Some (entry_of (n, p.1))) own ∙ sym (kept_own t p (entry_at t entries) own))
+      | inr ne ↦
+          another_first t p (those_kept kept ++ entries) ne
+          ∙ (none_behind t (from + 1) kept entries (omega (arith, at)) (kept_later from (Some p) kept are) ∙ sym (kept_other t p (entry_at t entries) (λ e. ne (sym e))))
+    ]
+held_from t from (suc i) (None ∷ kept) entries at are = held_from t (from + 1) i kept entries (omega (arith, at)) (kept_later from None kept are)
+held_from t from (suc i) (Some p ∷ kept) entries at are =
+    let place : p.0 % 256 ≡ from + 0 = are 0 p refl in
+    another_first t p (those_kept kept ++ entries) (λ e. omega (arith, at, place, ap (λ n. n % 256) e))
+    ∙ held_from t (from + 1) i kept entries (omega (arith, at)) (kept_later from (Some p) kept are)
+
+pub held_is : (t : ℕ) (kept : Slots) (entries : List (ℕ × Entry)) → AreKept kept → entry_at t (those_kept kept ++ entries) ≡ held_entry t kept entries
+held_is t kept entries are = held_from t 0 (t % 256) kept entries (omega arith) (λ i p is. are i p is ∙ omega arith)
 
 -- MOVED
 pub moved_none : (tx : ℕ) (kept : Slots) (entries : List (ℕ × Entry)) → get_or kept (tx % 256) None ≡ None → IsMoved tx kept entries entries

@@ -11,3 +11,6 @@ pub mod OneTables
 pub mod NoFurther
 mod NoTables
 pub mod Halves
+pub mod Passing
+pub mod Ends
+pub mod Seen

@@ -1,5 +1,5 @@
 -- Maps from numbers, read key by key.
-use Rattle.std.proofs.Common.{ℕ, zero, suc, ◌≡◌, ◌<◌, ◌≤◌, Bool, true, false, cond, eqb, ltb, eq-eqb, eqb-true, ◌+◌, List, [], ◌∷◌, length, drop, get_or, set, replicate, drop-cons, Option, Some, None, refl, sym, ap, ap₂, ◌∙◌, arith, inl, inr}
+use Rattle.std.proofs.Common.{ℕ, zero, suc, ◌≡◌, ◌<◌, ◌≤◌, Bool, true, false, cond, eqb, ltb, eq-eqb, eqb-true, ◌+◌, List, ◌∷◌, length, drop, get_or, set, replicate, drop-cons, Option, Some, None, refl, sym, ap, ap₂, ◌∙◌, arith, inl, inr}
 use Rattle.std.specs.Prelude.{option_map, is_some}
 use Rattle.wal.specs.Records.{TableEntry, LogRecord}
 use Rattle.std.specs.Ordering.{is_eq, nat_cmp}

@@ -80,7 +80,7 @@ entry_more t m base log r le =
       | inr e ↦ rw (behind, e) refl
     ]
 
-or_else-assoc : (a b c : Option ℕ) → or_else a (or_else b c) ≡ or_else (or_else a b) c
+pub or_else-assoc : {A : Type 0} (a b c : Option A) → or_else a (or_else b c) ≡ or_else (or_else a b) c
 or_else-assoc None b c = refl
 or_else-assoc (Some x) b c = refl
 

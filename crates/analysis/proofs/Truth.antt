@@ -47,7 +47,7 @@ pair_is a b c d e =
     let p : ◌≡◌ {A = List TableEntry × List (ℕ × ℕ)} (a, c) (b, d) = cc in
     (ap (λ x. x.0) p, ap (λ x. x.1) p)
 
-base_is : (log : History) (m : ℕ) → (m ≡ 0 → ⊥) → base_of m log ≡ checkpoint_at m log
+pub base_is : (log : History) (m : ℕ) → (m ≡ 0 → ⊥) → base_of m log ≡ checkpoint_at m log
 base_is log m some = rw (ne_eqb m 0 some) refl
 
 pub true_base : (log : History) (pages : List Page) (m : ℕ) (transactions : List TableEntry) (dirty : List (ℕ × ℕ)) → CheckpointLaw log pages m → base_of m log ≡ Some (transactions, dirty) → IsTrueBase log pages m transactions dirty

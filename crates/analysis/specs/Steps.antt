@@ -1,5 +1,6 @@
 -- What one record more does to the tables (ARIES section 6.1, the analysis pass).
 use Rattle.std.specs.Prelude.{◌≡◌, ℕ, ◌%◌, ◌<◌, ◌^◌, nat_lt, ◌||◌, Bool, true, false, List, slice_index_or, Option, Some, None, is_some, ◌==◌, if◌then◌else◌, ◌≢◌}
+use Rattle.std.specs.List.{filter_map}
 use Rattle.wal.specs.declared.record.State.{State}
 use Rattle.wal.specs.declared.record.State.TheVariants.{Active, Prepared, Aborting}
 use Rattle.wal.specs.Records.{TableEntry, LogRecord, Update, Compensation, Commit, Abort, End, Prepare}
@@ -77,6 +78,10 @@ kept_entry t (Some p) other = if p.0 == t then Some (entry_of (t, p.1)) else oth
 -- the entry of t, which is kept at its place or stands in the table (own)
 abbrev pub held_entry : ℕ → List (Option (ℕ × Entry)) → List (ℕ × Entry) → Option TableEntry
 held_entry t kept entries = kept_entry t (slice_index_or kept (t % PLACES) None) (entry_at t entries)
+
+-- the entries that are kept, in the order of their places
+abbrev pub those_kept : List (Option (ℕ × Entry)) → List (ℕ × Entry)
+those_kept kept = filter_map (λ o. o) kept
 
 -- an entry is kept at its transaction's place
 abbrev pub AreKept : List (Option (ℕ × Entry)) → Type 0

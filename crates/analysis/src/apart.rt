@@ -1,48 +1,22 @@
 //! Analysis in two halves, which two threads can do beside each other: the transaction table, which
 //! undo asks for, here, and the dirty page table, which redo asks for, in `dirty`; and both joined.
 
-ghost use Rattle.std.specs.Prelude.{◌≡◌, ℕ, map, None, Option, IfOk, OnOk, IfErr, IsOkUnless};
-ghost use Rattle.page.specs.declared.fault.Fault.TheVariants.{NoResource};
+ghost use Rattle.std.specs.Prelude.{◌≡◌, ℕ, map, None, IfOk, IfErr};
 ghost use Rattle.page.specs.Store.{StoreContent};
 ghost use Rattle.wal.specs.Content.{entry_of};
 ghost use Rattle.wal.specs.Meaning.{BasePages};
-ghost use Rattle.wal.specs.Records.{TableEntry, LogContent, history};
+ghost use Rattle.wal.specs.Records.{LogContent, history};
 ghost use Rattle.wal.specs.Store.{Lawful};
 ghost use Rattle.tables.specs.Lawful.{AreTrue};
-ghost use Rattle.analysis.specs.Tables.{entry_at, analysed_entry, AreTablesOf, AreTransactionsOf, AreDirtyPagesOf, BaseFault, tables_with};
+ghost use Rattle.analysis.specs.Tables.{entry_at, AreTablesOf, AreTransactionsOf, AreDirtyPagesOf, BaseFault, tables_with};
 
 use crate::Tables;
 use crate::base::checkpoint_tables;
-use crate::kept::{PLACES, highest_in, put_back};
-use crate::scan::note_transaction;
+use crate::transaction_scan::TransactionScan;
 use page::Fault;
 use std::alloc::Global;
 use std::collections::BTreeMap;
 use wal::{Entry, Log};
-
-/// Looks at the records behind the LSN `master` for what they do to the transaction table.
-fn scan_transactions(
-    log: &Log,
-    master: u64,
-    transactions: &mut BTreeMap<u32, Entry>,
-) -> Result<(), Fault>
-    ensures entries { OnOk result ((t : ℕ) (base : Option TableEntry)
-        → entry_at t transactions.old.entries ≡ base
-        → entry_at t transactions.new.entries ≡ analysed_entry t master base (history log.now)) }
-    ensures no_transaction_0 { OnOk result (entry_at 0 transactions.old.entries ≡ None
-        → entry_at 0 transactions.new.entries ≡ None) }
-    ensures err { IsOkUnless result NoResource }
-{
-    let mut kept = [None; PLACES];
-    let mut highest = highest_in(transactions);
-    let from = master.max(log.base());
-    for lsn in from..log.last() {
-        let glance = log.glance_after(lsn);
-        note_transaction(transactions, &mut kept, &mut highest, glance, lsn + 1)?;
-    }
-    put_back(transactions, &kept)?;
-    Ok(())
-}
 
 /// The transaction table of [`analyse`](crate::analyse), found without the other, with its errors.
 pub fn analyse_transactions(
@@ -55,8 +29,10 @@ pub fn analyse_transactions(
     ensures no_transaction_0 { IfOk result (λ found. entry_at 0 found.entries ≡ None) }
     ensures fault { IfErr result (BaseFault master (history log.now)) }
 {
-    let (mut transactions, _) = checkpoint_tables(alloc, log, master)?;
-    scan_transactions(log, master, &mut transactions)?;
+    let (base, _) = checkpoint_tables(alloc, log, master)?;
+    let mut scan = TransactionScan::begin(base);
+    scan.pass(log, master)?;
+    let transactions = scan.finish()?;
     // For the proof: the keys rise.
     let _in_order = transactions.iter();
     Ok(transactions)

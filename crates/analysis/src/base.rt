@@ -30,7 +30,10 @@ fn put_transaction(
 }
 
 /// The entries of a lent table as a map.
-fn transactions_of(alloc: Global, table: &TransactionTable) -> Result<BTreeMap<u32, Entry>, Fault>
+pub fn transactions_of(
+    alloc: Global,
+    table: &TransactionTable,
+) -> Result<BTreeMap<u32, Entry>, Fault>
     ensures ok { IfOk result (λ map. (t : ℕ) → entry_at t map.entries ≡ entry_for t table.now) }
     ensures err { IsOkUnless result NoResource }
 {
@@ -56,7 +59,7 @@ fn put_page(map: &mut BTreeMap<u32, u64>, table: &DirtyTable, place: usize) -> R
 }
 
 /// The entries of a lent table as a map.
-fn dirty_pages_of(alloc: Global, table: &DirtyTable) -> Result<BTreeMap<u32, u64>, Fault>
+pub fn dirty_pages_of(alloc: Global, table: &DirtyTable) -> Result<BTreeMap<u32, u64>, Fault>
     ensures ok { IfOk result (λ map. (p : ℕ) → rec_lsn_of p map.entries ≡ rec_lsn_of p table.now) }
     ensures err { IsOkUnless result NoResource }
 {

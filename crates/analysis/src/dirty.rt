@@ -6,9 +6,11 @@ ghost use Rattle.wal.specs.Records.{TableEntry, page_in, history, first, last_ls
 ghost use Rattle.wal.specs.Redo.{rec_lsn_of};
 ghost use Rattle.wal.specs.Spelling.{IsRising};
 ghost use Rattle.analysis.specs.Tables.{base_of, analysed_rec_lsn, AreAllListed, AreDirtyPagesOf, ServesRedo, BaseFault};
+ghost use Rattle.analysis.specs.Steps.{AreListed};
 
 use crate::Tables;
 use crate::base::checkpoint_tables;
+use crate::page_scan::PageScan;
 use crate::pass::redo_lsn_of;
 use crate::scan::{is_known, note_page};
 use page::{Fault, PAGES};
@@ -47,13 +49,16 @@ fn are_known(known: &[bool; PAGES], whole: &mut usize, stop: Option<usize>) -> b
 
 /// Looks at the records behind the LSN `from` for what they do to the dirty page table: all of them,
 /// or until each page below `stop` is listed, if there is one. The LSN up to which it has looked.
-fn scan_pages(
+/// Pages that are known are listed.
+pub fn scan_pages(
     log: &Log,
     from: u64,
     stop: Option<usize>,
     dirty: &mut BTreeMap<u32, u64>,
+    known: &mut [bool; PAGES],
 ) -> Result<u64, Fault>
     requires from { base_lsn (history log.now) ≤ from }
+    requires listed { AreListed known.old dirty.old.entries }
     ensures from { IfOk result (λ upto. from ≤ upto) }
     ensures pages { IfOk result (λ upto. (p m : ℕ) (base : Option ℕ) → m ≤ from
         → rec_lsn_of p dirty.old.entries ≡ analysed_rec_lsn p m base (first from (history log.now))
@@ -61,15 +66,15 @@ fn scan_pages(
         ≡ analysed_rec_lsn p m base (first upto (history log.now))) }
     ensures whole { IfOk result (λ upto. (last_lsn (history log.now) ≤ upto)
         ⊎ ((count : ℕ) × (stop ≡ Some count) × AreAllListed count dirty.new.entries)) }
+    ensures listed { AreListed known.new dirty.new.entries }
     ensures err { IsOkUnless result NoResource }
 {
-    let mut known = [false; PAGES];
     let mut whole = 0;
     for lsn in from..log.last() {
-        if are_known(&known, &mut whole, stop) {
+        if are_known(known, &mut whole, stop) {
             return Ok(lsn);
         }
-        note_page(dirty, &mut known, log.glance_after(lsn), lsn + 1)?;
+        note_page(dirty, known, log.glance_after(lsn), lsn + 1)?;
     }
     Ok(log.last().max(from))
 }
@@ -90,12 +95,13 @@ fn list_pages(
     ensures err { IsOkUnless result NoResource }
 {
     let first = log.base() + 1;
-    let upto = scan_pages(log, master.max(log.base()), Some(count), dirty)?;
+    let mut known = [false; PAGES];
+    let upto = scan_pages(log, master.max(log.base()), Some(count), dirty, &mut known)?;
     let redo_lsn = redo_lsn_of(first, dirty);
     if 1 <= redo_lsn && redo_lsn <= upto {
         return Ok(redo_lsn);
     }
-    scan_pages(log, upto, None, dirty)?;
+    scan_pages(log, upto, None, dirty, &mut known)?;
     Ok(redo_lsn_of(first, dirty))
 }
 
@@ -130,8 +136,10 @@ pub fn analyse_all_pages(alloc: Global, log: &Log, master: u64) -> Result<Tables
         found.dirty found.redo_lsn) }
     ensures fault { IfErr result (BaseFault master (history log.now)) }
 {
-    let (_, mut dirty) = checkpoint_tables(alloc, log, master)?;
-    scan_pages(log, master.max(log.base()), None, &mut dirty)?;
+    let (_, base) = checkpoint_tables(alloc, log, master)?;
+    let mut scan = PageScan::begin(base);
+    scan.pass(log, master)?;
+    let dirty = scan.finish();
     let redo_lsn = redo_lsn_of(log.base() + 1, &dirty);
     // For the proof: the keys rise.
     let _in_order = dirty.iter();

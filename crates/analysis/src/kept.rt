@@ -2,7 +2,7 @@
 //! the place of its transaction's number modulo 256, where it is found at once. The table itself is
 //! not searched for a transaction above the highest number that may stand in it.
 
-ghost use Rattle.std.specs.Prelude.{◌≡◌, ℕ, List, OnOk, if◌then◌else◌, ◌==◌, Some, None, IsOkUnless, ◌≢◌};
+ghost use Rattle.std.specs.Prelude.{◌≡◌, ℕ, List, OnOk, IfErr, if◌then◌else◌, ◌==◌, Some, None, IsOkUnless, ◌≢◌};
 ghost use Rattle.page.specs.declared.fault.Fault.TheVariants.{NoResource};
 ghost use Rattle.wal.specs.declared.record.Entry.{Entry};
 ghost use Rattle.wal.specs.Content.{entry_of};
@@ -54,6 +54,7 @@ pub fn entry_in(
 fn put(transactions: &mut BTreeMap<u32, Entry>, tx: u32, entry: Entry) -> Result<(), Fault>
     ensures ok { OnOk result ((t : ℕ) → entry_at t transactions.new.entries
         ≡ (if tx == t then Some (entry_of (t, entry)) else entry_at t transactions.old.entries)) }
+    ensures unchanged { IfErr result (λ _. transactions.new.entries ≡ transactions.old.entries) }
     ensures err { IsOkUnless result NoResource }
 {
     transactions.insert(tx, entry)?;
@@ -71,7 +72,7 @@ fn make_place(
     requires highest { HasNoneAbove highest.old transactions.old.entries }
     ensures ok { OnOk result
         (IsMoved tx kept.now transactions.old.entries transactions.new.entries) }
-    ensures highest { OnOk result (HasNoneAbove highest.new transactions.new.entries) }
+    ensures highest { HasNoneAbove highest.new transactions.new.entries }
     ensures err { IsOkUnless result NoResource }
 {
     if let Some((own, entry)) = kept[tx as usize % PLACES] {
@@ -100,7 +101,7 @@ pub fn keep(
         ≡ (if tx == t then Some
         (record { tx = t; state = state; last = last; undo_next = undo_next }) else held_entry t kept.old transactions.old.entries)) }
     ensures kept { AreKept kept.new }
-    ensures highest { OnOk result (HasNoneAbove highest.new transactions.new.entries) }
+    ensures highest { HasNoneAbove highest.new transactions.new.entries }
     ensures err { IsOkUnless result NoResource }
 {
     make_place(transactions, kept, highest, tx)?;

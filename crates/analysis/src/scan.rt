@@ -1,6 +1,6 @@
 //! The scan: what each record does to the tables.
 
-ghost use Rattle.std.specs.Prelude.{◌≡◌, ℕ, IfOk, OnOk, nat_eq, if◌then◌else◌, ◌==◌, Some, None, Option, true, false, slice_index_or, slice_set, IsOkUnless};
+ghost use Rattle.std.specs.Prelude.{◌≡◌, ℕ, IfOk, IfErr, OnOk, nat_eq, if◌then◌else◌, ◌==◌, Some, None, Option, true, false, slice_index_or, slice_set, IsOkUnless};
 ghost use Rattle.page.specs.declared.fault.Fault.TheVariants.{NoResource};
 ghost use Rattle.wal.specs.Records.{LogRecord, TableEntry, history};
 ghost use Rattle.wal.specs.Glances.{glance_of};
@@ -39,7 +39,7 @@ pub fn note_transaction(
     ensures ok { OnOk result ((t : ℕ) → held_entry t kept.new transactions.new.entries
         ≡ entry_seen lsn glance t (held_entry t kept.old transactions.old.entries)) }
     ensures kept { AreKept kept.new }
-    ensures highest { OnOk result (HasNoneAbove highest.new transactions.new.entries) }
+    ensures highest { HasNoneAbove highest.new transactions.new.entries }
     ensures err { IsOkUnless result NoResource }
 {
     match glance {
@@ -72,6 +72,7 @@ pub fn note_transaction(
 fn list_page(dirty: &mut BTreeMap<u32, u64>, page: u32, lsn: u64) -> Result<(), Fault>
     ensures ok { OnOk result ((p : ℕ) → rec_lsn_of p dirty.new.entries
         ≡ or_else (rec_lsn_of p dirty.old.entries) (if page == p then Some lsn else None)) }
+    ensures unchanged { IfErr result (λ _. dirty.new.entries ≡ dirty.old.entries) }
     ensures err { IsOkUnless result NoResource }
 {
     if !dirty.contains_key(&page) {
@@ -108,7 +109,7 @@ fn list_unknown(
     requires { AreListed known.old dirty.old.entries }
     ensures ok { OnOk result ((p : ℕ) → rec_lsn_of p dirty.new.entries
         ≡ or_else (rec_lsn_of p dirty.old.entries) (if page == p then Some lsn else None)) }
-    ensures known { OnOk result (AreListed known.new dirty.new.entries) }
+    ensures known { AreListed known.new dirty.new.entries }
     ensures err { IsOkUnless result NoResource }
 {
     if is_known(known, page as usize) {
@@ -129,7 +130,7 @@ pub fn note_page(
     requires { AreListed known.old dirty.old.entries }
     ensures ok { OnOk result ((r : LogRecord) → glance ≡ glance_of r → (p : ℕ)
         → rec_lsn_of p dirty.new.entries ≡ rec_lsn_after lsn r p (rec_lsn_of p dirty.old.entries)) }
-    ensures known { OnOk result (AreListed known.new dirty.new.entries) }
+    ensures known { AreListed known.new dirty.new.entries }
     ensures err { IsOkUnless result NoResource }
 {
     if let Some((page, _)) = glance.cell() {

@@ -42,13 +42,13 @@ const ONE_COMMIT: &[u8] =
 
 /// A log, a master, and what analysis finds: at most one transaction and one page each.
 #[derive(Clone, Copy)]
-struct Row {
-    name: &'static str,
-    log: &'static [u8],
-    master: u64,
-    transaction: Option<(u32, State, u64, u64)>,
-    dirty: Option<(u32, u64)>,
-    redo_lsn: u64,
+pub struct Row {
+    pub name: &'static str,
+    pub log: &'static [u8],
+    pub master: u64,
+    pub transaction: Option<(u32, State, u64, u64)>,
+    pub dirty: Option<(u32, u64)>,
+    pub redo_lsn: u64,
 }
 
 const ACTIVE: Option<(u32, State, u64, u64)> = Some((1, State::Active, 1, 1));
@@ -63,7 +63,7 @@ const TURNED: Option<(u32, State, u64, u64)> = Some((1, State::Aborting, 5, 0));
 
 const PAGE: Option<(u32, u64)> = Some((0, 1));
 
-const ROWS: [Row; 8] = [
+pub const ROWS: [Row; 8] = [
     Row {
         name: "checkpoint",
         log: CHECKPOINT,

@@ -1,11 +1,14 @@
-use Rattle.std.proofs.Common.{◌≡◌, ◌≤◌, ◌⊎◌, ℕ, suc, Option, inl, inr, sym, ap, subst, ◌∙◌, arith, max}
-use Rattle.wal.specs.Records.{History, history, first, last_lsn, base_lsn}
+use Rattle.std.proofs.Common.{◌≡◌, ◌≤◌, ◌⊎◌, suc, inl, inr, sym, ap, subst, ◌∙◌, arith, max}
+use Rattle.wal.specs.Records.{history, last_lsn, base_lsn}
 use Rattle.wal.specs.Redo.{rec_lsn_of}
-use Rattle.wal.proofs.Histories.{size_of_first_le, base_of_first}
-use Rattle.analysis.specs.Tables.{analysed_rec_lsn, redo_lsn_of, AreAllListed, ServesRedo}
+use Rattle.analysis.specs.Tables.{redo_lsn_of, AreAllListed, ServesRedo}
 use Rattle.analysis.proofs.Scanned.{at_first}
 use Rattle.analysis.proofs.NoFurther.{serves}
+use Rattle.analysis.proofs.Maps.{none_known}
 use Rattle.analysis.proofs.dirty.list_pages.Goals as goal
+
+pub scan_pages-requires-clause-listed : goal.scan_pages-requires-clause-listed
+scan_pages-requires-clause-listed c = λ page noted. none_known 4096 page noted
 
 pub returns-then-redo_lsn-upto-clause-pages : goal.returns-then-redo_lsn-upto-clause-pages
 returns-then-redo_lsn-upto-clause-pages c = λ transactions pages base same rising.

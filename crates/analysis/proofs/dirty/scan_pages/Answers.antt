@@ -4,11 +4,11 @@ use Rattle.wal.specs.Redo.{rec_lsn_of}
 use Rattle.wal.proofs.Histories.{size_of_first, first_all}
 use Rattle.analysis.specs.Tables.{analysed_rec_lsn, AreAllListed}
 use Rattle.analysis.proofs.Scanned.{rec_lsn_next}
-use Rattle.analysis.proofs.Maps.{none_known, listed_upto, stays_listed}
+use Rattle.analysis.proofs.Maps.{listed_upto, stays_listed}
 use Rattle.analysis.proofs.dirty.scan_pages.Goals as goal
 
 pub loop-lsn-init : goal.loop-lsn-init
-loop-lsn-init c = (λ p m base le e. e, λ page noted. none_known 4096 page noted, λ page lt. absurd (omega (arith, lt)))
+loop-lsn-init c = (λ p m base le e. e, c.requires.listed, λ page lt. absurd (omega (arith, lt)))
 
 pub loop-lsn-preserved : goal.loop-lsn-preserved
 loop-lsn-preserved c =

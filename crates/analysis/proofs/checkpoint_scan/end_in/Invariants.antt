@@ -1,0 +1,7 @@
+use Rattle.std.proofs.Common.{◌≡◌, None}
+use Rattle.wal.specs.Records.{history, first}
+use Rattle.wal.specs.Checkpoint.{first_end}
+use Rattle.analysis.proofs.checkpoint_scan.end_in.Given as goal
+
+abbrev pub invariant-loop-lsn : goal.invariant-loop-lsn
+invariant-loop-lsn l = first_end l.master (first l.lsn (history l.log)) ≡ None

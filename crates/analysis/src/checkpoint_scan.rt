@@ -1,0 +1,150 @@
+//! The tables of the checkpoint that the master names, looked for while a log goes by.
+
+ghost use Rattle.std.specs.Prelude.{◌≡◌, ◌||◌, ℕ, Some, None, option_map, IfOk, IfErr, IfSome, IfNone, OnOk, IsOkUnless};
+ghost use Rattle.page.specs.declared.fault.Fault.TheVariants.{NoResource, BadMaster};
+ghost use Rattle.wal.specs.Records.{CheckpointEnd, History, start, history, last_lsn, base_lsn, record_at, ◌▸▸◌};
+ghost use Rattle.wal.specs.Spelling.{Fits};
+ghost use Rattle.wal.specs.Checkpoint.{first_end, is_begin};
+ghost use Rattle.analysis.specs.Tables.{entry_at, IsBase, BaseFault};
+ghost use Rattle.analysis.specs.Passing.{HasSeen, IsEnd};
+
+use crate::base::{dirty_pages_of, transactions_of};
+use page::Fault;
+use std::alloc::Global;
+use std::collections::BTreeMap;
+use std::marker::Model;
+use wal::{DirtyTable, Entry, Log, RecordView, TransactionTable};
+
+/// Looks for the tables of the checkpoint that a master names while a log goes by. The log comes in
+/// pieces, from its first record to its last: each piece is a log whose base LSN is the last LSN of
+/// the one before it. The begin of the checkpoint and its end may stand in different pieces. The tables
+/// are copied, so that no piece needs to stay.
+#[derive(Drop)]
+pub struct CheckpointScan {
+    alloc: Global,
+    master: u64,
+    begins: bool,
+    found: Option<(BTreeMap<u32, Entry>, BTreeMap<u32, u64>)>,
+}
+
+impl Model for CheckpointScan {
+    ghost use Rattle.std.specs.Prelude.{option_map};
+    ghost use Rattle.analysis.specs.Passing.{CheckpointSoFar};
+
+    ghost Value = { CheckpointSoFar };
+
+    ghost view = { λ s. record { master = s.master; begins = s.begins; found = option_map (λ x. (x.0.entries, x.1.entries)) s.found } };
+}
+
+impl CheckpointScan {
+    /// The scan of a log of which nothing has gone by, for the tables of the checkpoint whose begin
+    /// record has the LSN `master`. They are empty where `master` is 0.
+    pub fn new(alloc: Global, master: u64) -> CheckpointScan
+        ensures { (base : ℕ) → HasSeen master (start base) result }
+    {
+        let found = if master == 0 {
+            Some((BTreeMap::new(alloc), BTreeMap::new(alloc)))
+        } else {
+            None
+        };
+        CheckpointScan {
+            alloc,
+            master,
+            begins: false,
+            found,
+        }
+    }
+
+    /// Looks for the begin and for its end in the next piece. The only error is `NoResource`, which
+    /// says that memory was refused; it leaves the scan as it was.
+    pub fn pass(&mut self, piece: &Log) -> Result<(), Fault>
+        ensures seen { OnOk result ((m : ℕ) (log : History)
+            → last_lsn log ≡ base_lsn (history piece.now) → HasSeen m log self.old
+            → HasSeen m (log ▸▸ piece.now.records) self.new) }
+        ensures unchanged { IfErr result (λ _. self.new ≡ self.old) }
+        ensures err { IsOkUnless result NoResource }
+    {
+        if self.found.is_some() {
+            return Ok(());
+        }
+        if !has_begun(self.begins, piece, self.master) {
+            return Ok(());
+        }
+        self.found = tables_in(self.alloc, piece, self.master)?;
+        self.begins = true;
+        Ok(())
+    }
+
+    /// The tables that analysis of the log that has gone by begins from: empty ones where the master
+    /// is 0, else those of the first checkpoint end behind the begin at it that names it.
+    ///
+    /// The error is [`Fault::BadMaster`], where there is none.
+    pub fn finish(self) -> Result<(BTreeMap<u32, Entry>, BTreeMap<u32, u64>), Fault>
+        ensures found { (m : ℕ) (log : History) → HasSeen m log self
+            → IfOk result (λ x. IsBase m log x.0.entries x.1.entries) }
+        ensures no_transaction_0 { (m : ℕ) (log : History) → HasSeen m log self
+            → IfOk result (λ x. entry_at 0 x.0.entries ≡ None) }
+        ensures fault { (m : ℕ) (log : History) → HasSeen m log self
+            → IfErr result (BaseFault m log) }
+        ensures err { IsOkUnless result BadMaster }
+    {
+        match self.found {
+            Some(tables) => Ok(tables),
+            None => Err(Fault::BadMaster),
+        }
+    }
+}
+
+/// Whether a checkpoint begin was met before, or stands at this LSN of the piece.
+fn has_begun(before: bool, piece: &Log, lsn: u64) -> bool
+    ensures { result ≡ (before || is_begin (record_at (history piece.now) lsn)) }
+{
+    if before {
+        return true;
+    }
+    match piece.get(lsn) {
+        Some(RecordView::CheckpointBegin) => true,
+        _ => false,
+    }
+}
+
+/// The tables of the first checkpoint end behind the LSN `master` that names it; whether a begin
+/// stands there is not asked.
+fn end_in<'a>(log: &Log<'a>, master: u64) -> Option<(TransactionTable<'a>, DirtyTable<'a>)>
+    ensures found { option_map (λ x. (x.0, x.1)) result ≡ first_end master (history log.now) }
+    ensures fits { IfSome result (λ x. Fits (CheckpointEnd master x.0 x.1)) }
+{
+    let from = master.max(log.base());
+    for lsn in from..log.last() {
+        if let RecordView::CheckpointEnd {
+            begin,
+            transactions,
+            dirty,
+        } = log.after(lsn)
+        {
+            if begin == master {
+                return Some((transactions, dirty));
+            }
+        }
+    }
+    None
+}
+
+/// The same tables as maps.
+fn tables_in(
+    alloc: Global,
+    log: &Log,
+    master: u64,
+) -> Result<Option<(BTreeMap<u32, Entry>, BTreeMap<u32, u64>)>, Fault>
+    ensures some { IfOk result (λ found. IfSome found
+        (λ x. IsEnd master (history log.now) x.0.entries x.1.entries)) }
+    ensures none { IfOk result (λ found. IfNone found (first_end master (history log.now) ≡ None)) }
+    ensures err { IsOkUnless result NoResource }
+{
+    let Some((transactions, dirty)) = end_in(log, master) else {
+        return Ok(None);
+    };
+    let transactions = transactions_of(alloc, &transactions)?;
+    let dirty = dirty_pages_of(alloc, &dirty)?;
+    Ok(Some((transactions, dirty)))
+}

@@ -1,0 +1,77 @@
+//! The dirty page table while a log goes by, piece after piece.
+
+ghost use Rattle.std.specs.Prelude.{◌≡◌, ℕ, Option, OnOk, IsOkUnless};
+ghost use Rattle.page.specs.declared.fault.Fault.TheVariants.{NoResource};
+ghost use Rattle.wal.specs.Records.{History, history, last_lsn, base_lsn, ◌▸▸◌};
+ghost use Rattle.wal.specs.Redo.{rec_lsn_of};
+ghost use Rattle.analysis.specs.Tables.{analysed_rec_lsn};
+
+use crate::dirty::scan_pages;
+use page::{Fault, PAGES};
+use std::collections::BTreeMap;
+use std::marker::Model;
+use wal::Log;
+
+/// The dirty page table while a log goes by. The log comes in pieces, from its first record to its
+/// last: each piece is a log whose base LSN is the last LSN of the one before it, and no record is
+/// looked at twice. Contracts see the list of its entries, a page and its RecLSN each.
+#[derive(Drop)]
+pub struct PageScan {
+    dirty: BTreeMap<u32, u64>,
+    known: [bool; PAGES],
+}
+
+impl Model for PageScan {
+    ghost use Rattle.std.specs.Prelude.{ℕ, List};
+    ghost use Rattle.analysis.specs.Steps.{AreListed};
+
+    ghost Value = { List (ℕ × ℕ) };
+
+    ghost view = { λ s. s.dirty.entries };
+
+    ghost invariant = { λ s. AreListed s.known s.dirty.entries };
+}
+
+impl PageScan {
+    /// The scan of a log of which nothing has gone by, with these pages to begin from.
+    #[inline(always)]
+    pub fn begin(dirty: BTreeMap<u32, u64>) -> PageScan
+        ensures { result ≡ dirty.entries }
+    {
+        PageScan {
+            dirty,
+            known: [false; PAGES],
+        }
+    }
+
+    /// Looks at the records of the next piece for what they do to the table. `master` is the LSN of
+    /// the checkpoint's begin record, 0 for none, and the same for all pieces: records up to it do
+    /// nothing to the table.
+    ///
+    /// The only error is `NoResource`, which says that memory was refused. The table then has what
+    /// some of the piece's records do to it, and the scan is to be begun again.
+    pub fn pass(&mut self, piece: &Log, master: u64) -> Result<(), Fault>
+        ensures pages { OnOk result ((page : ℕ) → rec_lsn_of page self.new
+            ≡ analysed_rec_lsn page master (rec_lsn_of page self.old) (history piece.now)) }
+        // The same of the log that has gone by.
+        ensures goes_on { OnOk result ((page : ℕ) (base : Option ℕ) (log : History)
+            → last_lsn log ≡ base_lsn (history piece.now)
+            → rec_lsn_of page self.old ≡ analysed_rec_lsn page master base log
+            → rec_lsn_of page self.new
+            ≡ analysed_rec_lsn page master base (log ▸▸ piece.now.records)) }
+        ensures err { IsOkUnless result NoResource }
+    {
+        let from = master.max(piece.base());
+        scan_pages(piece, from, None, &mut self.dirty, &mut self.known)?;
+        Ok(())
+    }
+
+    /// The table behind the log that has gone by.
+    #[inline(always)]
+    pub fn finish(self) -> BTreeMap<u32, u64>
+        ensures { result.entries ≡ self }
+    {
+        let PageScan { dirty, known: _ } = self;
+        dirty
+    }
+}
