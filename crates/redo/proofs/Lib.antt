@@ -16,3 +16,6 @@ pub mod Totals
 pub mod Causes
 pub mod Missing
 pub mod OnePass
+pub mod Passing
+pub mod LastRecords
+pub mod Fetching

@@ -12,7 +12,7 @@ use Rattle.std.proofs.lemmas.List.Elements.{All-push}
 use Rattle.std.proofs.lemmas.Option.{slice_get-get_or, same_Some}
 use Rattle.wal.specs.Spelling.{Fits}
 use Rattle.redo.specs.declared.note.Note.{Note}
-use Rattle.wal.specs.Records.{LogRecord, Update, Compensation, History, ◌▸◌, last_lsn, history, record_at, first, base_lsn}
+use Rattle.wal.specs.Records.{LogRecord, LogContent, Update, Compensation, History, ◌▸◌, last_lsn, history, record_at, first, base_lsn}
 use Rattle.wal.proofs.Histories.{size_of_first, size_of_first_le}
 use Rattle.redo.specs.Changes.{page_named, part_of_page, is_part, IsNote, NamesBelow, on_part, lsns_where, lsn_in}
 use Rattle.wal.specs.Meaning.{cell_of}
@@ -24,6 +24,15 @@ use Rattle.redo.proofs.Replay.{lsns_more, page_of_cell}
 -- nothing is noted before the first
 pub none_noted : (input : InputContent) (part_of : List ℕ) (from part : ℕ) → base_lsn (history input.log) ≤ from → lsns_where (on_part part_of part) from (first from (history input.log)) ≡ []
 none_noted input part_of from part le = lsns_none (on_part part_of part) from (first from (history input.log)) (size_of_first_le from (history input.log) le)
+
+-- one record more on a page that there is
+pub exist_on : (log : LogContent) (count from seen : ℕ) (r : LogRecord) → record_at (history log) (seen + 1) ≡ Some r → NamesBelow count r → ExistWithin log count from seen → ExistWithin log count from (seen + 1)
+exist_on log count from seen r at below old lsn x past within found =
+    dite (dec_lt lsn (seen + 1))
+    (λ less. old lsn x past (omega arith) found)
+    (λ last.
+    let here : lsn ≡ seen + 1 = omega arith in
+    subst (NamesBelow count) (same_Some _ _ (sym at ∙ (ap (record_at (history log)) (sym here) ∙ found))) below)
 
 module _ (input : InputContent) (from seen : ℕ) (r : LogRecord) (low : base_lsn (history input.log) ≤ from) (le : from ≤ seen) (lt : seen < last_lsn (history input.log)) (at : record_at (history input.log) (seen + 1) ≡ Some r) where
   pub one_noted : (part_of : List ℕ) (part : ℕ) (old new : List ℕ) → first (seen + 1) (history input.log) ≡ first seen (history input.log) ▸ r
@@ -40,12 +49,7 @@ module _ (input : InputContent) (from seen : ℕ) (r : LogRecord) (low : base_ls
       ∙ (sym (lsns_more test from log r (omega (arith, count, le))) ∙ ap (lsns_where test from) (sym next))))
 
   pub exist_more : NamesBelow (length input.images) r → ExistWithin input.log (length input.images) from seen → ExistWithin input.log (length input.images) from (seen + 1)
-  exist_more below old lsn x past within found =
-      dite (dec_lt lsn (seen + 1))
-      (λ less. old lsn x past (omega arith) found)
-      (λ last.
-      let here : lsn ≡ seen + 1 = omega arith in
-      subst (NamesBelow (length input.images)) (same_Some _ _ (sym at ∙ (ap (record_at (history input.log)) (sym here) ∙ found))) below)
+  exist_more below old = exist_on input.log (length input.images) from seen r at below old
 
   pub refused : (count to : ℕ) (e : Fault) → count ≡ length input.images → seen < to → ExistWithin input.log (length input.images) from seen → NoteFault count (seen + 1) r e → RouteFault input from to e
   refused count to NoResource same within old cause = tt

@@ -1,5 +1,5 @@
 -- One pass over the records: before the first, one record more, and at the end.
-use Rattle.std.proofs.Common.{◌≡◌, ℕ, ◌+◌, ◌<◌, ◌≤◌, List, [], ◌∷◌, ◌++◌, All, Some, None, length, get_or, set, sym, ap, ◌∙◌, inl, inr, arith}
+use Rattle.std.proofs.Common.{◌≡◌, ℕ, ◌+◌, ◌<◌, ◌≤◌, List, [], ◌∷◌, ◌++◌, All, Some, None, length, get_or, set, sym, ap, subst, ◌∙◌, inl, inr, arith}
 use Rattle.std.proofs.lemmas.Bool.{cases_eq, cases_lt}
 use Rattle.std.proofs.lemmas.List.{get_or_append_left, get_or_default, get_or-set_same, get_or-set_other}
 use Rattle.std.proofs.lemmas.Option.{slice_get-get_or, same_Some}
@@ -18,6 +18,9 @@ use Rattle.redo.specs.Routes.{skipped_in, RouteFault}
 use Rattle.redo.specs.Redone.{AreWorkers, RedoFault}
 use Rattle.redo.specs.Parts.{redo_page_in, image_at, resolved, IsTallied, AreAllTallied}
 use Rattle.redo.specs.OnePass.{AreUpTo}
+use Rattle.redo.specs.Passing.{IsBegunIn}
+use Rattle.page.specs.declared.page.Page.{Page}
+use Rattle.tables.specs.Tables.{TablesContent}
 use Rattle.redo.proofs.Stretches.{skipped_within}
 use Rattle.redo.proofs.Advance.{advanced, advance_elsewhere}
 use Rattle.redo.proofs.Replay.{image_number, skips_none, page_of_cell, applied_within}
@@ -37,17 +40,16 @@ begun input tallies count each = record {
 }
 
 -- one page more is begun
-pub begun_more : (input : InputContent) (base number : ℕ) (tallies : List Tally) (tally : Tally) → length tallies ≡ number
-    → ((k : ℕ) (t : Tally) → k < number → resolved input (get_or tallies k t) ≡ redo_page_in input (start base) (image_at input.images k))
-    → resolved input tally ≡ redo_page_in input (start base) (image_at input.images number)
-    → (k : ℕ) (t : Tally) → k < number + 1 → resolved input (get_or (tallies ++ tally ∷ []) k t) ≡ redo_page_in input (start base) (image_at input.images k)
-begun_more input base number tallies tally count each one k t lt =
+pub begun_more : (images : List Page) (tables : TablesContent) (number : ℕ) (tallies : List Tally) (tally : Tally) → length tallies ≡ number
+    → ((k : ℕ) (t : Tally) → k < number → IsBegunIn images tables k (get_or tallies k t)) → IsBegunIn images tables number tally
+    → (k : ℕ) (t : Tally) → k < number + 1 → IsBegunIn images tables k (get_or (tallies ++ tally ∷ []) k t)
+begun_more images tables number tallies tally count each one k t lt =
     elim (cases_lt k number) [
-      | inl less ↦ ap (resolved input) (get_or_append_left tallies (tally ∷ []) t k (omega (arith, less, count))) ∙ each k t less
+      | inl less ↦ subst (IsBegunIn images tables k) (sym (get_or_append_left tallies (tally ∷ []) t k (omega (arith, less, count)))) (each k t less)
       | inr ge ↦
-          (let here : k ≡ number = omega (arith, lt, ge) in
-          let at : k ≡ length tallies = omega (arith, here, count) in
-          ap (λ i. resolved input (get_or (tallies ++ tally ∷ []) i t)) at ∙ (ap (resolved input) (get_or-append_seam tallies tally [] t) ∙ (one ∙ ap (λ i. redo_page_in input (start base) (image_at input.images i)) (sym here))))
+          (let at : k ≡ length tallies = omega (arith, lt, ge, count) in
+          subst (λ i. IsBegunIn images tables i (get_or (tallies ++ tally ∷ []) i t)) (sym at)
+          (subst (IsBegunIn images tables (length tallies)) (sym (get_or-append_seam tallies tally [] t)) (subst (λ i. IsBegunIn images tables i tally) (sym count) one)))
     ]
 
 -- A RECORD MORE

@@ -51,6 +51,13 @@ slots_none : (log : History) (xs : List Image) → slots_after log (replicate (l
 slots_none log [] = refl
 slots_none log (x ∷ xs) = ap (λ ys. x ∷ ys) (slots_none log xs)
 
+-- one of them
+pub held_none : (log : History) (lsn : ℕ) (image : Image) → lsn ≡ 0 → held_after log lsn image ≡ image
+held_none log lsn image none = ap (λ b. cond b image (image_in (record_at log lsn))) (eq-eqb lsn 0 none)
+
+pub held_some : (log : History) (lsn : ℕ) (image : Image) → (lsn ≡ 0 → ⊥) → held_after log lsn image ≡ image_in (record_at log lsn)
+held_some log lsn image some = ap (λ b. cond b image (image_in (record_at log lsn))) (ne_eqb lsn 0 some)
+
 -- slot by slot
 pub slot_after : (log : History) (ls : List ℕ) (xs : List Image) (k : ℕ) → k < length ls → k < length xs → get_or (slots_after log ls xs) k None ≡ held_after log (get_or ls k 0) (get_or xs k None)
 slot_after log ls [] k a b = absurd (omega arith)

@@ -7,4 +7,6 @@ pub mod Parted
 pub mod Routes
 pub mod Parts
 pub mod OnePass
+pub mod Passing
+pub mod Wanted
 pub mod Redone

@@ -49,7 +49,7 @@ impl<'a> Model for PartedInput<'a> {
 
 /// The LSN up to which redo does not look at records: the one below `redo_lsn`; the log's base LSN
 /// where `redo_lsn` is not above that; the log's last where `redo_lsn` is 0 or behind it.
-fn skipped_below(log: &Log, redo_lsn: u64) -> u64
+pub fn skipped_below(log: &Log, redo_lsn: u64) -> u64
     ensures { result ≡ skipped (base_lsn (history log.now)) redo_lsn (last_lsn (history log.now)) }
 {
     let last = log.last();

@@ -3,6 +3,7 @@
 #![tactic(auto)]
 
 mod crew;
+mod fetch;
 mod finish;
 mod gate;
 mod gather;
@@ -17,13 +18,18 @@ mod redone;
 mod rounds;
 mod route;
 mod tally;
+mod tally_scan;
 mod unthreaded;
+mod wanted;
 mod watch;
 
+pub use fetch::fetch_from;
 pub use gate::{Gate, OpenGate};
 pub use laws::{no_fault_of_redo, one_redo_fault};
 pub use parting::Parting;
 pub use redone::Redone;
 pub use rounds::{WORKERS, are_workers, redo, redo_in_place};
+pub use tally_scan::TallyScan;
 pub use unthreaded::{redo_alone, redo_watched};
+pub use wanted::Wanted;
 pub use watch::Watch;

@@ -1,23 +1,38 @@
 //! Which records each page lacks, found in one pass over the records by one thread, the caller's.
 
 ghost use Rattle.std.specs.Prelude.{◌≡◌, ℕ, ◌+◌, ◌<◌, ◌≤◌, All, Some, length, slice_index_or, IfOk, OnOk, IfErr, IsOkUnless};
-ghost use Rattle.page.specs.declared.fault.Fault.TheVariants.{NoResource};
+ghost use Rattle.page.specs.declared.fault.Fault.TheVariants.{NoResource, NoSuchPage};
 ghost use Rattle.wal.specs.Records.{LogRecord, history, record_at, last_lsn, base_lsn};
-ghost use Rattle.redo.specs.Inputs.{input_over};
+ghost use Rattle.wal.specs.Glances.{glance_of};
+ghost use Rattle.redo.specs.Inputs.{InputContent, input_over};
 ghost use Rattle.redo.specs.Changes.{NamesBelow, advance};
-ghost use Rattle.redo.specs.Routes.{skipped_in, NoteFault};
+ghost use Rattle.redo.specs.Routes.{skipped_in, NoteFault, IsSeen};
 ghost use Rattle.redo.specs.Redone.{AllExist, RedoFault};
 ghost use Rattle.redo.specs.Parts.{AreAllTallied, resolved};
 ghost use Rattle.redo.specs.OnePass.{AreUpTo};
+ghost use Rattle.redo.specs.Passing.{StandAtNumbers, LastsAreWithin, AreBegunIn};
 ghost use Rattle.redo.specs.declared.tally.Tally.{Tally};
 
 use crate::input::RedoInput;
-use crate::part::{begin_page, count_at};
+use crate::part::{begin_in, count_at};
 use crate::tally::Tally;
 use page::{Fault, Store};
 use std::alloc::Global;
 use tables::Tables;
-use wal::Log;
+use wal::{Glance, Log};
+
+/// The tallies of all pages of the store, to which no record was applied, whatever the log is. The
+/// only error is `NoResource`.
+pub fn begin_each(alloc: Global, store: &Store, tables: &Tables) -> Result<Vec<Tally>, Fault>
+    ensures begun { IfOk result (λ tallies. AreBegunIn store.now.pages tables.now tallies.items) }
+    ensures err { IsOkUnless result NoResource }
+{
+    let mut tallies = Vec::with_capacity(alloc, store.pages.len())?;
+    for number in 0..store.pages.len() {
+        tallies.push(begin_in(store, tables, number as u32))?;
+    }
+    Ok(tallies)
+}
 
 /// The tallies of all pages, to which no record was applied. The only error is `NoResource`.
 fn begin_all(alloc: Global, input: &RedoInput) -> Result<Vec<Tally>, Fault>
@@ -25,12 +40,45 @@ fn begin_all(alloc: Global, input: &RedoInput) -> Result<Vec<Tally>, Fault>
         (skipped_in input.now) tallies.items) }
     ensures err { IsOkUnless result NoResource }
 {
-    let store = input.store;
-    let mut tallies = Vec::with_capacity(alloc, store.pages.len())?;
-    for number in 0..store.pages.len() {
-        tallies.push(begin_page(input, number as u32))?;
+    begin_each(alloc, input.store, input.tables)
+}
+
+/// Counts the record at an LSN, of which this is seen at a glance, for its page, if it has one and
+/// the page lacks it. Refuses a page that there is not by `NoSuchPage`, and leaves the tallies.
+#[inline(always)]
+pub fn count_seen(
+    tallies: &mut [Tally],
+    redo_lsn: u64,
+    lsn: u64,
+    glance: Glance,
+) -> Result<(), Fault>
+    requires seen { IsSeen glance }
+    requires numbered { StandAtNumbers tallies.old }
+    requires few { All (λ t. t.applied < lsn) tallies.old }
+    ensures count { length tallies.new ≡ length tallies.old }
+    ensures numbered { StandAtNumbers tallies.new }
+    ensures few { All (λ t. t.applied ≤ lsn) tallies.new }
+    ensures lasts { LastsAreWithin lsn tallies.old → LastsAreWithin lsn tallies.new }
+    ensures each { OnOk result ((input : InputContent) (r : LogRecord) (k : ℕ) (t : Tally)
+        → input.redo_lsn ≡ redo_lsn → glance ≡ glance_of r
+        → record_at (history input.log) lsn ≡ Some r → k < length tallies.old
+        → resolved input (slice_index_or tallies.new k t)
+        ≡ advance input.redo_lsn lsn r (resolved input (slice_index_or tallies.old k t))) }
+    ensures exists { OnOk result ((r : LogRecord) → glance ≡ glance_of r
+        → NamesBelow (length tallies.old) r) }
+    ensures fault { IfErr result (λ e. (r : LogRecord) → glance ≡ glance_of r
+        → NoteFault (length tallies.old) lsn r e) }
+    ensures only { IfErr result (λ e. e ≡ NoSuchPage lsn) }
+{
+    let Some((page, slot)) = glance.cell() else {
+        return Ok(());
+    };
+    let number = page as usize;
+    if number >= tallies.len() {
+        return Err(Fault::NoSuchPage(lsn));
     }
-    Ok(tallies)
+    count_at(tallies, number, redo_lsn, lsn, slot as usize);
+    Ok(())
 }
 
 /// Counts the record behind an LSN for its page, if it has one and the page lacks it. Refuses a
@@ -56,15 +104,8 @@ fn count_next(input: &RedoInput, lsn: u64, tallies: &mut [Tally]) -> Result<(), 
 {
     // The log's last LSN fits, so the next one does.
     let _last = input.log.last();
-    let Some((page, slot)) = input.log.glance_after(lsn).cell() else {
-        return Ok(());
-    };
-    let number = page as usize;
-    if number >= tallies.len() {
-        return Err(Fault::NoSuchPage(lsn + 1));
-    }
-    count_at(tallies, number, input.redo_lsn(), lsn + 1, slot as usize);
-    Ok(())
+    let glance = input.log.glance_after(lsn);
+    count_seen(tallies, input.redo_lsn(), lsn + 1, glance)
 }
 
 /// The tallies of all pages by one pass over the records that redo does not skip, which leaves the

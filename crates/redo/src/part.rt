@@ -7,6 +7,7 @@ ghost use Rattle.wal.specs.Records.{start, history, base_lsn};
 ghost use Rattle.redo.specs.Changes.{counted, step, lsn_in};
 ghost use Rattle.redo.specs.Routes.{AreRoutes, Stands};
 ghost use Rattle.redo.specs.Parts.{IsUpTo, IsDone, HasPart, numbers_of, redo_page_in, image_at, resolved};
+ghost use Rattle.redo.specs.Passing.{IsBegunIn};
 ghost use Rattle.redo.specs.declared.tally.Tally.{Tally};
 ghost use Rattle.page.specs.declared.sizes.TheConstants.{SLOTS};
 
@@ -15,23 +16,23 @@ use crate::input::{PartedInput, RedoInput};
 use crate::note::{Note, NoteList};
 use crate::route::Route;
 use crate::tally::Tally;
-use page::{Fault, SLOTS, Value};
+use page::{Fault, SLOTS, Store, Value};
 use std::alloc::Global;
+use tables::Tables;
 
 /// How many slots a page has. A function of its own, since an array's length is known of an argument.
-fn count_slots(slots: &[Option<Value>; SLOTS]) -> usize
+pub fn count_slots(slots: &[Option<Value>; SLOTS]) -> usize
     ensures { length slots.now ≡ SLOTS }
 {
     slots.len()
 }
 
 /// The PageLSN that a page has in the store; 0 where the store has none of this number.
-fn page_lsn(input: &RedoInput, number: u32) -> u64
-    ensures lsn { result ≡ (image_at input.now.images number).lsn }
-    ensures number { (image_at input.now.images number).number ≡ number }
-    ensures slots { length (image_at input.now.images number).slots ≡ SLOTS }
+fn page_lsn(store: &Store, number: u32) -> u64
+    ensures lsn { result ≡ (image_at store.now.pages number).lsn }
+    ensures number { (image_at store.now.pages number).number ≡ number }
+    ensures slots { length (image_at store.now.pages number).slots ≡ SLOTS }
 {
-    let store = input.store;
     match store.pages.get(number as usize) {
         Some(page) => {
             let _count = count_slots(&page.slots);
@@ -41,17 +42,20 @@ fn page_lsn(input: &RedoInput, number: u32) -> u64
     }
 }
 
+/// A page of the store to which no record was applied, whatever the log is.
+pub fn begin_in(store: &Store, tables: &Tables, number: u32) -> Tally
+    ensures { IsBegunIn store.now.pages tables.now number result }
+{
+    Tally::begin(number, page_lsn(store, number), tables.rec_lsn(number))
+}
+
 /// A page to which no record was applied.
-pub fn begin_page(input: &RedoInput, number: u32) -> Tally
+fn begin_page(input: &RedoInput, number: u32) -> Tally
     ensures { resolved input.now result
         ≡ redo_page_in input.now (start (base_lsn (history input.now.log)))
         (image_at input.now.images number) }
 {
-    Tally::begin(
-        number,
-        page_lsn(input, number),
-        input.tables.rec_lsn(number),
-    )
+    begin_in(input.store, input.tables, number)
 }
 
 /// The pages of a part, to which no record was applied. The only error is `NoResource`.

@@ -1,23 +1,17 @@
-use Rattle.std.proofs.Common.{ℕ, List, ◌≡◌, ◌<◌, ◌+◌, None, get_or, set, sym, ap, subst, cond, ne_eqb, eq-eqb, ◌∙◌, inl, inr, refl, arith}
+use Rattle.std.proofs.Common.{ℕ, List, ◌≡◌, ◌<◌, ◌+◌, None, get_or, set, sym, ap, subst, ◌∙◌, inl, inr, refl, arith}
 use Rattle.std.proofs.lemmas.Bool.{cases_eq}
 use Rattle.std.proofs.lemmas.List.{ext_get_or, get_or-set_same, get_or-set_other, length-set, get_or_default}
 use Rattle.page.specs.Image.{Image}
-use Rattle.wal.specs.Records.{History, history, record_at}
+use Rattle.wal.specs.Records.{History, history}
 use Rattle.wal.specs.Meaning.{image_in}
 use Rattle.redo.specs.Changes.{held_after, slots_after}
-use Rattle.redo.proofs.Tallies.{slot_after, slots_count}
+use Rattle.redo.proofs.Tallies.{slot_after, slots_count, held_none, held_some}
 use Rattle.redo.proofs.finish.fill.Invariants.{AreFilled}
 use Rattle.redo.proofs.finish.fill.Goals.{then-lasts-slot-ne0, else-lasts-slot-ne0}
 use Rattle.redo.proofs.finish.fill.Goals as goal
 
 pub loop-slot-init : goal.loop-slot-init
 loop-slot-init c = (c.told-slots, λ k lt. absurd (omega arith), λ k le. refl)
-
-held_none : (log : History) (lsn : ℕ) (image : Image) → lsn ≡ 0 → held_after log lsn image ≡ image
-held_none log lsn image none = ap (λ b. cond b image (image_in (record_at log lsn))) (eq-eqb lsn 0 none)
-
-held_some : (log : History) (lsn : ℕ) (image : Image) → (lsn ≡ 0 → ⊥) → held_after log lsn image ≡ image_in (record_at log lsn)
-held_some log lsn image some = ap (λ b. cond b image (image_in (record_at log lsn))) (ne_eqb lsn 0 some)
 
 -- one slot is filled
 filled : (log : History) (lasts : List ℕ) (before now : List Image) (i : ℕ) (x : Image) → i < 16 → AreFilled log lasts before i now

@@ -1,0 +1,166 @@
+-- The tallies while a log goes by in pieces: one record more, and what is passed over.
+use Rattle.std.proofs.Common.{◌≡◌, ℕ, zero, suc, replicate, ◌+◌, ◌<◌, ◌≤◌, List, [], All, Some, length, get_or, set, refl, sym, ap, ◌∙◌, subst, inl, inr, arith}
+use Rattle.std.proofs.lemmas.Bool.{cases_eq, cases_lt, cond_both}
+use Rattle.std.proofs.lemmas.List.{get_or-set_same, get_or-set_other, length-set, set_past}
+use Rattle.std.proofs.lemmas.Option.{same_Some}
+use Rattle.page.specs.declared.page.Page.{Page}
+use Rattle.page.specs.Store.{AreNumbered}
+use Rattle.tables.specs.Tables.{TablesContent}
+use Rattle.wal.specs.declared.header.LogStart.TheVariants.{Version2}
+use Rattle.wal.specs.Records.{LogRecord, LogContent, start, history, record_at, last_lsn, base_lsn}
+use Rattle.wal.specs.Redo.{is_redone}
+use Rattle.wal.proofs.Histories.{base_within, first_at_base}
+use Rattle.redo.specs.declared.tally.Tally.{Tally}
+use Rattle.redo.specs.Inputs.{InputContent, input_over}
+use Rattle.redo.specs.Changes.{NamesBelow, advance, counted}
+use Rattle.redo.specs.Routes.{skipped, skipped_in, ExistWithin}
+use Rattle.redo.specs.Parts.{redo_page_in, image_at, resolved}
+use Rattle.redo.specs.OnePass.{AreUpTo}
+use Rattle.redo.specs.Passing.{TalliesSoFar, StandAtNumbers, LastsAreWithin, AreKept, AreBegunIn, IsPieceFor}
+use Rattle.redo.proofs.Stretches.{skipped_within, skipped_from, skipped_of_piece}
+use Rattle.redo.proofs.Replay.{skips_none}
+use Rattle.redo.proofs.Noting.{exist_on}
+use Rattle.redo.proofs.OnePass.{one_more, numbers_of_tallies, few}
+
+-- A RECORD COUNTED
+counted_number : (redo_lsn lsn slot : ℕ) (t : Tally) → (counted redo_lsn lsn slot t).number ≡ t.number
+counted_number redo_lsn lsn slot t = cond_both (is_redone t.rec_lsn redo_lsn t.lsn lsn) _ t (λ (x : Tally). x.number ≡ t.number) (λ _. refl) (λ _. refl)
+
+counted_few : (redo_lsn lsn slot : ℕ) (t : Tally) → (counted redo_lsn lsn slot t).applied ≤ suc t.applied
+counted_few redo_lsn lsn slot t = cond_both (is_redone t.rec_lsn redo_lsn t.lsn lsn) _ t (λ (x : Tally). x.applied ≤ suc t.applied) (λ _. omega arith) (λ _. omega arith)
+
+set_within : (xs : List ℕ) (slot lsn : ℕ) → ((i : ℕ) → get_or xs i 0 ≤ lsn) → (i : ℕ) → get_or (set xs slot lsn) i 0 ≤ lsn
+set_within xs slot lsn each i =
+    elim (cases_eq i slot) [
+      | inl e ↦
+          elim (cases_lt slot (length xs)) [
+            | inl lt ↦ omega (arith, ap (λ j. get_or (set xs slot lsn) j 0) e, get_or-set_same xs slot lsn 0 lt)
+            | inr ge ↦ omega (arith, ap (λ ys. get_or ys i 0) (set_past xs slot lsn ge), each i)
+          ]
+      | inr ne ↦ omega (arith, get_or-set_other xs slot i lsn 0 ne, each i)
+    ]
+
+counted_lasts : (redo_lsn lsn slot : ℕ) (t : Tally) → ((i : ℕ) → get_or t.lasts i 0 ≤ lsn) → (i : ℕ) → get_or (counted redo_lsn lsn slot t).lasts i 0 ≤ lsn
+counted_lasts redo_lsn lsn slot t each i = cond_both (is_redone t.rec_lsn redo_lsn t.lsn lsn) _ t (λ (x : Tally). get_or x.lasts i 0 ≤ lsn) (λ _. set_within t.lasts slot lsn each i) (λ _. each i)
+
+-- what is so of all but one, and of that one
+one_set : (P Q : ℕ → Tally → Type 0) (tallies new : List Tally) (number : ℕ) (f : Tally → Tally) → number < length tallies
+    → ((d : Tally) → new ≡ set tallies number (f (get_or tallies number d)))
+    → ((k : ℕ) (t : Tally) → P k t → Q k t) → ((t : Tally) → P number t → Q number (f t))
+    → ((k : ℕ) (t : Tally) → k < length tallies → P k (get_or tallies k t)) → (k : ℕ) (t : Tally) → k < length new → Q k (get_or new k t)
+one_set P Q tallies new number f below is kept one each k t lt =
+    let within : k < length tallies = omega (arith, lt, ap (λ (ts : List Tally). length ts) (is t), length-set tallies number (f (get_or tallies number t))) in
+    elim (cases_eq k number) [
+      | inl e ↦
+          subst (λ ts. Q k (get_or ts k t)) (sym (is t))
+          (subst (λ i. Q i (get_or (set tallies number (f (get_or tallies number t))) i t)) (sym e)
+          (subst (Q number) (sym (get_or-set_same tallies number (f (get_or tallies number t)) t below)) (one (get_or tallies number t) (each number t below))))
+      | inr ne ↦
+          subst (λ ts. Q k (get_or ts k t)) (sym (is t))
+          (subst (Q k) (sym (get_or-set_other tallies number k (f (get_or tallies number t)) t ne)) (kept k (get_or tallies k t) (each k t within)))
+    ]
+
+module _ (redo_lsn lsn slot number : ℕ) (tallies new : List Tally) (below : number < length tallies) (is : (d : Tally) → new ≡ set tallies number (counted redo_lsn lsn slot (get_or tallies number d))) where
+  pub numbered_on : StandAtNumbers tallies → StandAtNumbers new
+  numbered_on each = one_set (λ k t. t.number ≡ k) (λ k t. t.number ≡ k) tallies new number (counted redo_lsn lsn slot) below is (λ k t e. e) (λ t e. counted_number redo_lsn lsn slot t ∙ e) each
+
+  pub few_on : All (λ (t : Tally). t.applied < lsn) tallies → All (λ (t : Tally). t.applied ≤ lsn) new
+  few_on each = one_set (λ k t. t.applied < lsn) (λ k t. t.applied ≤ lsn) tallies new number (counted redo_lsn lsn slot) below is (λ k t e. omega (arith, e)) (λ t e. omega (arith, counted_few redo_lsn lsn slot t, e)) each
+
+  pub lasts_on : LastsAreWithin lsn tallies → LastsAreWithin lsn new
+  lasts_on each k i t lt =
+      one_set (λ _ t. (i : ℕ) → get_or t.lasts i 0 ≤ lsn) (λ _ t. (i : ℕ) → get_or t.lasts i 0 ≤ lsn) tallies new number (counted redo_lsn lsn slot) below is (λ k t e. e) (λ t e. counted_lasts redo_lsn lsn slot t e)
+      (λ k t lt i. each k i t lt) k t lt i
+
+-- BEFORE THE FIRST PIECE
+zeros : (n i : ℕ) → let none : ℕ = 0 in get_or (replicate n none) i none ≡ none
+zeros zero i = refl
+zeros (suc n) zero = refl
+zeros (suc n) (suc i) = zeros n i
+
+module _ (images : List Page) (tables : TablesContent) (tallies : List Tally) (are : AreBegunIn images tables tallies) where
+  pub begun_up : (base : ℕ) (log : LogContent) → base_lsn (history log) ≡ base → AreUpTo (input_over log images tables) base tallies
+  begun_up base log at = record {
+    count = are.count;
+    each = λ k t lt. (are.each k t lt).begun log ∙ ap (λ h. redo_page_in (input_over log images tables) h (image_at images k)) (ap start at ∙ sym (first_at_base (history log) base (sym at)));
+  }
+
+  pub begun_kept : (base : ℕ) → AreNumbered images → AreKept base tallies
+  begun_kept base numbered =
+      let log : LogContent = record { begins = Version2 base; records = [] } in
+      let up = begun_up base log refl in
+      record {
+        numbered = numbers_of_tallies (input_over log images tables) numbered base tallies up;
+        few = few (input_over log images tables) numbered base tallies up (omega arith) (omega arith);
+        lasts = λ k slot t lt. omega (arith, ap (λ xs. get_or xs slot 0) (are.each k t (omega (arith, lt, are.count))).none ∙ zeros 16 slot);
+      }
+
+-- A PIECE
+-- the LSN up to which the records of a piece are passed over
+abbrev pub skipped_at : TalliesSoFar → LogContent → ℕ
+skipped_at old piece = skipped (base_lsn (history piece)) old.redo_lsn (last_lsn (history piece))
+
+-- what is known when the records of a piece up to an LSN are counted
+pub record HasPassed (old : TalliesSoFar) (piece : LogContent) (lsn : ℕ) (tallies : List Tally) : Type 0 where
+  pub kept : AreKept lsn tallies
+  pub count : length tallies ≡ length old.tallies
+  pub goes_on : (input : InputContent) → IsPieceFor input old.redo_lsn piece → AreUpTo input (base_lsn (history piece)) old.tallies → AreUpTo input lsn tallies
+  pub exist : ExistWithin piece (length old.tallies) (skipped_at old piece) lsn
+
+-- the records that are passed over change nothing
+over : (input : InputContent) (old : TalliesSoFar) (piece : LogContent) → IsPieceFor input old.redo_lsn piece → AreUpTo input (base_lsn (history piece)) old.tallies → AreUpTo input (skipped_at old piece) old.tallies
+over input old piece own up =
+    let base = base_lsn (history piece) in
+    let last = last_lsn (history piece) in
+    let low = base_lsn (history input.log) in
+    let high = last_lsn (history input.log) in
+    let some = base_within (history piece) in
+    let from = skipped_from base old.redo_lsn last some in
+    let to = skipped_within base old.redo_lsn last some in
+    elim (skipped_of_piece low base old.redo_lsn last high own.piece_of.low some own.piece_of.high) [
+      | inl none ↦ subst (λ n. AreUpTo input n old.tallies) (sym none) up
+      | inr more ↦
+          (let few : skipped_at old piece ≤ skipped_in input = subst (λ n. skipped_at old piece ≤ skipped low n high) (sym own.from) more in
+          record {
+            count = up.count;
+            each = λ k t lt.
+                let image = image_at input.images k in
+                up.each k t lt
+                ∙ (skips_none input image base (omega (arith, from, few)) (omega (arith, some, own.piece_of.high))
+                ∙ sym (skips_none input image (skipped_at old piece) few (omega (arith, to, own.piece_of.high))));
+          })
+    ]
+
+pub kept_on : (upto lsn : ℕ) (tallies : List Tally) → upto ≤ lsn → AreKept upto tallies → AreKept lsn tallies
+kept_on upto lsn tallies le kept = record {
+  numbered = kept.numbered;
+  few = λ k t lt. omega (arith, kept.few k t lt, le);
+  lasts = λ k slot t lt. omega (arith, kept.lasts k slot t lt, le);
+}
+
+pub passed_over : (old : TalliesSoFar) (piece : LogContent) → AreKept old.upto old.tallies → old.upto ≤ base_lsn (history piece)
+    → HasPassed old piece (skipped_at old piece) old.tallies
+passed_over old piece kept upto = record {
+  kept = kept_on old.upto (skipped_at old piece) old.tallies (omega (arith, upto, skipped_from (base_lsn (history piece)) old.redo_lsn (last_lsn (history piece)) (base_within (history piece)))) kept;
+  count = refl;
+  goes_on = λ input own up. over input old piece own up;
+  exist = λ lsn r past within found. absurd (omega (arith, past, within));
+}
+
+-- one record more
+pub passed_more : (old : TalliesSoFar) (piece : LogContent) (lsn : ℕ) (r : LogRecord) (lent new : List Tally) → base_lsn (history piece) ≤ lsn → lsn < last_lsn (history piece) → record_at (history piece) (lsn + 1) ≡ Some r
+    → AreKept (lsn + 1) new → length new ≡ length lent → NamesBelow (length lent) r
+    → ((input : InputContent) (k : ℕ) (t : Tally) → input.redo_lsn ≡ old.redo_lsn → record_at (history input.log) (lsn + 1) ≡ Some r → k < length lent
+    → resolved input (get_or new k t) ≡ advance input.redo_lsn (lsn + 1) r (resolved input (get_or lent k t)))
+    → HasPassed old piece lsn lent → HasPassed old piece (lsn + 1) new
+passed_more old piece lsn r lent new from lt there kept count below each before = record {
+  kept = kept;
+  count = count ∙ before.count;
+  goes_on = λ input own up.
+      let whole : record_at (history input.log) (lsn + 1) ≡ Some r = sym (own.piece_of.each (lsn + 1) (omega (arith, from)) (omega (arith, lt))) ∙ there in
+      one_more input own.numbered lsn lent (before.goes_on input own up) new (omega (arith, own.piece_of.low, from)) (omega (arith, own.piece_of.high, lt)) count
+      (λ x k t found less.
+      let same : r ≡ x = same_Some _ _ (sym whole ∙ found) in
+      subst (λ y. resolved input (get_or new k t) ≡ advance input.redo_lsn (lsn + 1) y (resolved input (get_or lent k t))) same (each input k t own.from whole less));
+  exist = exist_on piece (length old.tallies) (skipped_at old piece) lsn r there (subst (λ n. NamesBelow n r) before.count below) before.exist;
+}

@@ -1,0 +1,28 @@
+use Rattle.std.proofs.Common.{◌≡◌, Some, get_or, set, refl, sym, ◌∙◌, ap, arith}
+use Rattle.wal.specs.Meaning.{cell_of}
+use Rattle.redo.specs.Changes.{counted}
+use Rattle.redo.proofs.Replay.{page_of_cell}
+use Rattle.redo.proofs.OnePass.{placed}
+use Rattle.redo.proofs.Passing.{numbered_on, few_on, lasts_on}
+use Rattle.redo.proofs.one_pass.count_seen.Goals as goal
+
+pub returns-then-number-tallies-clause-fault : goal.returns-then-number-tallies-clause-fault
+returns-then-number-tallies-clause-fault c = λ r seen. (
+  refl,
+  λ below. omega (arith, below c.in-Some.page (page_of_cell r c.in-Some.page c.in-Some.slot (sym (c.in-Some.ensures r seen))), c.if-number-tallies.true),
+)
+
+pub returns-clause-numbered : goal.returns-clause-numbered
+returns-clause-numbered c = numbered_on c.args.redo_lsn c.args.lsn c.in-Some.slot c.in-Some.page c.args.tallies.now c.count_at.new.tallies c.if-number-tallies.false c.count_at.ensures c.requires.numbered
+
+pub returns-clause-few : goal.returns-clause-few
+returns-clause-few c = few_on c.args.redo_lsn c.args.lsn c.in-Some.slot c.in-Some.page c.args.tallies.now c.count_at.new.tallies c.if-number-tallies.false c.count_at.ensures c.requires.few
+
+pub returns-clause-lasts : goal.returns-clause-lasts
+returns-clause-lasts c = lasts_on c.args.redo_lsn c.args.lsn c.in-Some.slot c.in-Some.page c.args.tallies.now c.count_at.new.tallies c.if-number-tallies.false c.count_at.ensures
+
+pub returns-clause-each : goal.returns-clause-each
+returns-clause-each c = λ input r k t same seen there lt.
+    let cell : cell_of r ≡ Some (c.in-Some.page, c.in-Some.slot) = sym (c.in-Some.ensures r seen) in
+    placed input c.args.lsn c.in-Some.page c.in-Some.slot r c.args.tallies.now c.count_at.new.tallies there cell c.if-number-tallies.false c.requires.numbered
+    (λ d. c.count_at.ensures d ∙ ap (λ n. set c.args.tallies.now c.in-Some.page (counted n c.args.lsn c.in-Some.slot (get_or c.args.tallies.now c.in-Some.page d))) (sym same)) k t lt

@@ -1,0 +1,17 @@
+use Rattle.std.proofs.Common.{replicate, ap, ◌∙◌}
+use Rattle.wal.specs.Records.{base_lsn, history}
+use Rattle.redo.specs.declared.tally.Tally.{Tally}
+use Rattle.redo.specs.Inputs.{input_over}
+use Rattle.redo.specs.Parts.{resolved}
+use Rattle.redo.proofs.Tallies.{begun_page}
+use Rattle.redo.proofs.part.begin_in.Goals as goal
+
+pub returns : goal.returns
+returns c = record {
+  none = ap (λ (t : Tally). t.lasts) c.begin.ensures;
+  begun = λ log.
+      let input = input_over log c.args.store.now.pages c.args.tables.now in
+      let number = c.args.number in
+      ap (resolved input) (c.begin.ensures ∙ ap (λ lsn. record { number = number; lsn = lsn; rec_lsn = c.rec_lsn.result; applied = 0; lasts = replicate 16 0 }) c.page_lsn.ensures.lsn)
+      ∙ begun_page input (base_lsn (history log)) number c.rec_lsn.result c.page_lsn.ensures.number c.page_lsn.ensures.slots c.rec_lsn.ensures;
+}

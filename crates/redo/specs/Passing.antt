@@ -1,0 +1,55 @@
+-- PASSING. The tallies of redo while a log goes by in pieces: each piece is a log, and begins behind the last LSN of what came before it (own).
+use Rattle.std.specs.Prelude.{◌≡◌, ℕ, ◌<◌, ◌≤◌, List, length, slice_index_or, replicate, All}
+use Rattle.page.specs.declared.fault.Fault.{Fault}
+use Rattle.page.specs.declared.fault.Fault.TheVariants.{NoSuchPage}
+use Rattle.page.specs.declared.page.Page.{Page}
+use Rattle.page.specs.Store.{AreNumbered}
+use Rattle.page.specs.declared.sizes.TheConstants.{SLOTS}
+use Rattle.wal.specs.Records.{LogContent, history, base_lsn, start}
+use Rattle.tables.specs.Tables.{TablesContent}
+use Rattle.tables.specs.Pieces.{IsPieceOf}
+use Rattle.redo.specs.declared.tally.Tally.{Tally}
+use Rattle.redo.specs.Inputs.{InputContent, input_over}
+use Rattle.redo.specs.Parts.{redo_page_in, image_at, resolved}
+use Rattle.redo.specs.Redone.{IsFirstMissing}
+
+-- the tallies of all pages, from which LSN on records are looked at, and up to which LSN the log has gone by
+pub record TalliesSoFar : Type 0 where
+  pub tallies : List Tally
+  pub redo_lsn : ℕ
+  pub upto : ℕ
+
+-- each tally stands at the number of its page
+abbrev pub StandAtNumbers : List Tally → Type 0
+StandAtNumbers tallies = (k : ℕ) (t : Tally) → k < length tallies → (slice_index_or tallies k t).number ≡ k
+
+-- no record that is the last in a slot is above the LSN
+abbrev pub LastsAreWithin : (lsn : ℕ) → List Tally → Type 0
+LastsAreWithin lsn tallies = (k slot : ℕ) (t : Tally) → k < length tallies → slice_index_or (slice_index_or tallies k t).lasts slot 0 ≤ lsn
+
+-- what each scan keeps of its tallies, where the log has gone by up to an LSN
+pub record AreKept (upto : ℕ) (tallies : List Tally) : Type 0 where
+  pub numbered : StandAtNumbers tallies
+  pub few : All (λ (t : Tally). t.applied ≤ upto) tallies
+  pub lasts : LastsAreWithin upto tallies
+
+-- a page of the store to which no record was applied, whatever the log is
+pub record IsBegunIn (images : List Page) (tables : TablesContent) (number : ℕ) (tally : Tally) : Type 0 where
+  pub none : tally.lasts ≡ replicate SLOTS 0
+  pub begun : (log : LogContent) → resolved (input_over log images tables) tally ≡ redo_page_in (input_over log images tables) (start (base_lsn (history log))) (image_at images number)
+
+-- so are all of them, each at its number
+pub record AreBegunIn (images : List Page) (tables : TablesContent) (tallies : List Tally) : Type 0 where
+  pub count : length tallies ≡ length images
+  pub each : (k : ℕ) (t : Tally) → k < length images → IsBegunIn images tables k (slice_index_or tallies k t)
+
+-- a piece of the log that redo looks at, from this LSN on, with pages that stand at their numbers
+pub record IsPieceFor (input : InputContent) (redo_lsn : ℕ) (piece : LogContent) : Type 0 where
+  pub numbered : AreNumbered input.images
+  pub from : input.redo_lsn ≡ redo_lsn
+  pub piece_of : IsPieceOf (history input.log) (history piece)
+
+-- why a piece is refused: the record at this LSN is the first of the piece that redo looks at on a page past the count
+abbrev pub PassFault : LogContent → (count redo_lsn : ℕ) → Fault → Type 0
+PassFault piece count redo_lsn (NoSuchPage lsn) = IsFirstMissing piece count redo_lsn lsn
+PassFault piece count redo_lsn e = ⊥

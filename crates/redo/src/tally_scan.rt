@@ -1,0 +1,174 @@
+//! The tallies of all pages while a log goes by, piece after piece.
+
+ghost use Rattle.std.specs.Prelude.{◌≡◌, ℕ, ◌≤◌, ◌<◌, ◌↔◌, List, All, Contains, length, slice_index_or, min, IfOk, OnOk, IfErr, IsOkUnless};
+ghost use Rattle.std.specs.List.{sum_by};
+ghost use Rattle.std.specs.List.Sorted.{IsNonDecreasingBy};
+ghost use Rattle.page.specs.declared.fault.Fault.TheVariants.{NoResource};
+ghost use Rattle.wal.specs.Records.{LogContent, History, history, last_lsn, base_lsn};
+ghost use Rattle.redo.specs.Inputs.{InputContent, input_over};
+ghost use Rattle.redo.specs.OnePass.{AreUpTo};
+ghost use Rattle.redo.specs.Redone.{AllExist};
+ghost use Rattle.redo.specs.Passing.{IsPieceFor, PassFault};
+ghost use Rattle.redo.specs.Wanted.{IsWanted, HoldAllBut};
+ghost use Rattle.redo.specs.declared.tally.Tally.{Tally};
+ghost use Rattle.redo.specs.declared.wanted.Wanted.{Wanted};
+ghost use Rattle.redo.specs.Changes.{finished};
+ghost use Rattle.page.specs.declared.sizes.TheConstants.{SLOTS};
+ghost use Rattle.page.specs.declared.page.Page.{Page};
+
+use crate::fetch::set_page_lsns;
+use crate::input::skipped_below;
+use crate::one_pass::{begin_each, count_seen};
+use crate::tally::Tally;
+use crate::wanted::{Wanted, want_slots};
+use page::{Fault, Page, Store};
+use std::alloc::Global;
+use std::marker::Model;
+use tables::Tables;
+use wal::Log;
+
+/// The tallies of all pages of a store while a log goes by: which record is the last in each slot of
+/// those that the pages lack. The log comes in pieces, from its first record to its last: each piece
+/// is a log whose base LSN is the last LSN of the one before it. Contracts see the tallies, the LSN
+/// from which records are looked at, and the LSN up to which the log has gone by.
+#[derive(Drop)]
+pub struct TallyScan {
+    tallies: Vec<Tally>,
+    redo_lsn: u64,
+    upto: u64,
+}
+
+impl Model for TallyScan {
+    ghost use Rattle.redo.specs.Passing.{TalliesSoFar, AreKept};
+
+    ghost Value = { TalliesSoFar };
+
+    ghost view = { λ s. record { tallies = s.tallies.items; redo_lsn = s.redo_lsn; upto = s.upto } };
+
+    ghost invariant = { λ s. AreKept s.upto s.tallies.items };
+}
+
+impl TallyScan {
+    /// The scan of a log with this base LSN of which nothing has gone by. No record is applied to the
+    /// pages. The only error is `NoResource`.
+    pub fn begin(
+        alloc: Global,
+        store: &Store,
+        tables: &Tables,
+        base: u64,
+    ) -> Result<TallyScan, Fault>
+        ensures begun { IfOk result (λ scan. (log : LogContent) → base_lsn (history log) ≡ base
+            → AreUpTo (input_over log store.now.pages tables.now) base scan.tallies) }
+        ensures count { IfOk result (λ scan. length scan.tallies ≡ length store.now.pages) }
+        ensures redo_lsn { IfOk result (λ scan. scan.redo_lsn ≡ tables.now.redo_lsn) }
+        ensures upto { IfOk result (λ scan. scan.upto ≡ base) }
+        ensures err { IsOkUnless result NoResource }
+    {
+        // Opens the store: its pages stand at their numbers.
+        let _ = &store.pages;
+        let tallies = begin_each(alloc, store, tables)?;
+        Ok(TallyScan {
+            tallies,
+            redo_lsn: tables.redo_lsn,
+            upto: base,
+        })
+    }
+
+    /// Counts the records of the next piece from `redo_lsn` on, none where `redo_lsn` is 0, each for
+    /// its page, if the page lacks it. Takes no memory.
+    ///
+    /// The only error is `NoSuchPage` with the LSN of the first of these records that is on a page
+    /// which the store lacks. The records before it are counted then, so the scan cannot be gone on
+    /// with.
+    pub fn pass(&mut self, piece: &Log) -> Result<(), Fault>
+        requires { self.old.upto ≤ base_lsn (history piece.now) }
+        // Whatever log the piece is of, the tallies tell of its records up to the piece's last.
+        ensures goes_on { OnOk result ((input : InputContent)
+            → IsPieceFor input self.old.redo_lsn piece.now
+            → AreUpTo input (base_lsn (history piece.now)) self.old.tallies
+            → AreUpTo input (last_lsn (history piece.now)) self.new.tallies) }
+        ensures exist { OnOk result
+            (AllExist piece.now (length self.old.tallies) self.old.redo_lsn) }
+        ensures fault { IfErr result
+            (PassFault piece.now (length self.old.tallies) self.old.redo_lsn) }
+
+        ensures count { length self.new.tallies ≡ length self.old.tallies }
+        ensures redo_lsn { self.new.redo_lsn ≡ self.old.redo_lsn }
+        ensures upto { self.new.upto ≡ last_lsn (history piece.now) }
+    {
+        let redo_lsn = self.redo_lsn;
+        self.upto = piece.last();
+        for lsn in skipped_below(piece, redo_lsn)..piece.last() {
+            let glance = piece.glance_after(lsn);
+            count_seen(&mut self.tallies, redo_lsn, lsn + 1, glance)?;
+        }
+        Ok(())
+    }
+
+    /// The LSN up to which the log has gone by.
+    pub fn upto(&self) -> u64
+        ensures { result ≡ self.now.upto }
+    {
+        self.upto
+    }
+
+    /// How many pages the store has.
+    pub fn pages(&self) -> usize
+        ensures { result ≡ length self.now.tallies }
+    {
+        self.tallies.len()
+    }
+
+    /// How many records were applied to all pages; 2^64 - 1 where they are more.
+    pub fn applied(&self) -> u64
+        ensures { result ≡ min u64.MAX (sum_by (λ t. t.applied) self.now.tallies) }
+    {
+        let mut applied: u64 = 0;
+        for tally in &self.tallies {
+            applied = applied.saturating_add(tally.applied);
+        }
+        applied
+    }
+
+    /// The records whose images the slots of the pages want, by rising LSN: of each slot to which a
+    /// record was applied the last. The only error is `NoResource`.
+    pub fn wanted(&self, alloc: Global) -> Result<Vec<Wanted>, Fault>
+        ensures each { IfOk result (λ wanted. (w : Wanted) → Contains wanted.items w
+            ↔ IsWanted self.now.tallies w) }
+        ensures pages { IfOk result (λ wanted. All (λ w. w.page < length self.now.tallies)
+            wanted.items) }
+        ensures slots { IfOk result (λ wanted. All (λ w. w.slot < SLOTS) wanted.items) }
+        // Before the first is fetched, the pages hold all but these.
+        ensures begun { IfOk result (λ wanted. (whole : History) (images : List Page)
+            → HoldAllBut whole self.now.tallies wanted.items images images) }
+        ensures rising { IfOk result (λ wanted. IsNonDecreasingBy (λ w. w.lsn) wanted.items) }
+        ensures err { IsOkUnless result NoResource }
+    {
+        let mut wanted = Vec::new(alloc);
+        for tally in &self.tallies {
+            want_slots(tally.number, &tally.lasts, &mut wanted)?;
+        }
+        wanted.sort_unstable();
+        Ok(wanted)
+    }
+
+    /// Sets the number and the PageLSN of each page, whose slots hold what was fetched.
+    pub fn finish(self, pages: &mut [Page])
+        requires { length pages.old ≡ length self.tallies }
+        ensures count { length pages.new ≡ length pages.old }
+        // If all that is wanted up to the LSN of the scan was fetched, each page is finished.
+        ensures each { (whole : History) (rest : List Wanted) (images : List Page)
+            → HoldAllBut whole self.tallies rest images pages.old
+            → All (λ w. self.upto < w.lsn) rest
+            → (number : ℕ) (t : Tally) (image : Page) → number < length pages.old
+            → slice_index_or pages.new number image ≡ finished whole
+            (slice_index_or self.tallies number t) (slice_index_or images number image) }
+    {
+        let TallyScan {
+            tallies,
+            redo_lsn: _,
+            upto: _,
+        } = self;
+        set_page_lsns(&tallies, pages);
+    }
+}

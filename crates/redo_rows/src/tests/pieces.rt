@@ -1,0 +1,180 @@
+//! Redo of logs that go by in pieces: the rows of redo, cut behind each few records.
+
+use super::check;
+use analysis::analyse;
+use core_rows::ten_pages::{are_all_changed, ten_pages, ten_updates};
+use core_rows::written::{long_commit, one_loser, page_with, partial_rollback_commit};
+use page::{Fault, Page, Store, Value, decode_store};
+use redo::{Redone, TallyScan, fetch_from};
+use std::alloc::Global;
+use std::test::Fail;
+use wal::{Log, Record, based_header, read_log, write_frame};
+
+/// The first frame of these, and the others.
+fn split_frame(frames: &[u8]) -> Option<(&[u8], &[u8])> {
+    let high = frames.get(2)?;
+    let low = frames.get(3)?;
+    let bytes = 4 + 256 * *high as usize + *low as usize;
+    if bytes > frames.len() {
+        return None;
+    }
+    Some(frames.split_at(bytes))
+}
+
+/// The pieces of a log of version 1, each of so many records, which are behind a header of their own.
+fn cut(alloc: Global, log: &[u8], records: u64) -> Result<Vec<Vec<u8>>, Fault> {
+    let mut pieces = Vec::new(alloc);
+    let mut piece = Vec::from_slice(alloc, &based_header(0))?;
+    let mut frames = log.get(8..).unwrap_or(&[]);
+    for lsn in 1..100u64 {
+        let Some((frame, others)) = split_frame(frames) else {
+            break;
+        };
+        piece.extend_from_slice(frame)?;
+        if lsn.checked_rem(records) == Some(0) {
+            pieces.push(piece)?;
+            piece = Vec::from_slice(alloc, &based_header(lsn))?;
+        }
+        frames = others;
+    }
+    pieces.push(piece)?;
+    Ok(pieces)
+}
+
+/// Passes the next piece. A piece that is not behind the others is a bad one.
+fn pass(scan: &mut TallyScan, piece: &Log) -> Result<(), Fault> {
+    if scan.upto() != piece.base() {
+        return Err(Fault::BadLogHeader);
+    }
+    scan.pass(piece)
+}
+
+/// Fetches from a piece what is wanted behind the first `taken` images; how many these are then.
+fn fetch(
+    alloc: Global,
+    scan: &TallyScan,
+    piece: &Log,
+    taken: usize,
+    pages: &mut [Page],
+) -> Result<usize, Fault> {
+    let wanted = scan.wanted(alloc)?;
+    if scan.pages() != pages.len() || taken > wanted.len() {
+        return Err(Fault::BadParting);
+    }
+    Ok(taken + fetch_from(piece, &wanted[taken..], pages))
+}
+
+/// The pages with their PageLSNs.
+fn finished(scan: TallyScan, mut pages: Vec<Page>) -> Result<Vec<Page>, Fault> {
+    if scan.pages() != pages.len() {
+        return Err(Fault::BadParting);
+    }
+    scan.finish(&mut pages);
+    Ok(pages)
+}
+
+/// Redo of a log that goes by twice in pieces of so many records: once for the tallies, and once for
+/// the images.
+fn redone(alloc: Global, log: &[u8], store: Store, records: u64) -> Result<Redone, Fault> {
+    let (whole, _) = read_log(alloc, log)?;
+    let tables = analyse(alloc, &whole, store.master)?;
+    let pieces = cut(alloc, log, records)?;
+    let mut scan = TallyScan::begin(alloc, &store, &tables, 0)?;
+    for piece in &pieces {
+        let (piece, _) = read_log(alloc, piece)?;
+        pass(&mut scan, &piece)?;
+    }
+    let applied = scan.applied();
+    let mut pages = store.pages;
+    let mut taken = 0;
+    for piece in &pieces {
+        let (piece, _) = read_log(alloc, piece)?;
+        taken = fetch(alloc, &scan, &piece, taken, &mut pages)?;
+    }
+    let pages = finished(scan, pages)?;
+    Ok(Redone { pages, applied })
+}
+
+/// What is told of a page: how many records were applied, its PageLSN, the letter in slot 0.
+fn told(alloc: Global, log: &[u8], page: Page, records: u64) -> Result<(u64, u64, u8), Fault> {
+    let mut pages = Vec::new(alloc);
+    pages.push(Page { number: 0, ..page })?;
+    let answer = redone(alloc, log, Store { master: 0, pages }, records)?;
+    let Some(page) = answer.pages.first() else {
+        return Ok((answer.applied, 0, 0));
+    };
+    let letter = match page.slots[0] {
+        Some(value) => value.as_slice().first().copied().unwrap_or(0),
+        None => 0,
+    };
+    Ok((answer.applied, page.lsn, letter))
+}
+
+/// What redo in pieces of so many records makes of a page that has the first record.
+fn told_flushed(alloc: Global, log: &[u8], records: u64) -> Result<(u64, u64, u8), Fault> {
+    told(alloc, log, page_with(1, Some(b'a'), None), records)
+}
+
+/// Whether redo in pieces of so many records makes of a page what it is to be.
+fn is_page_redone(alloc: Global, records: u64) -> Result<bool, Fault> {
+    let rolled_back = partial_rollback_commit(alloc)?;
+    let long = long_commit(alloc, 5)?;
+    let loser = one_loser(alloc)?;
+    let first = told(alloc, &rolled_back.bytes, Page::empty(0), records)?;
+    let second = told(alloc, &long.bytes, Page::empty(0), records)?;
+    let third = told_flushed(alloc, &loser.given.bytes, records)?;
+    Ok(first == (3, 3, b'a') && second == (5, 5, b'a') && third == (0, 1, b'a'))
+}
+
+#[test]
+fn a_page_is_redone_in_pieces(rt: HostRuntime) -> Result<(), Fail> {
+    let alloc = rt.alloc();
+    for records in 1..8 {
+        check(is_page_redone(alloc, records)?, "a page")?;
+    }
+    Ok(())
+}
+
+/// Whether redo in pieces of so many records changes all of the ten pages.
+fn are_ten_redone(alloc: Global, records: u64) -> Result<bool, Fault> {
+    let store = decode_store(alloc, &ten_pages(alloc)?)?;
+    let answer = redone(alloc, &ten_updates(alloc)?, store, records)?;
+    Ok(answer.applied == 10 && are_all_changed(&answer.pages))
+}
+
+#[test]
+fn ten_pages_are_redone_in_pieces(rt: HostRuntime) -> Result<(), Fail> {
+    let alloc = rt.alloc();
+    for records in 1..13 {
+        check(are_ten_redone(alloc, records)?, "ten pages")?;
+    }
+    Ok(())
+}
+
+/// The log of updates on pages 0, 3, 1 and 5.
+fn updates_on_four_pages(alloc: Global) -> Result<Vec<u8>, Fault> {
+    let mut log = Vec::from_slice(alloc, b"ARIESLG1")?;
+    for (prev, page) in [(0, 0), (1, 3), (2, 1), (3, 5)] {
+        let logged = Record::Update {
+            tx: 1,
+            prev,
+            page,
+            slot: 0,
+            before: None,
+            after: Value::new(b"a"),
+        };
+        write_frame(&logged, prev + 1, &mut log)?;
+    }
+    Ok(log)
+}
+
+#[test]
+fn the_first_missing_page_is_named(rt: HostRuntime) -> Result<(), Fail> {
+    let alloc = rt.alloc();
+    let log = updates_on_four_pages(alloc)?;
+    for records in 1..6 {
+        let fault = told(alloc, &log, Page::empty(0), records).err();
+        check(fault == Some(Fault::NoSuchPage(2)), "page 3 of 1")?;
+    }
+    Ok(())
+}
