@@ -20,11 +20,11 @@ use redo::{Gate, Parting};
 use restart::{BriefOutcome, Options, restart_in_place};
 use std::alloc::Global;
 use std::thread::Threads;
-use undo::{Appended, frame_bytes_of, record_of};
+use undo::{Appended, Looked, Place, frame_bytes_of, record_of};
 use wal::{Log, write_frame};
 
 /// How many bytes the frames take of the records that are appended to a log; 2^64 - 1 if they take more.
-fn tail_bytes(log: &Log, appended: &[Appended]) -> u64
+fn tail_bytes(log: &Looked, appended: &[Appended]) -> u64
     requires told { HaveUpdates log.now appended.now }
     requires writable { AreFit log.now appended.now }
     ensures { (lsn : ℕ) → result
@@ -39,7 +39,7 @@ fn tail_bytes(log: &Log, appended: &[Appended]) -> u64
 
 /// The frames of the records that are appended to a log. Room for all of them is made at once, and one record
 /// at a time is made of what is told of it.
-fn frames_of(alloc: Global, log: &Log, appended: &[Appended]) -> Result<Vec<u8>, Fault>
+fn frames_of(alloc: Global, log: &Looked, appended: &[Appended]) -> Result<Vec<u8>, Fault>
     requires told { HaveUpdates log.now appended.now }
     requires writable { AreFit log.now appended.now }
     requires few { length appended.now ≤ 2 * length log.now.records + 2 ^ 32 }
@@ -59,7 +59,7 @@ fn frames_of(alloc: Global, log: &Log, appended: &[Appended]) -> Result<Vec<u8>,
 }
 
 /// The report of a restart, and the store that it leaves. What it appends is let go.
-fn report_of(log: &Log, torn: usize, outcome: BriefOutcome) -> (Report, Store)
+fn report_of(log: &Looked, torn: usize, outcome: BriefOutcome) -> (Report, Store)
     ensures report { result.0 ≡ report_of log.now torn (outcome_in (history log.now) outcome) }
     ensures store { result.1 ≡ outcome.store }
 {
@@ -102,7 +102,7 @@ pub struct Remade {
 /// `NoResource`.
 pub fn remade_of(
     alloc: Global,
-    records: &Log,
+    records: &Looked,
     torn: usize,
     outcome: BriefOutcome,
 ) -> Result<Remade, Fault>
@@ -169,5 +169,8 @@ pub fn remake<G: Gate, R: Threads + Sync>(
     let before = decoded?;
     let parting = Parting::by_number(alloc, before.pages.len() as u32, options.parts)?;
     let outcome = restart_in_place(rt, alloc, &records, before, &parting, options.workers, gate)?;
-    remade_of(alloc, &records, torn, outcome)
+    let looked = Looked {
+        place: Place::Log(&records),
+    };
+    remade_of(alloc, &looked, torn, outcome)
 }

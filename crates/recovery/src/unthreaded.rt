@@ -9,6 +9,7 @@ use crate::recovery::{Recovery, Remade, remade_of};
 use page::{Fault, decode_store, encode_store_into};
 use restart::restart_alone;
 use std::alloc::Global;
+use undo::{Looked, Place};
 use wal::read_log;
 
 /// Recovers a store by its log, both read, in the thread of the caller: no thread is started, and what
@@ -46,11 +47,14 @@ pub fn recovery_alone<'a>(
     let (records, torn) = read_log(alloc, log)?;
     let before = decode_store(alloc, &store)?;
     let outcome = restart_alone(alloc, &records, before)?;
+    let looked = Looked {
+        place: Place::Log(&records),
+    };
     let Remade {
         frames,
         store: made,
         report,
-    } = remade_of(alloc, &records, torn, outcome)?;
+    } = remade_of(alloc, &looked, torn, outcome)?;
     encode_store_into(&made, &mut store)?;
     let kept = log.len().saturating_sub(report.torn as usize);
     Ok(Recovery {

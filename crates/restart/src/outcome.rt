@@ -8,8 +8,8 @@ ghost use Rattle.restart.specs.Outcome.{outcome_of, outcome_in};
 
 use page::{Fault, Store};
 use std::alloc::Global;
-use undo::{Appended, records_of};
-use wal::{Log, Record};
+use undo::{Appended, Looked, records_of};
+use wal::Record;
 
 /// What a restart makes of a log and its store.
 #[derive(Drop)]
@@ -40,7 +40,7 @@ pub type BriefOutcome = Outcome<Appended>;
 
 /// The outcome that is told in brief. The only error is [`Fault::NoResource`], where memory was
 /// refused.
-pub fn outcome_of(alloc: Global, log: &Log, brief: BriefOutcome) -> Result<Outcome, Fault>
+pub fn outcome_of(alloc: Global, log: &Looked, brief: BriefOutcome) -> Result<Outcome, Fault>
     requires { HaveUpdates log.now brief.appended.items }
     ensures ok { IfOk result (λ x. outcome_of x ≡ outcome_in (history log.now) brief) }
     ensures err { IsOkUnless result NoResource }

@@ -21,7 +21,7 @@ use redo::{Gate, Parting, Redone, are_workers};
 use std::alloc::Global;
 use std::thread::Threads;
 use tables::Tables;
-use undo::{Appended, undo_in_brief};
+use undo::{Appended, Looked, Place, undo_in_brief};
 use wal::Log;
 
 /// Refuses a number of workers out of its range, then a parting of another number of pages.
@@ -74,7 +74,7 @@ fn count_kinds(appended: &[Appended]) -> (u64, u64)
 /// Rolls the losers back on the pages of a store that were redone, which ends the restart.
 pub fn roll_back(
     alloc: Global,
-    log: &Log,
+    log: &Looked,
     master: u64,
     tables: &Tables,
     redone: Redone,
@@ -147,7 +147,10 @@ pub fn restart_in_place<G: Gate, R: Threads + Sync>(
     check_lsns(log, &store.pages)?;
     let master = store.master;
     let (tables, redone) = go_forward(rt, alloc, log, store, parting, workers, gate)?;
-    roll_back(alloc, log, master, &tables, redone)
+    let looked = Looked {
+        place: Place::Log(log),
+    };
+    roll_back(alloc, &looked, master, &tables, redone)
 }
 
 /// Restarts on a log and its store after a crash (ARIES, section 6): analysis from the last
@@ -203,5 +206,8 @@ pub fn restart<G: Gate, R: Threads + Sync>(
         pages,
     };
     let brief = restart_in_place(rt, alloc, log, copy, parting, workers, gate)?;
-    outcome_of(alloc, log, brief)
+    let looked = Looked {
+        place: Place::Log(log),
+    };
+    outcome_of(alloc, &looked, brief)
 }

@@ -15,6 +15,7 @@ use crate::passes::{check_lsns, roll_back};
 use page::{Fault, Store};
 use redo::{OpenGate, Watch};
 use std::alloc::Global;
+use undo::{Looked, Place};
 use wal::Log;
 
 /// [`restart_in_place`](crate::restart_in_place) in the thread of the caller: no thread is started,
@@ -42,5 +43,8 @@ pub fn restart_alone(alloc: Global, log: &Log, store: Store) -> Result<BriefOutc
     let master = store.master;
     let nobody: Watch<OpenGate> = Watch::Nobody;
     let (tables, redone) = forward_alone(alloc, log, store, &nobody)?;
-    roll_back(alloc, log, master, &tables, redone)
+    let looked = Looked {
+        place: Place::Log(log),
+    };
+    roll_back(alloc, &looked, master, &tables, redone)
 }

@@ -1,5 +1,7 @@
 //! The rollbacks of undo, and restarts.
 
+mod gathered;
+mod pieces;
 mod restarts;
 mod rollbacks;
 

@@ -13,3 +13,7 @@ pub mod Beginning
 pub mod Told
 pub mod LawfulUndo
 pub mod OneCause
+pub mod Chains
+pub mod Sufficing
+pub mod Gathers
+pub mod FirstWants

@@ -1,7 +1,11 @@
 -- The losers of a table: some of its entries, in the order of the table.
-use Rattle.std.proofs.Common.{ℕ, suc, ◌≡◌, ◌≤◌, true, false, cond, List, [], ◌∷◌, ◌++◌, append-nil, Some, None, sym, ap, ◌∙◌, arith, eqb, inl, inr}
+use Rattle.std.proofs.Common.{ℕ, suc, Bor, map, ◌≡◌, ◌≤◌, true, false, cond, List, [], ◌∷◌, ◌++◌, append-nil, Some, None, sym, ap, ◌∙◌, arith, eqb, inl, inr}
 use Rattle.std.proofs.lemmas.Bool.{cases_Bool}
 use Rattle.std.proofs.lemmas.List.Elements.{filter-append}
+use Rattle.std.proofs.lemmas.List.{map_push}
+use Rattle.std.specs.Map.Iter.{deref_pair}
+use Rattle.wal.specs.declared.record.Entry.{Entry}
+use Rattle.wal.specs.Content.{entry_of}
 use Rattle.wal.specs.Records.{TableEntry}
 use Rattle.wal.specs.Undo.{entry_for, is_lost, lost_in}
 use Rattle.wal.proofs.Entries.{Rise}
@@ -60,3 +64,8 @@ lost_none t (x ∷ es) none =
             | inr j ↦ ap (λ c. entry_for t (cond c (x ∷ lost_in es) (lost_in es))) j ∙ rest
           ])
     ]
+
+-- the entries of the turns so far, and of one turn more
+pub one_more : (yielded : List (Bor ℕ × Bor Entry)) (tx : Bor ℕ) (entry : Bor Entry)
+    → map entry_of (map deref_pair (yielded ++ (tx, entry) ∷ [])) ≡ map entry_of (map deref_pair yielded) ++ entry_of (tx.now, entry.now) ∷ []
+one_more yielded tx entry = ap (map entry_of) (map_push deref_pair yielded (tx, entry)) ∙ map_push entry_of (map deref_pair yielded) (tx.now, entry.now)

@@ -20,7 +20,7 @@ use Rattle.undo.proofs.Effects.{Puts, Idle}
 map-same : {X : Type 0} (f g : ℕ → X) (xs : List ℕ) → f ≡ g → map f xs ≡ map g xs
 map-same f g xs e = ap (λ h. map h xs) e
 
-map-same-at : {A B : Type 0} (f g : A → B) (xs : List A) (d : A) → ((k : ℕ) → k < length xs → g (get_or xs k d) ≡ f (get_or xs k d)) → map f xs ≡ map g xs
+pub map-same-at : {A B : Type 0} (f g : A → B) (xs : List A) (d : A) → ((k : ℕ) → k < length xs → g (get_or xs k d) ≡ f (get_or xs k d)) → map f xs ≡ map g xs
 map-same-at f g [] d h = refl
 map-same-at f g (x ∷ xs) d h = ap₂ (λ y ys. y ∷ ys) (sym (h 0 (omega arith))) (map-same-at f g xs d (λ k lt. h (suc k) (omega arith)))
 

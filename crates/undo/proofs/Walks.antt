@@ -105,7 +105,7 @@ module _ (log : History) (t from lsn : ℕ) (some : lsn ≡ 0 → ⊥) (below : 
           by_sent None h = absurd (cc)
           by_sent (Some m) h = (let i : m ≡ next = cc in ap (hops t (first (lsn - 1) log)) i)
 
-  update_there : hop_of t (record_at log lsn) ≡ Some hop.Update → IsUpdateAt log t lsn
+  pub update_there : hop_of t (record_at log lsn) ≡ Some hop.Update → IsUpdateAt log t lsn
   update_there h = by_record (record_at log lsn) refl h
     where
       by_record : (o : Option LogRecord) → record_at log lsn ≡ o → hop_of t o ≡ Some hop.Update → IsUpdateAt log t lsn

@@ -2,3 +2,8 @@ pub mod Undone
 pub mod Appended
 pub mod Turns
 pub mod Rollback
+pub mod Gathered
+pub mod Looked
+pub mod Enough
+pub mod Gathering
+pub mod Wants

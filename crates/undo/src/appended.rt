@@ -7,9 +7,10 @@ ghost use Rattle.wal.specs.Content.{content, shown};
 ghost use Rattle.wal.specs.Spelling.{Fits, frame};
 ghost use Rattle.undo.specs.Appended.{HasUpdate, HaveUpdates, record_of, records_of};
 
+use crate::looked::Looked;
 use page::Fault;
 use std::alloc::Global;
-use wal::{Log, Record, RecordView, value_of};
+use wal::{Record, RecordView, value_of};
 
 /// A record that undo appends, told in brief: what else a CLR holds stands in the log, in the update
 /// that it compensates. It takes 24 bytes, of which there may be many; a [`Record`] has more.
@@ -24,7 +25,7 @@ pub enum Appended {
 
 /// How many bytes the frame takes of the record that is told.
 #[inline]
-pub fn frame_bytes_of(log: &Log, appended: Appended) -> u64
+pub fn frame_bytes_of(log: &Looked, appended: Appended) -> u64
     requires told { HasUpdate log.now appended }
     requires writable { Fits (record_of (history log.now) appended) }
     ensures { (lsn : ℕ) → result ≡ length (frame (record_of (history log.now) appended) lsn) }
@@ -59,7 +60,7 @@ pub fn frame_bytes_of(log: &Log, appended: Appended) -> u64
 }
 
 /// The record that is told, with what it holds.
-pub fn record_of(log: &Log, appended: Appended) -> Record
+pub fn record_of(log: &Looked, appended: Appended) -> Record
     requires { HasUpdate log.now appended }
     ensures { content result ≡ record_of (history log.now) appended }
 {
@@ -93,7 +94,7 @@ pub fn record_of(log: &Log, appended: Appended) -> Record
 
 /// The records that are told, with what they hold. The only error is [`Fault::NoResource`], where
 /// memory was refused.
-pub fn records_of(alloc: Global, log: &Log, appended: &[Appended]) -> Result<Vec<Record>, Fault>
+pub fn records_of(alloc: Global, log: &Looked, appended: &[Appended]) -> Result<Vec<Record>, Fault>
     requires { HaveUpdates log.now appended.now }
     ensures ok { IfOk result (λ x. map content x.items
         ≡ records_of (history log.now) appended.now) }

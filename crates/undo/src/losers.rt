@@ -9,12 +9,13 @@ ghost use Rattle.undo.specs.Undone.{UndoFault};
 ghost use Rattle.undo.specs.Rollback.{walk_from, WalkFault, loser_at, AreUpdates, AreOthers, Resolves, BeginsRollback};
 
 use crate::Appended;
+use crate::looked::Looked;
 use crate::turns::Turns;
 use crate::walk::next_update;
 use page::Fault;
 use std::alloc::Global;
 use tables::Tables;
-use wal::{Entry, Log, State};
+use wal::{Entry, State};
 
 /// A transaction that is rolled back.
 #[derive(Clone, Copy, Debug, PartialEq, Eq, PartialOrd, Ord)]
@@ -35,7 +36,7 @@ pub struct Rollback {
 }
 
 /// Whether the transaction of an entry is rolled back: not where it is in doubt.
-fn is_lost(entry: Entry) -> bool
+pub fn is_lost(entry: Entry) -> bool
     ensures { (tx : ℕ) → result ≡ is_lost (entry_of (tx, entry)) }
 {
     match entry.state {
@@ -47,7 +48,7 @@ fn is_lost(entry: Entry) -> bool
 
 impl Rollback {
     /// Resolves the losers of the tables, in rising number, each from its UndoNxtLSN.
-    pub fn of_losers(alloc: Global, log: &Log, tables: &Tables) -> Result<Rollback, Fault>
+    pub fn of_losers(alloc: Global, log: &Looked, tables: &Tables) -> Result<Rollback, Fault>
         ensures ok { IfOk result (BeginsRollback log.now tables.now) }
         ensures few { IfOk result (λ r. length r.appended.items ≤ length (losers_in tables.now)) }
         ensures numbers { OnOk result (length (losers_in tables.now) ≤ 2 ^ 32) }
@@ -74,7 +75,7 @@ impl Rollback {
     /// Resolves a loser that the record at the LSN `from` sends to `lsn`: it waits at the update
     /// that it undoes next; where nothing is left, its end is appended. Its transaction
     /// does not wait yet.
-    pub fn resolve(&mut self, log: &Log, loser: Loser, from: u64, lsn: u64) -> Result<(), Fault>
+    pub fn resolve(&mut self, log: &Looked, loser: Loser, from: u64, lsn: u64) -> Result<(), Fault>
         requires positive { 0 < from }
         requires within { from ≤ last_lsn (history log.now) + 1 }
         requires updates { AreUpdates log.now self.old }

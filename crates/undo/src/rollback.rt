@@ -12,6 +12,7 @@ ghost use Rattle.undo.specs.Appended.{IsUpdate, HaveUpdates, AreFit, TellTail, R
 ghost use Rattle.undo.specs.Rollback.{loser_at, IsUpdateAt, Undoes, KeepsUndone, CompensationFault, AreBelow, AreOthers, WaitOnce, AreUpdates, UndoesNewest, UndoesAll, StopsUndo, StopsRollback};
 
 use crate::appended::{Appended, records_of};
+use crate::looked::{Looked, Place};
 use crate::losers::{Loser, Rollback};
 use page::{Fault, Page};
 use std::alloc::Global;
@@ -22,7 +23,7 @@ use wal::{Log, Record, RecordView, value_of};
 /// back into the page. `last` is the LSN of its transaction's last record. Gives the update's
 /// PrevLSN.
 fn compensate(
-    log: &Log,
+    log: &Looked,
     update_lsn: u64,
     last: u64,
     lsn: u64,
@@ -71,7 +72,7 @@ impl Rollback {
     /// Undoes the newest update, at which this loser waited, and resolves the loser again.
     fn undo_at(
         &mut self,
-        log: &Log,
+        log: &Looked,
         update_lsn: u64,
         loser: Loser,
         pages: &mut [Page],
@@ -100,7 +101,7 @@ impl Rollback {
     }
 
     /// Undoes all that is left, the newest update first.
-    fn undo_all(&mut self, log: &Log, pages: &mut [Page]) -> Result<(), Fault>
+    fn undo_all(&mut self, log: &Looked, pages: &mut [Page]) -> Result<(), Fault>
         requires updates { AreUpdates log.now self.old }
         requires once { WaitOnce (loser_at self.old) }
         requires room { vec_len self.old.appended ≤ 2 ^ 32 }
@@ -120,7 +121,7 @@ impl Rollback {
 /// they hold stands in the log.
 pub fn undo_in_brief(
     alloc: Global,
-    log: &Log,
+    log: &Looked,
     tables: &Tables,
     mut pages: Vec<Page>,
 ) -> Result<(Vec<Page>, Vec<Appended>), Fault>
@@ -147,6 +148,38 @@ pub fn undo_in_brief(
     let mut rollback = Rollback::of_losers(alloc, log, tables)?;
     rollback.undo_all(log, &mut pages)?;
     Ok((pages, rollback.appended))
+}
+
+/// [`undo`] of a log that is looked at.
+fn undo_looked(
+    alloc: Global,
+    log: &Looked,
+    tables: &Tables,
+    pages: Vec<Page>,
+) -> Result<(Vec<Page>, Vec<Record>), Fault>
+    requires { AreNumbered pages.items }
+    // The losers are rolled back on the pages; each appended record has a spelling, where no loser has the number 0.
+    ensures rolled_back { IfOk result
+        (λ x. RolledBack log.now tables.now pages.items x.0.items (map content x.1.items)) }
+    ensures writable { IfOk result (λ x. HasNoTransaction0 tables.now → AreWritable x.1.items) }
+
+    // For each record of the log at most two are appended, and for each loser one; losers have numbers of 32 bits.
+    ensures few { IfOk result (λ x. length x.1.items ≤ 2 * length log.now.records + length
+        (losers_in tables.now)) }
+    ensures numbers { OnOk result (length (losers_in tables.now) ≤ 2 ^ 32) }
+
+    // A refusal has its cause: a bad hop or a missing page, whichever comes first, memory aside.
+    ensures fault { IfErr result (UndoFault (history log.now) (losers_in tables.now)
+        (length pages.items)) }
+
+    // On a lawful log and its store, with true tables: the log's tail, unless memory runs out.
+    ensures tail { IsLawfulCrash log.now tables.now pages.items
+        → IfOk result (λ x. map content x.1.items ≡ tail_of log.now) }
+    ensures lawful { IsLawfulCrash log.now tables.now pages.items → IsOkUnless result NoResource }
+{
+    let (pages, appended) = undo_in_brief(alloc, log, tables, pages)?;
+    let records = records_of(alloc, log, &appended)?;
+    Ok((pages, records))
 }
 
 /// Undoes the losers, which are the entries of the transaction table (ARIES, section 6.3). Gives
@@ -195,7 +228,8 @@ pub fn undo(
         → IfOk result (λ x. map content x.1.items ≡ tail_of log.now) }
     ensures lawful { IsLawfulCrash log.now tables.now pages.items → IsOkUnless result NoResource }
 {
-    let (pages, appended) = undo_in_brief(alloc, log, tables, pages)?;
-    let records = records_of(alloc, log, &appended)?;
-    Ok((pages, records))
+    let looked = Looked {
+        place: Place::Log(log),
+    };
+    undo_looked(alloc, &looked, tables, pages)
 }

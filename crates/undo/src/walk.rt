@@ -4,8 +4,9 @@ ghost use Rattle.std.specs.Prelude.{◌≡◌, ◌≤◌, ◌<◌, ◌+◌, leng
 ghost use Rattle.wal.specs.Records.{history, record_at, last_lsn};
 ghost use Rattle.undo.specs.Rollback.{hop_of, walk_from, FirstMet, WalkFault};
 
+use crate::looked::Looked;
 use page::Fault;
-use wal::{Log, RecordView};
+use wal::RecordView;
 
 /// What a record tells the walk that was sent to it.
 #[derive(Clone, Copy, Debug, PartialEq, Eq)]
@@ -18,7 +19,7 @@ pub enum Hop {
 
 /// What the record at an LSN tells the walk of a transaction; None where it is no update or CLR of
 /// it, and at 0 and past the log's end.
-fn hop_at(log: &Log, tx: u32, lsn: u64) -> Option<Hop>
+fn hop_at(log: &Looked, tx: u32, lsn: u64) -> Option<Hop>
     ensures { result ≡ hop_of tx (record_at (history log.now) lsn) }
 {
     match log.get(lsn)? {
@@ -42,7 +43,7 @@ fn hop_at(log: &Log, tx: u32, lsn: u64) -> Option<Hop>
 ///
 /// BrokenChain(n) where it is sent to an LSN n, not 0, at which no update or CLR of the transaction
 /// stands below the record that sends it.
-pub fn next_update(log: &Log, tx: u32, from: u64, lsn: u64) -> Result<Option<u64>, Fault>
+pub fn next_update(log: &Looked, tx: u32, from: u64, lsn: u64) -> Result<Option<u64>, Fault>
     requires positive { 0 < from }
     requires within { from ≤ last_lsn (history log.now) + 1 }
     ensures found { IfOk result (FirstMet (history log.now) tx from lsn) }

@@ -15,7 +15,7 @@ use std::test::Fail;
 use undo::undo;
 use wal::{Record, read_log};
 
-fn alone(alloc: Global, page: Page) -> Result<Vec<Page>, Fault>
+pub fn alone(alloc: Global, page: Page) -> Result<Vec<Page>, Fault>
     ensures { IfOk result (λ pages. AreNumbered pages.items) }
 {
     let mut pages = Vec::new(alloc);

@@ -1,4 +1,4 @@
-use Rattle.std.proofs.Common.{rules, ◌≡◌, ◌<◌, ◌^◌, ◌++◌, ◌∷◌, [], length, Some, true, map, refl, sym, ap, ◌∙◌, subst, arith, false, List, ℕ, Bor}
+use Rattle.std.proofs.Common.{◌≡◌, ◌<◌, ◌^◌, ◌++◌, ◌∷◌, length, Some, true, map, refl, sym, ap, ◌∙◌, subst, arith, false, List, ℕ, Bor}
 use Rattle.std.specs.Prelude.{All, filter}
 use Rattle.std.proofs.lemmas.List.{map_push, map-append, length-map}
 use Rattle.std.proofs.lemmas.List.Elements.{All-push}
@@ -18,7 +18,7 @@ use Rattle.tables.specs.Tables.{losers_in}
 use Rattle.undo.specs.Appended.{record_of, records_of}
 use Rattle.undo.specs.Rollback.{loser_at}
 use Rattle.undo.proofs.Begun.{AreEnds, Begun, meets_nothing}
-use Rattle.undo.proofs.Lost.{one_lost, none_lost, lost_about, lost_rise, lost_found}
+use Rattle.undo.proofs.Lost.{one_more, one_lost, none_lost, lost_about, lost_rise, lost_found}
 use Rattle.undo.proofs.Beginning.{broken_start, begun_more, begun_others, begun_rolls, stands_earlier, are_ends, ends_name_no_page, some_tx}
 use Rattle.undo.proofs.UndonePages.{ends_undo_nothing}
 use Rattle.undo.proofs.Few.{ends_few, numbers_few}
@@ -28,11 +28,6 @@ use Rattle.undo.proofs.losers.Rollback.of_losers.Goals as goal
 own : (t : ℕ) (entry : Entry) (entries : List (ℕ × Entry)) (losers : List TableEntry) → lost_in (map entry_of entries) ≡ losers
     → lookup (λ k. is_eq (nat_cmp t k)) entries ≡ Some entry → is_lost (entry_of (t, entry)) ≡ true → entry_for t losers ≡ Some (entry_of (t, entry))
 own t entry entries losers same found lost = sym (ap (entry_for t) same) ∙ lost_found t (entry_of (t, entry)) (map entry_of entries) (entry_found t entry entries found) lost
-
--- the losers of the turns so far, and of one turn more
-one_more : (yielded : List (Bor ℕ × Bor Entry)) (tx : Bor ℕ) (entry : Bor Entry)
-    → map entry_of (map deref_pair (yielded ++ (tx, entry) ∷ [])) ≡ map entry_of (map deref_pair yielded) ++ entry_of (tx.now, entry.now) ∷ []
-one_more yielded tx entry = ap (map entry_of) (map_push deref_pair yielded (tx, entry)) ∙ map_push entry_of (map deref_pair yielded) (tx.now, entry.now)
 
 -- the losers of the table are those of the turns so far, that of this turn, and those to come
 about : (yielded : List (Bor ℕ × Bor Entry)) (e : TableEntry) (this : ℕ × Entry) (next entries : List (ℕ × Entry)) (losers : List TableEntry) → entry_of this ≡ e → entries ≡ map deref_pair yielded ++ this ∷ next

@@ -5,7 +5,7 @@ use Rattle.wal.specs.Records.{LogRecord, history}
 use Rattle.undo.specs.Appended.{records_of}
 use Rattle.undo.specs.Undone.{RolledBack}
 use Rattle.undo.proofs.Told.{told_writable}
-use Rattle.undo.proofs.rollback.undo.Goals as goal
+use Rattle.undo.proofs.rollback.undo_looked.Goals as goal
 
 pub returns-in_err-pages-clause-lawful : goal.returns-in_err-pages-clause-lawful
 returns-in_err-pages-clause-lawful c = λ crash.

@@ -1,0 +1,13 @@
+-- Where transactions go on that are rolled back (own).
+use Rattle.std.specs.Prelude.{ℕ, ◌≤◌, All, List}
+use Rattle.std.specs.BinaryHeap.{heap_items}
+use Rattle.undo.specs.declared.want.Want.{Want}
+use Rattle.undo.specs.declared.want.Wants.{Wants}
+
+-- all of them, in some order
+abbrev pub wants_in : Wants → List Want
+wants_in wants = heap_items wants.heap
+
+-- none goes on behind this LSN
+abbrev pub AreUpTo : (lsn : ℕ) → List Want → Type 0
+AreUpTo lsn wants = All (λ want. want.lsn ≤ lsn) wants

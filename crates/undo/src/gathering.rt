@@ -1,0 +1,155 @@
+//! The records that undo looks at, gathered while a log goes by in pieces, from its end to its
+//! beginning.
+
+ghost use Rattle.std.specs.Prelude.{◌≡◌, ◌≢◌, ◌+◌, ◌*◌, ◌<◌, ◌≤◌, ◌^◌, ◌∷◌, [], ℕ, List, Some, IfNone, IfOk, IfSome, IsPermutation, OnOk, IsOkUnless};
+ghost use Rattle.page.specs.declared.fault.Fault.TheVariants.{NoResource};
+ghost use Rattle.wal.specs.Content.{shown};
+ghost use Rattle.wal.specs.Records.{History, TableEntry, history, base_lsn, last_lsn, record_at};
+ghost use Rattle.wal.specs.Spelling.{Fits};
+ghost use Rattle.wal.specs.declared.sizes.TheConstants.{HEADER_BYTES, LARGEST_BASE, SMALLEST_FRAME};
+ghost use Rattle.tables.specs.Pieces.{IsPieceOf};
+ghost use Rattle.tables.specs.Tables.{losers_in};
+ghost use Rattle.undo.specs.Enough.{AreGathered, sends};
+ghost use Rattle.undo.specs.Wants.{AreUpTo, wants_in};
+ghost use Rattle.undo.specs.Gathering.{AreGatheredSoFar, IsGathering, MayWant};
+
+use crate::gathered::Gathered;
+use crate::losers::is_lost;
+use crate::want::{Want, Wants};
+use page::Fault;
+use std::alloc::Global;
+use tables::Tables;
+use wal::{Log, RecordView};
+
+/// What undo looks at of a log that goes by in pieces, from its end to its beginning: the records that
+/// are gathered, and where the transactions go on that are rolled back.
+#[derive(Drop)]
+pub struct Gathering {
+    pub gathered: Gathered,
+    pub wants: Wants,
+}
+
+/// Where a record sends the walk of a transaction on: an update of it to its PrevLSN, a CLR of it to its
+/// UndoNxtLSN. None if it is neither.
+fn next_of(view: &RecordView, tx: u32) -> Option<u64>
+    ensures { result ≡ sends tx (Some (shown view.now)) }
+{
+    match view {
+        RecordView::Update {
+            tx: owner,
+            prev,
+            ..
+        } => (*owner == tx).then_some(*prev),
+        RecordView::Compensation {
+            tx: owner,
+            undo_next,
+            ..
+        } => (*owner == tx).then_some(*undo_next),
+        RecordView::Commit { .. }
+        | RecordView::Abort { .. }
+        | RecordView::End { .. }
+        | RecordView::Prepare { .. }
+        | RecordView::CheckpointBegin
+        | RecordView::CheckpointEnd { .. } => None,
+    }
+}
+
+impl Gathering {
+    /// Nothing is gathered yet of a log that begins after the LSN `base` and has `count` records: the
+    /// losers of its tables go on at their UndoNxtLSNs.
+    ///
+    /// The only error is `NoResource`, if memory was refused.
+    pub fn begin(alloc: Global, base: u64, count: u64, tables: &Tables) -> Result<Gathering, Fault>
+        requires low { base ≤ LARGEST_BASE }
+        requires room { HEADER_BYTES + SMALLEST_FRAME * count < 2 ^ 63 }
+        ensures begun { IfOk result (λ gathering. (whole : History) → base_lsn whole ≡ base
+            → last_lsn whole ≡ base + count → IsGathering whole (losers_in tables.now) gathering) }
+        ensures before { IfOk result (λ gathering. AreUpTo (base + count)
+            (wants_in gathering.wants)) }
+        ensures err { IsOkUnless result NoResource }
+    {
+        let mut gathering = Gathering {
+            gathered: Gathered::none(alloc, base, count),
+            wants: Wants::new(alloc),
+        };
+        let end = gathering.gathered.next_lsn();
+        for (tx, entry) in &tables.transactions {
+            if is_lost(*entry) {
+                gathering.go_on(*tx, end, entry.undo_next)?;
+            }
+        }
+        Ok(gathering)
+    }
+
+    /// What is gathered after the whole log went by: enough to roll the losers back.
+    pub fn finish(self) -> Gathered
+        ensures { (whole : History) (losers : List TableEntry) → IsGathering whole losers self
+            → AreUpTo (base_lsn whole) (wants_in self.wants)
+            → AreGathered whole (history result) losers }
+    {
+        self.gathered
+    }
+
+    /// A transaction goes on at an LSN, if that is below the record that sends it there.
+    fn go_on(&mut self, tx: u32, from: u64, lsn: u64) -> Result<(), Fault>
+        ensures same { self.new.gathered ≡ self.old.gathered }
+        ensures wants { OnOk result (MayWant tx from lsn (wants_in self.old.wants)
+            (wants_in self.new.wants)) }
+        ensures below { OnOk result ((n : ℕ) → from ≤ n + 1 → AreUpTo n (wants_in self.old.wants)
+            → AreUpTo n (wants_in self.new.wants)) }
+        ensures err { IsOkUnless result NoResource }
+    {
+        if lsn < from && lsn != 0 {
+            self.wants.put(Want { lsn, tx })?;
+        }
+        Ok(())
+    }
+
+    /// Keeps the record where a transaction goes on, if it is an update or a CLR of it, and lets the
+    /// transaction go on from there. The only error is `NoResource`.
+    fn gather_at(&mut self, alloc: Global, piece: &Log, want: Want) -> Result<(), Fault>
+        ensures gathered { OnOk result ((whole : History) (losers : List TableEntry)
+            → record_at (history piece.now) want.lsn ≡ record_at whole want.lsn
+            → AreGatheredSoFar whole (history self.old.gathered) losers
+            (want ∷ wants_in self.old.wants) → IsGathering whole losers self.new) }
+        ensures below { OnOk result ((n : ℕ) → want.lsn ≤ n → AreUpTo n (wants_in self.old.wants)
+            → AreUpTo n (wants_in self.new.wants)) }
+        ensures err { IsOkUnless result NoResource }
+    {
+        let Some(view) = piece.get(want.lsn) else {
+            return Ok(());
+        };
+        let Some(next) = next_of(&view, want.tx) else {
+            return Ok(());
+        };
+        if !self.gathered.has(want.lsn) {
+            return Ok(());
+        }
+        let link = view.to_record(alloc)?;
+        self.gathered.keep(want.lsn, link)?;
+        self.go_on(want.tx, want.lsn, next)
+    }
+
+    /// Gathers what is looked at in a piece: after it all transactions go on before the piece.
+    ///
+    /// The only error is `NoResource`, if memory was refused. What is gathered is then good for nothing.
+    pub fn take(&mut self, alloc: Global, piece: &Log) -> Result<(), Fault>
+        ensures gathered { OnOk result ((whole : History) (losers : List TableEntry)
+            → IsPieceOf whole (history piece.now)
+            → AreUpTo (last_lsn (history piece.now)) (wants_in self.old.wants)
+            → IsGathering whole losers self.old → IsGathering whole losers self.new) }
+        ensures before { OnOk result (AreUpTo (base_lsn (history piece.now))
+            (wants_in self.new.wants)) }
+        ensures err { IsOkUnless result NoResource }
+    {
+        let base = piece.base();
+        for _ in 0..u64::MAX {
+            let Some(want) = self.wants.take_above(base) else {
+                return Ok(());
+            };
+            self.gather_at(alloc, piece, want)?;
+        }
+        // No log has so many records.
+        Err(Fault::NoResource)
+    }
+}

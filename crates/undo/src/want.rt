@@ -1,0 +1,61 @@
+//! Where transactions go on that are rolled back.
+
+ghost use Rattle.std.specs.Prelude.{◌≡◌, ◌∷◌, ◌<◌, [], IfNone, IfSome, IsPermutation, OnOk};
+ghost use Rattle.std.specs.BinaryHeap.{IsHeap, heap_items};
+ghost use Rattle.std.proofs.Props.{props};
+
+use std::alloc::{AllocError, Global};
+use std::collections::BinaryHeap;
+
+/// An LSN to which a transaction is sent. Wants are compared by their fields in the order in which these
+/// stand here: the LSN decides.
+#[derive(Clone, Copy, Debug, PartialEq, Eq, PartialOrd, Ord)]
+pub struct Want {
+    /// The LSN of the record that is looked at next.
+    pub lsn: u64,
+    /// The transaction.
+    pub tx: u32,
+}
+
+/// Where all transactions go on that are rolled back.
+#[derive(Drop)]
+pub struct Wants {
+    /// The highest LSN comes first.
+    heap: BinaryHeap<Want>,
+    ghost in_order: { IsHeap ⟦<Want as Ord>⟧.cmp (heap_items heap) } by { Prim.hlevel props },
+}
+
+impl Wants {
+    ghost use Rattle.undo.specs.Wants.{wants_in, AreUpTo};
+
+    /// No transaction goes on.
+    pub fn new(alloc: Global) -> Wants
+        ensures { wants_in result ≡ [] }
+    {
+        Wants {
+            heap: BinaryHeap::new(alloc),
+        }
+    }
+
+    /// One more goes on.
+    pub fn put(&mut self, want: Want) -> Result<(), AllocError>
+        ensures { OnOk result (IsPermutation (want ∷ wants_in self.old) (wants_in self.new)) }
+    {
+        self.heap.push(want)?;
+        Ok(())
+    }
+
+    /// Takes one that goes on above this LSN; None if all go on at it or below.
+    pub fn take_above(&mut self, lsn: u64) -> Option<Want>
+        ensures above { IfSome result (λ want. lsn < want.lsn) }
+        ensures taken { IfSome result
+            (λ want. IsPermutation (wants_in self.old) (want ∷ wants_in self.new)) }
+        ensures none { IfNone result (AreUpTo lsn (wants_in self.new)) }
+        ensures same { IfNone result (wants_in self.new ≡ wants_in self.old) }
+    {
+        if self.heap.peek()?.lsn <= lsn {
+            return None;
+        }
+        self.heap.pop()
+    }
+}
