@@ -9,11 +9,13 @@ use Rattle.tables.specs.Tables.{TablesContent}
 use Rattle.wal.specs.declared.header.LogStart.TheVariants.{Version2}
 use Rattle.wal.specs.Records.{LogRecord, LogContent, start, history, record_at, last_lsn, base_lsn}
 use Rattle.wal.specs.Redo.{is_redone}
-use Rattle.wal.proofs.Histories.{base_within, first_at_base}
+use Rattle.wal.proofs.Histories.{base_within, first_at_base, record_above, record_within}
 use Rattle.redo.specs.declared.tally.Tally.{Tally}
 use Rattle.redo.specs.Inputs.{InputContent, input_over}
 use Rattle.redo.specs.Changes.{NamesBelow, advance, counted}
 use Rattle.redo.specs.Routes.{skipped, skipped_in, ExistWithin}
+use Rattle.tables.specs.Pieces.{IsPieceOf}
+use Rattle.redo.specs.Redone.{ExistBelow, AllExist, IsFirstMissing}
 use Rattle.redo.specs.Parts.{redo_page_in, image_at, resolved}
 use Rattle.redo.specs.OnePass.{AreUpTo}
 use Rattle.redo.specs.Passing.{TalliesSoFar, StandAtNumbers, LastsAreWithin, AreKept, AreBegunIn, IsPieceFor}
@@ -164,3 +166,31 @@ passed_more old piece lsn r lent new from lt there kept count below each before 
       subst (λ y. resolved input (get_or new k t) ≡ advance input.redo_lsn (lsn + 1) y (resolved input (get_or lent k t))) same (each input k t own.from whole less));
   exist = exist_on piece (length old.tallies) (skipped_at old piece) lsn r there (subst (λ n. NamesBelow n r) before.count below) before.exist;
 }
+
+-- A PIECE AND THE WHOLE LOG
+-- where all exist in front of a piece and in it, all do up to its last
+pub exist_gone : (whole piece : LogContent) (count redo_lsn : ℕ) → IsPieceOf (history whole) (history piece) → ExistBelow whole count redo_lsn (base_lsn (history piece) + 1) → AllExist piece count redo_lsn
+    → ExistBelow whole count redo_lsn (last_lsn (history piece) + 1)
+exist_gone whole piece count redo_lsn own before exist lsn r looked below found =
+    elim (cases_lt (base_lsn (history piece)) lsn) [
+      | inl above ↦ exist lsn r looked (own.each lsn above (omega (arith, below)) ∙ found)
+      | inr front ↦ before lsn r looked (omega (arith, front)) found
+    ]
+
+-- and the first that is missing in the piece is the first of the whole log
+pub missing_gone : (whole piece : LogContent) (count redo_lsn lsn : ℕ) → IsPieceOf (history whole) (history piece) → ExistBelow whole count redo_lsn (base_lsn (history piece) + 1) → IsFirstMissing piece count redo_lsn lsn
+    → IsFirstMissing whole count redo_lsn lsn
+missing_gone whole piece count redo_lsn lsn own before m =
+    let above = record_above (history piece) lsn m.entry m.there in
+    let within = record_within (history piece) lsn m.entry m.there in
+    record {
+      entry = m.entry;
+      looked_at = m.looked_at;
+      there = sym (own.each lsn above within) ∙ m.there;
+      beyond = m.beyond;
+      before = λ k r looked less found.
+          elim (cases_lt (base_lsn (history piece)) k) [
+            | inl over ↦ m.before k r looked less (own.each k over (omega (arith, less, within)) ∙ found)
+            | inr front ↦ before k r looked (omega (arith, front)) found
+          ];
+    }

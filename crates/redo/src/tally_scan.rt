@@ -97,8 +97,10 @@ impl TallyScan {
         ensures upto { self.new.upto ≡ last_lsn (history piece.now) }
     {
         let redo_lsn = self.redo_lsn;
-        self.upto = piece.last();
-        for lsn in skipped_below(piece, redo_lsn)..piece.last() {
+        let from = skipped_below(piece, redo_lsn);
+        let last = piece.last();
+        self.upto = last;
+        for lsn in from..last {
             let glance = piece.glance_after(lsn);
             count_seen(&mut self.tallies, redo_lsn, lsn + 1, glance)?;
         }

@@ -18,12 +18,12 @@ loop-lsn-init c =
     let piece = c.args.piece.now in
     let begun = subst (λ (s : TalliesSoFar). AreKept s.upto s.tallies) c.self.view_is c.self.invariant in
     let redo_lsn : c.self.inside.redo_lsn ≡ old.redo_lsn = ap (λ (s : TalliesSoFar). s.redo_lsn) c.self.view_is in
-    let from : c.skipped_below-lsn.result ≡ skipped_at old piece = c.skipped_below-lsn.ensures ∙ ap (λ n. skipped (base_lsn (history piece)) n (last_lsn (history piece))) redo_lsn in (
-      subst (HasPassed old piece c.skipped_below-lsn.result) (sym (ap (λ (s : TalliesSoFar). s.tallies) c.self.view_is))
+    let from : c.skipped_below-from.result ≡ skipped_at old piece = c.skipped_below-from.ensures ∙ ap (λ n. skipped (base_lsn (history piece)) n (last_lsn (history piece))) redo_lsn in (
+      subst (HasPassed old piece c.skipped_below-from.result) (sym (ap (λ (s : TalliesSoFar). s.tallies) c.self.view_is))
           (subst (λ n. HasPassed old piece n old.tallies) (sym from) (passed_over old piece begun c.requires)),
       redo_lsn,
       redo_lsn,
-      c.last-self-inside.ensures,
+      c.last-last.ensures,
     )
 
 pub loop-lsn-preserved : goal.loop-lsn-preserved
@@ -37,8 +37,8 @@ loop-lsn-preserved c =
     let glance = c.glance_after-glance.ensures in
     let seen = c.in_ok-count_seen.ensures in
     let before : HasPassed old piece lsn lent = subst (HasPassed old piece lsn) (sym c.deref_mut.ensures.value) c.loop-lsn.invariant.0 in
-    let from : base_lsn (history piece) ≤ lsn = omega (arith, c.skipped_below-lsn.ensures, c.loop-lsn.auto.lsn, skipped_from (base_lsn (history piece)) c.self.inside.redo_lsn (last_lsn (history piece)) (base_within (history piece))) in
-    let lt : lsn < last_lsn (history piece) = omega (arith, c.loop-lsn-test.true, c.last-lsn-end.ensures) in
+    let from : base_lsn (history piece) ≤ lsn = omega (arith, c.skipped_below-from.ensures, c.loop-lsn.auto.lsn, skipped_from (base_lsn (history piece)) c.self.inside.redo_lsn (last_lsn (history piece)) (base_within (history piece))) in
+    let lt : lsn < last_lsn (history piece) = omega (arith, c.loop-lsn-test.true, c.last-last.ensures) in
     let count : length new ≡ items.len = omega (arith, seen.count, ap (λ (ts : List Tally). length ts) c.deref_mut.ensures.value, items.ok.0) in (
       subst (HasPassed old piece (lsn + 1)) (sym (written_back items.len items.items new count))
           (passed_more old piece lsn glance.entry lent new from lt glance.there (record { numbered = seen.numbered; few = seen.few; lasts = seen.lasts (kept_on lsn (lsn + 1) lent (omega arith) before.kept).lasts }) seen.count (seen.exists glance.entry glance.seen_of)
@@ -52,7 +52,7 @@ pub invariant_of-self : goal.invariant_of-self
 invariant_of-self c =
     let piece = c.args.piece.now in
     let passed = c.loop-lsn.invariant.0 in
-    let within : c.loop-lsn.lsn ≤ last_lsn (history piece) = omega (arith, c.loop-lsn.auto.lsn-end, c.last-lsn-end.ensures, c.skipped_below-lsn.ensures, skipped_within (base_lsn (history piece)) c.self.inside.redo_lsn (last_lsn (history piece)) (base_within (history piece))) in
+    let within : c.loop-lsn.lsn ≤ last_lsn (history piece) = omega (arith, c.loop-lsn.auto.lsn-end, c.last-last.ensures, c.skipped_below-from.ensures, skipped_within (base_lsn (history piece)) c.self.inside.redo_lsn (last_lsn (history piece)) (base_within (history piece))) in
     kept_on c.loop-lsn.lsn c.loop-lsn.self-inside.upto c.loop-lsn.self-inside.tallies.items (omega (arith, c.loop-lsn.invariant.3, within)) passed.kept
 
 pub returns-in_err-count_seen-clause-fault : goal.returns-in_err-count_seen-clause-fault
@@ -68,7 +68,7 @@ returns-in_err-count_seen-clause-fault c =
     let count : length c.deref_mut.result.now ≡ length old.tallies = ap (λ (ts : List Tally). length ts) c.deref_mut.ensures.value ∙ passed.count in
     let cause = subst (λ n. NoteFault n (lsn + 1) glance.entry fault) count (c.in_err-count_seen.ensures.fault glance.entry glance.seen_of) in
     let named = subst (NoteFault (length old.tallies) (lsn + 1) glance.entry) only cause in
-    let past : skipped_at old piece ≤ lsn = omega (arith, c.loop-lsn.auto.lsn, c.skipped_below-lsn.ensures, ap (λ n. skipped (base_lsn (history piece)) n (last_lsn (history piece))) c.loop-lsn.invariant.1) in
+    let past : skipped_at old piece ≤ lsn = omega (arith, c.loop-lsn.auto.lsn, c.skipped_below-from.ensures, ap (λ n. skipped (base_lsn (history piece)) n (last_lsn (history piece))) c.loop-lsn.invariant.1) in
     rw (exit.1, exit.2)
     (subst (PassFault piece (length old.tallies) old.redo_lsn) (sym only)
     (first_missing piece (length old.tallies) old.redo_lsn (lsn + 1)
@@ -77,12 +77,12 @@ returns-in_err-count_seen-clause-fault c =
 pub returns-clause-goes_on : goal.returns-clause-goes_on
 returns-clause-goes_on c = λ input own up.
     let piece = c.args.piece.now in
-    let end : c.loop-lsn.lsn ≡ last_lsn (history piece) = omega (arith, c.loop-lsn-test.false, c.loop-lsn.auto.lsn-end, c.last-lsn-end.ensures, c.skipped_below-lsn.ensures, skipped_within (base_lsn (history piece)) c.self.inside.redo_lsn (last_lsn (history piece)) (base_within (history piece))) in
+    let end : c.loop-lsn.lsn ≡ last_lsn (history piece) = omega (arith, c.loop-lsn-test.false, c.loop-lsn.auto.lsn-end, c.last-last.ensures, c.skipped_below-from.ensures, skipped_within (base_lsn (history piece)) c.self.inside.redo_lsn (last_lsn (history piece)) (base_within (history piece))) in
     subst (λ n. AreUpTo input n c.loop-lsn.self-inside.tallies.items) end (c.loop-lsn.invariant.0.goes_on input own up)
 
 pub returns-clause-exist : goal.returns-clause-exist
 returns-clause-exist c =
     let old = c.args.self.now in
     let piece = c.args.piece.now in
-    let end : c.loop-lsn.lsn ≡ last_lsn (history piece) = omega (arith, c.loop-lsn-test.false, c.loop-lsn.auto.lsn-end, c.last-lsn-end.ensures, c.skipped_below-lsn.ensures, skipped_within (base_lsn (history piece)) c.self.inside.redo_lsn (last_lsn (history piece)) (base_within (history piece))) in
+    let end : c.loop-lsn.lsn ≡ last_lsn (history piece) = omega (arith, c.loop-lsn-test.false, c.loop-lsn.auto.lsn-end, c.last-last.ensures, c.skipped_below-from.ensures, skipped_within (base_lsn (history piece)) c.self.inside.redo_lsn (last_lsn (history piece)) (base_within (history piece))) in
     exist_from piece (length old.tallies) old.redo_lsn (subst (ExistWithin piece (length old.tallies) (skipped_at old piece)) end c.loop-lsn.invariant.0.exist)
