@@ -12,26 +12,37 @@ use core_rows::written::{
 use page::{Fault, Page, encode_page};
 use std::alloc::Global;
 use std::test::Fail;
-use undo::{Looked, Place, records_of, undo_in_brief};
+use tables::Tables;
+use undo::{Gathered, Looked, Place, records_of, undo_in_brief};
 use wal::{Record, read_log};
 
 /// The page that undo makes and what it appends, from what was gathered of a log.
 #[derive(Drop)]
-struct Rollback {
+pub struct Rollback {
     pages: Vec<Page>,
-    appended: Vec<Record>,
+    pub appended: Vec<Record>,
+}
+
+/// What undo makes of what was gathered, and of one page.
+pub fn undone(
+    alloc: Global,
+    gathered: &Gathered,
+    tables: &Tables,
+    page: Page,
+) -> Result<Rollback, Fault> {
+    let looked = Looked {
+        place: Place::Gathered(gathered),
+    };
+    let (pages, brief) = undo_in_brief(alloc, &looked, tables, alone(alloc, page)?)?;
+    let appended = records_of(alloc, &looked, &brief)?;
+    Ok(Rollback { pages, appended })
 }
 
 fn rolled_back(alloc: Global, bytes: &[u8], master: u64, page: Page) -> Result<Rollback, Fault> {
     let (log, _) = read_log(alloc, bytes)?;
     let tables = analyse(alloc, &log, master)?;
     let gathered = gathered_of(alloc, bytes, &log, &tables)?;
-    let looked = Looked {
-        place: Place::Gathered(&gathered),
-    };
-    let (pages, brief) = undo_in_brief(alloc, &looked, &tables, alone(alloc, page)?)?;
-    let appended = records_of(alloc, &looked, &brief)?;
-    Ok(Rollback { pages, appended })
+    undone(alloc, &gathered, &tables, page)
 }
 
 /// Whether undo makes the row's new log of what was gathered, and of the page an empty one with this

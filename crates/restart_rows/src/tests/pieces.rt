@@ -1,15 +1,18 @@
 //! Rows worked by hand: logs that are read in pieces, from the beginning, and once more from the end.
 
-use super::check;
-use core_rows::written::two_losers;
+use super::gathered::undone;
+use super::{check, with_appended};
+use analysis::analyse;
+use core_rows::written::{page_with, two_losers};
 use device::MemorySource;
 use page::Fault;
+use passes::{PassFault, gather_for_undo};
 use pieces::{Mark, first_mark, piece_log, read_piece};
 use std::alloc::Global;
 use std::test::Fail;
 use tables::Tables;
 use undo::{Gathered, Gathering};
-use wal::{LARGEST_BASE, Log, based_header};
+use wal::{LARGEST_BASE, Log, based_header, read_log};
 
 /// How many bytes a piece takes at most, with its header: one of the frames of these logs, of which the
 /// longest has 62 bytes and two have more than 64.
@@ -132,4 +135,38 @@ fn tells_faults_by_their_places_in_the_log(rt: HostRuntime) -> Result<(), Fail> 
     check(short == Some(Fault::BadLength(74)), "a length too small")?;
     let kind_11 = fault_with(alloc, 74 + 4, 11)?;
     check(kind_11 == Some(Fault::BadRecord(74)), "a kind that is none")
+}
+
+/// What undo looks at of a source that has, or had, the log of `two-losers`, read between its marks.
+fn gathered_by_marks(
+    alloc: Global,
+    bytes: &[u8],
+    tables: &Tables,
+) -> Result<Gathered, PassFault> {
+    let marks = [
+        Mark { lsn: 0, offset: 8 },
+        Mark { lsn: 1, offset: 41 },
+        Mark { lsn: 2, offset: 74 },
+        Mark { lsn: 3, offset: 108 },
+    ];
+    let mut room = [0; ROOM];
+    gather_for_undo(alloc, &mut MemorySource::new(bytes), &marks, &mut room, tables)
+}
+
+#[test]
+fn gathers_between_marks(rt: HostRuntime) -> Result<(), Fail> {
+    let alloc = rt.alloc();
+    let row = two_losers(alloc)?;
+    let (log, _) = read_log(alloc, &row.given.bytes)?;
+    let tables = analyse(alloc, &log, 0)?;
+    let Ok(gathered) = gathered_by_marks(alloc, &row.given.bytes, &tables) else {
+        return Err(Fail::new("not gathered"));
+    };
+    let page = page_with(3, Some(b'c'), Some(b'b'));
+    let rollback = undone(alloc, &gathered, &tables, page)?;
+    let made = with_appended(&row.given, &rollback.appended)?;
+    check(made.as_slice() == row.made.bytes.as_slice(), "two-losers")?;
+    let fault = gathered_by_marks(alloc, &row.given.bytes[..74], &tables).err();
+    let at_74 = PassFault::Fault(Fault::BadLsn(74));
+    check(fault == Some(at_74), "a source that was cut")
 }

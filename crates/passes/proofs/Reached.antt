@@ -1,0 +1,82 @@
+-- How far a piece of a log reaches.
+use Rattle.std.proofs.Common.{◌≡◌, ℕ, ◌+◌, ◌-◌, ◌<◌, ◌≤◌, List, ◌++◌, length, take, drop, get_or, Option, Some, None, sym, ap, ◌∙◌, subst, arith, length-append, length-take, take-take}
+use Rattle.std.specs.Prelude.{IfSome}
+use Rattle.std.specs.Io.KnownBytes.{Keeps}
+use Rattle.std.proofs.lemmas.List.{drop-take}
+use Rattle.wal.specs.Records.{lsn_before, LogContent, history, last_lsn, base_lsn, ◌⧺◌}
+use Rattle.wal.specs.Headers.{header_of}
+use Rattle.wal.specs.declared.header.LogStart.TheVariants.{Version2}
+use Rattle.wal.specs.Reads.{Reads}
+use Rattle.wal.proofs.Histories.{base_of_log, size_of_log}
+use Rattle.pieces.specs.declared.mark.Mark.{Mark}
+use Rattle.pieces.specs.Pieces.{IsMark, piece_text, GoesOn}
+use Rattle.passes.specs.Marks.{Reaches, AreMarks, AreInReach}
+use Rattle.pieces.proofs.Beginnings.{records_begin, same_start}
+
+-- what a device tells of its bytes
+pub told : (held : Option (List ℕ)) (text : List ℕ) (P : List ℕ → Type 0) → held ≡ Some text → IfSome held P → P text
+told held text P is some = subst (λ o. IfSome o P) is some
+
+-- a mark of the text is one of a front of it
+pub in_front : (text : List ℕ) (before : LogContent) (mark : Mark) (n : ℕ) → mark.offset ≤ n → IsMark text before mark → IsMark (take n text) before mark
+in_front text before mark n le is = record {
+  reads = subst (λ t. Reads t before 0) (sym (take-take mark.offset n text le)) is.reads;
+  lsn = is.lsn;
+  within = omega (arith, length-take n text, is.within, le);
+}
+
+-- and so is the piece after it
+pub piece_in_front : (text : List ℕ) (mark : Mark) (count : ℕ) → piece_text text mark count ≡ piece_text (take (mark.offset + count) text) mark count
+piece_in_front text mark count =
+    ap (λ (t : List ℕ). header_of (Version2 mark.lsn) ++ t)
+    (sym (take-take count count (drop mark.offset text) (omega arith)) ∙ ap (take count) (sym (drop-take mark.offset count text)))
+
+-- the base LSN of a piece is that of its mark
+pub base_is : (text : List ℕ) (before : LogContent) (mark : Mark) (count torn : ℕ) (piece : LogContent) → GoesOn text before mark count piece torn → base_lsn (history piece) ≡ mark.lsn
+base_is text before mark count torn piece goes = base_of_log piece ∙ ap lsn_before goes.begins
+
+-- a piece has all records up to each mark that stands within its bytes
+pub reached : (text : List ℕ) (before : LogContent) (mark : Mark) (count torn : ℕ) (piece : LogContent) → GoesOn (take (mark.offset + count) text) before mark count piece torn
+    → (until : LogContent) (later : Mark) → IsMark text until later → later.offset ≤ mark.offset + count → later.lsn ≤ last_lsn (history piece)
+reached text before mark count torn piece goes until later is le =
+    let front = take (mark.offset + count) text in
+    let both : LogContent = before ⧺ piece.records in
+    let reads : Reads front both torn = goes.end (omega (arith, length-take (mark.offset + count) text)) in
+    let own : IsMark front until later = in_front text until later (mark.offset + count) le is in
+    let more = records_begin front both torn reads until later.offset own.reads in
+    let starts = same_start front both torn reads until later.offset own.reads in
+    omega (
+      arith,
+      is.lsn,
+      size_of_log until,
+      size_of_log both,
+      ap lsn_before starts,
+      ap length more.1,
+      length-append until.records more.0,
+      goes.next.lsn,
+    )
+
+-- what a device told it still tells
+pub still_told : (old new : Option (List ℕ)) (text : List ℕ) → Keeps old new → old ≡ Some text → new ≡ Some text
+still_told None new text keeps is = absurd cc
+still_told (Some xs) None text keeps is = absurd keeps
+still_told (Some xs) (Some ys) text keeps is = ap (λ t. Some t) keeps ∙ is
+
+pub keeps_on : (old now new : Option (List ℕ)) → Keeps old now → Keeps now new → Keeps old new
+keeps_on None now new a b = tt
+keeps_on (Some xs) None new a b = absurd a
+keeps_on (Some xs) (Some ys) None a b = absurd b
+keeps_on (Some xs) (Some ys) (Some zs) a b = b ∙ a
+
+-- a room in reach takes the records up to the next mark
+pub reaches : (text : List ℕ) (whole : LogContent) (marks : List Mark) (asked room k : ℕ) (d : Mark) → room ≡ asked → AreMarks text whole marks → AreInReach asked marks → 0 < k → k < length marks
+    → Reaches text ((get_or marks (k - 1) d).offset + room - 16) (get_or marks k d).lsn
+reaches text whole marks asked room k d same are reach some lt =
+    let next : (k - 1) + 1 ≡ k = omega (arith, some) in
+    let own = are.each k d lt in (
+      own.0,
+      get_or marks k d,
+      own.1,
+      omega (arith, same, reach (k - 1) d (omega (arith, next, lt)), ap (λ n. (get_or marks n d).offset) next),
+      omega arith,
+    )

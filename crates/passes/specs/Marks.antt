@@ -1,0 +1,40 @@
+-- The marks of a log, between which it is read in pieces (own).
+use Rattle.std.specs.Prelude.{◌≡◌, ◌⊎◌, ℕ, ◌+◌, ◌-◌, ◌*◌, ◌^◌, ◌<◌, ◌≤◌, List, All, length, slice_index_or}
+use Rattle.page.specs.declared.fault.Fault.TheVariants.{NoResource}
+use Rattle.wal.specs.Records.{LogContent, history, base_lsn, last_lsn}
+use Rattle.wal.specs.declared.sizes.TheConstants.{HEADER_BYTES, BASED_HEADER_BYTES, LARGEST_BASE, SMALLEST_FRAME}
+use Rattle.pieces.specs.declared.mark.Mark.{Mark}
+use Rattle.pieces.specs.Pieces.{IsMark}
+use Rattle.passes.specs.declared.fault.PassFault.{PassFault}
+use Rattle.passes.specs.declared.fault.PassFault.TheVariants as fault
+
+-- some record at this LSN, or one after it, stands whole before this offset
+abbrev pub Reaches : (text : List ℕ) → (offset upto : ℕ) → Type 0
+Reaches text offset upto = (before : LogContent) × (mark : Mark) × IsMark text before mark × (mark.offset ≤ offset) × (upto ≤ mark.lsn)
+
+-- the marks of a log: the first stands where it begins, the last after its last record
+pub record AreMarks (text : List ℕ) (whole : LogContent) (marks : List Mark) : Type 0 where
+  pub each : (k : ℕ) (d : Mark) → k < length marks → (before : LogContent) × IsMark text before (slice_index_or marks k d)
+  pub first : (d : Mark) → (slice_index_or marks 0 d).lsn ≡ base_lsn (history whole)
+  pub last : (d : Mark) → (slice_index_or marks (length marks - 1) d).lsn ≡ last_lsn (history whole)
+
+-- a room of so many bytes, a header among them, takes all frames from each mark to the next
+abbrev pub AreInReach : (room : ℕ) → List Mark → Type 0
+AreInReach room marks = (k : ℕ) (d : Mark) → k + 1 < length marks → (slice_index_or marks (k + 1) d).offset ≤ (slice_index_or marks k d).offset + room - BASED_HEADER_BYTES
+
+-- there are marks, and their numbers are small enough to be read after
+pub record AreWithin (room : ℕ) (marks : List Mark) : Type 0 where
+  pub some : 0 < length marks
+  pub low : All (λ m. m.lsn ≤ LARGEST_BASE) marks
+  pub reach : All (λ m. m.offset + room < 2 ^ 64) marks
+  pub rising : (d : Mark) → (slice_index_or marks 0 d).lsn ≤ (slice_index_or marks (length marks - 1) d).lsn
+  pub few : (d : Mark) → HEADER_BYTES + SMALLEST_FRAME * ((slice_index_or marks (length marks - 1) d).lsn - (slice_index_or marks 0 d).lsn) < 2 ^ 63
+
+-- by how much a count of failures has risen
+abbrev pub failures_of : PassFault → ℕ
+failures_of fault.Failed = 1
+failures_of (fault.Fault e) = 0
+
+-- a device or memory was refused
+abbrev pub IsResource : PassFault → Type 0
+IsResource e = (e ≡ fault.Failed) ⊎ (e ≡ fault.Fault NoResource)

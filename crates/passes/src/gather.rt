@@ -1,0 +1,94 @@
+//! What undo looks at of a log, gathered by one reading from its end to its beginning.
+
+ghost use Rattle.std.specs.Prelude.{◌≡◌, ◌+◌, ◌-◌, ◌*◌, ◌≤◌, ◌<◌, ◌^◌, ℕ, List, length, IfOk, IfErr, OnOk, Some};
+ghost use Rattle.std.specs.Io.KnownBytes.{Keeps};
+ghost use Rattle.wal.specs.Records.{LogContent, TableEntry, history};
+ghost use Rattle.wal.specs.Reads.{Reads};
+ghost use Rattle.wal.specs.declared.sizes.TheConstants.{BASED_HEADER_BYTES, LARGEST_BASE};
+ghost use Rattle.tables.specs.Tables.{losers_in};
+ghost use Rattle.undo.specs.Enough.{AreGathered};
+ghost use Rattle.undo.specs.Gathering.{IsGathering};
+ghost use Rattle.undo.specs.Wants.{AreUpTo, wants_in};
+ghost use Rattle.pieces.specs.Pieces.{IsMark};
+ghost use Rattle.passes.specs.Marks.{AreMarks, AreWithin, AreInReach, Reaches, failures_of, IsResource};
+
+use crate::PassFault;
+use crate::piece::piece_up_to;
+use device::Reread;
+use pieces::Mark;
+use std::alloc::Global;
+use tables::Tables;
+use undo::{Gathered, Gathering};
+
+/// Gathers what undo looks at in the piece after a mark, which is to reach up to this LSN at least.
+/// Errors are those of [`piece_up_to`], and `NoResource` if memory was refused.
+fn gather_piece<S: Reread>(
+    alloc: Global,
+    source: &mut S,
+    mark: Mark,
+    upto: u64,
+    room: &mut [u8],
+    gathering: &mut Gathering,
+) -> Result<(), PassFault>
+    requires room { BASED_HEADER_BYTES ≤ length room.old }
+    requires reach { mark.offset + length room.old < 2 ^ 64 }
+    requires low { mark.lsn ≤ LARGEST_BASE }
+    ensures gathered { OnOk result ((text : List ℕ) (whole before : LogContent) (torn : ℕ)
+        (losers : List TableEntry) → S.text source.old ≡ Some text → Reads text whole torn
+        → IsMark text before mark → AreUpTo upto (wants_in gathering.old.wants)
+        → IsGathering (history whole) losers gathering.old
+        → IsGathering (history whole) losers gathering.new) }
+    ensures before { OnOk result ((text : List ℕ) (before : LogContent)
+        → S.text source.old ≡ Some text → IsMark text before mark
+        → AreUpTo mark.lsn (wants_in gathering.new.wants)) }
+    ensures fault { IfErr result (λ e. (text : List ℕ) (whole before : LogContent) (torn : ℕ)
+        → S.text source.old ≡ Some text → Reads text whole torn → IsMark text before mark
+        → Reaches text (mark.offset + length room.old - BASED_HEADER_BYTES) upto → IsResource e) }
+    ensures same { Keeps (S.text source.old) (S.text source.new) }
+    ensures no_failure { OnOk result (S.failures source.new ≡ S.failures source.old) }
+    ensures cause { IfErr result (λ e. S.failures source.new
+        ≡ S.failures source.old + failures_of e) }
+{
+    let piece = piece_up_to(alloc, source, mark, upto, room)?;
+    gathering.take(alloc, &piece)?;
+    Ok(())
+}
+
+/// Gathers what undo looks at of the log that a source holds. The marks are those before the pieces of
+/// the log, and at last the one at its end; each piece is read into the room, the last one first.
+///
+/// Errors: `Failed` if the source failed; `NoResource` if memory was refused; another fault only if the
+/// source no longer holds what it held when the marks were made.
+pub fn gather_for_undo<S: Reread>(
+    alloc: Global,
+    source: &mut S,
+    marks: &[Mark],
+    room: &mut [u8],
+    tables: &Tables,
+) -> Result<Gathered, PassFault>
+    requires room { BASED_HEADER_BYTES ≤ length room.old }
+    requires within { AreWithin (length room.old) marks.now }
+    ensures gathered { IfOk result (λ gathered. (text : List ℕ) (whole : LogContent) (torn : ℕ)
+        → S.text source.old ≡ Some text → Reads text whole torn → AreMarks text whole marks.now
+        → AreGathered (history whole) (history gathered) (losers_in tables.now)) }
+    ensures fault { IfErr result (λ e. (text : List ℕ) (whole : LogContent) (torn : ℕ)
+        → S.text source.old ≡ Some text → Reads text whole torn → AreMarks text whole marks.now
+        → AreInReach (length room.old) marks.now → IsResource e) }
+    ensures same { Keeps (S.text source.old) (S.text source.new) }
+    ensures cause { IfErr result (λ e. S.failures source.new
+        ≡ S.failures source.old + failures_of e) }
+{
+    let mut number = marks.len() - 1;
+    let mut gathering = Gathering::begin(
+        alloc,
+        marks[0].lsn,
+        marks[number].lsn - marks[0].lsn,
+        tables,
+    )?;
+    while number > 0 {
+        let upto = marks[number].lsn;
+        number -= 1;
+        gather_piece(alloc, source, marks[number], upto, room, &mut gathering)?;
+    }
+    Ok(gathering.finish())
+}
