@@ -75,6 +75,7 @@ pub fn gather_for_undo<S: Reread>(
         → S.text source.old ≡ Some text → Reads text whole torn → AreMarks text whole marks.now
         → AreInReach (length room.old) marks.now → IsResource e) }
     ensures same { Keeps (S.text source.old) (S.text source.new) }
+    ensures no_failure { OnOk result (S.failures source.new ≡ S.failures source.old) }
     ensures cause { IfErr result (λ e. S.failures source.new
         ≡ S.failures source.old + failures_of e) }
 {
