@@ -1,7 +1,7 @@
 //! The rollbacks of undo, and restarts.
 
 mod gathered;
-mod pieces;
+mod in_pieces;
 mod restarts;
 mod rollbacks;
 

@@ -1,7 +1,7 @@
 //! Rows worked by hand: what undo appends if the records that it looks at were gathered from pieces of
 //! the log.
 
-use super::pieces::gathered_of;
+use super::in_pieces::gathered_of;
 use super::rollbacks::alone;
 use super::{check, with_appended};
 use analysis::analyse;

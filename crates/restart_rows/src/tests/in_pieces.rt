@@ -138,19 +138,24 @@ fn tells_faults_by_their_places_in_the_log(rt: HostRuntime) -> Result<(), Fail> 
 }
 
 /// What undo looks at of a source that has, or had, the log of `two-losers`, read between its marks.
-fn gathered_by_marks(
-    alloc: Global,
-    bytes: &[u8],
-    tables: &Tables,
-) -> Result<Gathered, PassFault> {
+fn gathered_by_marks(alloc: Global, bytes: &[u8], tables: &Tables) -> Result<Gathered, PassFault> {
     let marks = [
         Mark { lsn: 0, offset: 8 },
         Mark { lsn: 1, offset: 41 },
         Mark { lsn: 2, offset: 74 },
-        Mark { lsn: 3, offset: 108 },
+        Mark {
+            lsn: 3,
+            offset: 108,
+        },
     ];
     let mut room = [0; ROOM];
-    gather_for_undo(alloc, &mut MemorySource::new(bytes), &marks, &mut room, tables)
+    gather_for_undo(
+        alloc,
+        &mut MemorySource::new(bytes),
+        &marks,
+        &mut room,
+        tables,
+    )
 }
 
 #[test]
