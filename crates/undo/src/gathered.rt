@@ -15,6 +15,7 @@ use std::marker::Model;
 use wal::{Record, RecordView};
 
 /// The bytes of a value that may be absent.
+#[inline(always)]
 fn bytes_of(value: &Option<Value>) -> Option<&[u8]>
     ensures { option_map (λ s. s.now) result ≡ value.now }
 {
@@ -25,6 +26,7 @@ fn bytes_of(value: &Option<Value>) -> Option<&[u8]>
 }
 
 /// An update or a CLR as a log shows it. A checkpoint begin stands for any other record.
+#[inline(always)]
 fn view_of(kept: &Record) -> RecordView<'_>
     ensures { shown result ≡ link_in (content kept.now) }
 {
@@ -159,6 +161,8 @@ impl Gathered {
 
     /// The record at an LSN, None up to the base LSN and past the end. For one that was not gathered a
     /// checkpoint begin stands.
+    // Inlined with what it calls, so that a caller which looks at a few fields of a view makes no others.
+    #[inline(always)]
     pub fn get(&self, lsn: u64) -> Option<RecordView<'_>>
         ensures found { option_map shown result ≡ record_at (history self.now) lsn }
         ensures fits { IfSome result (λ view. Fits (shown view)) }
