@@ -1,1 +1,3 @@
 pub mod Reached
+pub mod Nexts
+pub mod Finding

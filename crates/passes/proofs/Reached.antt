@@ -1,5 +1,5 @@
 -- How far a piece of a log reaches.
-use Rattle.std.proofs.Common.{◌≡◌, ℕ, ◌+◌, ◌-◌, ◌<◌, ◌≤◌, List, ◌++◌, length, take, drop, get_or, Option, Some, None, sym, ap, ◌∙◌, subst, arith, length-append, length-take, take-take}
+use Rattle.std.proofs.Common.{◌≡◌, ℕ, ◌+◌, ◌-◌, ◌<◌, ◌≤◌, List, ◌++◌, length, take, drop, get_or, Option, Some, None, refl, sym, ap, ◌∙◌, subst, arith, length-append, length-take, take-take}
 use Rattle.std.specs.Prelude.{IfSome}
 use Rattle.std.specs.Io.KnownBytes.{Keeps}
 use Rattle.std.proofs.lemmas.List.{drop-take}
@@ -62,6 +62,10 @@ still_told None new text keeps is = absurd cc
 still_told (Some xs) None text keeps is = absurd keeps
 still_told (Some xs) (Some ys) text keeps is = ap (λ t. Some t) keeps ∙ is
 
+pub keeps_same : (old : Option (List ℕ)) → Keeps old old
+keeps_same None = tt
+keeps_same (Some xs) = refl
+
 pub keeps_on : (old now new : Option (List ℕ)) → Keeps old now → Keeps now new → Keeps old new
 keeps_on None now new a b = tt
 keeps_on (Some xs) None new a b = absurd a
@@ -80,3 +84,16 @@ reaches text whole marks asked room k d same are reach some lt =
       omega (arith, same, reach (k - 1) d (omega (arith, next, lt)), ap (λ n. (get_or marks n d).offset) next),
       omega arith,
     )
+
+-- a mark of the list is one of the text
+pub marked : (text : List ℕ) (whole : LogContent) (marks : List Mark) (k : ℕ) (mark : Mark) → ((d : Mark) → mark ≡ get_or marks k d) → k < length marks → AreMarks text whole marks → (before : LogContent) × IsMark text before mark
+marked text whole marks k mark is lt are =
+    let own = are.each k mark lt in
+    (own.0, subst (IsMark text own.0) (sym (is mark)) own.1)
+
+-- so is the last one
+pub marked_last : (text : List ℕ) (marks : List Mark) (mark : Mark) → 0 < length marks → ((d : Mark) → mark ≡ get_or marks (length marks - 1) d)
+    → ((k : ℕ) (d : Mark) → k < length marks → (before : LogContent) × IsMark text before (get_or marks k d)) → (before : LogContent) × IsMark text before mark
+marked_last text marks mark some is each =
+    let own = each (length marks - 1) mark (omega (arith, some)) in
+    (own.0, subst (IsMark text own.0) (sym (is mark)) own.1)

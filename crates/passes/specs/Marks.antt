@@ -1,7 +1,8 @@
 -- The marks of a log, between which it is read in pieces (own).
-use Rattle.std.specs.Prelude.{◌≡◌, ◌⊎◌, ℕ, ◌+◌, ◌-◌, ◌*◌, ◌^◌, ◌<◌, ◌≤◌, List, All, length, slice_index_or}
+use Rattle.std.specs.Prelude.{◌≡◌, ◌⊎◌, ℕ, ◌+◌, ◌-◌, ◌*◌, ◌^◌, ◌<◌, ◌≤◌, List, All, length, slice_index_or, ⊤}
 use Rattle.page.specs.declared.fault.Fault.TheVariants.{NoResource}
 use Rattle.wal.specs.Records.{LogContent, history, base_lsn, last_lsn}
+use Rattle.wal.specs.Reads.{Reads, Cause}
 use Rattle.wal.specs.declared.sizes.TheConstants.{HEADER_BYTES, BASED_HEADER_BYTES, LARGEST_BASE, SMALLEST_FRAME}
 use Rattle.pieces.specs.declared.mark.Mark.{Mark}
 use Rattle.pieces.specs.Pieces.{IsMark}
@@ -22,11 +23,15 @@ pub record AreMarks (text : List ℕ) (whole : LogContent) (marks : List Mark) :
 abbrev pub AreInReach : (room : ℕ) → List Mark → Type 0
 AreInReach room marks = (k : ℕ) (d : Mark) → k + 1 < length marks → (slice_index_or marks (k + 1) d).offset ≤ (slice_index_or marks k d).offset + room - BASED_HEADER_BYTES
 
--- there are marks, and their numbers are small enough to be read after
-pub record AreWithin (room : ℕ) (marks : List Mark) : Type 0 where
+-- a mark is low enough to be read after
+pub record IsLow (mark : Mark) : Type 0 where
+  pub lsn : mark.lsn ≤ LARGEST_BASE
+  pub offset : mark.offset ≤ LARGEST_BASE
+
+-- there are marks, low enough each, and there are not too many records between the first and the last
+pub record AreWithin (marks : List Mark) : Type 0 where
   pub some : 0 < length marks
-  pub low : All (λ m. m.lsn ≤ LARGEST_BASE) marks
-  pub reach : All (λ m. m.offset + room < 2 ^ 64) marks
+  pub low : All IsLow marks
   pub rising : (d : Mark) → (slice_index_or marks 0 d).lsn ≤ (slice_index_or marks (length marks - 1) d).lsn
   pub few : (d : Mark) → HEADER_BYTES + SMALLEST_FRAME * ((slice_index_or marks (length marks - 1) d).lsn - (slice_index_or marks 0 d).lsn) < 2 ^ 63
 
@@ -38,3 +43,15 @@ failures_of (fault.Fault e) = 0
 -- a device or memory was refused
 abbrev pub IsResource : PassFault → Type 0
 IsResource e = (e ≡ fault.Failed) ⊎ (e ≡ fault.Fault NoResource)
+
+-- why a text is not read to its end: a device, memory, or a fault of the text
+abbrev pub LogCause : List ℕ → PassFault → Type 0
+LogCause text fault.Failed = ⊤
+LogCause text (fault.Fault e) = Cause text e
+
+-- WHAT IS FOUND. A text reads as a log, and these are its marks, each within such a room of the one before it.
+pub record AreFound (text : List ℕ) (room : ℕ) (marks : List Mark) (torn : ℕ) : Type 0 where
+  pub whole : LogContent
+  pub reads : Reads text whole torn
+  pub are : AreMarks text whole marks
+  pub reach : AreInReach room marks

@@ -10,9 +10,9 @@ ghost use Rattle.undo.specs.Enough.{AreGathered};
 ghost use Rattle.undo.specs.Gathering.{IsGathering};
 ghost use Rattle.undo.specs.Wants.{AreUpTo, wants_in};
 ghost use Rattle.pieces.specs.Pieces.{IsMark};
-ghost use Rattle.passes.specs.Marks.{AreMarks, AreWithin, AreInReach, Reaches, failures_of, IsResource};
+ghost use Rattle.passes.specs.Marks.{AreMarks, AreInReach, Reaches, failures_of, IsResource};
 
-use crate::PassFault;
+use crate::{Marks, PassFault};
 use crate::piece::piece_up_to;
 use device::Reread;
 use pieces::Mark;
@@ -62,12 +62,12 @@ fn gather_piece<S: Reread>(
 pub fn gather_for_undo<S: Reread>(
     alloc: Global,
     source: &mut S,
-    marks: &[Mark],
+    marks: &Marks,
     room: &mut [u8],
     tables: &Tables,
 ) -> Result<Gathered, PassFault>
     requires room { BASED_HEADER_BYTES ≤ length room.old }
-    requires within { AreWithin (length room.old) marks.now }
+    requires reach { length room.old < 2 ^ 63 }
     ensures gathered { IfOk result (λ gathered. (text : List ℕ) (whole : LogContent) (torn : ℕ)
         → S.text source.old ≡ Some text → Reads text whole torn → AreMarks text whole marks.now
         → AreGathered (history whole) (history gathered) (losers_in tables.now)) }
@@ -80,16 +80,12 @@ pub fn gather_for_undo<S: Reread>(
         ≡ S.failures source.old + failures_of e) }
 {
     let mut number = marks.len() - 1;
-    let mut gathering = Gathering::begin(
-        alloc,
-        marks[0].lsn,
-        marks[number].lsn - marks[0].lsn,
-        tables,
-    )?;
+    let base = marks.at(0).lsn;
+    let mut gathering = Gathering::begin(alloc, base, marks.end().lsn - base, tables)?;
     while number > 0 {
-        let upto = marks[number].lsn;
+        let upto = marks.at(number).lsn;
         number -= 1;
-        gather_piece(alloc, source, marks[number], upto, room, &mut gathering)?;
+        gather_piece(alloc, source, marks.at(number), upto, room, &mut gathering)?;
     }
     Ok(gathering.finish())
 }

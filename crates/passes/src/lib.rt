@@ -2,8 +2,14 @@
 #![tactic(auto)]
 
 mod fault;
+mod find;
 mod gather;
+mod marks;
+mod next;
 mod piece;
 
 pub use fault::PassFault;
+pub use find::find_marks;
 pub use gather::gather_for_undo;
+pub use marks::Marks;
+pub use next::next_piece;

@@ -1,0 +1,71 @@
+-- What comes after a mark: no record, or one that the room takes.
+use Rattle.std.proofs.Common.{◌≡◌, ℕ, ◌+◌, ◌-◌, ◌<◌, ◌≤◌, List, [], ◌++◌, length, take, drop, sym, ap, ◌∙◌, subst, inl, inr, arith, length-append, length-take, length-drop}
+use Rattle.std.proofs.lemmas.List.{append-nil, nil_from_length}
+use Rattle.wal.specs.Records.{LogRecord, lsn_before, LogContent, history, last_lsn, base_lsn, ◌⧺◌}
+use Rattle.wal.specs.Headers.{header_of}
+use Rattle.wal.specs.declared.header.LogStart.TheVariants.{Version2}
+use Rattle.wal.specs.Reads.{Reads, IsTorn, log_text}
+use Rattle.wal.specs.declared.sizes.TheConstants.{LONGEST_FRAME}
+use Rattle.wal.proofs.Headers.{header_length}
+use Rattle.wal.proofs.Histories.{base_of_log, size_of_log}
+use Rattle.pieces.specs.declared.mark.Mark.{Mark}
+use Rattle.pieces.specs.Pieces.{IsMark, piece_text, GoesOn}
+use Rattle.passes.proofs.Reached.{in_front}
+
+-- a piece whose last LSN is that of its mark has no record
+none_in : (text : List ℕ) (before : LogContent) (mark : Mark) (count torn : ℕ) (piece : LogContent) → GoesOn text before mark count piece torn → last_lsn (history piece) ≡ mark.lsn → before ⧺ piece.records ≡ before
+none_in text before mark count torn piece goes same =
+    let none : piece.records ≡ [] = nil_from_length piece.records (omega (arith, same, size_of_log piece, ap lsn_before goes.begins)) in
+    ap (λ (rs : List LogRecord). before ⧺ rs) none ∙ ap (λ (rs : List LogRecord). record { begins = before.begins; records = rs }) (append-nil before.records)
+
+-- if it was read to the text's end, the log ends at its mark
+pub no_more : (text : List ℕ) (before : LogContent) (mark : Mark) (count torn : ℕ) (piece : LogContent) → GoesOn text before mark count piece torn → last_lsn (history piece) ≡ mark.lsn → length text ≤ mark.offset + count
+    → Reads text before torn
+no_more text before mark count torn piece goes same all = subst (λ b. Reads text b torn) (none_in text before mark count torn piece goes same) (goes.end all)
+
+-- a torn tail is shorter than the longest frame
+torn_short : (tail : List ℕ) → IsTorn tail → length tail < LONGEST_FRAME
+torn_short tail (inl few) = omega (arith, few)
+torn_short tail (inr (some, low, high, short)) = omega (arith, high, short)
+
+-- as many bytes were read as there are
+read_within : (text room : List ℕ) (mark : Mark) (all : ℕ) → 16 ≤ all → all ≤ length room → mark.offset ≤ length text → take all room ≡ piece_text text mark (all - 16) → mark.offset + (all - 16) ≤ length text
+read_within text room mark all some within low is =
+    omega (
+      arith,
+      some,
+      within,
+      low,
+      ap (λ (t : List ℕ). length t) is,
+      length-take all room,
+      length-append (header_of (Version2 mark.lsn)) (take (all - 16) (drop mark.offset text)),
+      header_length (Version2 mark.lsn),
+      length-take (all - 16) (drop mark.offset text),
+      length-drop mark.offset text,
+    )
+
+-- so a piece that is that long has a record
+pub some_record : (text : List ℕ) (before : LogContent) (mark : Mark) (count torn : ℕ) (piece : LogContent) → LONGEST_FRAME ≤ count → mark.offset + count ≤ length text → IsMark text before mark
+    → GoesOn (take (mark.offset + count) text) before mark count piece torn → last_lsn (history piece) ≡ mark.lsn → ⊥
+some_record text before mark count torn piece long within is goes same =
+    let front = take (mark.offset + count) text in
+    let size : length front ≡ mark.offset + count = omega (arith, length-take (mark.offset + count) text, within) in
+    let reads : Reads front before torn = no_more front before mark count torn piece goes same (omega (arith, size)) in
+    let own = (in_front text before mark (mark.offset + count) (omega arith) is).reads in
+    omega (
+      arith,
+      size,
+      long,
+      torn_short reads.tail reads.torn_tail,
+      ap (λ (t : List ℕ). length t) reads.text,
+      length-append (log_text before) reads.tail,
+      ap (λ (t : List ℕ). length t) own.text,
+      length-append (log_text before) own.tail,
+      own.torn_count,
+      length-take mark.offset front,
+    )
+
+pub room_takes : (text room : List ℕ) (before : LogContent) (mark : Mark) (all torn : ℕ) (piece : LogContent) → 16 + LONGEST_FRAME ≤ all → all ≤ length room → IsMark text before mark → take all room ≡ piece_text text mark (all - 16)
+    → GoesOn (take (mark.offset + (all - 16)) text) before mark (all - 16) piece torn → last_lsn (history piece) ≡ mark.lsn → ⊥
+room_takes text room before mark all torn piece long within is piece_is goes same =
+    some_record text before mark (all - 16) torn piece (omega (arith, long)) (read_within text room mark all (omega (arith, long)) within is.within piece_is) is goes same

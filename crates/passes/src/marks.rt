@@ -1,0 +1,123 @@
+//! The marks of a log, between which it is read in pieces.
+
+ghost use Rattle.std.specs.Prelude.{◌≡◌, ◌⊎◌, ◌+◌, ◌-◌, ◌<◌, ◌≤◌, ◌∷◌, [], ◌++◌, ℕ, length, slice_index_or, IfOk, OnOk, IsOkUnless, IsTrue};
+ghost use Rattle.page.specs.declared.fault.Fault.TheVariants.{NoResource};
+ghost use Rattle.wal.specs.declared.sizes.TheConstants.{LARGEST_BASE};
+ghost use Rattle.pieces.specs.declared.mark.Mark.{Mark};
+ghost use Rattle.passes.specs.Marks.{IsLow, AreWithin};
+
+use page::Fault;
+use pieces::Mark;
+use std::alloc::Global;
+use std::marker::Model;
+use wal::LARGEST_BASE;
+
+/// How many records there are at most between the first mark of a log and its last.
+const MOST_RECORDS: u64 = 1 << 59;
+
+/// Whether a mark is low enough to be read after.
+fn is_low(mark: Mark) -> bool
+    ensures { IsTrue result → IsLow mark }
+{
+    mark.lsn <= LARGEST_BASE && mark.offset <= LARGEST_BASE
+}
+
+/// The marks of a log, by rising LSN. The first stands before the first record, the last after the
+/// last one. Contracts see the list.
+#[derive(Drop)]
+pub struct Marks {
+    list: Vec<Mark>,
+}
+
+impl Model for Marks {
+    ghost use Rattle.std.specs.Prelude.{List};
+    ghost use Rattle.pieces.specs.declared.mark.Mark.{Mark};
+    ghost use Rattle.passes.specs.Marks.{AreWithin};
+
+    ghost Value = { List Mark };
+
+    ghost view = { λ marks. marks.list.items };
+
+    ghost invariant = { λ marks. AreWithin marks.list.items };
+}
+
+impl Marks {
+    /// The first mark alone.
+    ///
+    /// The only error is `NoResource`: memory was refused, or the mark's LSN or its offset is above
+    /// 2^63 - 1.
+    pub fn begin(alloc: Global, first: Mark) -> Result<Marks, Fault>
+        ensures first { IfOk result (λ marks. marks ≡ first ∷ []) }
+        ensures err { IsOkUnless result NoResource }
+    {
+        if !is_low(first) {
+            return Err(Fault::NoResource);
+        }
+        let mut list = Vec::new(alloc);
+        list.push(first)?;
+        Ok(Marks { list })
+    }
+
+    /// The last mark.
+    pub fn end(&self) -> Mark
+        ensures end { (d : Mark) → result ≡ slice_index_or self.now (length self.now - 1) d }
+        ensures low { IsLow result }
+    {
+        self.list[self.list.len() - 1]
+    }
+
+    /// Adds a mark after the last one.
+    ///
+    /// The only error is `NoResource`: memory was refused, or the mark's LSN or its offset is above
+    /// 2^63 - 1, or its LSN is below that of the last mark, or more than 2^59 above that of the first.
+    pub fn push(&mut self, mark: Mark) -> Result<(), Fault>
+        ensures pushed { OnOk result (self.new ≡ self.old ++ mark ∷ []) }
+        ensures low { OnOk result (IsLow mark) }
+        ensures err { IsOkUnless result NoResource }
+    {
+        let first = self.list[0];
+        if !is_low(mark) || mark.lsn < self.end().lsn || mark.lsn - first.lsn > MOST_RECORDS {
+            return Err(Fault::NoResource);
+        }
+        self.list.push(mark)?;
+        Ok(())
+    }
+
+    /// How many marks there are.
+    pub fn len(&self) -> usize
+        ensures len { result ≡ length self.now }
+        ensures within { AreWithin self.now }
+    {
+        self.list.len()
+    }
+
+    /// The mark at a place.
+    pub fn at(&self, place: usize) -> Mark
+        requires { place < length self.now }
+        ensures at { (d : Mark) → result ≡ slice_index_or self.now place d }
+        ensures low { IsLow result }
+    {
+        self.list[place]
+    }
+
+    /// The place of the last mark before the record at an LSN; 0 if there is none before it. The marks
+    /// are searched by halves.
+    pub fn place_before(&self, lsn: u64) -> usize
+        ensures within { result < length self.now }
+        ensures before { (d : Mark) → (result ≡ 0) ⊎ ((slice_index_or self.now result d).lsn < lsn) }
+        ensures next { (d : Mark) → result + 1 < length self.now
+            → lsn ≤ (slice_index_or self.now (result + 1) d).lsn }
+    {
+        let mut place = 0;
+        let mut above = self.list.len();
+        while above - place > 1 {
+            let middle = place + (above - place) / 2;
+            if self.list[middle].lsn < lsn {
+                place = middle;
+            } else {
+                above = middle;
+            }
+        }
+        place
+    }
+}

@@ -1,0 +1,67 @@
+//! The piece after a mark, and the mark after the piece.
+
+ghost use Rattle.std.specs.Prelude.{◌≡◌, ◌+◌, ◌-◌, ◌≤◌, ◌<◌, ◌^◌, ℕ, List, length, IfOk, IfErr, OnOk, Some};
+ghost use Rattle.std.specs.Io.KnownBytes.{Keeps};
+ghost use Rattle.wal.specs.Records.{LogContent, history, last_lsn, base_lsn};
+ghost use Rattle.wal.specs.Reads.{Reads};
+ghost use Rattle.wal.specs.declared.sizes.TheConstants.{BASED_HEADER_BYTES, LARGEST_BASE, LONGEST_FRAME};
+ghost use Rattle.pieces.specs.declared.mark.Mark.{Mark};
+ghost use Rattle.pieces.specs.Pieces.{IsMark};
+ghost use Rattle.passes.specs.Marks.{IsLow, failures_of, IsResource, LogCause};
+ghost use Rattle.passes.specs.Next.{ComesNext};
+
+use crate::PassFault;
+use device::Reread;
+use page::Fault;
+use pieces::{Mark, piece_log, read_piece};
+use std::alloc::Global;
+use wal::{BASED_HEADER_BYTES, LARGEST_BASE, Log};
+
+/// Reads the piece after a mark into the room: the piece, the mark after its last record, and how many
+/// bytes of the room are left after that. No record comes only if the log ends at the mark; then these
+/// bytes are its torn tail.
+///
+/// Errors: `Failed` if the source failed; those of [`read_log`](wal::read_log) for the log, if the piece
+/// shows one; `BadLength` with the mark's offset if the room does not take the next frame, which a room
+/// of `BASED_HEADER_BYTES + LONGEST_FRAME` bytes does; `BadLsn` with the mark's offset if the room did not
+/// keep what was written to it.
+pub fn next_piece<'a, S: Reread>(
+    alloc: Global,
+    source: &mut S,
+    mark: Mark,
+    room: &'a mut [u8],
+) -> Result<(Log<'a>, Mark, usize), PassFault>
+    requires room { BASED_HEADER_BYTES ≤ length room.old }
+    requires reach { mark.offset + length room.old < 2 ^ 64 }
+    requires low { mark.lsn ≤ LARGEST_BASE }
+    ensures base { IfOk result (λ x. base_lsn (history x.0) ≡ mark.lsn) }
+    ensures last { IfOk result (λ x. last_lsn (history x.0) ≡ x.1.lsn) }
+    ensures within { IfOk result (λ x. x.1.offset ≤ mark.offset
+        + (length room.old - BASED_HEADER_BYTES)) }
+    ensures next { IfOk result (λ x. (text : List ℕ) (before : LogContent)
+        → S.text source.old ≡ Some text → IsMark text before mark
+        → ComesNext text before mark x.1 x.0 x.2) }
+    ensures fault { IfErr result (λ e. (text : List ℕ) (before : LogContent)
+        → S.text source.old ≡ Some text → IsMark text before mark
+        → BASED_HEADER_BYTES + LONGEST_FRAME ≤ length room.old → LogCause text e) }
+    ensures same { Keeps (S.text source.old) (S.text source.new) }
+    ensures no_failure { OnOk result (S.failures source.new ≡ S.failures source.old) }
+    ensures cause { IfErr result (λ e. S.failures source.new
+        ≡ S.failures source.old + failures_of e) }
+{
+    let full = room.len();
+    let count = read_piece(source, mark, room)?;
+    let (log, torn) = piece_log(alloc, mark, &room[..count])?;
+    if log.base() != mark.lsn {
+        return Err(PassFault::Fault(Fault::BadLsn(mark.offset)));
+    }
+    let whole = (count - BASED_HEADER_BYTES).saturating_sub(torn);
+    let next = Mark {
+        lsn: log.last(),
+        offset: mark.offset + whole as u64,
+    };
+    if next.lsn == mark.lsn && count == full {
+        return Err(PassFault::Fault(Fault::BadLength(mark.offset)));
+    }
+    Ok((log, next, torn))
+}
