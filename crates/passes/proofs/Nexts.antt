@@ -1,5 +1,5 @@
 -- What comes after a mark: no record, or one that the room takes.
-use Rattle.std.proofs.Common.{◌≡◌, ℕ, ◌+◌, ◌-◌, ◌<◌, ◌≤◌, List, [], ◌++◌, length, take, drop, sym, ap, ◌∙◌, subst, inl, inr, arith, length-append, length-take, length-drop}
+use Rattle.std.proofs.Common.{◌≡◌, ℕ, ◌+◌, ◌-◌, ◌<◌, ◌≤◌, List, [], ◌++◌, length, take, drop, refl, sym, ap, ◌∙◌, subst, inl, inr, arith, length-append, length-take, length-drop}
 use Rattle.std.proofs.lemmas.List.{append-nil, nil_from_length}
 use Rattle.wal.specs.Records.{LogRecord, lsn_before, LogContent, history, last_lsn, base_lsn, ◌⧺◌}
 use Rattle.wal.specs.Headers.{header_of}
@@ -10,6 +10,12 @@ use Rattle.wal.proofs.Headers.{header_length}
 use Rattle.wal.proofs.Histories.{base_of_log, size_of_log}
 use Rattle.pieces.specs.declared.mark.Mark.{Mark}
 use Rattle.pieces.specs.Pieces.{IsMark, piece_text, GoesOn}
+use Rattle.wal.proofs.Whole.{one_reading}
+use Rattle.wal.proofs.Causes.{no_fault_of_a_log}
+use Rattle.passes.specs.declared.fault.PassFault.{PassFault}
+use Rattle.passes.specs.declared.fault.PassFault.TheVariants as fault
+use Rattle.passes.specs.Marks.{LogCause, IsResource}
+use Rattle.passes.specs.Next.{ComesNext, IsBefore}
 use Rattle.passes.proofs.Reached.{in_front}
 
 -- a piece whose last LSN is that of its mark has no record
@@ -69,3 +75,23 @@ pub room_takes : (text room : List ℕ) (before : LogContent) (mark : Mark) (all
     → GoesOn (take (mark.offset + (all - 16)) text) before mark (all - 16) piece torn → last_lsn (history piece) ≡ mark.lsn → ⊥
 room_takes text room before mark all torn piece long within is piece_is goes same =
     some_record text before mark (all - 16) torn piece (omega (arith, long)) (read_within text room mark all (omega (arith, long)) within is.within piece_is) is goes same
+
+-- where the log has more records than those before the mark, more come
+pub one_more : (text : List ℕ) (whole before : LogContent) (mark : Mark) (end torn : ℕ) → IsBefore text whole before mark end → Reads text before torn → ⊥
+one_more text whole before mark end torn is reads =
+    let same : whole ≡ before = (one_reading text whole before is.torn torn is.reads reads).0 in
+    omega (arith, is.is_end, is.is_before, is.is_mark.lsn, ap (λ l. last_lsn (history l)) same)
+
+-- no fault of a log but want of memory, and none but a device's beside it
+pub log_alone : (text : List ℕ) (whole : LogContent) (torn : ℕ) → Reads text whole torn → (e : PassFault) → LogCause text e → IsResource e
+log_alone text whole torn reads fault.Failed cause = inl refl
+log_alone text whole torn reads (fault.Fault e) cause = inr (ap (λ x. fault.Fault x) (no_fault_of_a_log text whole torn reads e cause))
+
+-- the next mark is not before this one, and not after the log's end
+pub next_rises : (text : List ℕ) (before : LogContent) (mark next : Mark) (piece : LogContent) → IsMark text before mark → ComesNext text before next piece → mark.lsn ≤ next.lsn
+next_rises text before mark next piece is comes =
+    omega (arith, is.lsn, comes.is_next.lsn, size_of_log before, size_of_log (before ⧺ piece.records), length-append before.records piece.records)
+
+pub next_within : (text : List ℕ) (whole before : LogContent) (torn : ℕ) (mark next : Mark) (piece : LogContent) → Reads text whole torn → last_lsn (history piece) ≡ next.lsn → ComesNext text before next piece
+    → next.lsn ≤ last_lsn (history whole)
+next_within text whole before torn mark next piece reads last comes = omega (arith, (comes.is_piece whole torn reads).high, last)

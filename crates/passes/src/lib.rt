@@ -12,4 +12,4 @@ pub use fault::PassFault;
 pub use find::find_marks;
 pub use gather::gather_for_undo;
 pub use marks::Marks;
-pub use next::next_piece;
+pub use next::{next_piece, piece_before};

@@ -7,8 +7,8 @@ ghost use Rattle.wal.specs.Reads.{Reads};
 ghost use Rattle.wal.specs.declared.sizes.TheConstants.{BASED_HEADER_BYTES, LARGEST_BASE, LONGEST_FRAME};
 ghost use Rattle.pieces.specs.declared.mark.Mark.{Mark};
 ghost use Rattle.pieces.specs.Pieces.{IsMark};
-ghost use Rattle.passes.specs.Marks.{IsLow, failures_of, IsResource, LogCause};
-ghost use Rattle.passes.specs.Next.{ComesNext};
+ghost use Rattle.passes.specs.Marks.{failures_of, IsResource, LogCause};
+ghost use Rattle.passes.specs.Next.{ComesNext, IsBefore};
 
 use crate::PassFault;
 use device::Reread;
@@ -40,7 +40,10 @@ pub fn next_piece<'a, S: Reread>(
         + (length room.old - BASED_HEADER_BYTES)) }
     ensures next { IfOk result (λ x. (text : List ℕ) (before : LogContent)
         → S.text source.old ≡ Some text → IsMark text before mark
-        → ComesNext text before mark x.1 x.0 x.2) }
+        → ComesNext text before x.1 x.0) }
+    ensures ends { IfOk result (λ x. (text : List ℕ) (before : LogContent)
+        → S.text source.old ≡ Some text → IsMark text before mark → x.1.lsn ≡ mark.lsn
+        → Reads text before x.2) }
     ensures fault { IfErr result (λ e. (text : List ℕ) (before : LogContent)
         → S.text source.old ≡ Some text → IsMark text before mark
         → BASED_HEADER_BYTES + LONGEST_FRAME ≤ length room.old → LogCause text e) }
@@ -64,4 +67,48 @@ pub fn next_piece<'a, S: Reread>(
         return Err(PassFault::Fault(Fault::BadLength(mark.offset)));
     }
     Ok((log, next, torn))
+}
+
+/// Reads the piece after a mark of a log that is known to go on to the LSN `end`: the piece, and the mark
+/// after its last record.
+///
+/// Errors: `Failed` if the source failed; `NoResource` if memory was refused, or if the offset of the
+/// mark after the piece is above 2^63 - 1; `BadLength` with the mark's offset if the room does not take
+/// the next frame. Another fault only if the source no longer holds what it held: `BadLsn` with the
+/// mark's offset if no record comes, or one after `end`.
+pub fn piece_before<'a, S: Reread>(
+    alloc: Global,
+    source: &mut S,
+    mark: Mark,
+    end: u64,
+    room: &'a mut [u8],
+) -> Result<(Log<'a>, Mark), PassFault>
+    requires room { BASED_HEADER_BYTES ≤ length room.old }
+    requires reach { mark.offset + length room.old < 2 ^ 64 }
+    requires before { mark.lsn < end }
+    requires low { end ≤ LARGEST_BASE }
+    ensures base { IfOk result (λ x. base_lsn (history x.0) ≡ mark.lsn) }
+    ensures last { IfOk result (λ x. last_lsn (history x.0) ≡ x.1.lsn) }
+    ensures rises { IfOk result (λ x. mark.lsn < x.1.lsn) }
+    ensures within { IfOk result (λ x. x.1.lsn ≤ end) }
+    ensures reach { IfOk result (λ x. x.1.offset ≤ LARGEST_BASE) }
+    ensures next { IfOk result (λ x. (text : List ℕ) (before : LogContent)
+        → S.text source.old ≡ Some text → IsMark text before mark
+        → ComesNext text before x.1 x.0) }
+    ensures fault { IfErr result (λ e. (text : List ℕ) (whole before : LogContent)
+        → S.text source.old ≡ Some text → IsBefore text whole before mark end
+        → BASED_HEADER_BYTES + LONGEST_FRAME ≤ length room.old → IsResource e) }
+    ensures same { Keeps (S.text source.old) (S.text source.new) }
+    ensures no_failure { OnOk result (S.failures source.new ≡ S.failures source.old) }
+    ensures cause { IfErr result (λ e. S.failures source.new
+        ≡ S.failures source.old + failures_of e) }
+{
+    let (log, next, _) = next_piece(alloc, source, mark, room)?;
+    if next.lsn <= mark.lsn || end < next.lsn {
+        return Err(PassFault::Fault(Fault::BadLsn(mark.offset)));
+    }
+    if next.offset > LARGEST_BASE {
+        return Err(PassFault::Fault(Fault::NoResource));
+    }
+    Ok((log, next))
 }

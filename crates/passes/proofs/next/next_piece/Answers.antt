@@ -52,14 +52,23 @@ returns-clause-next g c = λ text before is mark.
     record {
       is_next = subst (IsMark text (before ⧺ piece.records)) (ap₂ (λ l o. record { lsn = l; offset = c.args.mark.offset + o }) (sym c.last.ensures) (sym c.saturating_sub-whole.ensures)) goes.next;
       is_piece = λ whole left reads. pieces_belong text whole left before c.args.mark count piece torn reads mark goes;
-      ends = λ same.
-          no_more text before c.args.mark count torn piece goes (sym c.last.ensures ∙ same)
-          (elim (cases_lt c.in_ok-count.count (length c.read_piece.new.room)) [
-            | inl less ↦ told (g.S.Reread.text c.args.source.now) text (λ t. length t ≤ c.args.mark.offset + count) is (c.in_ok-count.ensures.end less)
-            | inr all ↦
-                elim c.else-next-mark.branch [
-                  | else-next-mark-via-then-next-mark+else-count-full w ↦ absurd (w.if-count-full.false (omega (arith, all, c.in_ok-count.ensures.within, c.read_piece.auto.room)))
-                  | else-next-mark-via-else-next-mark w ↦ absurd (w.if-next-mark.false same)
-                ]
-          ]);
     }
+
+pub returns-clause-ends : goal.returns-clause-ends
+returns-clause-ends g c = λ text before is mark same.
+    let count : ℕ = c.in_ok-count.count - 16 in
+    let piece = c.in_ok-log.log in
+    let torn = c.in_ok-log.torn in
+    let piece_is : take c.in_ok-count.count c.read_piece.new.room ≡ piece_text text c.args.mark count =
+    told (g.S.Reread.text c.args.source.now) text (λ t. take c.in_ok-count.count c.read_piece.new.room ≡ piece_text t c.args.mark count) is c.in_ok-count.ensures.piece in
+    let size : length (take c.in_ok-count.count c.read_piece.new.room) - 16 ≡ count = omega (arith, length-take c.in_ok-count.count c.read_piece.new.room, c.in_ok-count.ensures.within) in
+    let goes : GoesOn text before c.args.mark count piece torn = subst (λ n. GoesOn text before c.args.mark n piece torn) size (c.in_ok-log.ensures.goes_on text before count mark piece_is) in
+    no_more text before c.args.mark count torn piece goes (sym c.last.ensures ∙ same)
+    (elim (cases_lt c.in_ok-count.count (length c.read_piece.new.room)) [
+      | inl less ↦ told (g.S.Reread.text c.args.source.now) text (λ t. length t ≤ c.args.mark.offset + count) is (c.in_ok-count.ensures.end less)
+      | inr all ↦
+          elim c.else-next-mark.branch [
+            | else-next-mark-via-then-next-mark+else-count-full w ↦ absurd (w.if-count-full.false (omega (arith, all, c.in_ok-count.ensures.within, c.read_piece.auto.room)))
+            | else-next-mark-via-else-next-mark w ↦ absurd (w.if-next-mark.false same)
+          ]
+    ])
