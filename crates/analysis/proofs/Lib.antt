@@ -14,3 +14,4 @@ pub mod Halves
 pub mod Passing
 pub mod Ends
 pub mod Seen
+pub mod BothTables

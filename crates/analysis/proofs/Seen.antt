@@ -1,10 +1,10 @@
 -- What a scan for the tables of a checkpoint has seen, piece by piece.
-use Rattle.std.proofs.Common.{ℕ, ◌≡◌, true, false, ◌||◌, List, [], Option, Some, None, refl, sym, ap, ◌∙◌, subst}
+use Rattle.std.proofs.Common.{ℕ, ◌≡◌, true, false, ◌||◌, cond, List, [], Option, Some, None, refl, sym, ap, ◌∙◌, subst}
 use Rattle.std.specs.Prelude.{is_some, option_map, IfSome, IfNone}
 use Rattle.std.specs.BTreeMap.{BTreeMap}
 use Rattle.std.proofs.lemmas.Bool.{or_parts}
 use Rattle.wal.specs.declared.record.Entry.{Entry}
-use Rattle.wal.specs.Records.{LogRecord, History, start, ◌▸▸◌, LogContent, history, last_lsn, base_lsn, record_at}
+use Rattle.wal.specs.Records.{LogRecord, History, ◌▸▸◌, LogContent, history, last_lsn, base_lsn, record_at}
 use Rattle.wal.specs.Redo.{rec_lsn_of}
 use Rattle.wal.specs.Checkpoint.{first_end, is_begin}
 use Rattle.analysis.specs.Tables.{base_of, entry_at, IsBase}
@@ -49,22 +49,23 @@ not_yet m log scan own is none begins = record {
   begins = λ _. begins;
 }
 
--- AT FIRST
-pub empty_base : (m base : ℕ) (scan : CheckpointSoFar) (x : Maps) → scan.master ≡ m → scan.found ≡ Some (both x) → m ≡ 0 → x.0.entries ≡ [] → x.1.entries ≡ [] → HasSeen m (start base) scan
-empty_base m base scan x own is zero transactions pages =
-    found_it m (start base) scan (both x) own is (
+-- AT FIRST, where the record at m is still to come
+pub empty_base : (m : ℕ) (log : History) (scan : CheckpointSoFar) (x : Maps) → scan.master ≡ m → scan.found ≡ Some (both x) → m ≡ 0 → x.0.entries ≡ [] → x.1.entries ≡ [] → HasSeen m log scan
+empty_base m log scan x own is zero transactions pages =
+    found_it m log scan (both x) own is (
       record {
         transactions = [];
         dirty = [];
-        base = ap (λ n. base_of n (start base)) zero;
+        base = ap (λ n. base_of n log) zero;
         entries_are = λ t. ap (λ (es : List (ℕ × Entry)). entry_at t es) transactions;
         pages_are = λ p. ap (λ (es : List (ℕ × ℕ)). rec_lsn_of p es) pages;
       },
       ap (λ (es : List (ℕ × Entry)). entry_at 0 es) transactions,
     )
 
-pub none_met : (m base : ℕ) (scan : CheckpointSoFar) → scan.master ≡ m → scan.found ≡ None → scan.begins ≡ false → (m ≡ 0 → ⊥) → HasSeen m (start base) scan
-none_met m base scan own is begins some = not_yet m (start base) scan own is (base_is (start base) m some) begins
+pub none_met : (m : ℕ) (log : History) (scan : CheckpointSoFar) → scan.master ≡ m → scan.found ≡ None → scan.begins ≡ false → (m ≡ 0 → ⊥) → record_at log m ≡ None → HasSeen m log scan
+none_met m log scan own is begins some none =
+    not_yet m log scan own is (base_is log m some ∙ ap (λ o. cond (is_begin o) (first_end m log) None) none) (begins ∙ sym (ap is_begin none))
 
 -- A PIECE MORE
 -- what is found stays

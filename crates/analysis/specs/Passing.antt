@@ -1,14 +1,14 @@
--- PASSING. Analysis of a log that goes by in pieces: each piece is a log, and begins behind the last LSN of what came before it (own).
-use Rattle.std.specs.Prelude.{◌≡◌, ℕ, Bool, List, Option, Some, None, IfSome}
+-- PASSING. Analysis of a log that is read in pieces: each piece is a log, whose base LSN is the last LSN of what was read before it (own).
+use Rattle.std.specs.Prelude.{◌≡◌, ◌≤◌, ◌⊎◌, ℕ, Bool, List, Option, Some, None, IfSome}
 use Rattle.wal.specs.declared.record.Entry.{Entry}
-use Rattle.wal.specs.Records.{TableEntry, LogRecord, History, start, ◌▸▸◌, last_lsn, record_at}
+use Rattle.wal.specs.Records.{TableEntry, LogRecord, History, start, ◌▸▸◌, last_lsn, base_lsn, record_at}
 use Rattle.wal.specs.Checkpoint.{first_end, is_begin}
 use Rattle.wal.specs.Redo.{rec_lsn_of}
 use Rattle.wal.specs.Undo.{entry_for}
 use Rattle.analysis.specs.Tables.{analysed_entry, analysed_rec_lsn, base_of, entry_at, IsBase}
 
--- THE LAWS OF GOING ON. What analysis finds in a log and then in more records is what it finds in these records alone, begun from
--- what it found in the log.
+-- THE LAWS OF GOING ON. What analysis finds in a log with more records after it is what it finds in these records alone, if it begins
+-- with what it found in the log.
 abbrev pub EntriesGoOn : Type 0
 EntriesGoOn = (t m : ℕ) (base : Option TableEntry) (log : History) (records : List LogRecord)
     → analysed_entry t m base (log ▸▸ records) ≡ analysed_entry t m (analysed_entry t m base log) (start (last_lsn log) ▸▸ records)
@@ -27,16 +27,34 @@ pub record IsEnd (m : ℕ) (log : History) (entries : List (ℕ × Entry)) (page
   pub pages_are : (page : ℕ) → rec_lsn_of page pages ≡ rec_lsn_of page dirty
   pub no_transaction_0 : entry_at 0 entries ≡ None
 
--- a scan for the tables of the checkpoint that a master names: whether it has met the begin, and the tables that it has found
+-- a scan for the tables of the checkpoint that a master names: whether it has read the begin record, and the tables that it has found
 pub record CheckpointSoFar : Type 0 where
   pub master : ℕ
   pub begins : Bool
   pub found : Option (List (ℕ × Entry) × List (ℕ × ℕ))
 
--- what the scan for the master m has found in the log that has gone by: the base and no
--- transaction 0 in it, or that there is none; then it knows whether a begin stands at m
+-- what the scan for the master m has found in the log that was read: the base, which has no transaction 0; or no base, and then it
+-- knows whether a begin record stands at m
 pub record HasSeen (m : ℕ) (log : History) (scan : CheckpointSoFar) : Type 0 where
   pub master : scan.master ≡ m
   pub found : IfSome scan.found (λ x. IsBase m log x.0 x.1 × (entry_at 0 x.0 ≡ None))
   pub missing : scan.found ≡ None → base_of m log ≡ None
   pub begins : scan.found ≡ None → scan.begins ≡ is_begin (record_at log m)
+
+-- BOTH TABLES
+-- a scan for both tables: the entries of the transactions, of which the first one of a transaction counts, and the pages, each with its RecLSN
+pub record SeenTables : Type 0 where
+  pub entries : List (ℕ × Entry)
+  pub pages : List (ℕ × ℕ)
+
+-- what the scan has found in the log that was read, the beginning of the whole log: what analysis finds there from the base of the whole
+pub record HasAnalysed (m : ℕ) (whole log : History) (scan : SeenTables) : Type 0 where
+  pub transactions : List TableEntry
+  pub dirty : List (ℕ × ℕ)
+  pub base : base_of m whole ≡ Some (transactions, dirty)
+  pub entries_are : (t : ℕ) → entry_at t scan.entries ≡ analysed_entry t m (entry_for t transactions) log
+  pub pages_are : (page : ℕ) → rec_lsn_of page scan.pages ≡ analysed_rec_lsn page m (rec_lsn_of page dirty) log
+
+-- no record of the log comes after the LSN m, since it ends there or before, or has no record; so its tables are those of the base
+abbrev pub ComesBefore : ℕ → History → Type 0
+ComesBefore m log = (last_lsn log ≤ m) ⊎ (log ≡ start (base_lsn log))

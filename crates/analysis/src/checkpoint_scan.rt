@@ -1,8 +1,8 @@
-//! The tables of the checkpoint that the master names, looked for while a log goes by.
+//! The tables of the checkpoint that the master names, looked for while a log is read.
 
 ghost use Rattle.std.specs.Prelude.{◌≡◌, ◌||◌, ℕ, Some, None, option_map, IfOk, IfErr, IfSome, IfNone, OnOk, IsOkUnless};
 ghost use Rattle.page.specs.declared.fault.Fault.TheVariants.{NoResource, BadMaster};
-ghost use Rattle.wal.specs.Records.{CheckpointEnd, History, start, history, last_lsn, base_lsn, record_at, ◌▸▸◌};
+ghost use Rattle.wal.specs.Records.{CheckpointEnd, History, history, last_lsn, base_lsn, record_at, ◌▸▸◌};
 ghost use Rattle.wal.specs.Spelling.{Fits};
 ghost use Rattle.wal.specs.Checkpoint.{first_end, is_begin};
 ghost use Rattle.analysis.specs.Tables.{entry_at, IsBase, BaseFault};
@@ -15,10 +15,10 @@ use std::collections::BTreeMap;
 use std::marker::Model;
 use wal::{DirtyTable, Entry, Log, RecordView, TransactionTable};
 
-/// Looks for the tables of the checkpoint that a master names while a log goes by. The log comes in
-/// pieces, from its first record to its last: each piece is a log whose base LSN is the last LSN of
-/// the one before it. The begin of the checkpoint and its end may stand in different pieces. The tables
-/// are copied, so that no piece needs to stay.
+/// Looks for the tables of the checkpoint that a master names while a log is read. The log comes in
+/// pieces, up to its last record: each piece is a log whose base LSN is the last LSN of the one before
+/// it. The begin of the checkpoint and its end may stand in different pieces. The tables are copied,
+/// so that no piece needs to stay.
 #[derive(Drop)]
 pub struct CheckpointScan {
     alloc: Global,
@@ -37,10 +37,11 @@ impl Model for CheckpointScan {
 }
 
 impl CheckpointScan {
-    /// The scan of a log of which nothing has gone by, for the tables of the checkpoint whose begin
-    /// record has the LSN `master`. They are empty where `master` is 0.
+    /// The scan for the tables of the checkpoint whose begin record has the LSN `master`, before the
+    /// first piece. They are empty if `master` is 0. The first piece may begin at any record that
+    /// comes no later than the one at `master`: no record before that one is asked for.
     pub fn new(alloc: Global, master: u64) -> CheckpointScan
-        ensures { (base : ℕ) → HasSeen master (start base) result }
+        ensures { (log : History) → record_at log master ≡ None → HasSeen master log result }
     {
         let found = if master == 0 {
             Some((BTreeMap::new(alloc), BTreeMap::new(alloc)))
@@ -75,10 +76,10 @@ impl CheckpointScan {
         Ok(())
     }
 
-    /// The tables that analysis of the log that has gone by begins from: empty ones where the master
-    /// is 0, else those of the first checkpoint end behind the begin at it that names it.
+    /// The tables from which analysis of the log that was read begins: empty ones if the master is 0,
+    /// else those of the first checkpoint end that names it, after the begin record at it.
     ///
-    /// The error is [`Fault::BadMaster`], where there is none.
+    /// The error is [`Fault::BadMaster`], if there is none.
     pub fn finish(self) -> Result<(BTreeMap<u32, Entry>, BTreeMap<u32, u64>), Fault>
         ensures found { (m : ℕ) (log : History) → HasSeen m log self
             → IfOk result (λ x. IsBase m log x.0.entries x.1.entries) }
@@ -108,7 +109,7 @@ fn has_begun(before: bool, piece: &Log, lsn: u64) -> bool
     }
 }
 
-/// The tables of the first checkpoint end behind the LSN `master` that names it; whether a begin
+/// The tables of the first checkpoint end after the LSN `master` that names it; whether a begin
 /// stands there is not asked.
 fn end_in<'a>(log: &Log<'a>, master: u64) -> Option<(TransactionTable<'a>, DirtyTable<'a>)>
     ensures found { option_map (λ x. (x.0, x.1)) result ≡ first_end master (history log.now) }

@@ -1,7 +1,8 @@
 //! Analysis: the tables of a crash, from the last checkpoint on.
 //!
-//! `analyse` takes a whole log. Of a log that goes by in pieces `CheckpointScan` finds the tables of the
-//! checkpoint, and from these on `TransactionScan` and `PageScan` find the tables of the crash.
+//! `analyse` takes a whole log. If a log is read in pieces, `CheckpointScan` finds the tables of the
+//! checkpoint, and from these on `TableScan` finds the tables of the crash: the transactions by a
+//! `TransactionScan`, the pages by a `PageScan`.
 #![tactic(auto)]
 
 mod apart;
@@ -13,6 +14,7 @@ mod laws;
 mod page_scan;
 mod pass;
 mod scan;
+mod table_scan;
 mod transaction_scan;
 
 pub use apart::{analyse_transactions, join_tables};
@@ -21,5 +23,6 @@ pub use dirty::analyse_pages;
 pub use laws::{entries_go_on, no_fault_of_tables, one_base_fault, one_tables, rec_lsns_go_on};
 pub use page_scan::PageScan;
 pub use pass::analyse;
+pub use table_scan::TableScan;
 pub use tables::Tables;
 pub use transaction_scan::TransactionScan;

@@ -1,4 +1,4 @@
-//! The dirty page table while a log goes by, piece after piece.
+//! The dirty page table while a log is read, piece after piece.
 
 ghost use Rattle.std.specs.Prelude.{◌≡◌, ℕ, Option, OnOk, IsOkUnless};
 ghost use Rattle.page.specs.declared.fault.Fault.TheVariants.{NoResource};
@@ -12,7 +12,7 @@ use std::collections::BTreeMap;
 use std::marker::Model;
 use wal::Log;
 
-/// The dirty page table while a log goes by. The log comes in pieces, from its first record to its
+/// The dirty page table while a log is read. The log comes in pieces, from its first record to its
 /// last: each piece is a log whose base LSN is the last LSN of the one before it, and no record is
 /// looked at twice. Contracts see the list of its entries, a page and its RecLSN each.
 #[derive(Drop)]
@@ -33,7 +33,7 @@ impl Model for PageScan {
 }
 
 impl PageScan {
-    /// The scan of a log of which nothing has gone by, with these pages to begin from.
+    /// The scan before the first piece, with these pages to begin from.
     #[inline(always)]
     pub fn begin(dirty: BTreeMap<u32, u64>) -> PageScan
         ensures { result ≡ dirty.entries }
@@ -53,7 +53,7 @@ impl PageScan {
     pub fn pass(&mut self, piece: &Log, master: u64) -> Result<(), Fault>
         ensures pages { OnOk result ((page : ℕ) → rec_lsn_of page self.new
             ≡ analysed_rec_lsn page master (rec_lsn_of page self.old) (history piece.now)) }
-        // The same of the log that has gone by.
+        // The same of the log that was read.
         ensures goes_on { OnOk result ((page : ℕ) (base : Option ℕ) (log : History)
             → last_lsn log ≡ base_lsn (history piece.now)
             → rec_lsn_of page self.old ≡ analysed_rec_lsn page master base log
@@ -66,7 +66,7 @@ impl PageScan {
         Ok(())
     }
 
-    /// The table behind the log that has gone by.
+    /// The table after the log that was read.
     #[inline(always)]
     pub fn finish(self) -> BTreeMap<u32, u64>
         ensures { result.entries ≡ self }

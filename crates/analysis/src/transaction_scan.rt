@@ -1,4 +1,4 @@
-//! The transaction table while a log goes by, piece after piece.
+//! The transaction table while a log is read, piece after piece.
 
 ghost use Rattle.std.specs.Prelude.{◌≡◌, ℕ, Option, None, IfOk, OnOk, IsOkUnless};
 ghost use Rattle.page.specs.declared.fault.Fault.TheVariants.{NoResource};
@@ -12,7 +12,7 @@ use std::collections::BTreeMap;
 use std::marker::Model;
 use wal::{Entry, Log};
 
-/// The transaction table while a log goes by. The log comes in pieces, from its first record to its
+/// The transaction table while a log is read. The log comes in pieces, from its first record to its
 /// last: each piece is a log whose base LSN is the last LSN of the one before it, and no record is
 /// looked at twice. Contracts see a list of entries, in which the first one of a transaction counts.
 #[derive(Drop)]
@@ -35,7 +35,7 @@ impl Model for TransactionScan {
 }
 
 impl TransactionScan {
-    /// The scan of a log of which nothing has gone by, with these entries to begin from.
+    /// The scan before the first piece, with these entries to begin from.
     #[inline(always)]
     pub fn begin(transactions: BTreeMap<u32, Entry>) -> TransactionScan
         ensures { result ≡ transactions.entries }
@@ -57,7 +57,7 @@ impl TransactionScan {
     pub fn pass(&mut self, piece: &Log, master: u64) -> Result<(), Fault>
         ensures entries { OnOk result ((t : ℕ) → entry_at t self.new
             ≡ analysed_entry t master (entry_at t self.old) (history piece.now)) }
-        // The same of the log that has gone by.
+        // The same of the log that was read.
         ensures goes_on { OnOk result ((t : ℕ) (base : Option TableEntry) (log : History)
             → last_lsn log ≡ base_lsn (history piece.now)
             → entry_at t self.old ≡ analysed_entry t master base log
@@ -80,8 +80,7 @@ impl TransactionScan {
         Ok(())
     }
 
-    /// The table behind the log that has gone by. The only error is `NoResource`, where memory was
-    /// refused.
+    /// The table after the log that was read. The only error is `NoResource`: memory was refused.
     #[inline(always)]
     pub fn finish(self) -> Result<BTreeMap<u32, Entry>, Fault>
         ensures entries { IfOk result (λ found. (t : ℕ) → entry_at t found.entries

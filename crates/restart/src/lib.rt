@@ -13,5 +13,5 @@ mod unthreaded;
 pub use laws::{no_fault_of_a_restart, one_outcome, one_restart_fault};
 pub use options::{Options, check_options};
 pub use outcome::{BriefOutcome, Outcome};
-pub use passes::{restart, restart_in_place};
+pub use passes::{check_lsns, restart, restart_in_place, roll_back};
 pub use unthreaded::restart_alone;

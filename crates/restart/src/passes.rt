@@ -8,7 +8,9 @@ ghost use Rattle.wal.specs.Records.{LogContent, history, last_lsn};
 ghost use Rattle.wal.specs.Meaning.{BasePages};
 ghost use Rattle.wal.specs.Store.{Lawful};
 ghost use Rattle.tables.specs.Lawful.{AreTrue};
+ghost use Rattle.tables.specs.Tables.{losers_in};
 ghost use Rattle.undo.specs.Appended.{records_of, HaveUpdates, AreFit};
+ghost use Rattle.undo.specs.Enough.{AreGathered};
 ghost use Rattle.undo.specs.Undone.{HasNoTransaction0, AreWritable};
 ghost use Rattle.restart.specs.Outcome.{outcome_of, outcome_in};
 ghost use Rattle.restart.specs.Restart.{AreSettings, SettingsFault, AheadFault, clrs_in, ends_in, IsRedone, Restarts, Restores, InputFault, RestartFault};
@@ -40,13 +42,15 @@ fn check_settings(store: &Store, parting: &Parting, workers: u32) -> Result<(), 
     Ok(())
 }
 
-/// Refuses the first page whose PageLSN is above the log's length.
-pub fn check_lsns(log: &Log, pages: &[Page]) -> Result<(), Fault>
-    ensures ok { OnOk result (All (λ page. page.lsn ≤ last_lsn (history log.now)) pages.now) }
-    ensures fault { IfErr result (AheadFault log.now pages.now) }
+/// Refuses, by [`Fault::PageAheadOfLog`] with its number, the first page whose PageLSN is above `last`,
+/// the LSN of the log's last record.
+pub fn check_lsns(last: u64, pages: &[Page]) -> Result<(), Fault>
+    ensures ok { OnOk result (All (λ page. page.lsn ≤ last) pages.now) }
+    ensures fault { (log : LogContent) → last_lsn (history log) ≡ last
+        → IfErr result (AheadFault log pages.now) }
 {
     for page in pages {
-        if page.lsn > log.last() {
+        if page.lsn > last {
             return Err(Fault::PageAheadOfLog(page.number));
         }
     }
@@ -71,7 +75,17 @@ fn count_kinds(appended: &[Appended]) -> (u64, u64)
     (clrs, ends)
 }
 
-/// Rolls the losers back on the pages of a store that were redone, which ends the restart.
+/// Rolls the losers back on the pages of a store that were redone, which ends a restart. `master`,
+/// `tables` and `redone` are the store's master, the tables that analysis finds in the whole log, and
+/// what redo makes of the store by them.
+///
+/// `log` is the whole log, or what an [`undo::Gathering`] gathers of it for the losers of `tables`.
+/// The outcome is the same: the store, the numbers, and the records that are appended, which
+/// [`undo::record_of`] makes of either.
+///
+/// Refuses by the faults of [`undo`]: [`Fault::NoSuchPage`], [`Fault::BrokenChain`], and
+/// [`Fault::NoResource`] if memory was refused. A lawful log and its store are refused by nothing but
+/// the last. With an error the pages are gone.
 pub fn roll_back(
     alloc: Global,
     log: &Looked,
@@ -81,19 +95,36 @@ pub fn roll_back(
 ) -> Result<BriefOutcome, Fault>
     requires numbered { AreNumbered redone.pages.items }
     requires no_transaction_0 { HasNoTransaction0 tables.now }
-    ensures lawful { (base : BasePages) (before : StoreContent) → Lawful base log.now before
-        → AreNumbered before.pages → before.master ≡ master → AreTrue log.now before tables.now
-        → IsRedone log.now before tables.now redone
-        → MatchResult result (λ x. Restores base log.now before (outcome_in (history log.now) x))
+    // Of a lawful log and its store, over any base pages: the log's tail and the store that the winners leave.
+    ensures lawful { (whole : LogContent) (base : BasePages) (before : StoreContent)
+        → AreGathered (history whole) (history log.now) (losers_in tables.now)
+        → Lawful base whole before → AreNumbered before.pages → before.master ≡ master
+        → AreTrue whole before tables.now → IsRedone whole before tables.now redone
+        → MatchResult result (λ x. Restores base whole before (outcome_in (history whole) x))
         (λ e. e ≡ NoResource) }
-    ensures restarts { (before : StoreContent) → before.master ≡ master
-        → IsRedone log.now before tables.now redone
-        → IfOk result (λ x. Restarts log.now before (outcome_in (history log.now) x)) }
+
+    // Wherever it answers: what undo makes of the whole log and the pages.
+    ensures restarts { (whole : LogContent) (before : StoreContent)
+        → AreGathered (history whole) (history log.now) (losers_in tables.now)
+        → before.master ≡ master → IsRedone whole before tables.now redone
+        → IfOk result (λ x. Restarts whole before (outcome_in (history whole) x)) }
+
+    // What is appended is the same by what was gathered and by the whole log.
+    ensures alike { IfOk result (λ x. (whole : LogContent)
+        → AreGathered (history whole) (history log.now) (losers_in tables.now)
+        → records_of (history log.now) x.appended.items
+        ≡ records_of (history whole) x.appended.items) }
+
+    // Each update that is named stands in the log; each appended record has a spelling, and they are so
+    // few that there are LSNs for them after the log.
     ensures told { IfOk result (λ x. HaveUpdates log.now x.appended.items) }
     ensures writable { IfOk result (λ x. AreFit log.now x.appended.items) }
     ensures few { IfOk result (λ x. length x.appended.items ≤ 2 * length log.now.records + 2 ^ 32) }
-    ensures fault { (before : StoreContent) → IsRedone log.now before tables.now redone
-        → IfErr result (InputFault log.now before) }
+
+    // A refusal has its cause in the whole log and the store, memory aside.
+    ensures fault { (whole : LogContent) (before : StoreContent)
+        → AreGathered (history whole) (history log.now) (losers_in tables.now)
+        → IsRedone whole before tables.now redone → IfErr result (InputFault whole before) }
 {
     let in_doubt = in_doubt(alloc, tables)?;
     let (pages, appended) = undo_in_brief(alloc, log, tables, redone.pages)?;
@@ -144,7 +175,7 @@ pub fn restart_in_place<G: Gate, R: Threads + Sync>(
     ensures fault { IfErr result (RestartFault log.now store parting.now workers) }
 {
     check_settings(&store, parting, workers)?;
-    check_lsns(log, &store.pages)?;
+    check_lsns(log.last(), &store.pages)?;
     let master = store.master;
     let (tables, redone) = go_forward(rt, alloc, log, store, parting, workers, gate)?;
     let looked = Looked {

@@ -39,7 +39,7 @@ pub fn restart_alone(alloc: Global, log: &Log, store: Store) -> Result<BriefOutc
     // A refusal has its cause in the input, memory aside.
     ensures fault { IfErr result (InputFault log.now store) }
 {
-    check_lsns(log, &store.pages)?;
+    check_lsns(log.last(), &store.pages)?;
     let master = store.master;
     let nobody: Watch<OpenGate> = Watch::Nobody;
     let (tables, redone) = forward_alone(alloc, log, store, &nobody)?;

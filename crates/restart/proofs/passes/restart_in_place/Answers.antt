@@ -1,12 +1,12 @@
-use Rattle.std.proofs.Common.{◌≡◌, ◌≤◌, List, All, refl, sym, ap, ◌∙◌, subst, inr}
+use Rattle.std.proofs.Common.{ℕ, ◌≡◌, ◌≤◌, List, All, refl, sym, ap, ◌∙◌, subst, inr}
 use Rattle.std.proofs.lemmas.Result.{err_from_is_err_and, IfErr-weaker}
 use Rattle.page.specs.declared.page.Page.{Page}
 use Rattle.page.specs.Store.{StoreContent, AreNumbered}
-use Rattle.wal.specs.Records.{history, last_lsn}
 use Rattle.redo.specs.Redone.{redone_page}
 use Rattle.undo.proofs.Lost.{lost_none}
 use Rattle.restart.specs.Restart.{AheadFault, NoneAhead}
 use Rattle.restart.proofs.Restored.{ahead_alone, changed_numbered}
+use Rattle.restart.proofs.Whole.{gathered_of_itself}
 use Rattle.restart.proofs.passes.restart_in_place.Goals as goal
 
 pub returns-in_err-check_lsns-clause-lawful : goal.returns-in_err-check_lsns-clause-lawful
@@ -15,12 +15,13 @@ returns-in_err-check_lsns-clause-lawful g c = λ base lawful fit.
     let stored : c.deref.result.now ≡ c.args.store.pages = c.deref.ensures.value ∙ ap (λ (s : StoreContent). s.pages) c.store.view_is in
     let fault = c.in_err-check_lsns.field-0.0 in
     rw (exit.1, exit.2)
-    (ahead_alone base c.args.log.now c.args.store lawful fault (subst (λ (ps : List Page). AheadFault c.args.log.now ps fault) stored c.in_err-check_lsns.ensures.fault))
+    (ahead_alone base c.args.log.now c.args.store lawful fault (subst (λ (ps : List Page). AheadFault c.args.log.now ps fault) stored (c.in_err-check_lsns.ensures.fault c.args.log.now (sym c.last.ensures))))
 
 pub go_forward-requires-clause-none_ahead : goal.go_forward-requires-clause-none_ahead
 go_forward-requires-clause-none_ahead g c =
     let stored : c.deref.result.now ≡ c.args.store.pages = c.deref.ensures.value ∙ ap (λ (s : StoreContent). s.pages) c.store.view_is in
-    let none_ahead : NoneAhead c.args.log.now c.args.store = subst (All (λ (page : Page). page.lsn ≤ last_lsn (history c.args.log.now))) stored c.in_ok-check_lsns.ensures.ok in
+    let none_ahead : NoneAhead c.args.log.now c.args.store =
+    subst (λ (n : ℕ). All (λ (page : Page). page.lsn ≤ n) c.args.store.pages) c.last.ensures (subst (All (λ (page : Page). page.lsn ≤ c.last.result)) stored c.in_ok-check_lsns.ensures.ok) in
     λ lifetimes lives. none_ahead
 
 pub returns-in_err-tables-clause-lawful : goal.returns-in_err-tables-clause-lawful
@@ -45,11 +46,11 @@ pub returns-clause-lawful : goal.returns-clause-lawful
 returns-clause-lawful g c = λ base lawful fit.
     let kept : c.store.inside.master ≡ c.args.store.master = ap (λ (s : StoreContent). s.master) c.store.view_is in
     let numbered : AreNumbered c.args.store.pages = subst AreNumbered (ap (λ (s : StoreContent). s.pages) c.store.view_is) c.store.invariant in
-    c.roll_back.ensures.lawful base c.args.store lawful numbered (sym kept) (c.in_ok-tables.ensures.lawful base lawful) c.in_ok-tables.ensures.redone
+    c.roll_back.ensures.lawful c.args.log.now base c.args.store (gathered_of_itself _ _) lawful numbered (sym kept) (c.in_ok-tables.ensures.lawful base lawful) c.in_ok-tables.ensures.redone
 
 pub returns-clause-restarts : goal.returns-clause-restarts
-returns-clause-restarts g c = c.roll_back.ensures.restarts c.args.store (sym (ap (λ (s : StoreContent). s.master) c.store.view_is)) c.in_ok-tables.ensures.redone
+returns-clause-restarts g c = c.roll_back.ensures.restarts c.args.log.now c.args.store (gathered_of_itself _ _) (sym (ap (λ (s : StoreContent). s.master) c.store.view_is)) c.in_ok-tables.ensures.redone
 
 pub returns-clause-fault : goal.returns-clause-fault
 returns-clause-fault g c =
-    IfErr-weaker c.roll_back.result _ _ (λ e h. inr (c.in_ok-check_settings.ensures.ok, h)) (c.roll_back.ensures.fault c.args.store c.in_ok-tables.ensures.redone)
+    IfErr-weaker c.roll_back.result _ _ (λ e h. inr (c.in_ok-check_settings.ensures.ok, h)) (c.roll_back.ensures.fault c.args.log.now c.args.store (gathered_of_itself _ _) c.in_ok-tables.ensures.redone)

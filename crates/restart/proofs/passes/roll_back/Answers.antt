@@ -4,11 +4,17 @@ use Rattle.std.proofs.lemmas.Result.{err_from_is_err_and}
 use Rattle.page.specs.Store.{StoreContent, AreNumbered}
 use Rattle.wal.specs.Records.{LogContent, history}
 use Rattle.wal.specs.Content.{entry_of}
+use Rattle.wal.specs.Meaning.{BasePages}
+use Rattle.wal.specs.Store.{Lawful}
+use Rattle.tables.specs.Lawful.{AreTrue}
 use Rattle.tables.specs.Tables.{TablesContent, losers_in}
 use Rattle.redo.specs.declared.redone.Redone.{Redone}
 use Rattle.redo.specs.Redone.{redone_page}
-use Rattle.undo.specs.Appended.{records_of, HaveUpdates}
+use Rattle.undo.specs.Appended.{records_of, HaveUpdates, RolledBackInBrief}
+use Rattle.undo.specs.Enough.{AreGathered}
 use Rattle.undo.specs.Undone.{undone_page, IsLawfulCrash, UndoFault}
+use Rattle.undo.proofs.LawfulUndo.{tail_is, memory_alone}
+use Rattle.undo.proofs.Sufficing.{gathered_suffices}
 use Rattle.restart.specs.Outcome.{OutcomeContent, outcome_in}
 use Rattle.restart.specs.Restart.{clrs_in, ends_in, IsRedone, RollsBack}
 use Rattle.restart.proofs.Restored.{changed_numbered, restores}
@@ -24,25 +30,41 @@ invariant_of-result c =
     subst AreNumbered (sym c.in_ok-pages.ensures.rolled_back.rolled_back.pages_are)
     (changed_numbered (undone_page (history c.args.log.now) (records_of (history c.args.log.now) c.in_ok-pages.appended.items)) c.args.redone.pages.items (λ page. refl) c.requires.numbered)
 
+-- redo of a lawful log and its store leaves the pages of a lawful crash
+crash : (log : LogContent) (base : BasePages) (before : StoreContent) (tables : TablesContent) (redone : Redone) → Lawful base log before → AreTrue log before tables → IsRedone log before tables redone
+    → IsLawfulCrash log tables redone.pages.items
+crash log base before tables redone lawful truth made = record { base = base; store = before; lawful = lawful; are_true = truth; as_many = count log before tables redone made }
+
 pub returns-in_err-pages-clause-lawful : goal.returns-in_err-pages-clause-lawful
-returns-in_err-pages-clause-lawful c = λ base before lawful numbered kept truth made.
+returns-in_err-pages-clause-lawful c = λ whole base before are lawful numbered kept truth made.
     let exit = err_from_is_err_and c.from_residual-in_err-pages.result c.from_residual-in_err-pages.ensures.1 in
+    let tables = c.args.tables.now in
+    let pages = c.args.redone.pages.items in
+    let fault = c.in_err-pages.field-0.0 in
+    let suffices = gathered_suffices whole c.args.log.now tables are in
     rw (exit.1, exit.2)
-    (c.in_err-pages.ensures.lawful (record { base = base; store = before; lawful = lawful; are_true = truth; as_many = count c.args.log.now before c.args.tables.now c.args.redone made }))
+    (memory_alone whole tables pages (crash whole base before tables c.args.redone lawful truth made) fault (suffices.fault (length pages) fault c.in_err-pages.ensures.fault))
 
 pub returns-in_err-pages-clause-fault : goal.returns-in_err-pages-clause-fault
-returns-in_err-pages-clause-fault c = λ before made.
+returns-in_err-pages-clause-fault c = λ whole before are made.
     let exit = err_from_is_err_and c.from_residual-in_err-pages.result c.from_residual-in_err-pages.ensures.1 in
     let tables = c.args.tables.now in
     let fault = c.in_err-pages.field-0.0 in
-    rw (exit.1, exit.2)
-    (undo_fault c.args.log.now before made.none_ahead tables made.are fault made.exist
-    (subst (λ n. UndoFault (history c.args.log.now) (losers_in tables) n fault) (count c.args.log.now before tables c.args.redone made) c.in_err-pages.ensures.fault))
+    let suffices = gathered_suffices whole c.args.log.now tables are in
+    let there : UndoFault (history whole) (losers_in tables) (length before.pages) fault =
+    subst (λ n. UndoFault (history whole) (losers_in tables) n fault) (count whole before tables c.args.redone made) (suffices.fault (length c.args.redone.pages.items) fault c.in_err-pages.ensures.fault) in
+    rw (exit.1, exit.2) (undo_fault whole before made.none_ahead tables made.are fault made.exist there)
+
+-- what undo made of what is gathered it makes of the whole log
+rolled : (c : goal.After-len-2) (whole : LogContent) → AreGathered (history whole) (history c.args.log.now) (losers_in c.args.tables.now)
+    → RolledBackInBrief whole c.args.tables.now c.args.redone.pages.items c.in_ok-pages.pages.items c.in_ok-pages.appended.items
+rolled c whole are =
+    (gathered_suffices whole c.args.log.now c.args.tables.now are).rolled_back c.args.redone.pages.items c.in_ok-pages.pages.items c.in_ok-pages.appended.items c.in_ok-pages.ensures.rolled_back
 
 -- what is answered: the losers are rolled back
-abbrev outcome : goal.After-len-2 → OutcomeContent
-outcome c =
-    outcome_in (history c.args.log.now)
+abbrev outcome : goal.After-len-2 → LogContent → OutcomeContent
+outcome c whole =
+    outcome_in (history whole)
     (record {
       store = record { master = c.args.master; pages = c.in_ok-pages.pages.items };
       appended = c.in_ok-pages.appended;
@@ -54,12 +76,14 @@ outcome c =
       ended = c.count_kinds-compensated.result.1;
     })
 
-rolls_back : (c : goal.After-len-2) → (master : ℕ) → master ≡ c.args.master → RollsBack c.args.log.now master c.args.tables.now c.args.redone (outcome c)
-rolls_back c master kept =
-    let log = history c.args.log.now in
-    let told : HaveUpdates c.args.log.now c.deref.result.now = subst (HaveUpdates c.args.log.now) (sym c.deref.ensures.value) c.in_ok-pages.ensures.rolled_back.updates in
+rolls_back : (c : goal.After-len-2) (whole : LogContent) → AreGathered (history whole) (history c.args.log.now) (losers_in c.args.tables.now) → (master : ℕ) → master ≡ c.args.master
+    → RollsBack whole master c.args.tables.now c.args.redone (outcome c whole)
+rolls_back c whole are master kept =
+    let log = history whole in
+    let back = rolled c whole are in
+    let told : HaveUpdates whole c.deref.result.now = subst (HaveUpdates whole) (sym c.deref.ensures.value) back.updates in
     record {
-      rolled_back = c.in_ok-pages.ensures.rolled_back.rolled_back;
+      rolled_back = back.rolled_back;
       master_kept = sym kept;
       redo_from = ap (λ (t : TablesContent). t.redo_lsn) c.tables.view_is;
       applied = refl;
@@ -73,16 +97,21 @@ rolls_back c master kept =
         length-map c.tables.inside.transactions.entries entry_of,
       );
       in_doubt_are = c.in_ok-in_doubt.ensures.ok;
-      compensated = c.count_kinds-compensated.ensures.clrs c.args.log.now told ∙ ap (λ xs. clrs_in (records_of log xs)) c.deref.ensures.value;
-      ended = c.count_kinds-compensated.ensures.ends c.args.log.now told ∙ ap (λ xs. ends_in (records_of log xs)) c.deref.ensures.value;
+      compensated = c.count_kinds-compensated.ensures.clrs whole told ∙ ap (λ xs. clrs_in (records_of log xs)) c.deref.ensures.value;
+      ended = c.count_kinds-compensated.ensures.ends whole told ∙ ap (λ xs. ends_in (records_of log xs)) c.deref.ensures.value;
     }
 
 pub returns-clause-lawful : goal.returns-clause-lawful
-returns-clause-lawful c = λ base before lawful numbered kept truth made.
-    let crash : IsLawfulCrash c.args.log.now c.args.tables.now c.args.redone.pages.items =
-    record { base = base; store = before; lawful = lawful; are_true = truth; as_many = count c.args.log.now before c.args.tables.now c.args.redone made } in
-    restores base c.args.log.now before lawful numbered c.args.tables.now truth c.args.redone (outcome c) made (rolls_back c before.master kept) (c.in_ok-pages.ensures.tail crash)
+returns-clause-lawful c = λ whole base before are lawful numbered kept truth made.
+    let tables = c.args.tables.now in
+    let back = rolls_back c whole are before.master kept in
+    restores base whole before lawful numbered tables truth c.args.redone (outcome c whole) made back
+    (back.rolled_back.appended_are ∙ tail_is whole tables c.args.redone.pages.items (crash whole base before tables c.args.redone lawful truth made))
 
 pub returns-clause-restarts : goal.returns-clause-restarts
-returns-clause-restarts c = λ before kept made.
-    record { tables = c.args.tables.now; redone = c.args.redone; is = made; rolls_back = rolls_back c before.master kept }
+returns-clause-restarts c = λ whole before are kept made.
+    record { tables = c.args.tables.now; redone = c.args.redone; is = made; rolls_back = rolls_back c whole are before.master kept }
+
+pub returns-clause-alike : goal.returns-clause-alike
+returns-clause-alike c = λ whole are.
+    (gathered_suffices whole c.args.log.now c.args.tables.now are).told c.in_ok-pages.appended.items c.in_ok-pages.ensures.rolled_back.updates

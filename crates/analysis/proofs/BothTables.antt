@@ -1,0 +1,48 @@
+-- Both tables while a log is read, and when all of it was.
+use Rattle.std.proofs.Common.{ℕ, ◌≡◌, ◌+◌, ◌≤◌, List, map, max, sym, ap, ◌∙◌, inl, inr, arith}
+use Rattle.std.specs.List.Sorted.{IsStrictlySortedBy}
+use Rattle.std.specs.Map.{keys_of}
+use Rattle.std.specs.Ordering.{nat_cmp}
+use Rattle.wal.specs.declared.record.Entry.{Entry}
+use Rattle.wal.specs.Content.{entry_of}
+use Rattle.wal.specs.Records.{History, LogContent, history, last_lsn, base_lsn}
+use Rattle.wal.specs.Redo.{rec_lsn_of}
+use Rattle.wal.specs.Undo.{entry_for}
+use Rattle.analysis.specs.Tables.{entry_at, redo_lsn_of, IsBase, AreTablesOf}
+use Rattle.analysis.specs.Passing.{SeenTables, HasAnalysed, ComesBefore}
+use Rattle.analysis.proofs.Scanned.{entry_none, rec_lsn_none}
+use Rattle.analysis.proofs.Rising.{entries_rise, pages_rise}
+
+-- nothing comes after m in a log that comes before it
+none_after : (m : ℕ) (log : History) → ComesBefore m log → last_lsn log ≤ max m (base_lsn log)
+none_after m log (inl le) = omega (arith, le)
+none_after m log (inr is) = omega (arith, ap last_lsn is)
+
+-- AT FIRST
+pub analysed_none : (m : ℕ) (whole log : History) (scan : SeenTables) → IsBase m whole scan.entries scan.pages → ComesBefore m log → HasAnalysed m whole log scan
+analysed_none m whole log scan base before =
+    let none = none_after m log before in
+    record {
+      transactions = base.transactions;
+      dirty = base.dirty;
+      base = base.base;
+      entries_are = λ t. base.entries_are t ∙ sym (entry_none t m (entry_for t base.transactions) log none);
+      pages_are = λ page. base.pages_are page ∙ sym (rec_lsn_none page m (rec_lsn_of page base.dirty) log none);
+    }
+
+-- ALL OF IT: maps with the same entries are the tables
+pub analysed_all : (m base redo_lsn : ℕ) (log : LogContent) (scan : SeenTables) (entries : List (ℕ × Entry)) (pages : List (ℕ × ℕ)) → base_lsn (history log) ≡ base
+    → ((t : ℕ) → entry_at t entries ≡ entry_at t scan.entries) → pages ≡ scan.pages → redo_lsn ≡ redo_lsn_of (base + 1) pages
+    → IsStrictlySortedBy nat_cmp (keys_of entries) → IsStrictlySortedBy nat_cmp (keys_of pages) → HasAnalysed m (history log) (history log) scan
+    → AreTablesOf log m (record { transactions = map entry_of entries; dirty = pages; redo_lsn = redo_lsn })
+analysed_all m base redo_lsn log scan entries pages at same same_pages begins in_order pages_in_order far =
+    record {
+      transactions = far.transactions;
+      dirty = far.dirty;
+      base = far.base;
+      entries = λ t. same t ∙ far.entries_are t;
+      pages = λ page. ap (rec_lsn_of page) same_pages ∙ far.pages_are page;
+      entries_rise = entries_rise entries in_order;
+      pages_rise = pages_rise pages pages_in_order;
+      redo_lsn = begins ∙ ap (λ n. redo_lsn_of n pages) (omega (arith, at));
+    }

@@ -1,0 +1,110 @@
+//! Both tables while a log is read, piece after piece.
+
+ghost use Rattle.std.specs.Prelude.{◌≡◌, ◌≤◌, ℕ, None, IfOk, OnOk, IsOkUnless};
+ghost use Rattle.page.specs.Store.{StoreContent};
+ghost use Rattle.page.specs.declared.fault.Fault.TheVariants.{NoResource};
+ghost use Rattle.wal.specs.Meaning.{BasePages};
+ghost use Rattle.wal.specs.Records.{LogContent, History, history, last_lsn, base_lsn, ◌▸▸◌};
+ghost use Rattle.wal.specs.Store.{Lawful};
+ghost use Rattle.wal.specs.Undo.{entry_for};
+ghost use Rattle.wal.specs.declared.sizes.TheConstants.{LARGEST_BASE};
+ghost use Rattle.tables.specs.Lawful.{AreTrue};
+ghost use Rattle.analysis.specs.Tables.{entry_at, IsBase, AreTablesOf};
+ghost use Rattle.analysis.specs.Passing.{HasAnalysed, ComesBefore};
+
+use crate::Tables;
+use crate::page_scan::PageScan;
+use crate::pass::redo_lsn_of;
+use crate::transaction_scan::TransactionScan;
+use page::Fault;
+use std::collections::BTreeMap;
+use std::marker::Model;
+use wal::{Entry, Log};
+
+/// The transaction table and the dirty page table while a log is read. The log comes in pieces, up to
+/// its last record: each piece is a log whose base LSN is the last LSN of the one before it, and no
+/// record is looked at twice. Contracts see the entries of both tables.
+#[derive(Drop)]
+pub struct TableScan {
+    transactions: TransactionScan,
+    pages: PageScan,
+}
+
+impl Model for TableScan {
+    ghost use Rattle.analysis.specs.Passing.{SeenTables};
+
+    ghost Value = { SeenTables };
+
+    ghost view = { λ s. record { entries = s.transactions; pages = s.pages } };
+}
+
+impl TableScan {
+    /// The scan before the first piece, with the tables of the checkpoint that the master names, as
+    /// [`CheckpointScan`](crate::CheckpointScan) finds them. The first piece may begin at any record
+    /// that comes no later than the one after the checkpoint's begin record: those before that one do
+    /// nothing to the tables.
+    pub fn begin(transactions: BTreeMap<u32, Entry>, dirty: BTreeMap<u32, u64>) -> TableScan
+        ensures begun { (m : ℕ) (whole log : History)
+            → IsBase m whole transactions.entries dirty.entries → ComesBefore m log
+            → HasAnalysed m whole log result }
+        ensures no_transaction_0 { entry_at 0 transactions.entries ≡ None
+            → entry_at 0 result.entries ≡ None }
+    {
+        TableScan {
+            transactions: TransactionScan::begin(transactions),
+            pages: PageScan::begin(dirty),
+        }
+    }
+
+    /// Looks at the records of the next piece for what they do to both tables. `master` is the LSN of
+    /// the checkpoint's begin record, 0 for none, and the same for all pieces: records up to it do
+    /// nothing to the tables.
+    ///
+    /// The only error is `NoResource`, which says that memory was refused. The tables then have what
+    /// some of the piece's records do to them, and the scan is to be begun again.
+    pub fn pass(&mut self, piece: &Log, master: u64) -> Result<(), Fault>
+        ensures goes_on { OnOk result ((whole log : History)
+            → last_lsn log ≡ base_lsn (history piece.now) → HasAnalysed master whole log self.old
+            → HasAnalysed master whole (log ▸▸ piece.now.records) self.new) }
+        ensures no_transaction_0 { OnOk result (entry_at 0 self.old.entries ≡ None
+            → entry_at 0 self.new.entries ≡ None) }
+        ensures err { IsOkUnless result NoResource }
+    {
+        self.transactions.pass(piece, master)?;
+        self.pages.pass(piece, master)?;
+        Ok(())
+    }
+
+    /// The tables of the crash, after all pieces. `base` is the base LSN of the whole log, after which
+    /// redo begins at the earliest. The only error is `NoResource`: memory was refused.
+    pub fn finish(self, base: u64) -> Result<Tables, Fault>
+        requires { base ≤ LARGEST_BASE }
+        ensures tables { IfOk result (λ tables. (log : LogContent) (m : ℕ)
+            → base_lsn (history log) ≡ base → HasAnalysed m (history log) (history log) self
+            → AreTablesOf log m tables) }
+        // On a lawful log and its store: exactly the unfinished transactions, and no record that an image lacks is skipped.
+        ensures lawful { IfOk result (λ tables. (over : BasePages) (log : LogContent)
+            (store : StoreContent) → Lawful over log store → base_lsn (history log) ≡ base
+            → HasAnalysed store.master (history log) (history log) self
+            → AreTrue log store tables) }
+        ensures no_transaction_0 { entry_at 0 self.entries ≡ None
+            → IfOk result (λ tables. entry_for 0 tables.transactions ≡ None) }
+        ensures err { IsOkUnless result NoResource }
+    {
+        let TableScan {
+            transactions,
+            pages,
+        } = self;
+        let transactions = transactions.finish()?;
+        let dirty = pages.finish();
+        let redo_lsn = redo_lsn_of(base + 1, &dirty);
+        // For the proof: the keys of both rise.
+        let _in_order = transactions.iter();
+        let _pages_in_order = dirty.iter();
+        Ok(Tables {
+            transactions,
+            dirty,
+            redo_lsn,
+        })
+    }
+}
