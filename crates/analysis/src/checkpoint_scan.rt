@@ -1,6 +1,6 @@
 //! The tables of the checkpoint that the master names, looked for while a log is read.
 
-ghost use Rattle.std.specs.Prelude.{◌≡◌, ◌||◌, ℕ, Some, None, option_map, IfOk, IfErr, IfSome, IfNone, OnOk, IsOkUnless};
+ghost use Rattle.std.specs.Prelude.{◌≡◌, ◌||◌, ℕ, Some, None, option_map, is_some, IfOk, IfErr, IfSome, IfNone, OnOk, IsOkUnless};
 ghost use Rattle.page.specs.declared.fault.Fault.TheVariants.{NoResource, BadMaster};
 ghost use Rattle.wal.specs.Records.{CheckpointEnd, History, history, last_lsn, base_lsn, record_at, ◌▸▸◌};
 ghost use Rattle.wal.specs.Spelling.{Fits};
@@ -29,11 +29,14 @@ pub struct CheckpointScan {
 
 impl Model for CheckpointScan {
     ghost use Rattle.std.specs.Prelude.{option_map};
-    ghost use Rattle.analysis.specs.Passing.{CheckpointSoFar};
+    ghost use Rattle.analysis.specs.Passing.{CheckpointSoFar, HasNoTransaction0};
 
     ghost Value = { CheckpointSoFar };
 
     ghost view = { λ s. record { master = s.master; begins = s.begins; found = option_map (λ x. (x.0.entries, x.1.entries)) s.found } };
+
+    // The grammar of logs forbids transaction 0 in a checkpoint.
+    ghost invariant = { λ s. HasNoTransaction0 (option_map (λ x. x.0.entries) s.found) };
 }
 
 impl CheckpointScan {
@@ -76,6 +79,13 @@ impl CheckpointScan {
         Ok(())
     }
 
+    /// Whether the tables are found. Then no more records are looked at.
+    pub fn is_found(&self) -> bool
+        ensures { result ≡ is_some self.now.found }
+    {
+        self.found.is_some()
+    }
+
     /// The tables from which analysis of the log that was read begins: empty ones if the master is 0,
     /// else those of the first checkpoint end that names it, after the begin record at it.
     ///
@@ -83,8 +93,7 @@ impl CheckpointScan {
     pub fn finish(self) -> Result<(BTreeMap<u32, Entry>, BTreeMap<u32, u64>), Fault>
         ensures found { (m : ℕ) (log : History) → HasSeen m log self
             → IfOk result (λ x. IsBase m log x.0.entries x.1.entries) }
-        ensures no_transaction_0 { (m : ℕ) (log : History) → HasSeen m log self
-            → IfOk result (λ x. entry_at 0 x.0.entries ≡ None) }
+        ensures no_transaction_0 { IfOk result (λ x. entry_at 0 x.0.entries ≡ None) }
         ensures fault { (m : ℕ) (log : History) → HasSeen m log self
             → IfErr result (BaseFault m log) }
         ensures err { IsOkUnless result BadMaster }

@@ -1,0 +1,14 @@
+use Rattle.std.proofs.Common.{subst}
+use Rattle.wal.specs.Records.{history, ◌⧺◌}
+use Rattle.analysis.specs.Passing.{HasSeen}
+use Rattle.passes.proofs.Forward.{with_piece, goes_on_at}
+use Rattle.passes.proofs.tables.look_in_piece.Goals as goal
+
+pub returns-clause-seen : goal.returns-clause-seen
+returns-clause-seen g c = λ text before is mark. (
+  before ⧺ c.in_ok-piece.piece.records,
+  (c.in_ok-piece.ensures.next text before is mark).is_next,
+  λ m seen.
+      subst (λ h. HasSeen m h c.pass.new.self) (with_piece before c.in_ok-piece.piece)
+      (c.in_ok-pass.ensures.seen m (history before) (goes_on_at text before c.in_ok-piece.piece c.args.mark mark c.in_ok-piece.ensures.base) seen),
+)
