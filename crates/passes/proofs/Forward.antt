@@ -1,12 +1,15 @@
 -- A log that is read forward, piece after piece.
-use Rattle.std.proofs.Common.{◌≡◌, ℕ, ◌+◌, ◌<◌, ◌≤◌, List, [], ◌++◌, length, sym, ap, ap₂, ◌∙◌, subst, arith, length-append}
+use Rattle.std.proofs.Common.{◌≡◌, ℕ, ◌+◌, ◌<◌, ◌≤◌, List, [], ◌++◌, length, None, get_or, sym, ap, ap₂, ◌∙◌, subst, inl, inr, ◌⊎◌, arith, length-append}
+use Rattle.std.proofs.lemmas.Bool.{cases_lt}
 use Rattle.std.proofs.lemmas.List.{append-nil, nil_from_length}
-use Rattle.wal.specs.Records.{LogRecord, lsn_before, LogContent, History, start, ◌▸▸◌, history, last_lsn, base_lsn, ◌⧺◌}
+use Rattle.wal.specs.Records.{LogRecord, lsn_before, LogContent, History, start, ◌▸▸◌, history, last_lsn, base_lsn, record_at, ◌⧺◌}
 use Rattle.wal.specs.Reads.{Reads}
-use Rattle.wal.proofs.Histories.{after-append, size_of_log}
+use Rattle.wal.proofs.Histories.{after-append, base_of_log, record_none, size_of_log}
 use Rattle.pieces.specs.declared.mark.Mark.{Mark}
 use Rattle.pieces.specs.Pieces.{IsMark}
 use Rattle.pieces.proofs.Beginnings.{records_begin, same_start}
+use Rattle.analysis.specs.Passing.{ComesBefore}
+use Rattle.passes.specs.Marks.{AreMarks}
 use Rattle.passes.specs.Next.{IsBefore}
 
 -- the log before a mark and the records of the piece after it
@@ -30,3 +33,51 @@ is_whole text whole before torn mark reads is end =
     nil_from_length more.0
     (omega (arith, end, is.lsn, size_of_log whole, size_of_log before, ap lsn_before starts, ap length more.1, length-append before.records more.0)) in
     ap₂ (λ b (rs : List LogRecord). record { begins = b; records = rs }) (sym starts) (sym (more.1 ∙ ap (λ (rs : List LogRecord). before.records ++ rs) none ∙ append-nil before.records))
+
+-- after a mark the rest of the log comes
+pub rest_of : (text : List ℕ) (whole before : LogContent) (torn : ℕ) (mark : Mark) → Reads text whole torn → IsMark text before mark → (more : List LogRecord) × (history before ▸▸ more ≡ history whole)
+rest_of text whole before torn mark reads is =
+    let more = records_begin text whole torn reads before mark.offset is.reads in
+    let starts = same_start text whole torn reads before mark.offset is.reads in (
+      more.0,
+      with_piece before (record { begins = before.begins; records = more.0 })
+      ∙ ap₂ (λ b (rs : List LogRecord). history (record { begins = b; records = rs })) (sym starts) (sym more.1),
+    )
+
+-- THE CHECKPOINT comes after the mark that is looked for
+module _ (text : List ℕ) (whole before : LogContent) (torn place master : ℕ) (mark : Mark) (marks : List Mark) (reads : Reads text whole torn) (are : AreMarks text whole marks) (is : IsMark text before mark)
+    (at : (d : Mark) → mark ≡ get_or marks place d) (low : (d : Mark) → (place ≡ 0) ⊎ ((get_or marks place d).lsn < master)) where
+  -- the first mark has no record before it
+  none_before : place ≡ 0 → base_lsn (history before) ≡ last_lsn (history before)
+  none_before first =
+      let starts = same_start text whole torn reads before mark.offset is.reads in
+      omega (
+        arith,
+        base_of_log before,
+        ap lsn_before starts,
+        base_of_log whole,
+        are.first mark,
+        ap (λ n. (get_or marks n mark).lsn) first,
+        ap (λ (m : Mark). m.lsn) (at mark),
+        is.lsn,
+      )
+
+  pub none_at : record_at (history before) master ≡ None
+  none_at =
+      elim (low mark) [
+        | inl first ↦
+            elim (cases_lt (base_lsn (history before)) master) [
+              | inl above ↦ record_none (history before) master (inr (omega (arith, above, none_before first)))
+              | inr below ↦ record_none (history before) master (inl below)
+            ]
+        | inr less ↦ record_none (history before) master (inr (omega (arith, less, ap (λ (m : Mark). m.lsn) (at mark), is.lsn)))
+      ]
+
+  pub comes_before : ComesBefore master (history before)
+  comes_before =
+      elim (low mark) [
+        | inl first ↦
+            (let none : before.records ≡ [] = nil_from_length before.records (omega (arith, none_before first, base_of_log before, size_of_log before)) in
+            inr (ap (λ (rs : List LogRecord). start (lsn_before before.begins) ▸▸ rs) none ∙ ap start (sym (base_of_log before))))
+        | inr less ↦ inl (omega (arith, less, ap (λ (m : Mark). m.lsn) (at mark), is.lsn))
+      ]

@@ -16,6 +16,7 @@ use Rattle.passes.specs.declared.fault.PassFault.{PassFault}
 use Rattle.passes.specs.declared.fault.PassFault.TheVariants as fault
 use Rattle.passes.specs.Marks.{LogCause, IsResource}
 use Rattle.passes.specs.Next.{ComesNext, IsBefore}
+use Rattle.passes.specs.Tables.{TablesCause}
 use Rattle.passes.proofs.Reached.{in_front}
 
 -- a piece whose last LSN is that of its mark has no record
@@ -95,3 +96,8 @@ next_rises text before mark next piece is comes =
 pub next_within : (text : List ℕ) (whole before : LogContent) (torn : ℕ) (mark next : Mark) (piece : LogContent) → Reads text whole torn → last_lsn (history piece) ≡ next.lsn → ComesNext text before next piece
     → next.lsn ≤ last_lsn (history whole)
 next_within text whole before torn mark next piece reads last comes = omega (arith, (comes.is_piece whole torn reads).high, last)
+
+-- want of a device or of memory refuses any analysis
+pub tables_resource : (master : ℕ) (whole : LogContent) (e : PassFault) → IsResource e → TablesCause master whole e
+tables_resource master whole e (inl failed) = subst (TablesCause master whole) (sym failed) tt
+tables_resource master whole e (inr none) = subst (TablesCause master whole) (sym none) tt

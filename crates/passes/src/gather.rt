@@ -79,8 +79,8 @@ pub fn gather_for_undo<S: Reread>(
     ensures cause { IfErr result (λ e. S.failures source.new
         ≡ S.failures source.old + failures_of e) }
 {
+    let base = marks.first().lsn;
     let mut number = marks.len() - 1;
-    let base = marks.at(0).lsn;
     let mut gathering = Gathering::begin(alloc, base, marks.end().lsn - base, tables)?;
     while number > 0 {
         let upto = marks.at(number).lsn;

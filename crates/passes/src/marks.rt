@@ -58,6 +58,14 @@ impl Marks {
         Ok(Marks { list })
     }
 
+    /// The first mark.
+    pub fn first(&self) -> Mark
+        ensures first { (d : Mark) → result ≡ slice_index_or self.now 0 d }
+        ensures low { IsLow result }
+    {
+        self.list[0]
+    }
+
     /// The last mark.
     pub fn end(&self) -> Mark
         ensures end { (d : Mark) → result ≡ slice_index_or self.now (length self.now - 1) d }
@@ -75,8 +83,8 @@ impl Marks {
         ensures low { OnOk result (IsLow mark) }
         ensures err { IsOkUnless result NoResource }
     {
-        let first = self.list[0];
-        if !is_low(mark) || mark.lsn < self.end().lsn || mark.lsn - first.lsn > MOST_RECORDS {
+        let base = self.first().lsn;
+        if !is_low(mark) || mark.lsn < self.end().lsn || mark.lsn - base > MOST_RECORDS {
             return Err(Fault::NoResource);
         }
         self.list.push(mark)?;

@@ -61,8 +61,8 @@ fn look_in_piece<S: Reread>(
     Ok(next)
 }
 
-/// Looks for the checkpoint in all pieces after a mark, up to the log's last LSN. Errors are those of
-/// [`look_in_piece`].
+/// Looks for the checkpoint in the pieces after a mark until it is found, or up to the log's last LSN.
+/// Errors are those of [`look_in_piece`].
 fn look_from<S: Reread>(
     alloc: Global,
     source: &mut S,
@@ -89,7 +89,7 @@ fn look_from<S: Reread>(
         ≡ S.failures source.old + failures_of e) }
 {
     let mut mark = from;
-    while mark.lsn < end {
+    while mark.lsn < end && !scan.is_found() {
         mark = look_in_piece(alloc, source, mark, end, room, scan)?;
     }
     Ok(())
@@ -170,8 +170,8 @@ fn analyse_from<S: Reread>(
     Ok(())
 }
 
-/// The tables of the checkpoint that the master names, empty ones if the master is 0. The marks are
-/// those of the log, and the reading begins at the mark at this place, before the checkpoint.
+/// The tables of the checkpoint that the master names, empty ones if the master is 0. They are looked for
+/// after the mark `from`, before which the checkpoint's begin record does not stand.
 ///
 /// Errors: `BadMaster` if no checkpoint begin stands at the master or no later checkpoint end names it;
 /// those of [`look_in_piece`].
@@ -202,9 +202,7 @@ fn checkpoint_tables<S: Reread>(
         ≡ S.failures source.old + failures_of e) }
 {
     let mut scan = CheckpointScan::new(alloc, master);
-    if master != 0 {
-        look_from(alloc, source, from, end, room, &mut scan)?;
-    }
+    look_from(alloc, source, from, end, room, &mut scan)?;
     let tables = scan.finish()?;
     Ok(tables)
 }
@@ -241,7 +239,7 @@ pub fn tables_in_pieces<S: Reread>(
     ensures cause { IfErr result (λ e. S.failures source.new
         ≡ S.failures source.old + failures_of e) }
 {
-    let base = marks.at(0).lsn;
+    let base = marks.first().lsn;
     let end = marks.end().lsn;
     let from = marks.at(marks.place_before(master));
     let (transactions, dirty) = checkpoint_tables(alloc, source, from, end, room, master)?;

@@ -53,17 +53,17 @@ pub loop-number-init : goal.loop-number-init
 loop-number-init g c =
     let own = c.len-number.ensures.within in
     let size = c.len-number.ensures.len in
-    let base = c.at-base.result in
+    let base = c.first-base.result in
     let last = c.end.result in
     let end_is : (d : Mark) → last.lsn ≡ (get_or c.args.marks.now (length c.args.marks.now - 1) d).lsn = λ d. ap (λ (m : Mark). m.lsn) (c.end.ensures.end d) in
-    let rises : base.lsn ≤ last.lsn = omega (arith, own.rising base, ap (λ (m : Mark). m.lsn) (c.at-base.ensures.at base), end_is base) in
+    let rises : base.lsn ≤ last.lsn = omega (arith, own.rising base, ap (λ (m : Mark). m.lsn) (c.first-base.ensures.first base), end_is base) in
     record {
       within = omega (arith, own.some, size);
       room = refl;
       same = keeps_same (g.S.Reread.text c.args.source.now);
       failures = refl;
       gathering = λ text whole torn is reads marks.
-          c.in_ok-gathering.ensures.begun (history whole) (sym (marks.first base) ∙ sym (ap (λ (m : Mark). m.lsn) (c.at-base.ensures.at base)))
+          c.in_ok-gathering.ensures.begun (history whole) (sym (marks.first base) ∙ sym (ap (λ (m : Mark). m.lsn) (c.first-base.ensures.first base)))
           (sym (marks.last base) ∙ omega (arith, end_is base, rises));
       before = λ text whole torn is reads marks d k e lt.
           omega (arith, c.in_ok-gathering.ensures.before k e lt, rises, end_is d, ap (λ n. (get_or c.args.marks.now (n - 1) d).lsn) size);

@@ -1,8 +1,9 @@
-use Rattle.std.proofs.Common.{◌≡◌, ◌<◌, ◌≤◌, subst, refl, ◌∙◌, arith}
+use Rattle.std.proofs.Common.{◌≡◌, ◌<◌, ◌≤◌, subst, sym, refl, ◌∙◌, arith}
 use Rattle.std.proofs.lemmas.Result.{err_from_is_err_and}
 use Rattle.wal.specs.Records.{LogContent, history}
 use Rattle.analysis.specs.Passing.{HasSeen}
-use Rattle.passes.proofs.Forward.{is_before, is_whole}
+use Rattle.passes.proofs.Forward.{is_before, is_whole, rest_of}
+use Rattle.analysis.proofs.Seen.{stays_found}
 use Rattle.passes.proofs.Reached.{still_told, keeps_on, keeps_same}
 use Rattle.passes.proofs.tables.look_from.Goals as goal
 
@@ -39,7 +40,14 @@ loop-mark-preserved g c =
           (next.0, next.1, λ m seen. next.2 m (now.2 m seen));
     }
 
-pub returns-clause-seen : goal.returns-clause-seen
-returns-clause-seen g c = λ text whole before torn m is reads end from seen.
+pub returns-after-loop-mark-clause-seen : goal.returns-after-loop-mark-clause-seen
+returns-after-loop-mark-clause-seen g c = λ text whole before torn m is reads end from seen.
     let now = c.loop-mark.invariant.seen text before is from in
     subst (λ (l : LogContent). HasSeen m (history l) c.loop-mark.scan) (is_whole text whole now.0 torn c.loop-mark.mark reads now.1 (omega (arith, end, c.loop-mark-test.false))) (now.2 m seen)
+
+pub returns-else-not-is_found-clause-seen : goal.returns-else-not-is_found-clause-seen
+returns-else-not-is_found-clause-seen g c = λ text whole before torn m is reads end from seen.
+    let now = c.loop-mark.invariant.seen text before is from in
+    let rest = rest_of text whole now.0 torn c.loop-mark.mark reads now.1 in
+    subst (λ h. HasSeen m h c.loop-mark.scan) rest.1
+    (stays_found m (history now.0) rest.0 c.loop-mark.scan (sym c.is_found.ensures ∙ c.if-not-is_found.false) (now.2 m seen))
