@@ -158,6 +158,8 @@ impl TallyScan {
     pub fn finish(self, pages: &mut [Page])
         requires { length pages.old ≡ length self.tallies }
         ensures count { length pages.new ≡ length pages.old }
+        ensures numbers { (k : ℕ) (page : Page) → k < length pages.old
+            → (slice_index_or pages.new k page).number ≡ k }
         // If all that is wanted up to the LSN of the scan was fetched, each page is finished.
         ensures each { (whole : History) (rest : List Wanted) (images : List Page)
             → HoldAllBut whole self.tallies rest images pages.old
