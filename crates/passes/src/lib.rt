@@ -1,17 +1,17 @@
 //! The passes of a restart over a log that a device holds, which is read in pieces.
 #![tactic(auto)]
 
+mod analyse;
 mod fault;
 mod find;
 mod gather;
 mod marks;
 mod next;
 mod piece;
-mod tables;
 
 pub use fault::PassFault;
 pub use find::find_marks;
 pub use gather::gather_for_undo;
 pub use marks::Marks;
 pub use next::{next_piece, piece_before};
-pub use tables::tables_in_pieces;
+pub use analyse::tables_in_pieces;

@@ -4,7 +4,7 @@ use Rattle.wal.specs.Records.{LogContent, history}
 use Rattle.analysis.specs.Passing.{HasAnalysed}
 use Rattle.passes.proofs.Forward.{is_before, is_whole}
 use Rattle.passes.proofs.Reached.{still_told, keeps_on, keeps_same}
-use Rattle.passes.proofs.tables.analyse_from.Goals as goal
+use Rattle.passes.proofs.analyse.analyse_from.Goals as goal
 
 pub loop-mark-init : goal.loop-mark-init
 loop-mark-init g c = record {

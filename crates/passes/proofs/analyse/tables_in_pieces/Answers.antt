@@ -9,8 +9,8 @@ use Rattle.passes.specs.Marks.{AreMarks}
 use Rattle.passes.proofs.Forward.{none_at, comes_before}
 use Rattle.passes.proofs.Nexts.{tables_resource}
 use Rattle.passes.proofs.Reached.{marked, still_told}
-use Rattle.passes.proofs.tables.tables_in_pieces.Given.{Over}
-use Rattle.passes.proofs.tables.tables_in_pieces.Goals as goal
+use Rattle.passes.proofs.analyse.tables_in_pieces.Given.{Over}
+use Rattle.passes.proofs.analyse.tables_in_pieces.Goals as goal
 
 
 pub returns-in_err-transactions-clause-fault : goal.returns-in_err-transactions-clause-fault

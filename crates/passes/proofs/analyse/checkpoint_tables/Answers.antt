@@ -2,7 +2,7 @@ use Rattle.std.proofs.Common.{subst}
 use Rattle.std.proofs.lemmas.Result.{err_from_is_err_and}
 use Rattle.wal.specs.Records.{history}
 use Rattle.passes.proofs.Nexts.{tables_resource}
-use Rattle.passes.proofs.tables.checkpoint_tables.Goals as goal
+use Rattle.passes.proofs.analyse.checkpoint_tables.Goals as goal
 
 pub returns-in_err-look_from-clause-fault : goal.returns-in_err-look_from-clause-fault
 returns-in_err-look_from-clause-fault g c =

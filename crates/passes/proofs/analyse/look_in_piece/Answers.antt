@@ -2,7 +2,7 @@ use Rattle.std.proofs.Common.{subst}
 use Rattle.wal.specs.Records.{history, ◌⧺◌}
 use Rattle.analysis.specs.Passing.{HasSeen}
 use Rattle.passes.proofs.Forward.{with_piece, goes_on_at}
-use Rattle.passes.proofs.tables.look_in_piece.Goals as goal
+use Rattle.passes.proofs.analyse.look_in_piece.Goals as goal
 
 pub returns-clause-seen : goal.returns-clause-seen
 returns-clause-seen g c = λ text before is mark. (

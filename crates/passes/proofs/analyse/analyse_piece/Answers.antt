@@ -2,7 +2,7 @@ use Rattle.std.proofs.Common.{subst}
 use Rattle.wal.specs.Records.{history, ◌⧺◌}
 use Rattle.analysis.specs.Passing.{HasAnalysed}
 use Rattle.passes.proofs.Forward.{with_piece, goes_on_at}
-use Rattle.passes.proofs.tables.analyse_piece.Goals as goal
+use Rattle.passes.proofs.analyse.analyse_piece.Goals as goal
 
 pub returns-clause-analysed : goal.returns-clause-analysed
 returns-clause-analysed g c = λ text before is mark. (

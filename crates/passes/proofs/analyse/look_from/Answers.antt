@@ -5,7 +5,7 @@ use Rattle.analysis.specs.Passing.{HasSeen}
 use Rattle.passes.proofs.Forward.{is_before, is_whole, rest_of}
 use Rattle.analysis.proofs.Seen.{stays_found}
 use Rattle.passes.proofs.Reached.{still_told, keeps_on, keeps_same}
-use Rattle.passes.proofs.tables.look_from.Goals as goal
+use Rattle.passes.proofs.analyse.look_from.Goals as goal
 
 pub loop-mark-init : goal.loop-mark-init
 loop-mark-init g c = record {

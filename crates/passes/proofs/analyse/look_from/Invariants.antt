@@ -4,7 +4,7 @@ use Rattle.wal.specs.Records.{LogContent, history}
 use Rattle.wal.specs.declared.sizes.TheConstants.{LARGEST_BASE}
 use Rattle.analysis.specs.Passing.{HasSeen}
 use Rattle.pieces.specs.Pieces.{IsMark}
-use Rattle.passes.proofs.tables.look_from.Given as goal
+use Rattle.passes.proofs.analyse.look_from.Given as goal
 
 abbrev pub invariant-loop-mark : goal.invariant-loop-mark
 invariant-loop-mark g l =

@@ -5,7 +5,7 @@ use Rattle.wal.specs.declared.sizes.TheConstants.{LARGEST_BASE}
 use Rattle.analysis.specs.Passing.{HasAnalysed}
 use Rattle.analysis.specs.Tables.{entry_at}
 use Rattle.pieces.specs.Pieces.{IsMark}
-use Rattle.passes.proofs.tables.analyse_from.Given as goal
+use Rattle.passes.proofs.analyse.analyse_from.Given as goal
 
 abbrev pub invariant-loop-mark : goal.invariant-loop-mark
 invariant-loop-mark g l =
