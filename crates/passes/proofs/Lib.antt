@@ -2,3 +2,4 @@ pub mod Reached
 pub mod Nexts
 pub mod Finding
 pub mod Forward
+pub mod InPieces

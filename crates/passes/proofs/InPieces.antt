@@ -1,0 +1,65 @@
+-- A restart in pieces: the faults of its parts, in its own words.
+use Rattle.std.proofs.Common.{◌≡◌, ◌≤◌, ℕ, List, All, length, refl, sym, ap, subst, inl, inr, arith}
+use Rattle.page.specs.declared.fault.Fault.{Fault}
+use Rattle.page.specs.declared.fault.Fault.TheVariants.{NoResource, PageAheadOfLog}
+use Rattle.page.specs.declared.page.Page.{Page}
+use Rattle.page.specs.Store.{StoreContent}
+use Rattle.wal.specs.Records.{LogContent, history, last_lsn}
+use Rattle.wal.specs.Meaning.{BasePages}
+use Rattle.wal.specs.Store.{Lawful}
+use Rattle.tables.specs.Tables.{TablesContent}
+use Rattle.analysis.specs.Tables.{AreTablesOf}
+use Rattle.redo.specs.declared.redone.Redone.{Redone}
+use Rattle.redo.specs.Redone.{AreWorkers, RepeatsHistory}
+use Rattle.restart.specs.Restart.{AheadFault, NoneAhead, IsRedone, InputFault}
+use Rattle.restart.proofs.Restored.{base_alone, redo_alone}
+use Rattle.restart.proofs.Causes.{base_fault, redo_fault}
+use Rattle.passes.specs.declared.fault.PassFault.{PassFault}
+use Rattle.passes.specs.declared.fault.PassFault.TheVariants as fault
+use Rattle.passes.specs.Marks.{IsResource}
+use Rattle.passes.specs.Tables.{TablesCause}
+use Rattle.passes.specs.Redoing.{RedoCause}
+use Rattle.passes.specs.InPieces.{RestartCause}
+
+-- one worker is a number that redo may have
+one : AreWorkers 1
+one = (omega arith, omega arith)
+
+pub memory_alone : (e : Fault) → e ≡ NoResource → IsResource (fault.Fault e)
+memory_alone e same = inr (ap (λ x. fault.Fault x) same)
+
+module _ (whole : LogContent) (before : StoreContent) where
+  pub ahead_fault : (e : Fault) → AheadFault whole before.pages e → RestartCause whole before (fault.Fault e)
+  ahead_fault (PageAheadOfLog number) cause = cause
+  ahead_fault e cause = absurd cause
+
+  pub resource_fault : (e : PassFault) → IsResource e → RestartCause whole before e
+  resource_fault e (inl failed) = subst (RestartCause whole before) (sym failed) tt
+  resource_fault e (inr none) = subst (RestartCause whole before) (sym none) tt
+
+  pub tables_fault : NoneAhead whole before → (e : PassFault) → TablesCause before.master whole e → RestartCause whole before e
+  tables_fault none fault.Failed cause = tt
+  tables_fault none (fault.Fault e) cause = base_fault whole before none e cause
+
+  pub redo_fault_in_pieces : NoneAhead whole before → (tables : TablesContent) → AreTablesOf whole before.master tables → (e : PassFault) → RedoCause whole (length before.pages) tables.redo_lsn e → RestartCause whole before e
+  redo_fault_in_pieces none tables are fault.Failed cause = tt
+  redo_fault_in_pieces none tables are (fault.Fault e) cause = redo_fault whole before none tables are 1 e one cause
+
+  -- on a lawful log and its store
+  module _ (base : BasePages) (lawful : Lawful base whole before) where
+    pub tables_alone : (e : PassFault) → TablesCause before.master whole e → IsResource e
+    tables_alone fault.Failed cause = inl refl
+    tables_alone (fault.Fault e) cause = memory_alone e (base_alone base whole before lawful e cause)
+
+    pub redo_alone_in_pieces : (redo_lsn : ℕ) (e : PassFault) → RedoCause whole (length before.pages) redo_lsn e → IsResource e
+    redo_alone_in_pieces redo_lsn fault.Failed cause = inl refl
+    redo_alone_in_pieces redo_lsn (fault.Fault e) cause = memory_alone e (redo_alone base whole before lawful redo_lsn 1 e one cause)
+
+-- WHAT REDO LEAVES for undo
+pub none_ahead : (whole : LogContent) (before : StoreContent) (lent : List Page) (end : ℕ) → lent ≡ before.pages → end ≡ last_lsn (history whole) → All (λ (page : Page). page.lsn ≤ end) lent → NoneAhead whole before
+none_ahead whole before lent end stored at each =
+    subst (λ n. All (λ (page : Page). page.lsn ≤ n) before.pages) at (subst (λ (ps : List Page). All (λ (page : Page). page.lsn ≤ end) ps) stored each)
+
+pub is_redone : (whole : LogContent) (before : StoreContent) (tables : TablesContent) (redone : Redone) → NoneAhead whole before → AreTablesOf whole before.master tables → RepeatsHistory whole tables before.pages redone
+    → IsRedone whole before tables redone
+is_redone whole before tables redone none are repeats = record { are = are; none_ahead = none; exist = repeats.exist; redone_pages = repeats.pages; applied = repeats.applied }

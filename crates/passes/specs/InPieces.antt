@@ -1,0 +1,20 @@
+-- What a restart makes of a log that is read in pieces, and why it is refused (own).
+use Rattle.std.specs.Prelude.{◌≡◌, ⊤, ℕ, List}
+use Rattle.page.specs.Store.{StoreContent}
+use Rattle.wal.specs.Records.{LogContent, history, base_lsn, last_lsn}
+use Rattle.undo.specs.declared.appended.Appended.{Appended}
+use Rattle.undo.specs.Appended.{records_of}
+use Rattle.restart.specs.Restart.{InputFault}
+use Rattle.passes.specs.declared.fault.PassFault.{PassFault}
+use Rattle.passes.specs.declared.fault.PassFault.TheVariants as fault
+
+-- what was gathered of a log has its LSNs, and the records that are appended are the same by it as by the log
+pub record AreAlike (whole some : LogContent) (appended : List Appended) : Type 0 where
+  pub base : base_lsn (history some) ≡ base_lsn (history whole)
+  pub last : last_lsn (history some) ≡ last_lsn (history whole)
+  pub records : records_of (history some) appended ≡ records_of (history whole) appended
+
+-- a device failed, or a restart of the whole log and the store is refused for this cause
+abbrev pub RestartCause : LogContent → StoreContent → PassFault → Type 0
+RestartCause whole before fault.Failed = ⊤
+RestartCause whole before (fault.Fault e) = InputFault whole before e
