@@ -1,3 +1,4 @@
 pub mod Reached
 pub mod Nexts
 pub mod Finding
+pub mod Redoing

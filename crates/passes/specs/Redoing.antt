@@ -1,0 +1,26 @@
+-- Redo by a log that is read in pieces (own).
+use Rattle.std.specs.Prelude.{◌≡◌, ⊤, ℕ, ◌+◌, ◌≤◌, List, length}
+use Rattle.page.specs.declared.page.Page.{Page}
+use Rattle.page.specs.Store.{AreNumbered}
+use Rattle.wal.specs.Records.{LogContent}
+use Rattle.tables.specs.Tables.{TablesContent}
+use Rattle.redo.specs.Inputs.{input_over}
+use Rattle.redo.specs.OnePass.{AreUpTo}
+use Rattle.redo.specs.Passing.{TalliesSoFar}
+use Rattle.redo.specs.Redone.{ExistBelow, RedoFault}
+use Rattle.passes.specs.declared.fault.PassFault.{PassFault}
+use Rattle.passes.specs.declared.fault.PassFault.TheVariants as fault
+
+-- why redo by a log of a device is refused: the device failed, or redo by the whole log, alone, is refused for this cause
+abbrev pub RedoCause : LogContent → (count redo_lsn : ℕ) → PassFault → Type 0
+RedoCause whole count redo_lsn fault.Failed = ⊤
+RedoCause whole count redo_lsn (fault.Fault e) = RedoFault whole count redo_lsn 1 e
+
+-- TALLIED. The tallies tell of the pages of a store, each at its number, as the records of the whole log up to an LSN leave them.
+-- Each of these records that redo looks at is on a page of the store.
+pub record AreTalliedUpTo (whole : LogContent) (images : List Page) (tables : TablesContent) (lsn : ℕ) (scan : TalliesSoFar) : Type 0 where
+  pub numbered : AreNumbered images
+  pub from : tables.redo_lsn ≡ scan.redo_lsn
+  pub upto : scan.upto ≤ lsn
+  pub tallied : AreUpTo (input_over whole images tables) lsn scan.tallies
+  pub exist : ExistBelow whole (length images) tables.redo_lsn (lsn + 1)
