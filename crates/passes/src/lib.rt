@@ -7,11 +7,11 @@ mod gather;
 mod marks;
 mod next;
 mod piece;
-mod redoing;
+mod repeat;
 
 pub use fault::PassFault;
 pub use find::find_marks;
 pub use gather::gather_for_undo;
 pub use marks::Marks;
 pub use next::{next_piece, piece_before};
-pub use redoing::redo_in_pieces;
+pub use repeat::redo_in_pieces;

@@ -3,7 +3,7 @@ use Rattle.std.proofs.lemmas.Result.{err_from_is_err_and}
 use Rattle.redo.specs.Redone.{ExistBelow}
 use Rattle.redo.specs.Passing.{PassFault}
 use Rattle.passes.proofs.Redoing.{tallied_more, pass_cause, resource_cause}
-use Rattle.passes.proofs.redoing.tally_piece.Goals as goal
+use Rattle.passes.proofs.repeat.tally_piece.Goals as goal
 
 pub returns-in_err-piece-clause-fault : goal.returns-in_err-piece-clause-fault
 returns-in_err-piece-clause-fault g c =
