@@ -122,7 +122,8 @@ fn tally_in_pieces<S: Reread>(
     let _ = &store.pages;
     let end = marks.end().lsn;
     let mut mark = mark_to_begin(marks, tables.redo_lsn);
-    // The log's base LSN: no mark is before the first.
+    // There is a first mark, and none is before it: its LSN is the log's base LSN.
+    let _count = marks.len();
     let base = marks.at(0).lsn.min(mark.lsn);
     let mut scan = TallyScan::begin(alloc, store, tables, base)?;
     while mark.lsn < end {
