@@ -1,6 +1,8 @@
 -- Redo by a log that is read in pieces.
-use Rattle.std.proofs.Common.{◌≡◌, ℕ, zero, suc, ◌+◌, ◌-◌, ◌<◌, ◌≤◌, ◌⊎◌, List, [], ◌∷◌, length, get_or, min, max, refl, sym, ap, ◌∙◌, subst, inl, inr, arith, length-append}
+use Rattle.std.proofs.Common.{◌≡◌, ℕ, zero, suc, ◌+◌, ◌-◌, ◌<◌, ◌≤◌, ◌⊎◌, List, [], ◌∷◌, All, length, drop, get_or, min, max, refl, sym, ap, ◌∙◌, subst, inl, inr, arith, length-append}
 use Rattle.std.proofs.lemmas.Bool.{cases_lt}
+use Rattle.std.proofs.lemmas.List.{get_or-drop, get_or_default, length-drop}
+use Rattle.std.specs.List.Sorted.{IsNonDecreasingBy}
 use Rattle.page.specs.declared.fault.Fault.{Fault}
 use Rattle.page.specs.declared.fault.Fault.TheVariants.{NoResource, NoSuchPage}
 use Rattle.page.specs.declared.page.Page.{Page}
@@ -13,6 +15,7 @@ use Rattle.tables.specs.Pieces.{IsPieceOf}
 use Rattle.pieces.specs.declared.mark.Mark.{Mark}
 use Rattle.pieces.specs.Pieces.{IsMark}
 use Rattle.pieces.proofs.Beginnings.{records_begin, same_start}
+use Rattle.redo.specs.declared.wanted.Wanted.{Wanted}
 use Rattle.redo.specs.Inputs.{InputContent, input_over}
 use Rattle.redo.specs.Parts.{redo_page_in, image_at}
 use Rattle.redo.specs.Routes.{skipped}
@@ -20,12 +23,13 @@ use Rattle.redo.specs.OnePass.{AreUpTo}
 use Rattle.redo.specs.Passing.{TalliesSoFar, IsPieceFor}
 use Rattle.redo.specs.Passing.{PassFault as PassCause}
 use Rattle.redo.specs.Redone.{IsLookedAt, AllExist, ExistBelow, RedoFault}
+use Rattle.redo.proofs.LastRecords.{in_slot}
 use Rattle.redo.proofs.Stretches.{skipped_some}
 use Rattle.redo.proofs.Replay.{skips_none}
 use Rattle.redo.proofs.Passing.{exist_gone, missing_gone}
 use Rattle.passes.specs.declared.fault.PassFault.{PassFault}
 use Rattle.passes.specs.declared.fault.PassFault.TheVariants as fault
-use Rattle.passes.specs.Marks.{IsResource, AreMarks}
+use Rattle.passes.specs.Marks.{IsResource, AreMarks, AreInReach, Reaches}
 use Rattle.passes.specs.Next.{IsBefore}
 use Rattle.passes.specs.Redoing.{RedoCause, AreTalliedUpTo}
 
@@ -115,3 +119,49 @@ pub pass_cause : (whole piece : LogContent) (count redo_lsn : ℕ) (e : Fault) �
     → RedoFault whole count redo_lsn 1 e
 pass_cause whole piece count redo_lsn (NoSuchPage lsn) own before cause = ((omega arith, omega arith), missing_gone whole piece count redo_lsn lsn own before cause)
 pass_cause whole piece count redo_lsn e own before cause = absurd cause
+
+-- FETCHING
+-- the piece after the last mark before a record reaches the record, with a room in reach
+pub reaches_next : (text : List ℕ) (whole : LogContent) (marks : List Mark) (asked room place : ℕ) (mark : Mark) (lsn : ℕ) → room ≡ asked → 16 ≤ asked → AreMarks text whole marks → AreInReach asked marks
+    → ((d : Mark) → mark ≡ get_or marks place d) → place < length marks → ((d : Mark) → place + 1 < length marks → lsn ≤ (get_or marks (place + 1) d).lsn) → lsn ≤ last_lsn (history whole)
+    → Reaches text (mark.offset + room - 16) lsn
+reaches_next text whole marks asked room place mark lsn same wide are reach is lt next within =
+    elim (cases_lt (place + 1) (length marks)) [
+      | inl more ↦
+          (let later = are.each (place + 1) mark more in (
+            later.0,
+            get_or marks (place + 1) mark,
+            later.1,
+            omega (arith, same, reach place mark more, ap (λ (m : Mark). m.offset) (is mark)),
+            next mark more,
+          ))
+      | inr end ↦
+          (let own = are.each place mark lt in
+          let at : place ≡ length marks - 1 = omega (arith, lt, end) in (
+            own.0,
+            mark,
+            subst (IsMark text own.0) (sym (is mark)) own.1,
+            omega (arith, same, wide),
+            omega (arith, within, ap (λ (m : Mark). m.lsn) (is mark), ap (λ k. (get_or marks k mark).lsn) at, are.last mark),
+          ))
+    ]
+
+-- and so do those that are wanted after it stand after the mark
+pub all_ahead : (text : List ℕ) (whole : LogContent) (marks : List Mark) (place taken : ℕ) (mark : Mark) (wanted : List Wanted) → AreMarks text whole marks → ((d : Mark) → mark ≡ get_or marks place d)
+    → IsNonDecreasingBy (λ (w : Wanted). w.lsn) wanted → taken < length wanted → ((d : Mark) → (place ≡ 0) ⊎ ((get_or marks place d).lsn < (get_or wanted taken (in_slot 0 0 0)).lsn))
+    → All (λ (w : Wanted). w.lsn ≤ mark.lsn → w.lsn ≤ base_lsn (history whole)) (drop taken wanted)
+all_ahead text whole marks place taken mark wanted are is rising lt before k d less le =
+    elim (before mark) [
+      | inl first ↦ omega (arith, le, ap (λ (m : Mark). m.lsn) (is mark), ap (λ n. (get_or marks n mark).lsn) first, are.first mark)
+      | inr front ↦
+          (let within : taken + k < length wanted = omega (arith, less, length-drop taken wanted) in
+          absurd (omega (
+            arith,
+            le,
+            front,
+            ap (λ (m : Mark). m.lsn) (is mark),
+            rising taken (taken + k) d (omega arith) within,
+            ap (λ (w : Wanted). w.lsn) (get_or-drop taken wanted k d),
+            ap (λ (w : Wanted). w.lsn) (get_or_default wanted taken d (in_slot 0 0 0) lt),
+          )))
+    ]
