@@ -9,7 +9,7 @@ use Rattle.page.specs.declared.page.Page.{Page}
 use Rattle.page.specs.Store.{AreNumbered}
 use Rattle.wal.specs.Records.{LogContent, lsn_before, start, history, last_lsn, base_lsn, record_at}
 use Rattle.wal.specs.Reads.{Reads}
-use Rattle.wal.proofs.Histories.{base_of_log, size_of_log, base_within, first_at_base, record_above}
+use Rattle.wal.proofs.Histories.{base_of_log, size_of_log, base_within, first_at_base, record_above, record_within}
 use Rattle.tables.specs.Tables.{TablesContent}
 use Rattle.tables.specs.Pieces.{IsPieceOf}
 use Rattle.pieces.specs.declared.mark.Mark.{Mark}
@@ -109,6 +109,10 @@ tallied_more whole piece images tables mark next old new own base last same upto
           (exist_gone whole piece (length images) tables.redo_lsn own (subst (λ n. ExistBelow whole (length images) tables.redo_lsn (n + 1)) (sym base) before.exist)
           (subst (λ n. AllExist piece n tables.redo_lsn) before.tallied.count (subst (AllExist piece (length old.tallies)) (sym before.from) exist)));
     }
+
+-- at the end of the log
+pub exist_all : (whole : LogContent) (count redo_lsn : ℕ) → ExistBelow whole count redo_lsn (last_lsn (history whole) + 1) → AllExist whole count redo_lsn
+exist_all whole count redo_lsn below lsn r looked found = below lsn r looked (omega (arith, record_within (history whole) lsn r found)) found
 
 -- WHAT IS REFUSED
 pub resource_cause : (whole : LogContent) (count redo_lsn : ℕ) (e : PassFault) → IsResource e → RedoCause whole count redo_lsn e
