@@ -1,15 +1,15 @@
 -- Redo by a log that is read in pieces.
-use Rattle.std.proofs.Common.{◌≡◌, ℕ, zero, suc, ◌+◌, ◌-◌, ◌<◌, ◌≤◌, ◌⊎◌, List, [], ◌∷◌, All, length, drop, get_or, min, max, refl, sym, ap, ◌∙◌, subst, inl, inr, arith, length-append}
+use Rattle.std.proofs.Common.{◌≡◌, ℕ, zero, suc, ◌+◌, ◌-◌, ◌<◌, ◌≤◌, ◌⊎◌, List, [], ◌∷◌, All, length, drop, get_or, refl, sym, ap, ◌∙◌, subst, inl, inr, arith, length-append}
 use Rattle.std.proofs.lemmas.Bool.{cases_lt}
 use Rattle.std.proofs.lemmas.List.{get_or-drop, get_or_default, length-drop}
 use Rattle.std.specs.List.Sorted.{IsNonDecreasingBy}
 use Rattle.page.specs.declared.fault.Fault.{Fault}
-use Rattle.page.specs.declared.fault.Fault.TheVariants.{NoResource, NoSuchPage}
+use Rattle.page.specs.declared.fault.Fault.TheVariants.{NoSuchPage}
 use Rattle.page.specs.declared.page.Page.{Page}
 use Rattle.page.specs.Store.{AreNumbered}
-use Rattle.wal.specs.Records.{LogContent, lsn_before, start, history, last_lsn, base_lsn, record_at}
+use Rattle.wal.specs.Records.{LogContent, lsn_before, start, history, last_lsn, base_lsn}
 use Rattle.wal.specs.Reads.{Reads}
-use Rattle.wal.proofs.Histories.{base_of_log, size_of_log, base_within, first_at_base, record_above, record_within}
+use Rattle.wal.proofs.Histories.{base_of_log, size_of_log, first_at_base, record_above, record_within}
 use Rattle.tables.specs.Tables.{TablesContent}
 use Rattle.tables.specs.Pieces.{IsPieceOf}
 use Rattle.pieces.specs.declared.mark.Mark.{Mark}
@@ -28,7 +28,6 @@ use Rattle.redo.proofs.Stretches.{skipped_some}
 use Rattle.redo.proofs.Replay.{skips_none}
 use Rattle.redo.proofs.Passing.{exist_gone, missing_gone}
 use Rattle.passes.specs.declared.fault.PassFault.{PassFault}
-use Rattle.passes.specs.declared.fault.PassFault.TheVariants as fault
 use Rattle.passes.specs.Marks.{IsResource, AreMarks, AreInReach, Reaches}
 use Rattle.passes.specs.Next.{IsBefore}
 use Rattle.passes.specs.Redoing.{RedoCause, AreTalliedUpTo}
@@ -150,7 +149,7 @@ reaches_next text whole marks asked room place mark lsn same wide are reach is l
           ))
     ]
 
--- and so do those that are wanted after it stand after the mark
+-- and no record of the log before that mark is among those that are wanted from there on
 pub all_ahead : (text : List ℕ) (whole : LogContent) (marks : List Mark) (place taken : ℕ) (mark : Mark) (wanted : List Wanted) → AreMarks text whole marks → ((d : Mark) → mark ≡ get_or marks place d)
     → IsNonDecreasingBy (λ (w : Wanted). w.lsn) wanted → taken < length wanted → ((d : Mark) → (place ≡ 0) ⊎ ((get_or marks place d).lsn < (get_or wanted taken (in_slot 0 0 0)).lsn))
     → All (λ (w : Wanted). w.lsn ≤ mark.lsn → w.lsn ≤ base_lsn (history whole)) (drop taken wanted)

@@ -1,6 +1,6 @@
 //! Redo by a log that a device holds, which is read in pieces.
 
-ghost use Rattle.std.specs.Prelude.{◌≡◌, ◌⊎◌, ◌+◌, ◌-◌, ◌≤◌, ◌<◌, ◌^◌, ℕ, List, All, length, drop, slice_index_or, IfOk, IfErr, OnOk, Some};
+ghost use Rattle.std.specs.Prelude.{◌≡◌, ◌+◌, ◌-◌, ◌≤◌, ◌<◌, ◌^◌, ℕ, List, All, length, drop, slice_index_or, IfOk, IfErr, OnOk, Some};
 ghost use Rattle.std.specs.Io.KnownBytes.{Keeps};
 ghost use Rattle.std.specs.List.Sorted.{IsNonDecreasingBy};
 ghost use Rattle.page.specs.declared.page.Page.{Page};
@@ -20,8 +20,8 @@ ghost use Rattle.passes.specs.Marks.{AreMarks, AreInReach, IsLow, Reaches, failu
 ghost use Rattle.passes.specs.Next.{IsBefore};
 ghost use Rattle.passes.specs.Redoing.{AreTalliedUpTo, RedoCause};
 
-use crate::{Marks, PassFault, piece_before};
 use crate::piece::piece_up_to;
+use crate::{Marks, PassFault, piece_before};
 use device::Reread;
 use page::{Page, Store};
 use pieces::Mark;
@@ -74,13 +74,11 @@ fn tally_piece<S: Reread>(
         → (after : LogContent) × IsMark text after next) }
     ensures tallied { IfOk result (λ next. (text : List ℕ) (whole before : LogContent)
         (images : List Page) (tables : TablesContent) → S.text source.old ≡ Some text
-        → IsBefore text whole before mark end
-        → AreTalliedUpTo whole images tables mark.lsn scan.old
+        → IsBefore text whole before mark end → AreTalliedUpTo whole images tables mark.lsn scan.old
         → AreTalliedUpTo whole images tables next.lsn scan.new) }
     ensures fault { IfErr result (λ e. (text : List ℕ) (whole before : LogContent)
         (images : List Page) (tables : TablesContent) → S.text source.old ≡ Some text
-        → IsBefore text whole before mark end
-        → AreTalliedUpTo whole images tables mark.lsn scan.old
+        → IsBefore text whole before mark end → AreTalliedUpTo whole images tables mark.lsn scan.old
         → BASED_HEADER_BYTES + LONGEST_FRAME ≤ length room.old
         → RedoCause whole (length images) tables.redo_lsn e) }
     ensures same { Keeps (S.text source.old) (S.text source.new) }
@@ -93,7 +91,7 @@ fn tally_piece<S: Reread>(
     Ok(next)
 }
 
-/// The tallies of all pages of a store when the log has gone by. It is read from `redo_lsn` on, or not
+/// The tallies of all pages of a store at the end of the log, which is read from `redo_lsn` on, and not
 /// at all if `redo_lsn` is 0. Errors are those of [`redo_in_pieces`].
 fn tally_in_pieces<S: Reread>(
     alloc: Global,
@@ -132,8 +130,8 @@ fn tally_in_pieces<S: Reread>(
     Ok(scan)
 }
 
-/// Fetches from the piece after a mark, which is to reach up to the first of the wanted records at
-/// least. Returns how many were fetched: those at the front of the list, which is by rising LSN.
+/// Fetches the images of the wanted records in the piece after a mark, which is to reach the first of
+/// them at least. The list is by rising LSN, so they stand at its front; returns how many they are.
 /// Errors are those of [`piece_up_to`].
 fn fetch_piece<S: Reread>(
     alloc: Global,
@@ -160,8 +158,8 @@ fn fetch_piece<S: Reread>(
         → HoldAllBut (history whole) tallies wanted.now images pages.old
         → HoldAllBut (history whole) tallies (drop taken wanted.now) images pages.new) }
     ensures fault { IfErr result (λ e. (text : List ℕ) (whole before : LogContent) (torn : ℕ)
-        (d : Wanted) → S.text source.old ≡ Some text → Reads text whole torn
-        → IsMark text before mark → Reaches text (mark.offset + length room.old - BASED_HEADER_BYTES)
+        (d : Wanted) → S.text source.old ≡ Some text → Reads text whole torn → IsMark text before mark
+        → Reaches text (mark.offset + length room.old - BASED_HEADER_BYTES)
         (slice_index_or wanted.now 0 d).lsn → IsResource e) }
     ensures same { Keeps (S.text source.old) (S.text source.new) }
     ensures no_failure { OnOk result (S.failures source.new ≡ S.failures source.old) }
@@ -172,8 +170,9 @@ fn fetch_piece<S: Reread>(
     Ok(fetch_from(&piece, wanted, pages))
 }
 
-/// Fetches the images of the wanted records up to an LSN, each from the piece after the last mark before
-/// it, and returns how many they are. The list is by rising LSN. Errors are those of [`piece_up_to`].
+/// Fetches the images of the wanted records up to an LSN. Each piece that is read begins at the last mark
+/// before the first of those that are left. The list is by rising LSN, so they stand at its front;
+/// returns how many they are. Errors are those of [`piece_up_to`].
 fn fetch_in_pieces<S: Reread>(
     alloc: Global,
     source: &mut S,
@@ -211,8 +210,8 @@ fn fetch_in_pieces<S: Reread>(
     Ok(taken)
 }
 
-/// Makes of the pages of a store those that their tallies tell of: what their slots want is read once
-/// more. Errors are those of [`piece_up_to`], and `NoResource` if memory was refused.
+/// Makes of the pages of a store those that their tallies tell of, by images that are read once more.
+/// Errors are those of [`piece_up_to`], and `NoResource` if memory was refused.
 fn finish_in_pieces<S: Reread>(
     alloc: Global,
     source: &mut S,
@@ -247,14 +246,15 @@ fn finish_in_pieces<S: Reread>(
 
 /// Repeats history on the pages of a store by the log that a source holds, in the thread of the caller.
 /// The store is given away: its pages are changed in place and not copied. With an error they are gone.
+///
 /// The marks are those before the pieces of the log, and at last the one at its end; each piece is read
-/// into the room. The records from `redo_lsn` on are read once to find which of them each page lacks, and
-/// then the last of these in each slot is read once more.
+/// into the room. The records from `redo_lsn` on are read to find which of them each page lacks, and then
+/// once more where a slot needs the image of one.
 ///
 /// Errors: `Failed` if the source failed; `NoSuchPage` with the LSN of the first record from `redo_lsn` on
-/// that is on a page which the store lacks; `NoResource` if memory was refused; another fault only if
-/// the source no longer holds what it held when the marks were made, or if the room does not take all
-/// frames from each mark to the next, or is below `BASED_HEADER_BYTES + LONGEST_FRAME` bytes.
+/// that is on a page which the store lacks; `NoResource` if memory was refused. Another fault only if the
+/// source no longer holds what it held when the marks were made, or if the room has fewer than
+/// `BASED_HEADER_BYTES + LONGEST_FRAME` bytes or does not take all frames from a mark to the next.
 pub fn redo_in_pieces<S: Reread>(
     alloc: Global,
     source: &mut S,

@@ -1,4 +1,4 @@
-use Rattle.std.proofs.Common.{◌≡◌, ◌<◌, ◌-◌, ◌∙◌, length, get_or, ap, inl, inr, arith}
+use Rattle.std.proofs.Common.{◌∙◌, get_or, ap, inl, inr, arith}
 use Rattle.wal.specs.Records.{history, base_lsn, last_lsn}
 use Rattle.pieces.specs.declared.mark.Mark.{Mark}
 use Rattle.passes.proofs.Reached.{marked, marked_last}

@@ -1,4 +1,4 @@
-use Rattle.std.proofs.Common.{◌≡◌, ◌≤◌, ◌-◌, List, length, get_or, map, sum, refl, sym, ap, subst, arith}
+use Rattle.std.proofs.Common.{◌≡◌, length, map, sum, refl, sym, ap, subst, arith}
 use Rattle.std.specs.List.{sum_by}
 use Rattle.std.proofs.lemmas.Result.{err_from_is_err_and}
 use Rattle.wal.specs.Records.{history, last_lsn}

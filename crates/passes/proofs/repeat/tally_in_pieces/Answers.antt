@@ -1,14 +1,10 @@
-use Rattle.std.proofs.Common.{◌≡◌, ◌<◌, ◌+◌, ◌-◌, ◌≤◌, ◌∙◌, ℕ, List, length, get_or, refl, sym, ap, subst, arith}
+use Rattle.std.proofs.Common.{◌≡◌, ◌≤◌, ◌∙◌, refl, sym, ap, subst, arith}
 use Rattle.std.proofs.lemmas.Result.{err_from_is_err_and}
 use Rattle.page.specs.Store.{StoreContent, AreNumbered}
-use Rattle.wal.specs.Records.{LogContent, history, base_lsn, last_lsn}
-use Rattle.wal.specs.Reads.{Reads}
+use Rattle.wal.specs.Records.{history, base_lsn, last_lsn}
 use Rattle.tables.specs.Tables.{TablesContent}
 use Rattle.redo.specs.Routes.{skipped}
 use Rattle.pieces.specs.declared.mark.Mark.{Mark}
-use Rattle.pieces.specs.Pieces.{IsMark}
-use Rattle.passes.specs.Marks.{AreMarks}
-use Rattle.passes.specs.Next.{IsBefore}
 use Rattle.passes.specs.Redoing.{AreTalliedUpTo}
 use Rattle.passes.proofs.Redoing.{mark_within, tallied_first, is_before_end}
 use Rattle.passes.proofs.Reached.{keeps_same, keeps_on, still_told}

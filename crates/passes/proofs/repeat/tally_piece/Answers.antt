@@ -1,4 +1,4 @@
-use Rattle.std.proofs.Common.{◌≡◌, ◌+◌, ℕ, length, sym, subst, ◌∙◌}
+use Rattle.std.proofs.Common.{◌+◌, length, sym, subst, ◌∙◌}
 use Rattle.std.proofs.lemmas.Result.{err_from_is_err_and}
 use Rattle.redo.specs.Redone.{ExistBelow}
 use Rattle.redo.specs.Passing.{PassFault}
