@@ -74,11 +74,13 @@ fn tally_piece<S: Reread>(
         → (after : LogContent) × IsMark text after next) }
     ensures tallied { IfOk result (λ next. (text : List ℕ) (whole before : LogContent)
         (images : List Page) (tables : TablesContent) → S.text source.old ≡ Some text
-        → IsBefore text whole before mark end → AreTalliedUpTo whole images tables mark.lsn scan.old
+        → IsBefore text whole before mark end
+        → AreTalliedUpTo whole images tables mark.lsn scan.old
         → AreTalliedUpTo whole images tables next.lsn scan.new) }
     ensures fault { IfErr result (λ e. (text : List ℕ) (whole before : LogContent)
         (images : List Page) (tables : TablesContent) → S.text source.old ≡ Some text
-        → IsBefore text whole before mark end → AreTalliedUpTo whole images tables mark.lsn scan.old
+        → IsBefore text whole before mark end
+        → AreTalliedUpTo whole images tables mark.lsn scan.old
         → BASED_HEADER_BYTES + LONGEST_FRAME ≤ length room.old
         → RedoCause whole (length images) tables.redo_lsn e) }
     ensures same { Keeps (S.text source.old) (S.text source.new) }
@@ -158,7 +160,8 @@ fn fetch_piece<S: Reread>(
         → HoldAllBut (history whole) tallies wanted.now images pages.old
         → HoldAllBut (history whole) tallies (drop taken wanted.now) images pages.new) }
     ensures fault { IfErr result (λ e. (text : List ℕ) (whole before : LogContent) (torn : ℕ)
-        (d : Wanted) → S.text source.old ≡ Some text → Reads text whole torn → IsMark text before mark
+        (d : Wanted) → S.text source.old ≡ Some text → Reads text whole torn
+        → IsMark text before mark
         → Reaches text (mark.offset + length room.old - BASED_HEADER_BYTES)
         (slice_index_or wanted.now 0 d).lsn → IsResource e) }
     ensures same { Keeps (S.text source.old) (S.text source.new) }
@@ -196,7 +199,8 @@ fn fetch_in_pieces<S: Reread>(
         → HoldAllBut (history whole) tallies (drop taken wanted.now) images pages.new) }
     ensures fault { IfErr result (λ e. (text : List ℕ) (whole : LogContent) (torn : ℕ)
         → S.text source.old ≡ Some text → Reads text whole torn → AreMarks text whole marks.now
-        → AreInReach (length room.old) marks.now → upto ≤ last_lsn (history whole) → IsResource e) }
+        → AreInReach (length room.old) marks.now → upto ≤ last_lsn (history whole)
+        → IsResource e) }
     ensures same { Keeps (S.text source.old) (S.text source.new) }
     ensures no_failure { OnOk result (S.failures source.new ≡ S.failures source.old) }
     ensures cause { IfErr result (λ e. S.failures source.new
