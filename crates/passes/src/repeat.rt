@@ -65,7 +65,6 @@ fn tally_piece<S: Reread>(
     requires low { end ≤ LARGEST_BASE }
     requires upto { scan.old.upto ≤ mark.lsn }
     ensures rises { IfOk result (λ next. mark.lsn < next.lsn) }
-    ensures within { IfOk result (λ next. next.lsn ≤ end) }
     ensures reach { IfOk result (λ next. next.offset ≤ LARGEST_BASE) }
     ensures upto { IfOk result (λ next. scan.new.upto ≡ next.lsn) }
     ensures count { OnOk result (length scan.new.tallies ≡ length scan.old.tallies) }
