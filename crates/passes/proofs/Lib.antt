@@ -1,5 +1,4 @@
 pub mod Reached
 pub mod Nexts
 pub mod Finding
-pub mod Forward
-pub mod InPieces
+pub mod Redoing

@@ -1,5 +1,3 @@
 pub mod Marks
 pub mod Next
-pub mod Tables
 pub mod Redoing
-pub mod InPieces

@@ -11,7 +11,7 @@ use Rattle.redo.specs.Redone.{ExistBelow, RedoFault}
 use Rattle.passes.specs.declared.fault.PassFault.{PassFault}
 use Rattle.passes.specs.declared.fault.PassFault.TheVariants as fault
 
--- why redo by a log of a device is refused: the device failed, or redo by the whole log, alone, is refused for this cause
+-- why redo by the log of a device is refused: the device failed, or redo with one worker by the whole log is refused so
 abbrev pub RedoCause : LogContent → (count redo_lsn : ℕ) → PassFault → Type 0
 RedoCause whole count redo_lsn fault.Failed = ⊤
 RedoCause whole count redo_lsn (fault.Fault e) = RedoFault whole count redo_lsn 1 e
@@ -24,4 +24,3 @@ pub record AreTalliedUpTo (whole : LogContent) (images : List Page) (tables : Ta
   pub upto : scan.upto ≤ lsn
   pub tallied : AreUpTo (input_over whole images tables) lsn scan.tallies
   pub exist : ExistBelow whole (length images) tables.redo_lsn (lsn + 1)
-

@@ -1,23 +1,263 @@
-//! Stub.
+//! Redo by a log that a device holds, which is read in pieces.
 
-ghost use Rattle.std.specs.Prelude.{◌≡◌, ◌+◌, ◌-◌, ◌≤◌, ◌<◌, ◌^◌, ℕ, List, length, IfOk, IfErr, OnOk, Some};
+ghost use Rattle.std.specs.Prelude.{◌≡◌, ◌+◌, ◌-◌, ◌≤◌, ◌<◌, ◌^◌, ℕ, List, All, length, drop, slice_index_or, IfOk, IfErr, OnOk, Some};
 ghost use Rattle.std.specs.Io.KnownBytes.{Keeps};
-ghost use Rattle.page.specs.Store.{AreNumbered};
-ghost use Rattle.wal.specs.Records.{LogContent};
+ghost use Rattle.std.specs.List.Sorted.{IsNonDecreasingBy};
+ghost use Rattle.page.specs.declared.page.Page.{Page};
+ghost use Rattle.page.specs.declared.sizes.TheConstants.{SLOTS};
+ghost use Rattle.wal.specs.Records.{LogContent, history, base_lsn, last_lsn};
 ghost use Rattle.wal.specs.Reads.{Reads};
-ghost use Rattle.wal.specs.declared.sizes.TheConstants.{BASED_HEADER_BYTES, LONGEST_FRAME};
+ghost use Rattle.wal.specs.declared.sizes.TheConstants.{BASED_HEADER_BYTES, LARGEST_BASE, LONGEST_FRAME};
+ghost use Rattle.tables.specs.Tables.{TablesContent};
+ghost use Rattle.redo.specs.declared.tally.Tally.{Tally};
+ghost use Rattle.redo.specs.declared.wanted.Wanted.{Wanted};
+ghost use Rattle.redo.specs.Changes.{finished};
+ghost use Rattle.redo.specs.Routes.{skipped};
 ghost use Rattle.redo.specs.Redone.{RepeatsHistory};
-ghost use Rattle.passes.specs.Marks.{AreMarks, AreInReach, failures_of};
-ghost use Rattle.passes.specs.Redoing.{RedoCause};
+ghost use Rattle.redo.specs.Wanted.{IsWanted, HoldAllBut};
+ghost use Rattle.pieces.specs.Pieces.{IsMark};
+ghost use Rattle.passes.specs.Marks.{AreMarks, AreInReach, IsLow, Reaches, failures_of, IsResource};
+ghost use Rattle.passes.specs.Next.{IsBefore};
+ghost use Rattle.passes.specs.Redoing.{AreTalliedUpTo, RedoCause};
 
-use crate::{Marks, PassFault};
+use crate::piece::piece_up_to;
+use crate::{Marks, PassFault, piece_before};
 use device::Reread;
-use page::Store;
-use redo::Redone;
+use page::{Page, Store};
+use pieces::Mark;
+use redo::{Redone, TallyScan, Wanted, fetch_from};
 use std::alloc::Global;
 use tables::Tables;
 
-/// Stub.
+/// The mark from which redo reads a log: the last one before the record at `redo_lsn`, or the first
+/// one if there is none before it; the mark at the log's end if `redo_lsn` is 0.
+fn mark_to_begin(marks: &Marks, redo_lsn: u64) -> Mark
+    ensures low { IsLow result }
+    ensures is_mark { (text : List ℕ) (whole : LogContent) → AreMarks text whole marks.now
+        → (before : LogContent) × IsMark text before result }
+    // Redo looks at none of the records before it.
+    ensures before { (text : List ℕ) (whole : LogContent) (torn : ℕ) → Reads text whole torn
+        → AreMarks text whole marks.now
+        → result.lsn ≤ skipped (base_lsn (history whole)) redo_lsn (last_lsn (history whole)) }
+{
+    if redo_lsn == 0 {
+        return marks.end();
+    }
+    marks.at(marks.place_before(redo_lsn))
+}
+
+/// Counts the records of the piece after a mark, in a log that is known to go on to the LSN `end`, for
+/// the pages that lack them. Returns the mark after the piece.
+///
+/// Errors are those of [`piece_before`], and `NoSuchPage` with the LSN of the first record from `redo_lsn`
+/// on that is on a page which the store lacks.
+fn tally_piece<S: Reread>(
+    alloc: Global,
+    source: &mut S,
+    mark: Mark,
+    end: u64,
+    room: &mut [u8],
+    scan: &mut TallyScan,
+) -> Result<Mark, PassFault>
+    requires room { BASED_HEADER_BYTES ≤ length room.old }
+    requires reach { mark.offset + length room.old < 2 ^ 64 }
+    requires before { mark.lsn < end }
+    requires low { end ≤ LARGEST_BASE }
+    requires upto { scan.old.upto ≤ mark.lsn }
+    ensures rises { IfOk result (λ next. mark.lsn < next.lsn) }
+    ensures reach { IfOk result (λ next. next.offset ≤ LARGEST_BASE) }
+    ensures upto { IfOk result (λ next. scan.new.upto ≡ next.lsn) }
+    ensures count { OnOk result (length scan.new.tallies ≡ length scan.old.tallies) }
+    ensures next { IfOk result (λ next. (text : List ℕ) (before : LogContent)
+        → S.text source.old ≡ Some text → IsMark text before mark
+        → (after : LogContent) × IsMark text after next) }
+    ensures tallied { IfOk result (λ next. (text : List ℕ) (whole before : LogContent)
+        (images : List Page) (tables : TablesContent) → S.text source.old ≡ Some text
+        → IsBefore text whole before mark end
+        → AreTalliedUpTo whole images tables mark.lsn scan.old
+        → AreTalliedUpTo whole images tables next.lsn scan.new) }
+    ensures fault { IfErr result (λ e. (text : List ℕ) (whole before : LogContent)
+        (images : List Page) (tables : TablesContent) → S.text source.old ≡ Some text
+        → IsBefore text whole before mark end
+        → AreTalliedUpTo whole images tables mark.lsn scan.old
+        → BASED_HEADER_BYTES + LONGEST_FRAME ≤ length room.old
+        → RedoCause whole (length images) tables.redo_lsn e) }
+    ensures same { Keeps (S.text source.old) (S.text source.new) }
+    ensures no_failure { OnOk result (S.failures source.new ≡ S.failures source.old) }
+    ensures cause { IfErr result (λ e. S.failures source.new
+        ≡ S.failures source.old + failures_of e) }
+{
+    let (piece, next) = piece_before(alloc, source, mark, end, room)?;
+    scan.pass(&piece)?;
+    Ok(next)
+}
+
+/// The tallies of all pages of a store at the end of the log, which is read from `redo_lsn` on, and not
+/// at all if `redo_lsn` is 0. Errors are those of [`redo_in_pieces`].
+fn tally_in_pieces<S: Reread>(
+    alloc: Global,
+    source: &mut S,
+    marks: &Marks,
+    room: &mut [u8],
+    store: &Store,
+    tables: &Tables,
+) -> Result<TallyScan, PassFault>
+    requires room { BASED_HEADER_BYTES ≤ length room.old }
+    requires reach { length room.old < 2 ^ 63 }
+    ensures count { IfOk result (λ scan. length scan.tallies ≡ length store.now.pages) }
+    ensures tallied { IfOk result (λ scan. (text : List ℕ) (whole : LogContent) (torn : ℕ)
+        → S.text source.old ≡ Some text → Reads text whole torn → AreMarks text whole marks.now
+        → AreTalliedUpTo whole store.now.pages tables.now (last_lsn (history whole)) scan) }
+    ensures fault { IfErr result (λ e. (text : List ℕ) (whole : LogContent) (torn : ℕ)
+        → S.text source.old ≡ Some text → Reads text whole torn → AreMarks text whole marks.now
+        → BASED_HEADER_BYTES + LONGEST_FRAME ≤ length room.old
+        → RedoCause whole (length store.now.pages) tables.now.redo_lsn e) }
+    ensures same { Keeps (S.text source.old) (S.text source.new) }
+    ensures no_failure { OnOk result (S.failures source.new ≡ S.failures source.old) }
+    ensures cause { IfErr result (λ e. S.failures source.new
+        ≡ S.failures source.old + failures_of e) }
+{
+    // Opens the store: its pages stand at their numbers.
+    let _ = &store.pages;
+    let end = marks.end().lsn;
+    let mut mark = mark_to_begin(marks, tables.redo_lsn);
+    // There is a first mark, and none is before it: its LSN is the log's base LSN.
+    let _count = marks.len();
+    let base = marks.at(0).lsn.min(mark.lsn);
+    let mut scan = TallyScan::begin(alloc, store, tables, base)?;
+    while mark.lsn < end {
+        mark = tally_piece(alloc, source, mark, end, room, &mut scan)?;
+    }
+    Ok(scan)
+}
+
+/// Fetches the images of the wanted records in the piece after a mark, which is to reach the first of
+/// them at least. The list is by rising LSN, so they stand at its front; returns how many they are.
+/// Errors are those of [`piece_up_to`].
+fn fetch_piece<S: Reread>(
+    alloc: Global,
+    source: &mut S,
+    mark: Mark,
+    room: &mut [u8],
+    wanted: &[Wanted],
+    pages: &mut [Page],
+) -> Result<usize, PassFault>
+    requires room { BASED_HEADER_BYTES ≤ length room.old }
+    requires reach { mark.offset + length room.old < 2 ^ 64 }
+    requires low { mark.lsn ≤ LARGEST_BASE }
+    requires some { 0 < length wanted.now }
+    requires rising { IsNonDecreasingBy (λ w. w.lsn) wanted.now }
+    requires pages { All (λ w. w.page < length pages.old) wanted.now }
+    requires slots { All (λ w. w.slot < SLOTS) wanted.now }
+    ensures some { IfOk result (λ taken. 0 < taken) }
+    ensures within { IfOk result (λ taken. taken ≤ length wanted.now) }
+    ensures count { length pages.new ≡ length pages.old }
+    ensures fetched { IfOk result (λ taken. (text : List ℕ) (whole before : LogContent) (torn : ℕ)
+        (tallies : List Tally) (images : List Page) → S.text source.old ≡ Some text
+        → Reads text whole torn → IsMark text before mark → All (IsWanted tallies) wanted.now
+        → All (λ w. w.lsn ≤ mark.lsn → w.lsn ≤ base_lsn (history whole)) wanted.now
+        → HoldAllBut (history whole) tallies wanted.now images pages.old
+        → HoldAllBut (history whole) tallies (drop taken wanted.now) images pages.new) }
+    ensures fault { IfErr result (λ e. (text : List ℕ) (whole before : LogContent) (torn : ℕ)
+        (d : Wanted) → S.text source.old ≡ Some text → Reads text whole torn
+        → IsMark text before mark
+        → Reaches text (mark.offset + length room.old - BASED_HEADER_BYTES)
+        (slice_index_or wanted.now 0 d).lsn → IsResource e) }
+    ensures same { Keeps (S.text source.old) (S.text source.new) }
+    ensures no_failure { OnOk result (S.failures source.new ≡ S.failures source.old) }
+    ensures cause { IfErr result (λ e. S.failures source.new
+        ≡ S.failures source.old + failures_of e) }
+{
+    let piece = piece_up_to(alloc, source, mark, wanted[0].lsn, room)?;
+    Ok(fetch_from(&piece, wanted, pages))
+}
+
+/// Fetches the images of the wanted records up to an LSN. Each piece that is read begins at the last mark
+/// before the first of those that are left. The list is by rising LSN, so they stand at its front;
+/// returns how many they are. Errors are those of [`piece_up_to`].
+fn fetch_in_pieces<S: Reread>(
+    alloc: Global,
+    source: &mut S,
+    marks: &Marks,
+    room: &mut [u8],
+    upto: u64,
+    wanted: &[Wanted],
+    pages: &mut [Page],
+) -> Result<usize, PassFault>
+    requires room { BASED_HEADER_BYTES ≤ length room.old }
+    requires reach { length room.old < 2 ^ 63 }
+    requires rising { IsNonDecreasingBy (λ w. w.lsn) wanted.now }
+    requires pages { All (λ w. w.page < length pages.old) wanted.now }
+    requires slots { All (λ w. w.slot < SLOTS) wanted.now }
+    ensures count { length pages.new ≡ length pages.old }
+    ensures rest { IfOk result (λ taken. All (λ w. upto < w.lsn) (drop taken wanted.now)) }
+    ensures fetched { IfOk result (λ taken. (text : List ℕ) (whole : LogContent) (torn : ℕ)
+        (tallies : List Tally) (images : List Page) → S.text source.old ≡ Some text
+        → Reads text whole torn → AreMarks text whole marks.now → All (IsWanted tallies) wanted.now
+        → HoldAllBut (history whole) tallies wanted.now images pages.old
+        → HoldAllBut (history whole) tallies (drop taken wanted.now) images pages.new) }
+    ensures fault { IfErr result (λ e. (text : List ℕ) (whole : LogContent) (torn : ℕ)
+        → S.text source.old ≡ Some text → Reads text whole torn → AreMarks text whole marks.now
+        → AreInReach (length room.old) marks.now → upto ≤ last_lsn (history whole)
+        → IsResource e) }
+    ensures same { Keeps (S.text source.old) (S.text source.new) }
+    ensures no_failure { OnOk result (S.failures source.new ≡ S.failures source.old) }
+    ensures cause { IfErr result (λ e. S.failures source.new
+        ≡ S.failures source.old + failures_of e) }
+{
+    let mut taken = 0;
+    while taken < wanted.len() && wanted[taken].lsn <= upto {
+        let mark = marks.at(marks.place_before(wanted[taken].lsn));
+        taken += fetch_piece(alloc, source, mark, room, &wanted[taken..], pages)?;
+    }
+    Ok(taken)
+}
+
+/// Makes of the pages of a store those that their tallies tell of, by images that are read once more.
+/// Errors are those of [`piece_up_to`], and `NoResource` if memory was refused.
+fn finish_in_pieces<S: Reread>(
+    alloc: Global,
+    source: &mut S,
+    marks: &Marks,
+    room: &mut [u8],
+    scan: TallyScan,
+    pages: &mut [Page],
+) -> Result<(), PassFault>
+    requires room { BASED_HEADER_BYTES ≤ length room.old }
+    requires reach { length room.old < 2 ^ 63 }
+    requires count { length pages.old ≡ length scan.tallies }
+    ensures count { length pages.new ≡ length pages.old }
+    ensures each { OnOk result ((text : List ℕ) (whole : LogContent) (torn : ℕ)
+        → S.text source.old ≡ Some text → Reads text whole torn → AreMarks text whole marks.now
+        → (number : ℕ) (t : Tally) (image : Page) → number < length pages.old
+        → slice_index_or pages.new number image ≡ finished (history whole)
+        (slice_index_or scan.tallies number t) (slice_index_or pages.old number image)) }
+    ensures fault { IfErr result (λ e. (text : List ℕ) (whole : LogContent) (torn : ℕ)
+        → S.text source.old ≡ Some text → Reads text whole torn → AreMarks text whole marks.now
+        → AreInReach (length room.old) marks.now → scan.upto ≤ last_lsn (history whole)
+        → IsResource e) }
+    ensures same { Keeps (S.text source.old) (S.text source.new) }
+    ensures no_failure { OnOk result (S.failures source.new ≡ S.failures source.old) }
+    ensures cause { IfErr result (λ e. S.failures source.new
+        ≡ S.failures source.old + failures_of e) }
+{
+    let wanted = scan.wanted(alloc)?;
+    fetch_in_pieces(alloc, source, marks, room, scan.upto(), &wanted, pages)?;
+    scan.finish(pages);
+    Ok(())
+}
+
+/// Repeats history on the pages of a store by the log that a source holds, in the thread of the caller.
+/// The store is given away: its pages are changed in place and not copied. With an error they are gone.
+///
+/// The marks are those before the pieces of the log, and at last the one at its end; each piece is read
+/// into the room. The records from `redo_lsn` on are read to find which of them each page lacks, and then
+/// once more where a slot needs the image of one.
+///
+/// Errors: `Failed` if the source failed; `NoSuchPage` with the LSN of the first record from `redo_lsn` on
+/// that is on a page which the store lacks; `NoResource` if memory was refused. Another fault only if the
+/// source no longer holds what it held when the marks were made, or if the room has fewer than
+/// `BASED_HEADER_BYTES + LONGEST_FRAME` bytes or does not take all frames from a mark to the next.
 pub fn redo_in_pieces<S: Reread>(
     alloc: Global,
     source: &mut S,
@@ -31,7 +271,6 @@ pub fn redo_in_pieces<S: Reread>(
     ensures redone { IfOk result (λ redone. (text : List ℕ) (whole : LogContent) (torn : ℕ)
         → S.text source.old ≡ Some text → Reads text whole torn → AreMarks text whole marks.now
         → RepeatsHistory whole tables.now store.pages redone) }
-    ensures numbered { IfOk result (λ redone. AreNumbered redone.pages.items) }
     ensures fault { IfErr result (λ e. (text : List ℕ) (whole : LogContent) (torn : ℕ)
         → S.text source.old ≡ Some text → Reads text whole torn → AreMarks text whole marks.now
         → BASED_HEADER_BYTES + LONGEST_FRAME ≤ length room.old
@@ -42,5 +281,11 @@ pub fn redo_in_pieces<S: Reread>(
     ensures cause { IfErr result (λ e. S.failures source.new
         ≡ S.failures source.old + failures_of e) }
 {
-    Err(PassFault::Failed)
+    let scan = tally_in_pieces(alloc, source, marks, room, &store, tables)?;
+    let applied = scan.applied();
+    // The log's last LSN fits, and no record counts twice: so the count fits.
+    let _end = marks.end();
+    let mut pages = store.pages;
+    finish_in_pieces(alloc, source, marks, room, scan, &mut pages)?;
+    Ok(Redone { pages, applied })
 }

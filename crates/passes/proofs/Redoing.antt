@@ -1,0 +1,170 @@
+-- Redo by a log that is read in pieces.
+use Rattle.std.proofs.Common.{◌≡◌, ℕ, zero, suc, ◌+◌, ◌-◌, ◌<◌, ◌≤◌, ◌⊎◌, List, [], ◌∷◌, All, length, drop, get_or, refl, sym, ap, ◌∙◌, subst, inl, inr, arith, length-append}
+use Rattle.std.proofs.lemmas.Bool.{cases_lt}
+use Rattle.std.proofs.lemmas.List.{get_or-drop, get_or_default, length-drop}
+use Rattle.std.specs.List.Sorted.{IsNonDecreasingBy}
+use Rattle.page.specs.declared.fault.Fault.{Fault}
+use Rattle.page.specs.declared.fault.Fault.TheVariants.{NoSuchPage}
+use Rattle.page.specs.declared.page.Page.{Page}
+use Rattle.page.specs.Store.{AreNumbered}
+use Rattle.wal.specs.Records.{LogContent, lsn_before, start, history, last_lsn, base_lsn}
+use Rattle.wal.specs.Reads.{Reads}
+use Rattle.wal.proofs.Histories.{base_of_log, size_of_log, first_at_base, record_above, record_within}
+use Rattle.tables.specs.Tables.{TablesContent}
+use Rattle.tables.specs.Pieces.{IsPieceOf}
+use Rattle.pieces.specs.declared.mark.Mark.{Mark}
+use Rattle.pieces.specs.Pieces.{IsMark}
+use Rattle.pieces.proofs.Beginnings.{records_begin, same_start}
+use Rattle.redo.specs.declared.wanted.Wanted.{Wanted}
+use Rattle.redo.specs.Inputs.{InputContent, input_over}
+use Rattle.redo.specs.Parts.{redo_page_in, image_at}
+use Rattle.redo.specs.Routes.{skipped}
+use Rattle.redo.specs.OnePass.{AreUpTo}
+use Rattle.redo.specs.Passing.{TalliesSoFar, IsPieceFor}
+use Rattle.redo.specs.Passing.{PassFault as PassCause}
+use Rattle.redo.specs.Redone.{IsLookedAt, AllExist, ExistBelow, RedoFault}
+use Rattle.redo.proofs.LastRecords.{in_slot}
+use Rattle.redo.proofs.Stretches.{skipped_some}
+use Rattle.redo.proofs.Replay.{skips_none}
+use Rattle.redo.proofs.Passing.{exist_gone, missing_gone}
+use Rattle.passes.specs.declared.fault.PassFault.{PassFault}
+use Rattle.passes.specs.Marks.{IsResource, AreMarks, AreInReach, Reaches}
+use Rattle.passes.specs.Next.{IsBefore}
+use Rattle.passes.specs.Redoing.{RedoCause, AreTalliedUpTo}
+
+-- WHERE REDO BEGINS
+-- a mark of a log is between its base LSN and its last
+pub mark_within : (text : List ℕ) (whole before : LogContent) (torn : ℕ) (mark : Mark) → Reads text whole torn → IsMark text before mark → (base_lsn (history whole) ≤ mark.lsn) × (mark.lsn ≤ last_lsn (history whole))
+mark_within text whole before torn mark reads is =
+    let more = records_begin text whole torn reads before mark.offset is.reads in
+    let starts = same_start text whole torn reads before mark.offset is.reads in (
+      omega (arith, is.lsn, size_of_log before, base_of_log whole, ap lsn_before starts),
+      omega (arith, is.lsn, size_of_log before, size_of_log whole, ap lsn_before starts, ap length more.1, length-append before.records more.0),
+    )
+
+-- a log has a mark
+pub some_marks : (text : List ℕ) (whole : LogContent) (marks : List Mark) → AreMarks text whole marks → 0 < length marks
+some_marks text whole [] are = absurd (omega (arith, are.first (record { lsn = suc (base_lsn (history whole)); offset = 0 })))
+some_marks text whole (mark ∷ marks) are = omega arith
+
+-- redo looks at no record up to the LSN that it skips
+pub before_redo : (base redo_lsn last lsn : ℕ) → lsn ≤ last → (lsn ≡ base) ⊎ (lsn < redo_lsn) → 0 < redo_lsn → lsn ≤ skipped base redo_lsn last
+before_redo base zero last lsn le either_way some = absurd (omega (arith, some))
+before_redo base (suc n) last lsn le (inl at) some = omega (arith, skipped_some base n last, at)
+before_redo base (suc n) last lsn le (inr less) some = omega (arith, skipped_some base n last, less, le)
+
+none_looked_at : (base redo_lsn last lsn : ℕ) → lsn ≤ skipped base redo_lsn last → base < lsn → IsLookedAt redo_lsn lsn → ⊥
+none_looked_at base zero last lsn le above looked = absurd (looked.0 refl)
+none_looked_at base (suc n) last lsn le above looked = omega (arith, le, skipped_some base n last, above, looked.1)
+
+pub exist_before : (whole : LogContent) (count redo_lsn lsn : ℕ) → lsn ≤ skipped (base_lsn (history whole)) redo_lsn (last_lsn (history whole)) → ExistBelow whole count redo_lsn (lsn + 1)
+exist_before whole count redo_lsn lsn le k r looked below found =
+    absurd (none_looked_at (base_lsn (history whole)) redo_lsn (last_lsn (history whole)) k (omega (arith, le, below)) (record_above (history whole) k r found) looked)
+
+pub tallied_first : (whole : LogContent) (images : List Page) (tables : TablesContent) (base lsn : ℕ) (scan : TalliesSoFar) → AreNumbered images → scan.redo_lsn ≡ tables.redo_lsn → scan.upto ≤ lsn → base ≡ base_lsn (history whole)
+    → lsn ≤ last_lsn (history whole) → lsn ≤ skipped (base_lsn (history whole)) tables.redo_lsn (last_lsn (history whole)) → AreUpTo (input_over whole images tables) base scan.tallies
+    → AreTalliedUpTo whole images tables lsn scan
+tallied_first whole images tables base lsn scan numbered from upto at within before up =
+    let input : InputContent = input_over whole images tables in
+    record {
+      numbered = numbered;
+      from = sym from;
+      upto = upto;
+      tallied = record {
+        count = up.count;
+        each = λ k t lt.
+            up.each k t lt
+            ∙ (ap (λ h. redo_page_in input h (image_at images k)) (first_at_base (history whole) base at ∙ ap (λ n. start n) at)
+            ∙ sym (skips_none input (image_at images k) lsn before within));
+      };
+      exist = exist_before whole (length images) tables.redo_lsn lsn before;
+    }
+
+-- A PIECE MORE
+-- a mark below the last one of a log is before its end
+pub is_before_end : (text : List ℕ) (whole before : LogContent) (torn : ℕ) (marks : List Mark) (mark end : Mark) → Reads text whole torn → IsMark text before mark → AreMarks text whole marks
+    → ((d : Mark) → end ≡ get_or marks (length marks - 1) d) → mark.lsn < end.lsn → IsBefore text whole before mark end.lsn
+is_before_end text whole before torn marks mark end reads is are end_is less = record {
+  torn = torn;
+  reads = reads;
+  is_end = ap (λ (m : Mark). m.lsn) (end_is end) ∙ are.last end;
+  is_mark = is;
+  is_before = less;
+}
+
+pub tallied_more : (whole piece : LogContent) (images : List Page) (tables : TablesContent) (mark next : ℕ) (old new : TalliesSoFar) → IsPieceOf (history whole) (history piece) → base_lsn (history piece) ≡ mark → last_lsn (history piece) ≡ next
+    → new.redo_lsn ≡ old.redo_lsn → new.upto ≡ next
+    → ((input : InputContent) → IsPieceFor input old.redo_lsn piece → AreUpTo input (base_lsn (history piece)) old.tallies → AreUpTo input (last_lsn (history piece)) new.tallies)
+    → AllExist piece (length old.tallies) old.redo_lsn → AreTalliedUpTo whole images tables mark old → AreTalliedUpTo whole images tables next new
+tallied_more whole piece images tables mark next old new own base last same upto goes_on exist before =
+    let input : InputContent = input_over whole images tables in
+    record {
+      numbered = before.numbered;
+      from = before.from ∙ sym same;
+      upto = omega (arith, upto);
+      tallied = subst (λ n. AreUpTo input n new.tallies) last
+          (goes_on input (record { numbered = before.numbered; from = before.from; piece_of = own }) (subst (λ n. AreUpTo input n old.tallies) (sym base) before.tallied));
+      exist = subst (λ n. ExistBelow whole (length images) tables.redo_lsn (n + 1)) last
+          (exist_gone whole piece (length images) tables.redo_lsn own (subst (λ n. ExistBelow whole (length images) tables.redo_lsn (n + 1)) (sym base) before.exist)
+          (subst (λ n. AllExist piece n tables.redo_lsn) before.tallied.count (subst (AllExist piece (length old.tallies)) (sym before.from) exist)));
+    }
+
+-- at the end of the log
+pub exist_all : (whole : LogContent) (count redo_lsn : ℕ) → ExistBelow whole count redo_lsn (last_lsn (history whole) + 1) → AllExist whole count redo_lsn
+exist_all whole count redo_lsn below lsn r looked found = below lsn r looked (omega (arith, record_within (history whole) lsn r found)) found
+
+-- WHAT IS REFUSED
+pub resource_cause : (whole : LogContent) (count redo_lsn : ℕ) (e : PassFault) → IsResource e → RedoCause whole count redo_lsn e
+resource_cause whole count redo_lsn e (inl failed) = subst (RedoCause whole count redo_lsn) (sym failed) tt
+resource_cause whole count redo_lsn e (inr refused) = subst (RedoCause whole count redo_lsn) (sym refused) tt
+
+pub pass_cause : (whole piece : LogContent) (count redo_lsn : ℕ) (e : Fault) → IsPieceOf (history whole) (history piece) → ExistBelow whole count redo_lsn (base_lsn (history piece) + 1) → PassCause piece count redo_lsn e
+    → RedoFault whole count redo_lsn 1 e
+pass_cause whole piece count redo_lsn (NoSuchPage lsn) own before cause = ((omega arith, omega arith), missing_gone whole piece count redo_lsn lsn own before cause)
+pass_cause whole piece count redo_lsn e own before cause = absurd cause
+
+-- FETCHING
+-- the piece after the last mark before a record reaches the record, with a room in reach
+pub reaches_next : (text : List ℕ) (whole : LogContent) (marks : List Mark) (asked room place : ℕ) (mark : Mark) (lsn : ℕ) → room ≡ asked → 16 ≤ asked → AreMarks text whole marks → AreInReach asked marks
+    → ((d : Mark) → mark ≡ get_or marks place d) → place < length marks → ((d : Mark) → place + 1 < length marks → lsn ≤ (get_or marks (place + 1) d).lsn) → lsn ≤ last_lsn (history whole)
+    → Reaches text (mark.offset + room - 16) lsn
+reaches_next text whole marks asked room place mark lsn same wide are reach is lt next within =
+    elim (cases_lt (place + 1) (length marks)) [
+      | inl more ↦
+          (let later = are.each (place + 1) mark more in (
+            later.0,
+            get_or marks (place + 1) mark,
+            later.1,
+            omega (arith, same, reach place mark more, ap (λ (m : Mark). m.offset) (is mark)),
+            next mark more,
+          ))
+      | inr end ↦
+          (let own = are.each place mark lt in
+          let at : place ≡ length marks - 1 = omega (arith, lt, end) in (
+            own.0,
+            mark,
+            subst (IsMark text own.0) (sym (is mark)) own.1,
+            omega (arith, same, wide),
+            omega (arith, within, ap (λ (m : Mark). m.lsn) (is mark), ap (λ k. (get_or marks k mark).lsn) at, are.last mark),
+          ))
+    ]
+
+-- and no record of the log before that mark is among those that are wanted from there on
+pub all_ahead : (text : List ℕ) (whole : LogContent) (marks : List Mark) (place taken : ℕ) (mark : Mark) (wanted : List Wanted) → AreMarks text whole marks → ((d : Mark) → mark ≡ get_or marks place d)
+    → IsNonDecreasingBy (λ (w : Wanted). w.lsn) wanted → taken < length wanted → ((d : Mark) → (place ≡ 0) ⊎ ((get_or marks place d).lsn < (get_or wanted taken (in_slot 0 0 0)).lsn))
+    → All (λ (w : Wanted). w.lsn ≤ mark.lsn → w.lsn ≤ base_lsn (history whole)) (drop taken wanted)
+all_ahead text whole marks place taken mark wanted are is rising lt before k d less le =
+    elim (before mark) [
+      | inl first ↦ omega (arith, le, ap (λ (m : Mark). m.lsn) (is mark), ap (λ n. (get_or marks n mark).lsn) first, are.first mark)
+      | inr front ↦
+          (let within : taken + k < length wanted = omega (arith, less, length-drop taken wanted) in
+          absurd (omega (
+            arith,
+            le,
+            front,
+            ap (λ (m : Mark). m.lsn) (is mark),
+            rising taken (taken + k) d (omega arith) within,
+            ap (λ (w : Wanted). w.lsn) (get_or-drop taken wanted k d),
+            ap (λ (w : Wanted). w.lsn) (get_or_default wanted taken d (in_slot 0 0 0) lt),
+          )))
+    ]

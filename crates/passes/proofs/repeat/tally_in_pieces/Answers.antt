@@ -1,0 +1,74 @@
+use Rattle.std.proofs.Common.{◌≡◌, ◌≤◌, ◌∙◌, refl, sym, ap, subst, arith}
+use Rattle.std.proofs.lemmas.Result.{err_from_is_err_and}
+use Rattle.page.specs.Store.{StoreContent, AreNumbered}
+use Rattle.wal.specs.Records.{history, base_lsn, last_lsn}
+use Rattle.tables.specs.Tables.{TablesContent}
+use Rattle.redo.specs.Routes.{skipped}
+use Rattle.pieces.specs.declared.mark.Mark.{Mark}
+use Rattle.passes.specs.Redoing.{AreTalliedUpTo}
+use Rattle.passes.proofs.Redoing.{mark_within, tallied_first, is_before_end}
+use Rattle.passes.proofs.Reached.{keeps_same, keeps_on, still_told}
+use Rattle.passes.proofs.repeat.tally_in_pieces.Goals as goal
+
+pub loop-mark-init : goal.loop-mark-init
+loop-mark-init g c =
+    let begun = c.in_ok-scan.ensures in
+    let mark = c.mark_to_begin-mark.result in
+    let upto : c.in_ok-scan.scan.upto ≤ mark.lsn = omega (arith, begun.upto, c.min-base.ensures) in
+    record {
+      room = refl;
+      same = keeps_same (g.S.Reread.text c.args.source.now);
+      failures = refl;
+      offset = c.mark_to_begin-mark.ensures.low.offset;
+      upto = upto;
+      count = begun.count;
+      marked = λ text whole is marks. c.mark_to_begin-mark.ensures.is_mark text whole marks;
+      tallied = λ text whole torn is reads marks.
+          let own = c.mark_to_begin-mark.ensures.is_mark text whole marks in
+          let within = mark_within text whole own.0 torn mark reads own.1 in
+          let at : c.min-base.result ≡ base_lsn (history whole) = omega (arith, c.min-base.ensures, ap (λ (m : Mark). m.lsn) (c.at.ensures.at mark), marks.first mark, within.0) in
+          let numbered : AreNumbered c.args.store.now.pages = subst AreNumbered (ap (λ (s : StoreContent). s.pages) c.store.view_is) c.store.invariant in
+          tallied_first whole c.args.store.now.pages c.args.tables.now c.min-base.result mark.lsn c.in_ok-scan.scan numbered begun.redo_lsn upto at within.1
+          (subst (λ n. mark.lsn ≤ skipped (base_lsn (history whole)) n (last_lsn (history whole))) (ap (λ (t : TablesContent). t.redo_lsn) c.tables.view_is) (c.mark_to_begin-mark.ensures.before text whole torn reads marks))
+          (begun.begun whole (sym at));
+    }
+
+pub loop-mark-preserved : goal.loop-mark-preserved
+loop-mark-preserved g c =
+    let inv = c.loop-mark.invariant in
+    let piece = c.in_ok-mark.ensures in
+    record {
+      room = omega (arith, c.tally_piece.auto.room, inv.room);
+      same = keeps_on (g.S.Reread.text c.args.source.now) (g.S.Reread.text c.loop-mark.source) (g.S.Reread.text c.tally_piece.new.source) inv.same piece.same;
+      failures = piece.no_failure ∙ inv.failures;
+      offset = piece.reach;
+      upto = omega (arith, piece.upto);
+      count = piece.count ∙ inv.count;
+      marked = λ text whole is marks.
+          let own = inv.marked text whole is marks in
+          piece.next text own.0 (still_told (g.S.Reread.text c.args.source.now) (g.S.Reread.text c.loop-mark.source) text inv.same is) own.1;
+      tallied = λ text whole torn is reads marks.
+          let own = inv.marked text whole is marks in
+          piece.tallied text whole own.0 c.args.store.now.pages c.args.tables.now (still_told (g.S.Reread.text c.args.source.now) (g.S.Reread.text c.loop-mark.source) text inv.same is)
+          (is_before_end text whole own.0 torn c.args.marks.now c.loop-mark.mark c.end-end.result reads own.1 marks c.end-end.ensures.end c.loop-mark-test.true) (inv.tallied text whole torn is reads marks);
+    }
+
+pub returns-in_err-mark-clause-fault : goal.returns-in_err-mark-clause-fault
+returns-in_err-mark-clause-fault g c =
+    let inv = c.loop-mark.invariant in
+    let exit = err_from_is_err_and c.from_residual-in_err-mark.result c.from_residual-in_err-mark.ensures.1 in
+    rw (exit.1, exit.2)
+    (λ text whole torn is reads marks long.
+    let own = inv.marked text whole is marks in
+    c.in_err-mark.ensures.fault text whole own.0 c.args.store.now.pages c.args.tables.now (still_told (g.S.Reread.text c.args.source.now) (g.S.Reread.text c.loop-mark.source) text inv.same is)
+    (is_before_end text whole own.0 torn c.args.marks.now c.loop-mark.mark c.end-end.result reads own.1 marks c.end-end.ensures.end c.loop-mark-test.true) (inv.tallied text whole torn is reads marks)
+    (omega (arith, long, inv.room)))
+
+pub returns-clause-tallied : goal.returns-clause-tallied
+returns-clause-tallied g c = λ text whole torn is reads marks.
+    let inv = c.loop-mark.invariant in
+    let own = inv.marked text whole is marks in
+    let within = mark_within text whole own.0 torn c.loop-mark.mark reads own.1 in
+    let at : c.loop-mark.mark.lsn ≡ last_lsn (history whole) =
+    omega (arith, within.1, c.loop-mark-test.false, ap (λ (m : Mark). m.lsn) (c.end-end.ensures.end c.loop-mark.mark), marks.last c.loop-mark.mark) in
+    subst (λ n. AreTalliedUpTo whole c.args.store.now.pages c.args.tables.now n c.loop-mark.scan) at (inv.tallied text whole torn is reads marks)
