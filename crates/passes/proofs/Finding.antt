@@ -1,16 +1,16 @@
 -- The marks of a log while it is read from its beginning.
-use Rattle.std.proofs.Common.{◌≡◌, ℕ, suc, ◌+◌, ◌-◌, ◌<◌, ◌≤◌, List, [], ◌∷◌, ◌++◌, Option, Some, None, length, take, drop, get_or, refl, sym, ap, ◌∙◌, subst, inl, inr, arith, length-append}
+use Rattle.std.proofs.Common.{◌≡◌, ℕ, suc, ◌+◌, ◌-◌, ◌<◌, ◌≤◌, List, [], ◌∷◌, ◌++◌, Option, Some, length, take, drop, get_or, sym, ap, ◌∙◌, subst, inl, inr, arith, length-append}
 use Rattle.std.proofs.lemmas.Bool.{cases_lt}
 use Rattle.std.proofs.lemmas.List.{get_or_append_left, take_all}
 use Rattle.std.proofs.Math.Seq.{get_or-append_seam}
 use Rattle.device.specs.Reread.{EndsBy, ReadsFrom}
-use Rattle.wal.specs.Records.{lsn_before, LogContent, history, last_lsn, base_lsn}
+use Rattle.wal.specs.Records.{lsn_before, LogContent}
 use Rattle.wal.specs.Reads.{Reads}
 use Rattle.wal.proofs.Histories.{base_of_log, size_of_log}
 use Rattle.pieces.specs.declared.mark.Mark.{Mark}
 use Rattle.pieces.specs.Pieces.{IsMark}
 use Rattle.pieces.proofs.Beginnings.{same_start}
-use Rattle.passes.specs.Marks.{AreMarks, AreInReach, AreFound}
+use Rattle.passes.specs.Marks.{AreInReach, AreFound}
 use Rattle.passes.proofs.Reached.{told}
 
 -- THE FIRST BYTES

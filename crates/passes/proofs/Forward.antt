@@ -1,8 +1,8 @@
 -- A log that is read forward, piece after piece.
-use Rattle.std.proofs.Common.{◌≡◌, ℕ, ◌+◌, ◌<◌, ◌≤◌, List, [], ◌++◌, length, None, get_or, sym, ap, ap₂, ◌∙◌, subst, inl, inr, ◌⊎◌, arith, length-append}
+use Rattle.std.proofs.Common.{◌≡◌, ℕ, ◌<◌, ◌≤◌, List, [], ◌++◌, length, None, get_or, sym, ap, ap₂, ◌∙◌, inl, inr, ◌⊎◌, arith, length-append}
 use Rattle.std.proofs.lemmas.Bool.{cases_lt}
 use Rattle.std.proofs.lemmas.List.{append-nil, nil_from_length}
-use Rattle.wal.specs.Records.{LogRecord, lsn_before, LogContent, History, start, ◌▸▸◌, history, last_lsn, base_lsn, record_at, ◌⧺◌}
+use Rattle.wal.specs.Records.{LogRecord, lsn_before, LogContent, start, ◌▸▸◌, history, last_lsn, base_lsn, record_at, ◌⧺◌}
 use Rattle.wal.specs.Reads.{Reads}
 use Rattle.wal.proofs.Histories.{after-append, base_of_log, record_none, size_of_log}
 use Rattle.pieces.specs.declared.mark.Mark.{Mark}
@@ -41,7 +41,7 @@ rest_of text whole before torn mark reads is =
     let starts = same_start text whole torn reads before mark.offset is.reads in (
       more.0,
       with_piece before (record { begins = before.begins; records = more.0 })
-      ∙ ap₂ (λ b (rs : List LogRecord). history (record { begins = b; records = rs })) (sym starts) (sym more.1),
+          ∙ ap₂ (λ b (rs : List LogRecord). history (record { begins = b; records = rs })) (sym starts) (sym more.1),
     )
 
 -- THE CHECKPOINT comes after the mark that is looked for

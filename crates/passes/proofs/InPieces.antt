@@ -11,7 +11,7 @@ use Rattle.tables.specs.Tables.{TablesContent}
 use Rattle.analysis.specs.Tables.{AreTablesOf}
 use Rattle.redo.specs.declared.redone.Redone.{Redone}
 use Rattle.redo.specs.Redone.{AreWorkers, RepeatsHistory}
-use Rattle.restart.specs.Restart.{AheadFault, NoneAhead, IsRedone, InputFault}
+use Rattle.restart.specs.Restart.{AheadFault, NoneAhead, IsRedone}
 use Rattle.restart.proofs.Restored.{base_alone, redo_alone}
 use Rattle.restart.proofs.Causes.{base_fault, redo_fault}
 use Rattle.passes.specs.declared.fault.PassFault.{PassFault}

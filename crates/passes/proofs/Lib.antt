@@ -1,4 +1,6 @@
 pub mod Reached
 pub mod Nexts
 pub mod Finding
+pub mod Forward
 pub mod Redoing
+pub mod InPieces

@@ -1,5 +1,5 @@
 -- What a restart makes of a log that is read in pieces, and why it is refused (own).
-use Rattle.std.specs.Prelude.{◌≡◌, ⊤, ℕ, List}
+use Rattle.std.specs.Prelude.{◌≡◌, ⊤, List}
 use Rattle.page.specs.Store.{StoreContent}
 use Rattle.wal.specs.Records.{LogContent, history, base_lsn, last_lsn}
 use Rattle.undo.specs.declared.appended.Appended.{Appended}

@@ -1,3 +1,5 @@
 pub mod Marks
 pub mod Next
+pub mod Tables
 pub mod Redoing
+pub mod InPieces

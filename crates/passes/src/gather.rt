@@ -12,8 +12,8 @@ ghost use Rattle.undo.specs.Wants.{AreUpTo, wants_in};
 ghost use Rattle.pieces.specs.Pieces.{IsMark};
 ghost use Rattle.passes.specs.Marks.{AreMarks, AreInReach, Reaches, failures_of, IsResource};
 
-use crate::{Marks, PassFault};
 use crate::piece::piece_up_to;
+use crate::{Marks, PassFault};
 use device::Reread;
 use pieces::Mark;
 use std::alloc::Global;

@@ -4,6 +4,7 @@ ghost use Rattle.std.specs.Prelude.{◌≡◌, ◌+◌, ◌-◌, ◌≤◌, ◌<
 ghost use Rattle.std.specs.Io.KnownBytes.{Keeps};
 ghost use Rattle.std.specs.List.Sorted.{IsNonDecreasingBy};
 ghost use Rattle.page.specs.declared.page.Page.{Page};
+ghost use Rattle.page.specs.Store.{AreNumbered};
 ghost use Rattle.page.specs.declared.sizes.TheConstants.{SLOTS};
 ghost use Rattle.wal.specs.Records.{LogContent, history, base_lsn, last_lsn};
 ghost use Rattle.wal.specs.Reads.{Reads};
@@ -227,6 +228,8 @@ fn finish_in_pieces<S: Reread>(
     requires reach { length room.old < 2 ^ 63 }
     requires count { length pages.old ≡ length scan.tallies }
     ensures count { length pages.new ≡ length pages.old }
+    ensures numbers { OnOk result ((k : ℕ) (page : Page) → k < length pages.old
+        → (slice_index_or pages.new k page).number ≡ k) }
     ensures each { OnOk result ((text : List ℕ) (whole : LogContent) (torn : ℕ)
         → S.text source.old ≡ Some text → Reads text whole torn → AreMarks text whole marks.now
         → (number : ℕ) (t : Tally) (image : Page) → number < length pages.old
@@ -271,6 +274,7 @@ pub fn redo_in_pieces<S: Reread>(
     ensures redone { IfOk result (λ redone. (text : List ℕ) (whole : LogContent) (torn : ℕ)
         → S.text source.old ≡ Some text → Reads text whole torn → AreMarks text whole marks.now
         → RepeatsHistory whole tables.now store.pages redone) }
+    ensures numbered { IfOk result (λ redone. AreNumbered redone.pages.items) }
     ensures fault { IfErr result (λ e. (text : List ℕ) (whole : LogContent) (torn : ℕ)
         → S.text source.old ≡ Some text → Reads text whole torn → AreMarks text whole marks.now
         → BASED_HEADER_BYTES + LONGEST_FRAME ≤ length room.old

@@ -1,6 +1,5 @@
-use Rattle.std.proofs.Common.{◌≡◌, ◌≤◌, ℕ, List, length, Some, subst, sym, ap, ◌∙◌}
+use Rattle.std.proofs.Common.{◌≡◌, ◌≤◌, ℕ, List, Some, subst, sym, ap, ◌∙◌}
 use Rattle.std.proofs.lemmas.Result.{err_from_is_err_and}
-use Rattle.page.specs.Store.{StoreContent}
 use Rattle.wal.specs.Records.{LogContent, history, last_lsn, base_lsn}
 use Rattle.wal.specs.Reads.{Reads}
 use Rattle.analysis.specs.Passing.{HasAnalysed}
@@ -11,7 +10,6 @@ use Rattle.passes.proofs.Nexts.{tables_resource}
 use Rattle.passes.proofs.Reached.{marked, still_told}
 use Rattle.passes.proofs.analyse.tables_in_pieces.Given.{Over}
 use Rattle.passes.proofs.analyse.tables_in_pieces.Goals as goal
-
 
 pub returns-in_err-transactions-clause-fault : goal.returns-in_err-transactions-clause-fault
 returns-in_err-transactions-clause-fault g c =

@@ -1,7 +1,6 @@
-use Rattle.std.proofs.Common.{◌≡◌, ◌++◌, ◌∷◌, [], ◌<◌, ◌-◌, List, length, get_or, sym, ap, subst, ◌∙◌, arith}
+use Rattle.std.proofs.Common.{◌<◌, List, length, sym, subst, ◌∙◌, arith}
 use Rattle.std.proofs.lemmas.Result.{err_from_is_err_and}
 use Rattle.pieces.specs.declared.mark.Mark.{Mark}
-use Rattle.passes.specs.Marks.{AreFound}
 use Rattle.passes.proofs.Finding.{AreFoundSoFar, found_more, found_all}
 use Rattle.passes.proofs.Reached.{still_told, keeps_on, marked_last}
 use Rattle.passes.proofs.find.find_marks.Goals as goal

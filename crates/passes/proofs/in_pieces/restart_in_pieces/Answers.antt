@@ -1,21 +1,16 @@
-use Rattle.std.proofs.Common.{◌≡◌, ◌≤◌, ℕ, List, All, Some, length, refl, sym, ap, ◌∙◌, subst, inl, inr}
-use Rattle.std.proofs.lemmas.Result.{err_from_is_err_and, IfErr-weaker}
+use Rattle.std.proofs.Common.{◌≡◌, ◌≤◌, List, sym, ap, ◌∙◌, subst}
+use Rattle.std.proofs.lemmas.Result.{err_from_is_err_and}
 use Rattle.page.specs.declared.page.Page.{Page}
 use Rattle.page.specs.Store.{StoreContent, AreNumbered}
-use Rattle.wal.specs.Records.{LogContent, history, last_lsn}
-use Rattle.wal.specs.Reads.{Reads}
-use Rattle.tables.specs.Tables.{losers_in}
-use Rattle.undo.specs.Enough.{AreGathered}
+use Rattle.wal.specs.Records.{history, last_lsn}
 use Rattle.undo.proofs.Lost.{lost_none}
-use Rattle.restart.specs.Restart.{AheadFault, NoneAhead, IsRedone}
-use Rattle.restart.proofs.Restored.{ahead_alone, base_alone}
-use Rattle.restart.proofs.Causes.{base_fault, redo_fault}
+use Rattle.restart.specs.Restart.{AheadFault, NoneAhead}
+use Rattle.restart.proofs.Restored.{ahead_alone}
 use Rattle.analysis.specs.Tables.{AreTablesOf}
-use Rattle.passes.specs.Marks.{AreMarks, AreInReach}
+use Rattle.passes.specs.Marks.{AreInReach}
 use Rattle.passes.specs.Tables.{TablesCause}
 use Rattle.passes.proofs.InPieces.{none_ahead, is_redone, ahead_fault, tables_alone, tables_fault, redo_alone_in_pieces, redo_fault_in_pieces, resource_fault, memory_alone}
 use Rattle.passes.proofs.Reached.{still_told}
-use Rattle.passes.proofs.in_pieces.restart_in_pieces.Given.{Over}
 use Rattle.passes.proofs.in_pieces.restart_in_pieces.Goals as goal
 
 pub returns-in_err-check_lsns-clause-lawful : goal.returns-in_err-check_lsns-clause-lawful

@@ -1,7 +1,5 @@
 use Rattle.std.proofs.Common.{arith}
 use Rattle.std.proofs.lemmas.Result.{err_from_is_err_and}
-use Rattle.wal.specs.Records.{history, last_lsn}
-use Rattle.passes.specs.Marks.{IsResource}
 use Rattle.passes.proofs.Nexts.{one_more, log_alone, next_rises, next_within}
 use Rattle.passes.proofs.next.piece_before.Goals.{then-next-mark-via-then-next-mark, then-next-mark-via-else-next-mark+then-end-next}
 use Rattle.passes.proofs.next.piece_before.Goals as goal
