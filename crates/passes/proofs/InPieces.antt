@@ -1,5 +1,12 @@
 -- A restart in pieces: the faults of its parts, in its own words.
-use Rattle.std.proofs.Common.{◌≡◌, ◌≤◌, ℕ, List, All, length, refl, sym, ap, subst, inl, inr, arith}
+use Rattle.std.proofs.Common.{◌≡◌, ◌≤◌, ◌<◌, ◌-◌, ◌++◌, ℕ, List, All, length, take, get_or, refl, sym, ap, ◌∙◌, subst, inl, inr, arith, length-append, length-take}
+use Rattle.std.proofs.lemmas.List.{append-nil, nil_from_length}
+use Rattle.wal.specs.Reads.{Reads, log_text}
+use Rattle.wal.proofs.Whole.{one_reading}
+use Rattle.pieces.specs.declared.mark.Mark.{Mark}
+use Rattle.passes.specs.Marks.{AreMarks, AreFound, LogCause}
+use Rattle.passes.proofs.Forward.{is_whole}
+use Rattle.passes.proofs.Reached.{marked_last}
 use Rattle.page.specs.declared.fault.Fault.{Fault}
 use Rattle.page.specs.declared.fault.Fault.TheVariants.{NoResource, PageAheadOfLog}
 use Rattle.page.specs.declared.page.Page.{Page}
@@ -19,7 +26,7 @@ use Rattle.passes.specs.declared.fault.PassFault.TheVariants as fault
 use Rattle.passes.specs.Marks.{IsResource}
 use Rattle.passes.specs.Tables.{TablesCause}
 use Rattle.passes.specs.Redoing.{RedoCause}
-use Rattle.passes.specs.InPieces.{RestartCause}
+use Rattle.passes.specs.InPieces.{AreRead, InPiecesCause, RestartCause}
 
 -- one worker is a number that redo may have
 one : AreWorkers 1
@@ -63,3 +70,40 @@ none_ahead whole before lent end stored at each =
 pub is_redone : (whole : LogContent) (before : StoreContent) (tables : TablesContent) (redone : Redone) → NoneAhead whole before → AreTablesOf whole before.master tables → RepeatsHistory whole tables before.pages redone
     → IsRedone whole before tables redone
 is_redone whole before tables redone none are repeats = record { are = are; none_ahead = none; exist = repeats.exist; redone_pages = repeats.pages; applied = repeats.applied }
+
+-- THE MARKS are those of each log that the text reads as, since there is one
+pub same_marks : (text : List ℕ) (room torn left : ℕ) (marks : List Mark) (whole : LogContent) → AreFound text room marks left → Reads text whole torn → AreMarks text whole marks
+same_marks text room torn left marks whole found reads = subst (λ w. AreMarks text w marks) (one_reading text found.whole whole left torn found.reads reads).0 found.are
+
+-- the last of them stands where the log's text ends
+pub found_read : (text : List ℕ) (room torn : ℕ) (marks : List Mark) (end : Mark) → 0 < length marks → ((d : Mark) → end ≡ get_or marks (length marks - 1) d) → AreFound text room marks torn → AreRead text end.offset torn
+found_read text room torn marks end some at found =
+    let own = marked_last text marks end some at found.are.each in
+    let last : last_lsn (history found.whole) ≤ end.lsn = omega (arith, found.are.last end, ap (λ (m : Mark). m.lsn) (at end)) in
+    let same : own.0 ≡ found.whole = is_whole text found.whole own.0 torn end found.reads own.1 last in
+    let reads : Reads (take end.offset text) found.whole 0 = subst (λ w. Reads (take end.offset text) w 0) same own.1.reads in
+    let kept : take end.offset text ≡ log_text found.whole =
+    reads.text ∙ ap (λ (t : List ℕ). log_text found.whole ++ t) (nil_from_length reads.tail reads.torn_count) ∙ append-nil (log_text found.whole) in
+    record {
+      whole = found.whole;
+      reads = found.reads;
+      kept_is = kept;
+      size = omega (
+        arith,
+        ap (λ (t : List ℕ). length t) kept,
+        length-take end.offset text,
+        own.1.within,
+        ap (λ (t : List ℕ). length t) found.reads.text,
+        length-append (log_text found.whole) found.reads.tail,
+        found.reads.torn_count,
+      );
+    }
+
+-- WHAT REFUSES a restart of the log that the text reads as
+pub in_pieces_fault : (text : List ℕ) (whole : LogContent) (torn : ℕ) (before : StoreContent) → Reads text whole torn → (e : PassFault) → RestartCause whole before e → InPiecesCause text before e
+in_pieces_fault text whole torn before reads fault.Failed cause = tt
+in_pieces_fault text whole torn before reads (fault.Fault e) cause = inr (whole, torn, reads, cause)
+
+pub text_fault : (text : List ℕ) (before : StoreContent) (e : PassFault) → LogCause text e → InPiecesCause text before e
+text_fault text before fault.Failed cause = tt
+text_fault text before (fault.Fault e) cause = inl cause

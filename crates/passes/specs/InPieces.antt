@@ -1,7 +1,8 @@
 -- What a restart makes of a log that is read in pieces, and why it is refused (own).
-use Rattle.std.specs.Prelude.{◌≡◌, ⊤, List}
+use Rattle.std.specs.Prelude.{◌≡◌, ◌⊎◌, ⊤, ℕ, ◌+◌, List, length, take}
 use Rattle.page.specs.Store.{StoreContent}
 use Rattle.wal.specs.Records.{LogContent, history, base_lsn, last_lsn}
+use Rattle.wal.specs.Reads.{Reads, Cause, log_text}
 use Rattle.undo.specs.declared.appended.Appended.{Appended}
 use Rattle.undo.specs.Appended.{records_of}
 use Rattle.restart.specs.Restart.{InputFault}
@@ -18,3 +19,15 @@ pub record AreAlike (whole some : LogContent) (appended : List Appended) : Type 
 abbrev pub RestartCause : LogContent → StoreContent → PassFault → Type 0
 RestartCause whole before fault.Failed = ⊤
 RestartCause whole before (fault.Fault e) = InputFault whole before e
+
+-- a text reads as some log, of which so many bytes are kept and so many are torn
+pub record AreRead (text : List ℕ) (kept torn : ℕ) : Type 0 where
+  pub whole : LogContent
+  pub reads : Reads text whole torn
+  pub kept_is : take kept text ≡ log_text whole
+  pub size : kept + torn ≡ length text
+
+-- THE CAUSES, in the order in which they are looked for: a device, a fault of the text, and that of a restart of the log and the store
+abbrev pub InPiecesCause : List ℕ → StoreContent → PassFault → Type 0
+InPiecesCause text before fault.Failed = ⊤
+InPiecesCause text before (fault.Fault e) = Cause text e ⊎ ((whole : LogContent) × (torn : ℕ) × Reads text whole torn × InputFault whole before e)

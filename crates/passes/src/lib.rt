@@ -15,7 +15,7 @@ pub use analyse::tables_in_pieces;
 pub use fault::PassFault;
 pub use find::find_marks;
 pub use gather::gather_for_undo;
-pub use in_pieces::restart_in_pieces;
+pub use in_pieces::{Restarted, restart_in_pieces};
 pub use marks::Marks;
 pub use next::{next_piece, piece_before};
 pub use repeat::redo_in_pieces;

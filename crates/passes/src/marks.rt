@@ -69,6 +69,7 @@ impl Marks {
     /// The last mark.
     pub fn end(&self) -> Mark
         ensures end { (d : Mark) → result ≡ slice_index_or self.now (length self.now - 1) d }
+        ensures some { 0 < length self.now }
         ensures low { IsLow result }
     {
         self.list[self.list.len() - 1]
