@@ -38,9 +38,7 @@ fn gather_piece<S: Reread>(
         → IsMark text before mark → AreUpTo upto (wants_in gathering.old.wants)
         → IsGathering (history whole) losers gathering.old
         → IsGathering (history whole) losers gathering.new) }
-    ensures before { OnOk result ((text : List ℕ) (before : LogContent)
-        → S.text source.old ≡ Some text → IsMark text before mark
-        → AreUpTo mark.lsn (wants_in gathering.new.wants)) }
+    ensures before { OnOk result (AreUpTo mark.lsn (wants_in gathering.new.wants)) }
     ensures fault { IfErr result (λ e. (text : List ℕ) (whole before : LogContent) (torn : ℕ)
         → S.text source.old ≡ Some text → Reads text whole torn → IsMark text before mark
         → Reaches text (mark.offset + length room.old - BASED_HEADER_BYTES) upto → IsResource e) }
@@ -55,7 +53,8 @@ fn gather_piece<S: Reread>(
 }
 
 /// Gathers what undo looks at of the log that a source holds. The marks are those before the pieces of
-/// the log, and at last the one at its end; each piece is read into the room, the last one first.
+/// the log, and at last the one at its end. The pieces are read into the room, the last one first, and
+/// those alone that have a record which undo looks at.
 ///
 /// Errors: `Failed` if the source failed; `NoResource` if memory was refused; another fault only if the
 /// source no longer holds what it held when the marks were made.
@@ -80,12 +79,13 @@ pub fn gather_for_undo<S: Reread>(
         ≡ S.failures source.old + failures_of e) }
 {
     let base = marks.first().lsn;
-    let mut number = marks.len() - 1;
-    let mut gathering = Gathering::begin(alloc, base, marks.end().lsn - base, tables)?;
-    while number > 0 {
-        let upto = marks.at(number).lsn;
-        number -= 1;
-        gather_piece(alloc, source, marks.at(number), upto, room, &mut gathering)?;
+    let count = marks.count();
+    let mut gathering = Gathering::begin(alloc, base, count, tables)?;
+    let mut upto = gathering.upto();
+    while base < upto {
+        let mark = marks.at(marks.place_before(upto));
+        gather_piece(alloc, source, mark, upto, room, &mut gathering)?;
+        upto = gathering.upto();
     }
     Ok(gathering.finish())
 }

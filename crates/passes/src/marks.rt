@@ -1,8 +1,8 @@
 //! The marks of a log, between which it is read in pieces.
 
-ghost use Rattle.std.specs.Prelude.{◌≡◌, ◌⊎◌, ◌+◌, ◌-◌, ◌<◌, ◌≤◌, ◌∷◌, [], ◌++◌, ℕ, length, slice_index_or, IfOk, OnOk, IsOkUnless, IsTrue};
+ghost use Rattle.std.specs.Prelude.{◌≡◌, ◌⊎◌, ◌+◌, ◌-◌, ◌*◌, ◌^◌, ◌<◌, ◌≤◌, ◌∷◌, [], ◌++◌, ℕ, length, slice_index_or, IfOk, OnOk, IsOkUnless, IsTrue};
 ghost use Rattle.page.specs.declared.fault.Fault.TheVariants.{NoResource};
-ghost use Rattle.wal.specs.declared.sizes.TheConstants.{LARGEST_BASE};
+ghost use Rattle.wal.specs.declared.sizes.TheConstants.{HEADER_BYTES, LARGEST_BASE, SMALLEST_FRAME};
 ghost use Rattle.pieces.specs.declared.mark.Mark.{Mark};
 ghost use Rattle.passes.specs.Marks.{IsLow, AreWithin};
 
@@ -90,6 +90,15 @@ impl Marks {
         }
         self.list.push(mark)?;
         Ok(())
+    }
+
+    /// How many records stand between the first mark and the last.
+    pub fn count(&self) -> u64
+        ensures count { (d : Mark) → (slice_index_or self.now 0 d).lsn + result
+            ≡ (slice_index_or self.now (length self.now - 1) d).lsn }
+        ensures few { HEADER_BYTES + SMALLEST_FRAME * result < 2 ^ 63 }
+    {
+        self.list[self.list.len() - 1].lsn - self.list[0].lsn
     }
 
     /// How many marks there are.

@@ -34,9 +34,7 @@ pub fn piece_up_to<'a, S: Reread>(
     ensures piece { IfOk result (λ log. (text : List ℕ) (whole before : LogContent) (torn : ℕ)
         → S.text source.old ≡ Some text → Reads text whole torn → IsMark text before mark
         → IsPieceOf (history whole) (history log)) }
-    ensures base { IfOk result (λ log. (text : List ℕ) (before : LogContent)
-        → S.text source.old ≡ Some text → IsMark text before mark
-        → base_lsn (history log) ≡ mark.lsn) }
+    ensures base { IfOk result (λ log. base_lsn (history log) ≡ mark.lsn) }
     ensures reaches { IfOk result (λ log. upto ≤ last_lsn (history log)) }
     ensures fault { IfErr result (λ e. (text : List ℕ) (whole before : LogContent) (torn : ℕ)
         → S.text source.old ≡ Some text → Reads text whole torn → IsMark text before mark
@@ -48,6 +46,9 @@ pub fn piece_up_to<'a, S: Reread>(
 {
     let count = read_piece(source, mark, room)?;
     let (log, _) = piece_log(alloc, mark, &room[..count])?;
+    if log.base() != mark.lsn {
+        return Err(PassFault::Fault(Fault::BadLsn(mark.offset)));
+    }
     if log.last() < upto {
         return Err(PassFault::Fault(Fault::BadLsn(mark.offset)));
     }

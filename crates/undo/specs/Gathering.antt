@@ -1,4 +1,4 @@
--- The records that undo looks at, while they are gathered: a log goes by in pieces, from its end to its beginning (own).
+-- The records that undo looks at, while they are gathered: a log is read in pieces, from its end to its beginning (own).
 use Rattle.std.specs.Prelude.{◌≡◌, ◌⊎◌, ℕ, ◌<◌, List, ◌∷◌, Contains, IsPermutation, Some}
 use Rattle.wal.specs.Records.{History, TableEntry, history, base_lsn, last_lsn, record_at}
 use Rattle.wal.specs.Undo.{entry_for}

@@ -8,6 +8,6 @@ use Rattle.undo.specs.declared.want.Wants.{Wants}
 abbrev pub wants_in : Wants → List Want
 wants_in wants = heap_items wants.heap
 
--- none goes on behind this LSN
+-- none goes on after this LSN
 abbrev pub AreUpTo : (lsn : ℕ) → List Want → Type 0
 AreUpTo lsn wants = All (λ want. want.lsn ≤ lsn) wants

@@ -95,7 +95,7 @@ impl Model for Gathered {
 }
 
 impl Gathered {
-    /// No record yet of a log that begins after this LSN and has so many.
+    /// No record yet of a log that begins after the LSN `base` and has `count` records.
     pub fn none(alloc: Global, base: u64, count: u64) -> Gathered
         requires low { base ≤ LARGEST_BASE }
         requires room { HEADER_BYTES + SMALLEST_FRAME * count < 2 ^ 63 }

@@ -1,4 +1,4 @@
-//! The records that undo looks at, gathered while a log goes by in pieces, from its end to its
+//! The records that undo looks at, gathered while a log is read in pieces, from its end to its
 //! beginning.
 
 ghost use Rattle.std.specs.Prelude.{◌≡◌, ◌≢◌, ◌+◌, ◌*◌, ◌<◌, ◌≤◌, ◌^◌, ◌∷◌, [], ℕ, List, Some, IfNone, IfOk, IfSome, IsPermutation, OnOk, IsOkUnless};
@@ -21,7 +21,7 @@ use std::alloc::Global;
 use tables::Tables;
 use wal::{Log, RecordView};
 
-/// What undo looks at of a log that goes by in pieces, from its end to its beginning: the records that
+/// What undo looks at of a log that is read in pieces, from its end to its beginning: the records that
 /// are gathered, and where the transactions go on that are rolled back.
 #[derive(Drop)]
 pub struct Gathering {
@@ -81,13 +81,21 @@ impl Gathering {
         Ok(gathering)
     }
 
-    /// What is gathered after the whole log went by: enough to roll the losers back.
+    /// What is gathered after the whole log was read: enough to roll the losers back.
     pub fn finish(self) -> Gathered
         ensures { (whole : History) (losers : List TableEntry) → IsGathering whole losers self
             → AreUpTo (base_lsn whole) (wants_in self.wants)
             → AreGathered whole (history result) losers }
     {
         self.gathered
+    }
+
+    /// The highest LSN at which a transaction goes on; 0 if none does. No record after it is looked at.
+    pub fn upto(&self) -> u64
+        ensures up_to { AreUpTo result (wants_in self.now.wants) }
+        ensures least { (n : ℕ) → AreUpTo n (wants_in self.now.wants) → result ≤ n }
+    {
+        self.wants.highest()
     }
 
     /// A transaction goes on at an LSN, if that is below the record that sends it there.
@@ -130,7 +138,8 @@ impl Gathering {
         self.go_on(want.tx, want.lsn, next)
     }
 
-    /// Gathers what is looked at in a piece: after it all transactions go on before the piece.
+    /// Gathers what is looked at in a piece, up to whose last LSN all transactions go on: after it they go
+    /// on before the piece. A piece that ends before the highest LSN where one goes on is not the next.
     ///
     /// The only error is `NoResource`, if memory was refused. What is gathered is then good for nothing.
     pub fn take(&mut self, alloc: Global, piece: &Log) -> Result<(), Fault>

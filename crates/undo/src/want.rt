@@ -1,6 +1,6 @@
 //! Where transactions go on that are rolled back.
 
-ghost use Rattle.std.specs.Prelude.{◌≡◌, ◌∷◌, ◌<◌, [], IfNone, IfSome, IsPermutation, OnOk};
+ghost use Rattle.std.specs.Prelude.{◌≡◌, ◌∷◌, ◌<◌, ◌≤◌, ℕ, [], IfNone, IfSome, IsPermutation, OnOk};
 ghost use Rattle.std.specs.BinaryHeap.{IsHeap, heap_items};
 ghost use Rattle.std.proofs.Props.{props};
 
@@ -43,6 +43,17 @@ impl Wants {
     {
         self.heap.push(want)?;
         Ok(())
+    }
+
+    /// The highest LSN at which one goes on; 0 if none does.
+    pub fn highest(&self) -> u64
+        ensures up_to { AreUpTo result (wants_in self.now) }
+        ensures least { (n : ℕ) → AreUpTo n (wants_in self.now) → result ≤ n }
+    {
+        match self.heap.peek() {
+            Some(want) => want.lsn,
+            None => 0,
+        }
     }
 
     /// Takes one that goes on above this LSN; None if all go on at it or below.

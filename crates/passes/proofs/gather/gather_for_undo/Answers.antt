@@ -1,70 +1,82 @@
-use Rattle.std.proofs.Common.{ℕ, ◌≡◌, ◌<◌, ◌+◌, ◌-◌, ◌∙◌, ◌≤◌, get_or, length, refl, subst, sym, ap, ap₂, arith}
+use Rattle.std.proofs.Common.{ℕ, ◌≡◌, ◌<◌, ◌≤◌, ◌+◌, ◌-◌, ◌∙◌, get_or, length, refl, sym, ap, subst, inl, inr, arith}
 use Rattle.std.proofs.lemmas.Result.{err_from_is_err_and}
-use Rattle.wal.specs.Records.{history}
+use Rattle.wal.specs.Records.{history, last_lsn}
 use Rattle.tables.specs.Tables.{losers_in}
 use Rattle.undo.specs.Wants.{AreUpTo, wants_in}
 use Rattle.pieces.specs.declared.mark.Mark.{Mark}
 use Rattle.passes.specs.Marks.{Reaches}
-use Rattle.passes.proofs.Reached.{marked, keeps_same, still_told, keeps_on, reaches}
+use Rattle.passes.proofs.Reached.{marked, keeps_same, still_told, keeps_on}
+use Rattle.passes.proofs.Redoing.{reaches_next}
 use Rattle.passes.proofs.gather.gather_for_undo.Goals as goal
 
-pub loop-number-preserved : goal.loop-number-preserved
-loop-number-preserved g c =
-    let inv = c.loop-number.invariant in
-    let lt : c.loop-number.number - 1 < length c.args.marks.now = omega (arith, inv.within) in
+pub loop-upto-init : goal.loop-upto-init
+loop-upto-init g c =
+    let first = c.first-base.result in
     record {
-      within = lt;
-      room = omega (arith, c.gather_piece.auto.room, inv.room);
-      same = keeps_on (g.S.Reread.text c.args.source.now) (g.S.Reread.text c.loop-number.source) (g.S.Reread.text c.gather_piece.new.source) inv.same c.in_ok-gather_piece.ensures.same;
-      failures = c.in_ok-gather_piece.ensures.no_failure ∙ inv.failures;
-      gathering = λ text whole torn is reads marks.
-          let own = marked text whole c.args.marks.now (c.loop-number.number - 1) c.at.result c.at.ensures.at lt marks in
-          c.in_ok-gather_piece.ensures.gathered text whole own.0 torn (losers_in c.args.tables.now)
-          (still_told (g.S.Reread.text c.args.source.now) (g.S.Reread.text c.loop-number.source) text inv.same is) reads own.1
-          (subst (λ (m : Mark). AreUpTo m.lsn (wants_in c.loop-number.gathering.wants)) (sym (c.at-upto.ensures.at c.at.result)) (inv.before text whole torn is reads marks c.at.result))
-          (inv.gathering text whole torn is reads marks);
-      before = λ text whole torn is reads marks d.
-          let own = marked text whole c.args.marks.now (c.loop-number.number - 1) c.at.result c.at.ensures.at lt marks in
-          subst (λ (m : Mark). AreUpTo m.lsn (wants_in c.gather_piece.new.gathering.wants)) (c.at.ensures.at d)
-          (c.in_ok-gather_piece.ensures.before text own.0 (still_told (g.S.Reread.text c.args.source.now) (g.S.Reread.text c.loop-number.source) text inv.same is) own.1);
+      room = refl;
+      same = keeps_same (g.S.Reread.text c.args.source.now);
+      failures = refl;
+      up_to = c.upto-upto.ensures.up_to;
+      within = λ text whole are.
+          omega (
+            arith,
+            c.upto-upto.ensures.least (first.lsn + c.count-count.result) c.in_ok-gathering.ensures.before,
+            ap (λ (m : Mark). m.lsn) (c.first-base.ensures.first first),
+            c.count-count.ensures.count first,
+            are.last first,
+          );
+      gathering = λ text whole torn is reads are.
+          c.in_ok-gathering.ensures.begun (history whole) (omega (arith, are.first first, ap (λ (m : Mark). m.lsn) (c.first-base.ensures.first first)))
+          (omega (arith, are.last first, ap (λ (m : Mark). m.lsn) (c.first-base.ensures.first first), c.count-count.ensures.count first));
     }
 
 pub returns-in_err-gather_piece-clause-fault : goal.returns-in_err-gather_piece-clause-fault
 returns-in_err-gather_piece-clause-fault g c =
-    let inv = c.loop-number.invariant in
-    let lt : c.loop-number.number - 1 < length c.args.marks.now = omega (arith, inv.within) in
     let exit = err_from_is_err_and c.from_residual-in_err-gather_piece.result c.from_residual-in_err-gather_piece.ensures.1 in
+    let inv = c.loop-upto.invariant in
     rw (exit.1, exit.2)
-    (λ text whole torn is reads marks reach.
-    let own = marked text whole c.args.marks.now (c.loop-number.number - 1) c.at.result c.at.ensures.at lt marks in
-    c.in_err-gather_piece.ensures.fault text whole own.0 torn (still_told (g.S.Reread.text c.args.source.now) (g.S.Reread.text c.loop-number.source) text inv.same is) reads own.1
-    (subst (λ (n : ℕ × ℕ). Reaches text n.0 n.1) (ap₂ (λ (a b : Mark). (a.offset + length c.loop-number.room - 16, b.lsn)) (sym (c.at.ensures.at c.at.result)) (sym (c.at-upto.ensures.at c.at.result)))
-    (reaches text whole c.args.marks.now (length c.args.room.now) (length c.loop-number.room) c.loop-number.number c.at.result inv.room marks reach (omega (arith, c.loop-number-test.true)) inv.within)))
+    (λ text whole torn is reads are reach.
+    let own = marked text whole c.args.marks.now c.place_before.result c.at-mark.result c.at-mark.ensures.at c.place_before.ensures.within are in
+    c.in_err-gather_piece.ensures.fault text whole own.0 torn (still_told (g.S.Reread.text c.args.source.now) (g.S.Reread.text c.loop-upto.source) text inv.same is) reads own.1
+    (reaches_next text whole c.args.marks.now (length c.args.room.now) (length c.loop-upto.room) c.place_before.result c.at-mark.result c.loop-upto.upto inv.room c.requires.room are reach c.at-mark.ensures.at
+    c.place_before.ensures.within c.place_before.ensures.next (inv.within text whole are)))
+
+pub loop-upto-smaller : goal.loop-upto-smaller
+loop-upto-smaller g c =
+    let first = c.first-base.result in
+    let mark = c.at-mark.result in
+    let low : mark.lsn < c.loop-upto.upto =
+    elim (c.place_before.ensures.before mark) [
+      | inl here ↦
+          omega (
+            arith,
+            c.loop-upto-test.true,
+            ap (λ (m : Mark). m.lsn) (c.at-mark.ensures.at mark),
+            ap (λ n. (get_or c.args.marks.now n mark).lsn) here,
+            ap (λ (m : Mark). m.lsn) (c.first-base.ensures.first mark),
+          )
+      | inr less ↦ omega (arith, less, ap (λ (m : Mark). m.lsn) (c.at-mark.ensures.at mark))
+    ] in
+    omega (arith, low, c.upto-upto-in-loop-upto.ensures.least mark.lsn c.in_ok-gather_piece.ensures.before)
+
+pub loop-upto-preserved : goal.loop-upto-preserved
+loop-upto-preserved g c =
+    let inv = c.loop-upto.invariant in
+    record {
+      room = omega (arith, c.gather_piece.auto.room, inv.room);
+      same = keeps_on (g.S.Reread.text c.args.source.now) (g.S.Reread.text c.loop-upto.source) (g.S.Reread.text c.gather_piece.new.source) inv.same c.in_ok-gather_piece.ensures.same;
+      failures = c.in_ok-gather_piece.ensures.no_failure ∙ inv.failures;
+      up_to = c.upto-upto-in-loop-upto.ensures.up_to;
+      within = λ text whole are. omega (arith, loop-upto-smaller g c, inv.within text whole are);
+      gathering = λ text whole torn is reads are.
+          let own = marked text whole c.args.marks.now c.place_before.result c.at-mark.result c.at-mark.ensures.at c.place_before.ensures.within are in
+          c.in_ok-gather_piece.ensures.gathered text whole own.0 torn (losers_in c.args.tables.now) (still_told (g.S.Reread.text c.args.source.now) (g.S.Reread.text c.loop-upto.source) text inv.same is) reads own.1 inv.up_to
+          (inv.gathering text whole torn is reads are);
+    }
 
 pub returns-clause-gathered : goal.returns-clause-gathered
-returns-clause-gathered g c = λ text whole torn is reads marks.
-    let inv = c.loop-number.invariant in
-    let d : Mark = record { lsn = 0; offset = 0 } in
-    let at_first : c.loop-number.number ≡ 0 = omega (arith, c.loop-number-test.false) in
-    c.finish.ensures (history whole) (losers_in c.args.tables.now) (inv.gathering text whole torn is reads marks)
-    (subst (λ n. AreUpTo n (wants_in c.loop-number.gathering.wants)) (ap (λ k. (get_or c.args.marks.now k d).lsn) at_first ∙ marks.first d) (inv.before text whole torn is reads marks d))
-
-pub loop-number-init : goal.loop-number-init
-loop-number-init g c =
-    let own = c.len-number.ensures.within in
-    let size = c.len-number.ensures.len in
-    let base = c.first-base.result in
-    let last = c.end.result in
-    let end_is : (d : Mark) → last.lsn ≡ (get_or c.args.marks.now (length c.args.marks.now - 1) d).lsn = λ d. ap (λ (m : Mark). m.lsn) (c.end.ensures.end d) in
-    let rises : base.lsn ≤ last.lsn = omega (arith, own.rising base, ap (λ (m : Mark). m.lsn) (c.first-base.ensures.first base), end_is base) in
-    record {
-      within = omega (arith, own.some, size);
-      room = refl;
-      same = keeps_same (g.S.Reread.text c.args.source.now);
-      failures = refl;
-      gathering = λ text whole torn is reads marks.
-          c.in_ok-gathering.ensures.begun (history whole) (sym (marks.first base) ∙ sym (ap (λ (m : Mark). m.lsn) (c.first-base.ensures.first base)))
-          (sym (marks.last base) ∙ omega (arith, end_is base, rises));
-      before = λ text whole torn is reads marks d k e lt.
-          omega (arith, c.in_ok-gathering.ensures.before k e lt, rises, end_is d, ap (λ n. (get_or c.args.marks.now (n - 1) d).lsn) size);
-    }
+returns-clause-gathered g c = λ text whole torn is reads are.
+    let inv = c.loop-upto.invariant in
+    let first = c.first-base.result in
+    c.finish.ensures (history whole) (losers_in c.args.tables.now) (inv.gathering text whole torn is reads are)
+    (λ k d lt. omega (arith, inv.up_to k d lt, c.loop-upto-test.false, are.first first, ap (λ (m : Mark). m.lsn) (c.first-base.ensures.first first)))

@@ -9,5 +9,4 @@ returns-clause-gathered g c = λ text whole before torn losers is reads mark up 
     (λ k d lt. omega (arith, up k d lt, c.in_ok-piece.ensures.reaches)) far
 
 pub returns-clause-before : goal.returns-clause-before
-returns-clause-before g c = λ text before is mark.
-    subst (λ n. AreUpTo n (wants_in c.take.new.self.wants)) (c.in_ok-piece.ensures.base text before is mark) c.in_ok-take.ensures.before
+returns-clause-before g c = subst (λ n. AreUpTo n (wants_in c.take.new.self.wants)) c.in_ok-piece.ensures.base c.in_ok-take.ensures.before

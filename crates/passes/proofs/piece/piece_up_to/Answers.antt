@@ -54,10 +54,11 @@ returns-clause-piece g c = λ text whole before torn is reads mark.
     pieces_belong text whole torn before c.args.mark (length (take c.in_ok-count.count c.read_piece.new.room) - 16) c.in_ok-log.log c.in_ok-log.field-0-1 reads mark
     (c.in_ok-log.ensures.goes_on text before count mark piece_is)
 
-pub returns-clause-base : goal.returns-clause-base
-returns-clause-base g c = λ text before is mark.
+pub returns-then-base-mark-clause-fault : goal.returns-then-base-mark-clause-fault
+returns-then-base-mark-clause-fault g c = λ text whole before torn is reads mark reach.
     let count : ℕ = c.in_ok-count.count - 16 in
     let piece_is : take c.in_ok-count.count c.read_piece.new.room ≡ piece_text text c.args.mark count =
     told (g.S.Reread.text c.args.source.now) text (λ t. take c.in_ok-count.count c.read_piece.new.room ≡ piece_text t c.args.mark count) is c.in_ok-count.ensures.piece in
-    base_is text before c.args.mark (length (take c.in_ok-count.count c.read_piece.new.room) - 16) c.in_ok-log.field-0-1 c.in_ok-log.log
-    (c.in_ok-log.ensures.goes_on text before count mark piece_is)
+    absurd
+    (c.if-base-mark.true
+    (c.base.ensures.is ∙ base_is text before c.args.mark (length (take c.in_ok-count.count c.read_piece.new.room) - 16) c.in_ok-log.field-0-1 c.in_ok-log.log (c.in_ok-log.ensures.goes_on text before count mark piece_is)))
