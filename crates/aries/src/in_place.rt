@@ -10,9 +10,11 @@ ghost use Rattle.page.specs.declared.fault.Fault.TheVariants.{NoResource};
 
 use crate::files::{NewFiles, OldFiles, make, open, options_for, refuse, sync_folder};
 use crate::noted::{Call, NotedFile, Notes};
-use device::{FileLog, FileSink, FileSource, Source};
+use device::{FileLog, FileSink, FileSource, Source, read_full};
 use page::Fault;
-use recovery::{Report, TailFile, continue_log, read_source, recover_in_place};
+use recovery::{
+    Report, TailFile, continue_log, read_source, recover_by_pieces, recover_in_place,
+};
 use redo::OpenGate;
 use restart::Options;
 use std::alloc::Global;
@@ -20,6 +22,7 @@ use std::fs::{self, File, OpenOptions};
 use std::io::{self, ErrorKind, Seek, SeekFrom};
 use std::rt::{Clock, Files};
 use std::thread::Threads;
+use wal::{BASED_HEADER_BYTES, LARGEST_BASE, read_log};
 
 /// Opens the log to append to it; `WriteLog` if that failed.
 fn open_to_append<R: Files>(rt: &R, log: &Notes) -> Result<R::File, Fault> {
@@ -144,6 +147,20 @@ fn clear_after<R: Files>(rt: &R, fault: Fault, tail: &Notes, store: &Notes) {
     let _ = fs::remove_file(rt, store.path);
 }
 
+/// Whether no LSN of a log is above the largest base LSN, so that it can be read in pieces. A log has
+/// fewer records than bytes.
+fn has_low_lsns<R: Files>(rt: &R, alloc: Global, log: &Notes) -> Result<bool, Fault> {
+    let mut source = FileSource::sized(open(rt, log, Fault::ReadLog)?);
+    let mut header = [0; BASED_HEADER_BYTES];
+    let Ok(count) = read_full(&mut source, &mut header) else {
+        return Ok(true);
+    };
+    match read_log(alloc, &header[..count]) {
+        Ok((log, _)) => Ok(log.base() <= LARGEST_BASE.saturating_sub(source.hint() as u64)),
+        Err(_) => Ok(true),
+    }
+}
+
 /// Recovers from open files, and continues the log.
 fn recover_opened<R: Files + Clock + Threads + Sync>(
     rt: &R,
@@ -162,18 +179,34 @@ fn recover_opened<R: Files + Clock + Threads + Sync>(
     let tail_file = make(rt, tail, &log, Fault::WriteLog)?;
     sync_folder(rt, tail, Fault::WriteLog)?;
     let mut log = FileSource::sized(NotedFile::new(log, rt, &old.log));
-    let options = options_for(options, may_be_one, log.hint());
-    let answer = recover_in_place(
-        rt,
-        alloc,
-        &mut log,
-        &mut FileSource::new(NotedFile::new(store, rt, &old.store)),
-        &mut FileSink::new(NotedFile::new(tail_file, rt, tail)),
-        &mut FileLog::new(NotedFile::new(appended, rt, &new.log)),
-        &mut FileSink::new(NotedFile::new(new_store, rt, &new.store)),
-        &options,
-        &OpenGate,
-    );
+    let mut store = FileSource::new(NotedFile::new(store, rt, &old.store));
+    let mut tail_sink = FileSink::new(NotedFile::new(tail_file, rt, tail));
+    let mut out_log = FileLog::new(NotedFile::new(appended, rt, &new.log));
+    let mut out_store = FileSink::new(NotedFile::new(new_store, rt, &new.store));
+    let answer = if has_low_lsns(rt, alloc, &old.log)? {
+        recover_by_pieces(
+            alloc,
+            &mut log,
+            &mut store,
+            &mut tail_sink,
+            &mut out_log,
+            &mut out_store,
+            options,
+        )
+    } else {
+        let options = options_for(options, may_be_one, log.hint());
+        recover_in_place(
+            rt,
+            alloc,
+            &mut log,
+            &mut store,
+            &mut tail_sink,
+            &mut out_log,
+            &mut out_store,
+            &options,
+            &OpenGate,
+        )
+    };
     if let Err(fault) = answer {
         clear_after(rt, fault, tail, &new.store);
     }

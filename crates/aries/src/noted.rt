@@ -5,7 +5,7 @@ ghost use Rattle.aries.specs.Noted.{inner_file};
 use std::cell::Cell;
 use std::fmt;
 use std::fs::{Metadata, OpenFile};
-use std::io::{self, ErrorKind, Read, Write};
+use std::io::{self, ErrorKind, Read, Seek, SeekFrom, Write};
 use std::rt::Clock;
 use std::time::{Duration, Instant};
 
@@ -151,6 +151,19 @@ impl<'a, F: Read, C: Clock> Read for NotedFile<'a, F, C> {
         let answer = self.file.read(buf);
         self.notes.end(self.clock, Call::Read, &answer);
         self.notes.pass(&answer);
+        answer
+    }
+}
+
+impl<'a, F: Seek, C: Clock> Seek for NotedFile<'a, F, C> {
+    ghost stream_position = { λ noted. F.stream_position (inner_file noted) };
+
+    ghost stream_bytes = { λ noted. F.stream_bytes (inner_file noted) };
+
+    fn seek(&mut self, to: SeekFrom) -> io::Result<u64> {
+        self.notes.begin(self.clock);
+        let answer = self.file.seek(to);
+        self.notes.end(self.clock, Call::Read, &answer);
         answer
     }
 }

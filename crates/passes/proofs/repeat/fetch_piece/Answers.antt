@@ -17,4 +17,4 @@ returns-in_err-piece-clause-fault g c =
 pub returns-clause-fetched : goal.returns-clause-fetched
 returns-clause-fetched g c = λ text whole before torn tallies images is reads mark are ahead begun.
     c.fetch_from.ensures.fetched (history whole) tallies images (c.in_ok-piece.ensures.piece text whole before torn is reads mark) are
-    (λ k d lt le. ahead k d lt (omega (arith, le, c.in_ok-piece.ensures.base text before is mark))) begun
+    (λ k d lt le. ahead k d lt (omega (arith, le, c.in_ok-piece.ensures.base))) begun
