@@ -20,7 +20,7 @@ abbrev pub RestartCause : LogContent → StoreContent → PassFault → Type 0
 RestartCause whole before fault.Failed = ⊤
 RestartCause whole before (fault.Fault e) = InputFault whole before e
 
--- a text reads as some log, of which so many bytes are kept and so many are torn
+-- a text reads as some log, with this many bytes before its torn tail and this many in it
 pub record AreRead (text : List ℕ) (kept torn : ℕ) : Type 0 where
   pub whole : LogContent
   pub reads : Reads text whole torn

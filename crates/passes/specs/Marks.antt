@@ -19,7 +19,7 @@ pub record AreMarks (text : List ℕ) (whole : LogContent) (marks : List Mark) :
   pub first : (d : Mark) → (slice_index_or marks 0 d).lsn ≡ base_lsn (history whole)
   pub last : (d : Mark) → (slice_index_or marks (length marks - 1) d).lsn ≡ last_lsn (history whole)
 
--- a room of so many bytes, a header among them, takes all frames from each mark to the next
+-- a room of this many bytes, a header among them, takes all frames from each mark to the next
 abbrev pub AreInReach : (room : ℕ) → List Mark → Type 0
 AreInReach room marks = (k : ℕ) (d : Mark) → k + 1 < length marks → (slice_index_or marks (k + 1) d).offset ≤ (slice_index_or marks k d).offset + room - BASED_HEADER_BYTES
 

@@ -1,4 +1,4 @@
--- A log that is read in pieces: what has gone by, and what a piece shows of what comes next (own).
+-- A log that is read in pieces: what was read, and what a piece shows of what comes next (own).
 use Rattle.std.specs.Prelude.{◌≡◌, ⊤, ℕ, ◌+◌, ◌-◌, ◌^◌, ◌<◌, ◌≤◌, List, ◌++◌, length, take, drop}
 use Rattle.page.specs.declared.fault.Fault.{Fault}
 use Rattle.page.specs.declared.fault.Fault.TheVariants.{BadLength, BadRecord, BadLsn}
@@ -10,14 +10,14 @@ use Rattle.tables.specs.Pieces.{IsPieceOf}
 use Rattle.pieces.specs.declared.mark.Mark.{Mark}
 use Rattle.wal.specs.declared.sizes.TheConstants.{BASED_HEADER_BYTES}
 
--- GONE BY. The bytes of a log's text before the mark are a whole log, these records with nothing torn, and the mark has the LSN
+-- READ. The bytes of a log's text before the mark are a whole log, these records with nothing torn, and the mark has the LSN
 -- of the last of them.
 pub record IsMark (text : List ℕ) (before : LogContent) (mark : Mark) : Type 0 where
   pub reads : Reads (take mark.offset text) before 0
   pub lsn : mark.lsn ≡ last_lsn (history before)
   pub within : mark.offset ≤ length text
 
--- A PIECE. The header of a log that goes on after the mark, and then so many of the text's next bytes.
+-- A PIECE. The header of a log that goes on after the mark, and then this many of the text's next bytes.
 abbrev pub piece_text : List ℕ → Mark → (count : ℕ) → List ℕ
 piece_text text mark count = header_of (Version2 mark.lsn) ++ take count (drop mark.offset text)
 
@@ -25,7 +25,7 @@ piece_text text mark count = header_of (Version2 mark.lsn) ++ take count (drop m
 abbrev pub mark_after : Mark → (last count torn : ℕ) → Mark
 mark_after mark last count torn = record { lsn = last; offset = mark.offset + (count - torn) }
 
--- GOING ON. The records of the piece come after those before it; behind them stands the next mark. At the text's end the bytes
+-- GOING ON. The records of the piece come after those before it; after them stands the next mark. At the text's end the bytes
 -- that are left are the torn tail of the whole log.
 pub record GoesOn (text : List ℕ) (before : LogContent) (mark : Mark) (count : ℕ) (piece : LogContent) (torn : ℕ) : Type 0 where
   pub begins : piece.begins ≡ Version2 mark.lsn

@@ -33,7 +33,7 @@ fn moved(mark: Mark, fault: Fault) -> Fault
     }
 }
 
-/// The log of a piece after this mark, and how many bytes stand behind its last whole frame.
+/// The log of a piece after this mark, and how many bytes stand after its last whole frame.
 ///
 /// Errors, of which the first in the piece is given, are those of [`read_log`](wal::read_log), with
 /// offsets that count from the log's beginning.

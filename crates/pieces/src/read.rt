@@ -47,7 +47,7 @@ fn put_header(room: &mut [u8], lsn: u64)
 }
 
 /// Fills the room after the header with the bytes that the source holds from an offset on.
-fn read_behind_header<S: Reread>(
+fn read_after_header<S: Reread>(
     source: &mut S,
     offset: u64,
     room: &mut [u8],
@@ -71,7 +71,7 @@ fn read_behind_header<S: Reread>(
 /// log ends.
 ///
 /// `Failed` if the source failed. Its count of failures has then risen by one, and what the room holds is
-/// not told.
+/// unknown.
 pub fn read_piece<S: Reread>(source: &mut S, mark: Mark, room: &mut [u8]) -> Result<usize, Failed>
     requires room { BASED_HEADER_BYTES ≤ length room.old }
     requires reach { mark.offset + length room.old ≤ 2 ^ 64 }
@@ -85,6 +85,6 @@ pub fn read_piece<S: Reread>(source: &mut S, mark: Mark, room: &mut [u8]) -> Res
     ensures cause { Counts (S.failures source.old) (S.failures source.new) result }
 {
     put_header(room, mark.lsn);
-    let count = read_behind_header(source, mark.offset, room)?;
+    let count = read_after_header(source, mark.offset, room)?;
     Ok(BASED_HEADER_BYTES + count)
 }

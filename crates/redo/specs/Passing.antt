@@ -1,4 +1,4 @@
--- PASSING. The tallies of redo while a log goes by in pieces: each piece is a log, and begins behind the last LSN of what came before it (own).
+-- PASSING. The tallies of redo while a log is read in pieces: each piece is a log, and begins after the last LSN of what came before it (own).
 use Rattle.std.specs.Prelude.{◌≡◌, ℕ, ◌<◌, ◌≤◌, List, length, slice_index_or, replicate, All}
 use Rattle.page.specs.declared.fault.Fault.{Fault}
 use Rattle.page.specs.declared.fault.Fault.TheVariants.{NoSuchPage}
@@ -13,7 +13,7 @@ use Rattle.redo.specs.Inputs.{InputContent, input_over}
 use Rattle.redo.specs.Parts.{redo_page_in, image_at, resolved}
 use Rattle.redo.specs.Redone.{IsFirstMissing}
 
--- the tallies of all pages, from which LSN on records are looked at, and up to which LSN the log has gone by
+-- the tallies of all pages, from which LSN on records are looked at, and up to which LSN the log was read
 pub record TalliesSoFar : Type 0 where
   pub tallies : List Tally
   pub redo_lsn : ℕ
@@ -27,7 +27,7 @@ StandAtNumbers tallies = (k : ℕ) (t : Tally) → k < length tallies → (slice
 abbrev pub LastsAreWithin : (lsn : ℕ) → List Tally → Type 0
 LastsAreWithin lsn tallies = (k slot : ℕ) (t : Tally) → k < length tallies → slice_index_or (slice_index_or tallies k t).lasts slot 0 ≤ lsn
 
--- what each scan keeps of its tallies, where the log has gone by up to an LSN
+-- what each scan keeps of its tallies, where the log was read up to an LSN
 pub record AreKept (upto : ℕ) (tallies : List Tally) : Type 0 where
   pub numbered : StandAtNumbers tallies
   pub few : All (λ (t : Tally). t.applied ≤ upto) tallies

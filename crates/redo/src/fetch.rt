@@ -1,4 +1,4 @@
-//! The images of the records that the pages want, fetched while a log goes by in pieces.
+//! The images of the records that the pages want, fetched while a log is read in pieces.
 
 ghost use Rattle.std.specs.Prelude.{◌≡◌, ℕ, ◌<◌, ◌≤◌, List, All, length, take, drop, slice_set, slice_index_or};
 ghost use Rattle.std.specs.List.Sorted.{IsNonDecreasingBy};

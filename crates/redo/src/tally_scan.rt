@@ -1,4 +1,4 @@
-//! The tallies of all pages while a log goes by, piece after piece.
+//! The tallies of all pages while a log is read, piece after piece.
 
 ghost use Rattle.std.specs.Prelude.{◌≡◌, ℕ, ◌≤◌, ◌<◌, ◌↔◌, List, All, Contains, length, slice_index_or, min, IfOk, OnOk, IfErr, IsOkUnless};
 ghost use Rattle.std.specs.List.{sum_by};
@@ -27,10 +27,10 @@ use std::marker::Model;
 use tables::Tables;
 use wal::Log;
 
-/// The tallies of all pages of a store while a log goes by: which record is the last in each slot of
+/// The tallies of all pages of a store while a log is read: which record is the last in each slot of
 /// those that the pages lack. The log comes in pieces, from its first record to its last: each piece
 /// is a log whose base LSN is the last LSN of the one before it. Contracts see the tallies, the LSN
-/// from which records are looked at, and the LSN up to which the log has gone by.
+/// from which records are looked at, and the LSN up to which the log was read.
 #[derive(Drop)]
 pub struct TallyScan {
     tallies: Vec<Tally>,
@@ -49,7 +49,7 @@ impl Model for TallyScan {
 }
 
 impl TallyScan {
-    /// The scan of a log with this base LSN of which nothing has gone by. No record is applied to the
+    /// The scan of a log with this base LSN of which nothing was read yet. No record is applied to the
     /// pages. The only error is `NoResource`.
     pub fn begin(
         alloc: Global,
@@ -107,7 +107,7 @@ impl TallyScan {
         Ok(())
     }
 
-    /// The LSN up to which the log has gone by.
+    /// The LSN up to which the log was read.
     pub fn upto(&self) -> u64
         ensures { result ≡ self.now.upto }
     {

@@ -18,7 +18,7 @@ pub struct Wanted {
     pub slot: u8,
 }
 
-/// Puts the records that are the last in the slots of a page behind others, by the LSNs of its slots,
+/// Puts the records that are the last in the slots of a page after others, by the LSNs of its slots,
 /// of which 0 says that there is none. The only error is `NoResource`.
 pub fn want_slots(page: u32, lasts: &[u64; SLOTS], wanted: &mut Vec<Wanted>) -> Result<(), Fault>
     ensures each { OnOk result ((w : Wanted) → Contains wanted.new.items w

@@ -1,4 +1,4 @@
--- A log that goes by in pieces: each piece is a small log whose base LSN is that of the last record before it (own).
+-- A log that is read in pieces: each piece is a small log whose base LSN is that of the last record before it (own).
 use Rattle.std.specs.Prelude.{◌≡◌, ℕ, ◌<◌, ◌≤◌}
 use Rattle.wal.specs.Records.{History, last_lsn, base_lsn, record_at}
 
