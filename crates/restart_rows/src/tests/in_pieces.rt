@@ -6,7 +6,7 @@ use analysis::analyse;
 use core_rows::written::{page_with, two_losers};
 use device::MemorySource;
 use page::Fault;
-use passes::{PassFault, gather_for_undo};
+use passes::{PassFault, find_marks, gather_for_undo};
 use pieces::{Mark, first_mark, piece_log, read_piece};
 use std::alloc::Global;
 use std::test::Fail;
@@ -137,18 +137,15 @@ fn tells_faults_by_their_places_in_the_log(rt: HostRuntime) -> Result<(), Fail> 
     check(kind_11 == Some(Fault::BadRecord(74)), "a kind that is none")
 }
 
-/// What undo looks at of a source that has, or had, the log of `two-losers`, read between its marks.
-fn gathered_by_marks(alloc: Global, bytes: &[u8], tables: &Tables) -> Result<Gathered, PassFault> {
-    let marks = [
-        Mark { lsn: 0, offset: 8 },
-        Mark { lsn: 1, offset: 41 },
-        Mark { lsn: 2, offset: 74 },
-        Mark {
-            lsn: 3,
-            offset: 108,
-        },
-    ];
+/// What undo looks at of a source that holds these bytes, read between the marks of a whole log.
+fn gathered_by_marks(
+    alloc: Global,
+    whole: &[u8],
+    bytes: &[u8],
+    tables: &Tables,
+) -> Result<Gathered, PassFault> {
     let mut room = [0; ROOM];
+    let (marks, _) = find_marks(alloc, &mut MemorySource::new(whole), &mut room)?;
     gather_for_undo(
         alloc,
         &mut MemorySource::new(bytes),
@@ -158,21 +155,57 @@ fn gathered_by_marks(alloc: Global, bytes: &[u8], tables: &Tables) -> Result<Gat
     )
 }
 
+/// The marks that are found in some bytes, and how many of the bytes are torn.
+fn found_in(
+    alloc: Global,
+    bytes: &[u8],
+    room: &mut [u8; ROOM],
+) -> Result<(Vec<Mark>, usize), PassFault> {
+    let (marks, torn) = find_marks(alloc, &mut MemorySource::new(bytes), &mut room[..])?;
+    let mut list = Vec::new(alloc);
+    for place in 0..marks.len() {
+        list.push(marks.at(place))
+            .map_err(|_| PassFault::Fault(Fault::NoResource))?;
+    }
+    Ok((list, torn))
+}
+
+#[test]
+fn finds_marks_and_what_is_torn(rt: HostRuntime) -> Result<(), Fail> {
+    let alloc = rt.alloc();
+    let bytes = two_losers(alloc)?.given.bytes;
+    let places = [(0, 8), (1, 41), (2, 74), (3, 108)].map(|(lsn, offset)| Mark { lsn, offset });
+    let mut room = [0; ROOM];
+    let Ok((marks, torn)) = found_in(alloc, &bytes, &mut room) else {
+        return Err(Fail::new("no marks"));
+    };
+    check(
+        marks.as_slice() == places.as_slice() && torn == 0,
+        "two-losers",
+    )?;
+    let cut = &bytes[..bytes.len().min(100)];
+    let Ok((marks, torn)) = found_in(alloc, cut, &mut room) else {
+        return Err(Fail::new("no marks of a log that is cut"));
+    };
+    check(marks.as_slice() == &places[..3] && torn == 26, "cut at 100")
+}
+
 #[test]
 fn gathers_between_marks(rt: HostRuntime) -> Result<(), Fail> {
     let alloc = rt.alloc();
     let row = two_losers(alloc)?;
     let (log, _) = read_log(alloc, &row.given.bytes)?;
     let tables = analyse(alloc, &log, 0)?;
-    let Ok(gathered) = gathered_by_marks(alloc, &row.given.bytes, &tables) else {
+    let whole = &row.given.bytes;
+    let Ok(gathered) = gathered_by_marks(alloc, whole, whole, &tables) else {
         return Err(Fail::new("not gathered"));
     };
     let page = page_with(3, Some(b'c'), Some(b'b'));
     let rollback = undone(alloc, &gathered, &tables, page)?;
     let made = with_appended(&row.given, &rollback.appended)?;
     check(made.as_slice() == row.made.bytes.as_slice(), "two-losers")?;
-    let cut = &row.given.bytes[..row.given.bytes.len().min(74)];
-    let fault = gathered_by_marks(alloc, cut, &tables).err();
+    let cut = &whole[..whole.len().min(74)];
+    let fault = gathered_by_marks(alloc, whole, cut, &tables).err();
     let at_74 = PassFault::Fault(Fault::BadLsn(74));
     check(fault == Some(at_74), "a source that was cut")
 }

@@ -6,13 +6,16 @@ use core_rows::written::{
     Row, Text, one_commit, page_with, prepared, prepared_abort, prepared_beside_loser,
     prepared_commit, prepared_idle, prepared_in_checkpoint, store_of, undo_of_missing_page,
 };
+use device::MemorySource;
 use page::{Fault, Page, Store, decode_store, encode_store};
+use passes::{PassFault, restart_in_pieces};
 use redo::{OpenGate, Parting};
 use restart::{Outcome, restart};
 use std::alloc::Global;
 use std::test::Fail;
 use std::thread::Threads;
-use wal::{Record, read_log};
+use undo::{Looked, Place, records_of};
+use wal::{BASED_HEADER_BYTES, LONGEST_FRAME, Record, read_log};
 
 /// What a restart tells in numbers.
 #[derive(Clone, Copy, PartialEq, Eq)]
@@ -79,6 +82,11 @@ fn restarted<R: Threads + Sync>(
 ) -> Result<Answer, Fault> {
     let before = decode_store(alloc, store)?;
     let outcome = outcome_of(rt, alloc, &text.bytes, &before, manner)?;
+    answer_of(alloc, text, outcome)
+}
+
+/// What an outcome makes of a log and its store.
+fn answer_of(alloc: Global, text: &Text, outcome: Outcome) -> Result<Answer, Fault> {
     Ok(Answer {
         log: with_appended(text, &outcome.appended)?,
         store: encode_store(alloc, &outcome.store)?,
@@ -93,7 +101,49 @@ fn restarted<R: Threads + Sync>(
     })
 }
 
-/// Whether a restart of a row on an empty page makes the row's new log, and what is expected.
+/// A restart on a log that is read in pieces, and on a store.
+fn outcome_by_pieces(alloc: Global, log: &[u8], store: Store) -> Result<Outcome, Fault> {
+    let mut room = vec![in alloc; 0; BASED_HEADER_BYTES + LONGEST_FRAME]?;
+    let mut source = MemorySource::new(log);
+    let restarted = match restart_in_pieces(alloc, &mut source, &mut room, store) {
+        Ok(restarted) => restarted,
+        Err(PassFault::Fault(fault)) => return Err(fault),
+        Err(PassFault::Failed) => return Err(Fault::ReadLog),
+    };
+    let looked = Looked {
+        place: Place::Gathered(&restarted.gathered),
+    };
+    let brief = restarted.outcome;
+    let appended = records_of(alloc, &looked, &brief.appended)?;
+    Ok(Outcome {
+        store: brief.store,
+        appended,
+        redo_from: brief.redo_from,
+        redone: brief.redone,
+        losers: brief.losers,
+        in_doubt: brief.in_doubt,
+        compensated: brief.compensated,
+        ended: brief.ended,
+    })
+}
+
+/// Restarts on a log that is read in pieces, and on the bytes of a store.
+fn restarted_by_pieces(alloc: Global, text: &Text, store: &[u8]) -> Result<Answer, Fault> {
+    let before = decode_store(alloc, store)?;
+    let outcome = outcome_by_pieces(alloc, &text.bytes, before)?;
+    answer_of(alloc, text, outcome)
+}
+
+/// Whether an answer is the row's new log, and what is expected.
+fn is_expected(answer: &Answer, row: &Row, after: &[u8], expected: &Expected) -> bool {
+    answer.log.as_slice() == row.made.bytes.as_slice()
+        && answer.store.as_slice() == after
+        && answer.numbers == expected.numbers
+        && answer.in_doubt.as_slice() == expected.in_doubt
+}
+
+/// Whether a restart of a row on an empty page makes the row's new log, and what is expected, with the
+/// log in memory and in pieces.
 fn is_restarted<R: Threads + Sync>(
     rt: &R,
     alloc: Global,
@@ -104,11 +154,10 @@ fn is_restarted<R: Threads + Sync>(
     let before = store_of(alloc, master, &Page::empty(0))?;
     let after = store_of(alloc, master, &expected.page)?;
     let answer = restarted(rt, alloc, &row.given, &before, GOOD)?;
+    let by_pieces = restarted_by_pieces(alloc, &row.given, &before)?;
     Ok(
-        answer.log.as_slice() == row.made.bytes.as_slice()
-            && answer.store.as_slice() == after.as_slice()
-            && answer.numbers == expected.numbers
-            && answer.in_doubt.as_slice() == expected.in_doubt,
+        is_expected(&answer, row, &after, expected)
+            && is_expected(&by_pieces, row, &after, expected),
     )
 }
 
@@ -245,7 +294,8 @@ fn leaves_those_that_the_tables_have_in_doubt(rt: HostRuntime) -> Result<(), Fai
     check(leaves(&rt, alloc, &text, 0, 1, &[])?, "behind an end")
 }
 
-/// The fault of a restart on an empty page with this PageLSN.
+/// The fault of a restart on an empty page with this PageLSN. None if a log that is read in pieces has
+/// another; that way knows of no settings.
 fn refused<R: Threads + Sync>(
     rt: &R,
     alloc: Global,
@@ -255,10 +305,16 @@ fn refused<R: Threads + Sync>(
     manner: Manner,
 ) -> Option<Fault> {
     let page = page_with(lsn, None, None);
-    match store_of(alloc, master, &page) {
-        Ok(store) => restarted(rt, alloc, text, &store, manner).err(),
-        Err(fault) => Some(fault),
+    let store = match store_of(alloc, master, &page) {
+        Ok(store) => store,
+        Err(fault) => return Some(fault),
+    };
+    let refusal = restarted(rt, alloc, text, &store, manner).err();
+    if matches!(refusal, Some(Fault::BadWorkers | Fault::BadParting)) {
+        return refusal;
     }
+    let by_pieces = restarted_by_pieces(alloc, text, &store).err();
+    if by_pieces == refusal { refusal } else { None }
 }
 
 /// An abort behind a prepare makes its transaction a loser.
