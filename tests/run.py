@@ -21,6 +21,7 @@ from dump import check_dump
 from edits import check_edits
 from in_place import check_in_place
 from long_logs import check_long_logs, long_row
+from pieces import check_pieces
 from operate import check_operation
 from pages import check_pages
 from program import ARIES, LARGE_ROWS, SMALL_ROWS, TOP, Row, Tally, bytes_of, has_printed, has_refused, in_doubt, library_of, run, text_of
@@ -372,6 +373,7 @@ def main():
         check_words(tally, room)
         check_operation(tally, room)
         check_in_place(tally, room)
+        check_pieces(tally, room)
         check_prints(tally, room)
         check_refusals(tally, room)
         check_dump(tally, room, Refuser(room))
