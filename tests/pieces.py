@@ -104,7 +104,7 @@ def checkpoint(offset, entries):
     log.update(LOSER, b"first")
     log.grow(offset - 13)
     master = log.put(lambda lsn: frame(6, lsn, b""))
-    idle = [(1000 + number, 0, 1, 1) for number in range(entries)]
+    idle = [(1000 + number, 0, 1, 0) for number in range(entries)]
     listed = [(tx, 0, log.last[tx], log.last[tx]) for tx in (LOSER, WINNER)]
     log.put(lambda lsn: checkpoint_end(lsn, master, listed + idle, [(page, 1) for page in range(4)]))
     log.update(LOSER, b"later")

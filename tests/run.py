@@ -21,9 +21,9 @@ from dump import check_dump
 from edits import check_edits
 from in_place import check_in_place
 from long_logs import check_long_logs, long_row
-from pieces import check_pieces
 from operate import check_operation
 from pages import check_pages
+from pieces import check_pieces
 from program import ARIES, LARGE_ROWS, SMALL_ROWS, TOP, Row, Tally, bytes_of, has_printed, has_refused, in_doubt, library_of, run, text_of
 
 ROW_RUNNER = os.path.join(TOP, "crates/rows/out/rows")
