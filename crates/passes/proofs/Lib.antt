@@ -4,3 +4,4 @@ pub mod Finding
 pub mod Forward
 pub mod Redoing
 pub mod InPieces
+pub mod Listing
