@@ -5,3 +5,4 @@ pub mod Forward
 pub mod Redoing
 pub mod InPieces
 pub mod Listing
+pub mod OneReading
