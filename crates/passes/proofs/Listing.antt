@@ -3,6 +3,8 @@ use Rattle.std.proofs.Common.{◌≡◌, ◌≢◌, ℕ, zero, suc, ◌+◌, ◌
 use Rattle.std.specs.Prelude.{option_map}
 use Rattle.std.specs.List.{range_with_len}
 use Rattle.std.proofs.lemmas.Bool.{cases_Bool, le-leb}
+use Rattle.page.specs.declared.fault.Fault.{Fault}
+use Rattle.page.specs.declared.fault.Fault.TheVariants.{NoResource, BadWorkers, NoSuchPage}
 use Rattle.page.specs.declared.page.Page.{Page}
 use Rattle.page.specs.Store.{AreNumbered}
 use Rattle.page.specs.declared.sizes.TheConstants.{SLOTS}
@@ -15,7 +17,7 @@ use Rattle.tables.specs.Tables.{TablesContent}
 use Rattle.analysis.specs.Tables.{AreTablesOf, first_behind, redo_lsn_of}
 use Rattle.analysis.proofs.Smallest.{not_below}
 use Rattle.redo.specs.Changes.{page_named}
-use Rattle.redo.specs.Redone.{redone_page, applied_to, IsLookedAt, AllExist, IsFirstMissing, RepeatsHistory}
+use Rattle.redo.specs.Redone.{redone_page, applied_to, IsLookedAt, AllExist, IsFirstMissing, RedoFault, RepeatsHistory}
 use Rattle.redo.specs.declared.redone.Redone.{Redone}
 use Rattle.passes.specs.Listing.{ListEach}
 
@@ -157,8 +159,8 @@ listed_more number page first old new before step lt =
       | inr e ↦ step ∙ rw e (before page (let other : number ≢ page = λ same. (let f : eqb number page ≡ true = eq-eqb number page same in cc) in omega (arith, lt, other)))
     ]
 
--- ---- redo by such tables is redo by those that analysis finds
-module _ (whole : LogContent) (found listed : TablesContent) (count : ℕ) (are : AreTablesOf whole 0 found) (each : ListEach count (base_lsn (history whole) + 1) listed) where
+-- ---- redo from the first record on is redo by the tables that analysis finds
+module _ (whole : LogContent) (found : TablesContent) (are : AreTablesOf whole 0 found) where
   abbrev log : History
   log = history whole
 
@@ -178,42 +180,51 @@ module _ (whole : LogContent) (found listed : TablesContent) (count : ℕ) (are 
       let begins = begins_by (suc (base_lsn (history whole))) p own.0 found.dirty at in
       (own.0, at, own.3, ((λ zero. omega (arith, zero, are.redo_lsn, begins.0)), omega (arith, are.redo_lsn, begins.1, own.2, own.3)))
 
-  looked_by_listed : (lsn : ℕ) (r : LogRecord) → record_at log lsn ≡ Some r → IsLookedAt listed.redo_lsn lsn
-  looked_by_listed lsn r there = ((λ zero. omega (arith, zero, each.begins)), omega (arith, each.begins, record_above log lsn r there))
+  looked_from_first : (lsn : ℕ) (r : LogRecord) → record_at log lsn ≡ Some r → IsLookedAt (base_lsn log + 1) lsn
+  looked_from_first lsn r there = ((λ zero. omega (arith, zero)), omega (arith, record_above log lsn r there))
 
-  choose_same : (image : Page) → image.number < count → ChooseSame (rec_lsn_of image.number listed.dirty) (rec_lsn_of image.number found.dirty) listed.redo_lsn found.redo_lsn image log
-  choose_same image lt lsn r there on =
-      let by_found = looked_at image.number lsn r there on in
-      let by_listed = looked_by_listed lsn r there in
-      ap (λ o. is_redone o listed.redo_lsn image.lsn lsn) (each.pages image.number lt)
-      ∙ redone_from (base_lsn log + 1) listed.redo_lsn image.lsn lsn (omega (arith, record_above log lsn r there)) by_listed.0 by_listed.1
-      ∙ sym (redone_from by_found.0 found.redo_lsn image.lsn lsn by_found.2 by_found.3.0 by_found.3.1)
-      ∙ sym (ap (λ o. is_redone o found.redo_lsn image.lsn lsn) by_found.1)
+  exist_by_found : (count : ℕ) → AllExist whole count (base_lsn log + 1) → AllExist whole count found.redo_lsn
+  exist_by_found count exist lsn r looked there = exist lsn r (looked_from_first lsn r there) there
 
-  pub exist_by_found : AllExist whole count listed.redo_lsn → AllExist whole count found.redo_lsn
-  exist_by_found exist lsn r looked there = exist lsn r (looked_by_listed lsn r there) there
-
-  pub missing_by_found : (lsn : ℕ) → IsFirstMissing whole count listed.redo_lsn lsn → IsFirstMissing whole count found.redo_lsn lsn
-  missing_by_found lsn missing =
+  missing_by_found : (count lsn : ℕ) → IsFirstMissing whole count (base_lsn log + 1) lsn → IsFirstMissing whole count found.redo_lsn lsn
+  missing_by_found count lsn missing =
       record {
         entry = missing.entry;
         looked_at = by (page_named missing.entry) refl;
         there = missing.there;
         beyond = missing.beyond;
-        before = λ n r looked lt there. missing.before n r (looked_by_listed n r there) lt there;
+        before = λ n r looked lt there. missing.before n r (looked_from_first n r there) lt there;
       }
     where
       by : (o : Option ℕ) → page_named missing.entry ≡ o → IsLookedAt found.redo_lsn lsn
       by None none = absurd (missing.beyond (λ page named. absurd (let f = sym none ∙ named in cc)))
       by (Some page) named = (looked_at page lsn missing.entry missing.there (page_of missing.entry page named)).3
 
-  pub repeats_by_found : (images : List Page) (redone : Redone) → length images ≡ count → AreNumbered images → RepeatsHistory whole listed images redone → RepeatsHistory whole found images redone
-  repeats_by_found images redone size numbered repeats =
-      let same : (k : ℕ) (d : Page) → k < length images → (get_or images k d).number < count = λ k d lt. omega (arith, numbered.at_place k d lt, lt, size) in
-      record {
-        pages = repeats.pages ∙ map_same (redone_page whole listed) (redone_page whole found) images
-            (λ k d lt. redo_same (rec_lsn_of (get_or images k d).number listed.dirty) (rec_lsn_of (get_or images k d).number found.dirty) listed.redo_lsn found.redo_lsn (get_or images k d) log (choose_same (get_or images k d) (same k d lt)));
-        applied = repeats.applied ∙ ap sum (map_same (applied_to whole listed) (applied_to whole found) images
-            (λ k d lt. applied_same (rec_lsn_of (get_or images k d).number listed.dirty) (rec_lsn_of (get_or images k d).number found.dirty) listed.redo_lsn found.redo_lsn (get_or images k d) log (choose_same (get_or images k d) (same k d lt))));
-        exist = subst (λ n. AllExist whole n found.redo_lsn) (sym size) (exist_by_found (subst (λ n. AllExist whole n listed.redo_lsn) size repeats.exist));
-      }
+  pub fault_by_found : (count : ℕ) (e : Fault) → RedoFault whole count (base_lsn log + 1) 1 e → RedoFault whole count found.redo_lsn 1 e
+  fault_by_found count NoResource cause = tt
+  fault_by_found count BadWorkers cause = cause
+  fault_by_found count (NoSuchPage lsn) cause = (cause.0, missing_by_found count lsn cause.1)
+  fault_by_found count e cause = absurd cause
+
+  -- with tables that list each page
+  module _ (listed : TablesContent) (count : ℕ) (each : ListEach count (base_lsn log + 1) listed) where
+    choose_same : (image : Page) → image.number < count → ChooseSame (rec_lsn_of image.number listed.dirty) (rec_lsn_of image.number found.dirty) listed.redo_lsn found.redo_lsn image log
+    choose_same image lt lsn r there on =
+        let by_found = looked_at image.number lsn r there on in
+        let by_listed = looked_from_first lsn r there in
+        ap₂ (λ o n. is_redone o n image.lsn lsn) (each.pages image.number lt) each.begins
+        ∙ redone_from (base_lsn log + 1) (base_lsn log + 1) image.lsn lsn by_listed.1 by_listed.0 by_listed.1
+        ∙ sym (redone_from by_found.0 found.redo_lsn image.lsn lsn by_found.2 by_found.3.0 by_found.3.1)
+        ∙ sym (ap (λ o. is_redone o found.redo_lsn image.lsn lsn) by_found.1)
+
+    pub repeats_by_found : (images : List Page) (redone : Redone) → length images ≡ count → AreNumbered images → RepeatsHistory whole listed images redone → RepeatsHistory whole found images redone
+    repeats_by_found images redone size numbered repeats =
+        let same : (k : ℕ) (d : Page) → k < length images → (get_or images k d).number < count = λ k d lt. omega (arith, numbered.at_place k d lt, lt, size) in
+        let exist : AllExist whole (length images) (base_lsn log + 1) = subst (AllExist whole (length images)) each.begins repeats.exist in
+        record {
+          pages = repeats.pages ∙ map_same (redone_page whole listed) (redone_page whole found) images
+              (λ k d lt. redo_same (rec_lsn_of (get_or images k d).number listed.dirty) (rec_lsn_of (get_or images k d).number found.dirty) listed.redo_lsn found.redo_lsn (get_or images k d) log (choose_same (get_or images k d) (same k d lt)));
+          applied = repeats.applied ∙ ap sum (map_same (applied_to whole listed) (applied_to whole found) images
+              (λ k d lt. applied_same (rec_lsn_of (get_or images k d).number listed.dirty) (rec_lsn_of (get_or images k d).number found.dirty) listed.redo_lsn found.redo_lsn (get_or images k d) log (choose_same (get_or images k d) (same k d lt))));
+          exist = exist_by_found (length images) exist;
+        }

@@ -86,11 +86,7 @@ fn begin_scan(alloc: Global, store: &Store, base: u64) -> Result<ForwardScan, Fa
 
 /// Counts the records of the next piece for redo, unless a page was missing before. Returns the fault of
 /// the first record on a page that the store lacks.
-fn tally_for_redo(
-    piece: &Log,
-    tallies: &mut TallyScan,
-    missing: Option<Fault>,
-) -> Option<Fault>
+fn tally_for_redo(piece: &Log, tallies: &mut TallyScan, missing: Option<Fault>) -> Option<Fault>
     requires { tallies.old.upto ≤ base_lsn (history piece.now) }
     ensures tallied { (whole : LogContent) (images : List Page)
         → IsPieceOf (history whole) (history piece.now)
@@ -155,4 +151,105 @@ fn take_piece<S: Reread>(
     scan.tables.pass(&piece, 0)?;
     scan.missing = tally_for_redo(&piece, &mut scan.tallies, scan.missing);
     Ok((next, torn))
+}
+
+/// The tables at the log's end, of which this is the base LSN, and the tallies, or the fault of the first
+/// record on a page that the store lacks. The only error is `NoResource`.
+fn finish_scan(scan: ForwardScan, base: u64) -> Result<(Tables, Result<TallyScan, Fault>), Fault>
+    requires { base ≤ LARGEST_BASE }
+    ensures tables { IfOk result (λ x. (log : LogContent) → base_lsn (history log) ≡ base
+        → HasAnalysed 0 (history log) (history log) scan.tables → AreTablesOf log 0 x.0) }
+    ensures lawful { IfOk result (λ x. (over : BasePages) (log : LogContent) (store : StoreContent)
+        → Lawful over log store → base_lsn (history log) ≡ base
+        → HasAnalysed store.master (history log) (history log) scan.tables
+        → AreTrue log store x.0) }
+    ensures no_transaction_0 { entry_at 0 scan.tables.entries ≡ None
+        → IfOk result (λ x. entry_for 0 x.0.transactions ≡ None) }
+    ensures tallies { IfOk result (λ x. IfOk x.1 (λ tallies. (scan.missing ≡ None)
+        × (tallies ≡ scan.tallies))) }
+    ensures missing { IfOk result (λ x. IfErr x.1 (λ e. scan.missing ≡ Some e)) }
+    ensures err { IsOkUnless result NoResource }
+{
+    let ForwardScan {
+        tables,
+        tallies,
+        missing,
+    } = scan;
+    let tables = tables.finish(base)?;
+    match missing {
+        None => Ok((tables, Ok(tallies))),
+        Some(fault) => Ok((tables, Err(fault))),
+    }
+}
+
+/// What one forward reading makes of a log without a checkpoint.
+#[derive(Drop)]
+pub struct ForwardReading {
+    /// The marks of the log.
+    pub marks: Marks,
+    /// How many bytes are torn at its end.
+    pub torn: usize,
+    /// The tables of the crash.
+    pub tables: Tables,
+    /// The tallies of redo at the log's end, or the fault of the first record on a page that the store
+    /// lacks.
+    pub tallies: Result<TallyScan, Fault>,
+}
+
+/// Reads the log that a source holds from its beginning to its end, each piece into the room and each
+/// once, for its marks, for analysis without a checkpoint, and for redo of a store.
+///
+/// Errors are those of [`find_marks`](crate::find_marks).
+pub fn read_forward<S: Reread>(
+    alloc: Global,
+    source: &mut S,
+    room: &mut [u8],
+    store: &Store,
+) -> Result<ForwardReading, PassFault>
+    requires room { BASED_HEADER_BYTES ≤ length room.old }
+    requires reach { length room.old < 2 ^ 63 }
+    ensures found { IfOk result (λ x. (text : List ℕ) → S.text source.old ≡ Some text
+        → AreFound text (length room.old) x.marks x.torn) }
+    ensures tables { IfOk result (λ x. (text : List ℕ) (whole : LogContent) (torn : ℕ)
+        → S.text source.old ≡ Some text → Reads text whole torn → AreTablesOf whole 0 x.tables) }
+    ensures lawful { IfOk result (λ x. (text : List ℕ) (whole : LogContent) (torn : ℕ)
+        (over : BasePages) (before : StoreContent)
+        → S.text source.old ≡ Some text → Reads text whole torn
+        → Lawful over whole before → before.master ≡ 0 → AreTrue whole before x.tables) }
+    ensures no_transaction_0 { IfOk result (λ x. entry_for 0 x.tables.transactions ≡ None) }
+    ensures tallied { IfOk result (λ x. (text : List ℕ) (whole : LogContent) (torn : ℕ)
+        → S.text source.old ≡ Some text → Reads text whole torn
+        → IfOk x.tallies (AreTalliedByAll whole store.now.pages (last_lsn (history whole)))) }
+    ensures count { IfOk result (λ x. IfOk x.tallies (λ scan. length scan.tallies
+        ≡ length store.now.pages)) }
+    ensures missing { IfOk result (λ x. (text : List ℕ) (whole : LogContent) (torn : ℕ)
+        → S.text source.old ≡ Some text → Reads text whole torn
+        → IfErr x.tallies (RedoFault whole (length store.now.pages) x.tables.redo_lsn 1)) }
+    ensures fault { IfErr result (λ e. (text : List ℕ) → S.text source.old ≡ Some text
+        → BASED_HEADER_BYTES + LONGEST_FRAME ≤ length room.old → LogCause text e) }
+    ensures same { Keeps (S.text source.old) (S.text source.new) }
+    ensures no_failure { OnOk result (S.failures source.new ≡ S.failures source.old) }
+    ensures cause { IfErr result (λ e. S.failures source.new
+        ≡ S.failures source.old + failures_of e) }
+{
+    let first = mark_at_start(alloc, source, room)?;
+    let mut marks = Marks::begin(alloc, first)?;
+    let base = marks.first().lsn;
+    let mut scan = begin_scan(alloc, store, base)?;
+    for _ in 0..u64::MAX {
+        let mark = marks.end();
+        let (next, torn) = take_piece(alloc, source, mark, room, &mut scan)?;
+        if next.lsn == mark.lsn {
+            let (tables, tallies) = finish_scan(scan, base)?;
+            return Ok(ForwardReading {
+                marks,
+                torn,
+                tables,
+                tallies,
+            });
+        }
+        marks.push(next)?;
+    }
+    // No log has so many pieces.
+    Err(PassFault::Fault(Fault::NoResource))
 }
