@@ -1,5 +1,5 @@
 -- Redo of a log without a checkpoint, by tables that list each page of the store from the log's first record on.
-use Rattle.std.proofs.Common.{◌≡◌, ◌≢◌, ℕ, zero, suc, ◌+◌, ◌<◌, ◌≤◌, ◌⊎◌, max, min, Bool, true, false, cond, eqb, ltb, leb, eqb-true, eq-eqb, ne_eqb, List, [], ◌∷◌, All, length, map, sum, get_or, Option, Some, None, refl, sym, ap, ap₂, ◌∙◌, subst, inl, inr, arith}
+use Rattle.std.proofs.Common.{◌≡◌, ◌≢◌, ℕ, suc, ◌+◌, ◌<◌, ◌≤◌, max, Bool, true, false, cond, eqb, ltb, eqb-true, eq-eqb, ne_eqb, List, [], ◌∷◌, All, length, map, sum, get_or, Option, Some, None, refl, sym, ap, ap₂, ◌∙◌, subst, inl, inr, arith}
 use Rattle.std.specs.Prelude.{option_map}
 use Rattle.std.specs.List.{range_with_len}
 use Rattle.std.proofs.lemmas.Bool.{cases_Bool, le-leb}
@@ -9,8 +9,8 @@ use Rattle.page.specs.declared.page.Page.{Page}
 use Rattle.page.specs.Store.{AreNumbered}
 use Rattle.page.specs.declared.sizes.TheConstants.{SLOTS}
 use Rattle.wal.specs.Records.{LogRecord, TableEntry, LogContent, History, start, ◌▸◌, history, last_lsn, base_lsn, record_at}
-use Rattle.wal.specs.Meaning.{Cells, Change, change_of, effects, writes, is_on, is_on_page, is_in_cell}
-use Rattle.wal.specs.Redo.{rec_lsn_of, is_redone, last_where, slots_in, held_by, redo_of, applied}
+use Rattle.wal.specs.Meaning.{Cells, Change, change_of, effects, is_on, is_on_page, is_in_cell}
+use Rattle.wal.specs.Redo.{rec_lsn_of, is_redone, last_where, held_by, redo_of, applied}
 use Rattle.wal.specs.Checkpoint.{or_else}
 use Rattle.wal.proofs.Histories.{record_last, record_more, record_above, base_within}
 use Rattle.tables.specs.Tables.{TablesContent}

@@ -1,4 +1,4 @@
-use Rattle.std.proofs.Common.{◌≡◌, ◌∙◌, ℕ, List, [], ap, subst, refl}
+use Rattle.std.proofs.Common.{ℕ, List, [], ap, subst, refl}
 use Rattle.page.specs.Store.{StoreContent, AreNumbered}
 use Rattle.wal.specs.declared.record.Entry.{Entry}
 use Rattle.wal.specs.Redo.{rec_lsn_of}

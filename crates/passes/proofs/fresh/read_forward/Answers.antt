@@ -1,6 +1,5 @@
-use Rattle.std.proofs.Common.{◌≡◌, ◌<◌, ◌-◌, ℕ, List, Some, length, get_or, refl, sym, ap, subst, ◌∙◌, inr, arith}
+use Rattle.std.proofs.Common.{◌≡◌, ◌<◌, ◌-◌, ℕ, List, Some, length, get_or, sym, ap, subst, ◌∙◌, inr, arith}
 use Rattle.std.proofs.lemmas.Result.{err_from_is_err_and}
-use Rattle.page.specs.Store.{StoreContent}
 use Rattle.wal.specs.Records.{LogContent, lsn_before, start, ◌▸▸◌, history, last_lsn, base_lsn}
 use Rattle.wal.specs.Reads.{Reads}
 use Rattle.wal.proofs.Histories.{base_of_log}

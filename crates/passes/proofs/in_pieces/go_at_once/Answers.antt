@@ -1,9 +1,8 @@
-use Rattle.std.proofs.Common.{◌≡◌, ℕ, List, Some, length, refl, sym, ap, ◌∙◌, subst}
+use Rattle.std.proofs.Common.{◌≡◌, List, length, refl, sym, ap, ◌∙◌, subst}
 use Rattle.std.proofs.lemmas.Result.{err_from_is_err_and, IfOk-at_ok, IfErr-at_err}
 use Rattle.page.specs.declared.page.Page.{Page}
-use Rattle.page.specs.Store.{StoreContent, AreNumbered}
-use Rattle.wal.specs.Records.{LogContent, history, last_lsn}
-use Rattle.wal.specs.Reads.{Reads}
+use Rattle.page.specs.Store.{StoreContent}
+use Rattle.wal.specs.Records.{history, last_lsn}
 use Rattle.analysis.specs.Tables.{AreTablesOf}
 use Rattle.redo.specs.Redone.{RedoFault, RepeatsHistory}
 use Rattle.restart.specs.Restart.{AheadFault, NoneAhead}
@@ -11,12 +10,11 @@ use Rattle.restart.proofs.Restored.{ahead_alone}
 use Rattle.pieces.specs.declared.mark.Mark.{Mark}
 use Rattle.passes.specs.declared.fault.PassFault.TheVariants as fault
 use Rattle.passes.specs.Listing.{AreTalliedByAll}
-use Rattle.passes.specs.Marks.{AreInReach, AreMarks}
+use Rattle.passes.specs.Marks.{AreInReach}
 use Rattle.passes.proofs.InPieces.{none_ahead, is_redone, ahead_fault, redo_alone_in_pieces, redo_fault_in_pieces, resource_fault, memory_alone, same_marks, in_pieces_fault}
 use Rattle.passes.proofs.Listing.{repeats_by_found}
 use Rattle.passes.proofs.Nexts.{log_alone}
 use Rattle.passes.proofs.Reached.{still_told}
-use Rattle.passes.proofs.in_pieces.go_at_once.Given.{Over}
 use Rattle.passes.proofs.in_pieces.go_at_once.Goals as goal
 
 pub returns-in_err-read-clause-lawful : goal.returns-in_err-read-clause-lawful
@@ -68,7 +66,7 @@ returns-in_err-tallies-clause-fault g c =
     let whole = found.whole in
     let tables = c.in_ok-read.read.tables in
     let none : NoneAhead whole c.args.store = none_ahead whole c.args.store c.deref.result.now c.end.result.lsn (c.deref.ensures.value ∙ ap (λ (s : StoreContent). s.pages) c.store.view_is)
-        (ap (λ (m : Mark). m.lsn) (c.end.ensures.end c.end.result) ∙ found.are.last c.end.result) c.in_ok-check_lsns.ensures.ok in
+    (ap (λ (m : Mark). m.lsn) (c.end.ensures.end c.end.result) ∙ found.are.last c.end.result) c.in_ok-check_lsns.ensures.ok in
     let are : AreTablesOf whole c.args.store.master tables = subst (λ m. AreTablesOf whole m tables) (sym c.requires.master) (c.in_ok-read.ensures.tables text whole c.in_ok-read.read.torn is found.reads) in
     in_pieces_fault text whole c.in_ok-read.read.torn c.args.store found.reads (fault.Fault e)
     (redo_fault_in_pieces whole c.args.store none tables are (fault.Fault e)
@@ -105,7 +103,7 @@ returns-clause-redone g c = λ text whole torn is reads.
     let still = still_told (g.S.Reread.text c.args.source.now) (g.S.Reread.text c.read_forward.new.source) text c.in_ok-read.ensures.same is in
     let marks = same_marks text (length c.args.room.now) torn c.in_ok-read.read.torn c.in_ok-read.read.marks whole found reads in
     let none : NoneAhead whole c.args.store = none_ahead whole c.args.store c.deref.result.now c.end.result.lsn (c.deref.ensures.value ∙ ap (λ (s : StoreContent). s.pages) c.store.view_is)
-        (ap (λ (m : Mark). m.lsn) (c.end.ensures.end c.end.result) ∙ marks.last c.end.result) c.in_ok-check_lsns.ensures.ok in
+    (ap (λ (m : Mark). m.lsn) (c.end.ensures.end c.end.result) ∙ marks.last c.end.result) c.in_ok-check_lsns.ensures.ok in
     let fresh : AreTablesOf whole 0 tables = c.in_ok-read.ensures.tables text whole torn is reads in
     let are : AreTablesOf whole c.args.store.master tables = subst (λ m. AreTablesOf whole m tables) (sym c.requires.master) fresh in
     let images = c.store.inside.pages.items in

@@ -72,7 +72,7 @@ returns-in_err-tables-clause-fault g c =
     let whole = found.whole in
     let still = still_told (g.S.Reread.text c.args.source.now) (g.S.Reread.text c.find_marks.new.source) text c.in_ok-marks.ensures.same is in
     let none : NoneAhead whole c.args.store = none_ahead whole c.args.store c.deref.result.now c.end.result.lsn (c.deref.ensures.value ∙ ap (λ (s : StoreContent). s.pages) c.store.view_is)
-        (ap (λ (m : Mark). m.lsn) (c.end.ensures.end c.end.result) ∙ found.are.last c.end.result) c.in_ok-check_lsns.ensures.ok in
+    (ap (λ (m : Mark). m.lsn) (c.end.ensures.end c.end.result) ∙ found.are.last c.end.result) c.in_ok-check_lsns.ensures.ok in
     in_pieces_fault text whole c.in_ok-marks.torn c.args.store found.reads e
     (tables_fault whole c.args.store none e
     (subst (λ m. TablesCause m whole e) kept (c.in_err-tables.ensures.fault text whole c.in_ok-marks.torn still found.reads found.are (subst (λ n. 70701 ≤ n) (sym c.find_marks.auto.room) c.requires.room)))))
@@ -106,7 +106,7 @@ returns-in_err-redone-clause-fault g c =
     let now = still_told (g.S.Reread.text c.find_marks.new.source) (g.S.Reread.text c.tables_in_pieces.new.source) text c.in_ok-tables.ensures.same still in
     let room = sym (c.tables_in_pieces.auto.room ∙ c.find_marks.auto.room) in
     let none : NoneAhead whole c.args.store = none_ahead whole c.args.store c.deref.result.now c.end.result.lsn (c.deref.ensures.value ∙ ap (λ (s : StoreContent). s.pages) c.store.view_is)
-        (ap (λ (m : Mark). m.lsn) (c.end.ensures.end c.end.result) ∙ found.are.last c.end.result) c.in_ok-check_lsns.ensures.ok in
+    (ap (λ (m : Mark). m.lsn) (c.end.ensures.end c.end.result) ∙ found.are.last c.end.result) c.in_ok-check_lsns.ensures.ok in
     let are : AreTablesOf whole c.args.store.master tables = subst (λ m. AreTablesOf whole m tables) kept (c.in_ok-tables.ensures.tables text whole c.in_ok-marks.torn still found.reads found.are) in
     in_pieces_fault text whole c.in_ok-marks.torn c.args.store found.reads e
     (redo_fault_in_pieces whole c.args.store none tables are e
@@ -120,7 +120,7 @@ returns-clause-redone g c = λ text whole torn is reads.
     let now = still_told (g.S.Reread.text c.find_marks.new.source) (g.S.Reread.text c.tables_in_pieces.new.source) text c.in_ok-tables.ensures.same still in
     let marks = same_marks text (length c.args.room.now) torn c.in_ok-marks.torn c.in_ok-marks.marks whole (c.in_ok-marks.ensures.found text is) reads in
     let none : NoneAhead whole c.args.store = none_ahead whole c.args.store c.deref.result.now c.end.result.lsn (c.deref.ensures.value ∙ ap (λ (s : StoreContent). s.pages) c.store.view_is)
-        (ap (λ (m : Mark). m.lsn) (c.end.ensures.end c.end.result) ∙ marks.last c.end.result) c.in_ok-check_lsns.ensures.ok in
+    (ap (λ (m : Mark). m.lsn) (c.end.ensures.end c.end.result) ∙ marks.last c.end.result) c.in_ok-check_lsns.ensures.ok in
     let are : AreTablesOf whole c.args.store.master tables = subst (λ m. AreTablesOf whole m tables) kept (c.in_ok-tables.ensures.tables text whole torn still reads marks) in
     is_redone whole c.args.store tables c.in_ok-redone.redone none are
     (c.in_ok-redone.ensures.redone text whole torn now reads marks)
