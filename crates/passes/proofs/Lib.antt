@@ -4,3 +4,5 @@ pub mod Finding
 pub mod Forward
 pub mod Redoing
 pub mod InPieces
+pub mod Listing
+pub mod OneReading

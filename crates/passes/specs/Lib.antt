@@ -3,3 +3,4 @@ pub mod Next
 pub mod Tables
 pub mod Redoing
 pub mod InPieces
+pub mod Listing

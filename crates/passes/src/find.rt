@@ -19,7 +19,7 @@ use wal::BASED_HEADER_BYTES;
 ///
 /// Errors: `Failed` if the source failed; those of [`read_log`](wal::read_log) for the log, if its first
 /// 16 bytes show one.
-fn mark_at_start<S: Reread>(
+pub fn mark_at_start<S: Reread>(
     alloc: Global,
     source: &mut S,
     room: &mut [u8],

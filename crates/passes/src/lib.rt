@@ -4,6 +4,7 @@
 mod analyse;
 mod fault;
 mod find;
+mod fresh;
 mod gather;
 mod in_pieces;
 mod marks;

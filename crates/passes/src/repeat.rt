@@ -250,6 +250,47 @@ fn finish_in_pieces<S: Reread>(
     Ok(())
 }
 
+/// Ends redo of a store, which is given away, by its tallies at the end of the log that a source holds:
+/// its pages are changed in place. The marks are those of the log.
+///
+/// Errors: `Failed` if the source failed; `NoResource` if memory was refused. Another fault only if the
+/// source no longer holds what it held when the marks were made, or if the room does not take all frames
+/// from a mark to the next. With an error the pages are gone.
+pub fn end_redo<S: Reread>(
+    alloc: Global,
+    source: &mut S,
+    marks: &Marks,
+    room: &mut [u8],
+    store: Store,
+    scan: TallyScan,
+) -> Result<Redone, PassFault>
+    requires room { BASED_HEADER_BYTES ≤ length room.old }
+    requires reach { length room.old < 2 ^ 63 }
+    requires count { length scan.tallies ≡ length store.pages }
+    // By whichever tables the tallies were counted.
+    ensures redone { IfOk result (λ redone. (text : List ℕ) (whole : LogContent) (torn : ℕ)
+        (tables : TablesContent) → S.text source.old ≡ Some text → Reads text whole torn
+        → AreMarks text whole marks.now
+        → AreTalliedUpTo whole store.pages tables (last_lsn (history whole)) scan
+        → RepeatsHistory whole tables store.pages redone) }
+    ensures numbered { IfOk result (λ redone. AreNumbered redone.pages.items) }
+    ensures fault { IfErr result (λ e. (text : List ℕ) (whole : LogContent) (torn : ℕ)
+        → S.text source.old ≡ Some text → Reads text whole torn → AreMarks text whole marks.now
+        → AreInReach (length room.old) marks.now → scan.upto ≤ last_lsn (history whole)
+        → IsResource e) }
+    ensures same { Keeps (S.text source.old) (S.text source.new) }
+    ensures no_failure { OnOk result (S.failures source.new ≡ S.failures source.old) }
+    ensures cause { IfErr result (λ e. S.failures source.new
+        ≡ S.failures source.old + failures_of e) }
+{
+    let applied = scan.applied();
+    // The log's last LSN fits, and no record counts twice: so the count fits.
+    let _end = marks.end();
+    let mut pages = store.pages;
+    finish_in_pieces(alloc, source, marks, room, scan, &mut pages)?;
+    Ok(Redone { pages, applied })
+}
+
 /// Repeats history on the pages of a store by the log that a source holds, in the thread of the caller.
 /// The store is given away: its pages are changed in place and not copied. With an error they are gone.
 ///
@@ -286,10 +327,5 @@ pub fn redo_in_pieces<S: Reread>(
         ≡ S.failures source.old + failures_of e) }
 {
     let scan = tally_in_pieces(alloc, source, marks, room, &store, tables)?;
-    let applied = scan.applied();
-    // The log's last LSN fits, and no record counts twice: so the count fits.
-    let _end = marks.end();
-    let mut pages = store.pages;
-    finish_in_pieces(alloc, source, marks, room, scan, &mut pages)?;
-    Ok(Redone { pages, applied })
+    end_redo(alloc, source, marks, room, store, scan)
 }

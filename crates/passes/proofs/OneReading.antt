@@ -1,0 +1,108 @@
+-- One forward reading of a log without a checkpoint.
+use Rattle.std.proofs.Common.{◌≡◌, ℕ, ◌+◌, List, [], ◌∷◌, ◌++◌, ◌-◌, Option, Some, None, false, length, length-append, get_or, refl, sym, ap, ◌∙◌, subst, arith}
+use Rattle.std.specs.Prelude.{is_some, IfOk, IfErr}
+use Rattle.std.proofs.Math.Seq.{get_or-append_seam}
+use Rattle.std.specs.declared.result.Result.TheVariants.{Ok, Err}
+use Rattle.std.specs.declared.result.Result.{Result}
+use Rattle.page.specs.declared.fault.Fault.{Fault}
+use Rattle.page.specs.declared.page.Page.{Page}
+use Rattle.page.specs.Store.{AreNumbered}
+use Rattle.wal.specs.Records.{LogContent, History, lsn_before, history, last_lsn, base_lsn}
+use Rattle.wal.specs.Reads.{Reads}
+use Rattle.wal.proofs.Whole.{one_reading}
+use Rattle.wal.proofs.Histories.{base_within, base_of_log, size_of_log}
+use Rattle.tables.specs.Tables.{TablesContent}
+use Rattle.analysis.specs.Passing.{SeenTables, HasAnalysed}
+use Rattle.analysis.specs.Tables.{AreTablesOf}
+use Rattle.tables.specs.Pieces.{IsPieceOf}
+use Rattle.pieces.specs.declared.mark.Mark.{Mark}
+use Rattle.pieces.specs.Pieces.{IsMark}
+use Rattle.pieces.proofs.Beginnings.{same_start}
+use Rattle.redo.specs.Inputs.{InputContent, input_over}
+use Rattle.redo.specs.OnePass.{AreUpTo}
+use Rattle.redo.specs.Passing.{TalliesSoFar, IsPieceFor}
+use Rattle.redo.specs.Passing.{PassFault as PassCause}
+use Rattle.redo.specs.Redone.{AllExist, ExistBelow, RedoFault}
+use Rattle.redo.proofs.Stretches.{skipped_from}
+use Rattle.passes.specs.Listing.{ListEach, AreTalliedByAll, TalliedOrRefused}
+use Rattle.passes.proofs.Forward.{is_whole}
+use Rattle.passes.proofs.Listing.{fault_by_found}
+use Rattle.passes.proofs.Redoing.{tallied_first, tallied_more, pass_cause}
+
+-- THE TALLIES
+-- before the first record
+pub tallied_all_first : (whole : LogContent) (images : List Page) (listed : TablesContent) (base : ℕ) (scan : TalliesSoFar) → AreNumbered images → ListEach (length images) (base + 1) listed → scan.redo_lsn ≡ listed.redo_lsn → scan.upto ≡ base
+    → base_lsn (history whole) ≡ base → AreUpTo (input_over whole images listed) base scan.tallies → AreTalliedByAll whole images base scan
+tallied_all_first whole images listed base scan numbered each from upto at up =
+    let within = base_within (history whole) in
+    record {
+      listed = listed;
+      each = subst (λ n. ListEach (length images) (n + 1) listed) (sym at) each;
+      tallied = tallied_first whole images listed base base scan numbered from (omega (arith, upto)) (sym at) (omega (arith, at, within)) (omega (arith, at, skipped_from (base_lsn (history whole)) listed.redo_lsn (last_lsn (history whole)) within)) up;
+    }
+
+-- a piece more
+pub tallied_all_more : (whole piece : LogContent) (images : List Page) (old new : TalliesSoFar) → IsPieceOf (history whole) (history piece) → new.redo_lsn ≡ old.redo_lsn → new.upto ≡ last_lsn (history piece)
+    → ((input : InputContent) → IsPieceFor input old.redo_lsn piece → AreUpTo input (base_lsn (history piece)) old.tallies → AreUpTo input (last_lsn (history piece)) new.tallies)
+    → AllExist piece (length old.tallies) old.redo_lsn → AreTalliedByAll whole images (base_lsn (history piece)) old → AreTalliedByAll whole images (last_lsn (history piece)) new
+tallied_all_more whole piece images old new own same upto goes_on exist before =
+    record {
+      listed = before.listed;
+      each = before.each;
+      tallied = tallied_more whole piece images before.listed (base_lsn (history piece)) (last_lsn (history piece)) old new own refl refl same upto goes_on exist before.tallied;
+    }
+
+-- a piece with a record on a page that the store lacks
+pub refused_in_piece : (whole piece : LogContent) (images : List Page) (scan : TalliesSoFar) (e : Fault) → IsPieceOf (history whole) (history piece) → AreTalliedByAll whole images (base_lsn (history piece)) scan
+    → PassCause piece (length scan.tallies) scan.redo_lsn e → RedoFault whole (length images) (base_lsn (history whole) + 1) 1 e
+refused_in_piece whole piece images scan e own before cause =
+    let from : scan.redo_lsn ≡ base_lsn (history whole) + 1 = sym before.tallied.from ∙ before.each.begins in
+    pass_cause whole piece (length images) (base_lsn (history whole) + 1) e own
+    (subst (λ n. ExistBelow whole (length images) n (base_lsn (history piece) + 1)) before.each.begins before.tallied.exist)
+    (subst (λ n. PassCause piece (length images) n e) from (subst (λ n. PassCause piece n scan.redo_lsn e) before.tallied.tallied.count cause))
+
+pub none_missing : (whole : LogContent) (images : List Page) (lsn : ℕ) (missing : Option Fault) (scan : TalliesSoFar) → is_some missing ≡ false → TalliedOrRefused whole images lsn missing scan → AreTalliedByAll whole images lsn scan
+none_missing whole images lsn None scan none before = before
+none_missing whole images lsn (Some e) scan none before = absurd cc
+
+-- THE FIRST MARK of a log, before which there is no record, stands at its base LSN
+pub starts_at : (text : List ℕ) (whole before : LogContent) (torn : ℕ) (mark : Mark) → Reads text whole torn → before.records ≡ [] → IsMark text before mark → base_lsn (history whole) ≡ mark.lsn
+starts_at text whole before torn mark reads none is =
+    let starts = same_start text whole torn reads before mark.offset is.reads in
+    omega (arith, is.lsn, size_of_log before, ap (λ rs. length rs) none, base_of_log whole, ap lsn_before starts)
+
+-- SO FAR
+-- what analysis has found up to the last mark
+abbrev pub AnalysedSoFar : List ℕ → List Mark → SeenTables → Type 0
+AnalysedSoFar text marks tables = (d : Mark) → (before : LogContent) × IsMark text before (get_or marks (length marks - 1) d) × ((whole : History) → HasAnalysed 0 whole (history before) tables)
+
+-- and what redo has
+abbrev pub TalliedSoFar : List ℕ → List Page → List Mark → Option Fault → TalliesSoFar → Type 0
+TalliedSoFar text images marks missing scan = (whole : LogContent) (torn : ℕ) (d : Mark) → Reads text whole torn → TalliedOrRefused whole images (get_or marks (length marks - 1) d).lsn missing scan
+
+-- with a mark more
+pub last_pushed : (marks : List Mark) (next d : Mark) → get_or (marks ++ next ∷ []) (length (marks ++ next ∷ []) - 1) d ≡ next
+last_pushed marks next d =
+    ap (λ n. get_or (marks ++ next ∷ []) n d) (omega (arith, length-append marks (next ∷ []))) ∙ get_or-append_seam marks next [] d
+
+-- THE END: if no record comes after a mark, the whole log is before it
+pub at_end : (text : List ℕ) (whole before after : LogContent) (torn left : ℕ) (mark next : Mark) → Reads text whole torn → IsMark text before mark → Reads text before left → IsMark text after next → next.lsn ≡ mark.lsn
+    → (after ≡ whole) × (next.lsn ≡ last_lsn (history whole))
+at_end text whole before after torn left mark next reads is all is_after same =
+    let own : before ≡ whole = (one_reading text before whole left torn all reads).0 in
+    let last : next.lsn ≡ last_lsn (history whole) = same ∙ is.lsn ∙ ap (λ l. last_lsn (history l)) own in
+    (is_whole text whole after torn next reads is_after (omega (arith, last)), last)
+
+-- WHAT IS LEFT: the tallies if no page was missing, else the fault
+module _ (whole : LogContent) (images : List Page) (lsn : ℕ) (missing : Option Fault) (scan : TalliesSoFar) (tallied : TalliedOrRefused whole images lsn missing scan) where
+  pub tallied_if_ok : (left : Result TalliesSoFar Fault) → IfOk left (λ t. (missing ≡ None) × (t ≡ scan)) → IfOk left (AreTalliedByAll whole images lsn)
+  tallied_if_ok (Ok t) own = subst (AreTalliedByAll whole images lsn) (sym own.1) (subst (λ m. TalliedOrRefused whole images lsn m scan) own.0 tallied)
+  tallied_if_ok (Err e) own = tt
+
+  pub refused_if_err : (tables : TablesContent) → AreTablesOf whole 0 tables → (left : Result TalliesSoFar Fault) → IfErr left (λ e. missing ≡ Some e) → IfErr left (RedoFault whole (length images) tables.redo_lsn 1)
+  refused_if_err tables are (Ok t) own = tt
+  refused_if_err tables are (Err e) own = fault_by_found whole tables are (length images) e (subst (λ m. TalliedOrRefused whole images lsn m scan) own tallied)
+
+pub count_if_ok : (missing : Option Fault) (scan : TalliesSoFar) (count : ℕ) → length scan.tallies ≡ count → (left : Result TalliesSoFar Fault) → IfOk left (λ t. (missing ≡ None) × (t ≡ scan)) → IfOk left (λ t. length t.tallies ≡ count)
+count_if_ok missing scan count is (Ok t) own = ap (λ (s : TalliesSoFar). length s.tallies) own.1 ∙ is
+count_if_ok missing scan count is (Err e) own = tt
