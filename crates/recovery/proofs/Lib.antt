@@ -1,3 +1,4 @@
+pub mod Alike
 pub mod Bytes
 pub mod Decoded
 pub mod Delivered

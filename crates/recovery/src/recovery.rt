@@ -3,12 +3,13 @@
 ghost use Rattle.std.specs.Prelude.{◌≡◌, ◌≤◌, ◌<◌, ◌+◌, ◌*◌, ◌^◌, ℕ, List, length, min, IfOk, OnOk, IfErr, MatchResult, IsOkUnless};
 ghost use Rattle.page.specs.declared.fault.Fault.{Fault};
 ghost use Rattle.page.specs.declared.fault.Fault.TheVariants.{NoResource};
-ghost use Rattle.wal.specs.Records.{history, last_lsn};
+ghost use Rattle.wal.specs.Records.{LogContent, history, last_lsn};
 ghost use Rattle.wal.specs.Reads.{Reads, spellings};
 ghost use Rattle.page.specs.Store.{StoreContent};
 ghost use Rattle.page.specs.File.{store_text, SpellsStore};
 ghost use Rattle.undo.specs.Appended.{records_of, HaveUpdates, AreFit};
 ghost use Rattle.wal.specs.Meaning.{BasePages};
+ghost use Rattle.passes.specs.InPieces.{AreAlike};
 ghost use Rattle.recovery.specs.Recovery.{report_of, log_of, Decodes, ReadsAs, Recovers, AreLawful, Recovered, Cause};
 ghost use Rattle.restart.specs.Options.{AreInRange};
 ghost use Rattle.restart.specs.Outcome.{outcome_in};
@@ -98,8 +99,8 @@ pub struct Remade {
     pub report: Report,
 }
 
-/// What is to be written of what a restart made of a log and a store. The only error is
-/// `NoResource`.
+/// What is to be written of what a restart made of a log and a store. The records looked at are those
+/// of the log, or those of them that undo looked at. The only error is `NoResource`.
 pub fn remade_of(
     alloc: Global,
     records: &Looked,
@@ -110,19 +111,22 @@ pub fn remade_of(
     requires writable { AreFit records.now outcome.appended.items }
     requires few { length outcome.appended.items ≤ 2 * length records.now.records + 2 ^ 32 }
 
-    // Where the outcome is that of a restart of a store, for any bytes that spell the log and it.
-    ensures answer { IfOk result (λ x. (log text : List ℕ) (before : StoreContent)
-        → Reads log records.now torn → SpellsStore text before
-        → Restarts records.now before (outcome_in (history records.now) outcome)
+    // Where the outcome is that of a restart of a whole log, which is like the records looked at, and of
+    // a store: for any bytes that spell them.
+    ensures answer { IfOk result (λ x. (whole : LogContent) (log text : List ℕ)
+        (before : StoreContent) → AreAlike whole records.now outcome.appended.items
+        → Reads log whole torn → SpellsStore text before
+        → Restarts whole before (outcome_in (history whole) outcome)
         → Recovers log text (log_of log x) (store_text x.store) x.report) }
-    ensures lawful { IfOk result (λ x. (base : BasePages) (log : List ℕ) (before : StoreContent)
-        → Reads log records.now torn
-        → Restores base records.now before (outcome_in (history records.now) outcome)
-        → Recovered base records.now before (log_of log x) (store_text x.store) x.report) }
-    ensures short { IfOk result (λ x. (base : BasePages) (log : List ℕ) (before : StoreContent)
-        → Reads log records.now torn
-        → Restores base records.now before (outcome_in (history records.now) outcome)
+    ensures lawful { IfOk result (λ x. (whole : LogContent) (base : BasePages) (log : List ℕ)
+        (before : StoreContent) → AreAlike whole records.now outcome.appended.items
+        → Reads log whole torn → Restores base whole before (outcome_in (history whole) outcome)
+        → Recovered base whole before (log_of log x) (store_text x.store) x.report) }
+    ensures short { IfOk result (λ x. (whole : LogContent) (base : BasePages) (log : List ℕ)
+        (before : StoreContent) → AreAlike whole records.now outcome.appended.items
+        → Reads log whole torn → Restores base whole before (outcome_in (history whole) outcome)
         → length x.frames.items ≤ 2 * length log) }
+    ensures torn { IfOk result (λ x. x.report.torn ≡ torn) }
     ensures err { IsOkUnless result NoResource }
 {
     let frames = frames_of(alloc, records, &outcome.appended)?;

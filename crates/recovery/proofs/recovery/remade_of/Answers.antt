@@ -10,15 +10,16 @@ use Rattle.recovery.specs.Text.{ReportContent}
 use Rattle.restart.specs.Restart.{IsSettled}
 use Rattle.restart.specs.Outcome.{outcome_in}
 use Rattle.undo.specs.Appended.{record_of, records_of}
-use Rattle.undo.proofs.Told.{told_fit}
 use Rattle.recovery.proofs.TailLength.{tail_short}
+use Rattle.recovery.proofs.Alike.{alike_fit, alike_frames, alike_report}
 use Rattle.recovery.proofs.Bytes.{kept_text, text_extended}
 use Rattle.recovery.proofs.Resuming.{reads_extended}
 use Rattle.recovery.proofs.recovery.remade_of.Goals as goal
 
 pub returns-clause-answer : goal.returns-clause-answer
-returns-clause-answer c = λ log_bytes text before reads_log spells restarts.
-    let read = c.args.records.now in
+returns-clause-answer c = λ whole log_bytes text before alike reads_log spells restarts.
+    let some = c.args.records.now in
+    let read = whole in
     let torn = c.args.torn in
     let log = history read in
     let told = c.args.outcome.appended.items in
@@ -30,21 +31,22 @@ returns-clause-answer c = λ log_bytes text before reads_log spells restarts.
     let log_is : bytes ≡ log_text (read ⧺ appended) =
     text_extended read appended (take (length log_bytes - own) log_bytes) c.in_ok-frames.frames.items (last_lsn log + 1)
     kept refl
-    (c.in_ok-frames.ensures.frames ∙ ap (λ xs. spellings (last_lsn log + 1) (records_of log xs)) same) in
-    let few : last_lsn log + length appended < 2 ^ 64 = omega (arith, c.in_ok-frames.ensures.room, ap length same, length-map told (record_of log)) in
+    (c.in_ok-frames.ensures.frames ∙ ap (λ xs. spellings (last_lsn (history some) + 1) (records_of (history some) xs)) same ∙ alike_frames whole some told alike) in
+    let few : last_lsn log + length appended < 2 ^ 64 = omega (arith, c.in_ok-frames.ensures.room, alike.last, ap length same, length-map told (record_of log)) in
     record {
       decoded = record { read = read; torn = torn; before = before; reads = reads_log; spells = spells };
       outcome = outcome_in log c.args.outcome;
       restarts = restarts;
       log_is = log_is;
-      reads = reads_extended bytes read appended log_is reads_log.starts reads_log.each (told_fit read told c.requires.writable) few;
+      reads = reads_extended bytes read appended log_is reads_log.starts reads_log.each (alike_fit whole some told alike c.requires.writable) few;
       store_is = ap store_text c.report_of-report.ensures.store;
-      report_is = c.report_of-report.ensures.report;
+      report_is = c.report_of-report.ensures.report ∙ alike_report whole some told alike torn c.args.outcome;
     }
 
 pub returns-clause-lawful : goal.returns-clause-lawful
-returns-clause-lawful c = λ base log_bytes before reads_log restored.
-    let read = c.args.records.now in
+returns-clause-lawful c = λ whole base log_bytes before alike reads_log restored.
+    let some = c.args.records.now in
+    let read = whole in
     let torn = c.args.torn in
     let log = history read in
     let told = c.args.outcome.appended.items in
@@ -56,9 +58,9 @@ returns-clause-lawful c = λ base log_bytes before reads_log restored.
     let log_is : bytes ≡ log_text (read ⧺ appended) =
     text_extended read appended (take (length log_bytes - own) log_bytes) c.in_ok-frames.frames.items (last_lsn log + 1)
     kept refl
-    (c.in_ok-frames.ensures.frames ∙ ap (λ xs. spellings (last_lsn log + 1) (records_of log xs)) same) in
-    let few : last_lsn log + length appended < 2 ^ 64 = omega (arith, c.in_ok-frames.ensures.room, ap length same, length-map told (record_of log)) in
-    let reads = reads_extended bytes read appended log_is reads_log.starts reads_log.each (told_fit read told c.requires.writable) few in
+    (c.in_ok-frames.ensures.frames ∙ ap (λ xs. spellings (last_lsn (history some) + 1) (records_of (history some) xs)) same ∙ alike_frames whole some told alike) in
+    let few : last_lsn log + length appended < 2 ^ 64 = omega (arith, c.in_ok-frames.ensures.room, alike.last, ap length same, length-map told (record_of log)) in
+    let reads = reads_extended bytes read appended log_is reads_log.starts reads_log.each (alike_fit whole some told alike c.requires.writable) few in
     record {
       log_is = log_is ∙ ap (λ (rs : List LogRecord). log_text (read ⧺ rs)) restored.appended;
       reads = subst (λ (rs : List LogRecord). Reads bytes (read ⧺ rs) 0) restored.appended reads;
@@ -78,13 +80,14 @@ returns-clause-lawful c = λ base log_bytes before reads_log restored.
     }
 
 pub returns-clause-short : goal.returns-clause-short
-returns-clause-short c = λ base log_bytes before reads_log restored.
-    let read = c.args.records.now in
+returns-clause-short c = λ whole base log_bytes before alike reads_log restored.
+    let some = c.args.records.now in
+    let read = whole in
     let log = history read in
     let told = c.args.outcome.appended.items in
     let same : c.deref.result.now ≡ told = c.deref.ensures.value in
     let frames : c.in_ok-frames.frames.items ≡ spellings (last_lsn log + 1) (tail_of read) =
-    c.in_ok-frames.ensures.frames ∙ ap (λ xs. spellings (last_lsn log + 1) (records_of log xs)) same ∙ ap (spellings (last_lsn log + 1)) restored.appended in
+    c.in_ok-frames.ensures.frames ∙ ap (λ xs. spellings (last_lsn (history some) + 1) (records_of (history some) xs)) same ∙ alike_frames whole some told alike ∙ ap (spellings (last_lsn log + 1)) restored.appended in
     let read_bytes = reads_log in
     omega (
       arith,

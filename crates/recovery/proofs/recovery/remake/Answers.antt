@@ -5,6 +5,7 @@ use Rattle.page.specs.File.{SpellsStore, StoreFault, store_text}
 use Rattle.wal.specs.Reads.{Reads}
 use Rattle.restart.specs.Restart.{IsPartingOf}
 use Rattle.recovery.specs.Recovery.{Decoded, Recovered, log_of}
+use Rattle.recovery.proofs.Alike.{same_log}
 use Rattle.recovery.proofs.Bytes.{restart_cause, store_cause, is_lawful, none_read, one_read, dealt_by_number}
 use Rattle.recovery.proofs.recovery.remake.Goals as goal
 
@@ -55,7 +56,7 @@ pub returns-clause-answer : goal.returns-clause-answer
 returns-clause-answer g c =
     let before = c.in_ok-before.before in
     IfOk-weaker c.remade_of.result _ _
-    (λ x made log text reads_as decodes. made log text before (IfOk-at_ok (λ y. Reads log y.0 y.1) c.in_ok-records.was reads_as.found) (IfOk-at_ok (SpellsStore text) c.in_ok-before.was decodes.found) c.in_ok-outcome.ensures.restarts)
+    (λ x made log text reads_as decodes. made c.in_ok-records.records log text before (same_log c.in_ok-records.records c.in_ok-outcome.outcome.appended.items) (IfOk-at_ok (λ y. Reads log y.0 y.1) c.in_ok-records.was reads_as.found) (IfOk-at_ok (SpellsStore text) c.in_ok-before.was decodes.found) c.in_ok-outcome.ensures.restarts)
     c.remade_of.ensures.answer
 
 pub returns-clause-lawful : goal.returns-clause-lawful
@@ -71,6 +72,6 @@ returns-clause-lawful g c = λ base log text reads_as decodes bytes.
     MatchResult-from_both c.remade_of.result _ _
     (IfOk-weaker c.remade_of.result _ _ (λ x made.
     subst (λ rs. Recovered base rs bytes.decoded.before (log_of log x) (store_text x.store) x.report) (ap (λ x. x.0) one)
-    (subst (λ b. Recovered base read b (log_of log x) (store_text x.store) x.report) same (made base log before (IfOk-at_ok (λ y. Reads log y.0 y.1) c.in_ok-records.was reads_as.found) restored)))
+    (subst (λ b. Recovered base read b (log_of log x) (store_text x.store) x.report) same (made read base log before (same_log read c.in_ok-outcome.outcome.appended.items) (IfOk-at_ok (λ y. Reads log y.0 y.1) c.in_ok-records.was reads_as.found) restored)))
     c.remade_of.ensures.lawful)
     c.remade_of.ensures.err

@@ -5,6 +5,7 @@ use Rattle.restart.specs.declared.options.Options.{Options}
 use Rattle.restart.specs.Options.{AreInRange}
 use Rattle.recovery.specs.Text.{ReportContent}
 use Rattle.recovery.specs.Recovery.{Decoded, Recovers, Recovered, log_of}
+use Rattle.recovery.proofs.Alike.{same_log}
 use Rattle.recovery.proofs.Bytes.{input_cause, is_lawful, read_alone, read_same}
 use Rattle.recovery.proofs.unthreaded.recovery_alone.Goals as goal
 
@@ -48,7 +49,7 @@ returns-clause-answer c =
     let kept : take c.saturating_sub-kept.result log ≡ take (length log - made.report.torn) log = ap (λ n. take n log) (c.saturating_sub-kept.ensures ∙ ap (λ n. length log - n) (ap (λ (report : ReportContent). report.torn) c.report.view_is)) in
     subst (λ (kept : List ℕ). Recovers log c.args.store.items (kept ++ made.frames.items) c.encode_store_into.new.bytes.items made.report) (sym kept)
     (subst (λ new. Recovers log c.args.store.items (log_of log made) new made.report) (sym c.in_ok-encode_store_into.ensures.ok)
-    (c.in_ok-frames.ensures.answer log c.args.store.items before c.in_ok-records.ensures.found (subst (λ (text : List ℕ). SpellsStore text before) c.deref.ensures.value c.in_ok-before.ensures.found) c.in_ok-outcome.ensures.restarts))
+    (c.in_ok-frames.ensures.answer c.in_ok-records.records log c.args.store.items before (same_log c.in_ok-records.records c.in_ok-outcome.outcome.appended.items) c.in_ok-records.ensures.found (subst (λ (text : List ℕ). SpellsStore text before) c.deref.ensures.value c.in_ok-before.ensures.found) c.in_ok-outcome.ensures.restarts))
 
 pub returns-clause-lawful : goal.returns-clause-lawful
 returns-clause-lawful c = λ base bytes.
@@ -64,7 +65,7 @@ returns-clause-lawful c = λ base bytes.
     (subst (λ rs. Recovered base rs bytes.decoded.before (log_of log made) c.encode_store_into.new.bytes.items made.report) (ap (λ x. x.0) one)
     (subst (λ b. Recovered base read b (log_of log made) c.encode_store_into.new.bytes.items made.report) same
     (subst (λ new. Recovered base read before (log_of log made) new made.report) (sym c.in_ok-encode_store_into.ensures.ok)
-    (c.in_ok-frames.ensures.lawful base log before c.in_ok-records.ensures.found restored))))
+    (c.in_ok-frames.ensures.lawful read base log before (same_log c.in_ok-records.records c.in_ok-outcome.outcome.appended.items) c.in_ok-records.ensures.found restored))))
 
 pub returns-clause-short : goal.returns-clause-short
 returns-clause-short c = λ base bytes.
@@ -73,4 +74,4 @@ returns-clause-short c = λ base bytes.
     let one = read_same (read, c.in_ok-records.torn) (bytes.decoded.read, bytes.decoded.torn) (c.in_ok-records.ensures.only bytes.decoded.read bytes.decoded.torn bytes.decoded.reads) in
     let same : before ≡ bytes.decoded.before = c.in_ok-before.ensures.only bytes.decoded.before (subst (λ (text : List ℕ). SpellsStore text bytes.decoded.before) (sym c.deref.ensures.value) bytes.decoded.spells) in
     let restored = c.in_ok-outcome.ensures.lawful base (is_lawful bytes read before (ap (λ x. x.0) one) same) in
-    c.in_ok-frames.ensures.short base c.args.log.now before c.in_ok-records.ensures.found restored
+    c.in_ok-frames.ensures.short read base c.args.log.now before (same_log c.in_ok-records.records c.in_ok-outcome.outcome.appended.items) c.in_ok-records.ensures.found restored
