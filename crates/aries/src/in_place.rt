@@ -12,9 +12,7 @@ use crate::files::{NewFiles, OldFiles, make, open, options_for, refuse, sync_fol
 use crate::noted::{Call, NotedFile, Notes};
 use device::{FileLog, FileSink, FileSource, Source, read_full};
 use page::Fault;
-use recovery::{
-    Report, TailFile, continue_log, read_source, recover_by_pieces, recover_in_place,
-};
+use recovery::{Report, TailFile, continue_log, read_source, recover_by_pieces, recover_in_place};
 use redo::OpenGate;
 use restart::Options;
 use std::alloc::Global;
