@@ -1,0 +1,127 @@
+-- A log that is read in pieces: what is read again of it, and why it is refused.
+use Rattle.std.proofs.Common.{ℕ, ◌≡◌, ◌≤◌, ◌<◌, ◌+◌, ◌-◌, ◌^◌, List, ◌++◌, length, take, drop, Option, Some, None, Result, Ok, Err, refl, sym, ap, subst, ◌∙◌, inl, inr, arith, length-take}
+use Rattle.std.proofs.lemmas.List.{drop-take, take-append-le}
+use Rattle.std.specs.Prelude.{IfSome}
+use Rattle.std.specs.Io.KnownBytes.{Keeps}
+use Rattle.device.specs.Reread.{EndsBy}
+use Rattle.page.specs.declared.fault.Fault.{Fault}
+use Rattle.page.specs.declared.fault.Fault.TheVariants.{NoResource, ReadLog, ReadStore, WriteLog, WriteStore, BadWorkers, BadParting}
+use Rattle.page.specs.Store.{StoreContent}
+use Rattle.page.specs.File.{SpellsStore, store_text}
+use Rattle.wal.specs.Reads.{Cause as LogFault}
+use Rattle.passes.specs.declared.fault.PassFault.{PassFault}
+use Rattle.passes.specs.declared.fault.PassFault.TheVariants as pass
+use Rattle.passes.specs.Marks.{IsResource}
+use Rattle.passes.specs.InPieces.{InPiecesCause}
+use Rattle.restart.specs.declared.options.Options.{Options}
+use Rattle.restart.specs.Options.{AreInRange}
+use Rattle.recovery.specs.declared.by_pieces.Made.{Made}
+use Rattle.recovery.specs.Recovery.{Recovers, Cause, log_of}
+use Rattle.recovery.specs.Devices.{Fails, IsFaultOf, AreRead, DeviceCause, IsResourceOrDevice}
+use Rattle.recovery.specs.TailFile.{tail_text, sum_of, end_of}
+use Rattle.recovery.specs.InPlace.{Prepares, Stays}
+use Rattle.recovery.specs.ByPieces.{fault_of, ReadingCause, IsMeasured}
+use Rattle.recovery.proofs.Bytes.{input_cause}
+use Rattle.recovery.proofs.Delivered.{device_cause, is_resource}
+use Rattle.recovery.proofs.InPlace.{same_tail}
+
+-- WHAT A DEVICE TELLS
+pub at_some : {A : Type 0} (P : A → Type 0) (o : Option A) (x : A) → o ≡ Some x → IfSome o P → P x
+at_some P o x e h = subst (λ y. IfSome y P) e h
+
+-- the bytes end where a reading of them ended
+pub ends_short : (old now : Option (List ℕ)) (n : ℕ) → Keeps old now → n < 2 ^ 64 → EndsBy now n → IfSome old (λ held. length held < 2 ^ 64)
+ends_short None now n same few end = tt
+ends_short (Some xs) None n same few end = absurd same
+ends_short (Some xs) (Some ys) n same few end = omega (arith, few, end, ap (λ (t : List ℕ). length t) same)
+
+-- the end of what is kept, read again
+pub end_again : (kept offset count : ℕ) (text buffer rest : List ℕ) → offset ≡ kept - 4096 → kept ≤ length text → kept - offset ≤ count → count ≤ length buffer → length buffer ≡ kept - offset
+    → take count buffer ≡ take count (drop offset text) → end_of (take count (buffer ++ rest)) ≡ end_of (take kept text)
+end_again kept offset count text buffer rest at within some few room same =
+    let all : offset + count ≡ kept = omega (arith, at, some, few, room) in
+    let came : take count (buffer ++ rest) ≡ take count buffer = take-append-le count buffer rest few in
+    let size : length (take count buffer) ≡ count = omega (arith, length-take count buffer, few) in
+    let none : length (take count (buffer ++ rest)) - 4096 ≡ 0 = omega (arith, ap (λ (t : List ℕ). length t) came, size, at, all) in
+    let long : length (take kept text) - 4096 ≡ offset = omega (arith, length-take kept text, within, at) in
+    ap (λ n. drop n (take count (buffer ++ rest))) none
+    ∙ came
+    ∙ same
+    ∙ sym (drop-take offset count text)
+    ∙ ap (λ n. drop offset (take n text)) all
+    ∙ sym (ap (λ n. drop n (take kept text)) long)
+
+-- FAILURES of a log's device
+pub failed : {U : Type 0} (s : Result U Fault) (a b c : ℕ) → s ≡ Err ReadLog → b ≡ a → c ≡ b + 1 → Fails ReadLog s a c
+failed s a b c is before after = record { blamed = λ _. omega (arith, before, after); innocent = λ other. absurd (other is) }
+
+pub memory_fails : {U : Type 0} (s : Result U Fault) (a c : ℕ) → s ≡ Err NoResource → c ≡ a → Fails ReadLog s a c
+memory_fails s a c is same = record { blamed = λ blamed. absurd (let other : s ≡ Err ReadLog = blamed in cc); innocent = λ _. same }
+
+pub ok_is_no_fault : {U : Type 0} (x : U) (e : Fault) → Ok x ≡ Err e → ⊥
+ok_is_no_fault x e is = absurd cc
+
+pub none_failed : {U : Type 0} (x : U) (a c : ℕ) → c ≡ a → Fails ReadLog (Ok x) a c
+none_failed x a c same = record { blamed = λ is. absurd (ok_is_no_fault x ReadLog is); innocent = λ _. same }
+
+-- REFUSALS
+-- want of memory, or the log's device
+pub resource_of_log : (e : PassFault) → IsResource e → IsFaultOf ReadLog (fault_of e)
+resource_of_log e (inl failed) = subst (λ x. IsFaultOf ReadLog (fault_of x)) (sym failed) (inr refl)
+resource_of_log e (inr none) = subst (λ x. IsFaultOf ReadLog (fault_of x)) (sym none) (inl refl)
+
+-- the log's bytes are refused
+pub log_cause : (log store : List ℕ) (options : Options) (e : Fault) → AreInRange options → LogFault log e → Cause log store options e
+log_cause log store options NoResource range h = tt
+log_cause log store options BadWorkers range h = absurd h.behind.fault
+log_cause log store options BadParting range h = absurd h.behind.fault
+log_cause log store options e range h = (range, inl h)
+
+-- a restart in pieces is refused
+pub reading_cause : (log store : List ℕ) (options : Options) (before : StoreContent) (e : PassFault) → SpellsStore store before → AreInRange options → InPiecesCause log before e → ReadingCause log store options (fault_of e)
+reading_cause log store options before pass.Failed spells range h = inl refl
+reading_cause log store options before (pass.Fault ReadLog) spells range h = inr tt
+reading_cause log store options before (pass.Fault ReadStore) spells range h = inr tt
+reading_cause log store options before (pass.Fault WriteLog) spells range h = inr tt
+reading_cause log store options before (pass.Fault WriteStore) spells range h = inr tt
+reading_cause log store options before (pass.Fault e) spells range (inl cause) = inr (log_cause log store options e range cause)
+reading_cause log store options before (pass.Fault e) spells range (inr (whole, torn, reads, cause)) =
+    inr (input_cause log store options e range (record { read = whole; torn = torn; before = before; reads = reads; spells = spells }) cause)
+
+pub of_log : (e : Fault) → IsFaultOf ReadLog e → IsResourceOrDevice e
+of_log e (inl none) = is_resource e none
+of_log e (inr failed) = subst IsResourceOrDevice (sym failed) tt
+
+pub by_device : (store_left : Option (List ℕ)) (options : Options) (log store : List ℕ) (e : Fault) → AreRead (Some log) store_left log store → ReadingCause log store options e → DeviceCause (Some log) store_left options e
+by_device store_left options log store e read (inl failed) = subst (DeviceCause (Some log) store_left options) (sym failed) tt
+by_device store_left options log store e read (inr cause) = device_cause (Some log) store_left options log store e read cause
+
+-- WHAT IS MADE, and the file of its tail
+module _ (store_left : Option (List ℕ)) (log store : List ℕ) (made : Made) (read : AreRead (Some log) store_left log store) (measured : IsMeasured log made)
+    (recovers : Recovers log store (log_of log made.remade) (store_text made.remade.store) made.remade.report) where
+  abbrev pub prepares : Prepares (Some log) store_left
+  prepares = record {
+    log = log;
+    store = store;
+    kept = length log - made.remade.report.torn;
+    frames = made.remade.frames.items;
+    new_store = store_text made.remade.store;
+    report = made.remade.report;
+    are_read = read;
+    kept_is = refl;
+    recovers = recovers;
+  }
+
+  pub tail_made : (size kept end : ℕ) (frames : List ℕ) → size ≡ made.length → kept ≡ made.kept → end ≡ made.end → frames ≡ made.remade.frames.items
+      → tail_text size kept end frames ≡ tail_text (length log) (length log - made.remade.report.torn) (sum_of (end_of (take (length log - made.remade.report.torn) log))) made.remade.frames.items
+  tail_made size kept end frames p q r h =
+      same_tail size (length log) kept (length log - made.remade.report.torn) end _ frames made.remade.frames.items (p ∙ measured.length_is) (q ∙ measured.kept_is)
+      (r ∙ measured.end_is ∙ ap (λ n. sum_of (end_of (take n log))) measured.kept_is) h
+
+-- a sink's fault is none of the log's device
+pub stays_other : {U : Type 0} (s : Result U Fault) (kept : ℕ) (frames new_store : List ℕ) (a b c d x y : Option (List ℕ)) (e : Fault) → s ≡ Err e → Stays kept frames new_store a b c d x y e → s ≡ Err ReadLog → ⊥
+stays_other s kept frames new_store a b c d x y e is stays blamed =
+    subst (λ f. Stays kept frames new_store a b c d x y f) (let same : e ≡ ReadLog = cc in same) stays
+
+pub other_failed : {U : Type 0} (s : Result U Fault) (a b c : ℕ) → (s ≡ Err ReadLog → ⊥) → b ≡ a → c ≡ b → Fails ReadLog s a c
+other_failed s a b c other before after = record { blamed = λ is. absurd (other is); innocent = λ _. after ∙ before }

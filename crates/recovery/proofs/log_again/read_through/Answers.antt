@@ -1,0 +1,49 @@
+use Rattle.std.proofs.Common.{refl, ap, ◌∙◌, arith, Err}
+use Rattle.std.proofs.lemmas.Result.{err_from_is_err_and}
+use Rattle.page.specs.declared.fault.Fault.TheVariants.{ReadLog}
+use Rattle.passes.proofs.Reached.{keeps_same, keeps_on}
+use Rattle.recovery.proofs.ByPieces.{ends_short, failed, memory_fails, none_failed, ok_is_no_fault}
+use Rattle.recovery.proofs.log_again.read_through.Goals as goal
+
+pub loop-offset-init : goal.loop-offset-init
+loop-offset-init g c = record { room = c.requires; same = keeps_same (g.L.Reread.text c.args.log.now); failures = refl }
+
+pub returns-in_err-count-clause-same : goal.returns-in_err-count-clause-same
+returns-in_err-count-clause-same g c =
+    keeps_on (g.L.Reread.text c.args.log.now) (g.L.Reread.text c.loop-offset.log) (g.L.Reread.text c.read_from.new.log) c.loop-offset.invariant.same c.in_err-count.ensures.same
+
+pub returns-in_err-count-clause-cause : goal.returns-in_err-count-clause-cause
+returns-in_err-count-clause-cause g c =
+    let exit = err_from_is_err_and c.from_residual.result c.from_residual.ensures.1 in
+    rw (exit.1, exit.2)
+    (failed _ (g.L.Source.failures c.args.log.now) (g.L.Source.failures c.loop-offset.log) (g.L.Source.failures c.read_from.new.log) (ap (λ e. Err e) c.in_err-count.ensures.fault) c.loop-offset.invariant.failures
+    (c.in_err-count.ensures.cause.blamed (ap (λ e. Err e) c.in_err-count.ensures.fault)))
+
+pub returns-then-count-lt-ROOM-clause-end : goal.returns-then-count-lt-ROOM-clause-end
+returns-then-count-lt-ROOM-clause-end g c =
+    let inv = c.loop-offset.invariant in
+    ends_short (g.L.Reread.text c.args.log.now) (g.L.Reread.text c.loop-offset.log) _ inv.same (omega (arith, c.loop-offset-test.true, c.if-count-lt-ROOM.true))
+    (c.in_ok-count.ensures.end (omega (arith, c.if-count-lt-ROOM.true, c.read_from.auto.buffer, inv.room)))
+
+pub returns-then-count-lt-ROOM-clause-same : goal.returns-then-count-lt-ROOM-clause-same
+returns-then-count-lt-ROOM-clause-same g c =
+    keeps_on (g.L.Reread.text c.args.log.now) (g.L.Reread.text c.loop-offset.log) (g.L.Reread.text c.read_from.new.log) c.loop-offset.invariant.same c.in_ok-count.ensures.same
+
+pub returns-then-count-lt-ROOM-clause-cause : goal.returns-then-count-lt-ROOM-clause-cause
+returns-then-count-lt-ROOM-clause-cause g c =
+    none_failed _ _ _ (c.in_ok-count.ensures.cause.innocent (ok_is_no_fault c.in_ok-count.count ReadLog) ∙ c.loop-offset.invariant.failures)
+
+pub loop-offset-preserved : goal.loop-offset-preserved
+loop-offset-preserved g c =
+    let inv = c.loop-offset.invariant in
+    record {
+      room = c.read_from.auto.buffer ∙ inv.room;
+      same = keeps_on (g.L.Reread.text c.args.log.now) (g.L.Reread.text c.loop-offset.log) (g.L.Reread.text c.read_from.new.log) inv.same c.in_ok-count.ensures.same;
+      failures = c.in_ok-count.ensures.cause.innocent (ok_is_no_fault c.in_ok-count.count ReadLog) ∙ inv.failures;
+    }
+
+pub returns-clause-same : goal.returns-clause-same
+returns-clause-same g c = c.loop-offset.invariant.same
+
+pub returns-clause-cause : goal.returns-clause-cause
+returns-clause-cause g c = memory_fails _ _ _ refl c.loop-offset.invariant.failures

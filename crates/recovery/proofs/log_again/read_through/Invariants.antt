@@ -1,0 +1,15 @@
+-- The device holds the same bytes, and has not failed.
+use Rattle.std.proofs.Common.{◌≡◌, ◌-◌, length}
+use Rattle.std.specs.Io.KnownBytes.{Keeps}
+use Rattle.recovery.proofs.log_again.read_through.Given as goal
+
+abbrev pub invariant-loop-offset : goal.invariant-loop-offset
+invariant-loop-offset g l =
+    record {
+      room : length l.room ≡ 262160;
+      same : Keeps (g.L.Reread.text l.fn.log) (g.L.Reread.text l.log);
+      failures : g.L.Source.failures l.log ≡ g.L.Source.failures l.fn.log;
+    }
+
+abbrev pub decreases-loop-offset : goal.decreases-loop-offset
+decreases-loop-offset g l = 9223372036854775808 - l.offset

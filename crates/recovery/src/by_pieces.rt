@@ -1,0 +1,263 @@
+//! Recovery in place of a log that is read in pieces: it is never in memory as a whole.
+
+ghost use Rattle.std.specs.Prelude.{◌≡◌, ◌≤◌, ◌<◌, ◌⊎◌, ◌+◌, ◌^◌, ℕ, List, length, Some, IfOk, IfErr, OnOk, OnErr, Err, MatchResult};
+ghost use Rattle.std.specs.Io.KnownBytes.{IsAtEnd};
+ghost use Rattle.page.specs.declared.fault.Fault.{Fault};
+ghost use Rattle.page.specs.declared.fault.Fault.TheVariants.{ReadLog, ReadStore, WriteLog, WriteStore};
+ghost use Rattle.page.specs.File.{store_text, SpellsStore};
+ghost use Rattle.device.specs.Transfer.{Flushes};
+ghost use Rattle.wal.specs.Meaning.{BasePages};
+ghost use Rattle.restart.specs.declared.options.Options.{Options};
+ghost use Rattle.restart.specs.Options.{AreInRange, OptionsFault};
+ghost use Rattle.recovery.specs.Recovery.{log_of, Decodes, Recovers, Recovered, AreLawful, AreCut};
+ghost use Rattle.recovery.specs.Devices.{Fails, IsFaultOf, DeviceCause, IsResourceOrDevice};
+ghost use Rattle.recovery.specs.InPlace.{IsContinued, IsLeftIn, Prepares, HasTail, Completed, DeliversInPlace, CompletesInPlace, HoldsCut, IsFlushed};
+ghost use Rattle.recovery.specs.ByPieces.{IsOfLog, IsMeasured, ReadingCause};
+ghost use Rattle.recovery.specs.declared.log_again.TheConstants.{ROOM};
+
+use crate::Report;
+use crate::in_place::write_in_place;
+use crate::log_again::{check_log, fault_of, read_through, room_for_log, sum_of_kept};
+use crate::recovery::{Remade, remade_of};
+use crate::store_pieces::{read_store, room_for_pieces};
+use crate::tail_file::TailFile;
+use device::{Continue, Reread, Sink, Source};
+use page::{Fault, Store};
+use passes::{Restarted, restart_in_pieces};
+use restart::{Options, check_options};
+use std::alloc::Global;
+use undo::{Looked, Place};
+
+/// What is made of a log and a store before any of it is written.
+#[derive(Drop)]
+pub struct Made {
+    /// How many bytes the log has.
+    pub length: u64,
+    /// How many of them are kept.
+    pub kept: u64,
+    /// The sum of the end of those.
+    pub end: u64,
+    pub remade: Remade,
+}
+
+/// What is made of the log that a device holds and of a store that is given away. The faults of the log
+/// come first, then those of a restart.
+fn make_of<L: Reread>(
+    alloc: Global,
+    log: &mut L,
+    before: Store,
+    room: &mut [u8],
+) -> Result<Made, Fault>
+    requires { length room.old ≡ ROOM }
+    ensures lawful { (base : BasePages) (text store : List ℕ) → L.text log.old ≡ Some text
+        → length text < 2 ^ 64 → SpellsStore store before → (bytes : AreLawful base text store)
+        → bytes.decoded.before ≡ before
+        → MatchResult result (λ x. Recovered base bytes.decoded.read bytes.decoded.before
+        (log_of text x.remade) (store_text x.remade.store) x.remade.report) (IsFaultOf ReadLog) }
+    ensures answer { IfOk result (λ x. (text store : List ℕ) → L.text log.old ≡ Some text
+        → SpellsStore store before
+        → Recovers text store (log_of text x.remade) (store_text x.remade.store) x.remade.report) }
+    ensures measured { IfOk result (λ x. (text : List ℕ) → L.text log.old ≡ Some text
+        → length text < 2 ^ 64 → IsMeasured text x) }
+    ensures fault { IfErr result (λ e. (text store : List ℕ) (options : Options)
+        → L.text log.old ≡ Some text → SpellsStore store before → AreInRange options
+        → ReadingCause text store options e) }
+    ensures named { IfErr result IsOfLog }
+    ensures cause { Fails ReadLog result (L.failures log.old) (L.failures log.new) }
+{
+    let Restarted {
+        kept,
+        torn,
+        gathered,
+        outcome,
+    } = match restart_in_pieces(alloc, log, room, before) {
+        Ok(restarted) => restarted,
+        Err(stopped) => return Err(fault_of(stopped)),
+    };
+    let looked = Looked {
+        place: Place::Gathered(&gathered),
+    };
+    let remade = remade_of(alloc, &looked, torn, outcome)?;
+    Ok(Made {
+        length: kept.saturating_add(torn as u64),
+        kept,
+        end: sum_of_kept(log, kept, room)?,
+        remade,
+    })
+}
+
+/// What is made of the log that a device holds and of a store, if its own bytes spelled one; else the
+/// fault of the log, if it has one, and then that of the store.
+fn make_by_pieces<L: Reread>(
+    alloc: Global,
+    log: &mut L,
+    decoded: Result<Store, Fault>,
+    room: &mut [u8],
+) -> Result<Made, Fault>
+    requires { length room.old ≡ ROOM }
+    ensures lawful { (base : BasePages) (text store : List ℕ) → L.text log.old ≡ Some text
+        → length text < 2 ^ 64 → Decodes store decoded → (bytes : AreLawful base text store)
+        → MatchResult result (λ x. Recovered base bytes.decoded.read bytes.decoded.before
+        (log_of text x.remade) (store_text x.remade.store) x.remade.report) (IsFaultOf ReadLog) }
+    ensures answer { IfOk result (λ x. (text store : List ℕ) → L.text log.old ≡ Some text
+        → Decodes store decoded
+        → Recovers text store (log_of text x.remade) (store_text x.remade.store) x.remade.report) }
+    ensures measured { IfOk result (λ x. (text : List ℕ) → L.text log.old ≡ Some text
+        → length text < 2 ^ 64 → IsMeasured text x) }
+    ensures fault { IfErr result (λ e. (text store : List ℕ) (options : Options)
+        → L.text log.old ≡ Some text → Decodes store decoded → AreInRange options
+        → ReadingCause text store options e) }
+    ensures named { IfErr result (λ e. (store : List ℕ) → Decodes store decoded → IsOfLog e) }
+    ensures cause { (store : List ℕ) → Decodes store decoded
+        → Fails ReadLog result (L.failures log.old) (L.failures log.new) }
+{
+    match decoded {
+        Ok(before) => make_of(alloc, log, before, room),
+        Err(fault) => {
+            check_log(alloc, log, room)?;
+            Err(fault)
+        }
+    }
+}
+
+impl Made {
+    /// The file of the tail that is made.
+    fn file(&self) -> TailFile
+        ensures length { result.length ≡ self.now.length }
+        ensures kept { result.kept ≡ self.now.kept }
+        ensures end { result.end ≡ self.now.end }
+        ensures frames { result.frames.now ≡ self.now.remade.frames.items }
+    {
+        TailFile {
+            length: self.length,
+            kept: self.kept,
+            end: self.end,
+            frames: &self.remade.frames,
+        }
+    }
+}
+
+/// Recovers as [`recover_in_place`](crate::recover_in_place) does, in the thread of the caller, and never
+/// has the log in memory as a whole: 256 KiB of it are there at once, and those records that undo needs.
+/// What is written does not depend on that, nor on the options.
+///
+/// `log` is read at offsets, as often as it is needed: to its end once before the store is read, and
+/// then piece by piece. `out_log` is the log that `log` reads, and holds the same bytes. It is cut after
+/// its last whole record and flushed; what the recovery appends is appended, and flushed; and only then
+/// the new store is written to `out_store`, and flushed. Before the log is touched, all that is appended
+/// is written to `tail` and flushed, with the lengths of the log and a sum: the file of a tail,
+/// [`TailFile`](crate::TailFile).
+///
+/// Nobody else may write the log meanwhile. If somebody does, a fault may be given that the log never
+/// had: `BadLsn` with an offset, for one, if bytes are gone that were there before.
+///
+/// Refuses, in this order: [`Fault::BadWorkers`] and [`Fault::BadParting`], if the options are out of
+/// their ranges; [`Fault::ReadLog`], if `log` failed, which may also come later;
+/// [`Fault::ReadStore`], if `store` failed; the faults of [`wal::read_log`] for the log; those of
+/// [`page::decode_store`] for the store; those of [`restart`](restart::restart) from
+/// [`Fault::PageAheadOfLog`] on; [`Fault::WriteLog`], if `tail` or `out_log` failed;
+/// [`Fault::WriteStore`], if `out_store` failed. [`Fault::NoResource`] may come in place of any answer:
+/// memory was refused, or an LSN of the log or an offset in it is above 2^63 - 1.
+///
+/// After any fault but `WriteLog` and `WriteStore` the log is as it was. After `WriteLog` it is as it
+/// was, or cut and continued by a beginning of what is appended; after `WriteStore` it is whole. If
+/// the log and the store were lawful, a recovery of what the log holds and the old store then ends as
+/// this one would have.
+pub fn recover_by_pieces<LR: Reread, SR: Source, T: Sink, LW: Continue, SW: Sink>(
+    alloc: Global,
+    log: &mut LR,
+    store: &mut SR,
+    tail: &mut T,
+    out_log: &mut LW,
+    out_store: &mut SW,
+    options: &Options,
+) -> Result<Report, Fault>
+    // On the bytes of a log and its store that are lawful over any base pages: the log is continued by
+    // its tail, the new store is out, and a fault is a refusal of memory or a device's.
+    ensures lawful { (base : BasePages) (log_text store_text : List ℕ)
+        → LR.text log.old ≡ Some log_text → SR.left store.old ≡ Some store_text
+        → LW.taken out_log.old ≡ Some log_text → AreInRange options.now
+        → (bytes : AreLawful base log_text store_text)
+        → MatchResult result (DeliversInPlace base bytes.decoded.read bytes.decoded.before
+        (LW.taken out_log.new) (SW.taken out_store.old) (SW.taken out_store.new))
+        IsResourceOrDevice }
+
+    // On what a restart of them may leave that was interrupted: all is as it would have left it.
+    ensures interrupted { (base : BasePages) (log_text store_text : List ℕ)
+        → LR.text log.old ≡ Some log_text → SR.left store.old ≡ Some store_text
+        → LW.taken out_log.old ≡ Some log_text → AreInRange options.now
+        → (bytes : AreCut base log_text store_text)
+        → MatchResult result (λ _. CompletesInPlace base bytes.first.decoded.read
+        bytes.first.decoded.before (LW.taken out_log.new) (SW.taken out_store.old)
+        (SW.taken out_store.new)) IsResourceOrDevice }
+
+    // After any fault the log holds what was read, or such bytes.
+    ensures resumable { (base : BasePages) (log_text store_text : List ℕ)
+        → LR.text log.old ≡ Some log_text → SR.left store.old ≡ Some store_text
+        → LW.taken out_log.old ≡ Some log_text → AreInRange options.now
+        → (bytes : AreLawful base log_text store_text)
+        → OnErr result (HoldsCut base bytes.decoded.read bytes.decoded.before log_text store_text
+        (LW.taken out_log.new)) }
+
+    // Wherever it returns a report.
+    ensures answer { IfOk result (λ report. (log_text : List ℕ)
+        → LR.text log.old ≡ Some log_text
+        → Completed (Some log_text) (SR.left store.old) (LW.taken out_log.old)
+        (LW.taken out_log.new) (SW.taken out_store.old) (SW.taken out_store.new) report) }
+    ensures options { (e : Fault) → OptionsFault options.now e → result ≡ Err e }
+
+    // A refusal has its cause, and what is left after it.
+    ensures cause { IfErr result (λ e. (log_text : List ℕ) → LR.text log.old ≡ Some log_text
+        → DeviceCause (Some log_text) (SR.left store.old) options.now e) }
+    ensures left { IfErr result (λ e. (log_text : List ℕ) → LR.text log.old ≡ Some log_text
+        → IsLeftIn (Some log_text) (SR.left store.old) (LW.taken out_log.old)
+        (LW.taken out_log.new) (LW.flushed out_log.old) (LW.flushed out_log.new)
+        (SW.taken out_store.old) (SW.taken out_store.new) e) }
+
+    // A report means that both are flushed.
+    ensures log_flushed { OnOk result (IsFlushed (LW.taken out_log.old) (LW.taken out_log.new)
+        (LW.flushed out_log.old) (LW.flushed out_log.new)) }
+    ensures store_flushed { OnOk result
+        (Flushes (SW.flushed out_store.old) (SW.flushed out_store.new) (SW.taken out_store.new)) }
+
+    // The store's source is read to its end before anything is written; the file of the tail is out
+    // and flushed before the log is touched, and the log is continued and flushed before the new store
+    // is.
+    ensures read_first { ((tail.new ≡ tail.old) × (out_log.new ≡ out_log.old) × (out_store.new ≡ out_store.old))
+        ⊎ IsAtEnd (SR.left store.new) }
+    ensures tail_first { (log_text : List ℕ) → LR.text log.old ≡ Some log_text
+        → (out_log.new ≡ out_log.old)
+        ⊎ ((made : Prepares (Some log_text) (SR.left store.old))
+        × HasTail made (T.taken tail.old) (T.taken tail.new) (T.flushed tail.old)
+        (T.flushed tail.new)) }
+    ensures log_first { (log_text : List ℕ) → LR.text log.old ≡ Some log_text
+        → (out_store.new ≡ out_store.old)
+        ⊎ ((made : Prepares (Some log_text) (SR.left store.old))
+        × IsContinued made.kept made.frames (LW.taken out_log.old) (LW.taken out_log.new)
+        (LW.flushed out_log.old) (LW.flushed out_log.new)) }
+
+    // A device is blamed where it failed, and nowhere else.
+    ensures log_source { Fails ReadLog result (LR.failures log.old) (LR.failures log.new) }
+    ensures store_source { Fails ReadStore result (SR.failures store.old) (SR.failures store.new) }
+    ensures log_sinks { Fails WriteLog result (T.failures tail.old + LW.failures out_log.old)
+        (T.failures tail.new + LW.failures out_log.new) }
+    ensures store_sink { Fails WriteStore result (SW.failures out_store.old)
+        (SW.failures out_store.new) }
+{
+    check_options(options)?;
+    let mut room = room_for_log(alloc)?;
+    let mut pieces = room_for_pieces(alloc)?;
+    read_through(log, &mut room)?;
+    let decoded = read_store(alloc, store, &mut pieces)?;
+    let made = make_by_pieces(alloc, log, decoded.store, &mut room)?;
+    let file = made.file();
+    write_in_place(
+        tail,
+        out_log,
+        out_store,
+        &file,
+        &made.remade.store,
+        &mut pieces,
+    )?;
+    Ok(made.remade.report)
+}

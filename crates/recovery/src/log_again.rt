@@ -1,0 +1,123 @@
+//! A log's device that is read again: to its end, for its fault, and for the sum of its end.
+
+ghost use Rattle.std.specs.Prelude.{◌≡◌, ◌≤◌, ◌<◌, ◌+◌, ◌^◌, ◌⊎◌, ℕ, List, length, take, IfOk, IfErr, OnOk, IfSome, IsOkUnless, Some};
+ghost use Rattle.std.specs.Io.KnownBytes.{Keeps};
+ghost use Rattle.device.specs.Reread.{EndsBy, ReadsFrom};
+ghost use Rattle.page.specs.declared.fault.Fault.TheVariants.{NoResource, ReadLog};
+ghost use Rattle.wal.specs.Records.{LogContent};
+ghost use Rattle.wal.specs.Reads.{Reads, Cause};
+ghost use Rattle.recovery.specs.Devices.{Fails, IsFaultOf};
+ghost use Rattle.recovery.specs.TailFile.{sum_of, end_of};
+ghost use Rattle.recovery.specs.ByPieces.{IsOfLog, fault_of};
+ghost use Rattle.recovery.specs.declared.log_again.TheConstants.{ROOM};
+
+use crate::tail_file::{END_BYTES, sum_of_end};
+use device::{Failed, Reread, read_full_at};
+use page::Fault;
+use passes::{PassFault, find_marks};
+use std::alloc::Global;
+
+/// How many bytes of a log are in memory at once: 256 KiB of frames, and a header before them.
+pub const ROOM: usize = 262_160;
+
+/// A log that is read in pieces has fewer bytes than this and a room.
+const LONGEST_LOG: u64 = 1 << 63;
+
+/// Room for the pieces of a log. The only error is `NoResource`.
+pub fn room_for_log(alloc: Global) -> Result<Vec<u8>, Fault>
+    ensures room { IfOk result (λ room. length room.items ≡ ROOM) }
+    ensures err { IsOkUnless result NoResource }
+{
+    Ok(vec![in alloc; 0; ROOM]?)
+}
+
+/// The fault that a pass over a log stopped with. A pass blames no device but that of the log, and that
+/// one by `Failed`.
+pub fn fault_of(stopped: PassFault) -> Fault
+    ensures { result ≡ fault_of stopped }
+{
+    match stopped {
+        PassFault::Failed => Fault::ReadLog,
+        PassFault::Fault(Fault::ReadLog) => Fault::NoResource,
+        PassFault::Fault(Fault::ReadStore) => Fault::NoResource,
+        PassFault::Fault(Fault::WriteLog) => Fault::NoResource,
+        PassFault::Fault(Fault::WriteStore) => Fault::NoResource,
+        PassFault::Fault(fault) => fault,
+    }
+}
+
+/// The bytes that a log's device holds from an offset on: as many as there is room for, fewer only at
+/// its end.
+fn read_from<L: Reread>(log: &mut L, offset: u64, buffer: &mut [u8]) -> Result<usize, Fault>
+    requires { offset + length buffer.old ≤ 2 ^ 64 }
+    ensures within { IfOk result (λ count. count ≤ length buffer.new) }
+    ensures bytes { IfOk result (λ count. ReadsFrom (L.text log.old) offset count buffer.new) }
+    ensures end { IfOk result (λ count. count < length buffer.new
+        → EndsBy (L.text log.old) (offset + count)) }
+    ensures same { Keeps (L.text log.old) (L.text log.new) }
+    ensures fault { IfErr result (λ e. e ≡ ReadLog) }
+    ensures cause { Fails ReadLog result (L.failures log.old) (L.failures log.new) }
+{
+    match read_full_at(log, offset, buffer) {
+        Ok(count) => Ok(count),
+        Err(Failed) => Err(Fault::ReadLog),
+    }
+}
+
+/// Reads a log's device from its beginning to its end, and looks at no byte: if it fails, that is found
+/// before anything else.
+pub fn read_through<L: Reread>(log: &mut L, room: &mut [u8]) -> Result<(), Fault>
+    requires { length room.old ≡ ROOM }
+    ensures end { OnOk result (IfSome (L.text log.old) (λ held. length held < 2 ^ 64)) }
+    ensures same { Keeps (L.text log.old) (L.text log.new) }
+    ensures fault { IfErr result (IsFaultOf ReadLog) }
+    ensures cause { Fails ReadLog result (L.failures log.old) (L.failures log.new) }
+{
+    let mut offset: u64 = 0;
+    while offset < LONGEST_LOG {
+        let count = read_from(log, offset, room)?;
+        if count < ROOM {
+            return Ok(());
+        }
+        offset += ROOM as u64;
+    }
+    // No device holds so many bytes.
+    Err(Fault::NoResource)
+}
+
+/// The fault of a log, if its device or its bytes have one; `NoResource` if memory was refused.
+pub fn check_log<L: Reread>(alloc: Global, log: &mut L, room: &mut [u8]) -> Result<(), Fault>
+    requires { length room.old ≡ ROOM }
+    ensures reads { OnOk result ((text : List ℕ) → L.text log.old ≡ Some text
+        → (whole : LogContent) × (torn : ℕ) × Reads text whole torn) }
+    ensures fault { IfErr result (λ e. (text : List ℕ) → L.text log.old ≡ Some text
+        → (e ≡ ReadLog) ⊎ Cause text e) }
+    ensures named { IfErr result IsOfLog }
+    ensures cause { Fails ReadLog result (L.failures log.old) (L.failures log.new) }
+{
+    let _found = match find_marks(alloc, log, room) {
+        Ok(found) => found,
+        Err(stopped) => return Err(fault_of(stopped)),
+    };
+    Ok(())
+}
+
+/// The sum of the last 4,096 of the bytes of a log that are kept, or of all if there are fewer. They are
+/// read again: `BadLsn` with their offset if the device no longer holds them all.
+pub fn sum_of_kept<L: Reread>(log: &mut L, kept: u64, room: &mut [u8]) -> Result<u64, Fault>
+    requires { length room.old ≡ ROOM }
+    ensures sum { IfOk result (λ sum. (text : List ℕ) → L.text log.old ≡ Some text
+        → kept ≤ length text → sum ≡ sum_of (end_of (take kept text))) }
+    ensures fault { IfErr result (λ e. (text : List ℕ) → L.text log.old ≡ Some text
+        → kept ≤ length text → e ≡ ReadLog) }
+    ensures named { IfErr result IsOfLog }
+    ensures cause { Fails ReadLog result (L.failures log.old) (L.failures log.new) }
+{
+    let offset = kept.saturating_sub(END_BYTES as u64);
+    let wanted = (kept - offset) as usize;
+    let count = read_from(log, offset, &mut room[..wanted])?;
+    if count < wanted {
+        return Err(Fault::BadLsn(offset));
+    }
+    Ok(sum_of_end(&[], &room[..count]))
+}
