@@ -16,8 +16,7 @@ use Rattle.passes.specs.InPieces.{InPiecesCause}
 use Rattle.restart.specs.declared.options.Options.{Options}
 use Rattle.restart.specs.Options.{AreInRange}
 use Rattle.recovery.specs.declared.by_pieces.Made.{Made}
-use Rattle.recovery.specs.Text.{ReportContent}
-use Rattle.recovery.specs.Recovery.{Decoded, Recovers, Cause, log_of}
+use Rattle.recovery.specs.Recovery.{Recovers, Cause, log_of}
 use Rattle.recovery.specs.Devices.{Fails, IsFaultOf, AreRead, DeviceCause, IsResourceOrDevice}
 use Rattle.recovery.specs.TailFile.{tail_text, sum_of, end_of}
 use Rattle.recovery.specs.InPlace.{Prepares, Stays}

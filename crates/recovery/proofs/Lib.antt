@@ -1,4 +1,5 @@
 pub mod Alike
+pub mod ByPieces
 pub mod Bytes
 pub mod Decoded
 pub mod Delivered

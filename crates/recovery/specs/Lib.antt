@@ -6,3 +6,4 @@ pub mod LogText
 pub mod OneAnswer
 pub mod TailFile
 pub mod InPlace
+pub mod ByPieces

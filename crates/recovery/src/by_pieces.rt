@@ -251,6 +251,13 @@ pub fn recover_by_pieces<LR: Reread, SR: Source, T: Sink, LW: Continue, SW: Sink
     let decoded = read_store(alloc, store, &mut pieces)?;
     let made = make_by_pieces(alloc, log, decoded.store, &mut room)?;
     let file = made.file();
-    write_in_place(tail, out_log, out_store, &file, &made.remade.store, &mut pieces)?;
+    write_in_place(
+        tail,
+        out_log,
+        out_store,
+        &file,
+        &made.remade.store,
+        &mut pieces,
+    )?;
     Ok(made.remade.report)
 }

@@ -87,7 +87,7 @@ fn write_tail<T: Sink, L: Continue>(
 
 /// Writes the file of a tail, continues the log by the tail, and then writes the new store, each
 /// flushed before the next thing is done.
-fn write_in_place<T: Sink, L: Continue, S: Sink>(
+pub fn write_in_place<T: Sink, L: Continue, S: Sink>(
     tail: &mut T,
     log: &mut L,
     store: &mut S,

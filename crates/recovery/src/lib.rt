@@ -2,10 +2,12 @@
 //! report; and the audit of such bytes.
 #![tactic(auto)]
 
+mod by_pieces;
 mod decoding;
 mod devices;
 mod in_place;
 mod laws;
+mod log_again;
 mod log_bytes;
 mod log_text;
 mod recovery;
@@ -15,6 +17,7 @@ mod tail_file;
 mod texts;
 mod unthreaded;
 
+pub use by_pieces::recover_by_pieces;
 pub use devices::{read_source, recover};
 pub use in_place::{continue_log, recover_in_place};
 pub use laws::{

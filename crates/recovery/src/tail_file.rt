@@ -23,7 +23,7 @@ const HEAD_BYTES: usize = 40;
 const NUMBER_BYTES: usize = 8;
 
 /// How many bytes of a log its end has, by which it is known again.
-const END_BYTES: usize = 4096;
+pub const END_BYTES: usize = 4096;
 
 /// The sum of some bytes and then of these (FNV-1a).
 fn sum_on(sum: u64, bytes: &[u8]) -> u64

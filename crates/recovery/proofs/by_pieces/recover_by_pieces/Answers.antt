@@ -1,4 +1,4 @@
-use Rattle.std.proofs.Common.{◌≡◌, ◌<◌, ◌-◌, ◌^◌, List, [], ℕ, length, None, Some, Ok, Err, refl, inl, inr, ap, subst, ◌∙◌}
+use Rattle.std.proofs.Common.{◌<◌, ◌-◌, ◌^◌, List, [], ℕ, length, None, Some, refl, inl, inr, subst, ◌∙◌}
 use Rattle.std.proofs.lemmas.Result.{err_from_is_err_and}
 use Rattle.page.specs.File.{store_text}
 use Rattle.page.specs.declared.fault.Fault.TheVariants.{ReadLog}
@@ -226,4 +226,3 @@ returns-clause-answer g c = λ log_text is.
     let frames_are = c.file-file.ensures.frames in
     let done = continued_as _ _ _ _ _ _ _ _ count frames_are c.in_ok-write_in_place.ensures.log_done in
     record { made = made; report_is = refl; log_out = done.continued; store_out = c.in_ok-write_in_place.ensures.store_out.out }
-

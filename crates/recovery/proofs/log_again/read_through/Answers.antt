@@ -1,4 +1,4 @@
-use Rattle.std.proofs.Common.{refl, ap, ◌∙◌, arith, Err, sym}
+use Rattle.std.proofs.Common.{refl, ap, ◌∙◌, arith, Err}
 use Rattle.std.proofs.lemmas.Result.{err_from_is_err_and}
 use Rattle.page.specs.declared.fault.Fault.TheVariants.{ReadLog}
 use Rattle.passes.proofs.Reached.{keeps_same, keeps_on}
