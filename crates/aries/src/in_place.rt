@@ -173,6 +173,7 @@ fn recover_opened<R: Files + Clock + Threads + Sync>(
     let store = open(rt, &old.store, Fault::ReadStore)?;
     let appended = open_to_append(rt, &new.log)?;
     finish(rt, alloc, tail, &new.log)?;
+    let is_low = has_low_lsns(rt, alloc, &old.log)?;
     let new_store = make_store(rt, &new.store, is_replacing, &store)?;
     let tail_file = make(rt, tail, &log, Fault::WriteLog)?;
     sync_folder(rt, tail, Fault::WriteLog)?;
@@ -181,7 +182,7 @@ fn recover_opened<R: Files + Clock + Threads + Sync>(
     let mut tail_sink = FileSink::new(NotedFile::new(tail_file, rt, tail));
     let mut out_log = FileLog::new(NotedFile::new(appended, rt, &new.log));
     let mut out_store = FileSink::new(NotedFile::new(new_store, rt, &new.store));
-    let answer = if has_low_lsns(rt, alloc, &old.log)? {
+    let answer = if is_low {
         recover_by_pieces(
             alloc,
             &mut log,
