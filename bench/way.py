@@ -121,6 +121,20 @@ wal/frame_size.rt        len       -
 dump/choice.rt           change    RecordView::change
 dump/choice.rt           tx        RecordView::tx
 aries_c/room.rt          len       -
+passes/fresh.rt          pass      TableScan::pass, TallyScan::pass
+passes/fresh.rt          finish    TableScan::finish
+passes/repeat.rt         finish    TallyScan::finish
+passes/gather.rt         take      Gathering::take
+passes/gather.rt         finish    Gathering::finish
+analysis/table_scan.rt   pass      TransactionScan::pass, PageScan::pass
+analysis/table_scan.rt   finish    TransactionScan::finish, PageScan::finish
+undo/gathering.rt        get       Log::get
+undo/looked.rt           get       Log::get, Gathered::get
+passes/marks.rt          end       Marks::end
+passes/fresh.rt          end       Marks::end
+passes/gather.rt         begin     Gathering::begin
+recovery/log_again.rt    read      -
+device/again.rt          read_at   FileSource::read_at
 words/refusal.rt         number    Fault::number
 words/fault.rt           number    Fault::number
 redo/unthreaded.rt       by_number Parting::by_number
@@ -136,7 +150,7 @@ CUTS = {
         command/job.rt:missing_option command/job.rt:option_conflict command/job.rt:wrong_line Failures::rise Failures::risen
         Notes::fail Board::stop''',
     'no checkpoint': '''wal/checkpoint.rt FrameHead::bytes wal/frame.rt:checkpoint_at wal/frame.rt:transactions_at wal/frame.rt:dirties_at
-        analysis/base.rt:transactions_of analysis/base.rt:dirty_pages_of''',
+        analysis/base.rt:transactions_of analysis/base.rt:dirty_pages_of passes/in_pieces.rt:go_by_passes''',
     'updates and commits alone are read': '''wal/frame.rt:compensation_at wal/next.rt:compensation_end wal/glance.rt:compensation_glance
         wal/image.rt:compensation_image
         analysis/scan.rt:prepared wal/field.rt:put_entries wal/field.rt:put_dirties wal/field.rt:put_entry
@@ -144,7 +158,7 @@ CUTS = {
     'a recovery': 'aries/files.rt:audit_files aries/files.rt:read_file aries/program.rt:run_audit command/job.rt:audit_job',
     'new files': '''aries/in_place.rt recovery/in_place.rt recovery/tail_file.rt aries/program.rt:run_in_place
         aries/program.rt:text_of LogBytes::sum_of_end''',
-    'in place': 'aries/files.rt:recover_files recovery/devices.rt:recover',
+    'in place': 'aries/files.rt:recover_files recovery/devices.rt:recover recovery/in_place.rt:recover_in_place',
     'an audit': '''aries/files.rt:recover_files aries/in_place.rt recovery/in_place.rt aries/program.rt:run_in_place
         command/job.rt:recover_job
         recovery/texts.rt:audit_texts_over''',
@@ -164,7 +178,7 @@ FEW = ['nothing fails', 'no checkpoint', 'updates and commits alone are read']
 # each way: its name, the most functions that it is to have, where it begins, and what it does not take
 WAYS = [
     ('recover, 3 records, 1 worker', 267, 'aries_cli/main.rt:main', FEW + ['a recovery', 'new files', 'one worker']),
-    ('recover in place, 3 records, 1 worker', 293, 'aries_cli/main.rt:main', FEW + ['a recovery', 'in place', 'one worker']),
+    ('recover in place, 3 records, 1 worker', 340, 'aries_cli/main.rt:main', FEW + ['a recovery', 'in place', 'one worker']),
     ('recover, 3 records, 4 workers', 303, 'aries_cli/main.rt:main', FEW + ['a recovery', 'new files', 'several workers', 'a short log']),
     ('recover, 100 MB with a checkpoint, 4 workers', 355, 'aries_cli/main.rt:main',
      ['nothing fails', 'a recovery', 'new files', 'several workers', 'a long log']),
