@@ -8,7 +8,7 @@ use core_rows::written::{
 };
 use device::MemorySource;
 use page::{Fault, Page, Store, decode_store, encode_store};
-use passes::{PassFault, restart_in_pieces};
+use passes::{PassFault, Restarted, restart_in_pieces};
 use redo::{OpenGate, Parting};
 use restart::{Outcome, restart};
 use std::alloc::Global;
@@ -105,25 +105,29 @@ fn answer_of(alloc: Global, text: &Text, outcome: Outcome) -> Result<Answer, Fau
 fn outcome_by_pieces(alloc: Global, log: &[u8], store: Store) -> Result<Outcome, Fault> {
     let mut room = vec![in alloc; 0; BASED_HEADER_BYTES + LONGEST_FRAME]?;
     let mut source = MemorySource::new(log);
-    let restarted = match restart_in_pieces(alloc, &mut source, &mut room, store) {
+    let Restarted {
+        kept: _,
+        torn: _,
+        gathered,
+        outcome,
+    } = match restart_in_pieces(alloc, &mut source, &mut room, store) {
         Ok(restarted) => restarted,
         Err(PassFault::Fault(fault)) => return Err(fault),
         Err(PassFault::Failed) => return Err(Fault::ReadLog),
     };
     let looked = Looked {
-        place: Place::Gathered(&restarted.gathered),
+        place: Place::Gathered(&gathered),
     };
-    let brief = restarted.outcome;
-    let appended = records_of(alloc, &looked, &brief.appended)?;
+    let appended = records_of(alloc, &looked, &outcome.appended)?;
     Ok(Outcome {
-        store: brief.store,
+        store: outcome.store,
         appended,
-        redo_from: brief.redo_from,
-        redone: brief.redone,
-        losers: brief.losers,
-        in_doubt: brief.in_doubt,
-        compensated: brief.compensated,
-        ended: brief.ended,
+        redo_from: outcome.redo_from,
+        redone: outcome.redone,
+        losers: outcome.losers,
+        in_doubt: outcome.in_doubt,
+        compensated: outcome.compensated,
+        ended: outcome.ended,
     })
 }
 
