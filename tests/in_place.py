@@ -310,9 +310,8 @@ def wrong_after_kill_beside(room, library, row, how, call):
 
 
 def wrong_after_failure(room, library, row, how, call):
-    """Whether the call was made, and what is wrong after its failure. If it was one that reads, the folder is as it was. A log whose base LSN is too high to be
-    read in pieces is refused by fault 1, and not by fault 2, if the read fails that looks for that: a defect, which changes nothing in the folder."""
-    unread = (b"fault 2:", b"fault 3:") + ((b"fault 1:",) if row.folder.endswith("base-largest") else ())
+    """Whether the call was made, and what is wrong after its failure. If it was one that reads, the folder is as it was."""
+    unread = (b"fault 2:", b"fault 3:")
     with Place(room, before(row)) as place, tempfile.NamedTemporaryFile(dir=room) as calls:
         ran = place.recover(*REPLACE, library=library, **{how: call, "CALLS": calls.name})
         is_made = b"fail" in bytes_of(calls.name)

@@ -146,12 +146,17 @@ fn clear_after<R: Files>(rt: &R, fault: Fault, tail: &Notes, store: &Notes) {
 }
 
 /// Whether no LSN of a log is above the largest base LSN, so that it can be read in pieces. A log has
-/// fewer records than bytes.
-fn has_low_lsns<R: Files>(rt: &R, alloc: Global, log: &Notes) -> Result<bool, Fault> {
-    let mut source = FileSource::sized(open(rt, log, Fault::ReadLog)?);
+/// fewer records than bytes. Of this reading only a failure is noted.
+fn has_low_lsns<R: Files + Clock>(rt: &R, alloc: Global, log: &Notes) -> Result<bool, Fault> {
+    let notes = Notes::new(log.role, log.path);
+    let file = open(rt, log, Fault::ReadLog)?;
+    let mut source = FileSource::sized(NotedFile::new(file, rt, &notes));
     let mut header = [0; BASED_HEADER_BYTES];
     let Ok(count) = read_full(&mut source, &mut header) else {
-        return Ok(true);
+        if let Some(failure) = notes.failure() {
+            log.fail(failure.call, failure.error);
+        }
+        return Err(Fault::ReadLog);
     };
     match read_log(alloc, &header[..count]) {
         Ok((log, _)) => Ok(log.base() <= LARGEST_BASE.saturating_sub(source.hint() as u64)),
