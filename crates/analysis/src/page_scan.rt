@@ -2,15 +2,18 @@
 
 ghost use Rattle.std.specs.Prelude.{◌≡◌, ℕ, Option, OnOk, IsOkUnless};
 ghost use Rattle.page.specs.declared.fault.Fault.TheVariants.{NoResource};
-ghost use Rattle.wal.specs.Records.{History, history, last_lsn, base_lsn, ◌▸▸◌};
+ghost use Rattle.wal.specs.Records.{LogRecord, History, history, last_lsn, base_lsn, ◌▸▸◌};
+ghost use Rattle.wal.specs.Glances.{glance_of};
 ghost use Rattle.wal.specs.Redo.{rec_lsn_of};
 ghost use Rattle.analysis.specs.Tables.{analysed_rec_lsn};
+ghost use Rattle.analysis.specs.Steps.{rec_lsn_after};
 
 use crate::dirty::scan_pages;
+use crate::scan::note_page;
 use page::{Fault, PAGES};
 use std::collections::BTreeMap;
 use std::marker::Model;
-use wal::Log;
+use wal::{Glance, Log};
 
 /// The dirty page table while a log is read. The log comes in pieces, from its first record to its
 /// last: each piece is a log whose base LSN is the last LSN of the one before it, and no record is
@@ -42,6 +45,18 @@ impl PageScan {
             dirty,
             known: [false; PAGES],
         }
+    }
+
+    /// Notes what the record at an LSN, of which this is seen at a glance, does to the table.
+    ///
+    /// The only error is `NoResource`, which says that memory was refused.
+    #[inline(always)]
+    pub fn note(&mut self, glance: Glance, lsn: u64) -> Result<(), Fault>
+        ensures pages { OnOk result ((r : LogRecord) → glance ≡ glance_of r → (page : ℕ)
+            → rec_lsn_of page self.new ≡ rec_lsn_after lsn r page (rec_lsn_of page self.old)) }
+        ensures err { IsOkUnless result NoResource }
+    {
+        note_page(&mut self.dirty, &mut self.known, glance, lsn)
     }
 
     /// Looks at the records of the next piece for what they do to the table. `master` is the LSN of

@@ -3,14 +3,17 @@
 ghost use Rattle.std.specs.Prelude.{◌≡◌, ◌≤◌, ℕ, None, IfOk, OnOk, IsOkUnless};
 ghost use Rattle.page.specs.Store.{StoreContent};
 ghost use Rattle.page.specs.declared.fault.Fault.TheVariants.{NoResource};
+ghost use Rattle.wal.specs.Glances.{glance_of};
 ghost use Rattle.wal.specs.Meaning.{BasePages};
-ghost use Rattle.wal.specs.Records.{LogContent, History, history, last_lsn, base_lsn, ◌▸▸◌};
+ghost use Rattle.wal.specs.Records.{LogRecord, LogContent, History, history, last_lsn, base_lsn, ◌▸▸◌};
+ghost use Rattle.wal.specs.Redo.{rec_lsn_of};
 ghost use Rattle.wal.specs.Store.{Lawful};
 ghost use Rattle.wal.specs.Undo.{entry_for};
 ghost use Rattle.wal.specs.declared.sizes.TheConstants.{LARGEST_BASE};
 ghost use Rattle.tables.specs.Lawful.{AreTrue};
 ghost use Rattle.analysis.specs.Tables.{entry_at, IsBase, AreTablesOf};
 ghost use Rattle.analysis.specs.Passing.{HasAnalysed, ComesBefore};
+ghost use Rattle.analysis.specs.Steps.{entry_seen, rec_lsn_after};
 
 use crate::Tables;
 use crate::page_scan::PageScan;
@@ -19,7 +22,7 @@ use crate::transaction_scan::TransactionScan;
 use page::Fault;
 use std::collections::BTreeMap;
 use std::marker::Model;
-use wal::{Entry, Log};
+use wal::{Entry, Glance, Log};
 
 /// The transaction table and the dirty page table while a log is read. The log comes in pieces, up to
 /// its last record: each piece is a log whose base LSN is the last LSN of the one before it, and no
@@ -56,6 +59,24 @@ impl TableScan {
         }
     }
 
+    /// Notes what the record at an LSN, of which this is seen at a glance, does to both tables. It is
+    /// the next one after those that were looked at, and comes after the checkpoint's begin record.
+    ///
+    /// The only error is `NoResource`, which says that memory was refused. The scan is to be begun again
+    /// then.
+    #[inline(always)]
+    pub fn note(&mut self, glance: Glance, lsn: u64) -> Result<(), Fault>
+        ensures entries { OnOk result ((t : ℕ) → entry_at t self.new.entries
+            ≡ entry_seen lsn glance t (entry_at t self.old.entries)) }
+        ensures pages { OnOk result ((r : LogRecord) → glance ≡ glance_of r → (page : ℕ)
+            → rec_lsn_of page self.new.pages
+            ≡ rec_lsn_after lsn r page (rec_lsn_of page self.old.pages)) }
+        ensures err { IsOkUnless result NoResource }
+    {
+        self.transactions.note(glance, lsn)?;
+        self.pages.note(glance, lsn)
+    }
+
     /// Looks at the records of the next piece for what they do to both tables. `master` is the LSN of
     /// the checkpoint's begin record, 0 for none, and the same for all pieces: records up to it do
     /// nothing to the tables.
@@ -70,8 +91,10 @@ impl TableScan {
             → entry_at 0 self.new.entries ≡ None) }
         ensures err { IsOkUnless result NoResource }
     {
-        self.transactions.pass(piece, master)?;
-        self.pages.pass(piece, master)?;
+        let from = master.max(piece.base());
+        for lsn in from..piece.last() {
+            self.note(piece.glance_after(lsn), lsn + 1)?;
+        }
         Ok(())
     }
 

@@ -4,13 +4,14 @@ ghost use Rattle.std.specs.Prelude.{◌≡◌, ℕ, Option, None, IfOk, OnOk, Is
 ghost use Rattle.page.specs.declared.fault.Fault.TheVariants.{NoResource};
 ghost use Rattle.wal.specs.Records.{TableEntry, History, history, last_lsn, base_lsn, ◌▸▸◌};
 ghost use Rattle.analysis.specs.Tables.{entry_at, analysed_entry};
+ghost use Rattle.analysis.specs.Steps.{entry_seen};
 
 use crate::kept::{PLACES, highest_in, put_back};
 use crate::scan::note_transaction;
 use page::Fault;
 use std::collections::BTreeMap;
 use std::marker::Model;
-use wal::{Entry, Log};
+use wal::{Entry, Glance, Log};
 
 /// The transaction table while a log is read. The log comes in pieces, from its first record to its
 /// last: each piece is a log whose base LSN is the last LSN of the one before it, and no record is
@@ -46,6 +47,25 @@ impl TransactionScan {
             kept: [None; PLACES],
             highest,
         }
+    }
+
+    /// Notes what the record at an LSN, of which this is seen at a glance, does to the table.
+    ///
+    /// The only error is `NoResource`, which says that memory was refused.
+    #[inline(always)]
+    pub fn note(&mut self, glance: Glance, lsn: u64) -> Result<(), Fault>
+        ensures entries { OnOk result ((t : ℕ) → entry_at t self.new
+            ≡ entry_seen lsn glance t (entry_at t self.old)) }
+        ensures err { IsOkUnless result NoResource }
+    {
+        note_transaction(
+            &mut self.transactions,
+            &mut self.kept,
+            &mut self.highest,
+            glance,
+            lsn,
+        )?;
+        Ok(())
     }
 
     /// Looks at the records of the next piece for what they do to the table. `master` is the LSN of
