@@ -17,5 +17,6 @@ pub mod Causes
 pub mod Missing
 pub mod OnePass
 pub mod Passing
+pub mod OneMore
 pub mod LastRecords
 pub mod Fetching

@@ -1,11 +1,13 @@
 -- PASSING. The tallies of redo while a log is read in pieces: each piece is a log, and begins after the last LSN of what came before it (own).
-use Rattle.std.specs.Prelude.{◌≡◌, ℕ, ◌<◌, ◌≤◌, List, length, slice_index_or, replicate, All}
+use Rattle.std.specs.Prelude.{◌≡◌, ℕ, ◌<◌, ◌≤◌, List, Some, length, slice_index_or, replicate, All}
 use Rattle.page.specs.declared.fault.Fault.{Fault}
 use Rattle.page.specs.declared.fault.Fault.TheVariants.{NoSuchPage}
 use Rattle.page.specs.declared.page.Page.{Page}
 use Rattle.page.specs.Store.{AreNumbered}
 use Rattle.page.specs.declared.sizes.TheConstants.{SLOTS}
-use Rattle.wal.specs.Records.{LogContent, history, base_lsn, start}
+use Rattle.wal.specs.Records.{LogRecord, LogContent, history, record_at, base_lsn, start}
+use Rattle.wal.specs.declared.glance.Glance.{Glance}
+use Rattle.wal.specs.Glances.{glance_of}
 use Rattle.tables.specs.Tables.{TablesContent}
 use Rattle.tables.specs.Pieces.{IsPieceOf}
 use Rattle.redo.specs.declared.tally.Tally.{Tally}
@@ -53,3 +55,11 @@ pub record IsPieceFor (input : InputContent) (redo_lsn : ℕ) (piece : LogConten
 abbrev pub PassFault : LogContent → (count redo_lsn : ℕ) → Fault → Type 0
 PassFault piece count redo_lsn (NoSuchPage lsn) = IsFirstMissing piece count redo_lsn lsn
 PassFault piece count redo_lsn e = ⊥
+
+-- the record at an LSN of the log that redo looks at, from redo_lsn on, as it is seen at a glance, with pages that stand at their numbers
+pub record IsRecordFor (input : InputContent) (redo_lsn lsn : ℕ) (glance : Glance) : Type 0 where
+  pub numbered : AreNumbered input.images
+  pub from : input.redo_lsn ≡ redo_lsn
+  pub entry : LogRecord
+  pub there : record_at (history input.log) lsn ≡ Some entry
+  pub seen_of : glance ≡ glance_of entry

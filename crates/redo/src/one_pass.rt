@@ -1,6 +1,6 @@
 //! Which records each page lacks, found in one pass over the records by one thread, the caller's.
 
-ghost use Rattle.std.specs.Prelude.{◌≡◌, ℕ, ◌+◌, ◌<◌, ◌≤◌, All, Some, length, slice_index_or, IfOk, OnOk, IfErr, IsOkUnless};
+ghost use Rattle.std.specs.Prelude.{◌≡◌, ℕ, ◌+◌, ◌<◌, ◌≤◌, All, Some, length, slice_index_or, IfOk, OnOk, IfErr, OnErr, IsOkUnless};
 ghost use Rattle.page.specs.declared.fault.Fault.TheVariants.{NoResource, NoSuchPage};
 ghost use Rattle.wal.specs.Records.{LogRecord, history, record_at, last_lsn, base_lsn};
 ghost use Rattle.wal.specs.Glances.{glance_of};
@@ -69,6 +69,7 @@ pub fn count_seen(
     ensures fault { IfErr result (λ e. (r : LogRecord) → glance ≡ glance_of r
         → NoteFault (length tallies.old) lsn r e) }
     ensures only { IfErr result (λ e. e ≡ NoSuchPage lsn) }
+    ensures unchanged { OnErr result (tallies.new ≡ tallies.old) }
 {
     let Some((page, slot)) = glance.cell() else {
         return Ok(());

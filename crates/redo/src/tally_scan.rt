@@ -1,18 +1,20 @@
 //! The tallies of all pages while a log is read, piece after piece.
 
-ghost use Rattle.std.specs.Prelude.{◌≡◌, ℕ, ◌≤◌, ◌<◌, ◌↔◌, List, All, Contains, length, slice_index_or, min, IfOk, OnOk, IfErr, IsOkUnless};
+ghost use Rattle.std.specs.Prelude.{◌≡◌, ℕ, ◌-◌, ◌≤◌, ◌<◌, ◌↔◌, List, All, Contains, length, slice_index_or, min, IfOk, OnOk, IfErr, OnErr, IsOkUnless};
 ghost use Rattle.std.specs.List.{sum_by};
 ghost use Rattle.std.specs.List.Sorted.{IsNonDecreasingBy};
-ghost use Rattle.page.specs.declared.fault.Fault.TheVariants.{NoResource};
-ghost use Rattle.wal.specs.Records.{LogContent, History, history, last_lsn, base_lsn};
+ghost use Rattle.page.specs.declared.fault.Fault.TheVariants.{NoResource, NoSuchPage};
+ghost use Rattle.wal.specs.Records.{LogRecord, LogContent, History, history, last_lsn, base_lsn};
+ghost use Rattle.wal.specs.Glances.{glance_of};
 ghost use Rattle.redo.specs.Inputs.{InputContent, input_over};
 ghost use Rattle.redo.specs.OnePass.{AreUpTo};
 ghost use Rattle.redo.specs.Redone.{AllExist};
-ghost use Rattle.redo.specs.Passing.{IsPieceFor, PassFault};
+ghost use Rattle.redo.specs.Routes.{IsSeen};
+ghost use Rattle.redo.specs.Passing.{IsPieceFor, IsRecordFor, PassFault};
 ghost use Rattle.redo.specs.Wanted.{IsWanted, HoldAllBut};
 ghost use Rattle.redo.specs.declared.tally.Tally.{Tally};
 ghost use Rattle.redo.specs.declared.wanted.Wanted.{Wanted};
-ghost use Rattle.redo.specs.Changes.{finished};
+ghost use Rattle.redo.specs.Changes.{NamesBelow, finished};
 ghost use Rattle.page.specs.declared.sizes.TheConstants.{SLOTS};
 ghost use Rattle.page.specs.declared.page.Page.{Page};
 
@@ -25,12 +27,13 @@ use page::{Fault, Page, Store};
 use std::alloc::Global;
 use std::marker::Model;
 use tables::Tables;
-use wal::Log;
+use wal::{Glance, Log};
 
 /// The tallies of all pages of a store while a log is read: which record is the last in each slot of
 /// those that the pages lack. The log comes in pieces, from its first record to its last: each piece
-/// is a log whose base LSN is the last LSN of the one before it. Contracts see the tallies, the LSN
-/// from which records are looked at, and the LSN up to which the log was read.
+/// is a log whose base LSN is the last LSN of the one before it. The records of a piece can be given one
+/// by one too. Contracts see the tallies, the LSN from which records are looked at, and the LSN up to
+/// which the log was read.
 #[derive(Drop)]
 pub struct TallyScan {
     tallies: Vec<Tally>,
@@ -104,6 +107,39 @@ impl TallyScan {
             let glance = piece.glance_after(lsn);
             count_seen(&mut self.tallies, redo_lsn, lsn + 1, glance)?;
         }
+        Ok(())
+    }
+
+    /// Counts the record at an LSN, of which this is seen at a glance, for its page, if it is on one and
+    /// the page lacks it. Takes no memory. The log is then read up to this LSN, which is above the one
+    /// up to which it was read before.
+    ///
+    /// Give it the records from `redo_lsn` on, and none if `redo_lsn` is 0: another record is not
+    /// counted, but it is refused if the store lacks its page.
+    ///
+    /// The only error is `NoSuchPage` with this LSN: the record is on a page which the store lacks. It
+    /// leaves the scan as it was.
+    #[inline(always)]
+    pub fn note(&mut self, glance: Glance, lsn: u64) -> Result<(), Fault>
+        requires seen { IsSeen glance }
+        requires upto { self.old.upto < lsn }
+        // Whatever log the record is of, if the tallies tell of all records before it, they then tell of it.
+        ensures goes_on { OnOk result ((input : InputContent)
+            → IsRecordFor input self.old.redo_lsn lsn glance
+            → AreUpTo input (lsn - 1) self.old.tallies → AreUpTo input lsn self.new.tallies) }
+        ensures exists { OnOk result ((r : LogRecord) → glance ≡ glance_of r
+            → NamesBelow (length self.old.tallies) r) }
+        ensures missing { OnErr result ((r : LogRecord) → glance ≡ glance_of r
+            → ¬ NamesBelow (length self.old.tallies) r) }
+        ensures fault { IfErr result (λ e. e ≡ NoSuchPage lsn) }
+        ensures unchanged { OnErr result (self.new ≡ self.old) }
+
+        ensures count { length self.new.tallies ≡ length self.old.tallies }
+        ensures redo_lsn { self.new.redo_lsn ≡ self.old.redo_lsn }
+        ensures upto { OnOk result (self.new.upto ≡ lsn) }
+    {
+        count_seen(&mut self.tallies, self.redo_lsn, lsn, glance)?;
+        self.upto = lsn;
         Ok(())
     }
 
