@@ -6,3 +6,4 @@ pub mod Redoing
 pub mod InPieces
 pub mod Listing
 pub mod OneReading
+pub mod NextRecord

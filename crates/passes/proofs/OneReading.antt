@@ -1,5 +1,5 @@
 -- One forward reading of a log without a checkpoint.
-use Rattle.std.proofs.Common.{◌≡◌, ℕ, ◌+◌, List, [], ◌∷◌, ◌++◌, ◌-◌, Option, Some, None, false, length, length-append, get_or, refl, sym, ap, ◌∙◌, subst, arith}
+use Rattle.std.proofs.Common.{◌≡◌, ℕ, ◌+◌, List, [], ◌∷◌, ◌++◌, ◌-◌, Option, Some, None, false, length, length-append, get_or, sym, ap, ◌∙◌, subst, arith}
 use Rattle.std.specs.Prelude.{is_some, IfOk, IfErr}
 use Rattle.std.proofs.Math.Seq.{get_or-append_seam}
 use Rattle.std.specs.declared.result.Result.TheVariants.{Ok, Err}
@@ -14,20 +14,18 @@ use Rattle.wal.proofs.Histories.{base_within, base_of_log, size_of_log}
 use Rattle.tables.specs.Tables.{TablesContent}
 use Rattle.analysis.specs.Passing.{SeenTables, HasAnalysed}
 use Rattle.analysis.specs.Tables.{AreTablesOf}
-use Rattle.tables.specs.Pieces.{IsPieceOf}
 use Rattle.pieces.specs.declared.mark.Mark.{Mark}
 use Rattle.pieces.specs.Pieces.{IsMark}
 use Rattle.pieces.proofs.Beginnings.{same_start}
-use Rattle.redo.specs.Inputs.{InputContent, input_over}
+use Rattle.redo.specs.Inputs.{input_over}
 use Rattle.redo.specs.OnePass.{AreUpTo}
-use Rattle.redo.specs.Passing.{TalliesSoFar, IsPieceFor}
-use Rattle.redo.specs.Passing.{PassFault as PassCause}
-use Rattle.redo.specs.Redone.{AllExist, ExistBelow, RedoFault}
+use Rattle.redo.specs.Passing.{TalliesSoFar}
+use Rattle.redo.specs.Redone.{RedoFault}
 use Rattle.redo.proofs.Stretches.{skipped_from}
 use Rattle.passes.specs.Listing.{ListEach, AreTalliedByAll, TalliedOrRefused}
 use Rattle.passes.proofs.Forward.{is_whole}
 use Rattle.passes.proofs.Listing.{fault_by_found}
-use Rattle.passes.proofs.Redoing.{tallied_first, tallied_more, pass_cause}
+use Rattle.passes.proofs.Redoing.{tallied_first}
 
 -- THE TALLIES
 -- before the first record
@@ -40,26 +38,6 @@ tallied_all_first whole images listed base scan numbered each from upto at up =
       each = subst (λ n. ListEach (length images) (n + 1) listed) (sym at) each;
       tallied = tallied_first whole images listed base base scan numbered from (omega (arith, upto)) (sym at) (omega (arith, at, within)) (omega (arith, at, skipped_from (base_lsn (history whole)) listed.redo_lsn (last_lsn (history whole)) within)) up;
     }
-
--- a piece more
-pub tallied_all_more : (whole piece : LogContent) (images : List Page) (old new : TalliesSoFar) → IsPieceOf (history whole) (history piece) → new.redo_lsn ≡ old.redo_lsn → new.upto ≡ last_lsn (history piece)
-    → ((input : InputContent) → IsPieceFor input old.redo_lsn piece → AreUpTo input (base_lsn (history piece)) old.tallies → AreUpTo input (last_lsn (history piece)) new.tallies)
-    → AllExist piece (length old.tallies) old.redo_lsn → AreTalliedByAll whole images (base_lsn (history piece)) old → AreTalliedByAll whole images (last_lsn (history piece)) new
-tallied_all_more whole piece images old new own same upto goes_on exist before =
-    record {
-      listed = before.listed;
-      each = before.each;
-      tallied = tallied_more whole piece images before.listed (base_lsn (history piece)) (last_lsn (history piece)) old new own refl refl same upto goes_on exist before.tallied;
-    }
-
--- a piece with a record on a page that the store lacks
-pub refused_in_piece : (whole piece : LogContent) (images : List Page) (scan : TalliesSoFar) (e : Fault) → IsPieceOf (history whole) (history piece) → AreTalliedByAll whole images (base_lsn (history piece)) scan
-    → PassCause piece (length scan.tallies) scan.redo_lsn e → RedoFault whole (length images) (base_lsn (history whole) + 1) 1 e
-refused_in_piece whole piece images scan e own before cause =
-    let from : scan.redo_lsn ≡ base_lsn (history whole) + 1 = sym before.tallied.from ∙ before.each.begins in
-    pass_cause whole piece (length images) (base_lsn (history whole) + 1) e own
-    (subst (λ n. ExistBelow whole (length images) n (base_lsn (history piece) + 1)) before.each.begins before.tallied.exist)
-    (subst (λ n. PassCause piece (length images) n e) from (subst (λ n. PassCause piece n scan.redo_lsn e) before.tallied.tallied.count cause))
 
 pub none_missing : (whole : LogContent) (images : List Page) (lsn : ℕ) (missing : Option Fault) (scan : TalliesSoFar) → is_some missing ≡ false → TalliedOrRefused whole images lsn missing scan → AreTalliedByAll whole images lsn scan
 none_missing whole images lsn None scan none before = before

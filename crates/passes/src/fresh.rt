@@ -5,7 +5,8 @@ ghost use Rattle.std.specs.Io.KnownBytes.{Keeps};
 ghost use Rattle.page.specs.declared.fault.Fault.TheVariants.{NoResource};
 ghost use Rattle.page.specs.declared.page.Page.{Page};
 ghost use Rattle.page.specs.Store.{StoreContent};
-ghost use Rattle.wal.specs.Records.{LogContent, History, history, last_lsn, base_lsn};
+ghost use Rattle.wal.specs.Glances.{IsGlanceBehind};
+ghost use Rattle.wal.specs.Records.{LogContent, History, history, last_lsn, base_lsn, ◌▸▸◌};
 ghost use Rattle.wal.specs.Meaning.{BasePages};
 ghost use Rattle.wal.specs.Reads.{Reads};
 ghost use Rattle.wal.specs.Store.{Lawful};
@@ -16,6 +17,7 @@ ghost use Rattle.tables.specs.Pieces.{IsPieceOf};
 ghost use Rattle.analysis.specs.Passing.{HasAnalysed, ComesBefore};
 ghost use Rattle.analysis.specs.Tables.{AreTablesOf, entry_at};
 ghost use Rattle.redo.specs.Redone.{RedoFault};
+ghost use Rattle.redo.specs.Routes.{IsSeen};
 ghost use Rattle.pieces.specs.Pieces.{IsMark};
 ghost use Rattle.passes.specs.Listing.{ListEach, AreTalliedByAll, TalliedOrRefused};
 ghost use Rattle.passes.specs.Marks.{failures_of, LogCause, AreFound};
@@ -30,7 +32,7 @@ use redo::TallyScan;
 use std::alloc::Global;
 use std::collections::BTreeMap;
 use tables::Tables;
-use wal::Log;
+use wal::{Glance, Log};
 
 /// Tables by which redo begins before analysis has found those of the crash: each page of the store is
 /// listed from the LSN `first` on, and no transaction is. The only error is `NoResource`.
@@ -84,24 +86,61 @@ fn begin_scan(alloc: Global, store: &Store, base: u64) -> Result<ForwardScan, Fa
     })
 }
 
-/// Counts the records of the next piece for redo, unless a page was missing before. Returns the fault of
-/// the first record on a page that the store lacks.
-fn tally_for_redo(piece: &Log, tallies: &mut TallyScan, missing: Option<Fault>) -> Option<Fault>
-    requires { tallies.old.upto ≤ base_lsn (history piece.now) }
-    ensures tallied { (whole : LogContent) (images : List Page)
-        → IsPieceOf (history whole) (history piece.now)
-        → TalliedOrRefused whole images (base_lsn (history piece.now)) missing tallies.old
-        → TalliedOrRefused whole images (last_lsn (history piece.now)) result tallies.new }
-    ensures upto { tallies.new.upto ≤ last_lsn (history piece.now) }
+/// Counts the record after an LSN for redo, of which this is seen at a glance, unless a page was missing
+/// before. Returns the fault of the first record on a page that the store lacks.
+#[inline(always)]
+fn tally_next(
+    tallies: &mut TallyScan,
+    missing: Option<Fault>,
+    glance: Glance,
+    lsn: u64,
+) -> Option<Fault>
+    requires seen { IsSeen glance }
+    requires upto { tallies.old.upto ≤ lsn }
+    requires room { lsn + 1 < 2 ^ 64 }
+    ensures tallied { (whole piece : LogContent) (images : List Page)
+        → IsPieceOf (history whole) (history piece) → IsGlanceBehind (history piece) lsn glance
+        → TalliedOrRefused whole images lsn missing tallies.old
+        → TalliedOrRefused whole images (lsn + 1) result tallies.new }
+    ensures upto { tallies.new.upto ≤ lsn + 1 }
     ensures count { length tallies.new.tallies ≡ length tallies.old.tallies }
 {
     if missing.is_some() {
         return missing;
     }
-    match tallies.pass(piece) {
+    match tallies.note(glance, lsn + 1) {
         Ok(()) => None,
         Err(fault) => Some(fault),
     }
+}
+
+/// Looks at the records of the next piece for analysis and for redo. Each is decoded once for both.
+///
+/// The only error is `NoResource`, which says that memory was refused.
+fn scan_piece(piece: &Log, scan: &mut ForwardScan) -> Result<(), Fault>
+    requires { scan.old.tallies.upto ≤ base_lsn (history piece.now) }
+    ensures analysed { OnOk result ((whole log : History)
+        → last_lsn log ≡ base_lsn (history piece.now) → HasAnalysed 0 whole log scan.old.tables
+        → HasAnalysed 0 whole (log ▸▸ piece.now.records) scan.new.tables) }
+    ensures tallied { OnOk result ((whole : LogContent) (images : List Page)
+        → IsPieceOf (history whole) (history piece.now)
+        → TalliedOrRefused whole images (base_lsn (history piece.now)) scan.old.missing
+        scan.old.tallies
+        → TalliedOrRefused whole images (last_lsn (history piece.now)) scan.new.missing
+        scan.new.tallies) }
+    ensures upto { OnOk result (scan.new.tallies.upto ≤ last_lsn (history piece.now)) }
+    ensures count { OnOk result (length scan.new.tallies.tallies
+        ≡ length scan.old.tallies.tallies) }
+    ensures no_transaction_0 { OnOk result (entry_at 0 scan.old.tables.entries ≡ None
+        → entry_at 0 scan.new.tables.entries ≡ None) }
+    ensures err { IsOkUnless result NoResource }
+{
+    for lsn in piece.base()..piece.last() {
+        let glance = piece.glance_after(lsn);
+        scan.tables.note(glance, lsn + 1)?;
+        scan.missing = tally_next(&mut scan.tallies, scan.missing, glance, lsn);
+    }
+    Ok(())
 }
 
 /// Reads the piece after a mark for analysis and redo. Returns the mark after it, and how many bytes of
@@ -148,8 +187,7 @@ fn take_piece<S: Reread>(
         ≡ S.failures source.old + failures_of e) }
 {
     let (piece, next, torn) = next_piece(alloc, source, mark, room)?;
-    scan.tables.pass(&piece, 0)?;
-    scan.missing = tally_for_redo(&piece, &mut scan.tallies, scan.missing);
+    scan_piece(&piece, scan)?;
     Ok((next, torn))
 }
 

@@ -10,14 +10,14 @@ returns-clause-analysed g c = λ text before is mark. (
   before ⧺ c.in_ok-piece.piece.records,
   (c.in_ok-piece.ensures.next text before is mark).is_next,
   λ whole analysed.
-      subst (λ h. HasAnalysed 0 whole h c.pass.new.self) (with_piece before c.in_ok-piece.piece)
-      (c.in_ok-pass.ensures.goes_on whole (history before) (goes_on_at text before c.in_ok-piece.piece c.args.mark mark c.in_ok-piece.ensures.base) analysed),
+      subst (λ h. HasAnalysed 0 whole h c.scan_piece.new.scan.tables) (with_piece before c.in_ok-piece.piece)
+      (c.in_ok-scan_piece.ensures.analysed whole (history before) (goes_on_at text before c.in_ok-piece.piece c.args.mark mark c.in_ok-piece.ensures.base) analysed),
 )
 
 pub returns-clause-tallied : goal.returns-clause-tallied
 returns-clause-tallied g c = λ text whole before torn images is reads mark tallied.
-    let piece = c.in_ok-piece.piece in
+    let scan = c.scan_piece.new.scan in
     let next = c.in_ok-piece.ensures.next text before is mark in
-    subst (λ n. TalliedOrRefused whole images n c.tally_for_redo-scan.result c.tally_for_redo-scan.new.tallies) c.in_ok-piece.ensures.last
-    (c.tally_for_redo-scan.ensures.tallied whole images (next.is_piece whole torn reads)
+    subst (λ n. TalliedOrRefused whole images n scan.missing scan.tallies) c.in_ok-piece.ensures.last
+    (c.in_ok-scan_piece.ensures.tallied whole images (next.is_piece whole torn reads)
     (subst (λ n. TalliedOrRefused whole images n c.args.scan.now.missing c.args.scan.now.tallies) (sym c.in_ok-piece.ensures.base) tallied))

@@ -1,10 +1,8 @@
-use Rattle.std.proofs.Common.{ℕ, ◌≡◌, ◌<◌, ◌≤◌, ◌+◌, ◌-◌, ◌∙◌, get_or, length, refl, sym, ap, subst, inl, inr, arith}
+use Rattle.std.proofs.Common.{◌<◌, ◌+◌, ◌∙◌, get_or, length, refl, ap, inl, inr, arith}
 use Rattle.std.proofs.lemmas.Result.{err_from_is_err_and}
-use Rattle.wal.specs.Records.{history, last_lsn}
+use Rattle.wal.specs.Records.{history}
 use Rattle.tables.specs.Tables.{losers_in}
-use Rattle.undo.specs.Wants.{AreUpTo, wants_in}
 use Rattle.pieces.specs.declared.mark.Mark.{Mark}
-use Rattle.passes.specs.Marks.{Reaches}
 use Rattle.passes.proofs.Reached.{marked, keeps_same, still_told, keeps_on}
 use Rattle.passes.proofs.Redoing.{reaches_next}
 use Rattle.passes.proofs.gather.gather_for_undo.Goals as goal
