@@ -3,6 +3,7 @@ use Rattle.std.proofs.Common.{ℕ, ◌≡◌, ◌≤◌, ◌<◌, ◌+◌, ◌-�
 use Rattle.std.proofs.lemmas.List.{drop-take, take-append-le}
 use Rattle.std.specs.Prelude.{IfSome}
 use Rattle.std.specs.Io.KnownBytes.{Keeps}
+use Rattle.std.proofs.KnownBytes.{Keeps-refl}
 use Rattle.device.specs.Reread.{EndsBy}
 use Rattle.page.specs.declared.fault.Fault.{Fault}
 use Rattle.page.specs.declared.fault.Fault.TheVariants.{NoResource, ReadLog, ReadStore, WriteLog, WriteStore, BadWorkers, BadParting}
@@ -19,8 +20,8 @@ use Rattle.recovery.specs.declared.by_pieces.Made.{Made}
 use Rattle.recovery.specs.Recovery.{Recovers, Cause, log_of}
 use Rattle.recovery.specs.Devices.{Fails, IsFaultOf, AreRead, DeviceCause, IsResourceOrDevice}
 use Rattle.recovery.specs.TailFile.{tail_text, sum_of, end_of}
-use Rattle.recovery.specs.InPlace.{Prepares, Stays}
-use Rattle.recovery.specs.ByPieces.{fault_of, ReadingCause, IsMeasured}
+use Rattle.recovery.specs.InPlace.{IsLeftIn, Prepares, Stays}
+use Rattle.recovery.specs.ByPieces.{IsOfLog, fault_of, ReadingCause, IsMeasured}
 use Rattle.recovery.proofs.Bytes.{input_cause}
 use Rattle.recovery.proofs.Delivered.{device_cause, is_resource}
 use Rattle.recovery.proofs.InPlace.{same_tail}
@@ -96,6 +97,12 @@ pub by_device : (store_left : Option (List ℕ)) (options : Options) (log store 
 by_device store_left options log store e read (inl failed) = subst (DeviceCause (Some log) store_left options) (sym failed) tt
 by_device store_left options log store e read (inr cause) = device_cause (Some log) store_left options log store e read cause
 
+-- and nothing is changed after it
+pub untouched : (log_left store_left log_taken flushed store_taken : Option (List ℕ)) (e : Fault) → IsOfLog e → IsLeftIn log_left store_left log_taken log_taken flushed flushed store_taken store_taken e
+untouched log_left store_left log_taken flushed store_taken WriteLog h = absurd h
+untouched log_left store_left log_taken flushed store_taken WriteStore h = absurd h
+untouched log_left store_left log_taken flushed store_taken e h = (Keeps-refl log_taken, Keeps-refl store_taken)
+
 -- WHAT IS MADE, and the file of its tail
 module _ (store_left : Option (List ℕ)) (log store : List ℕ) (made : Made) (read : AreRead (Some log) store_left log store) (measured : IsMeasured log made)
     (recovers : Recovers log store (log_of log made.remade) (store_text made.remade.store) made.remade.report) where
@@ -112,11 +119,11 @@ module _ (store_left : Option (List ℕ)) (log store : List ℕ) (made : Made) (
     recovers = recovers;
   }
 
-  pub tail_made : (size kept end : ℕ) (frames : List ℕ) → size ≡ made.length → kept ≡ made.kept → end ≡ made.end → frames ≡ made.remade.frames.items
+  pub tail_made : (size kept end : ℕ) (frames : List ℕ) → size ≡ made.length → kept ≡ made.kept → end ≡ sum_of (end_of (take made.kept log)) → frames ≡ made.remade.frames.items
       → tail_text size kept end frames ≡ tail_text (length log) (length log - made.remade.report.torn) (sum_of (end_of (take (length log - made.remade.report.torn) log))) made.remade.frames.items
   tail_made size kept end frames p q r h =
       same_tail size (length log) kept (length log - made.remade.report.torn) end _ frames made.remade.frames.items (p ∙ measured.length_is) (q ∙ measured.kept_is)
-      (r ∙ measured.end_is ∙ ap (λ n. sum_of (end_of (take n log))) measured.kept_is) h
+      (r ∙ ap (λ n. sum_of (end_of (take n log))) measured.kept_is) h
 
 -- a sink's fault is none of the log's device
 pub stays_other : {U : Type 0} (s : Result U Fault) (kept : ℕ) (frames new_store : List ℕ) (a b c d x y : Option (List ℕ)) (e : Fault) → s ≡ Err e → Stays kept frames new_store a b c d x y e → s ≡ Err ReadLog → ⊥

@@ -1,5 +1,5 @@
 -- What a recovery makes of a log that it reads in pieces, and why it is refused (own).
-use Rattle.std.specs.Prelude.{◌≡◌, ◌⊎◌, ◌-◌, ℕ, List, length, take, ⊤}
+use Rattle.std.specs.Prelude.{◌≡◌, ◌⊎◌, ◌+◌, ◌-◌, ℕ, List, length, Result, Err, ⊤}
 use Rattle.page.specs.declared.fault.Fault.{Fault}
 use Rattle.page.specs.declared.fault.Fault.TheVariants.{NoResource, ReadLog, ReadStore, WriteLog, WriteStore}
 use Rattle.passes.specs.declared.fault.PassFault.{PassFault}
@@ -7,7 +7,6 @@ use Rattle.passes.specs.declared.fault.PassFault.TheVariants as pass
 use Rattle.restart.specs.declared.options.Options.{Options}
 use Rattle.recovery.specs.declared.by_pieces.Made.{Made}
 use Rattle.recovery.specs.Recovery.{Cause}
-use Rattle.recovery.specs.TailFile.{sum_of, end_of}
 
 -- the fault of a log's device, of its bytes or of a restart by it, or want of memory: that of no other device
 abbrev pub IsOfLog : Fault → Type 0
@@ -29,8 +28,14 @@ fault_of (pass.Fault e) = e
 abbrev pub ReadingCause : (log store : List ℕ) → Options → Fault → Type 0
 ReadingCause log store options e = (e ≡ ReadLog) ⊎ Cause log store options e
 
--- how long the log is, how much of it is kept, and the sum of the end of that
+-- THE STORE'S DEVICE is read before the log, and a fault of the log's device comes before its own: it has failed once where the
+-- answer blames it, once or not at all where the answer blames the log's device, and else not at all
+pub record StoreFails {T : Type 0} (answer : Result T Fault) (before after : ℕ) : Type 0 where
+  pub blamed : answer ≡ Err ReadStore → after ≡ before + 1
+  pub log_blamed : answer ≡ Err ReadLog → (after ≡ before) ⊎ (after ≡ before + 1)
+  pub innocent : (answer ≡ Err ReadStore → ⊥) → (answer ≡ Err ReadLog → ⊥) → after ≡ before
+
+-- how long the log is, and how much of it is kept
 pub record IsMeasured (log : List ℕ) (made : Made) : Type 0 where
   pub length_is : made.length ≡ length log
   pub kept_is : made.kept ≡ length log - made.remade.report.torn
-  pub end_is : made.end ≡ sum_of (end_of (take made.kept log))

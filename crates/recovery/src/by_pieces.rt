@@ -1,9 +1,9 @@
 //! Recovery in place of a log that is read in pieces: it is never in memory as a whole.
 
-ghost use Rattle.std.specs.Prelude.{◌≡◌, ◌≤◌, ◌<◌, ◌⊎◌, ◌+◌, ◌^◌, ℕ, List, length, Some, IfOk, IfErr, OnOk, OnErr, Err, MatchResult};
-ghost use Rattle.std.specs.Io.KnownBytes.{IsAtEnd};
+ghost use Rattle.std.specs.Prelude.{◌≡◌, ◌⊎◌, ◌+◌, ℕ, List, length, Some, IfOk, IfErr, OnOk, OnErr, Err, MatchResult};
+ghost use Rattle.std.specs.Io.KnownBytes.{IsAtEnd, Keeps};
 ghost use Rattle.page.specs.declared.fault.Fault.{Fault};
-ghost use Rattle.page.specs.declared.fault.Fault.TheVariants.{ReadLog, ReadStore, WriteLog, WriteStore};
+ghost use Rattle.page.specs.declared.fault.Fault.TheVariants.{ReadLog, WriteLog, WriteStore};
 ghost use Rattle.page.specs.File.{store_text, SpellsStore};
 ghost use Rattle.device.specs.Transfer.{Flushes};
 ghost use Rattle.wal.specs.Meaning.{BasePages};
@@ -12,14 +12,14 @@ ghost use Rattle.restart.specs.Options.{AreInRange, OptionsFault};
 ghost use Rattle.recovery.specs.Recovery.{log_of, Decodes, Recovers, Recovered, AreLawful, AreCut};
 ghost use Rattle.recovery.specs.Devices.{Fails, IsFaultOf, DeviceCause, IsResourceOrDevice};
 ghost use Rattle.recovery.specs.InPlace.{IsContinued, IsLeftIn, Prepares, HasTail, Completed, DeliversInPlace, CompletesInPlace, HoldsCut, IsFlushed};
-ghost use Rattle.recovery.specs.ByPieces.{IsOfLog, IsMeasured, ReadingCause};
+ghost use Rattle.recovery.specs.ByPieces.{IsOfLog, IsMeasured, ReadingCause, StoreFails};
 ghost use Rattle.recovery.specs.declared.log_again.TheConstants.{ROOM};
 
 use crate::Report;
 use crate::in_place::write_in_place;
-use crate::log_again::{check_log, fault_of, read_through, room_for_log, sum_of_kept};
+use crate::log_again::{check_log, fault_after, read_store_first, room_for_log, sum_of_kept};
 use crate::recovery::{Remade, remade_of};
-use crate::store_pieces::{read_store, room_for_pieces};
+use crate::store_pieces::room_for_pieces;
 use crate::tail_file::TailFile;
 use device::{Continue, Reread, Sink, Source};
 use page::{Fault, Store};
@@ -35,8 +35,6 @@ pub struct Made {
     pub length: u64,
     /// How many of them are kept.
     pub kept: u64,
-    /// The sum of the end of those.
-    pub end: u64,
     pub remade: Remade,
 }
 
@@ -50,7 +48,7 @@ fn make_of<L: Reread>(
 ) -> Result<Made, Fault>
     requires { length room.old ≡ ROOM }
     ensures lawful { (base : BasePages) (text store : List ℕ) → L.text log.old ≡ Some text
-        → length text < 2 ^ 64 → SpellsStore store before → (bytes : AreLawful base text store)
+        → SpellsStore store before → (bytes : AreLawful base text store)
         → bytes.decoded.before ≡ before
         → MatchResult result (λ x. Recovered base bytes.decoded.read bytes.decoded.before
         (log_of text x.remade) (store_text x.remade.store) x.remade.report) (IsFaultOf ReadLog) }
@@ -58,10 +56,11 @@ fn make_of<L: Reread>(
         → SpellsStore store before
         → Recovers text store (log_of text x.remade) (store_text x.remade.store) x.remade.report) }
     ensures measured { IfOk result (λ x. (text : List ℕ) → L.text log.old ≡ Some text
-        → length text < 2 ^ 64 → IsMeasured text x) }
+        → IsMeasured text x) }
     ensures fault { IfErr result (λ e. (text store : List ℕ) (options : Options)
         → L.text log.old ≡ Some text → SpellsStore store before → AreInRange options
         → ReadingCause text store options e) }
+    ensures same { OnOk result (Keeps (L.text log.old) (L.text log.new)) }
     ensures named { IfErr result IsOfLog }
     ensures cause { Fails ReadLog result (L.failures log.old) (L.failures log.new) }
 {
@@ -72,23 +71,26 @@ fn make_of<L: Reread>(
         outcome,
     } = match restart_in_pieces(alloc, log, room, before) {
         Ok(restarted) => restarted,
-        Err(stopped) => return Err(fault_of(stopped)),
+        Err(stopped) => return Err(fault_after(log, stopped, room)),
+    };
+    let Some(length) = kept.checked_add(torn as u64) else {
+        // No log has so many bytes.
+        return Err(Fault::NoResource);
     };
     let looked = Looked {
         place: Place::Gathered(&gathered),
     };
     let remade = remade_of(alloc, &looked, torn, outcome)?;
     Ok(Made {
-        length: kept.saturating_add(torn as u64),
+        length,
         kept,
-        end: sum_of_kept(log, kept, room)?,
         remade,
     })
 }
 
 /// What is made of the log that a device holds and of a store, if its own bytes spelled one; else the
 /// fault of the log, if it has one, and then that of the store.
-fn make_by_pieces<L: Reread>(
+pub fn make_by_pieces<L: Reread>(
     alloc: Global,
     log: &mut L,
     decoded: Result<Store, Fault>,
@@ -96,17 +98,18 @@ fn make_by_pieces<L: Reread>(
 ) -> Result<Made, Fault>
     requires { length room.old ≡ ROOM }
     ensures lawful { (base : BasePages) (text store : List ℕ) → L.text log.old ≡ Some text
-        → length text < 2 ^ 64 → Decodes store decoded → (bytes : AreLawful base text store)
+        → Decodes store decoded → (bytes : AreLawful base text store)
         → MatchResult result (λ x. Recovered base bytes.decoded.read bytes.decoded.before
         (log_of text x.remade) (store_text x.remade.store) x.remade.report) (IsFaultOf ReadLog) }
     ensures answer { IfOk result (λ x. (text store : List ℕ) → L.text log.old ≡ Some text
         → Decodes store decoded
         → Recovers text store (log_of text x.remade) (store_text x.remade.store) x.remade.report) }
     ensures measured { IfOk result (λ x. (text : List ℕ) → L.text log.old ≡ Some text
-        → length text < 2 ^ 64 → IsMeasured text x) }
+        → IsMeasured text x) }
     ensures fault { IfErr result (λ e. (text store : List ℕ) (options : Options)
         → L.text log.old ≡ Some text → Decodes store decoded → AreInRange options
         → ReadingCause text store options e) }
+    ensures same { OnOk result (Keeps (L.text log.old) (L.text log.new)) }
     ensures named { IfErr result (λ e. (store : List ℕ) → Decodes store decoded → IsOfLog e) }
     ensures cause { (store : List ℕ) → Decodes store decoded
         → Fails ReadLog result (L.failures log.old) (L.failures log.new) }
@@ -121,17 +124,17 @@ fn make_by_pieces<L: Reread>(
 }
 
 impl Made {
-    /// The file of the tail that is made.
-    fn file(&self) -> TailFile
+    /// The file of the tail that is made, if the end of what is kept has this sum.
+    fn file(&self, end: u64) -> TailFile
         ensures length { result.length ≡ self.now.length }
         ensures kept { result.kept ≡ self.now.kept }
-        ensures end { result.end ≡ self.now.end }
+        ensures end { result.end ≡ end }
         ensures frames { result.frames.now ≡ self.now.remade.frames.items }
     {
         TailFile {
             length: self.length,
             kept: self.kept,
-            end: self.end,
+            end,
             frames: &self.remade.frames,
         }
     }
@@ -141,11 +144,14 @@ impl Made {
 /// has the log in memory as a whole: 256 KiB of it are there at once, and those records that undo needs.
 /// What is written does not depend on that, nor on the options.
 ///
-/// `log` is read at offsets, as often as it is needed: to its end once before the store is read, and
-/// then piece by piece. `out_log` is the log that `log` reads, and holds the same bytes. It is cut after
-/// its last whole record and flushed; what the recovery appends is appended, and flushed; and only then
-/// the new store is written to `out_store`, and flushed. Before the log is touched, all that is appended
-/// is written to `tail` and flushed, with the lengths of the log and a sum: the file of a tail,
+/// `store` is read first, to its end. Then `log` is read at offsets, piece by piece, as often as it is
+/// needed. A failure of `log` comes before all faults of reading: before one of them is given, `log` is
+/// read to its end, and if it fails there, the fault is `ReadLog`.
+///
+/// `out_log` is the log that `log` reads, and holds the same bytes. It is cut after its last whole record
+/// and flushed; what the recovery appends is appended, and flushed; and only then the new store is
+/// written to `out_store`, and flushed. Before the log is touched, all that is appended is written to
+/// `tail` and flushed, with the lengths of the log and a sum: the file of a tail,
 /// [`TailFile`](crate::TailFile).
 ///
 /// Nobody else may write the log meanwhile. If somebody does, a fault may be given that the log never
@@ -238,7 +244,7 @@ pub fn recover_by_pieces<LR: Reread, SR: Source, T: Sink, LW: Continue, SW: Sink
 
     // A device is blamed where it failed, and nowhere else.
     ensures log_source { Fails ReadLog result (LR.failures log.old) (LR.failures log.new) }
-    ensures store_source { Fails ReadStore result (SR.failures store.old) (SR.failures store.new) }
+    ensures store_source { StoreFails result (SR.failures store.old) (SR.failures store.new) }
     ensures log_sinks { Fails WriteLog result (T.failures tail.old + LW.failures out_log.old)
         (T.failures tail.new + LW.failures out_log.new) }
     ensures store_sink { Fails WriteStore result (SW.failures out_store.old)
@@ -247,10 +253,10 @@ pub fn recover_by_pieces<LR: Reread, SR: Source, T: Sink, LW: Continue, SW: Sink
     check_options(options)?;
     let mut room = room_for_log(alloc)?;
     let mut pieces = room_for_pieces(alloc)?;
-    read_through(log, &mut room)?;
-    let decoded = read_store(alloc, store, &mut pieces)?;
+    let decoded = read_store_first(alloc, log, store, &mut room, &mut pieces)?;
     let made = make_by_pieces(alloc, log, decoded.store, &mut room)?;
-    let file = made.file();
+    let end = sum_of_kept(log, made.kept, &mut room)?;
+    let file = made.file(end);
     write_in_place(
         tail,
         out_log,

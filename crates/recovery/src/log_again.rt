@@ -1,18 +1,23 @@
-//! A log's device that is read again: to its end, for its fault, and for the sum of its end.
+//! A log's device that is read again: to its end, since a failure of it is the first fault of reading,
+//! and for the sum of its end.
 
-ghost use Rattle.std.specs.Prelude.{◌≡◌, ◌≤◌, ◌<◌, ◌+◌, ◌^◌, ◌⊎◌, ℕ, List, length, take, IfOk, IfErr, OnOk, IfSome, IsOkUnless, Some};
-ghost use Rattle.std.specs.Io.KnownBytes.{Keeps};
+ghost use Rattle.std.specs.Prelude.{◌≡◌, ◌≢◌, ◌≤◌, ◌<◌, ◌+◌, ◌^◌, ◌⊎◌, ℕ, List, length, take, IfOk, IfErr, OnOk, IfSome, IsOkUnless, Some};
+ghost use Rattle.std.specs.Io.KnownBytes.{IsAtEnd, Keeps};
 ghost use Rattle.device.specs.Reread.{EndsBy, ReadsFrom};
-ghost use Rattle.page.specs.declared.fault.Fault.TheVariants.{NoResource, ReadLog};
+ghost use Rattle.page.specs.declared.fault.Fault.TheVariants.{NoResource, ReadLog, ReadStore};
 ghost use Rattle.wal.specs.Records.{LogContent};
 ghost use Rattle.wal.specs.Reads.{Reads, Cause};
-ghost use Rattle.recovery.specs.Devices.{Fails, IsFaultOf};
+ghost use Rattle.passes.specs.Marks.{failures_of};
+ghost use Rattle.recovery.specs.Recovery.{Decodes};
+ghost use Rattle.recovery.specs.Devices.{Fails, Gave, IsFaultOf};
 ghost use Rattle.recovery.specs.TailFile.{sum_of, end_of};
-ghost use Rattle.recovery.specs.ByPieces.{IsOfLog, fault_of};
+ghost use Rattle.recovery.specs.ByPieces.{IsOfLog, fault_of, StoreFails};
 ghost use Rattle.recovery.specs.declared.log_again.TheConstants.{ROOM};
+ghost use Rattle.recovery.specs.declared.store_pieces.TheConstants.{PIECE};
 
+use crate::store_pieces::{DecodedStore, read_store};
 use crate::tail_file::{END_BYTES, sum_of_end};
-use device::{Failed, Reread, read_full_at};
+use device::{Failed, Reread, Source, read_full_at};
 use page::Fault;
 use passes::{PassFault, find_marks};
 use std::alloc::Global;
@@ -85,6 +90,64 @@ pub fn read_through<L: Reread>(log: &mut L, room: &mut [u8]) -> Result<(), Fault
     Err(Fault::NoResource)
 }
 
+/// The fault to give in place of this one. A failure of a log's device comes before all other faults, so
+/// the device is read to its end: `ReadLog` if it fails there, else the fault as it was.
+fn first_fault<L: Reread>(log: &mut L, fault: Fault, room: &mut [u8]) -> Fault
+    requires { length room.old ≡ ROOM }
+    ensures fault { (result ≡ ReadLog) ⊎ (result ≡ fault) }
+    ensures unread { fault ≡ ReadLog → log.new ≡ log.old }
+    ensures blamed { fault ≢ ReadLog → result ≡ ReadLog
+        → L.failures log.new ≡ L.failures log.old + 1 }
+    ensures innocent { result ≢ ReadLog → L.failures log.new ≡ L.failures log.old }
+{
+    match fault {
+        Fault::ReadLog => Fault::ReadLog,
+        other => match read_through(log, room) {
+            Err(Fault::ReadLog) => Fault::ReadLog,
+            _ => other,
+        },
+    }
+}
+
+/// The fault after a pass over a log that stopped: that of the log's device, if it fails while it is read
+/// to its end, else that of the pass.
+pub fn fault_after<L: Reread>(log: &mut L, stopped: PassFault, room: &mut [u8]) -> Fault
+    requires { length room.old ≡ ROOM }
+    ensures fault { (result ≡ ReadLog) ⊎ (result ≡ fault_of stopped) }
+    // The pass may have counted a failure already.
+    ensures blamed { result ≡ ReadLog
+        → L.failures log.new + failures_of stopped ≡ L.failures log.old + 1 }
+    ensures innocent { result ≢ ReadLog
+        → L.failures log.new + failures_of stopped ≡ L.failures log.old }
+{
+    first_fault(log, fault_of(stopped), room)
+}
+
+/// Reads a store that is read before its log: what all bytes of its source spell, or why they spell
+/// none. If the source failed, or memory was refused, a failure of the log's device comes first.
+pub fn read_store_first<L: Reread, S: Source>(
+    alloc: Global,
+    log: &mut L,
+    store: &mut S,
+    room: &mut [u8],
+    pieces: &mut [u8],
+) -> Result<DecodedStore, Fault>
+    requires room { length room.old ≡ ROOM }
+    requires pieces { length pieces.old ≡ PIECE }
+    ensures read { IfOk result (λ found. (text : List ℕ)
+        × Gave (S.left store.old) text × Decodes text found.store) }
+    ensures end { OnOk result (IsAtEnd (S.left store.new)) }
+    ensures log_unread { OnOk result (log.new ≡ log.old) }
+    ensures fault { IfErr result (λ e. (e ≡ ReadLog) ⊎ IsFaultOf ReadStore e) }
+    ensures log_source { Fails ReadLog result (L.failures log.old) (L.failures log.new) }
+    ensures store_source { StoreFails result (S.failures store.old) (S.failures store.new) }
+{
+    match read_store(alloc, store, pieces) {
+        Ok(decoded) => Ok(decoded),
+        Err(fault) => Err(first_fault(log, fault, room)),
+    }
+}
+
 /// The fault of a log, if its device or its bytes have one; `NoResource` if memory was refused.
 pub fn check_log<L: Reread>(alloc: Global, log: &mut L, room: &mut [u8]) -> Result<(), Fault>
     requires { length room.old ≡ ROOM }
@@ -97,7 +160,7 @@ pub fn check_log<L: Reread>(alloc: Global, log: &mut L, room: &mut [u8]) -> Resu
 {
     let _found = match find_marks(alloc, log, room) {
         Ok(found) => found,
-        Err(stopped) => return Err(fault_of(stopped)),
+        Err(stopped) => return Err(fault_after(log, stopped, room)),
     };
     Ok(())
 }

@@ -1,10 +1,8 @@
 use Rattle.std.proofs.Common.{sym, subst, inl, inr, arith}
-use Rattle.std.proofs.lemmas.Result.{err_from_is_err_and}
 use Rattle.page.specs.File.{store_text}
 use Rattle.wal.specs.Reads.{Reads}
 use Rattle.wal.specs.Store.{Lawful}
 use Rattle.wal.proofs.Whole.{one_reading}
-use Rattle.passes.proofs.Reached.{still_told}
 use Rattle.page.specs.declared.fault.Fault.TheVariants.{ReadLog}
 use Rattle.recovery.specs.Recovery.{Recovered, log_of}
 use Rattle.recovery.specs.Devices.{IsFaultOf}
@@ -13,33 +11,25 @@ use Rattle.recovery.proofs.ByPieces.{resource_of_log, reading_cause}
 use Rattle.recovery.proofs.by_pieces.make_of.Goals as goal
 
 pub returns-in-Err-clause-lawful : goal.returns-in-Err-clause-lawful
-returns-in-Err-clause-lawful g c = λ base text store is short spells bytes same.
-    subst (IsFaultOf ReadLog) (sym c.fault_of.ensures)
-    (resource_of_log c.in-Err.stopped (c.in-Err.ensures.lawful text bytes.decoded.read bytes.decoded.torn base is bytes.decoded.reads (subst (Lawful base bytes.decoded.read) same bytes.lawful)))
+returns-in-Err-clause-lawful g c = λ base text store is spells bytes same.
+    elim c.fault_after.ensures.fault [
+      | inl device ↦ inr device
+      | inr stopped ↦
+          subst (IsFaultOf ReadLog) (sym stopped)
+          (resource_of_log c.in-Err.stopped (c.in-Err.ensures.lawful text bytes.decoded.read bytes.decoded.torn base is bytes.decoded.reads (subst (Lawful base bytes.decoded.read) same bytes.lawful)))
+    ]
 
 pub returns-in-Err-clause-fault : goal.returns-in-Err-clause-fault
 returns-in-Err-clause-fault g c = λ text store options is spells range.
-    subst (ReadingCause text store options) (sym c.fault_of.ensures)
-    (reading_cause text store options c.args.before c.in-Err.stopped spells range (c.in-Err.ensures.fault text is))
-
-pub returns-in_err-sum_of_kept-clause-lawful : goal.returns-in_err-sum_of_kept-clause-lawful
-returns-in_err-sum_of_kept-clause-lawful g c = λ base text store is short spells bytes same.
-    let exit = err_from_is_err_and c.from_residual-in_err-sum_of_kept.result c.from_residual-in_err-sum_of_kept.ensures.1 in
-    let read = c.in-Ok.ensures.reads text is in
-    let still = still_told (g.L.Reread.text c.args.log.now) (g.L.Reread.text c.restart_in_pieces.new.source) text c.in-Ok.ensures.same is in
-    rw (exit.1, exit.2) (inr (c.in_err-sum_of_kept.ensures.fault text still (omega (arith, read.size))))
-
-pub returns-in_err-sum_of_kept-clause-fault : goal.returns-in_err-sum_of_kept-clause-fault
-returns-in_err-sum_of_kept-clause-fault g c =
-    let exit = err_from_is_err_and c.from_residual-in_err-sum_of_kept.result c.from_residual-in_err-sum_of_kept.ensures.1 in
-    rw (exit.1, exit.2)
-    (λ text store options is spells range.
-    let read = c.in-Ok.ensures.reads text is in
-    let still = still_told (g.L.Reread.text c.args.log.now) (g.L.Reread.text c.restart_in_pieces.new.source) text c.in-Ok.ensures.same is in
-    inl (c.in_err-sum_of_kept.ensures.fault text still (omega (arith, read.size))))
+    elim c.fault_after.ensures.fault [
+      | inl device ↦ inl device
+      | inr stopped ↦
+          subst (ReadingCause text store options) (sym stopped)
+          (reading_cause text store options c.args.before c.in-Err.stopped spells range (c.in-Err.ensures.fault text is))
+    ]
 
 pub returns-clause-lawful : goal.returns-clause-lawful
-returns-clause-lawful g c = λ base text store is short spells bytes same.
+returns-clause-lawful g c = λ base text store is spells bytes same.
     let whole = bytes.decoded.read in
     let torn = c.in-Ok.restarted.torn in
     let x = c.in_ok-remade.remade in
@@ -57,11 +47,9 @@ returns-clause-answer g c = λ text store is spells.
     c.in_ok-remade.ensures.answer read.whole text store c.args.before (c.in-Ok.ensures.alike text read.whole torn is read.reads) read.reads spells (c.in-Ok.ensures.restarts text read.whole torn is read.reads)
 
 pub returns-clause-measured : goal.returns-clause-measured
-returns-clause-measured g c = λ text is short.
+returns-clause-measured g c = λ text is.
     let read = c.in-Ok.ensures.reads text is in
-    let still = still_told (g.L.Reread.text c.args.log.now) (g.L.Reread.text c.restart_in_pieces.new.source) text c.in-Ok.ensures.same is in
     record {
-      length_is = omega (arith, read.size, c.saturating_add.ensures, short);
+      length_is = omega (arith, read.size, c.in-Some.ensures);
       kept_is = omega (arith, read.size, c.in_ok-remade.ensures.torn);
-      end_is = c.in_ok-sum_of_kept.ensures.sum text still (omega (arith, read.size));
     }

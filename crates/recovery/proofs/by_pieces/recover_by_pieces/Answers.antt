@@ -1,4 +1,4 @@
-use Rattle.std.proofs.Common.{◌<◌, ◌-◌, ◌^◌, List, [], ℕ, length, None, Some, refl, inl, inr, subst, ◌∙◌}
+use Rattle.std.proofs.Common.{◌-◌, List, [], ℕ, length, None, Some, refl, ap, inl, inr, subst, ◌∙◌, arith}
 use Rattle.std.proofs.lemmas.Result.{err_from_is_err_and}
 use Rattle.page.specs.File.{store_text}
 use Rattle.page.specs.declared.fault.Fault.TheVariants.{ReadLog}
@@ -8,44 +8,74 @@ use Rattle.recovery.specs.InPlace.{Prepares, HoldsCut}
 use Rattle.recovery.proofs.Decoded.{both_read}
 use Rattle.recovery.proofs.Delivered.{told, told_lawful, cut_lawful}
 use Rattle.recovery.proofs.InPlace.{on_err, holds_more, stays_cut, left_in, settled_in_place, has_tail, continued_as, stays_as}
-use Rattle.recovery.proofs.ByPieces.{at_some, of_log, by_device, prepares, tail_made, stays_other, other_failed, none_failed, ok_is_no_fault}
+use Rattle.recovery.proofs.ByPieces.{of_log, untouched, by_device, prepares, tail_made, stays_other, other_failed, none_failed, ok_is_no_fault}
 use Rattle.recovery.proofs.by_pieces.recover_by_pieces.Goals as goal
 
 pub returns-in_err-made-clause-lawful : goal.returns-in_err-made-clause-lawful
 returns-in_err-made-clause-lawful g c = λ base log_text store_bytes is tells_store holds range bytes.
     let exit = err_from_is_err_and c.from_residual-in_err-made.result c.from_residual-in_err-made.ensures.1 in
-    let (text, read, decodes) = both_read {log_left = Some log_text} {log = log_text} c.in_ok-decoded.decoded refl c.in_ok-decoded.was c.read_store.ensures.read in
-    let still = still_told (g.LR.Reread.text c.args.log.now) (g.LR.Reread.text c.read_through.new.log) log_text c.in_ok-read_through.ensures.same is in
-    let short : length log_text < 2 ^ 64 = at_some (λ (held : List ℕ). length held < 2 ^ 64) (g.LR.Reread.text c.args.log.now) log_text is c.in_ok-read_through.ensures.end in
+    let (text, read, decodes) = both_read {log_left = Some log_text} {log = log_text} c.in_ok-decoded.decoded refl c.in_ok-decoded.was c.read_store_first.ensures.read in
+    let still = ap g.LR.Reread.text c.in_ok-decoded.ensures.log_unread ∙ is in
     rw (exit.1, exit.2)
-    (of_log c.in_err-made.field-0.0 (c.in_err-made.ensures.lawful base log_text text still short decodes (told_lawful log_text text log_text store_bytes read refl tells_store bytes)))
+    (of_log c.in_err-made.field-0.0 (c.in_err-made.ensures.lawful base log_text text still decodes (told_lawful log_text text log_text store_bytes read refl tells_store bytes)))
 
 pub returns-in_err-made-clause-interrupted : goal.returns-in_err-made-clause-interrupted
 returns-in_err-made-clause-interrupted g c = λ base log_text store_bytes is tells_store holds range bytes.
     let exit = err_from_is_err_and c.from_residual-in_err-made.result c.from_residual-in_err-made.ensures.1 in
-    let (text, read, decodes) = both_read {log_left = Some log_text} {log = log_text} c.in_ok-decoded.decoded refl c.in_ok-decoded.was c.read_store.ensures.read in
-    let still = still_told (g.LR.Reread.text c.args.log.now) (g.LR.Reread.text c.read_through.new.log) log_text c.in_ok-read_through.ensures.same is in
-    let short : length log_text < 2 ^ 64 = at_some (λ (held : List ℕ). length held < 2 ^ 64) (g.LR.Reread.text c.args.log.now) log_text is c.in_ok-read_through.ensures.end in
+    let (text, read, decodes) = both_read {log_left = Some log_text} {log = log_text} c.in_ok-decoded.decoded refl c.in_ok-decoded.was c.read_store_first.ensures.read in
+    let still = ap g.LR.Reread.text c.in_ok-decoded.ensures.log_unread ∙ is in
     rw (exit.1, exit.2)
-    (of_log c.in_err-made.field-0.0 (c.in_err-made.ensures.lawful base log_text text still short decodes (told_lawful log_text text log_text store_bytes read refl tells_store (cut_lawful bytes))))
+    (of_log c.in_err-made.field-0.0 (c.in_err-made.ensures.lawful base log_text text still decodes (told_lawful log_text text log_text store_bytes read refl tells_store (cut_lawful bytes))))
 
 pub returns-in_err-made-clause-cause : goal.returns-in_err-made-clause-cause
 returns-in_err-made-clause-cause g c =
     let exit = err_from_is_err_and c.from_residual-in_err-made.result c.from_residual-in_err-made.ensures.1 in
     rw (exit.1, exit.2)
     (λ log_text is.
-    let (text, read, decodes) = both_read {log_left = Some log_text} {log = log_text} c.in_ok-decoded.decoded refl c.in_ok-decoded.was c.read_store.ensures.read in
-    let still = still_told (g.LR.Reread.text c.args.log.now) (g.LR.Reread.text c.read_through.new.log) log_text c.in_ok-read_through.ensures.same is in
+    let (text, read, decodes) = both_read {log_left = Some log_text} {log = log_text} c.in_ok-decoded.decoded refl c.in_ok-decoded.was c.read_store_first.ensures.read in
+    let still = ap g.LR.Reread.text c.in_ok-decoded.ensures.log_unread ∙ is in
     by_device (g.SR.Source.left c.args.store.now) c.args.options.now log_text text c.in_err-made.field-0.0 read
     (c.in_err-made.ensures.fault log_text text c.args.options.now still decodes c.in_ok-check_options.ensures.ok))
 
+pub returns-in_err-end-clause-lawful : goal.returns-in_err-end-clause-lawful
+returns-in_err-end-clause-lawful g c = λ base log_text store_bytes is tells_store holds range bytes.
+    let exit = err_from_is_err_and c.from_residual-in_err-end.result c.from_residual-in_err-end.ensures.1 in
+    let still = ap g.LR.Reread.text c.in_ok-decoded.ensures.log_unread ∙ is in
+    let later = still_told (g.LR.Reread.text c.read_store_first.new.log) (g.LR.Reread.text c.make_by_pieces.new.log) log_text c.in_ok-made.ensures.same still in
+    let measured = c.in_ok-made.ensures.measured log_text still in
+    rw (exit.1, exit.2) (of_log c.in_err-end.field-0.0 (inr (c.in_err-end.ensures.fault log_text later (omega (arith, measured.kept_is)))))
+
+pub returns-in_err-end-clause-interrupted : goal.returns-in_err-end-clause-interrupted
+returns-in_err-end-clause-interrupted g c = λ base log_text store_bytes is tells_store holds range bytes.
+    let exit = err_from_is_err_and c.from_residual-in_err-end.result c.from_residual-in_err-end.ensures.1 in
+    let still = ap g.LR.Reread.text c.in_ok-decoded.ensures.log_unread ∙ is in
+    let later = still_told (g.LR.Reread.text c.read_store_first.new.log) (g.LR.Reread.text c.make_by_pieces.new.log) log_text c.in_ok-made.ensures.same still in
+    let measured = c.in_ok-made.ensures.measured log_text still in
+    rw (exit.1, exit.2) (of_log c.in_err-end.field-0.0 (inr (c.in_err-end.ensures.fault log_text later (omega (arith, measured.kept_is)))))
+
+pub returns-in_err-end-clause-cause : goal.returns-in_err-end-clause-cause
+returns-in_err-end-clause-cause g c =
+    let exit = err_from_is_err_and c.from_residual-in_err-end.result c.from_residual-in_err-end.ensures.1 in
+    rw (exit.1, exit.2)
+    (λ log_text is.
+    let (text, read, decodes) = both_read {log_left = Some log_text} {log = log_text} c.in_ok-decoded.decoded refl c.in_ok-decoded.was c.read_store_first.ensures.read in
+    let still = ap g.LR.Reread.text c.in_ok-decoded.ensures.log_unread ∙ is in
+    let later = still_told (g.LR.Reread.text c.read_store_first.new.log) (g.LR.Reread.text c.make_by_pieces.new.log) log_text c.in_ok-made.ensures.same still in
+    let measured = c.in_ok-made.ensures.measured log_text still in
+    by_device (g.SR.Source.left c.args.store.now) c.args.options.now log_text text c.in_err-end.field-0.0 read
+    (inl (c.in_err-end.ensures.fault log_text later (omega (arith, measured.kept_is)))))
+
+pub returns-in_err-end-clause-left : goal.returns-in_err-end-clause-left
+returns-in_err-end-clause-left g c =
+    let exit = err_from_is_err_and c.from_residual-in_err-end.result c.from_residual-in_err-end.ensures.1 in
+    rw (exit.1, exit.2) (λ log_text is. untouched _ _ _ _ _ c.in_err-end.field-0.0 c.in_err-end.ensures.named)
+
 pub returns-in_err-write_in_place-clause-resumable : goal.returns-in_err-write_in_place-clause-resumable
 returns-in_err-write_in_place-clause-resumable g c = λ base log_text store_bytes is tells_store holds range bytes.
-    let (text, read, decodes) = both_read {log_left = Some log_text} {log = log_text} c.in_ok-decoded.decoded refl c.in_ok-decoded.was c.read_store.ensures.read in
-    let still = still_told (g.LR.Reread.text c.args.log.now) (g.LR.Reread.text c.read_through.new.log) log_text c.in_ok-read_through.ensures.same is in
-    let short : length log_text < 2 ^ 64 = at_some (λ (held : List ℕ). length held < 2 ^ 64) (g.LR.Reread.text c.args.log.now) log_text is c.in_ok-read_through.ensures.end in
+    let (text, read, decodes) = both_read {log_left = Some log_text} {log = log_text} c.in_ok-decoded.decoded refl c.in_ok-decoded.was c.read_store_first.ensures.read in
+    let still = ap g.LR.Reread.text c.in_ok-decoded.ensures.log_unread ∙ is in
     let x = c.in_ok-made.made in
-    let measured = c.in_ok-made.ensures.measured log_text still short in
+    let measured = c.in_ok-made.ensures.measured log_text still in
     let recovers = c.in_ok-made.ensures.answer log_text text still decodes in
     let left = g.SR.Source.left c.args.store.now in
     let kept = length log_text - x.remade.report.torn in
@@ -57,7 +87,7 @@ returns-in_err-write_in_place-clause-resumable g c = λ base log_text store_byte
     (g.LW.Sink.flushed c.args.out_log.now) (g.LW.Sink.flushed c.write_in_place.new.log) (g.SW.Sink.taken c.args.out_store.now) (g.SW.Sink.taken c.write_in_place.new.store) c.in_err-write_in_place.field-0.0 count frames_are c.in_err-write_in_place.ensures.fault in
     let same_store = told left text store_bytes read.store_read tells_store in
     let lawful_bytes = told_lawful log_text text log_text store_bytes read refl tells_store bytes in
-    let recovered = c.in_ok-made.ensures.lawful base log_text text still short decodes lawful_bytes in
+    let recovered = c.in_ok-made.ensures.lawful base log_text text still decodes lawful_bytes in
     let after = g.LW.Sink.taken c.write_in_place.new.log in
     let cut = stays_cut lawful_bytes kept x.remade.frames.items (store_text x.remade.store) x.remade.report made.recovers refl recovered.reads (g.LW.Sink.taken c.args.out_log.now) after
     (g.LW.Sink.flushed c.args.out_log.now) (g.LW.Sink.flushed c.write_in_place.new.log) (g.SW.Sink.taken c.args.out_store.now) (g.SW.Sink.taken c.write_in_place.new.store) c.in_err-write_in_place.field-0.0
@@ -70,11 +100,10 @@ returns-in_err-write_in_place-clause-left g c =
     let exit = err_from_is_err_and c.from_residual-in_err-write_in_place.result c.from_residual-in_err-write_in_place.ensures.1 in
     rw (exit.1, exit.2)
     (λ log_text is.
-    let (text, read, decodes) = both_read {log_left = Some log_text} {log = log_text} c.in_ok-decoded.decoded refl c.in_ok-decoded.was c.read_store.ensures.read in
-    let still = still_told (g.LR.Reread.text c.args.log.now) (g.LR.Reread.text c.read_through.new.log) log_text c.in_ok-read_through.ensures.same is in
-    let short : length log_text < 2 ^ 64 = at_some (λ (held : List ℕ). length held < 2 ^ 64) (g.LR.Reread.text c.args.log.now) log_text is c.in_ok-read_through.ensures.end in
+    let (text, read, decodes) = both_read {log_left = Some log_text} {log = log_text} c.in_ok-decoded.decoded refl c.in_ok-decoded.was c.read_store_first.ensures.read in
+    let still = ap g.LR.Reread.text c.in_ok-decoded.ensures.log_unread ∙ is in
     let x = c.in_ok-made.made in
-    let measured = c.in_ok-made.ensures.measured log_text still short in
+    let measured = c.in_ok-made.ensures.measured log_text still in
     let recovers = c.in_ok-made.ensures.answer log_text text still decodes in
     let left = g.SR.Source.left c.args.store.now in
     let kept = length log_text - x.remade.report.torn in
@@ -88,11 +117,10 @@ returns-in_err-write_in_place-clause-left g c =
 
 pub returns-in_err-write_in_place-clause-tail_first : goal.returns-in_err-write_in_place-clause-tail_first
 returns-in_err-write_in_place-clause-tail_first g c = λ log_text is.
-    let (text, read, decodes) = both_read {log_left = Some log_text} {log = log_text} c.in_ok-decoded.decoded refl c.in_ok-decoded.was c.read_store.ensures.read in
-    let still = still_told (g.LR.Reread.text c.args.log.now) (g.LR.Reread.text c.read_through.new.log) log_text c.in_ok-read_through.ensures.same is in
-    let short : length log_text < 2 ^ 64 = at_some (λ (held : List ℕ). length held < 2 ^ 64) (g.LR.Reread.text c.args.log.now) log_text is c.in_ok-read_through.ensures.end in
+    let (text, read, decodes) = both_read {log_left = Some log_text} {log = log_text} c.in_ok-decoded.decoded refl c.in_ok-decoded.was c.read_store_first.ensures.read in
+    let still = ap g.LR.Reread.text c.in_ok-decoded.ensures.log_unread ∙ is in
     let x = c.in_ok-made.made in
-    let measured = c.in_ok-made.ensures.measured log_text still short in
+    let measured = c.in_ok-made.ensures.measured log_text still in
     let recovers = c.in_ok-made.ensures.answer log_text text still decodes in
     let left = g.SR.Source.left c.args.store.now in
     let kept = length log_text - x.remade.report.torn in
@@ -100,7 +128,9 @@ returns-in_err-write_in_place-clause-tail_first g c = λ log_text is.
     let file = c.file-file.result in
     let count = c.file-file.ensures.kept ∙ measured.kept_is in
     let frames_are = c.file-file.ensures.frames in
-    let tail = tail_made left log_text text x read measured recovers file.length file.kept file.end file.frames.now c.file-file.ensures.length c.file-file.ensures.kept c.file-file.ensures.end c.file-file.ensures.frames in
+    let later = still_told (g.LR.Reread.text c.read_store_first.new.log) (g.LR.Reread.text c.make_by_pieces.new.log) log_text c.in_ok-made.ensures.same still in
+    let end_is = c.file-file.ensures.end ∙ c.in_ok-end.ensures.sum log_text later (omega (arith, measured.kept_is)) in
+    let tail = tail_made left log_text text x read measured recovers file.length file.kept file.end file.frames.now c.file-file.ensures.length c.file-file.ensures.kept end_is c.file-file.ensures.frames in
     elim c.write_in_place.ensures.tail_first [
       | inl same ↦ inl same
       | inr out ↦ inr (made, has_tail made _ _ _ _ _ tail out)
@@ -108,11 +138,10 @@ returns-in_err-write_in_place-clause-tail_first g c = λ log_text is.
 
 pub returns-in_err-write_in_place-clause-log_first : goal.returns-in_err-write_in_place-clause-log_first
 returns-in_err-write_in_place-clause-log_first g c = λ log_text is.
-    let (text, read, decodes) = both_read {log_left = Some log_text} {log = log_text} c.in_ok-decoded.decoded refl c.in_ok-decoded.was c.read_store.ensures.read in
-    let still = still_told (g.LR.Reread.text c.args.log.now) (g.LR.Reread.text c.read_through.new.log) log_text c.in_ok-read_through.ensures.same is in
-    let short : length log_text < 2 ^ 64 = at_some (λ (held : List ℕ). length held < 2 ^ 64) (g.LR.Reread.text c.args.log.now) log_text is c.in_ok-read_through.ensures.end in
+    let (text, read, decodes) = both_read {log_left = Some log_text} {log = log_text} c.in_ok-decoded.decoded refl c.in_ok-decoded.was c.read_store_first.ensures.read in
+    let still = ap g.LR.Reread.text c.in_ok-decoded.ensures.log_unread ∙ is in
     let x = c.in_ok-made.made in
-    let measured = c.in_ok-made.ensures.measured log_text still short in
+    let measured = c.in_ok-made.ensures.measured log_text still in
     let recovers = c.in_ok-made.ensures.answer log_text text still decodes in
     let left = g.SR.Source.left c.args.store.now in
     let kept = length log_text - x.remade.report.torn in
@@ -127,11 +156,10 @@ returns-in_err-write_in_place-clause-log_first g c = λ log_text is.
 
 pub returns-clause-tail_first : goal.returns-clause-tail_first
 returns-clause-tail_first g c = λ log_text is.
-    let (text, read, decodes) = both_read {log_left = Some log_text} {log = log_text} c.in_ok-decoded.decoded refl c.in_ok-decoded.was c.read_store.ensures.read in
-    let still = still_told (g.LR.Reread.text c.args.log.now) (g.LR.Reread.text c.read_through.new.log) log_text c.in_ok-read_through.ensures.same is in
-    let short : length log_text < 2 ^ 64 = at_some (λ (held : List ℕ). length held < 2 ^ 64) (g.LR.Reread.text c.args.log.now) log_text is c.in_ok-read_through.ensures.end in
+    let (text, read, decodes) = both_read {log_left = Some log_text} {log = log_text} c.in_ok-decoded.decoded refl c.in_ok-decoded.was c.read_store_first.ensures.read in
+    let still = ap g.LR.Reread.text c.in_ok-decoded.ensures.log_unread ∙ is in
     let x = c.in_ok-made.made in
-    let measured = c.in_ok-made.ensures.measured log_text still short in
+    let measured = c.in_ok-made.ensures.measured log_text still in
     let recovers = c.in_ok-made.ensures.answer log_text text still decodes in
     let left = g.SR.Source.left c.args.store.now in
     let kept = length log_text - x.remade.report.torn in
@@ -139,7 +167,9 @@ returns-clause-tail_first g c = λ log_text is.
     let file = c.file-file.result in
     let count = c.file-file.ensures.kept ∙ measured.kept_is in
     let frames_are = c.file-file.ensures.frames in
-    let tail = tail_made left log_text text x read measured recovers file.length file.kept file.end file.frames.now c.file-file.ensures.length c.file-file.ensures.kept c.file-file.ensures.end c.file-file.ensures.frames in
+    let later = still_told (g.LR.Reread.text c.read_store_first.new.log) (g.LR.Reread.text c.make_by_pieces.new.log) log_text c.in_ok-made.ensures.same still in
+    let end_is = c.file-file.ensures.end ∙ c.in_ok-end.ensures.sum log_text later (omega (arith, measured.kept_is)) in
+    let tail = tail_made left log_text text x read measured recovers file.length file.kept file.end file.frames.now c.file-file.ensures.length c.file-file.ensures.kept end_is c.file-file.ensures.frames in
     elim c.write_in_place.ensures.tail_first [
       | inl same ↦ inl same
       | inr out ↦ inr (made, has_tail made _ _ _ _ _ tail out)
@@ -147,11 +177,10 @@ returns-clause-tail_first g c = λ log_text is.
 
 pub returns-clause-log_first : goal.returns-clause-log_first
 returns-clause-log_first g c = λ log_text is.
-    let (text, read, decodes) = both_read {log_left = Some log_text} {log = log_text} c.in_ok-decoded.decoded refl c.in_ok-decoded.was c.read_store.ensures.read in
-    let still = still_told (g.LR.Reread.text c.args.log.now) (g.LR.Reread.text c.read_through.new.log) log_text c.in_ok-read_through.ensures.same is in
-    let short : length log_text < 2 ^ 64 = at_some (λ (held : List ℕ). length held < 2 ^ 64) (g.LR.Reread.text c.args.log.now) log_text is c.in_ok-read_through.ensures.end in
+    let (text, read, decodes) = both_read {log_left = Some log_text} {log = log_text} c.in_ok-decoded.decoded refl c.in_ok-decoded.was c.read_store_first.ensures.read in
+    let still = ap g.LR.Reread.text c.in_ok-decoded.ensures.log_unread ∙ is in
     let x = c.in_ok-made.made in
-    let measured = c.in_ok-made.ensures.measured log_text still short in
+    let measured = c.in_ok-made.ensures.measured log_text still in
     let recovers = c.in_ok-made.ensures.answer log_text text still decodes in
     let left = g.SR.Source.left c.args.store.now in
     let kept = length log_text - x.remade.report.torn in
@@ -167,29 +196,30 @@ returns-clause-log_first g c = λ log_text is.
 pub returns-in_err-write_in_place-clause-log_source : goal.returns-in_err-write_in_place-clause-log_source
 returns-in_err-write_in_place-clause-log_source g c =
     let exit = err_from_is_err_and c.from_residual-in_err-write_in_place.result c.from_residual-in_err-write_in_place.ensures.1 in
-    let (text, read, decodes) = both_read {log_left = None} {log = []} c.in_ok-decoded.decoded tt c.in_ok-decoded.was c.read_store.ensures.read in
-    let first = c.in_ok-read_through.ensures.cause.innocent (ok_is_no_fault tt ReadLog) in
+    let (text, read, decodes) = both_read {log_left = None} {log = []} c.in_ok-decoded.decoded tt c.in_ok-decoded.was c.read_store_first.ensures.read in
+    let first = c.in_ok-decoded.ensures.log_source.innocent (ok_is_no_fault c.in_ok-decoded.decoded ReadLog) in
     let then = (c.in_ok-made.ensures.cause text decodes).innocent (ok_is_no_fault c.in_ok-made.made ReadLog) in
+    let last = c.in_ok-end.ensures.cause.innocent (ok_is_no_fault c.in_ok-end.end ReadLog) in
     let file = c.file-file.result in
     other_failed c.from_residual-in_err-write_in_place.result _ _ _
     (stays_other c.from_residual-in_err-write_in_place.result file.kept file.frames.now (store_text c.in_ok-made.made.remade.store) (g.LW.Sink.taken c.args.out_log.now) (g.LW.Sink.taken c.write_in_place.new.log)
     (g.LW.Sink.flushed c.args.out_log.now) (g.LW.Sink.flushed c.write_in_place.new.log) (g.SW.Sink.taken c.args.out_store.now) (g.SW.Sink.taken c.write_in_place.new.store) c.in_err-write_in_place.field-0.0
-    (rw (exit.1, exit.2) refl) c.in_err-write_in_place.ensures.fault) first then
+    (rw (exit.1, exit.2) refl) c.in_err-write_in_place.ensures.fault) first (last ∙ then)
 
 pub returns-clause-log_source : goal.returns-clause-log_source
 returns-clause-log_source g c =
-    let (text, read, decodes) = both_read {log_left = None} {log = []} c.in_ok-decoded.decoded tt c.in_ok-decoded.was c.read_store.ensures.read in
-    let first = c.in_ok-read_through.ensures.cause.innocent (ok_is_no_fault tt ReadLog) in
+    let (text, read, decodes) = both_read {log_left = None} {log = []} c.in_ok-decoded.decoded tt c.in_ok-decoded.was c.read_store_first.ensures.read in
+    let first = c.in_ok-decoded.ensures.log_source.innocent (ok_is_no_fault c.in_ok-decoded.decoded ReadLog) in
     let then = (c.in_ok-made.ensures.cause text decodes).innocent (ok_is_no_fault c.in_ok-made.made ReadLog) in
-    none_failed _ _ _ (then ∙ first)
+    let last = c.in_ok-end.ensures.cause.innocent (ok_is_no_fault c.in_ok-end.end ReadLog) in
+    none_failed _ _ _ (last ∙ then ∙ first)
 
 pub returns-clause-lawful : goal.returns-clause-lawful
 returns-clause-lawful g c = λ base log_text store_bytes is tells_store holds range bytes.
-    let (text, read, decodes) = both_read {log_left = Some log_text} {log = log_text} c.in_ok-decoded.decoded refl c.in_ok-decoded.was c.read_store.ensures.read in
-    let still = still_told (g.LR.Reread.text c.args.log.now) (g.LR.Reread.text c.read_through.new.log) log_text c.in_ok-read_through.ensures.same is in
-    let short : length log_text < 2 ^ 64 = at_some (λ (held : List ℕ). length held < 2 ^ 64) (g.LR.Reread.text c.args.log.now) log_text is c.in_ok-read_through.ensures.end in
+    let (text, read, decodes) = both_read {log_left = Some log_text} {log = log_text} c.in_ok-decoded.decoded refl c.in_ok-decoded.was c.read_store_first.ensures.read in
+    let still = ap g.LR.Reread.text c.in_ok-decoded.ensures.log_unread ∙ is in
     let x = c.in_ok-made.made in
-    let measured = c.in_ok-made.ensures.measured log_text still short in
+    let measured = c.in_ok-made.ensures.measured log_text still in
     let recovers = c.in_ok-made.ensures.answer log_text text still decodes in
     let left = g.SR.Source.left c.args.store.now in
     let kept = length log_text - x.remade.report.torn in
@@ -201,7 +231,7 @@ returns-clause-lawful g c = λ base log_text store_bytes is tells_store holds ra
     record {
       new_log = log_of log_text x.remade;
       new_store = store_text x.remade.store;
-      recovered = c.in_ok-made.ensures.lawful base log_text text still short decodes (told_lawful log_text text log_text store_bytes read refl tells_store bytes);
+      recovered = c.in_ok-made.ensures.lawful base log_text text still decodes (told_lawful log_text text log_text store_bytes read refl tells_store bytes);
       log_is = holds_more kept x.remade.frames.items log_text _ _ holds done.continued;
       store_out = c.in_ok-write_in_place.ensures.store_out.out;
     }
@@ -212,11 +242,10 @@ returns-clause-interrupted g c = λ base log_text store_bytes is tells_store hol
 
 pub returns-clause-answer : goal.returns-clause-answer
 returns-clause-answer g c = λ log_text is.
-    let (text, read, decodes) = both_read {log_left = Some log_text} {log = log_text} c.in_ok-decoded.decoded refl c.in_ok-decoded.was c.read_store.ensures.read in
-    let still = still_told (g.LR.Reread.text c.args.log.now) (g.LR.Reread.text c.read_through.new.log) log_text c.in_ok-read_through.ensures.same is in
-    let short : length log_text < 2 ^ 64 = at_some (λ (held : List ℕ). length held < 2 ^ 64) (g.LR.Reread.text c.args.log.now) log_text is c.in_ok-read_through.ensures.end in
+    let (text, read, decodes) = both_read {log_left = Some log_text} {log = log_text} c.in_ok-decoded.decoded refl c.in_ok-decoded.was c.read_store_first.ensures.read in
+    let still = ap g.LR.Reread.text c.in_ok-decoded.ensures.log_unread ∙ is in
     let x = c.in_ok-made.made in
-    let measured = c.in_ok-made.ensures.measured log_text still short in
+    let measured = c.in_ok-made.ensures.measured log_text still in
     let recovers = c.in_ok-made.ensures.answer log_text text still decodes in
     let left = g.SR.Source.left c.args.store.now in
     let kept = length log_text - x.remade.report.torn in
