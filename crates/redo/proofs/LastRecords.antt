@@ -1,11 +1,8 @@
 -- The records that are the last in the slots of the pages, slot by slot and page by page.
-use Rattle.std.specs.declared.cmp.Ordering.{Ordering}
-use Rattle.std.specs.declared.cmp.Ordering.TheVariants.{Less, Equal, Greater}
-use Rattle.std.specs.Ordering.{is_lt, ordering_then, nat_cmp}
-use Rattle.std.proofs.Common.{false, cond, eqb, ◌≡◌, ◌≢◌, ℕ, ◌+◌, ◌<◌, ◌≤◌, ◌⊎◌, List, [], ◌∷◌, ◌++◌, Contains, Some, length, get_or, refl, sym, ap, ◌∙◌, subst, inl, inr, arith}
+use Rattle.std.proofs.Common.{◌≡◌, ◌≢◌, ℕ, ◌+◌, ◌<◌, ◌≤◌, ◌⊎◌, List, [], ◌∷◌, ◌++◌, Contains, Some, length, get_or, refl, sym, ap, ◌∙◌, subst, inl, inr, arith}
 use Rattle.std.specs.Prelude.{◌↔◌}
 use Rattle.std.specs.List.{slice_get}
-use Rattle.std.proofs.lemmas.Bool.{cases_eq, cases_lt, lt-ltb, false≢true}
+use Rattle.std.proofs.lemmas.Bool.{cases_eq}
 use Rattle.std.proofs.lemmas.List.Elements.{Contains-append_left, Contains-push, Contains-push_cases}
 use Rattle.std.proofs.lemmas.Option.{slice_get-get_or, slice_get_within, get_or_from_slice_get, same_Some}
 use Rattle.redo.specs.declared.tally.Tally.{Tally}
@@ -113,12 +110,3 @@ all_pages tallies page items all before w = (
   λ has. ((before w).0 has).0,
   λ one. (before w).1 (one, omega (arith, slice_get_within tallies w.page one.tally one.there, all)),
 )
-
--- BY RISING LSN
--- what is not before by its order has no smaller LSN
-pub lsn_rises : (m n : ℕ) (rest : Ordering) → is_lt (ordering_then (nat_cmp n m) rest) ≡ false → m ≤ n
-lsn_rises m n rest e =
-    elim (cases_lt n m) [
-      | inl lt ↦ absurd (false≢true (sym e ∙ ap (λ b. is_lt (ordering_then (cond b Less (cond (eqb n m) Equal Greater)) rest)) (lt-ltb n m lt)))
-      | inr le ↦ le
-    ]

@@ -1,6 +1,6 @@
 -- The tallies while a log goes by in pieces: one record more, and what is passed over.
-use Rattle.std.proofs.Common.{◌≡◌, ℕ, zero, suc, replicate, ◌+◌, ◌<◌, ◌≤◌, List, [], All, Some, length, get_or, set, refl, sym, ap, ◌∙◌, subst, inl, inr, arith}
-use Rattle.std.proofs.lemmas.Bool.{cases_eq, cases_lt, cond_both}
+use Rattle.std.proofs.Common.{◌≡◌, ◌≢◌, ℕ, zero, suc, replicate, ◌+◌, ◌<◌, ◌≤◌, true, eqb, eq-eqb, List, [], ◌∷◌, All, Some, length, get_or, set, refl, sym, ap, ◌∙◌, subst, inl, inr, arith}
+use Rattle.std.proofs.lemmas.Bool.{cases_Bool, cases_eq, cases_lt, cond_both}
 use Rattle.std.proofs.lemmas.List.{get_or-set_same, get_or-set_other, length-set, set_past}
 use Rattle.std.proofs.lemmas.Option.{same_Some}
 use Rattle.page.specs.declared.page.Page.{Page}
@@ -8,7 +8,7 @@ use Rattle.page.specs.Store.{AreNumbered}
 use Rattle.tables.specs.Tables.{TablesContent}
 use Rattle.wal.specs.declared.header.LogStart.TheVariants.{Version2}
 use Rattle.wal.specs.Records.{LogRecord, LogContent, start, history, record_at, last_lsn, base_lsn}
-use Rattle.wal.specs.Redo.{is_redone}
+use Rattle.wal.specs.Redo.{rec_lsn_of, is_redone}
 use Rattle.wal.proofs.Histories.{base_within, first_at_base, record_above, record_within}
 use Rattle.redo.specs.declared.tally.Tally.{Tally}
 use Rattle.redo.specs.Inputs.{InputContent, input_over}
@@ -18,7 +18,7 @@ use Rattle.tables.specs.Pieces.{IsPieceOf}
 use Rattle.redo.specs.Redone.{ExistBelow, AllExist, IsFirstMissing}
 use Rattle.redo.specs.Parts.{redo_page_in, image_at, resolved}
 use Rattle.redo.specs.OnePass.{AreUpTo}
-use Rattle.redo.specs.Passing.{TalliesSoFar, StandAtNumbers, LastsAreWithin, AreKept, AreBegunIn, IsPieceFor}
+use Rattle.redo.specs.Passing.{TalliesSoFar, StandAtNumbers, LastsAreWithin, AreKept, ListEach, AreBegunIn, IsPieceFor}
 use Rattle.redo.proofs.Stretches.{skipped_within, skipped_from, skipped_of_piece}
 use Rattle.redo.proofs.Replay.{skips_none}
 use Rattle.redo.proofs.Noting.{exist_on}
@@ -73,6 +73,25 @@ module _ (redo_lsn lsn slot number : ℕ) (tallies new : List Tally) (below : nu
   lasts_on each k i t lt =
       one_set (λ _ t. (i : ℕ) → get_or t.lasts i 0 ≤ lsn) (λ _ t. (i : ℕ) → get_or t.lasts i 0 ≤ lsn) tallies new number (counted redo_lsn lsn slot) below is (λ k t e. e) (λ t e. counted_lasts redo_lsn lsn slot t e)
       (λ k t lt i. each k i t lt) k t lt i
+
+-- TABLES THAT LIST EACH PAGE below a count, no transaction, and the LSN to redo from
+abbrev pub listing : (count first : ℕ) → List (ℕ × ℕ)
+listing zero first = []
+listing (suc n) first = (n, first) ∷ listing n first
+
+listed_below : (count first page : ℕ) → page < count → rec_lsn_of page (listing count first) ≡ Some first
+listed_below zero first page lt = absurd (omega (arith, lt))
+listed_below (suc n) first page lt =
+    elim (cases_Bool (eqb n page)) [
+      | inl e ↦ rw e refl
+      | inr e ↦ rw e (listed_below n first page (let other : n ≢ page = λ same. (let f : eqb n page ≡ true = eq-eqb n page same in cc) in omega (arith, lt, other)))
+    ]
+
+abbrev pub tables_of_all : (count first : ℕ) → TablesContent
+tables_of_all count first = record { transactions = []; dirty = listing count first; redo_lsn = first }
+
+pub all_listed : (count first : ℕ) → ListEach count first (tables_of_all count first)
+all_listed count first = record { begins = refl; pages = λ page lt. listed_below count first page lt }
 
 -- BEFORE THE FIRST PIECE
 zeros : (n i : ℕ) → let none : ℕ = 0 in get_or (replicate n none) i none ≡ none

@@ -8,6 +8,7 @@ use Rattle.page.specs.declared.sizes.TheConstants.{SLOTS}
 use Rattle.wal.specs.Records.{LogRecord, LogContent, history, record_at, base_lsn, start}
 use Rattle.wal.specs.declared.glance.Glance.{Glance}
 use Rattle.wal.specs.Glances.{glance_of}
+use Rattle.wal.specs.Redo.{rec_lsn_of}
 use Rattle.tables.specs.Tables.{TablesContent}
 use Rattle.tables.specs.Pieces.{IsPieceOf}
 use Rattle.redo.specs.declared.tally.Tally.{Tally}
@@ -34,6 +35,11 @@ pub record AreKept (upto : ℕ) (tallies : List Tally) : Type 0 where
   pub numbered : StandAtNumbers tallies
   pub few : All (λ (t : Tally). t.applied ≤ upto) tallies
   pub lasts : LastsAreWithin upto tallies
+
+-- the tables list each page below the count from this LSN on, and redo begins there
+pub record ListEach (count first : ℕ) (tables : TablesContent) : Type 0 where
+  pub begins : tables.redo_lsn ≡ first
+  pub pages : (page : ℕ) → page < count → rec_lsn_of page tables.dirty ≡ Some first
 
 -- a page of the store to which no record was applied, whatever the log is
 pub record IsBegunIn (images : List Page) (tables : TablesContent) (number : ℕ) (tally : Tally) : Type 0 where

@@ -4,13 +4,14 @@ ghost use Rattle.std.specs.Prelude.{◌≡◌, ℕ, ◌+◌, ◌<◌, ◌≤◌,
 ghost use Rattle.page.specs.declared.fault.Fault.TheVariants.{NoResource, NoSuchPage};
 ghost use Rattle.wal.specs.Records.{LogRecord, history, record_at, last_lsn, base_lsn};
 ghost use Rattle.wal.specs.Glances.{glance_of};
+ghost use Rattle.tables.specs.Tables.{TablesContent};
 ghost use Rattle.redo.specs.Inputs.{InputContent, input_over};
 ghost use Rattle.redo.specs.Changes.{NamesBelow, advance};
 ghost use Rattle.redo.specs.Routes.{skipped_in, NoteFault, IsSeen};
 ghost use Rattle.redo.specs.Redone.{AllExist, RedoFault};
 ghost use Rattle.redo.specs.Parts.{AreAllTallied, resolved};
 ghost use Rattle.redo.specs.OnePass.{AreUpTo};
-ghost use Rattle.redo.specs.Passing.{StandAtNumbers, LastsAreWithin, AreBegunIn};
+ghost use Rattle.redo.specs.Passing.{StandAtNumbers, LastsAreWithin, AreBegunIn, ListEach};
 ghost use Rattle.redo.specs.declared.tally.Tally.{Tally};
 
 use crate::input::RedoInput;
@@ -29,7 +30,23 @@ pub fn begin_each(alloc: Global, store: &Store, tables: &Tables) -> Result<Vec<T
 {
     let mut tallies = Vec::with_capacity(alloc, store.pages.len())?;
     for number in 0..store.pages.len() {
-        tallies.push(begin_in(store, tables, number as u32))?;
+        let page = number as u32;
+        tallies.push(begin_in(store, page, tables.rec_lsn(page)))?;
+    }
+    Ok(tallies)
+}
+
+/// The tallies of all pages of the store, to which no record was applied, whatever the log is, by
+/// tables that list each page from the LSN `first` on. The only error is `NoResource`.
+pub fn begin_each_listed(alloc: Global, store: &Store, first: u64) -> Result<Vec<Tally>, Fault>
+    ensures begun { IfOk result (λ tallies. (tables : TablesContent)
+        → ListEach (length store.now.pages) first tables
+        → AreBegunIn store.now.pages tables tallies.items) }
+    ensures err { IsOkUnless result NoResource }
+{
+    let mut tallies = Vec::with_capacity(alloc, store.pages.len())?;
+    for number in 0..store.pages.len() {
+        tallies.push(begin_in(store, number as u32, Some(first)))?;
     }
     Ok(tallies)
 }

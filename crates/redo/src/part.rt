@@ -4,6 +4,8 @@ ghost use Rattle.std.specs.Prelude.{◌≡◌, ℕ, ◌+◌, ◌<◌, ◌^◌, A
 ghost use Rattle.std.specs.List.{fold};
 ghost use Rattle.page.specs.declared.fault.Fault.TheVariants.{NoResource};
 ghost use Rattle.wal.specs.Records.{start, history, base_lsn};
+ghost use Rattle.wal.specs.Redo.{rec_lsn_of};
+ghost use Rattle.tables.specs.Tables.{TablesContent};
 ghost use Rattle.redo.specs.Changes.{counted, step, lsn_in};
 ghost use Rattle.redo.specs.Routes.{AreRoutes, Stands};
 ghost use Rattle.redo.specs.Parts.{IsUpTo, IsDone, HasPart, numbers_of, redo_page_in, image_at, resolved};
@@ -18,7 +20,6 @@ use crate::route::Route;
 use crate::tally::Tally;
 use page::{Fault, SLOTS, Store, Value};
 use std::alloc::Global;
-use tables::Tables;
 
 /// How many slots a page has. A function of its own, since an array's length is known of an argument.
 pub fn count_slots(slots: &[Option<Value>; SLOTS]) -> usize
@@ -42,11 +43,13 @@ fn page_lsn(store: &Store, number: u32) -> u64
     }
 }
 
-/// A page of the store to which no record was applied, whatever the log is.
-pub fn begin_in(store: &Store, tables: &Tables, number: u32) -> Tally
-    ensures { IsBegunIn store.now.pages tables.now number result }
+/// A page of the store to which no record was applied, by tables that have this RecLSN for it,
+/// whatever the log is.
+pub fn begin_in(store: &Store, number: u32, rec_lsn: Option<u64>) -> Tally
+    ensures { (tables : TablesContent) → rec_lsn_of number tables.dirty ≡ rec_lsn
+        → IsBegunIn store.now.pages tables number result }
 {
-    Tally::begin(number, page_lsn(store, number), tables.rec_lsn(number))
+    Tally::begin(number, page_lsn(store, number), rec_lsn)
 }
 
 /// A page to which no record was applied.
@@ -55,7 +58,7 @@ fn begin_page(input: &RedoInput, number: u32) -> Tally
         ≡ redo_page_in input.now (start (base_lsn (history input.now.log)))
         (image_at input.now.images number) }
 {
-    begin_in(input.store, input.tables, number)
+    begin_in(input.store, number, input.tables.rec_lsn(number))
 }
 
 /// The pages of a part, to which no record was applied. The only error is `NoResource`.

@@ -6,11 +6,12 @@ ghost use Rattle.std.specs.List.Sorted.{IsNonDecreasingBy};
 ghost use Rattle.page.specs.declared.fault.Fault.TheVariants.{NoResource, NoSuchPage};
 ghost use Rattle.wal.specs.Records.{LogRecord, LogContent, History, history, last_lsn, base_lsn};
 ghost use Rattle.wal.specs.Glances.{glance_of};
+ghost use Rattle.tables.specs.Tables.{TablesContent};
 ghost use Rattle.redo.specs.Inputs.{InputContent, input_over};
 ghost use Rattle.redo.specs.OnePass.{AreUpTo};
 ghost use Rattle.redo.specs.Redone.{AllExist};
 ghost use Rattle.redo.specs.Routes.{IsSeen};
-ghost use Rattle.redo.specs.Passing.{IsPieceFor, IsRecordFor, PassFault};
+ghost use Rattle.redo.specs.Passing.{ListEach, IsPieceFor, IsRecordFor, PassFault};
 ghost use Rattle.redo.specs.Wanted.{IsWanted, HoldAllBut};
 ghost use Rattle.redo.specs.declared.tally.Tally.{Tally};
 ghost use Rattle.redo.specs.declared.wanted.Wanted.{Wanted};
@@ -20,7 +21,7 @@ ghost use Rattle.page.specs.declared.page.Page.{Page};
 
 use crate::fetch::set_page_lsns;
 use crate::input::skipped_below;
-use crate::one_pass::{begin_each, count_seen};
+use crate::one_pass::{begin_each, begin_each_listed, count_seen};
 use crate::tally::Tally;
 use crate::wanted::{Wanted, want_slots};
 use page::{Fault, Page, Store};
@@ -73,6 +74,33 @@ impl TallyScan {
         Ok(TallyScan {
             tallies,
             redo_lsn: tables.redo_lsn,
+            upto: base,
+        })
+    }
+
+    /// The scan of a log with this base LSN of which nothing was read yet, where each page of the store
+    /// is listed as dirty from the LSN `first` on, and redo begins there too. It needs no tables. No
+    /// record is applied to the pages. The only error is `NoResource`.
+    pub fn begin_listed(
+        alloc: Global,
+        store: &Store,
+        first: u64,
+        base: u64,
+    ) -> Result<TallyScan, Fault>
+        ensures begun { IfOk result (λ scan. (log : LogContent) (tables : TablesContent)
+            → base_lsn (history log) ≡ base → ListEach (length store.now.pages) first tables
+            → AreUpTo (input_over log store.now.pages tables) base scan.tallies) }
+        ensures count { IfOk result (λ scan. length scan.tallies ≡ length store.now.pages) }
+        ensures redo_lsn { IfOk result (λ scan. scan.redo_lsn ≡ first) }
+        ensures upto { IfOk result (λ scan. scan.upto ≡ base) }
+        ensures err { IsOkUnless result NoResource }
+    {
+        // Opens the store: its pages stand at their numbers.
+        let _ = &store.pages;
+        let tallies = begin_each_listed(alloc, store, first)?;
+        Ok(TallyScan {
+            tallies,
+            redo_lsn: first,
             upto: base,
         })
     }
@@ -186,7 +214,7 @@ impl TallyScan {
         for tally in &self.tallies {
             want_slots(tally.number, &tally.lasts, &mut wanted)?;
         }
-        wanted.sort_unstable();
+        wanted.sort_unstable_by_key(|entry| entry.lsn);
         Ok(wanted)
     }
 

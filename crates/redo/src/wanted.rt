@@ -6,9 +6,8 @@ ghost use Rattle.redo.specs.Wanted.{IsLastIn};
 
 use page::{Fault, SLOTS};
 
-/// A record whose image redo puts into a slot of a page: the last one there that was applied. The
-/// order is by LSN first.
-#[derive(Clone, Copy, PartialEq, Eq, PartialOrd, Ord)]
+/// A record whose image redo puts into a slot of a page: the last one there that was applied.
+#[derive(Clone, Copy, PartialEq, Eq)]
 pub struct Wanted {
     /// The record's LSN, which is not 0.
     pub lsn: u64,

@@ -13,7 +13,7 @@ loop-number-preserved c =
     let before = c.loop-number.invariant in
     let items : c.push.new.self.items ≡ old ++ c.begin_in.result ∷ [] = c.in_ok-push.ensures.items in (
       ap (λ (ts : List Tally). length ts) items ∙ omega (arith, length-append old (c.begin_in.result ∷ []), before.0),
-      λ k t lt. subst (λ (ts : List Tally). IsBegunIn images tables k (get_or ts k t)) (sym items) (begun_more images tables number old c.begin_in.result before.0 before.1 c.begin_in.ensures k t lt),
+      λ k t lt. subst (λ (ts : List Tally). IsBegunIn images tables k (get_or ts k t)) (sym items) (begun_more images tables number old c.begin_in.result before.0 before.1 (c.begin_in.ensures tables (sym c.rec_lsn.ensures)) k t lt),
     )
 
 pub returns-clause-begun : goal.returns-clause-begun
