@@ -19,7 +19,7 @@ use Rattle.analysis.proofs.Smallest.{not_below}
 use Rattle.redo.specs.Changes.{page_named}
 use Rattle.redo.specs.Redone.{redone_page, applied_to, IsLookedAt, AllExist, IsFirstMissing, RedoFault, RepeatsHistory}
 use Rattle.redo.specs.declared.redone.Redone.{Redone}
-use Rattle.passes.specs.Listing.{ListEach}
+use Rattle.redo.specs.Passing.{ListEach}
 
 -- ---- what redo makes of a page by either of two tests that say the same of each record on it
 module _ (one other : ℕ → Bool) (page : ℕ) where
@@ -149,15 +149,6 @@ page_of r page named = by (change_of r) named
     by : (o : Option Change) → option_map (λ (x : ℕ × ℕ). x.0) (option_map (λ (c : Change). (c.page, c.slot)) o) ≡ Some page → is_on_page page o ≡ true
     by None named = absurd cc
     by (Some c) named = (let at : c.page ≡ page = cc in eq-eqb c.page page at)
-
--- ---- the tables while the pages are listed
-pub listed_more : (number page first : ℕ) (old new : List (ℕ × ℕ)) → ((p : ℕ) → p < number → rec_lsn_of p old ≡ Some first) → rec_lsn_of page new ≡ cond (eqb number page) (Some first) (rec_lsn_of page old) → page < number + 1
-    → rec_lsn_of page new ≡ Some first
-listed_more number page first old new before step lt =
-    elim (cases_Bool (eqb number page)) [
-      | inl e ↦ step ∙ rw e refl
-      | inr e ↦ step ∙ rw e (before page (let other : number ≢ page = λ same. (let f : eqb number page ≡ true = eq-eqb number page same in cc) in omega (arith, lt, other)))
-    ]
 
 -- ---- redo from the first record on is redo by the tables that analysis finds
 module _ (whole : LogContent) (found : TablesContent) (are : AreTablesOf whole 0 found) where

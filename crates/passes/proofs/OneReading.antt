@@ -19,24 +19,27 @@ use Rattle.pieces.specs.Pieces.{IsMark}
 use Rattle.pieces.proofs.Beginnings.{same_start}
 use Rattle.redo.specs.Inputs.{input_over}
 use Rattle.redo.specs.OnePass.{AreUpTo}
-use Rattle.redo.specs.Passing.{TalliesSoFar}
+use Rattle.redo.specs.Passing.{TalliesSoFar, ListEach}
 use Rattle.redo.specs.Redone.{RedoFault}
 use Rattle.redo.proofs.Stretches.{skipped_from}
-use Rattle.passes.specs.Listing.{ListEach, AreTalliedByAll, TalliedOrRefused}
+use Rattle.redo.proofs.Passing.{tables_of_all, all_listed}
+use Rattle.passes.specs.Listing.{AreTalliedByAll, TalliedOrRefused}
 use Rattle.passes.proofs.Forward.{is_whole}
 use Rattle.passes.proofs.Listing.{fault_by_found}
 use Rattle.passes.proofs.Redoing.{tallied_first}
 
 -- THE TALLIES
 -- before the first record
-pub tallied_all_first : (whole : LogContent) (images : List Page) (listed : TablesContent) (base : ℕ) (scan : TalliesSoFar) → AreNumbered images → ListEach (length images) (base + 1) listed → scan.redo_lsn ≡ listed.redo_lsn → scan.upto ≡ base
-    → base_lsn (history whole) ≡ base → AreUpTo (input_over whole images listed) base scan.tallies → AreTalliedByAll whole images base scan
-tallied_all_first whole images listed base scan numbered each from upto at up =
+pub tallied_all_first : (whole : LogContent) (images : List Page) (base : ℕ) (scan : TalliesSoFar) → AreNumbered images → scan.redo_lsn ≡ base + 1 → scan.upto ≡ base → base_lsn (history whole) ≡ base
+    → ((tables : TablesContent) → ListEach (length images) (base + 1) tables → AreUpTo (input_over whole images tables) base scan.tallies) → AreTalliedByAll whole images base scan
+tallied_all_first whole images base scan numbered from upto at up =
     let within = base_within (history whole) in
+    let listed : TablesContent = tables_of_all (length images) (base + 1) in
+    let each : ListEach (length images) (base + 1) listed = all_listed (length images) (base + 1) in
     record {
       listed = listed;
       each = subst (λ n. ListEach (length images) (n + 1) listed) (sym at) each;
-      tallied = tallied_first whole images listed base base scan numbered from (omega (arith, upto)) (sym at) (omega (arith, at, within)) (omega (arith, at, skipped_from (base_lsn (history whole)) listed.redo_lsn (last_lsn (history whole)) within)) up;
+      tallied = tallied_first whole images listed base base scan numbered from (omega (arith, upto)) (sym at) (omega (arith, at, within)) (omega (arith, at, skipped_from (base_lsn (history whole)) listed.redo_lsn (last_lsn (history whole)) within)) (up listed each);
     }
 
 pub none_missing : (whole : LogContent) (images : List Page) (lsn : ℕ) (missing : Option Fault) (scan : TalliesSoFar) → is_some missing ≡ false → TalliedOrRefused whole images lsn missing scan → AreTalliedByAll whole images lsn scan

@@ -1,18 +1,12 @@
 -- Redo of a log without a checkpoint, before analysis has found its tables (own).
-use Rattle.std.specs.Prelude.{◌≡◌, ℕ, ◌+◌, ◌<◌, List, Option, Some, None, length}
+use Rattle.std.specs.Prelude.{ℕ, ◌+◌, List, Option, Some, None, length}
 use Rattle.page.specs.declared.fault.Fault.{Fault}
 use Rattle.page.specs.declared.page.Page.{Page}
 use Rattle.wal.specs.Records.{LogContent, history, base_lsn}
-use Rattle.wal.specs.Redo.{rec_lsn_of}
 use Rattle.tables.specs.Tables.{TablesContent}
-use Rattle.redo.specs.Passing.{TalliesSoFar}
+use Rattle.redo.specs.Passing.{TalliesSoFar, ListEach}
 use Rattle.redo.specs.Redone.{RedoFault}
 use Rattle.passes.specs.Redoing.{AreTalliedUpTo}
-
--- the tables list each page below the count from this LSN on, and redo begins there
-pub record ListEach (count first : ℕ) (tables : TablesContent) : Type 0 where
-  pub begins : tables.redo_lsn ≡ first
-  pub pages : (page : ℕ) → page < count → rec_lsn_of page tables.dirty ≡ Some first
 
 -- TALLIED BY ALL. The tallies tell of the pages as the records of the whole log up to an LSN leave them, by tables that list each page
 -- of the store from the log's first record on.

@@ -19,7 +19,7 @@ ghost use Rattle.analysis.specs.Tables.{AreTablesOf, entry_at};
 ghost use Rattle.redo.specs.Redone.{RedoFault};
 ghost use Rattle.redo.specs.Routes.{IsSeen};
 ghost use Rattle.pieces.specs.Pieces.{IsMark};
-ghost use Rattle.passes.specs.Listing.{ListEach, AreTalliedByAll, TalliedOrRefused};
+ghost use Rattle.passes.specs.Listing.{AreTalliedByAll, TalliedOrRefused};
 ghost use Rattle.passes.specs.Marks.{failures_of, LogCause, AreFound};
 
 use crate::find::mark_at_start;
@@ -33,23 +33,6 @@ use std::alloc::Global;
 use std::collections::BTreeMap;
 use tables::Tables;
 use wal::{Glance, Log};
-
-/// Tables by which redo begins before analysis has found those of the crash: each page of the store is
-/// listed from the LSN `first` on, and no transaction is. The only error is `NoResource`.
-fn tables_of_all(alloc: Global, store: &Store, first: u64) -> Result<Tables, Fault>
-    ensures each { IfOk result (ListEach (length store.now.pages) first) }
-    ensures err { IsOkUnless result NoResource }
-{
-    let mut dirty = BTreeMap::new(alloc);
-    for number in 0..store.pages.len() {
-        dirty.insert(number as u32, first)?;
-    }
-    Ok(Tables {
-        transactions: BTreeMap::new(alloc),
-        dirty,
-        redo_lsn: first,
-    })
-}
 
 /// Analysis and redo while a log without a checkpoint is read.
 #[derive(Drop)]
@@ -76,8 +59,8 @@ fn begin_scan(alloc: Global, store: &Store, base: u64) -> Result<ForwardScan, Fa
 {
     // Opens the store: its pages stand at their numbers.
     let _ = &store.pages;
-    let listed = tables_of_all(alloc, store, base + 1)?;
-    let tallies = TallyScan::begin(alloc, store, &listed, base)?;
+    // Analysis has not found the tables of the crash yet, so redo takes each page for dirty.
+    let tallies = TallyScan::begin_listed(alloc, store, base + 1, base)?;
     let tables = TableScan::begin(BTreeMap::new(alloc), BTreeMap::new(alloc));
     Ok(ForwardScan {
         tables,

@@ -21,4 +21,4 @@ returns-clause-analysed c = λ whole log before.
 pub returns-clause-tallied : goal.returns-clause-tallied
 returns-clause-tallied c = λ whole at.
     let numbered : AreNumbered c.args.store.now.pages = subst AreNumbered (ap (λ (s : StoreContent). s.pages) c.store.view_is) c.store.invariant in
-    tallied_all_first whole c.args.store.now.pages c.in_ok-listed.listed c.args.base c.in_ok-tallies.tallies numbered c.in_ok-listed.ensures.each c.in_ok-tallies.ensures.redo_lsn c.in_ok-tallies.ensures.upto at (c.in_ok-tallies.ensures.begun whole at)
+    tallied_all_first whole c.args.store.now.pages c.args.base c.in_ok-tallies.tallies numbered c.in_ok-tallies.ensures.redo_lsn c.in_ok-tallies.ensures.upto at (λ tables each. c.in_ok-tallies.ensures.begun whole tables at each)
