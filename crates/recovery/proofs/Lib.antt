@@ -1,5 +1,6 @@
 pub mod Alike
 pub mod ByPieces
+pub mod Copies
 pub mod Bytes
 pub mod Decoded
 pub mod Delivered

@@ -7,3 +7,4 @@ pub mod OneAnswer
 pub mod TailFile
 pub mod InPlace
 pub mod ByPieces
+pub mod Copying

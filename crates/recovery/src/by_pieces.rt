@@ -242,7 +242,7 @@ pub fn recover_by_pieces<LR: Reread, SR: Source, T: Sink, LW: Continue, SW: Sink
         × IsContinued made.kept made.frames (LW.taken out_log.old) (LW.taken out_log.new)
         (LW.flushed out_log.old) (LW.flushed out_log.new)) }
 
-    // A device is blamed where it failed, and nowhere else.
+    // A device is blamed where it failed, and nowhere else. If both sources failed, the log's is blamed.
     ensures log_source { Fails ReadLog result (LR.failures log.old) (LR.failures log.new) }
     ensures store_source { StoreFails result (SR.failures store.old) (SR.failures store.new) }
     ensures log_sinks { Fails WriteLog result (T.failures tail.old + LW.failures out_log.old)

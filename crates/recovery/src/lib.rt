@@ -3,6 +3,7 @@
 #![tactic(auto)]
 
 mod by_pieces;
+mod copying;
 mod decoding;
 mod devices;
 mod in_place;
@@ -18,6 +19,7 @@ mod texts;
 mod unthreaded;
 
 pub use by_pieces::recover_by_pieces;
+pub use copying::recover_copying;
 pub use devices::{read_source, recover};
 pub use in_place::{continue_log, recover_in_place};
 pub use laws::{

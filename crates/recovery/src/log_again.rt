@@ -53,7 +53,7 @@ pub fn fault_of(stopped: PassFault) -> Fault
 
 /// The bytes that a log's device holds from an offset on: as many as there is room for, fewer only at
 /// its end.
-fn read_from<L: Reread>(log: &mut L, offset: u64, buffer: &mut [u8]) -> Result<usize, Fault>
+pub fn read_from<L: Reread>(log: &mut L, offset: u64, buffer: &mut [u8]) -> Result<usize, Fault>
     requires { offset + length buffer.old ≤ 2 ^ 64 }
     ensures within { IfOk result (λ count. count ≤ length buffer.new) }
     ensures bytes { IfOk result (λ count. ReadsFrom (L.text log.old) offset count buffer.new) }

@@ -1,0 +1,96 @@
+-- A log that is copied piece by piece: what is out of it, and what a fault leaves.
+use Rattle.std.proofs.Common.{ℕ, ◌≡◌, ◌+◌, ◌≤◌, List, ◌++◌, take, drop, Option, Some, Err, ap, ap₂, sym, subst, ◌∙◌, inl, inr, arith, take-take, take-append-drop}
+use Rattle.std.proofs.KnownBytes.{Appends-trans, Keeps-refl}
+use Rattle.std.proofs.lemmas.List.{drop-take}
+use Rattle.std.specs.Io.KnownBytes.{Appends}
+use Rattle.page.specs.declared.fault.Fault.{Fault}
+use Rattle.page.specs.declared.fault.Fault.TheVariants.{ReadLog, WriteLog, WriteStore}
+use Rattle.page.specs.File.{store_text}
+use Rattle.wal.specs.Meaning.{BasePages}
+use Rattle.wal.specs.Reads.{Reads}
+use Rattle.wal.specs.Tail.{with_tail}
+use Rattle.device.specs.Transfer.{TookBeginning}
+use Rattle.restart.specs.declared.options.Options.{Options}
+use Rattle.recovery.specs.declared.by_pieces.Made.{Made}
+use Rattle.recovery.specs.Recovery.{Recovers, AreLawful, log_of}
+use Rattle.recovery.specs.Devices.{Fails, AreRead, Makes, DeviceCause, IsResourceOrDevice}
+use Rattle.recovery.specs.ByPieces.{IsOfLog, IsMeasured}
+use Rattle.recovery.specs.Copying.{LeavesCopied, IsOutCopied, LeavesCutCopied}
+use Rattle.recovery.proofs.Delivered.{behind_front, makes}
+use Rattle.recovery.proofs.Resuming.{leaves_cut}
+use Rattle.recovery.proofs.Taken.{begins_longer}
+
+-- PIECES
+-- the bytes up to an offset, and a piece after them
+piece_more : (offset n : ℕ) (text : List ℕ) → take offset text ++ take n (drop offset text) ≡ take (offset + n) text
+piece_more offset n text =
+    ap₂ (λ (a b : List ℕ). a ++ b) (sym (take-take offset (offset + n) text (omega arith))) (sym (drop-take offset n text))
+    ∙ take-append-drop offset (take (offset + n) text)
+
+module _ (before between after : Option (List ℕ)) (offset n : ℕ) (text : List ℕ) (came : Appends before between (take offset text)) where
+  -- are copied
+  pub copied_more : Appends between after (take n (drop offset text)) → Appends before after (take (offset + n) text)
+  copied_more more = subst (Appends before after) (piece_more offset n text) (Appends-trans before between after _ _ came more)
+
+  -- or, after a fault, a beginning of all that is to be copied
+  pub copied_part : (kept : ℕ) → offset + n ≤ kept → TookBeginning between after (take n (drop offset text)) → TookBeginning before after (take kept text)
+  copied_part kept le took =
+      let upto = take (offset + n) text in
+      let some : TookBeginning before after upto = subst (TookBeginning before after) (piece_more offset n text) (behind_front before between after (take offset text) (take n (drop offset text)) came took) in
+      let all : upto ++ drop (offset + n) (take kept text) ≡ take kept text =
+      ap (λ (t : List ℕ). t ++ drop (offset + n) (take kept text)) (sym (take-take (offset + n) kept text le)) ∙ take-append-drop (offset + n) (take kept text) in
+      subst (TookBeginning before after) all (begins_longer before after upto (drop (offset + n) (take kept text)) some)
+
+-- WHAT IS MADE in memory, if its log is written as a copy
+module _ (store_left : Option (List ℕ)) (log store : List ℕ) (made : Made) (read : AreRead (Some log) store_left log store) (measured : IsMeasured log made)
+    (recovers : Recovers log store (log_of log made.remade) (store_text made.remade.store) made.remade.report) where
+  pub copy_is : log_of log made.remade ≡ take made.kept log ++ made.remade.frames.items
+  copy_is = ap (λ n. take n log ++ made.remade.frames.items) (sym measured.kept_is)
+
+  abbrev pub makes_copy : Makes (Some log) store_left
+  makes_copy =
+      makes log store (take made.kept log ++ made.remade.frames.items) (store_text made.remade.store) made.remade.report read
+      (subst (λ l. Recovers log store l (store_text made.remade.store) made.remade.report) copy_is recovers)
+
+-- A FAULT while it is written
+module _ (new_log new_store : List ℕ) (log_before log_after store_before store_after : Option (List ℕ)) where
+  pub copied_resource : (e : Fault) → LeavesCopied new_log new_store log_before log_after store_before store_after e → IsResourceOrDevice e
+  copied_resource ReadLog h = tt
+  copied_resource WriteLog h = tt
+  copied_resource WriteStore h = tt
+  copied_resource e h = absurd h
+
+  pub copied_cause : (log_left store_left : Option (List ℕ)) (options : Options) (e : Fault) → LeavesCopied new_log new_store log_before log_after store_before store_after e → DeviceCause log_left store_left options e
+  copied_cause log_left store_left options ReadLog h = tt
+  copied_cause log_left store_left options WriteLog h = tt
+  copied_cause log_left store_left options WriteStore h = tt
+  copied_cause log_left store_left options e h = absurd h
+
+  pub copied_cut : {base : BasePages} {log store : List ℕ} (bytes : AreLawful base log store) → Reads new_log (with_tail bytes.decoded.read) 0
+      → (e : Fault) → LeavesCopied new_log new_store log_before log_after store_before store_after e → LeavesCutCopied base bytes.decoded.read bytes.decoded.before store log_before log_after e
+  copied_cut bytes reads ReadLog h = inr (leaves_cut bytes new_log reads new_store log_before log_after store_before store_after WriteLog h)
+  copied_cut bytes reads WriteLog h = leaves_cut bytes new_log reads new_store log_before log_after store_before store_after WriteLog h
+  copied_cut bytes reads WriteStore h = leaves_cut bytes new_log reads new_store log_before log_after store_before store_after WriteStore h
+  copied_cut bytes reads e h = absurd h
+
+module _ (log_left store_left log_before log_after store_before store_after : Option (List ℕ)) where
+  pub copied_out : (made : Makes log_left store_left) (e : Fault) → LeavesCopied made.new_log made.new_store log_before log_after store_before store_after e
+      → IsOutCopied log_left store_left log_before log_after store_before store_after e
+  copied_out made ReadLog h = inr (made, h)
+  copied_out made WriteLog h = (made, h)
+  copied_out made WriteStore h = (made, h)
+  copied_out made e h = absurd h
+
+-- one before it leaves nothing
+pub nothing_copied : (log_left store_left log_taken store_taken : Option (List ℕ)) (e : Fault) → IsOfLog e → IsOutCopied log_left store_left log_taken log_taken store_taken store_taken e
+nothing_copied log_left store_left log_taken store_taken ReadLog h = inl (Keeps-refl log_taken, Keeps-refl store_taken)
+nothing_copied log_left store_left log_taken store_taken WriteLog h = absurd h
+nothing_copied log_left store_left log_taken store_taken WriteStore h = absurd h
+nothing_copied log_left store_left log_taken store_taken e h = (Keeps-refl log_taken, Keeps-refl store_taken)
+
+-- FAILURES of the log's device are those while it is copied, if it had none before
+pub failed_since : {T U : Type 0} (e : Fault) (a b c : ℕ) → b ≡ a → Fails {T = T} ReadLog (Err e) b c → Fails {T = U} ReadLog (Err e) a c
+failed_since {T} {U} e a b c same fails = record {
+  blamed = λ is. let own : e ≡ ReadLog = cc in fails.blamed (ap (λ f. Err f) own) ∙ ap (λ n. n + 1) same;
+  innocent = λ other. fails.innocent (λ is. let own : e ≡ ReadLog = cc in other (ap (λ f. Err f) own)) ∙ same;
+}

@@ -1,0 +1,289 @@
+//! Recovery of a log that is read in pieces and copied: the new log is written while the old one is read
+//! once more, so it is never in memory as a whole.
+
+ghost use Rattle.std.specs.Prelude.{◌≡◌, ◌≤◌, ◌⊎◌, ◌+◌, ◌^◌, ℕ, List, ◌++◌, length, take, drop, Some, IfOk, IfErr, OnOk, OnErr, Err, MatchResult};
+ghost use Rattle.std.specs.Io.KnownBytes.{Appends, IsAtEnd, Keeps};
+ghost use Rattle.page.specs.declared.fault.Fault.{Fault};
+ghost use Rattle.page.specs.declared.fault.Fault.TheVariants.{ReadLog, WriteLog, WriteStore};
+ghost use Rattle.page.specs.File.{store_text};
+ghost use Rattle.device.specs.Failures.{Counts};
+ghost use Rattle.device.specs.Transfer.{TookBeginning, Flushes};
+ghost use Rattle.wal.specs.Meaning.{BasePages};
+ghost use Rattle.restart.specs.Options.{AreInRange, OptionsFault};
+ghost use Rattle.recovery.specs.Recovery.{AreLawful, AreCut};
+ghost use Rattle.recovery.specs.Devices.{Fails, Makes, Writes, AreOut, DeviceCause, Delivers, Completes, IsResourceOrDevice};
+ghost use Rattle.recovery.specs.ByPieces.{StoreFails};
+ghost use Rattle.recovery.specs.Copying.{IsOfCopying, LeavesCopied, IsOutCopied, LeavesCutCopied};
+ghost use Rattle.recovery.specs.declared.log_again.TheConstants.{ROOM};
+ghost use Rattle.recovery.specs.declared.store_pieces.TheConstants.{PIECE};
+
+use crate::Report;
+use crate::by_pieces::{Made, make_by_pieces};
+use crate::log_again::{ROOM, read_from, read_store_first, room_for_log};
+use crate::store_pieces::{room_for_pieces, write_store};
+use device::{Failed, Reread, Sink, Source, write_all};
+use page::Fault;
+use restart::{Options, check_options};
+use std::alloc::Global;
+
+/// Copies the bytes that a log's device holds from an offset on to a sink, behind those that it took
+/// before: as many as the room takes. `BadLsn` with the offset if the device no longer holds them all.
+fn copy_piece<L: Reread, S: Sink>(
+    log: &mut L,
+    sink: &mut S,
+    offset: u64,
+    room: &mut [u8],
+) -> Result<(), Fault>
+    requires { offset + length room.old ≤ 2 ^ 64 }
+    ensures all { OnOk result ((text : List ℕ) → L.text log.old ≡ Some text
+        → Appends (S.taken sink.old) (S.taken sink.new)
+        (take (length room.old) (drop offset text))) }
+    ensures beginning { OnErr result ((text : List ℕ) → L.text log.old ≡ Some text
+        → TookBeginning (S.taken sink.old) (S.taken sink.new)
+        (take (length room.old) (drop offset text))) }
+    ensures fault { IfErr result (λ e. (text : List ℕ) → L.text log.old ≡ Some text
+        → offset + length room.old ≤ length text → (e ≡ ReadLog) ⊎ (e ≡ WriteLog)) }
+    ensures named { IfErr result IsOfCopying }
+    ensures same { Keeps (L.text log.old) (L.text log.new) }
+    ensures unflushed { Keeps (S.flushed sink.old) (S.flushed sink.new) }
+    ensures log_source { Fails ReadLog result (L.failures log.old) (L.failures log.new) }
+    ensures log_sink { Fails WriteLog result (S.failures sink.old) (S.failures sink.new) }
+{
+    let count = read_from(log, offset, room)?;
+    if count < room.len() {
+        return Err(Fault::BadLsn(offset));
+    }
+    match write_all(sink, room) {
+        Ok(()) => Ok(()),
+        Err(Failed) => Err(Fault::WriteLog),
+    }
+}
+
+/// Copies the first `kept` bytes that a log's device holds to a sink, a piece at a time, behind those that
+/// the sink took before. The sink is not flushed. `BadLsn` with an offset if the device no longer holds
+/// the bytes after it.
+fn copy_kept<L: Reread, S: Sink>(
+    log: &mut L,
+    sink: &mut S,
+    kept: u64,
+    room: &mut [u8],
+) -> Result<(), Fault>
+    requires { length room.old ≡ ROOM }
+    ensures all { OnOk result ((text : List ℕ) → L.text log.old ≡ Some text
+        → kept ≤ length text → Appends (S.taken sink.old) (S.taken sink.new) (take kept text)) }
+    ensures beginning { OnErr result ((text : List ℕ) → L.text log.old ≡ Some text
+        → kept ≤ length text
+        → TookBeginning (S.taken sink.old) (S.taken sink.new) (take kept text)) }
+    ensures fault { IfErr result (λ e. (text : List ℕ) → L.text log.old ≡ Some text
+        → kept ≤ length text → (e ≡ ReadLog) ⊎ (e ≡ WriteLog)) }
+    ensures named { IfErr result IsOfCopying }
+    ensures unflushed { Keeps (S.flushed sink.old) (S.flushed sink.new) }
+    ensures log_source { Fails ReadLog result (L.failures log.old) (L.failures log.new) }
+    ensures log_sink { Fails WriteLog result (S.failures sink.old) (S.failures sink.new) }
+{
+    let mut offset: u64 = 0;
+    while offset < kept {
+        let wanted = (kept - offset).min(ROOM as u64) as usize;
+        copy_piece(log, sink, offset, &mut room[..wanted])?;
+        offset += wanted as u64;
+    }
+    Ok(())
+}
+
+/// Writes frames to a sink, behind the bytes that it took before, and flushes it.
+fn write_frames<S: Sink>(sink: &mut S, frames: &[u8]) -> Result<(), Failed>
+    ensures all { OnOk result (AreOut frames.now (S.taken sink.old) (S.taken sink.new)
+        (S.flushed sink.old) (S.flushed sink.new)) }
+    ensures beginning { OnErr result
+        (TookBeginning (S.taken sink.old) (S.taken sink.new) frames.now) }
+    ensures cause { Counts (S.failures sink.old) (S.failures sink.new) result }
+{
+    write_all(sink, frames)?;
+    sink.flush()
+}
+
+/// Writes a new log and flushes it: the bytes that are kept of the log that a device holds, and after them
+/// the frames appended.
+fn write_copy<L: Reread, S: Sink>(
+    log: &mut L,
+    sink: &mut S,
+    kept: u64,
+    frames: &[u8],
+    room: &mut [u8],
+) -> Result<(), Fault>
+    requires { length room.old ≡ ROOM }
+    ensures all { OnOk result ((text : List ℕ) → L.text log.old ≡ Some text
+        → kept ≤ length text → AreOut (take kept text ++ frames.now) (S.taken sink.old)
+        (S.taken sink.new) (S.flushed sink.old) (S.flushed sink.new)) }
+    ensures beginning { OnErr result ((text : List ℕ) → L.text log.old ≡ Some text
+        → kept ≤ length text
+        → TookBeginning (S.taken sink.old) (S.taken sink.new) (take kept text ++ frames.now)) }
+    ensures flushed { OnOk result
+        (Flushes (S.flushed sink.old) (S.flushed sink.new) (S.taken sink.new)) }
+    ensures fault { IfErr result (λ e. (text : List ℕ) → L.text log.old ≡ Some text
+        → kept ≤ length text → (e ≡ ReadLog) ⊎ (e ≡ WriteLog)) }
+    ensures named { IfErr result IsOfCopying }
+    ensures log_source { Fails ReadLog result (L.failures log.old) (L.failures log.new) }
+    ensures log_sink { Fails WriteLog result (S.failures sink.old) (S.failures sink.new) }
+{
+    copy_kept(log, sink, kept, room)?;
+    match write_frames(sink, frames) {
+        Ok(()) => Ok(()),
+        Err(Failed) => Err(Fault::WriteLog),
+    }
+}
+
+/// Writes the new log, copied, and then the new store, each whole and flushed before the next thing is
+/// done.
+fn write_copied<L: Reread, LW: Sink, SW: Sink>(
+    log: &mut L,
+    out_log: &mut LW,
+    out_store: &mut SW,
+    made: &Made,
+    room: &mut [u8],
+    pieces: &mut [u8],
+) -> Result<(), Fault>
+    requires room { length room.old ≡ ROOM }
+    requires pieces { length pieces.old ≡ PIECE }
+    ensures log_out { OnOk result ((text : List ℕ) → L.text log.old ≡ Some text
+        → made.now.kept ≤ length text
+        → AreOut (take made.now.kept text ++ made.now.remade.frames.items) (LW.taken out_log.old)
+        (LW.taken out_log.new) (LW.flushed out_log.old) (LW.flushed out_log.new)) }
+    ensures log_flushed { OnOk result
+        (Flushes (LW.flushed out_log.old) (LW.flushed out_log.new) (LW.taken out_log.new)) }
+    ensures store_out { OnOk result (AreOut (store_text made.now.remade.store)
+        (SW.taken out_store.old) (SW.taken out_store.new) (SW.flushed out_store.old)
+        (SW.flushed out_store.new)) }
+    ensures log_first { (text : List ℕ) → L.text log.old ≡ Some text → made.now.kept ≤ length text
+        → (out_store.new ≡ out_store.old)
+        ⊎ AreOut (take made.now.kept text ++ made.now.remade.frames.items) (LW.taken out_log.old)
+        (LW.taken out_log.new) (LW.flushed out_log.old) (LW.flushed out_log.new) }
+    ensures fault { IfErr result (λ e. (text : List ℕ) → L.text log.old ≡ Some text
+        → made.now.kept ≤ length text
+        → LeavesCopied (take made.now.kept text ++ made.now.remade.frames.items)
+        (store_text made.now.remade.store) (LW.taken out_log.old) (LW.taken out_log.new)
+        (SW.taken out_store.old) (SW.taken out_store.new) e) }
+    ensures named { IfErr result (λ e. IsOfCopying e ⊎ (e ≡ WriteStore)) }
+    ensures log_source { Fails ReadLog result (L.failures log.old) (L.failures log.new) }
+    ensures log_sink { Fails WriteLog result (LW.failures out_log.old) (LW.failures out_log.new) }
+    ensures store_sink { Fails WriteStore result (SW.failures out_store.old)
+        (SW.failures out_store.new) }
+{
+    write_copy(log, out_log, made.kept, &made.remade.frames, room)?;
+    match write_store(out_store, &made.remade.store, pieces) {
+        Ok(()) => Ok(()),
+        Err(Failed) => Err(Fault::WriteStore),
+    }
+}
+
+/// Recovers as [`recover`](crate::recover) does, in the thread of the caller, and never has the log in
+/// memory as a whole: 256 KiB of it are there at once, and those records that undo needs. What is written
+/// does not depend on that, nor on the options.
+///
+/// `store` is read first, to its end. Then `log` is read at offsets, piece by piece, as often as it is
+/// needed. A failure of `log` comes before all faults of reading: before one of them is given, `log` is
+/// read to its end, and if it fails there, the fault is `ReadLog`.
+///
+/// Then the new log is written to `out_log`: the log without its torn tail, which is read once more and
+/// copied piece by piece, and the records that the recovery appends. It is flushed, and only then the new
+/// store is written to `out_store`, and flushed.
+///
+/// Nobody else may write the log meanwhile. If somebody does, the copy may not be what was read, or a
+/// fault may be given that the log never had: `BadLsn` with an offset, for one, if bytes are gone that
+/// were there before.
+///
+/// Refuses, in this order: [`Fault::BadWorkers`] and [`Fault::BadParting`], if the options are out of
+/// their ranges; [`Fault::ReadLog`], if `log` failed, which may also come later;
+/// [`Fault::ReadStore`], if `store` failed; the faults of [`wal::read_log`] for the log; those of
+/// [`page::decode_store`] for the store; those of [`restart`](restart::restart) from
+/// [`Fault::PageAheadOfLog`] on; [`Fault::WriteLog`], if `out_log` failed; [`Fault::WriteStore`], if
+/// `out_store` failed. [`Fault::NoResource`] may come in place of any answer up to the first write:
+/// memory was refused, or an LSN of the log or an offset in it is above 2^63 - 1.
+///
+/// After `WriteLog` a beginning of the new log is out and nothing of the store; after `WriteStore` the
+/// new log, flushed, and a beginning of the new store. After `ReadLog` nothing is out, or, if `log` failed
+/// while it was copied, what is out after `WriteLog`. After any other fault nothing is. If the log and
+/// the store were lawful, the log that is out can be recovered with the old store, to the same end, where
+/// it begins with all that was read but the torn tail.
+pub fn recover_copying<LR: Reread, SR: Source, LW: Sink, SW: Sink>(
+    alloc: Global,
+    log: &mut LR,
+    store: &mut SR,
+    out_log: &mut LW,
+    out_store: &mut SW,
+    options: &Options,
+) -> Result<Report, Fault>
+    // On the bytes of a log and its store that are lawful over any base pages: both are out, and a fault
+    // is want of memory or a device's.
+    ensures lawful { (base : BasePages) (log_text store_text : List ℕ)
+        → LR.text log.old ≡ Some log_text → SR.left store.old ≡ Some store_text
+        → AreInRange options.now
+        → (bytes : AreLawful base log_text store_text)
+        → MatchResult result (Delivers base bytes.decoded.read bytes.decoded.before
+        (LW.taken out_log.old) (LW.taken out_log.new) (SW.taken out_store.old)
+        (SW.taken out_store.new)) IsResourceOrDevice }
+
+    // On what a restart of them may leave that was interrupted: what it would have written is out.
+    ensures interrupted { (base : BasePages) (log_text store_text : List ℕ)
+        → LR.text log.old ≡ Some log_text → SR.left store.old ≡ Some store_text
+        → AreInRange options.now
+        → (bytes : AreCut base log_text store_text)
+        → MatchResult result
+        (λ _. Completes base bytes.first.decoded.read bytes.first.decoded.before
+        (LW.taken out_log.old) (LW.taken out_log.new) (SW.taken out_store.old)
+        (SW.taken out_store.new)) IsResourceOrDevice }
+
+    // After a fault while it is written what is out of the new log, beside the store that was read, is
+    // such bytes.
+    ensures resumable { (base : BasePages) (log_text store_text : List ℕ)
+        → LR.text log.old ≡ Some log_text → SR.left store.old ≡ Some store_text
+        → AreInRange options.now
+        → (bytes : AreLawful base log_text store_text)
+        → IfErr result (LeavesCutCopied base bytes.decoded.read bytes.decoded.before store_text
+        (LW.taken out_log.old) (LW.taken out_log.new)) }
+
+    // Wherever it answers.
+    ensures answer { IfOk result (λ report. (log_text : List ℕ)
+        → LR.text log.old ≡ Some log_text
+        → Writes (Some log_text) (SR.left store.old) (LW.taken out_log.old)
+        (LW.taken out_log.new) (SW.taken out_store.old) (SW.taken out_store.new) report) }
+    ensures options { (e : Fault) → OptionsFault options.now e → result ≡ Err e }
+
+    // A refusal has its cause, and what is out after it.
+    ensures cause { IfErr result (λ e. (log_text : List ℕ) → LR.text log.old ≡ Some log_text
+        → DeviceCause (Some log_text) (SR.left store.old) options.now e) }
+    ensures out { IfErr result (λ e. (log_text : List ℕ) → LR.text log.old ≡ Some log_text
+        → IsOutCopied (Some log_text) (SR.left store.old) (LW.taken out_log.old)
+        (LW.taken out_log.new) (SW.taken out_store.old) (SW.taken out_store.new) e) }
+
+    // An answer means that both are flushed.
+    ensures log_flushed { OnOk result
+        (Flushes (LW.flushed out_log.old) (LW.flushed out_log.new) (LW.taken out_log.new)) }
+    ensures store_flushed { OnOk result
+        (Flushes (SW.flushed out_store.old) (SW.flushed out_store.new) (SW.taken out_store.new)) }
+
+    // The store's source is at its end before a sink is touched, and the new log is out and flushed before
+    // the store's sink is.
+    ensures read_first { ((out_log.new ≡ out_log.old) × (out_store.new ≡ out_store.old))
+        ⊎ IsAtEnd (SR.left store.new) }
+    ensures log_out_first { (log_text : List ℕ) → LR.text log.old ≡ Some log_text
+        → (out_store.new ≡ out_store.old)
+        ⊎ ((made : Makes (Some log_text) (SR.left store.old))
+        × AreOut made.new_log (LW.taken out_log.old) (LW.taken out_log.new) (LW.flushed out_log.old)
+        (LW.flushed out_log.new)) }
+
+    // A device is blamed where it failed, and nowhere else. If both sources failed, the log's is blamed.
+    ensures log_source { Fails ReadLog result (LR.failures log.old) (LR.failures log.new) }
+    ensures store_source { StoreFails result (SR.failures store.old) (SR.failures store.new) }
+    ensures log_sink { Fails WriteLog result (LW.failures out_log.old) (LW.failures out_log.new) }
+    ensures store_sink { Fails WriteStore result (SW.failures out_store.old)
+        (SW.failures out_store.new) }
+{
+    check_options(options)?;
+    let mut room = room_for_log(alloc)?;
+    let mut pieces = room_for_pieces(alloc)?;
+    let decoded = read_store_first(alloc, log, store, &mut room, &mut pieces)?;
+    let made = make_by_pieces(alloc, log, decoded.store, &mut room)?;
+    write_copied(log, out_log, out_store, &made, &mut room, &mut pieces)?;
+    Ok(made.remade.report)
+}
