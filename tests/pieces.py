@@ -1,6 +1,6 @@
 #!/usr/bin/env python3
-"""Whether a log that is read in pieces is recovered as one that is read into memory: each case by `aries recover` into new files, with one worker and with
-four, and by `aries recover --in-place`. The same bytes, reports and faults.
+"""Whether a log that is read in pieces is recovered as one that is read into memory: each case by `aries recover` into new files, of a log that comes through a
+pipe with one worker and with four, and of one in a file; and by `aries recover --in-place`. The same bytes, reports and faults.
 
 usage: tests/pieces.py        at the top of the repository, when the program is built
 
@@ -190,9 +190,9 @@ def wrong_at(room, case):
         with open(at(file), "wb") as written:
             written.write(text)
     found = []
-    for workers in ("1", "4"):
-        words = [ARIES, "recover", "--log", at("log"), "--store", at("store"), "--out-log", at("new-log"), "--out-store", at("new-store")]
-        found.append(outcome(run([*words, "--workers", workers]), at("new-log"), at("new-store")))
+    for source, workers in (("/dev/stdin", "1"), ("/dev/stdin", "4"), (at("log"), "1")):
+        words = [ARIES, "recover", "--log", source, "--store", at("store"), "--out-log", at("new-log"), "--out-store", at("new-store")]
+        found.append(outcome(run([*words, "--workers", workers], input=log), at("new-log"), at("new-store")))
         for file in ("new-log", "new-store"):
             if os.path.exists(at(file)):
                 os.remove(at(file))
@@ -200,7 +200,7 @@ def wrong_at(room, case):
     found.append(outcome(ran, at("log"), at("new-store")))
     is_left = ran.returncode == 0 or (bytes_of(at("log")), os.path.exists(at("new-store"))) == (log, False)
     shutil.rmtree(folder)
-    is_well = found[0] == found[1] == found[2] and is_left
+    is_well = all(it == found[0] for it in found) and is_left
     return [] if is_well else [f"{name}: {[(status, out[:90], err[:90]) for status, out, err, _ in found]}"]
 
 

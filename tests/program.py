@@ -33,12 +33,15 @@ class Row:
     def new_at(self, name):
         return os.path.join(self.new, name)
 
-    def recover(self, log="log", store="store", workers=2, parts=3, more=(), **how):
-        """A recovery of these two files of the row, into new files. With no number of workers the program chooses it."""
+    def recover(self, log="log", store="store", workers=2, parts=3, more=(), is_piped=False, **how):
+        """A recovery of these two files of the row, into new files. With no number of workers the program chooses it. A log that comes through a pipe is read
+        into memory, one in a file in pieces."""
         for name in ("log", "store"):
             if os.path.exists(self.new_at(name)):
                 os.remove(self.new_at(name))
-        words = ["recover", "--log", self.at(log), "--store", self.at(store)]
+        if is_piped:
+            how["input"] = bytes_of(self.at(log))
+        words = ["recover", "--log", "/dev/stdin" if is_piped else self.at(log), "--store", self.at(store)]
         words += ["--out-log", self.new_at("log"), "--out-store", self.new_at("store")]
         words += ["--workers", str(workers)] if workers is not None else []
         return run([ARIES, *words, "--parts", str(parts), *more], **how)

@@ -20,7 +20,7 @@ sys.dont_write_bytecode = True  # no folder of it beside the tests
 from dump import check_dump
 from edits import check_edits
 from in_place import check_in_place
-from long_logs import check_long_logs, long_row
+from long_logs import LARGEST_BASE, check_long_logs, long_row
 from operate import check_operation
 from pages import check_pages
 from pieces import check_pieces
@@ -36,9 +36,12 @@ NO_RESOURCE = b"fault 1: no resource\n"
 def check_large_row(tally, name, row):
     over = ("--base", row.at("base")) if os.path.exists(row.at("base")) else ()
     for workers, parts in ((1, 1), (4, 16), (64, 4096)):
-        ran = row.recover(workers=workers, parts=parts)
+        ran = row.recover(workers=workers, parts=parts, is_piped=True)
         is_well = has_printed(ran, bytes_of(row.at("printed"))) and row.is_recovered()
         tally.say(f"{name}, {workers} workers, {parts} parts", is_well, ran.stderr)
+    ran = row.recover()
+    is_well = has_printed(ran, bytes_of(row.at("printed"))) and row.is_recovered()
+    tally.say(f"{name}, in pieces", is_well, ran.stderr)
     tally.say(f"{name}, audit", has_printed(row.audit(more=over), bytes_of(row.at("audited"))))
     tally.say(f"{name}, audit of its outcome", has_printed(row.audit("out-log", "out-store", over), b"lawful\n"))
     again = row.recover("out-log", "out-store")
@@ -192,25 +195,27 @@ def check_prints(tally, room):
         tally.say("a fault that cannot be printed", ran.returncode == 1 and not ran.stdout)
 
 
-# Threads: more of them where more workers are asked for. What is written does not tell. Where none are asked for, a short log gets one worker, and a long one
-# four.
+# Threads: none for a log in a file, which is read in pieces. For one that is read into memory more of them if more workers are asked for. What is written does
+# not tell. If none are asked for, a short log gets one worker, and a long one four.
 
-def threads_of(row, room, library, workers):
+def threads_of(row, room, library, workers, is_piped=False):
     """How many threads a recovery starts; None where it writes something else than the row says."""
     started = os.path.join(room, "started")
     open(started, "wb").close()
-    row.recover(workers=workers, parts=64, env=dict(os.environ, LD_PRELOAD=library, THREADS_STARTED=started))
+    row.recover(workers=workers, parts=64, is_piped=is_piped, env=dict(os.environ, LD_PRELOAD=library, THREADS_STARTED=started))
     return len(bytes_of(started)) if row.is_recovered() else None
 
 
 def check_threads(tally, room):
-    short, long, library = Row(os.path.join(SMALL_ROWS, "ten-pages"), room), long_row(room), library_of(room, "count_threads")
-    counts = [threads_of(short, room, library, workers) for workers in (1, 4, 64)]
+    short, long, library = Row(os.path.join(SMALL_ROWS, "ten-pages"), room), long_row(room, base=LARGEST_BASE), library_of(room, "count_threads")
+    in_pieces = [threads_of(row, room, library, workers) for row in (short, long_row(room)) for workers in (4, None)]
+    tally.say("threads of a log in a file", in_pieces == [0] * 4, in_pieces)
+    counts = [threads_of(short, room, library, workers, True) for workers in (1, 4, 64)]
     tally.say("threads of 1, 4 and 64 workers", None not in counts and counts[0] < counts[1] < counts[2], counts)
-    one = threads_of(short, room, library, None)
+    one = threads_of(short, room, library, None, True)
     tally.say("threads of a short log", one is not None and one == counts[0], (one, counts))
     both = [threads_of(long, room, library, workers) for workers in (4, None)]
-    tally.say("threads of a long log", None not in both and both[0] == both[1], both)
+    tally.say("threads of a long log", None not in both and both[0] == both[1] > 0, both)
 
 
 # Each growth of memory refused in turn.

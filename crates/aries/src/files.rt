@@ -4,9 +4,9 @@ ghost use Rattle.std.specs.Prelude.{◌≢◌};
 ghost use Rattle.page.specs.declared.fault.Fault.TheVariants.{NoResource};
 
 use crate::noted::{Call, NotedFile, Notes};
-use device::{FileSink, FileSource, Source};
+use device::{FileSink, FileSource, Source, read_full};
 use page::Fault;
-use recovery::{Report, audit_texts, audit_texts_over, read_source, recover};
+use recovery::{Report, audit_texts, audit_texts_over, read_source, recover, recover_copying};
 use redo::OpenGate;
 use restart::Options;
 use std::alloc::Global;
@@ -16,6 +16,7 @@ use std::os::unix::fs::{OpenOptionsExt, PermissionsExt};
 use std::path::Path;
 use std::rt::{Clock, Files};
 use std::thread::Threads;
+use wal::{BASED_HEADER_BYTES, LARGEST_BASE, read_log};
 
 /// A log of fewer bytes than this is short: to start threads takes longer than they save.
 const SHORT: usize = 16 << 20;
@@ -110,12 +111,46 @@ pub fn options_for(options: &Options, may_be_one: bool, bytes: usize) -> Options
     chosen
 }
 
+/// Whether no LSN of a log is above the largest base LSN. A log has fewer records than bytes. Of this reading only a failure is noted.
+fn has_low_lsns<R: Files + Clock>(rt: &R, alloc: Global, log: &Notes) -> Result<bool, Fault> {
+    let notes = Notes::new(log.role, log.path);
+    let file = open(rt, log, Fault::ReadLog)?;
+    let mut source = FileSource::sized(NotedFile::new(file, rt, &notes));
+    let mut header = [0; BASED_HEADER_BYTES];
+    let Ok(count) = read_full(&mut source, &mut header) else {
+        if let Some(failure) = notes.failure() {
+            log.fail(failure.call, failure.error);
+        }
+        return Err(Fault::ReadLog);
+    };
+    match read_log(alloc, &header[..count]) {
+        Ok((log, _)) => Ok(log.base() <= LARGEST_BASE.saturating_sub(source.hint() as u64)),
+        Err(_) => Ok(true),
+    }
+}
+
+/// Whether an open log is to be read in pieces: if it is a regular file, which can be read again, and none
+/// of its LSNs is above the largest base LSN. `ReadLog` if its header could not be read.
+pub fn goes_in_pieces<R: Files + Clock>(
+    rt: &R,
+    alloc: Global,
+    opened: &R::File,
+    log: &Notes,
+) -> Result<bool, Fault> {
+    match opened.metadata() {
+        Ok(metadata) if metadata.is_file() => has_low_lsns(rt, alloc, log),
+        _ => Ok(false),
+    }
+}
+
 /// Recovers the store in a file by the log in another, into two files that are made anew, each with
 /// the mode of the one that it comes from. All four are opened, in the order log, store, new log,
 /// new store, before the first is read; the new store is written when the new log is whole and
 /// synced; the folders of the new files are synced last. After a fault, new files made so far stay:
-/// empty, or a beginning, or where a folder was not synced whole. Where it may be one, and the log is
-/// short, one worker does it all.
+/// empty, or a beginning, or where a folder was not synced whole.
+///
+/// A log in a regular file is read in pieces by one thread, and copied as the new log is written. Another
+/// is read into memory; there one worker does it all if it may be one and the log is short.
 pub fn recover_files<R: Files + Clock + Threads + Sync>(
     rt: &R,
     alloc: Global,
@@ -128,18 +163,33 @@ pub fn recover_files<R: Files + Clock + Threads + Sync>(
     let store = open(rt, &old.store, Fault::ReadStore)?;
     let new_log = make(rt, &new.log, &log, Fault::WriteLog)?;
     let new_store = make(rt, &new.store, &store, Fault::WriteStore)?;
+    let goes_in_pieces = goes_in_pieces(rt, alloc, &log, &old.log)?;
     let mut log = FileSource::sized(NotedFile::new(log, rt, &old.log));
-    let options = options_for(options, may_be_one, log.hint());
-    let report = recover(
-        rt,
-        alloc,
-        &mut log,
-        &mut FileSource::new(NotedFile::new(store, rt, &old.store)),
-        &mut FileSink::new(NotedFile::new(new_log, rt, &new.log)),
-        &mut FileSink::new(NotedFile::new(new_store, rt, &new.store)),
-        &options,
-        &OpenGate,
-    )?;
+    let mut store = FileSource::new(NotedFile::new(store, rt, &old.store));
+    let mut out_log = FileSink::new(NotedFile::new(new_log, rt, &new.log));
+    let mut out_store = FileSink::new(NotedFile::new(new_store, rt, &new.store));
+    let report = if goes_in_pieces {
+        recover_copying(
+            alloc,
+            &mut log,
+            &mut store,
+            &mut out_log,
+            &mut out_store,
+            options,
+        )?
+    } else {
+        let options = options_for(options, may_be_one, log.hint());
+        recover(
+            rt,
+            alloc,
+            &mut log,
+            &mut store,
+            &mut out_log,
+            &mut out_store,
+            &options,
+            &OpenGate,
+        )?
+    };
     sync_folder(rt, &new.log, Fault::WriteLog)?;
     sync_folder(rt, &new.store, Fault::WriteStore)?;
     Ok(report)

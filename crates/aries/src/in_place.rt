@@ -8,9 +8,11 @@
 ghost use Rattle.std.specs.Prelude.{◌≢◌};
 ghost use Rattle.page.specs.declared.fault.Fault.TheVariants.{NoResource};
 
-use crate::files::{NewFiles, OldFiles, make, open, options_for, refuse, sync_folder};
+use crate::files::{
+    NewFiles, OldFiles, goes_in_pieces, make, open, options_for, refuse, sync_folder,
+};
 use crate::noted::{Call, NotedFile, Notes};
-use device::{FileLog, FileSink, FileSource, Source, read_full};
+use device::{FileLog, FileSink, FileSource, Source};
 use page::Fault;
 use recovery::{Report, TailFile, continue_log, read_source, recover_by_pieces, recover_in_place};
 use redo::OpenGate;
@@ -20,7 +22,6 @@ use std::fs::{self, File, OpenOptions};
 use std::io::{self, ErrorKind, Seek, SeekFrom};
 use std::rt::{Clock, Files};
 use std::thread::Threads;
-use wal::{BASED_HEADER_BYTES, LARGEST_BASE, read_log};
 
 /// Opens the log to append to it; `WriteLog` if that failed.
 fn open_to_append<R: Files>(rt: &R, log: &Notes) -> Result<R::File, Fault> {
@@ -145,25 +146,6 @@ fn clear_after<R: Files>(rt: &R, fault: Fault, tail: &Notes, store: &Notes) {
     let _ = fs::remove_file(rt, store.path);
 }
 
-/// Whether no LSN of a log is above the largest base LSN, so that it can be read in pieces. A log has
-/// fewer records than bytes. Of this reading only a failure is noted.
-fn has_low_lsns<R: Files + Clock>(rt: &R, alloc: Global, log: &Notes) -> Result<bool, Fault> {
-    let notes = Notes::new(log.role, log.path);
-    let file = open(rt, log, Fault::ReadLog)?;
-    let mut source = FileSource::sized(NotedFile::new(file, rt, &notes));
-    let mut header = [0; BASED_HEADER_BYTES];
-    let Ok(count) = read_full(&mut source, &mut header) else {
-        if let Some(failure) = notes.failure() {
-            log.fail(failure.call, failure.error);
-        }
-        return Err(Fault::ReadLog);
-    };
-    match read_log(alloc, &header[..count]) {
-        Ok((log, _)) => Ok(log.base() <= LARGEST_BASE.saturating_sub(source.hint() as u64)),
-        Err(_) => Ok(true),
-    }
-}
-
 /// Recovers from open files, and continues the log.
 fn recover_opened<R: Files + Clock + Threads + Sync>(
     rt: &R,
@@ -178,7 +160,7 @@ fn recover_opened<R: Files + Clock + Threads + Sync>(
     let store = open(rt, &old.store, Fault::ReadStore)?;
     let appended = open_to_append(rt, &new.log)?;
     finish(rt, alloc, tail, &new.log)?;
-    let is_low = has_low_lsns(rt, alloc, &old.log)?;
+    let goes_in_pieces = goes_in_pieces(rt, alloc, &log, &old.log)?;
     let new_store = make_store(rt, &new.store, is_replacing, &store)?;
     let tail_file = make(rt, tail, &log, Fault::WriteLog)?;
     sync_folder(rt, tail, Fault::WriteLog)?;
@@ -187,7 +169,7 @@ fn recover_opened<R: Files + Clock + Threads + Sync>(
     let mut tail_sink = FileSink::new(NotedFile::new(tail_file, rt, tail));
     let mut out_log = FileLog::new(NotedFile::new(appended, rt, &new.log));
     let mut out_store = FileSink::new(NotedFile::new(new_store, rt, &new.store));
-    let answer = if is_low {
+    let answer = if goes_in_pieces {
         recover_by_pieces(
             alloc,
             &mut log,
