@@ -121,12 +121,12 @@ wal/frame_size.rt        len       -
 dump/choice.rt           change    RecordView::change
 dump/choice.rt           tx        RecordView::tx
 aries_c/room.rt          len       -
-passes/fresh.rt          pass      TableScan::pass, TallyScan::pass
+passes/fresh.rt          note      TableScan::note, TallyScan::note
 passes/fresh.rt          finish    TableScan::finish
 passes/repeat.rt         finish    TallyScan::finish
 passes/gather.rt         take      Gathering::take
 passes/gather.rt         finish    Gathering::finish
-analysis/table_scan.rt   pass      TransactionScan::pass, PageScan::pass
+analysis/table_scan.rt   note      TableScan::note, TransactionScan::note, PageScan::note
 analysis/table_scan.rt   finish    TransactionScan::finish, PageScan::finish
 undo/gathering.rt        get       Log::get
 undo/looked.rt           get       Log::get, Gathered::get
@@ -158,7 +158,9 @@ CUTS = {
     'a recovery': 'aries/files.rt:audit_files aries/files.rt:read_file aries/program.rt:run_audit command/job.rt:audit_job',
     'new files': '''aries/in_place.rt recovery/in_place.rt recovery/tail_file.rt aries/program.rt:run_in_place
         aries/program.rt:text_of LogBytes::sum_of_end''',
-    'in place': 'aries/files.rt:recover_files recovery/devices.rt:recover recovery/in_place.rt:recover_in_place',
+    'in place': 'aries/files.rt:recover_files',
+    'in pieces': 'recovery/devices.rt:recover recovery/in_place.rt:recover_in_place',
+    'in memory': 'recovery/copying.rt recovery/by_pieces.rt',
     'an audit': '''aries/files.rt:recover_files aries/in_place.rt recovery/in_place.rt aries/program.rt:run_in_place
         command/job.rt:recover_job
         recovery/texts.rt:audit_texts_over''',
@@ -177,11 +179,13 @@ CUTS = {
 FEW = ['nothing fails', 'no checkpoint', 'updates and commits alone are read']
 # each way: its name, the most functions that it is to have, where it begins, and what it does not take
 WAYS = [
-    ('recover, 3 records, 1 worker', 267, 'aries_cli/main.rt:main', FEW + ['a recovery', 'new files', 'one worker']),
-    ('recover in place, 3 records, 1 worker', 340, 'aries_cli/main.rt:main', FEW + ['a recovery', 'in place', 'one worker']),
-    ('recover, 3 records, 4 workers', 303, 'aries_cli/main.rt:main', FEW + ['a recovery', 'new files', 'several workers', 'a short log']),
-    ('recover, 100 MB with a checkpoint, 4 workers', 355, 'aries_cli/main.rt:main',
-     ['nothing fails', 'a recovery', 'new files', 'several workers', 'a long log']),
+    ('recover, 3 records', 308, 'aries_cli/main.rt:main', FEW + ['a recovery', 'new files', 'in pieces', 'one worker']),
+    ('recover in place, 3 records', 340, 'aries_cli/main.rt:main', FEW + ['a recovery', 'in place', 'in pieces', 'one worker']),
+    ('recover in memory, 3 records, 1 worker', 267, 'aries_cli/main.rt:main', FEW + ['a recovery', 'new files', 'in memory', 'one worker']),
+    ('recover in memory, 3 records, 4 workers', 303, 'aries_cli/main.rt:main',
+     FEW + ['a recovery', 'new files', 'in memory', 'several workers', 'a short log']),
+    ('recover in memory, 100 MB with a checkpoint, 4 workers', 355, 'aries_cli/main.rt:main',
+     ['nothing fails', 'a recovery', 'new files', 'in memory', 'several workers', 'a long log']),
     ('aries_recover (C)', 165, 'aries_c/recovered.rt:aries_recover', FEW + ['no threads']),
     ('audit, with a checkpoint', 220, 'aries_cli/main.rt:main', ['nothing fails', 'an audit']),
     ('aries_dump log', 145, 'aries_dump/main.rt:main', ['nothing fails', 'a log']),

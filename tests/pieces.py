@@ -1,11 +1,12 @@
 #!/usr/bin/env python3
 """Whether a log that is read in pieces is recovered as one that is read into memory: each case by `aries recover` into new files, of a log that comes through a
-pipe with one worker and with four, and of one in a file; and by `aries recover --in-place`. The same bytes, reports and faults.
+pipe with 1, 2, 4 and 64 workers, and of one in a file; and by `aries recover --in-place`. The same bytes, reports and faults. And whether a read of the log that
+fails comes before other faults.
 
 usage: tests/pieces.py        at the top of the repository, when the program is built
 
-`tests/run.py` calls `check_pieces`. A piece has 262,144 bytes, and its marks stand between frames, so the frame that crosses the border of the first piece
-begins the second one.
+`tests/run.py` calls `check_pieces` and `check_order`. A piece has 262,144 bytes, and its marks stand between frames, so the frame that crosses the border of
+the first piece begins the second one.
 """
 import concurrent.futures
 import os
@@ -17,7 +18,7 @@ import tempfile
 
 sys.dont_write_bytecode = True  # no folder of it beside the tests
 from long_logs import compensation, frame, looks_like_a_frame, page_image, store_of, update
-from program import ARIES, Tally, bytes_of, run
+from program import ARIES, SMALL_ROWS, Tally, bytes_of, library_of, run
 
 PIECE = 262_144
 HEADER = b"ARIESLG1"
@@ -155,6 +156,7 @@ def cases():
     for share in (0, 0.5, 0.99):
         yield f"a rollback of which {share} is done", *rollback(share)
     yield from damaged()
+    yield from small_rows()
 
 
 def damaged():
@@ -176,6 +178,14 @@ def damaged():
     yield "no header", b"ARIESLG3" + log[8:], store
 
 
+def small_rows():
+    """The rows of crates/rows."""
+    for name in sorted(os.listdir(SMALL_ROWS)):
+        files = [os.path.join(SMALL_ROWS, name, file) for file in ("log", "store")]
+        if all(os.path.exists(file) for file in files):
+            yield f"the row {name}", *map(bytes_of, files)
+
+
 def outcome(ran, log, store):
     """What a run printed and wrote."""
     written = [bytes_of(path) if os.path.exists(path) else b"" for path in (log, store)] if ran.returncode == 0 else []
@@ -190,7 +200,7 @@ def wrong_at(room, case):
         with open(at(file), "wb") as written:
             written.write(text)
     found = []
-    for source, workers in (("/dev/stdin", "1"), ("/dev/stdin", "4"), (at("log"), "1")):
+    for source, workers in (("/dev/stdin", "1"), ("/dev/stdin", "2"), ("/dev/stdin", "4"), ("/dev/stdin", "64"), (at("log"), "1")):
         words = [ARIES, "recover", "--log", source, "--store", at("store"), "--out-log", at("new-log"), "--out-store", at("new-store")]
         found.append(outcome(run([*words, "--workers", workers], input=log), at("new-log"), at("new-store")))
         for file in ("new-log", "new-store"):
@@ -204,6 +214,44 @@ def wrong_at(room, case):
     return [] if is_well else [f"{name}: {[(status, out[:90], err[:90]) for status, out, err, _ in found]}"]
 
 
+# The order of faults: a read of the log that fails comes before a failure of the store, and before a fault of the log's bytes, wherever it stands in the log.
+
+READS = 4  # at least of a log of three pieces: its header, and each piece
+
+
+def calls_that_fail(room, library, log, store, words):
+    """Of a run for each of its calls, which fails: the line of the call, and the fault."""
+    for number in range(1, 1000):
+        folder = tempfile.mkdtemp(dir=room)
+        at = lambda file: os.path.join(folder, file)
+        with open(at("log"), "wb") as written:
+            written.write(log)
+        if store is None:
+            os.mkdir(at("store"))
+        else:
+            with open(at("store"), "wb") as written:
+                written.write(store)
+        settings = {"LD_PRELOAD": library, "WATCHED": folder, "FAIL_AT": str(number), "CALLS": at("calls")}
+        ran = run([ARIES, "recover", "--log", at("log"), "--store", at("store"), *words(at)], env={**os.environ, **settings})
+        call = next((line for line in bytes_of(at("calls")).decode().splitlines() if line.startswith("fail")), None)
+        shutil.rmtree(folder)
+        if call is None:
+            return
+        yield call, ran.stderr[:8]
+
+
+def check_order(tally, room, library):
+    log, store = like_frames(True)
+    bad = log[:100] + b"\xff" * 50 + log[150:]
+    into_files = lambda at: ("--out-log", at("new-log"), "--out-store", at("new-store"))
+    in_place = lambda at: ("--in-place", "--out-store", at("new-store"))
+    for way, words in (("into new files", into_files), ("in place", in_place)):
+        for what, text, pages in (("a store that cannot be read", log, None), ("a bad record", bad, store)):
+            faults = [fault for call, fault in calls_that_fail(room, library, text, pages, words) if call == "fail read log"]
+            is_well = len(faults) >= READS and set(faults) == {b"fault 2:"}
+            tally.say(f"{what}, and a log's read that fails, {way}", is_well, (len(faults), sorted(set(faults))))
+
+
 def check_pieces(tally, room):
     all_cases = list(cases())
     with concurrent.futures.ThreadPoolExecutor(2) as pool:
@@ -215,6 +263,7 @@ def main():
     tally = Tally()
     with tempfile.TemporaryDirectory(prefix="aries-pieces-") as room:
         check_pieces(tally, room)
+        check_order(tally, room, library_of(room, "watch_calls"))
     sys.exit(1 if tally.failed else 0)
 
 

@@ -8,6 +8,7 @@ usage: tests/run.py        at the top of the repository, behind `rt ci`, which b
 
 Prints a line for each check, and at last `N passed, N failed`; the status is 1 where one failed. Takes python3 and cc, and valgrind for the instructions.
 """
+import functools
 import os
 import re
 import shutil
@@ -23,7 +24,7 @@ from in_place import check_in_place
 from long_logs import LARGEST_BASE, check_long_logs, long_row
 from operate import check_operation
 from pages import check_pages
-from pieces import check_pieces
+from pieces import check_order, check_pieces
 from program import ARIES, LARGE_ROWS, SMALL_ROWS, TOP, Row, Tally, bytes_of, has_printed, has_refused, in_doubt, library_of, run, text_of
 
 ROW_RUNNER = os.path.join(TOP, "crates/rows/out/rows")
@@ -296,6 +297,8 @@ def check_refusals(tally, room):
     for name in REFUSED_ROWS:
         row = Row(os.path.join(SMALL_ROWS, name), room)
         check_refused_growth(tally, f"{name}, recovery", refuser, row.recover, lambda *ran: is_right_recovery(row, *ran))
+        piped = functools.partial(row.recover, is_piped=True)
+        check_refused_growth(tally, f"{name}, recovery in memory", refuser, piped, lambda *ran: is_right_recovery(row, *ran))
         check_refused_growth(tally, f"{name}, audit", refuser, row.audit, lambda *ran: is_right_audit(row, *ran))
         folder = os.path.join(room, f"slow-{name}")
         shutil.copytree(row.folder, os.path.join(folder, name))
@@ -303,8 +306,8 @@ def check_refusals(tally, room):
             index.write(f"{name} slow\n")
         job = lambda **how: run([ROW_RUNNER], cwd=folder, **how)
         check_refused_growth(tally, f"{name}, slow devices", refuser, job, lambda *ran: is_right_slow(name, *ran))
-    row = long_row(room)
-    check_refused_growth(tally, "a long log, recovery", refuser, row.recover, lambda *ran: is_right_recovery(row, *ran))
+    for what, row in (("in pieces", long_row(room)), ("in memory", long_row(room, base=LARGEST_BASE))):
+        check_refused_growth(tally, f"a long log, recovery {what}", refuser, row.recover, lambda *ran: is_right_recovery(row, *ran))
 
 
 # Documents: that the code, the links and the tables in them are true.
@@ -379,6 +382,7 @@ def main():
         check_operation(tally, room)
         check_in_place(tally, room)
         check_pieces(tally, room)
+        check_order(tally, room, library_of(room, "watch_calls"))
         check_prints(tally, room)
         check_refusals(tally, room)
         check_dump(tally, room, Refuser(room))

@@ -5,7 +5,7 @@
  *   KILL_AFTER   kills it after that call
  *   FAIL_AT      the call with this number does nothing, and fails with EIO
  *   CALLS        a file in which each call that changed or synced something is noted, a line each, and one that
- *                FAIL_AT named
+ *                FAIL_AT named, with the file if it is a read
  *
  * Build: cc -O1 -shared -fPIC -o watch_calls.so watch_calls.c -ldl */
 #define _GNU_SOURCE
@@ -24,6 +24,7 @@ enum { MOST_FILES = 1024 };
 
 static long calls;
 static char *names[MOST_FILES]; /* of each watched file that is open */
+static const char *read_name;   /* of the file that is about to be read, else NULL */
 
 #define NEXT(type, name) ((type)dlsym(RTLD_NEXT, name))
 typedef int open_call(const char *, int, ...);
@@ -76,7 +77,7 @@ static int begins(void) {
         raise(SIGKILL);
     if (!is_at("FAIL_AT"))
         return 0;
-    note(NULL, 0, "fail");
+    note(NULL, 0, read_name ? "fail read %s" : "fail", read_name);
     errno = EIO;
     return 1;
 }
@@ -116,7 +117,10 @@ ssize_t read(int file, void *bytes, size_t length) {
     read_call *call = NEXT(read_call *, "read");
     if (!open_name(file))
         return call(file, bytes, length);
-    if (begins())
+    read_name = open_name(file);
+    int fails = begins();
+    read_name = NULL;
+    if (fails)
         return -1;
     ssize_t count = call(file, bytes, length);
     ends();
