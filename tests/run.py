@@ -1,7 +1,7 @@
 #!/usr/bin/env python3
 """Runs the proved programs as they are: on rows of real size, on logs that are read in two parts, on the small rows in version 2, with threads counted, with
-files that are missing or stand already, with wrong lines, with --verbose, in place with kills and power cuts, with prints that fail, and with each growth of
-memory refused in turn. And looks whether the documents and the man pages are true of them, whether each wrong body that the prover must refuse can still be
+files that are missing or stand already, with wrong lines, with --verbose, in place with kills and power cuts, in pieces and in memory, with each byte of a row
+another one, with prints that fail, and with each growth of memory refused in turn. And looks whether the documents and the man pages are true of them, whether each wrong body that the prover must refuse can still be
 applied, and whether a workload takes more instructions than it may.
 
 usage: tests/run.py        at the top of the repository, behind `rt ci`, which builds the programs
@@ -26,6 +26,7 @@ from operate import check_operation
 from pages import check_pages
 from pieces import check_order, check_pieces
 from program import ARIES, LARGE_ROWS, SMALL_ROWS, TOP, Row, Tally, bytes_of, has_printed, has_refused, in_doubt, library_of, run, text_of
+from spoiled import check_spoiled
 
 ROW_RUNNER = os.path.join(TOP, "crates/rows/out/rows")
 REFUSED_ROWS = ["one-commit", "two-losers", "checkpoint-loser", "prepared-beside-loser", "empty-and-full-values", "ten-pages"]
@@ -383,6 +384,7 @@ def main():
         check_in_place(tally, room)
         check_pieces(tally, room)
         check_order(tally, room, library_of(room, "watch_calls"))
+        check_spoiled(tally, room)
         check_prints(tally, room)
         check_refusals(tally, room)
         check_dump(tally, room, Refuser(room))
