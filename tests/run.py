@@ -247,12 +247,10 @@ def is_no_resource(ran):
 
 
 def is_right_recovery(row, ran, is_refused):
-    """Fault 1 and nothing out; or the row's files, and its report, which alone may be refused."""
+    """Fault 1 and nothing out, or the row's files if memory for the report was refused; or these files and the report."""
     if is_no_resource(ran) and is_refused:
-        return row.is_nothing_out()
-    is_reported = has_printed(ran, bytes_of(row.at("printed")))
-    is_unreported = ran.returncode == 1 and not ran.stderr and not ran.stdout and is_refused
-    return (is_reported or is_unreported) and row.is_recovered()
+        return row.is_nothing_out() or row.is_recovered()
+    return has_printed(ran, bytes_of(row.at("printed"))) and row.is_recovered()
 
 
 def is_right_audit(row, ran, is_refused):

@@ -15,10 +15,9 @@ use std::thread::Threads;
 use std::time::Instant;
 use words::refuse;
 
-/// Prints a report.
-fn print_report<O: Write>(alloc: Global, report: &Report, out: &mut O) -> io::Result<()> {
-    let text = report_text(alloc, report).map_err(|_| io::Error::from(io::ErrorKind::OutOfMemory))?;
-    out.write_all(&text)?;
+/// Prints the text of a report.
+fn print_text<O: Write>(text: &[u8], out: &mut O) -> io::Result<()> {
+    out.write_all(text)?;
     out.flush()
 }
 
@@ -33,8 +32,8 @@ fn status_of_print<E: Write>(printed: io::Result<()>, verbose: bool, err: &mut E
     1
 }
 
-/// Prints the report of a recovery or its fault; if it is to be verbose, before them what it did or why
-/// it was refused.
+/// Prints the report of a recovery or its fault, and fault 1 if memory for the report is refused; if it is
+/// to be verbose, before them what it did or why it was refused.
 fn tell_end<O: Write, E: Write>(
     alloc: Global,
     answer: Result<Report, Fault>,
@@ -49,7 +48,10 @@ fn tell_end<O: Write, E: Write>(
             if verbose {
                 tell_recovery(old, tail, new, err);
             }
-            status_of_print(print_report(alloc, &report, out), verbose, err)
+            match report_text(alloc, &report) {
+                Ok(text) => status_of_print(print_text(&text, out), verbose, err),
+                Err(fault) => refuse(fault, err),
+            }
         }
         Err(fault) => {
             if verbose {
@@ -185,10 +187,11 @@ fn text_of(name: &Option<String>) -> Option<&str> {
 }
 
 /// Runs the program `aries`: `words` are its words, the first of which is its name; `out` stands
-/// for standard output and `err` for standard error. Answers the exit status: 0 where the job was
+/// for standard output and `err` for standard error. Returns the exit status: 0 if the job was
 /// done or help was asked for, 1 for a fault, printed to `err` as `fault N: text`, or a failed
-/// print, 2 for a line that is wrong. With `--verbose` lines that begin with `aries: ` stand before
-/// that, in `err`: why a fault came, or what was read and written, in which time.
+/// print, 2 for a line that is wrong. After fault 1 of a recovery nothing is written, or all is if memory
+/// for the report was refused. With `--verbose` lines that begin with `aries: ` stand before that, in
+/// `err`: why a fault came, or what was read and written, in which time.
 pub fn run<R: Files + Clock + Threads + Sync, O: Write, E: Write>(
     rt: &R,
     alloc: Global,

@@ -74,7 +74,8 @@ pub(crate) const RECOVER: &str = "Examples:\n  \
     \n\
     Without --in-place the old files are never changed. Put new ones in place after status 0 alone, or\n\
     after an audit of them. A refused run may leave some, empty, in part or whole: remove them, and run\n\
-    it again. Fault 4 or 5 at once mostly says that such a file stands there still.\n\
+    it again. Fault 4 or 5 at once mostly says that such a file stands there still. After fault 1 they\n\
+    are empty, or whole if memory for the report was refused.\n\
     \n\
     With --in-place the log file is continued where its last whole record ends. With --replace the\n\
     recovered store then takes the place of the old one. Run it again after a crash: it finishes what\n\

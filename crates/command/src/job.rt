@@ -132,7 +132,7 @@ fn recover_command<'a>(alloc: Global) -> Result<Command<'a>, AllocError>
             "workers",
             WORKERS,
             None,
-            "How many threads redo the pages, 1 to 64; without it 4, or 1 where the log is short",
+            "How many threads redo the pages if the log comes through a pipe, 1 to 64",
         ))?
         .arg(number_option(
             alloc,
