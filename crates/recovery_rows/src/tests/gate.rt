@@ -4,7 +4,7 @@ use super::{check, check_all};
 use crate::in_memory::recover_in_memory;
 use aries::Options;
 use core_rows::ten_pages::{HeldGate, are_all_changed, ten_pages, ten_updates};
-use page::{Fault, decode_store};
+use page::{Fault, decode_store, encode_store};
 use redo::{Gate, OpenGate};
 use std::alloc::Global;
 use std::sync::atomic::{AtomicU64, Ordering};
@@ -97,6 +97,81 @@ fn the_gate_hears_of_each_part(rt: HostRuntime) -> Result<(), Fail> {
         (are_entered(&rt, alloc, 12)?, "12 parts"),
         (are_entered(&rt, alloc, 4096)?, "4096 parts"),
     ])
+}
+
+/// Notes how often any part is entered, and which parts below 64 worker 0 enters.
+#[derive(Drop)]
+struct NotingGate {
+    entered: AtomicU64,
+    parts: AtomicU64,
+}
+
+impl NotingGate {
+    /// No part is entered yet.
+    fn new() -> NotingGate {
+        NotingGate {
+            entered: AtomicU64::new(0),
+            parts: AtomicU64::new(0),
+        }
+    }
+
+    /// Whether worker 0 entered these parts, a bit each, and each once, and nobody entered another.
+    fn has_noted(&self, parts: u64) -> bool {
+        self.parts.load(Ordering::SeqCst) == parts
+            && self.entered.load(Ordering::SeqCst) == parts.count_ones() as u64
+    }
+}
+
+impl Gate for NotingGate {
+    fn enter(&self, worker: u32, part: u32) {
+        self.entered.fetch_add(1, Ordering::SeqCst);
+        if worker == 0 && part < 64 {
+            self.parts.fetch_or(1 << part, Ordering::SeqCst);
+        }
+    }
+}
+
+#[test]
+fn one_worker_enters_each_part_once(rt: HostRuntime) -> Result<(), Fail> {
+    for (name, parts, bits) in [
+        ("1 part", 1, 1),
+        ("3 parts", 3, 7),
+        ("10 parts", 10, 1023),
+        ("20 parts", 20, 1_048_575),
+    ] {
+        let gate = NotingGate::new();
+        let found = recover_ten(&rt, rt.alloc(), 1, parts, &gate)?;
+        check(found.are_changed && gate.has_noted(bits), name)?;
+    }
+    Ok(())
+}
+
+/// The fault of a recovery of ten updates beside a store that lacks the last of their pages.
+fn fault_of_nine<G: Gate, R: Threads + Sync>(
+    rt: &R,
+    alloc: Global,
+    gate: &G,
+) -> Result<Option<Fault>, Fault> {
+    let log = ten_updates(alloc)?;
+    let mut store = decode_store(alloc, &ten_pages(alloc)?)?;
+    store.pages.pop();
+    let store = encode_store(alloc, &store)?;
+    let options = Options {
+        workers: 1,
+        parts: 10,
+    };
+    match recover_in_memory(rt, alloc, &log, &store, &options, gate) {
+        Ok(_) => Ok(None),
+        Err(fault) => Ok(Some(fault)),
+    }
+}
+
+#[test]
+fn one_worker_enters_no_part_where_a_page_is_missing(rt: HostRuntime) -> Result<(), Fail> {
+    let gate = NotingGate::new();
+    let fault = fault_of_nine(&rt, rt.alloc(), &gate)?;
+    check(fault == Some(Fault::NoSuchPage(10)), "the fault")?;
+    check(gate.has_noted(0), "the parts")
 }
 
 /// Workers and parts.
