@@ -240,11 +240,32 @@ def calls_that_fail(room, library, log, store, words):
         yield call, ran.stderr[:8]
 
 
+def into_files(at):
+    return "--out-log", at("new-log"), "--out-store", at("new-store")
+
+
+def in_place(at):
+    return "--in-place", "--out-store", at("new-store")
+
+
+def fault_beside_a_folder(room, log, words, is_piped):
+    """The fault of a run on this log beside a store that cannot be read, since it is a folder; and what it leaves."""
+    with tempfile.TemporaryDirectory(dir=room) as folder:
+        at = lambda file: os.path.join(folder, file)
+        os.mkdir(at("store"))
+        with open(at("log"), "wb") as written:
+            written.write(log)
+        how = {"input": log} if is_piped else {}
+        ran = run([ARIES, "recover", "--log", "/dev/stdin" if is_piped else at("log"), "--store", at("store"), *words(at)], **how)
+        return ran.stderr, bytes_of(at("log")) == log, bytes_of(at("new-log")) + bytes_of(at("new-store"))
+
+
 def check_order(tally, room, library):
     log, store = like_frames(True)
     bad = log[:100] + b"\xff" * 50 + log[150:]
-    into_files = lambda at: ("--out-log", at("new-log"), "--out-store", at("new-store"))
-    in_place = lambda at: ("--in-place", "--out-store", at("new-store"))
+    for way, words, is_piped in (("into new files", into_files, False), ("in memory", into_files, True), ("in place", in_place, False)):
+        found = fault_beside_a_folder(room, bad, words, is_piped)
+        tally.say(f"a bad record, and a store that cannot be read, {way}", found == (b"fault 3: reading the store failed\n", True, b""), found)
     for way, words in (("into new files", into_files), ("in place", in_place)):
         for what, text, pages in (("a store that cannot be read", log, None), ("a bad record", bad, store)):
             faults = [fault for call, fault in calls_that_fail(room, library, text, pages, words) if call == "fail read log"]
