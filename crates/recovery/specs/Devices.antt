@@ -93,6 +93,15 @@ DeviceCause log_left store_left options BadWorkers = OptionsFault options BadWor
 DeviceCause log_left store_left options BadParting = OptionsFault options BadParting
 DeviceCause log_left store_left options e = (log : List ℕ) × (store : List ℕ) × AreRead log_left store_left log store × Cause log store options e
 
+-- a fault of what the sources gave, or of writing: any but want of memory, those of the sources and those of the options
+abbrev pub IsAfterReading : Fault → Type 0
+IsAfterReading NoResource = ⊥
+IsAfterReading ReadLog = ⊥
+IsAfterReading ReadStore = ⊥
+IsAfterReading BadWorkers = ⊥
+IsAfterReading BadParting = ⊥
+IsAfterReading e = ⊤
+
 -- LAWFUL INPUT
 -- the log and its tail, and the store that the winners leave, are out
 pub record Delivers (base : BasePages) (read : LogContent) (before : StoreContent) (log_before log_after store_before store_after : Option (List ℕ)) (report : ReportContent) : Type 0 where

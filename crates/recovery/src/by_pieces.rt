@@ -10,7 +10,7 @@ ghost use Rattle.wal.specs.Meaning.{BasePages};
 ghost use Rattle.restart.specs.declared.options.Options.{Options};
 ghost use Rattle.restart.specs.Options.{AreInRange, OptionsFault};
 ghost use Rattle.recovery.specs.Recovery.{log_of, Decodes, Recovers, Recovered, AreLawful, AreCut};
-ghost use Rattle.recovery.specs.Devices.{Fails, IsFaultOf, DeviceCause, IsResourceOrDevice};
+ghost use Rattle.recovery.specs.Devices.{Fails, IsFaultOf, DeviceCause, IsResourceOrDevice, IsAfterReading};
 ghost use Rattle.recovery.specs.InPlace.{IsContinued, IsLeftIn, Prepares, HasTail, Completed, DeliversInPlace, CompletesInPlace, HoldsCut, IsFlushed};
 ghost use Rattle.recovery.specs.ByPieces.{IsOfLog, IsMeasured, ReadingCause, StoreFails};
 ghost use Rattle.recovery.specs.declared.log_again.TheConstants.{ROOM};
@@ -241,6 +241,9 @@ pub fn recover_by_pieces<LR: Reread, SR: Source, T: Sink, LW: Continue, SW: Sink
         ⊎ ((made : Prepares (Some log_text) (SR.left store.old))
         × IsContinued made.kept made.frames (LW.taken out_log.old) (LW.taken out_log.new)
         (LW.flushed out_log.old) (LW.flushed out_log.new)) }
+
+    // A fault of what was read, or of writing, comes after the store's source was read to its end.
+    ensures read_to_end { IfErr result (λ e. IsAfterReading e → IsAtEnd (SR.left store.new)) }
 
     // A device is blamed where it failed, and nowhere else. If both sources failed, the log's is blamed.
     ensures log_source { Fails ReadLog result (LR.failures log.old) (LR.failures log.new) }

@@ -11,7 +11,7 @@ ghost use Rattle.device.specs.Transfer.{TookBeginning, Flushes};
 ghost use Rattle.wal.specs.Meaning.{BasePages};
 ghost use Rattle.restart.specs.Options.{AreInRange, OptionsFault};
 ghost use Rattle.recovery.specs.Recovery.{AreLawful, AreCut};
-ghost use Rattle.recovery.specs.Devices.{Fails, Makes, Writes, AreOut, DeviceCause, Delivers, Completes, IsResourceOrDevice};
+ghost use Rattle.recovery.specs.Devices.{Fails, Makes, Writes, AreOut, DeviceCause, Delivers, Completes, IsResourceOrDevice, IsAfterReading};
 ghost use Rattle.recovery.specs.ByPieces.{StoreFails};
 ghost use Rattle.recovery.specs.Copying.{IsOfCopying, LeavesCopied, IsOutCopied, LeavesCutCopied};
 ghost use Rattle.recovery.specs.declared.log_again.TheConstants.{ROOM};
@@ -271,6 +271,9 @@ pub fn recover_copying<LR: Reread, SR: Source, LW: Sink, SW: Sink>(
         ⊎ ((made : Makes (Some log_text) (SR.left store.old))
         × AreOut made.new_log (LW.taken out_log.old) (LW.taken out_log.new) (LW.flushed out_log.old)
         (LW.flushed out_log.new)) }
+
+    // A fault of what was read, or of writing, comes after the store's source was read to its end.
+    ensures read_to_end { IfErr result (λ e. IsAfterReading e → IsAtEnd (SR.left store.new)) }
 
     // A device is blamed where it failed, and nowhere else. If both sources failed, the log's is blamed.
     ensures log_source { Fails ReadLog result (LR.failures log.old) (LR.failures log.new) }

@@ -12,7 +12,7 @@ ghost use Rattle.page.specs.File.{store_text};
 ghost use Rattle.recovery.specs.Recovery.{AreLawful, AreCut};
 ghost use Rattle.recovery.specs.declared.store_pieces.TheConstants.{PIECE};
 ghost use Rattle.restart.specs.Options.{AreInRange, OptionsFault};
-ghost use Rattle.recovery.specs.Devices.{Fails, Gave, IsFaultOf, Makes, Writes, AreOut, Leaves, IsOut, DeviceCause, Delivers, Completes, LeavesCut, IsResourceOrDevice};
+ghost use Rattle.recovery.specs.Devices.{Fails, Gave, IsFaultOf, Makes, Writes, AreOut, Leaves, IsOut, DeviceCause, Delivers, Completes, LeavesCut, IsResourceOrDevice, IsAfterReading};
 
 use crate::Report;
 use crate::decoding::decode_both;
@@ -179,6 +179,10 @@ pub fn recover<LR: Source, SR: Source, LW: Sink, SW: Sink, G: Gate, R: Threads +
         ⊎ ((made : Makes (LR.left log.old) (SR.left store.old))
         × AreOut made.new_log (LW.taken out_log.old) (LW.taken out_log.new) (LW.flushed out_log.old)
         (LW.flushed out_log.new)) }
+
+    // A fault of what was read, or of writing, comes after both sources were read to their ends.
+    ensures read_to_ends { IfErr result (λ e. IsAfterReading e
+        → IsAtEnd (LR.left log.new) × IsAtEnd (SR.left store.new)) }
 
     // A device is blamed where it failed, and nowhere else.
     ensures log_source { Fails ReadLog result (LR.failures log.old) (LR.failures log.new) }

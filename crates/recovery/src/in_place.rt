@@ -12,7 +12,7 @@ ghost use Rattle.device.specs.Transfer.{Flushes};
 ghost use Rattle.wal.specs.Meaning.{BasePages};
 ghost use Rattle.restart.specs.Options.{AreInRange, OptionsFault};
 ghost use Rattle.recovery.specs.Recovery.{AreLawful, AreCut};
-ghost use Rattle.recovery.specs.Devices.{Fails, AreOut, DeviceCause, IsResourceOrDevice};
+ghost use Rattle.recovery.specs.Devices.{Fails, AreOut, DeviceCause, IsResourceOrDevice, IsAfterReading};
 ghost use Rattle.recovery.specs.LogText.{text_of};
 ghost use Rattle.recovery.specs.TailFile.{tail_text, sum_of, end_of};
 ghost use Rattle.recovery.specs.InPlace.{IsContinued, IsLeft, IsLeftIn, Prepares, HasTail, Completed, DeliversInPlace, CompletesInPlace, HoldsCut, IsFlushed, Stays};
@@ -216,6 +216,10 @@ pub fn recover_in_place<
         ⊎ ((made : Prepares (LR.left log.old) (SR.left store.old))
         × IsContinued made.kept made.frames (LW.taken out_log.old) (LW.taken out_log.new)
         (LW.flushed out_log.old) (LW.flushed out_log.new)) }
+
+    // A fault of what was read, or of writing, comes after both sources were read to their ends.
+    ensures read_to_ends { IfErr result (λ e. IsAfterReading e
+        → IsAtEnd (LR.left log.new) × IsAtEnd (SR.left store.new)) }
 
     // A device is blamed where it failed, and nowhere else.
     ensures log_source { Fails ReadLog result (LR.failures log.old) (LR.failures log.new) }
