@@ -89,9 +89,9 @@ struct aries_fault aries_recover(const uint8_t *log, size_t log_length, const ui
 /* AUDIT */
 
 /*
- * Whether an ARIES system that began with empty pages can have left this log, with a torn tail or none, and this
- * store. Number 0 exactly where it can, want of memory (1) aside. Else 6 to 12 of the bytes, or the first broken law:
- * 13 to 15, 20 to 28.
+ * Whether this log, with a torn tail or none, and this store keep the rules of docs/DEFINITIONS.md over empty pages.
+ * Number 0 exactly if they do, unless memory was refused (1). Else 6 to 12 of the bytes, or the first broken law: 13 to
+ * 15, 20 to 28.
  */
 struct aries_fault aries_audit(const uint8_t *log, size_t log_length, const uint8_t *store, size_t store_length);
 
