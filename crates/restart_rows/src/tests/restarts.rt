@@ -3,8 +3,10 @@
 
 use super::{check, with_appended};
 use core_rows::written::{
-    Row, Text, one_commit, page_with, prepared, prepared_abort, prepared_beside_loser,
-    prepared_commit, prepared_idle, prepared_in_checkpoint, store_of, undo_of_missing_page,
+    Row, Text, checkpoint_loser, one_commit, one_loser, page_with, partial_rollback_loser,
+    prepared, prepared_abort, prepared_beside_loser, prepared_commit, prepared_idle,
+    prepared_in_checkpoint, rollback_interrupted, several_kinds_of_loser, store_of, two_losers,
+    undo_of_missing_page,
 };
 use device::MemorySource;
 use page::{Fault, Page, Store, decode_store, encode_store};
@@ -163,6 +165,69 @@ fn is_restarted<R: Threads + Sync>(
         is_expected(&answer, row, &after, expected)
             && is_expected(&by_pieces, row, &after, expected),
     )
+}
+
+/// What a restart is to make of a row whose transactions are all losers: the page with this PageLSN and
+/// nothing in slots 0 and 1.
+fn rolled_back(lsn: u64, [redone, losers, compensated, ended]: [u64; 4]) -> Expected<'static> {
+    Expected {
+        page: page_with(lsn, None, None),
+        numbers: Numbers {
+            redo_from: 1,
+            redone,
+            losers,
+            compensated,
+            ended,
+        },
+        in_doubt: &[],
+    }
+}
+
+/// Losers that have updates, that were rolled back in part, and that a checkpoint lists.
+#[test]
+fn rolls_back_losers(rt: HostRuntime) -> Result<(), Fail> {
+    let alloc = rt.alloc();
+    for (name, row, master, expected) in [
+        (
+            "one-loser",
+            one_loser(alloc)?,
+            0,
+            rolled_back(2, [1, 1, 1, 1]),
+        ),
+        (
+            "two-losers",
+            two_losers(alloc)?,
+            0,
+            rolled_back(7, [3, 2, 3, 2]),
+        ),
+        (
+            "partial-rollback-loser",
+            partial_rollback_loser(alloc)?,
+            0,
+            rolled_back(6, [4, 1, 2, 1]),
+        ),
+        (
+            "rollback-interrupted",
+            rollback_interrupted(alloc)?,
+            0,
+            rolled_back(5, [3, 1, 1, 1]),
+        ),
+        (
+            "several-kinds-of-loser",
+            several_kinds_of_loser(alloc)?,
+            0,
+            rolled_back(8, [3, 3, 1, 3]),
+        ),
+        (
+            "checkpoint-loser",
+            checkpoint_loser(alloc)?,
+            2,
+            rolled_back(4, [1, 1, 1, 1]),
+        ),
+    ] {
+        check(is_restarted(&rt, alloc, &row, master, &expected)?, name)?;
+    }
+    Ok(())
 }
 
 /// What losers did is undone beside those in doubt, which are listed in rising number.
