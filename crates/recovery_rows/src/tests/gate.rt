@@ -4,7 +4,7 @@ use super::{check, check_all};
 use crate::in_memory::recover_in_memory;
 use aries::Options;
 use core_rows::ten_pages::{HeldGate, are_all_changed, ten_pages, ten_updates};
-use page::{Fault, decode_store, encode_store};
+use page::{Fault, Page, decode_store, encode_page};
 use redo::{Gate, OpenGate};
 use std::alloc::Global;
 use std::sync::atomic::{AtomicU64, Ordering};
@@ -146,16 +146,26 @@ fn one_worker_enters_each_part_once(rt: HostRuntime) -> Result<(), Fail> {
     Ok(())
 }
 
-/// The fault of a recovery of ten updates beside a store that lacks the last of their pages.
+/// A store that lacks the last of the pages of ten updates.
+fn nine_pages(alloc: Global) -> Result<Vec<u8>, Fault> {
+    let mut store = Vec::from_slice(
+        alloc,
+        b"ARIESPG1\x00\x00\x00\x09\x00\x00\x00\x00\x00\x00\x00\x00\x00\x00\x00\x00",
+    )?;
+    for number in 0..9 {
+        store.extend_from_slice(&encode_page(&Page::empty(number)))?;
+    }
+    Ok(store)
+}
+
+/// The fault of a recovery of ten updates beside nine pages.
 fn fault_of_nine<G: Gate, R: Threads + Sync>(
     rt: &R,
     alloc: Global,
     gate: &G,
 ) -> Result<Option<Fault>, Fault> {
     let log = ten_updates(alloc)?;
-    let mut store = decode_store(alloc, &ten_pages(alloc)?)?;
-    store.pages.pop();
-    let store = encode_store(alloc, &store)?;
+    let store = nine_pages(alloc)?;
     let options = Options {
         workers: 1,
         parts: 10,
