@@ -1,6 +1,6 @@
 //! The store file: header and page images.
 
-ghost use Rattle.std.specs.Prelude.{◌≡◌, ◌<◌, ◌*◌, ◌^◌, ℕ, IfSome, IfOk, IfErr, OnOk, length};
+ghost use Rattle.std.specs.Prelude.{◌≡◌, ◌<◌, ◌*◌, ◌^◌, ℕ, IfSome, IfOk, IfErr, OnOk, OnErr, length};
 ghost use Rattle.page.specs.File.{store_header, store_text, FitsStore, BeginsWithHeader};
 ghost use Rattle.page.specs.declared.sizes.TheConstants.{PAGE_BYTES};
 ghost use Rattle.page.specs.Images.{AreImages};
@@ -40,11 +40,12 @@ pub fn encode_pages_into(pages: &[Page], images: &mut [u8])
 /// The one spelling of a store, in place of what the vector holds: `ARIESPG1`, page count, four
 /// zeros, master; then the images of the pages in order: 24 + 1,024 x count bytes, all numbers big
 /// endian. A vector of that length takes no memory. The only error is `NoResource`, where memory is
-/// refused; nothing is written then.
+/// refused, and the vector keeps its bytes.
 pub fn encode_store_into(store: &Store, bytes: &mut Vec<u8>) -> Result<(), Fault>
     ensures ok { OnOk result (bytes.new.items ≡ store_text store.now) }
     ensures fits { OnOk result (FitsStore store.now) }
     ensures err { IfErr result (λ e. e ≡ Fault.NoResource) }
+    ensures kept { OnErr result (bytes.new.items ≡ bytes.old.items) }
 {
     bytes.resize(STORE_HEADER_BYTES + PAGE_BYTES * store.pages.len(), 0)?;
     let (header, images) = bytes.split_at_mut(STORE_HEADER_BYTES);
