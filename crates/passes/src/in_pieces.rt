@@ -74,7 +74,7 @@ fn go_at_once<S: Reread>(
         → Lawful base whole store → AreTrue whole store x.tables) }
     ensures no_transaction_0 { IfOk result (λ x. entry_for 0 x.tables.transactions ≡ None) }
     ensures numbered { IfOk result (λ x. AreNumbered x.redone.pages.items) }
-    // A lawful log and its store are refused by nothing but a device or want of memory.
+    // A lawful log and its store are refused only if a device fails or memory is refused.
     ensures lawful { IfErr result (λ e. (text : List ℕ) (whole : LogContent) (torn : ℕ)
         (base : BasePages) → S.text source.old ≡ Some text → Reads text whole torn
         → Lawful base whole store → IsResource e) }
@@ -122,7 +122,7 @@ fn go_by_passes<S: Reread>(
         → Lawful base whole store → AreTrue whole store x.tables) }
     ensures no_transaction_0 { IfOk result (λ x. entry_for 0 x.tables.transactions ≡ None) }
     ensures numbered { IfOk result (λ x. AreNumbered x.redone.pages.items) }
-    // A lawful log and its store are refused by nothing but a device or want of memory.
+    // A lawful log and its store are refused only if a device fails or memory is refused.
     ensures lawful { IfErr result (λ e. (text : List ℕ) (whole : LogContent) (torn : ℕ)
         (base : BasePages) → S.text source.old ≡ Some text → Reads text whole torn
         → Lawful base whole store → IsResource e) }
@@ -170,7 +170,7 @@ fn go_forward<S: Reread>(
         → Lawful base whole store → AreTrue whole store x.tables) }
     ensures no_transaction_0 { IfOk result (λ x. entry_for 0 x.tables.transactions ≡ None) }
     ensures numbered { IfOk result (λ x. AreNumbered x.redone.pages.items) }
-    // A lawful log and its store are refused by nothing but a device or want of memory.
+    // A lawful log and its store are refused only if a device fails or memory is refused.
     ensures lawful { IfErr result (λ e. (text : List ℕ) (whole : LogContent) (torn : ℕ)
         (base : BasePages) → S.text source.old ≡ Some text → Reads text whole torn
         → Lawful base whole store → IsResource e) }

@@ -20,8 +20,7 @@ first_end_after m log [] x e = e
 first_end_after m log (CheckpointEnd begin ts d ∷ rs) x e = first_end_after m (log ▸ CheckpointEnd begin ts d) rs x (rw e refl)
 first_end_after m log (r ∷ rs) x e = first_end_after m (log ▸ r) rs x e
 
--- the end that is met names m, and none before it does
--- and one that is found up to an LSN is the first of the log
+-- the end that is found in the records up to an LSN is that of the whole log
 first_end_before : (m lsn : ℕ) (log : History) (x : List TableEntry × List (ℕ × ℕ)) → first_end m (first lsn log) ≡ Some x → first_end m log ≡ Some x
 first_end_before m lsn (start _) x e = e
 first_end_before m lsn (log ▸ r) x e =
