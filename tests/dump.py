@@ -135,6 +135,10 @@ def check_damage(tally, room):
     tally.say("dump of no store", has_refused(ran, b"fault 3: reading the store failed\n"))
     ran = dump("store", os.path.join(SMALL_ROWS, "two-losers", "log"))
     tally.say("dump of a log as a store", has_refused(ran, b"fault 10: bad store header\n"))
+    store = bytes_of(os.path.join(SMALL_ROWS, "ten-pages", "store"))
+    sizes = [store[:-1], store + b"\0", store[:24], store[:-1024]]
+    answers = [dump("store", written(room, "another-size", text)) for text in sizes]
+    tally.say("dump of a store of another size", all(has_refused(ran, b"fault 11: store size\n") for ran in answers))
 
 
 def check_words(tally, room):

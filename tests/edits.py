@@ -54,8 +54,57 @@ def edits_in(pattern):
         yield os.path.relpath(edit, TOP).split(os.sep)[parts.index("*")], edit
 
 
+# The wrong bodies that a promise names, by the crate whose contract must refuse them; a body with several forms has an edit for each.
+PROMISED = {
+    "analysis": ["checkpoint-ignored", "prepared-abort-kept"],
+    "audit": ["audit-always-ok", "audit-always-refuses", "audit-without-strictness"],
+    "board": [
+        "guarded-board", "invented-number", "invented-number-first", "private-count", "split-forgets", "split-forgets-places",
+        "stop-never-said", "stop-without-cause", "swallowed-number", "swallowed-number-next",
+    ],
+    "device": ["failure-ignored", "innocent-device"],
+    "page": ["empty-value-wrong-place"],
+    "recovery": ["failure-ignored", "innocent-device", "log-left", "store-first", "torn-tail-kept", "version-1-written"],
+    "redo": ["redo-at-page-lsn", "redo-from-begin", "redo-of-winners-only", "winners-clrs-skipped"],
+    "restart": ["page-ahead-accepted", "winners-without-images"],
+    "undo": [
+        "bad-hop-accepted", "compensated-twice", "compensated-twice-at-clr", "ends-last", "owner-unseen", "prev-trusted",
+        "undo-by-transaction", "undo-next-own-lsn",
+    ],
+    "wal": ["lsns-counted-from-1", "short-frame", "short-frame-dropped"],
+}
+
+# Those that no contract refuses, and the tests that fail with them.
+TESTED = {
+    "always-no-resource": [("rows", "run_line")],
+    "no-flush": [("recovery_rows", "one_loser_over_devices"), ("base_rows", "flush_fails")],
+    "stop-own-notes": [("base_rows", "stop_seen")],
+    "workers-in-turn": [("redo_rows", "the_gate_hears_who_draws_what"), ("recovery_rows", "the_gate_hears_who_draws_what")],
+}
+
+
+def check_promised(tally):
+    """Sees that the gate tries each wrong body that a promise names, and that the tests are there that catch the others."""
+    wanted = {(crate, f"{name}.edit") for crate, names in PROMISED.items() for name in names}
+    tried = {(crate, os.path.basename(edit)) for crate, edit in edits_in("crates/*/must-fail")}
+    tally.say("each wrong body that a promise names is tried", wanted <= tried, sorted(wanted - tried))
+    for name, tests in TESTED.items():
+        missing = [f"{crate}::{test}" for crate, test in tests if not has_function(crate, test)]
+        tally.say(f"the wrong body {name} has its tests", not missing, missing)
+
+
+def has_function(crate, name):
+    """Whether a crate's sources have a function of this name."""
+    for path in glob.glob(os.path.join(TOP, "crates", crate, "src", "**", "*.rt"), recursive=True):
+        with open(path, encoding="utf-8") as file:
+            if re.search(rf"fn {name}\b", file.read()):
+                return True
+    return False
+
+
 def check_edits(tally):
     """Sees that each edit can be applied, and that none has the name of another of its crate."""
+    check_promised(tally)
     tried, others = list(edits_in("crates/*/must-fail")), list(edits_in("edits/*"))
     faults = [f"{os.path.relpath(edit, TOP)}: {why}" for crate, edit in tried + others if (why := cannot_be_applied(crate, edit))]
     tally.say("each wrong body can be applied", tried and others and not faults, "; ".join(faults))

@@ -261,12 +261,22 @@ def is_right_audit(row, ran, is_refused):
     return has_printed(ran, expected) or (ran.returncode == 1 and not ran.stderr and not ran.stdout and is_refused)
 
 
-def is_right_slow(name, ran, is_refused):
-    """Fault 1 and nothing out; or what the row says; or an error of the runner itself, before or behind the recovery."""
+def is_right_line_of(what, ran, is_refused):
+    """What the row says; or that memory was refused; or an error of the runner itself, before or after what it does."""
     line = ran.stdout.decode().rstrip("\n")
     if ran.returncode == 0:
-        return line == f"{name}, slow devices: ok" or (is_refused and line == f"{name}, slow devices: no resource, and nothing out")
+        return line == f"{what}: ok" or (is_refused and line == f"{what}: no resource, and nothing out")
     return is_refused and ran.returncode == 1 and not line
+
+
+def check_line(tally, room, refuser, name, word, what):
+    """Runs one line of an index on a row, each growth of memory refused in turn."""
+    folder = os.path.join(room, f"{word}-{name}")
+    shutil.copytree(os.path.join(SMALL_ROWS, name), os.path.join(folder, name))
+    with open(os.path.join(folder, "index"), "w") as index:
+        index.write(f"{name} {word}\n")
+    job = lambda **how: run([ROW_RUNNER], cwd=folder, **how)
+    check_refused_growth(tally, f"{name}, {what}", refuser, job, lambda *ran: is_right_line_of(f"{name}, {what}", *ran))
 
 
 def is_right_line(ran, is_refused):
@@ -299,12 +309,8 @@ def check_refusals(tally, room):
         piped = functools.partial(row.recover, is_piped=True)
         check_refused_growth(tally, f"{name}, recovery in memory", refuser, piped, lambda *ran: is_right_recovery(row, *ran))
         check_refused_growth(tally, f"{name}, audit", refuser, row.audit, lambda *ran: is_right_audit(row, *ran))
-        folder = os.path.join(room, f"slow-{name}")
-        shutil.copytree(row.folder, os.path.join(folder, name))
-        with open(os.path.join(folder, "index"), "w") as index:
-            index.write(f"{name} slow\n")
-        job = lambda **how: run([ROW_RUNNER], cwd=folder, **how)
-        check_refused_growth(tally, f"{name}, slow devices", refuser, job, lambda *ran: is_right_slow(name, *ran))
+        check_line(tally, room, refuser, name, "slow", "slow devices")
+        check_line(tally, room, behind, name, "each", "each record")
     for what, row in (("in pieces", long_row(room)), ("in memory", long_row(room, base=LARGEST_BASE))):
         check_refused_growth(tally, f"a long log, recovery {what}", refuser, row.recover, lambda *ran: is_right_recovery(row, *ran))
 

@@ -1,6 +1,6 @@
 //! The text of a fault.
 
-ghost use Rattle.std.specs.Prelude.{◌≡◌, ◌≢◌, ◌<◌, ◌≤◌, ◌⊎◌, IfSome, IfNone, drop, length};
+ghost use Rattle.std.specs.Prelude.{◌≡◌, ◌≢◌, ◌<◌, ◌≤◌, ¬◌, IfSome, IfNone, drop, length};
 ghost use Rattle.page.specs.declared.fault.Fault.{Fault as Content};
 ghost use Rattle.page.specs.Fault.{number_of};
 ghost use Rattle.aries_c.specs.declared.fault.TheConstants.{NO_ROOM, NOT_WRITABLE};
@@ -13,7 +13,7 @@ use std::alloc::{AllocError, Global};
 
 /// The fault with this number, if it is one that carries no place.
 fn bare_fault(number: u32) -> Option<page::Fault>
-    ensures found { IfSome result (λ fault. (number_of fault ≡ number) × (place_of fault ≡ 0)) }
+    ensures found { IfSome result (λ fault. (number_of fault ≡ number) × IsBare fault) }
     ensures none { IfNone result ((fault : Content) → IsBare fault → number_of fault ≢ number) }
 {
     match number {
@@ -74,8 +74,7 @@ fn fault_of_page(number: u32, page: u32) -> Option<page::Fault>
 /// The fault with this number, whatever its place; none where no fault has it.
 fn fault_in(told: &Fault) -> Option<page::Fault>
     ensures found { IfSome result (λ fault. number_of fault ≡ told.now.number) }
-    ensures place { IfSome result (λ fault. (place_of fault ≡ 0)
-        ⊎ (place_of fault ≡ told.now.place)) }
+    ensures place { IfSome result (λ fault. ¬ IsBare fault → place_of fault ≡ told.now.place) }
     ensures none { IfNone result ((fault : Content) → IsFault fault → told.now ≢ told_of fault) }
 {
     if let Some(fault) = bare_fault(told.number) {
@@ -104,7 +103,8 @@ pub extern "C" fn aries_fault_text(
     told: &mut usize,
 ) -> Fault
     ensures named { result.number ≡ 0 → (content : Content)
-        × (number_of content ≡ fault.now.number) }
+        × (number_of content ≡ fault.now.number)
+        × (¬ IsBare content → told_of content ≡ fault.now) }
     ensures written { result.number ≡ 0 → (told.new ≤ length out.old)
         × (drop told.new out.new ≡ drop told.new out.old) }
     ensures no_room { result.number ≡ NO_ROOM → length out.old < told.new }

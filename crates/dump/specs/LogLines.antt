@@ -1,6 +1,6 @@
 -- The lines of a log (own): its header, the records that are asked for, each with the place of its frame, and its torn tail.
 use Rattle.std.specs.Prelude.{◌≡◌, ℕ, suc, ◌+◌, List, [], ◌++◌, Option, Some, None, length, take, ◌==◌, if◌then◌else◌, codes, ⊤}
-use Rattle.std.specs.Io.KnownBytes.{Appends}
+use Rattle.std.specs.Io.KnownBytes.{Appends, Keeps}
 use Rattle.page.specs.declared.fault.Fault.{Fault}
 use Rattle.page.specs.declared.fault.Fault.TheVariants.{NoResource, BadLength, BadRecord, BadLsn}
 use Rattle.wal.specs.declared.header.LogStart.{LogStart}
@@ -82,9 +82,9 @@ fault_at (BadRecord offset) = Some offset
 fault_at (BadLsn offset) = Some offset
 fault_at e = None
 
--- the lines of the log in front of an offset, if there is one
+-- the lines of the log before an offset were printed; nothing was, if there is no offset
 abbrev pub ListsFront : Style → Choice → List ℕ → (old new : Option (List ℕ)) → Option ℕ → Type 0
-ListsFront style choice bytes old new None = ⊤
+ListsFront style choice bytes old new None = Keeps old new
 ListsFront style choice bytes old new (Some offset) = (log : LogContent) × Reads (take offset bytes) log 0 × Appends old new (log_lines style choice log 0)
 
 -- A damaged log: the fault is why it is refused, and what stands in front of it was listed.

@@ -1,10 +1,11 @@
 -- The lines of a store (own): its header, and the pages that are asked for.
 use Rattle.std.specs.Prelude.{◌≡◌, ◌≢◌, ◌⊎◌, ℕ, zero, suc, ◌+◌, ◌*◌, ◌/◌, List, [], ◌∷◌, ◌++◌, Option, Some, None, length, if◌then◌else◌, codes, decimal, ⊤}
 use Rattle.std.specs.List.{flat_map}
-use Rattle.std.specs.Io.KnownBytes.{Appends}
+use Rattle.std.specs.Io.KnownBytes.{Appends, Keeps}
 use Rattle.page.specs.Image.{Image, SpellsPage}
 use Rattle.page.specs.File.{SpellsStore, StoreFault, images_of}
 use Rattle.page.specs.Images.{image_of}
+use Rattle.page.specs.declared.fault.Fault.{Fault}
 use Rattle.page.specs.declared.fault.Fault.TheVariants.{NoResource, BadPage}
 use Rattle.page.specs.Store.{StoreContent}
 use Rattle.page.specs.declared.page.Page.{Page}
@@ -77,9 +78,13 @@ abbrev pub ListsWholePages : Style → (asked : Option ℕ) → (bytes : List �
 ListsWholePages style asked bytes old new =
     (text : List ℕ) × AreLinesOf style asked (images_of bytes) (length (images_of bytes) / PAGE_BYTES) text × Appends old new text
 
--- a fault is why the bytes are refused; where it is a page's, the pages that are whole were listed
+-- what was printed of a store that is refused for a fault: the pages that are whole if the fault is a page's, else nothing
+abbrev pub PrintsRest : Style → (asked : Option ℕ) → (bytes : List ℕ) → (old new : Option (List ℕ)) → Fault → Type 0
+PrintsRest style asked bytes old new (BadPage number) = ListsWholePages style asked bytes old new
+PrintsRest style asked bytes old new e = Keeps old new
+
+-- a fault is why the bytes are refused, and what is left of the store was printed
 abbrev pub ListsStoreToFault : Style → (asked : Option ℕ) → (bytes : List ℕ) → (old new : Option (List ℕ)) → Stop → Type 0
 ListsStoreToFault style asked bytes old new (stop.Print error) = ⊤
 ListsStoreToFault style asked bytes old new (stop.Fault NoResource) = ⊤
-ListsStoreToFault style asked bytes old new (stop.Fault (BadPage number)) = StoreFault bytes (BadPage number) × ListsWholePages style asked bytes old new
-ListsStoreToFault style asked bytes old new (stop.Fault e) = StoreFault bytes e
+ListsStoreToFault style asked bytes old new (stop.Fault e) = StoreFault bytes e × PrintsRest style asked bytes old new e

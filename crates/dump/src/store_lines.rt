@@ -4,10 +4,9 @@ ghost use Rattle.std.specs.Prelude.{ℕ, List, length, take, ◌+◌, ◌≤◌,
 ghost use Rattle.std.specs.List.{flat_map};
 ghost use Rattle.std.specs.Io.KnownBytes.{Appends};
 ghost use Rattle.page.specs.declared.sizes.TheConstants.{PAGES, PAGE_BYTES};
-ghost use Rattle.dump.specs.StoreLines.{store_line, store_lines, slot_name, slot_field, slot_fields, page_line, page_if_asked, ListsStore, IsLineOf, AreLinesOf, ListsWholePages, ListsStoreToFault};
+ghost use Rattle.dump.specs.StoreLines.{store_line, store_lines, slot_name, slot_field, slot_fields, page_line, page_if_asked, ListsStore, IsLineOf, AreLinesOf, PrintsRest, ListsStoreToFault};
 ghost use Rattle.page.specs.File.{StoreFault};
 ghost use Rattle.page.specs.Images.{image_of};
-ghost use Rattle.page.specs.declared.fault.Fault.{Fault};
 ghost use Rattle.dump.specs.LogLines.{IsNoFault};
 
 use crate::choice::meets;
@@ -222,8 +221,8 @@ fn print_rest<W: Write>(
     out: &mut W,
 ) -> Result<(), Stop>
     requires { StoreFault bytes.now fault.now }
-    ensures printed { OnOk result ((number : ℕ) → fault.now ≡ Fault.BadPage number
-        → ListsWholePages style asked bytes.now (W.contents out.old) (W.contents out.new)) }
+    ensures printed { OnOk result (PrintsRest style asked bytes.now (W.contents out.old)
+        (W.contents out.new) fault.now) }
     ensures err { IfErr result IsNoFault }
 {
     match fault {

@@ -1,9 +1,11 @@
 //! The rollbacks of undo, and restarts.
 
+mod both_ways;
 mod gathered;
 mod in_pieces;
 mod restarts;
 mod rollbacks;
+mod written_pages;
 
 use core_rows::written::Text;
 use page::Fault;

@@ -4,6 +4,7 @@
 #![tactic(auto)]
 
 mod cuts;
+mod each;
 mod memory;
 mod program;
 mod verdict;
@@ -73,6 +74,13 @@ fn run_slow<R: Files + Print + AllocGlobal + Threads + Sync>(rt: &R, row: &str) 
     Ok(())
 }
 
+/// Prints whether each record of a row's log is found by its LSN.
+fn run_each<R: Files + Print + AllocGlobal>(rt: &R, row: &str) -> Result<()> {
+    let verdict = each::of_each_record(rt, row).context(format_args!("records of {row}"))?;
+    println!(rt; "{row}, each record: {verdict}")?;
+    Ok(())
+}
+
 /// Prints whether the restarts of a row whose log was cut short are as the row says.
 fn run_cuts<R: Files + Clock + Print + AllocGlobal + Threads + Sync>(
     rt: &R,
@@ -96,7 +104,7 @@ fn run_cuts<R: Files + Clock + Print + AllocGlobal + Threads + Sync>(
 }
 
 /// Runs what a line says of a row: the folder, and then `audit`; or `audit-over`; or `slow`; or
-/// `cuts`, the PageLSN of the page and the sizes of the shortest and the longest log; or `cuts-over`
+/// `each`, its records by their LSNs; or `cuts`, the PageLSN of the page and the sizes of the shortest and the longest log; or `cuts-over`
 /// and the same; or the workers and the parts of a restart.
 fn run_line<R: Files + Clock + Print + AllocGlobal + Threads + Sync>(
     rt: &R,
@@ -113,6 +121,9 @@ fn run_line<R: Files + Clock + Print + AllocGlobal + Threads + Sync>(
     }
     if command == "slow" {
         return run_slow(rt, row);
+    }
+    if command == "each" {
+        return run_each(rt, row);
     }
     if command == "cuts" {
         return run_cuts(rt, row, false, &mut words);

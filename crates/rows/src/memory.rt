@@ -26,7 +26,7 @@ struct Row {
 }
 
 /// The bytes of a row's file.
-fn file_of<R: Files + AllocGlobal>(rt: &R, row: &str, file: &str) -> Result<Vec<u8>> {
+pub fn file_of<R: Files + AllocGlobal>(rt: &R, row: &str, file: &str) -> Result<Vec<u8>> {
     let path = format!(in rt.alloc(); "{row}/{file}")?;
     let bytes = fs::read(rt, path.as_str()).context(format_args!("reading {row}/{file}"))?;
     Ok(bytes)

@@ -1,187 +1,18 @@
 //! Rows worked by hand, restarted on values: what is appended, the pages, the numbers, the master,
 //! and the fault that comes first.
 
-use super::{check, with_appended};
+use super::both_ways::{Expected, GOOD, Manner, Numbers, is_restarted, refused, rolled_back};
+use super::check;
 use core_rows::written::{
     Row, Text, checkpoint_loser, one_commit, one_loser, page_with, partial_rollback_loser,
     prepared, prepared_abort, prepared_beside_loser, prepared_commit, prepared_idle,
-    prepared_in_checkpoint, rollback_interrupted, several_kinds_of_loser, store_of, two_losers,
+    prepared_in_checkpoint, rollback_interrupted, several_kinds_of_loser, two_losers,
     undo_of_missing_page,
 };
-use device::MemorySource;
-use page::{Fault, Page, Store, decode_store, encode_store};
-use passes::{PassFault, Restarted, restart_in_pieces};
-use redo::{OpenGate, Parting};
-use restart::{Outcome, restart};
+use page::Fault;
 use std::alloc::Global;
 use std::test::Fail;
 use std::thread::Threads;
-use undo::{Looked, Place, records_of};
-use wal::{BASED_HEADER_BYTES, LONGEST_FRAME, Record, read_log};
-
-/// What a restart tells in numbers.
-#[derive(Clone, Copy, PartialEq, Eq)]
-struct Numbers {
-    redo_from: u64,
-    redone: u64,
-    losers: u64,
-    compensated: u64,
-    ended: u64,
-}
-
-/// What a restart makes of a log and a store of one page.
-#[derive(Drop)]
-struct Answer {
-    /// The log with what is appended.
-    log: Vec<u8>,
-    store: Vec<u8>,
-    numbers: Numbers,
-    in_doubt: Vec<u32>,
-}
-
-/// What a restart is to make of a row and an empty page.
-#[derive(Clone, Copy)]
-struct Expected<'a> {
-    /// The page, under the same master.
-    page: Page,
-    numbers: Numbers,
-    in_doubt: &'a [u32],
-}
-
-/// How a restart is run: the pages of its store, and its workers.
-#[derive(Clone, Copy)]
-struct Manner {
-    pages: u32,
-    workers: u32,
-}
-
-/// How a restart is run that is answered.
-const GOOD: Manner = Manner {
-    pages: 1,
-    workers: 2,
-};
-
-/// A restart on a log and a store, of three parts.
-fn outcome_of<R: Threads + Sync>(
-    rt: &R,
-    alloc: Global,
-    log: &[u8],
-    store: &Store,
-    manner: Manner,
-) -> Result<Outcome, Fault> {
-    let (log, _) = read_log(alloc, log)?;
-    let parting = Parting::by_number(alloc, manner.pages, 3)?;
-    restart(rt, alloc, &log, store, &parting, manner.workers, &OpenGate)
-}
-
-/// Restarts on a log and the bytes of a store.
-fn restarted<R: Threads + Sync>(
-    rt: &R,
-    alloc: Global,
-    text: &Text,
-    store: &[u8],
-    manner: Manner,
-) -> Result<Answer, Fault> {
-    let before = decode_store(alloc, store)?;
-    let outcome = outcome_of(rt, alloc, &text.bytes, &before, manner)?;
-    answer_of(alloc, text, outcome)
-}
-
-/// What an outcome makes of a log and its store.
-fn answer_of(alloc: Global, text: &Text, outcome: Outcome) -> Result<Answer, Fault> {
-    Ok(Answer {
-        log: with_appended(text, &outcome.appended)?,
-        store: encode_store(alloc, &outcome.store)?,
-        numbers: Numbers {
-            redo_from: outcome.redo_from,
-            redone: outcome.redone,
-            losers: outcome.losers,
-            compensated: outcome.compensated,
-            ended: outcome.ended,
-        },
-        in_doubt: outcome.in_doubt,
-    })
-}
-
-/// A restart on a log that is read in pieces, and on a store.
-fn outcome_by_pieces(alloc: Global, log: &[u8], store: Store) -> Result<Outcome, Fault> {
-    let mut room = vec![in alloc; 0; BASED_HEADER_BYTES + LONGEST_FRAME]?;
-    let mut source = MemorySource::new(log);
-    let Restarted {
-        kept: _,
-        torn: _,
-        gathered,
-        outcome,
-    } = match restart_in_pieces(alloc, &mut source, &mut room, store) {
-        Ok(restarted) => restarted,
-        Err(PassFault::Fault(fault)) => return Err(fault),
-        Err(PassFault::Failed) => return Err(Fault::ReadLog),
-    };
-    let looked = Looked {
-        place: Place::Gathered(&gathered),
-    };
-    let appended = records_of(alloc, &looked, &outcome.appended)?;
-    Ok(Outcome {
-        store: outcome.store,
-        appended,
-        redo_from: outcome.redo_from,
-        redone: outcome.redone,
-        losers: outcome.losers,
-        in_doubt: outcome.in_doubt,
-        compensated: outcome.compensated,
-        ended: outcome.ended,
-    })
-}
-
-/// Restarts on a log that is read in pieces, and on the bytes of a store.
-fn restarted_by_pieces(alloc: Global, text: &Text, store: &[u8]) -> Result<Answer, Fault> {
-    let before = decode_store(alloc, store)?;
-    let outcome = outcome_by_pieces(alloc, &text.bytes, before)?;
-    answer_of(alloc, text, outcome)
-}
-
-/// Whether an answer is the row's new log, and what is expected.
-fn is_expected(answer: &Answer, row: &Row, after: &[u8], expected: &Expected) -> bool {
-    answer.log.as_slice() == row.made.bytes.as_slice()
-        && answer.store.as_slice() == after
-        && answer.numbers == expected.numbers
-        && answer.in_doubt.as_slice() == expected.in_doubt
-}
-
-/// Whether a restart of a row on an empty page makes the row's new log, and what is expected, with the
-/// log in memory and in pieces.
-fn is_restarted<R: Threads + Sync>(
-    rt: &R,
-    alloc: Global,
-    row: &Row,
-    master: u64,
-    expected: &Expected,
-) -> Result<bool, Fault> {
-    let before = store_of(alloc, master, &Page::empty(0))?;
-    let after = store_of(alloc, master, &expected.page)?;
-    let answer = restarted(rt, alloc, &row.given, &before, GOOD)?;
-    let by_pieces = restarted_by_pieces(alloc, &row.given, &before)?;
-    Ok(
-        is_expected(&answer, row, &after, expected)
-            && is_expected(&by_pieces, row, &after, expected),
-    )
-}
-
-/// What a restart is to make of a row whose transactions are all losers: the page with this PageLSN and
-/// nothing in slots 0 and 1.
-fn rolled_back(lsn: u64, [redone, losers, compensated, ended]: [u64; 4]) -> Expected<'static> {
-    Expected {
-        page: page_with(lsn, None, None),
-        numbers: Numbers {
-            redo_from: 1,
-            redone,
-            losers,
-            compensated,
-            ended,
-        },
-        in_doubt: &[],
-    }
-}
 
 /// Losers that have updates, that were rolled back in part, and that a checkpoint lists.
 #[test]
@@ -361,29 +192,6 @@ fn leaves_those_that_the_tables_have_in_doubt(rt: HostRuntime) -> Result<(), Fai
     check(leaves(&rt, alloc, &text, 0, 1, &[1])?, "behind a commit")?;
     let text = ended_in_doubt(alloc)?;
     check(leaves(&rt, alloc, &text, 0, 1, &[])?, "behind an end")
-}
-
-/// The fault of a restart on an empty page with this PageLSN. None if a log that is read in pieces has
-/// another; that way knows of no settings.
-fn refused<R: Threads + Sync>(
-    rt: &R,
-    alloc: Global,
-    text: &Text,
-    master: u64,
-    lsn: u64,
-    manner: Manner,
-) -> Option<Fault> {
-    let page = page_with(lsn, None, None);
-    let store = match store_of(alloc, master, &page) {
-        Ok(store) => store,
-        Err(fault) => return Some(fault),
-    };
-    let refusal = restarted(rt, alloc, text, &store, manner).err();
-    if matches!(refusal, Some(Fault::BadWorkers | Fault::BadParting)) {
-        return refusal;
-    }
-    let by_pieces = restarted_by_pieces(alloc, text, &store).err();
-    if by_pieces == refusal { refusal } else { None }
 }
 
 /// An abort behind a prepare makes its transaction a loser.

@@ -1,0 +1,205 @@
+//! Rows worked by hand: restarts that append nothing, restarts on pages that were written before the
+//! crash, and restarts that are cut short and begun again.
+
+use super::both_ways::{
+    Expected, GOOD, Manner, Numbers, is_restarted, is_restarted_on, outcome_by_pieces, outcome_of,
+    refused, rolled_back,
+};
+use super::check;
+use core_rows::ten_pages::{are_all_changed, ten_pages, ten_updates};
+use core_rows::written::{
+    Letter, Row, Text, checkpoint_loser, clr_points_past_zero, one_commit, one_loser, page_with,
+    partial_rollback_commit, two_losers,
+};
+use page::{Fault, Page, decode_store};
+use restart::Outcome;
+use std::alloc::Global;
+use std::test::Fail;
+use std::thread::Threads;
+
+/// A row whose log a restart leaves as it is.
+fn unchanged(given: Text) -> Result<Row, Fault> {
+    let made = given.copied()?;
+    Ok(Row { given, made })
+}
+
+/// What a restart is to make of a row without losers: the page with this PageLSN, and this in slot 0.
+fn finished(lsn: u64, letter: Letter, redone: u64) -> Expected<'static> {
+    Expected {
+        page: page_with(lsn, letter, None),
+        numbers: Numbers {
+            redo_from: 1,
+            redone,
+            losers: 0,
+            compensated: 0,
+            ended: 0,
+        },
+        in_doubt: &[],
+    }
+}
+
+#[test]
+fn appends_nothing_without_losers(rt: HostRuntime) -> Result<(), Fail> {
+    let alloc = rt.alloc();
+    let row = unchanged(partial_rollback_commit(alloc)?)?;
+    let expected = finished(3, Some(b'a'), 3);
+    let is_right = is_restarted(&rt, alloc, &row, 0, &expected)?;
+    check(is_right, "partial-rollback-commit")?;
+    let mut text = checkpoint_loser(alloc)?.given;
+    text.commit(1, 1)?;
+    let expected = finished(1, Some(b'a'), 1);
+    let is_right = is_restarted(&rt, alloc, &unchanged(text)?, 2, &expected)?;
+    check(is_right, "checkpoint-commit")?;
+    let row = unchanged(one_loser(alloc)?.made)?;
+    let page = page_with(2, None, None);
+    let expected = finished(2, None, 0);
+    let is_right = is_restarted_on(&rt, alloc, &row, 0, &page, &expected)?;
+    check(is_right, "restarted-result")
+}
+
+#[test]
+fn redoes_nothing_on_a_page_that_was_written(rt: HostRuntime) -> Result<(), Fail> {
+    let alloc = rt.alloc();
+    let row = checkpoint_loser(alloc)?;
+    let page = page_with(1, Some(b'a'), None);
+    let expected = rolled_back(4, [0, 1, 1, 1]);
+    let is_right = is_restarted_on(&rt, alloc, &row, 2, &page, &expected)?;
+    check(is_right, "checkpoint-loser-flushed")
+}
+
+/// The page of `two-losers` as the record with this LSN leaves it, and the one after its end.
+fn page_at(lsn: u64) -> Page {
+    match lsn {
+        0 => Page::empty(0),
+        1 => page_with(1, Some(b'a'), None),
+        2 => page_with(2, Some(b'a'), Some(b'b')),
+        3 => page_with(3, Some(b'c'), Some(b'b')),
+        4 => page_with(4, Some(b'a'), Some(b'b')),
+        5 => page_with(5, Some(b'a'), None),
+        _ => page_with(7, None, None),
+    }
+}
+
+/// The LSNs of the updates and CLRs of `two-losers` and of what is appended to it.
+const CHANGES: [u64; 6] = [1, 2, 3, 4, 5, 7];
+
+/// How many of these a log of so many records has that a page with this PageLSN lacks.
+fn redone_of(records: u64, lsn: u64) -> u64 {
+    let mut count = 0;
+    for change in CHANGES {
+        if lsn < change && change <= records {
+            count += 1;
+        }
+    }
+    count
+}
+
+/// A log that a restart left: how many records it has, its bytes, and the losers, CLRs and ends of the
+/// restart that goes on with it.
+struct Cut {
+    records: u64,
+    bytes: usize,
+    numbers: [u64; 3],
+}
+
+/// What a crash during the restart of `two-losers` leaves of the new log.
+const CUTS: [Cut; 6] = [
+    Cut {
+        records: 3,
+        bytes: 108,
+        numbers: [2, 3, 2],
+    },
+    Cut {
+        records: 4,
+        bytes: 148,
+        numbers: [2, 2, 2],
+    },
+    Cut {
+        records: 5,
+        bytes: 187,
+        numbers: [2, 1, 2],
+    },
+    Cut {
+        records: 6,
+        bytes: 212,
+        numbers: [1, 1, 1],
+    },
+    Cut {
+        records: 7,
+        bytes: 251,
+        numbers: [1, 0, 1],
+    },
+    Cut {
+        records: 8,
+        bytes: 276,
+        numbers: [0, 0, 0],
+    },
+];
+
+/// The new log of `two-losers`, cut, and what a restart is to make of it again.
+fn cut_row(alloc: Global, cut: &Cut) -> Result<Row, Fault> {
+    let made = two_losers(alloc)?.made;
+    let end = cut.bytes.min(made.bytes.len());
+    let given = Text {
+        bytes: Vec::from_slice(alloc, &made.bytes[..end])?,
+        lsn: cut.records,
+    };
+    Ok(Row { given, made })
+}
+
+/// Whether a restart on a cut log makes the whole one of it, over each image that the page can have.
+fn is_completed<R: Threads + Sync>(rt: &R, alloc: Global, cut: &Cut) -> Result<bool, Fault> {
+    let row = cut_row(alloc, cut)?;
+    let [losers, compensated, ended] = cut.numbers;
+    for lsn in [0, 1, 2, 3, 4, 5, 7] {
+        let numbers = [redone_of(cut.records, lsn), losers, compensated, ended];
+        let expected = rolled_back(7, numbers);
+        let can_be = lsn <= cut.records;
+        if can_be && !is_restarted_on(rt, alloc, &row, 0, &page_at(lsn), &expected)? {
+            return Ok(false);
+        }
+    }
+    Ok(true)
+}
+
+#[test]
+fn goes_on_with_what_was_cut(rt: HostRuntime) -> Result<(), Fail> {
+    let alloc = rt.alloc();
+    for cut in &CUTS {
+        check(is_completed(&rt, alloc, cut)?, "cuts-of-two-losers")?;
+    }
+    Ok(())
+}
+
+/// Whether a restart of `ten-pages` changes each page once and appends nothing.
+fn are_ten_restarted(outcome: &Outcome) -> bool {
+    outcome.redone == 10 && outcome.appended.is_empty() && are_all_changed(&outcome.store.pages)
+}
+
+#[test]
+fn restarts_ten_pages(rt: HostRuntime) -> Result<(), Fail> {
+    let alloc = rt.alloc();
+    let log = ten_updates(alloc)?;
+    let store = decode_store(alloc, &ten_pages(alloc)?)?;
+    for workers in [1, 2, 64] {
+        let manner = Manner { pages: 10, workers };
+        let outcome = outcome_of(&rt, alloc, &log, &store, manner)?;
+        check(are_ten_restarted(&outcome), "ten-pages")?;
+    }
+    let outcome = outcome_by_pieces(alloc, &log, store)?;
+    check(are_ten_restarted(&outcome), "ten-pages in pieces")
+}
+
+#[test]
+fn refuses_rows_by_their_faults(rt: HostRuntime) -> Result<(), Fail> {
+    let alloc = rt.alloc();
+    let text = clr_points_past_zero(alloc)?;
+    let refusal = refused(&rt, alloc, &text, 0, 0, GOOD);
+    check(
+        refusal == Some(Fault::BrokenChain(2)),
+        "clr-points-past-zero",
+    )?;
+    let text = one_commit(alloc, 1)?;
+    let refusal = refused(&rt, alloc, &text, 0, 0, GOOD);
+    check(refusal == Some(Fault::NoSuchPage(1)), "no-such-page")
+}
