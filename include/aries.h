@@ -12,6 +12,8 @@
  * buffers are as they were; what is told beside them (a length, counts, lengths of a recovery) is so too, but at
  * ARIES_NO_ROOM, which tells how long the buffers have to be.
  *
+ * PROCESSOR. x86-64 with SSSE3 and SSE4.1 (x86-64-v2). The archive does not check that; the programs do.
+ *
  * LSNs are numbers from 1, 0 for none. Lengths, rooms and offsets are in bytes, or in entries where a buffer has
  * structs or numbers.
  */
@@ -180,7 +182,7 @@ struct aries_tables {
 /*
  * The tables of the checkpoint end at this LSN, each at the front of its buffer, in rising order of transaction and
  * of page. ARIES_NOT_WRITABLE: no checkpoint end stands there; 64: the counts are told in `made`; 6 to 9 of the log;
- * 1.
+ * 1. The whole log is read at each call.
  */
 struct aries_fault aries_checkpoint(const uint8_t *log, size_t log_length, uint64_t lsn,
                                     struct aries_entry *transactions, size_t transactions_room,

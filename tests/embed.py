@@ -21,7 +21,7 @@ import tempfile
 from concurrent.futures import ThreadPoolExecutor
 
 sys.dont_write_bytecode = True  # no folder of it beside the tests
-from program import ARIES, LARGE_ROWS, SMALL_ROWS, TOP, Tally, library_of, run, text_of
+from program import ARIES, LARGE_ROWS, SMALL_ROWS, TOP, Tally, folder_of_toolchain, library_of, run, text_of, words_of_a_crate
 
 CRATE = "aries_c"
 ARCHIVE = f"lib{CRATE}.a"
@@ -61,10 +61,6 @@ typedef __UINT32_TYPE__ uint32_t;
 typedef __UINT64_TYPE__ uint64_t;
 """,
 }
-
-
-def folder_of_toolchain():
-    return os.path.dirname(run(["rt", "doc"], text=True, check=True).stdout.strip())
 
 
 def has_run(words, **how):
@@ -122,16 +118,7 @@ def crates_below():
 
 def build_words(kit):
     """What `rattle build` is told for the static library, over the libraries that `rt ci` built."""
-    words = ["--crate-name", CRATE, "src/lib.rt", "--extern", f"std={kit}/rlibs/std.rlib"]
-    words += ["-L", f"dependency={kit}/rlibs"]
-    for name in crates_below():
-        own = os.path.join(TOP, f"crates/{name}/out/rlib/{name}.rlib")
-        words += ["--extern", f"{name}={own if os.path.exists(own) else f'{kit}/rlibs/{name}.rlib'}"]
-    for name in sorted(os.listdir(os.path.join(TOP, "crates"))):
-        words += ["-L", f"dependency={TOP}/crates/{name}/out/rlib"]
-    words += ["--antt-project", f"{kit}/rattle/logic/antt-project.json", "--logic-built", f"{kit}/logic_built"]
-    words += ["--links", f"{CRATE}=", "--crate-type", "staticlib"]
-    return [*words, "--jobs", "2", "--toolchain", f"{kit}/toolchain"]
+    return [*words_of_a_crate(kit, CRATE, crates_below()), "--crate-type", "staticlib", "--toolchain", f"{kit}/toolchain"]
 
 
 def built_archive(toolchain, backend):

@@ -13,6 +13,22 @@ def text_of(path):
         return file.read()
 
 
+def folder_of_toolchain():
+    return os.path.dirname(run(["rt", "doc"], text=True, check=True).stdout.strip())
+
+
+def words_of_a_crate(kit, crate, below):
+    """What `rattle` is told for a crate over the libraries of these names, which are those that `rt ci` built or those of the kit."""
+    words = ["--crate-name", crate, "src/lib.rt", "--extern", f"std={kit}/rlibs/std.rlib", "-L", f"dependency={kit}/rlibs"]
+    for name in below:
+        own = os.path.join(TOP, f"crates/{name}/out/rlib/{name}.rlib")
+        words += ["--extern", f"{name}={own if os.path.exists(own) else f'{kit}/rlibs/{name}.rlib'}"]
+    for name in sorted(os.listdir(os.path.join(TOP, "crates"))):
+        words += ["-L", f"dependency={TOP}/crates/{name}/out/rlib"]
+    words += ["--antt-project", f"{kit}/rattle/logic/antt-project.json", "--logic-built", f"{kit}/logic_built"]
+    return [*words, "--links", f"{crate}=", "--jobs", "2"]
+
+
 def bytes_of(path):
     """What a file holds; nothing where there is none."""
     if not os.path.exists(path):
