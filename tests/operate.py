@@ -123,6 +123,22 @@ def check_modes(tally, row):
         tally.say(f"modes {log:o}, {store:o} under umask {mask:03o}", is_well, [f"{mode:o}" for mode in modes])
 
 
+def check_groups(tally, row):
+    """The rights of a group are not given to another group, nor those of others to who was in the old group. To give a file to another group takes root."""
+    if os.geteuid() != 0:
+        return
+    paths, mine = [row.at("log"), row.at("store")], os.getegid()
+    for path, mode in zip(paths, (0o640, 0o604)):
+        os.chown(path, -1, mine + 1)
+        os.chmod(path, mode)
+    ran = row.recover()
+    modes = mode_of(row.new_at("log")), mode_of(row.new_at("store"))
+    is_well = ran.returncode == 0 and row.is_recovered() and modes == (0o600, 0o600)
+    tally.say("modes 640, 604 of another group", is_well, [f"{mode:o}" for mode in modes])
+    for path in paths:
+        os.chown(path, -1, mine)
+
+
 def check_syncs(tally, room, row):
     library, notes = library_of(room, "note_syncs"), os.path.join(room, "syncs")
     synced = "".join(f"fsync {os.path.realpath(path)}\n" for path in (row.new_at("log"), row.new_at("store"), row.new, row.new))
@@ -174,6 +190,7 @@ def check_operation(tally, room):
     check_times(tally, row)
     check_print(tally, row)
     check_modes(tally, row)
+    check_groups(tally, row)
     check_syncs(tally, room, row)
     check_sizes(tally, row)
     check_unprinted(tally, row)

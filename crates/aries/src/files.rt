@@ -12,7 +12,7 @@ use restart::Options;
 use std::alloc::Global;
 use std::fs::{File, OpenFile, OpenOptions, Permissions};
 use std::io::{self, ErrorKind};
-use std::os::unix::fs::{OpenOptionsExt, PermissionsExt};
+use std::os::unix::fs::{MetadataExt, OpenOptionsExt, PermissionsExt};
 use std::path::Path;
 use std::rt::{Clock, Files};
 use std::thread::Threads;
@@ -62,20 +62,37 @@ pub fn open<R: Files>(rt: &R, file: &Notes, fault: Fault) -> Result<R::File, Fau
     File::open(rt, file.path).map_err(|error| refuse(file, Call::Open, error, fault))
 }
 
-/// Makes a new file, which nobody but those who may read and write `old` may read and write; where the mode
-/// of that is not known, its owner alone. `fault` where the file could not be made.
+/// What a mode lets its owner do, and what it lets both its group and all others do. That is the mode of a
+/// file of another group, whose members were among the others, and whose others may be of the old group.
+fn mode_without_group(mode: u32) -> u32 {
+    mode & 0o700 | mode & (mode >> 3) & 0o007
+}
+
+/// The group of a file, if it can be told.
+fn group_of<F: OpenFile>(file: &F) -> Option<u32> {
+    file.metadata().ok().map(|metadata| metadata.gid())
+}
+
+/// Makes a new file that nobody may read or write who may not read or write `old`, but for its owner, who
+/// makes it. It has the mode of `old` if it has its group, else no rights for a group; if the mode is not
+/// known, rights for its owner alone. `fault` if the file could not be made.
 ///
-/// The system takes the umask's bits away from the mode that a file is made with, so it is set once
-/// more; on a file system that keeps no modes that fails, and changes nothing.
+/// It is made without rights for its group, and its mode is set when the group is known, which also gives
+/// back the bits that the umask took away. On a file system that keeps no modes that fails, and changes
+/// nothing.
 pub fn make<R: Files>(rt: &R, file: &Notes, old: &R::File, fault: Fault) -> Result<R::File, Fault> {
     let mode = match old.metadata() {
         Ok(metadata) => metadata.permissions().mode() & 0o777,
         Err(_) => 0o600,
     };
+    let alone = mode_without_group(mode);
     let mut options = OpenOptions::new();
-    options.read(true).write(true).create_new(true).mode(mode);
+    options.read(true).write(true).create_new(true).mode(alone);
     match options.open(rt, file.path) {
         Ok(made) => {
+            let group = group_of(&made);
+            let has_group = group.is_some() && group == group_of(old);
+            let mode = if has_group { mode } else { alone };
             let _ = made.set_permissions(Permissions::from_mode(mode));
             Ok(made)
         }

@@ -1,3 +1,4 @@
+mod Memory
 mod Texts
 mod Writes
 mod Digits

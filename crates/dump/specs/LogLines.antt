@@ -1,5 +1,5 @@
 -- The lines of a log (own): its header, the records that are asked for, each with the place of its frame, and its torn tail.
-use Rattle.std.specs.Prelude.{◌≡◌, ℕ, suc, ◌+◌, List, [], ◌++◌, Option, Some, None, length, take, ◌==◌, if◌then◌else◌, codes, ⊤}
+use Rattle.std.specs.Prelude.{◌≡◌, ◌⊎◌, ℕ, suc, ◌+◌, List, [], ◌++◌, Option, Some, None, length, take, ◌==◌, if◌then◌else◌, codes, ⊤}
 use Rattle.std.specs.Io.KnownBytes.{Appends, Keeps}
 use Rattle.page.specs.declared.fault.Fault.{Fault}
 use Rattle.page.specs.declared.fault.Fault.TheVariants.{NoResource, BadLength, BadRecord, BadLsn}
@@ -87,10 +87,29 @@ abbrev pub ListsFront : Style → Choice → List ℕ → (old new : Option (Lis
 ListsFront style choice bytes old new None = Keeps old new
 ListsFront style choice bytes old new (Some offset) = (log : LogContent) × Reads (take offset bytes) log 0 × Appends old new (log_lines style choice log 0)
 
+-- The line of a log's header and those of its records up to some LSN were printed.
+abbrev pub PrintsUpToLsn : Style → Choice → LogContent → (old new : Option (List ℕ)) → Type 0
+PrintsUpToLsn style choice log old new =
+    (lsn : ℕ) × Appends old new (log_line style log.begins ++ record_lines style choice (header_bytes log.begins) (first lsn (history log)))
+
+-- nothing was printed, or these lines
+abbrev pub BeginsLog : Style → Choice → LogContent → (old new : Option (List ℕ)) → Type 0
+BeginsLog style choice log old new = Keeps old new ⊎ PrintsUpToLsn style choice log old new
+
+-- What is out where memory is refused: nothing, or the first lines of the log that so many bytes from the front are.
+abbrev pub PrintsFirstLines : Style → Choice → (bytes : List ℕ) → (old new : Option (List ℕ)) → Type 0
+PrintsFirstLines style choice bytes old new =
+    Keeps old new ⊎ ((count : ℕ) × (log : LogContent) × (torn : ℕ) × Reads (take count bytes) log torn × PrintsUpToLsn style choice log old new)
+
+-- where it was memory that was refused, this holds
+abbrev pub IfMemory : Stop → Type 0 → Type 0
+IfMemory (stop.Fault NoResource) Holds = Holds
+IfMemory e Holds = ⊤
+
 -- A damaged log: the fault is why it is refused, and what stands in front of it was listed.
 abbrev pub ListsToFault : Style → Choice → List ℕ → (old new : Option (List ℕ)) → Stop → Type 0
 ListsToFault style choice bytes old new (stop.Print error) = ⊤
-ListsToFault style choice bytes old new (stop.Fault NoResource) = ⊤
+ListsToFault style choice bytes old new (stop.Fault NoResource) = PrintsFirstLines style choice bytes old new
 ListsToFault style choice bytes old new (stop.Fault e) = Cause bytes e × ListsFront style choice bytes old new (fault_at e)
 
 -- the file is not to blame: memory was refused, or a print failed

@@ -1,5 +1,5 @@
 -- The lines of a store (own): its header, and the pages that are asked for.
-use Rattle.std.specs.Prelude.{◌≡◌, ◌≢◌, ◌⊎◌, ℕ, zero, suc, ◌+◌, ◌*◌, ◌/◌, List, [], ◌∷◌, ◌++◌, Option, Some, None, length, if◌then◌else◌, codes, decimal, ⊤}
+use Rattle.std.specs.Prelude.{◌≡◌, ◌≢◌, ◌⊎◌, ℕ, zero, suc, ◌+◌, ◌*◌, ◌/◌, List, [], ◌∷◌, ◌++◌, Option, Some, None, length, take, if◌then◌else◌, codes, decimal, ⊤}
 use Rattle.std.specs.List.{flat_map}
 use Rattle.std.specs.Io.KnownBytes.{Appends, Keeps}
 use Rattle.page.specs.Image.{Image, SpellsPage}
@@ -83,8 +83,24 @@ abbrev pub PrintsRest : Style → (asked : Option ℕ) → (bytes : List ℕ) �
 PrintsRest style asked bytes old new (BadPage number) = ListsWholePages style asked bytes old new
 PrintsRest style asked bytes old new e = Keeps old new
 
+-- nothing was printed, or the line of the store and those of its first pages
+abbrev pub BeginsStore : Style → (asked : Option ℕ) → StoreContent → (old new : Option (List ℕ)) → Type 0
+BeginsStore style asked store old new =
+    Keeps old new ⊎ ((count : ℕ) × Appends old new (store_line style store ++ flat_map (page_if_asked style asked) (take count store.pages)))
+
+-- the lines of those of the pages below some number that are whole were printed
+abbrev pub BeginsPages : Style → (asked : Option ℕ) → (images : List ℕ) → (old new : Option (List ℕ)) → Type 0
+BeginsPages style asked images old new = (number : ℕ) × (text : List ℕ) × AreLinesOf style asked images number text × Appends old new text
+
+-- what is out where memory is refused: the first lines of the store, or of those of a damaged one
+abbrev pub PrintsFirstPages : Style → (asked : Option ℕ) → (bytes : List ℕ) → (old new : Option (List ℕ)) → Type 0
+PrintsFirstPages style asked bytes old new =
+    Keeps old new
+    ⊎ (((store : StoreContent) × SpellsStore bytes store × BeginsStore style asked store old new)
+    ⊎ BeginsPages style asked (images_of bytes) old new)
+
 -- a fault is why the bytes are refused, and what is left of the store was printed
 abbrev pub ListsStoreToFault : Style → (asked : Option ℕ) → (bytes : List ℕ) → (old new : Option (List ℕ)) → Stop → Type 0
 ListsStoreToFault style asked bytes old new (stop.Print error) = ⊤
-ListsStoreToFault style asked bytes old new (stop.Fault NoResource) = ⊤
+ListsStoreToFault style asked bytes old new (stop.Fault NoResource) = PrintsFirstPages style asked bytes old new
 ListsStoreToFault style asked bytes old new (stop.Fault e) = StoreFault bytes e × PrintsRest style asked bytes old new e

@@ -1,15 +1,15 @@
 //! The lines of a log.
 
 ghost use Rattle.std.specs.Prelude.{◌≡◌, ◌+◌, ◌<◌, ◌≤◌, ◌^◌, ℕ, ◌++◌, OnOk, IfOk, IfErr, Some, length};
-ghost use Rattle.std.specs.Io.KnownBytes.{Appends};
+ghost use Rattle.std.specs.Io.KnownBytes.{Appends, Keeps};
 ghost use Rattle.page.specs.declared.fault.Fault.{Fault};
 ghost use Rattle.page.specs.declared.fault.Fault.TheVariants.{NoResource};
 ghost use Rattle.wal.specs.Content.{shown};
 ghost use Rattle.wal.specs.Headers.{header_bytes};
 ghost use Rattle.wal.specs.Reads.{Reads, Cause};
-ghost use Rattle.wal.specs.Records.{LogContent, history};
+ghost use Rattle.wal.specs.Records.{LogContent, history, first};
 ghost use Rattle.wal.specs.Spelling.{Fits};
-ghost use Rattle.dump.specs.LogLines.{log_line, place_behind, line_if_asked, record_lines, torn_line, log_lines, ListsLog, ListsFront, ListsToFault, fault_at, IsNoFault};
+ghost use Rattle.dump.specs.LogLines.{log_line, place_behind, line_if_asked, record_lines, torn_line, log_lines, ListsLog, ListsFront, ListsToFault, BeginsLog, PrintsFirstLines, IfMemory, fault_at, IsNoFault};
 
 use crate::line::{closing, put_number_field, put_opening, put_text};
 use crate::record::{LineRoom, RECORD_ROOM, put_record};
@@ -56,6 +56,7 @@ fn print_record<W: Write>(
         (line_if_asked room.old.style choice.now offset lsn (shown view.now))) }
     ensures style { room.new.style ≡ room.old.style }
     ensures err { IfErr result IsNoFault }
+    ensures kept { IfErr result (λ e. IfMemory e (Keeps (W.contents out.old) (W.contents out.new))) }
 {
     if !choice.asks_for(lsn, view) {
         return Ok(());
@@ -88,6 +89,9 @@ fn print_records<W: Write>(
         (record_lines style choice.now header (history log.now))) }
     ensures behind { IfOk result (λ place. place ≡ place_behind header (history log.now)) }
     ensures err { IfErr result IsNoFault }
+    ensures so_far { IfErr result (λ e. IfMemory e ((lsn : ℕ)
+        × Appends (W.contents out.old) (W.contents out.new)
+        (record_lines style choice.now header (first lsn (history log.now))))) }
 {
     let mut place = header;
     let mut room = LineRoom {
@@ -114,6 +118,7 @@ fn print_torn_tail<W: Write>(
     ensures printed { OnOk result (Appends (W.contents out.old) (W.contents out.new)
         (torn_line style offset torn)) }
     ensures err { IfErr result IsNoFault }
+    ensures kept { IfErr result (λ e. IfMemory e (Keeps (W.contents out.old) (W.contents out.new))) }
 {
     if torn == 0 {
         return Ok(());
@@ -142,6 +147,8 @@ fn print_log<W: Write>(
     ensures printed { OnOk result (Appends (W.contents out.old) (W.contents out.new)
         (log_lines style choice.now log.now torn)) }
     ensures err { IfErr result IsNoFault }
+    ensures so_far { IfErr result (λ e. IfMemory e (BeginsLog style choice.now log.now
+        (W.contents out.old) (W.contents out.new))) }
 {
     let start = log.start();
     let mut line = Vec::new(alloc);
@@ -177,6 +184,8 @@ fn print_front<W: Write>(
     ensures printed { OnOk result (ListsFront style choice.now bytes.now (W.contents out.old)
         (W.contents out.new) (fault_at fault.now)) }
     ensures err { IfErr result IsNoFault }
+    ensures so_far { IfErr result (λ e. IfMemory e (PrintsFirstLines style choice.now bytes.now
+        (W.contents out.old) (W.contents out.new))) }
 {
     let Some(offset) = fault_at(fault) else {
         return Ok(());
@@ -197,7 +206,7 @@ fn print_front<W: Write>(
 /// Errors: [`Stop::Fault`] with the fault of [`wal::read_log`] where the log is damaged, after all
 /// that stands in front of the damaged frame was listed; with `NoResource` where memory was refused,
 /// and [`Stop::Print`] where a line could not be printed. After these two a beginning of the lines
-/// is out. Memory is what `read_log` takes, and that of one line.
+/// is out, of whole lines where it was memory. Memory is what `read_log` takes, and that of one line.
 pub fn list_log<W: Write>(
     alloc: Global,
     bytes: &[u8],

@@ -2,12 +2,12 @@
 
 ghost use Rattle.std.specs.Prelude.{ℕ, List, length, take, ◌+◌, ◌≤◌, ◌*◌, ◌/◌, ◌≡◌, ◌<◌, ◌++◌, ◌^◌, OnOk, IfErr};
 ghost use Rattle.std.specs.List.{flat_map};
-ghost use Rattle.std.specs.Io.KnownBytes.{Appends};
+ghost use Rattle.std.specs.Io.KnownBytes.{Appends, Keeps};
 ghost use Rattle.page.specs.declared.sizes.TheConstants.{PAGES, PAGE_BYTES};
-ghost use Rattle.dump.specs.StoreLines.{store_line, store_lines, slot_name, slot_field, slot_fields, page_line, page_if_asked, ListsStore, IsLineOf, AreLinesOf, PrintsRest, ListsStoreToFault};
+ghost use Rattle.dump.specs.StoreLines.{store_line, store_lines, slot_name, slot_field, slot_fields, page_line, page_if_asked, ListsStore, IsLineOf, AreLinesOf, BeginsStore, BeginsPages, PrintsRest, PrintsFirstPages, ListsStoreToFault};
 ghost use Rattle.page.specs.File.{StoreFault};
 ghost use Rattle.page.specs.Images.{image_of};
-ghost use Rattle.dump.specs.LogLines.{IsNoFault};
+ghost use Rattle.dump.specs.LogLines.{IfMemory, IsNoFault};
 
 use crate::choice::meets;
 use crate::line::{closing, put_number, put_number_field, put_opening, put_text};
@@ -123,6 +123,7 @@ fn print_page<W: Write>(
     ensures printed { OnOk result (Appends (W.contents out.old) (W.contents out.new)
         (page_if_asked style asked page.now)) }
     ensures err { IfErr result IsNoFault }
+    ensures kept { IfErr result (λ e. IfMemory e (Keeps (W.contents out.old) (W.contents out.new))) }
 {
     if !meets(asked, Some(page.number)) {
         return Ok(());
@@ -144,6 +145,8 @@ fn print_store<W: Write>(
     ensures printed { OnOk result (Appends (W.contents out.old) (W.contents out.new)
         (store_lines style asked store.now)) }
     ensures err { IfErr result IsNoFault }
+    ensures so_far { IfErr result (λ e. IfMemory e (BeginsStore style asked store.now
+        (W.contents out.old) (W.contents out.new))) }
 {
     let mut line = Vec::new(alloc);
     put_store(&mut line, style, store)?;
@@ -168,6 +171,7 @@ fn print_image<W: Write>(
         × IsLineOf style asked image.now number text
         × Appends (W.contents out.old) (W.contents out.new) text) }
     ensures err { IfErr result IsNoFault }
+    ensures kept { IfErr result (λ e. IfMemory e (Keeps (W.contents out.old) (W.contents out.new))) }
 {
     match decode_page(image, number) {
         Ok(page) => print_page(&page, style, asked, line, out),
@@ -200,6 +204,8 @@ fn print_images<W: Write>(
         × AreLinesOf style asked images.now (length images.now / PAGE_BYTES) text
         × Appends (W.contents out.old) (W.contents out.new) text) }
     ensures err { IfErr result IsNoFault }
+    ensures so_far { IfErr result (λ e. IfMemory e (BeginsPages style asked images.now
+        (W.contents out.old) (W.contents out.new))) }
 {
     let count = images.len() / PAGE_BYTES;
     let mut line = Vec::new(alloc);
@@ -224,6 +230,8 @@ fn print_rest<W: Write>(
     ensures printed { OnOk result (PrintsRest style asked bytes.now (W.contents out.old)
         (W.contents out.new) fault.now) }
     ensures err { IfErr result IsNoFault }
+    ensures so_far { IfErr result (λ e. IfMemory e (PrintsFirstPages style asked bytes.now
+        (W.contents out.old) (W.contents out.new))) }
 {
     match fault {
         Fault::BadPage(_) => {
@@ -241,7 +249,7 @@ fn print_rest<W: Write>(
 /// Errors: [`Stop::Fault`] with the fault of [`page::decode_store`] where the store is damaged; where
 /// the fault is a page's, the lines of all pages that are whole are out, else nothing is. With
 /// `NoResource` where memory was refused, and [`Stop::Print`] where a line could not be printed; after
-/// these two a beginning of the lines is out.
+/// these two a beginning of the lines is out, of whole lines where it was memory.
 pub fn list_store<W: Write>(
     alloc: Global,
     bytes: &[u8],

@@ -1,10 +1,12 @@
-use Rattle.std.proofs.Common.{suc, ◌≡◌, ◌+◌, ◌++◌, ◌∙◌, ap, sym, refl, subst, arith}
-use Rattle.std.proofs.KnownBytes.{Appends-nil, Appends-trans}
-use Rattle.std.specs.Io.KnownBytes.{Appends}
+use Rattle.std.proofs.Common.{ℕ, suc, ◌≡◌, ◌+◌, ◌++◌, ◌∙◌, ap, sym, refl, subst, arith}
+use Rattle.std.proofs.KnownBytes.{Appends-kept, Appends-nil, Appends-trans}
+use Rattle.std.specs.Io.KnownBytes.{Appends, Keeps}
 use Rattle.wal.specs.Content.{shown}
 use Rattle.wal.specs.Records.{history, first, last_lsn}
 use Rattle.wal.proofs.Histories.{first_all, first_at_base, size_of_first}
 use Rattle.dump.specs.LogLines.{place_behind, record_lines, line_if_asked}
+use Rattle.std.proofs.lemmas.Result.{err_from_is_err_and}
+use Rattle.dump.proofs.Memory.{if_memory_weaker}
 use Rattle.dump.proofs.Places.{place_within}
 use Rattle.dump.proofs.log_lines.print_records.Goals as goal
 
@@ -57,3 +59,12 @@ pub returns-clause-behind : goal.returns-clause-behind
 returns-clause-behind g c =
     let log = history c.args.log.now in
     c.loop-lsn.invariant.at ∙ ap (place_behind c.args.header) (first_all c.loop-lsn.lsn log (omega (arith, c.last-lsn-end.ensures)))
+
+pub returns-in_err-print_record-clause-so_far : goal.returns-in_err-print_record-clause-so_far
+returns-in_err-print_record-clause-so_far g c =
+    let exit = err_from_is_err_and c.from_residual.result c.from_residual.ensures.1 in
+    let lines = λ (lsn : ℕ). record_lines c.args.style c.args.choice.now c.args.header (first lsn (history c.args.log.now)) in
+    let so_far : Keeps (g.W.Write.contents c.loop-lsn.out) (g.W.Write.contents c.print_record.new.out)
+        → (lsn : ℕ) × Appends (g.W.Write.contents c.args.out.now) (g.W.Write.contents c.print_record.new.out) (lines lsn) =
+    λ kept. (c.loop-lsn.lsn, Appends-kept _ _ _ (lines c.loop-lsn.lsn) c.loop-lsn.invariant.printed kept) in
+    rw (exit.1, exit.2) (if_memory_weaker _ _ _ so_far c.in_err-print_record.ensures.kept)
