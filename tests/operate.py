@@ -137,6 +137,14 @@ def check_syncs(tally, room, row):
         tally.say(f"syncs in order{what}", is_well, (ran.stderr, bytes_of(notes)))
 
 
+def check_second_folder(tally, room, row):
+    """The folder of the new log may not be synced, which is let pass; that of the new store ends the run, and is named."""
+    library, codes = library_of(room, "note_syncs"), {"FOLDER_ERRNO": str(errno.EINVAL), "NEXT_FOLDER_ERRNO": str(errno.EIO)}
+    env = dict(os.environ, LD_PRELOAD=library, SYNCS=os.devnull, **codes)
+    line = failed("syncing the folder of", "new store", row.new_at("store"), errno.EIO)
+    check_why(tally, "the second folder is not synced", lambda more: row.recover(env=env, more=more), line)
+
+
 def check_sizes(tally, row):
     ran = row.recover(preexec_fn=limited(16, False))
     tally.say("a new log too long, by the signal", ran.returncode == -signal.SIGXFSZ and not ran.stdout and not ran.stderr, ran.stderr)
@@ -175,6 +183,7 @@ def check_operation(tally, room):
     check_print(tally, row)
     check_modes(tally, row)
     check_syncs(tally, room, row)
+    check_second_folder(tally, room, row)
     check_sizes(tally, row)
     check_unprinted(tally, row)
     check_stack(tally, room)

@@ -163,15 +163,7 @@ fn run_job<R: Files + Clock + Threads + Sync, O: Write, E: Write>(
             verbose,
         } => {
             let names = (log.as_str(), store.as_str(), text_of(out_store));
-            run_in_place(
-                rt,
-                alloc,
-                names,
-                (options, *may_be_one),
-                *verbose,
-                out,
-                err,
-            )
+            run_in_place(rt, alloc, names, (options, *may_be_one), *verbose, out, err)
         }
         Job::Audit {
             log,

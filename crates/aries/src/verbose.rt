@@ -98,14 +98,26 @@ fn tell_place<E: Write>(place: Place, old: &OldFiles, err: &mut E) -> io::Result
     }
 }
 
-/// Says which call on a file failed and what the system said, where one has. Whether one has.
+/// Says which call on a file failed and what the system said.
+fn tell_call<E: Write>(file: &Notes, failure: Failure, err: &mut E) {
+    let (name, Failure { call, error }) = (Name(file), failure);
+    let _ = writeln!(err, "aries: {call} {name}: {error}");
+}
+
+/// Says which call on a file ended the job, where one has. Whether one has.
 fn tell_failure<E: Write>(file: &Notes, err: &mut E) -> bool {
-    let Some(Failure { call, error }) = file.failure() else {
+    let Some(failure) = file.failure() else {
         return false;
     };
-    let name = Name(file);
-    let _ = writeln!(err, "aries: {call} {name}: {error}");
+    tell_call(file, failure, err);
     true
+}
+
+/// Says which failed call on a file was let pass, where one was.
+fn tell_let_pass<E: Write>(file: &Notes, err: &mut E) {
+    if let Some(failure) = file.let_pass() {
+        tell_call(file, failure, err);
+    }
 }
 
 /// Says why a job was refused: which call on which file failed, and what the system said of it;
@@ -159,12 +171,12 @@ pub fn tell_recovery<E: Write>(old: &OldFiles, tail: Option<&Notes>, new: &NewFi
     let _ = writeln!(err, "aries: recovered in memory{took}");
     if let Some(tail) = tail {
         tell_file("wrote and synced", tail, err);
-        tell_failure(tail, err);
+        tell_let_pass(tail, err);
     }
     tell_file("wrote and synced", &new.log, err);
     tell_file("wrote and synced", &new.store, err);
-    tell_failure(&new.log, err);
-    tell_failure(&new.store, err);
+    tell_let_pass(&new.log, err);
+    tell_let_pass(&new.store, err);
 }
 
 /// Says what an audit that ended at `end` read, and how long each part took.
