@@ -107,6 +107,23 @@ def check_print(tally, row):
     tally.say("--verbose: a verdict that cannot be printed", ran.returncode == 1 and ran.stderr.decode().endswith(line), ran.stderr)
 
 
+def writes_of(words):
+    """What a program writes to standard error, call by call: a pipe of packets keeps them apart."""
+    there, here = os.pipe2(os.O_DIRECT)
+    subprocess.run(words, stdout=subprocess.DEVNULL, stderr=here)
+    os.close(here)
+    with open(there, "rb", buffering=0) as pipe:
+        return list(iter(lambda: pipe.read(65536), b""))
+
+
+def check_writes(tally, row):
+    """Runs that share a terminal do not mix their lines."""
+    files = ["--log", row.at("none"), "--store", row.at("store")]
+    for what, words in (("a fault", ["audit", *files]), ("--verbose", ["audit", "--verbose", *files]), ("a wrong line", ["audit"])):
+        writes = writes_of([ARIES, *words])
+        tally.say(f"one write to standard error: {what}", len(writes) == 1, writes)
+
+
 # New files: their modes, and what is synced.
 
 def mode_of(path):
@@ -181,6 +198,7 @@ def check_operation(tally, room):
     check_faults_in_files(tally, row)
     check_times(tally, row)
     check_print(tally, row)
+    check_writes(tally, row)
     check_modes(tally, row)
     check_syncs(tally, room, row)
     check_second_folder(tally, room, row)

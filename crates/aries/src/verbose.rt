@@ -159,7 +159,7 @@ fn between(from: Option<Instant>, to: Option<Instant>) -> Took {
 }
 
 /// Says what a recovery read and wrote and how long each part took; and the folders that it could
-/// not sync, where the system lets nobody.
+/// not sync, where the system lets nobody. The report comes after these lines, so they are flushed.
 pub fn tell_recovery<E: Write>(old: &OldFiles, tail: Option<&Notes>, new: &NewFiles, err: &mut E) {
     tell_file("read", &old.log, err);
     tell_file("read", &old.store, err);
@@ -177,9 +177,11 @@ pub fn tell_recovery<E: Write>(old: &OldFiles, tail: Option<&Notes>, new: &NewFi
     tell_file("wrote and synced", &new.store, err);
     tell_let_pass(&new.log, err);
     tell_let_pass(&new.store, err);
+    let _ = err.flush();
 }
 
-/// Says what an audit that ended at `end` read, and how long each part took.
+/// Says what an audit that ended at `end` read, and how long each part took. The verdict comes after
+/// these lines, so they are flushed.
 pub fn tell_audit<E: Write>(old: &OldFiles, end: Option<Instant>, err: &mut E) {
     tell_file("read", &old.log, err);
     tell_file("read", &old.store, err);
@@ -190,4 +192,5 @@ pub fn tell_audit<E: Write>(old: &OldFiles, end: Option<Instant>, err: &mut E) {
     }
     let took = between(last.ended(), end);
     let _ = writeln!(err, "aries: audited{took}");
+    let _ = err.flush();
 }
