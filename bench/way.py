@@ -146,9 +146,10 @@ after begins of any value page insert'''.split())
 
 # what a way does not take
 CUTS = {
-    'nothing fails': '''aries/verbose.rt words/refusal.rt words/fault.rt device/memory.rt device/slow.rt aries/files.rt:refuse
+    'nothing fails': '''aries/verbose.rt words/refusal.rt words/fault.rt words/given.rt:place_without_text NoWords::from
+        device/memory.rt device/slow.rt aries/files.rt:refuse
         command/job.rt:missing_option command/job.rt:option_conflict command/job.rt:wrong_line Failures::rise Failures::risen
-        Notes::fail Board::stop''',
+        Notes::fail Notes::pass_over Board::stop''',
     'no checkpoint': '''wal/checkpoint.rt FrameHead::bytes wal/frame.rt:checkpoint_at wal/frame.rt:transactions_at wal/frame.rt:dirties_at
         analysis/base.rt:transactions_of analysis/base.rt:dirty_pages_of passes/in_pieces.rt:go_by_passes''',
     'updates and commits alone are read': '''wal/frame.rt:compensation_at wal/next.rt:compensation_end wal/glance.rt:compensation_glance

@@ -147,6 +147,11 @@ def check_words(tally, room):
                         ("a page of no number", ["store", log, "--page", "x"]), ("a transaction of a store", ["store", log, "--transaction", "1"])):
         ran = dump(*words)
         tally.say(f"a wrong line of aries_dump: {what}", ran.returncode == 2 and not ran.stdout and ran.stderr != b"")
+    ran = dump("log", log, "--from=\x1b[31m")
+    tally.say("a word of aries_dump that a terminal obeys", ran.returncode == 2 and rb"\u{1b}[31m" in ran.stderr and b"\x1b" not in ran.stderr, ran.stderr)
+    ran = dump("log", b"a\xff")
+    is_well = ran.returncode == 2 and ran.stderr == b"error: word 2 of the command line is no text (UTF-8)\n"
+    tally.say("a word of aries_dump that is no text", is_well, ran.stderr)
     ran = dump("--help")
     tally.say("help of aries_dump", ran.returncode == 0 and b"log" in ran.stdout and not ran.stderr)
     with open("/dev/full", "wb") as full:

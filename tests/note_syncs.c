@@ -1,5 +1,6 @@
 /* Loaded before a program (LD_PRELOAD), notes what it syncs, a line `fsync PATH` each, in the file that SYNCS names; a sync
- * of a folder then fails with the errno FOLDER_ERRNO, where that is set. Build: cc -O1 -shared -fPIC -o note_syncs.so note_syncs.c -ldl */
+ * of a folder then fails with the errno FOLDER_ERRNO, where that is set, and those after the first with the errno
+ * NEXT_FOLDER_ERRNO, where that is set too. Build: cc -O1 -shared -fPIC -o note_syncs.so note_syncs.c -ldl */
 #define _GNU_SOURCE
 #include <dlfcn.h>
 #include <errno.h>
@@ -18,9 +19,10 @@ int fsync(int file) {
         dprintf(notes, "fsync %.*s\n", (int)length, path);
     close(notes);
     struct stat what;
-    const char *fails = getenv("FOLDER_ERRNO");
+    static int folders;
+    const char *fails = getenv("FOLDER_ERRNO"), *next = getenv("NEXT_FOLDER_ERRNO");
     if (fails && fstat(file, &what) == 0 && S_ISDIR(what.st_mode)) {
-        errno = atoi(fails);
+        errno = atoi(folders++ && next ? next : fails);
         return -1;
     }
     int (*sync)(int) = (int (*)(int))dlsym(RTLD_NEXT, "fsync");

@@ -107,6 +107,23 @@ def check_print(tally, row):
     tally.say("--verbose: a verdict that cannot be printed", ran.returncode == 1 and ran.stderr.decode().endswith(line), ran.stderr)
 
 
+def writes_of(words):
+    """What a program writes to standard error, call by call: a pipe of packets keeps them apart."""
+    there, here = os.pipe2(os.O_DIRECT)
+    subprocess.run(words, stdout=subprocess.DEVNULL, stderr=here)
+    os.close(here)
+    with open(there, "rb", buffering=0) as pipe:
+        return list(iter(lambda: pipe.read(65536), b""))
+
+
+def check_writes(tally, row):
+    """Runs that share a terminal do not mix their lines."""
+    files = ["--log", row.at("none"), "--store", row.at("store")]
+    for what, words in (("a fault", ["audit", *files]), ("--verbose", ["audit", "--verbose", *files]), ("a wrong line", ["audit"])):
+        writes = writes_of([ARIES, *words])
+        tally.say(f"one write to standard error: {what}", len(writes) == 1, writes)
+
+
 # New files: their modes, and what is synced.
 
 def mode_of(path):
@@ -153,6 +170,14 @@ def check_syncs(tally, room, row):
         tally.say(f"syncs in order{what}", is_well, (ran.stderr, bytes_of(notes)))
 
 
+def check_second_folder(tally, room, row):
+    """The folder of the new log may not be synced, which is let pass; that of the new store ends the run, and is named."""
+    library, codes = library_of(room, "note_syncs"), {"FOLDER_ERRNO": str(errno.EINVAL), "NEXT_FOLDER_ERRNO": str(errno.EIO)}
+    env = dict(os.environ, LD_PRELOAD=library, SYNCS=os.devnull, **codes)
+    line = failed("syncing the folder of", "new store", row.new_at("store"), errno.EIO)
+    check_why(tally, "the second folder is not synced", lambda more: row.recover(env=env, more=more), line)
+
+
 def check_sizes(tally, row):
     ran = row.recover(preexec_fn=limited(16, False))
     tally.say("a new log too long, by the signal", ran.returncode == -signal.SIGXFSZ and not ran.stdout and not ran.stderr, ran.stderr)
@@ -189,9 +214,11 @@ def check_operation(tally, room):
     check_faults_in_files(tally, row)
     check_times(tally, row)
     check_print(tally, row)
+    check_writes(tally, row)
     check_modes(tally, row)
     check_groups(tally, row)
     check_syncs(tally, room, row)
+    check_second_folder(tally, room, row)
     check_sizes(tally, row)
     check_unprinted(tally, row)
     check_stack(tally, room)

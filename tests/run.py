@@ -178,6 +178,12 @@ def check_words(tally, room):
         is_none_made = not any(os.path.exists(file) for file in made)
         is_explained = named in ran.stderr.decode() and not ran.stdout
         tally.say(f"a wrong line: {what}", ran.returncode == 2 and is_explained and is_none_made, ran.stderr)
+    ran = run([ARIES, "x\x1b[31m\x9b\u202e'"])
+    is_well = ran.returncode == 2 and rb"x\u{1b}[31m\u{9b}\u{202e}'" in ran.stderr and b"\x1b" not in ran.stderr
+    tally.say("a wrong line: a word that a terminal obeys", is_well, ran.stderr)
+    ran = run([ARIES, "audit", "--log", b"\xff"])
+    is_well = ran.returncode == 2 and ran.stderr == b"error: word 3 of the command line is no text (UTF-8)\n"
+    tally.say("a word that is no text", is_well, ran.stderr)
 
 
 # Prints that fail: nobody can write to /dev/full.

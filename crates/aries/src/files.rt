@@ -102,7 +102,7 @@ pub fn make<R: Files>(rt: &R, file: &Notes, old: &R::File, fault: Fault) -> Resu
 
 /// Asks that the name of a new file reaches the disk, which stands in its folder; `fault` where the
 /// folder could not be synced. Where the system lets nobody sync it, who may not read it or where a
-/// file system has no such thing, that is noted alone.
+/// file system has no such thing, that is noted alone, as let pass.
 pub fn sync_folder<R: Files>(rt: &R, file: &Notes, fault: Fault) -> Result<(), Fault> {
     let folder = match Path::new(file.path).parent() {
         Some(folder) if !folder.as_str().is_empty() => folder.as_str(),
@@ -112,10 +112,15 @@ pub fn sync_folder<R: Files>(rt: &R, file: &Notes, fault: Fault) -> Result<(), F
     let Err(error) = synced else {
         return Ok(());
     };
-    file.fail(Call::SyncFolder, error);
     match error.kind() {
-        ErrorKind::PermissionDenied | ErrorKind::InvalidInput | ErrorKind::Unsupported => Ok(()),
-        _ => Err(fault),
+        ErrorKind::PermissionDenied | ErrorKind::InvalidInput | ErrorKind::Unsupported => {
+            file.pass_over(Call::SyncFolder, error);
+            Ok(())
+        }
+        _ => {
+            file.fail(Call::SyncFolder, error);
+            Err(fault)
+        }
     }
 }
 

@@ -11,7 +11,7 @@ mod verbose;
 pub use program::run;
 
 // What a caller needs of the crates below.
-pub use command::{Job, Refusal, Task, command_of};
+pub use command::{Job, Refusal, command_of};
 pub use device::{
     Continue, Failed, FileLog, FileSink, FileSource, MemorySink, MemorySource, Sink, Source,
 };

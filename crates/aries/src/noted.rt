@@ -57,6 +57,7 @@ pub struct Notes<'a> {
     began: Cell<Option<Instant>>,
     ended: Cell<Option<Instant>>,
     failure: Cell<Option<Failure>>,
+    let_pass: Cell<Option<Failure>>,
 }
 
 impl<'a> Notes<'a> {
@@ -69,6 +70,7 @@ impl<'a> Notes<'a> {
             began: Cell::new(None),
             ended: Cell::new(None),
             failure: Cell::new(None),
+            let_pass: Cell::new(None),
         }
     }
 
@@ -92,9 +94,14 @@ impl<'a> Notes<'a> {
         Some(self.ended()?.duration_since(self.began()?))
     }
 
-    /// The last call that failed.
+    /// The last call that failed, of those that end the job.
     pub fn failure(&self) -> Option<Failure> {
         self.failure.get()
+    }
+
+    /// The last call that failed and was let pass: the job went on.
+    pub fn let_pass(&self) -> Option<Failure> {
+        self.let_pass.get()
     }
 
     /// Notes a call that failed. One that a signal interrupted is none: it is made again.
@@ -102,6 +109,11 @@ impl<'a> Notes<'a> {
         if error.kind() != ErrorKind::Interrupted {
             self.failure.set(Some(Failure { call, error }));
         }
+    }
+
+    /// Notes a call that failed where the job goes on.
+    pub fn pass_over(&self, call: Call, error: io::Error) {
+        self.let_pass.set(Some(Failure { call, error }));
     }
 
     /// Notes that a call on the open file begins.

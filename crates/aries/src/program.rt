@@ -4,7 +4,7 @@ use crate::files::{NewFiles, OldFiles, audit_files, recover_files};
 use crate::in_place::recover_files_in_place;
 use crate::noted::Notes;
 use crate::verbose::{tell_audit, tell_recovery, tell_why};
-use command::{Job, Task, command_of};
+use command::{Job, command_of};
 use page::Fault;
 use recovery::{Report, report_text};
 use restart::Options;
@@ -136,14 +136,15 @@ fn run_job<R: Files + Clock + Threads + Sync, O: Write, E: Write>(
     out: &mut O,
     err: &mut E,
 ) -> u8 {
-    match &job.task {
-        Task::Recover {
+    match job {
+        Job::Recover {
             log,
             store,
             out_log,
             out_store,
             options,
             may_be_one,
+            verbose,
         } => {
             let old = OldFiles::new(log.as_str(), store.as_str(), None);
             let new = NewFiles {
@@ -151,29 +152,27 @@ fn run_job<R: Files + Clock + Threads + Sync, O: Write, E: Write>(
                 store: Notes::new("new store", out_store.as_str()),
             };
             let answer = recover_files(rt, alloc, &old, &new, options, *may_be_one);
-            tell_end(alloc, answer, &old, (None, &new), job.verbose, out, err)
+            tell_end(alloc, answer, &old, (None, &new), *verbose, out, err)
         }
-        Task::RecoverInPlace {
+        Job::RecoverInPlace {
             log,
             store,
             out_store,
             options,
             may_be_one,
+            verbose,
         } => {
             let names = (log.as_str(), store.as_str(), text_of(out_store));
-            run_in_place(
-                rt,
-                alloc,
-                names,
-                (options, *may_be_one),
-                job.verbose,
-                out,
-                err,
-            )
+            run_in_place(rt, alloc, names, (options, *may_be_one), *verbose, out, err)
         }
-        Task::Audit { log, store, base } => {
+        Job::Audit {
+            log,
+            store,
+            base,
+            verbose,
+        } => {
             let files = OldFiles::new(log.as_str(), store.as_str(), text_of(base));
-            run_audit(rt, alloc, &files, job.verbose, out, err)
+            run_audit(rt, alloc, &files, *verbose, out, err)
         }
     }
 }

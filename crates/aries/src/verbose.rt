@@ -98,14 +98,26 @@ fn tell_place<E: Write>(place: Place, old: &OldFiles, err: &mut E) -> io::Result
     }
 }
 
-/// Says which call on a file failed and what the system said, where one has. Whether one has.
+/// Says which call on a file failed and what the system said.
+fn tell_call<E: Write>(file: &Notes, failure: Failure, err: &mut E) {
+    let (name, Failure { call, error }) = (Name(file), failure);
+    let _ = writeln!(err, "aries: {call} {name}: {error}");
+}
+
+/// Says which call on a file ended the job, where one has. Whether one has.
 fn tell_failure<E: Write>(file: &Notes, err: &mut E) -> bool {
-    let Some(Failure { call, error }) = file.failure() else {
+    let Some(failure) = file.failure() else {
         return false;
     };
-    let name = Name(file);
-    let _ = writeln!(err, "aries: {call} {name}: {error}");
+    tell_call(file, failure, err);
     true
+}
+
+/// Says which failed call on a file was let pass, where one was.
+fn tell_let_pass<E: Write>(file: &Notes, err: &mut E) {
+    if let Some(failure) = file.let_pass() {
+        tell_call(file, failure, err);
+    }
 }
 
 /// Says why a job was refused: which call on which file failed, and what the system said of it;
@@ -147,7 +159,7 @@ fn between(from: Option<Instant>, to: Option<Instant>) -> Took {
 }
 
 /// Says what a recovery read and wrote and how long each part took; and the folders that it could
-/// not sync, where the system lets nobody.
+/// not sync, where the system lets nobody. The report comes after these lines, so they are flushed.
 pub fn tell_recovery<E: Write>(old: &OldFiles, tail: Option<&Notes>, new: &NewFiles, err: &mut E) {
     tell_file("read", &old.log, err);
     tell_file("read", &old.store, err);
@@ -159,15 +171,17 @@ pub fn tell_recovery<E: Write>(old: &OldFiles, tail: Option<&Notes>, new: &NewFi
     let _ = writeln!(err, "aries: recovered in memory{took}");
     if let Some(tail) = tail {
         tell_file("wrote and synced", tail, err);
-        tell_failure(tail, err);
+        tell_let_pass(tail, err);
     }
     tell_file("wrote and synced", &new.log, err);
     tell_file("wrote and synced", &new.store, err);
-    tell_failure(&new.log, err);
-    tell_failure(&new.store, err);
+    tell_let_pass(&new.log, err);
+    tell_let_pass(&new.store, err);
+    let _ = err.flush();
 }
 
-/// Says what an audit that ended at `end` read, and how long each part took.
+/// Says what an audit that ended at `end` read, and how long each part took. The verdict comes after
+/// these lines, so they are flushed.
 pub fn tell_audit<E: Write>(old: &OldFiles, end: Option<Instant>, err: &mut E) {
     tell_file("read", &old.log, err);
     tell_file("read", &old.store, err);
@@ -178,4 +192,5 @@ pub fn tell_audit<E: Write>(old: &OldFiles, end: Option<Instant>, err: &mut E) {
     }
     let took = between(last.ended(), end);
     let _ = writeln!(err, "aries: audited{took}");
+    let _ = err.flush();
 }

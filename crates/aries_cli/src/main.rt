@@ -1,14 +1,14 @@
 //! The program `aries`: hands its words and streams to `aries::run`.
 #![tactic(auto)]
 
-use std::io::Write;
+use std::io::{BufWriter, Write};
 use std::process::ExitCode;
 use std::rt::{Clock, Env, Files};
 use std::thread::Threads;
-use words::{NoWords, slices_of, words_of};
+use words::{ERROR_BUFFER_BYTES, NoWords, slices_of, words_of};
 
-/// Runs the program and gives its status.
-fn status_of<R: Clock + Env + Files + AllocGlobal + Threads + Sync, O: Write, E: Write>(
+/// Runs the program on the words that it was given, and gives its status.
+fn run_words<R: Clock + Env + Files + AllocGlobal + Threads + Sync, O: Write, E: Write>(
     rt: &R,
     out: &mut O,
     err: &mut E,
@@ -18,12 +18,27 @@ fn status_of<R: Clock + Env + Files + AllocGlobal + Threads + Sync, O: Write, E:
     Ok(aries::run(rt, rt.alloc(), &slices, out, err))
 }
 
+/// Runs the program and gives its status.
+fn status_of<R: Clock + Env + Files + AllocGlobal + Threads + Sync, O: Write, E: Write>(
+    rt: &R,
+    out: &mut O,
+    err: &mut E,
+) -> u8 {
+    match run_words(rt, out, err) {
+        Ok(status) => status,
+        // 1 where the print failed.
+        Err(why) => why.explain(err).unwrap_or(1),
+    }
+}
+
 fn main(rt: HostRuntime) -> ExitCode {
     let mut out = rt.stdout();
     let mut err = rt.stderr();
-    match status_of(&rt, &mut out, &mut err) {
-        Ok(status) => ExitCode::from(status),
-        // 1 where the print failed.
-        Err(why) => ExitCode::from(why.explain(&mut err).unwrap_or(1)),
-    }
+    // Lines are held back, so that runs which share a terminal do not mix theirs.
+    let Ok(mut held) = BufWriter::with_capacity(rt.alloc(), ERROR_BUFFER_BYTES, rt.stderr()) else {
+        return ExitCode::from(status_of(&rt, &mut out, &mut err));
+    };
+    let status = status_of(&rt, &mut out, &mut held);
+    let _ = held.flush();
+    ExitCode::from(status)
 }

@@ -3,13 +3,13 @@
 
 mod program;
 
-use std::io::Write;
+use std::io::{BufWriter, Write};
 use std::process::ExitCode;
 use std::rt::{Env, Files};
-use words::{NoWords, slices_of, words_of};
+use words::{ERROR_BUFFER_BYTES, NoWords, slices_of, words_of};
 
-/// Runs the program and gives its status.
-fn status_of<R: Env + Files + AllocGlobal, O: Write, E: Write>(
+/// Runs the program on the words that it was given, and gives its status.
+fn run_words<R: Env + Files + AllocGlobal, O: Write, E: Write>(
     rt: &R,
     out: &mut O,
     err: &mut E,
@@ -19,12 +19,27 @@ fn status_of<R: Env + Files + AllocGlobal, O: Write, E: Write>(
     Ok(program::run(rt, rt.alloc(), &slices, out, err))
 }
 
+/// Runs the program and gives its status.
+fn status_of<R: Env + Files + AllocGlobal, O: Write, E: Write>(
+    rt: &R,
+    out: &mut O,
+    err: &mut E,
+) -> u8 {
+    match run_words(rt, out, err) {
+        Ok(status) => status,
+        // A line that is wrong, said or not.
+        Err(why) => why.explain(err).unwrap_or(2),
+    }
+}
+
 fn main(rt: HostRuntime) -> ExitCode {
     let mut out = rt.stdout();
     let mut err = rt.stderr();
-    match status_of(&rt, &mut out, &mut err) {
-        Ok(status) => ExitCode::from(status),
-        // A line that is wrong, said or not.
-        Err(why) => ExitCode::from(why.explain(&mut err).unwrap_or(2)),
-    }
+    // Lines are held back, so that runs which share a terminal do not mix theirs.
+    let Ok(mut held) = BufWriter::with_capacity(rt.alloc(), ERROR_BUFFER_BYTES, rt.stderr()) else {
+        return ExitCode::from(status_of(&rt, &mut out, &mut err));
+    };
+    let status = status_of(&rt, &mut out, &mut held);
+    let _ = held.flush();
+    ExitCode::from(status)
 }

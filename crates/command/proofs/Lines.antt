@@ -8,32 +8,31 @@ use Rattle.words.proofs.Parses.{rows_met}
 use Rattle.command.specs.Job.{FileName, HasFiles, IsFaultless, NamesFiles}
 use Rattle.command.specs.Line.{aries_line, audit_line, recover_line}
 use Rattle.command.specs.declared.job.Job.{Job}
-use Rattle.command.specs.declared.job.Task.{Task}
 use Rattle.restart.specs.declared.options.Options.{Options}
-use Rattle.command.specs.declared.job.Task.TheVariants.{Recover, RecoverInPlace, Audit}
+use Rattle.command.specs.declared.job.Job.TheVariants.{Recover, RecoverInPlace, Audit}
 
 pub is_simple-aries_line : is_simple aries_line ≡ true
 unfolding clap_on_literals aries_line recover_line audit_line
 is_simple-aries_line = refl
 
--- a task's command
+-- a job's command
 abbrev IsCommand : Text → Type 0
 IsCommand name = (name ≡ codes "recover") ⊎ (name ≡ codes "audit")
 
--- what names a task's files is a task's command
-command_is : {B : Type 0} (o : Option B) (found : B → Text × List Row) (task : Task) → IsSomeAnd (option_map found o) (λ p. NamesFiles p.0 p.1 task)
+-- what names a job's files is a job's command
+command_is : {B : Type 0} (o : Option B) (found : B → Text × List Row) (job : Job) → IsSomeAnd (option_map found o) (λ p. NamesFiles p.0 p.1 job)
     → IsSomeAnd (option_map (λ b. (found b).0) o) IsCommand
-command_is None found task names = absurd names
-command_is (Some b) found (Recover log store out_log out_store options may_be_one) names = inl names.0
-command_is (Some b) found (RecoverInPlace log store out_store options may_be_one) names = inl names.0
-command_is (Some b) found (Audit log store base) names = inr names.0
+command_is None found job names = absurd names
+command_is (Some b) found (Recover log store out_log out_store options may_be_one verbose) names = inl names.0
+command_is (Some b) found (RecoverInPlace log store out_store options may_be_one verbose) names = inl names.0
+command_is (Some b) found (Audit log store base verbose) names = inr names.0
 
 -- so a parse of words that give a job its files entered `recover` or `audit`
 pub job_command : (matches : ArgMatches) (words : List Text) (line : App) (job : Job) (name : Option Text) → line ≡ aries_line → HasMatchesOf line words matches
     → subcommand_name_of matches ≡ name → HasFiles words job → IsSomeAnd name IsCommand
 job_command matches words line job name line_is has name_is files =
     let same : subcommand_rows_of matches ≡ subcommand_of aries_line words = rows_met matches words line aries_line is_simple-aries_line line_is has in
-    subst (λ o. IsSomeAnd o IsCommand) name_is (command_is _ _ job.task (subst (λ o. IsSomeAnd o (λ p. NamesFiles p.0 p.1 job.task)) (sym same) files))
+    subst (λ o. IsSomeAnd o IsCommand) name_is (command_is _ _ job (subst (λ o. IsSomeAnd o (λ p. NamesFiles p.0 p.1 job)) (sym same) files))
 
 pub is_free-aries_line : is_simple_and_free aries_line ≡ true
 unfolding clap_on_literals aries_line recover_line audit_line
@@ -54,16 +53,17 @@ in_place_without_fault = refl
 
 -- which ask for it
 in_place_named : (log store : FileName) (options : Options) (may_be_one verbose : Bool) → string_bytes log ≡ codes "a" → string_bytes store ≡ codes "b"
-    → HasFiles words_in_place (record { task = RecoverInPlace log store None options may_be_one; verbose = verbose })
+    → HasFiles words_in_place (RecoverInPlace log store None options may_be_one verbose)
 unfolding clap_on_literals aries_line recover_line audit_line words_in_place
 in_place_named log store options may_be_one verbose log_is store_is =
     let given : (name : Text) (file : FileName) → string_bytes file ≡ name → Some name ≡ Some (string_bytes file) = λ name file is. ap (λ (t : Text). Some t) (sym is) in
     (refl, given _ log log_is, given _ store store_is, (λ _. refl, λ _. refl), refl, (refl, (λ _. refl, λ _. refl)))
 
 -- no values ask for a recovery into new files and for one in place
-not_both : (command : Text) (values : List Row) (log store out_log out_store log' store' : FileName) (new : Option FileName) (options options' : Options) (may_be_one may_be_one' : Bool)
-    → NamesFiles command values (Recover log store out_log out_store options may_be_one) → NamesFiles command values (RecoverInPlace log' store' new options' may_be_one') → ⊥
-not_both command values log store out_log out_store log' store' new options options' may_be_one may_be_one' names names' =
+not_both : (command : Text) (values : List Row) (log store out_log out_store log' store' : FileName) (new : Option FileName) (options options' : Options) (may_be_one may_be_one' verbose verbose' : Bool)
+    → NamesFiles command values (Recover log store out_log out_store options may_be_one verbose)
+    → NamesFiles command values (RecoverInPlace log' store' new options' may_be_one' verbose') → ⊥
+not_both command values log store out_log out_store log' store' new options options' may_be_one may_be_one' verbose verbose' names names' =
     let set : false ≡ true = names.3.1 (names'.3.0 refl) in cc
 
 -- and words that are at fault

@@ -3,8 +3,7 @@ use Rattle.std.specs.Prelude.{◌≡◌, ℕ, ◌≤◌, Bool, true, false, List
 use Rattle.std.specs.declared.alloc.Global.{Global}
 use Rattle.clap.specs.Words.{Row, Text, fault_of, first_of, one_of, subcommand_of}
 use Rattle.command.specs.declared.job.Job.{Job}
-use Rattle.command.specs.declared.job.Task.{Task}
-use Rattle.command.specs.declared.job.Task.TheVariants.{Recover, RecoverInPlace, Audit}
+use Rattle.command.specs.declared.job.Job.TheVariants.{Recover, RecoverInPlace, Audit}
 use Rattle.words.specs.Flags.{IsFlagOf}
 use Rattle.command.specs.Line.{aries_line}
 use Rattle.restart.specs.Options.{AreInRange}
@@ -13,10 +12,10 @@ use Rattle.page.specs.declared.sizes.TheConstants.{PAGES}
 use Rattle.redo.specs.declared.rounds.TheConstants.{WORKERS}
 
 -- its numbers lie in their ranges
-abbrev pub HasRanges : Task → Type 0
-HasRanges (Recover log store out_log out_store options may_be_one) = AreInRange options
-HasRanges (RecoverInPlace log store out_store options may_be_one) = AreInRange options
-HasRanges (Audit log store base) = ⊤
+abbrev pub HasRanges : Job → Type 0
+HasRanges (Recover log store out_log out_store options may_be_one verbose) = AreInRange options
+HasRanges (RecoverInPlace log store out_store options may_be_one verbose) = AreInRange options
+HasRanges (Audit log store base verbose) = ⊤
 
 -- a file's name
 abbrev pub FileName : Type 0
@@ -28,23 +27,23 @@ NamesNewStore values out_store =
     (first_of (codes "out-store") values ≡ option_map string_bytes out_store)
     × IsFlagOf values (codes "replace") (is_none out_store)
 
--- the command is the task's, and the values of its options name the task's files and no other
-abbrev pub NamesFiles : (command : Text) → (values : List Row) → Task → Type 0
-NamesFiles command values (Recover log store out_log out_store options may_be_one) =
+-- the command is the job's, and the values of its options name the job's files and no other
+abbrev pub NamesFiles : (command : Text) → (values : List Row) → Job → Type 0
+NamesFiles command values (Recover log store out_log out_store options may_be_one verbose) =
     (command ≡ codes "recover")
     × (first_of (codes "log") values ≡ Some (string_bytes log))
     × (first_of (codes "store") values ≡ Some (string_bytes store))
     × IsFlagOf values (codes "in-place") false
     × (first_of (codes "out-log") values ≡ Some (string_bytes out_log))
     × NamesNewStore values (Some out_store)
-NamesFiles command values (RecoverInPlace log store out_store options may_be_one) =
+NamesFiles command values (RecoverInPlace log store out_store options may_be_one verbose) =
     (command ≡ codes "recover")
     × (first_of (codes "log") values ≡ Some (string_bytes log))
     × (first_of (codes "store") values ≡ Some (string_bytes store))
     × IsFlagOf values (codes "in-place") true
     × (first_of (codes "out-log") values ≡ None)
     × NamesNewStore values out_store
-NamesFiles command values (Audit log store base) =
+NamesFiles command values (Audit log store base verbose) =
     (command ≡ codes "audit")
     × (first_of (codes "log") values ≡ Some (string_bytes log))
     × (first_of (codes "store") values ≡ Some (string_bytes store))
@@ -52,7 +51,7 @@ NamesFiles command values (Audit log store base) =
 
 -- the job has the command of the words, and the files that they name
 abbrev pub HasFiles : (words : List Text) → Job → Type 0
-HasFiles words job = IsSomeAnd (subcommand_of aries_line words) (λ found. NamesFiles found.0 found.1 job.task)
+HasFiles words job = IsSomeAnd (subcommand_of aries_line words) (λ found. NamesFiles found.0 found.1 job)
 
 -- by `clap`'s definition of a parse no word is wrong or missing, and none asks for help or the version
 abbrev pub IsFaultless : (words : List Text) → Type 0
@@ -74,16 +73,22 @@ GivesOptions values options may_be_one =
     × (IsTrue may_be_one ↔ (first_of (codes "workers") values ≡ None))
     × IsNumberOf values (codes "parts") PAGES options.parts
 
--- the values of the options give the task's numbers
-abbrev pub GivesNumbers : (values : List Row) → Task → Type 0
-GivesNumbers values (Recover log store out_log out_store options may_be_one) = GivesOptions values options may_be_one
-GivesNumbers values (RecoverInPlace log store out_store options may_be_one) = GivesOptions values options may_be_one
-GivesNumbers values (Audit log store base) = ⊤
+-- the values of the options give the job's numbers
+abbrev pub GivesNumbers : (values : List Row) → Job → Type 0
+GivesNumbers values (Recover log store out_log out_store options may_be_one verbose) = GivesOptions values options may_be_one
+GivesNumbers values (RecoverInPlace log store out_store options may_be_one verbose) = GivesOptions values options may_be_one
+GivesNumbers values (Audit log store base verbose) = ⊤
 
 -- the job has the numbers that the words give, or the defaults of the line
 abbrev pub HasNumbers : (words : List Text) → Job → Type 0
-HasNumbers words job = IsSomeAnd (subcommand_of aries_line words) (λ found. GivesNumbers found.1 job.task)
+HasNumbers words job = IsSomeAnd (subcommand_of aries_line words) (λ found. GivesNumbers found.1 job)
+
+-- whether the job is verbose
+abbrev pub verbose_of : Job → Bool
+verbose_of (Recover log store out_log out_store options may_be_one verbose) = verbose
+verbose_of (RecoverInPlace log store out_store options may_be_one verbose) = verbose
+verbose_of (Audit log store base verbose) = verbose
 
 -- the job is verbose as the words say
 abbrev pub HasFlag : (words : List Text) → Job → Type 0
-HasFlag words job = IsSomeAnd (subcommand_of aries_line words) (λ found. IsFlagOf found.1 (codes "verbose") job.verbose)
+HasFlag words job = IsSomeAnd (subcommand_of aries_line words) (λ found. IsFlagOf found.1 (codes "verbose") (verbose_of job))

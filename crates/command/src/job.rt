@@ -5,11 +5,10 @@ ghost use Rattle.std.specs.Prelude.{OnOk, Option, string_bytes, true};
 ghost use Rattle.clap.specs.Words.{app_of, first_of, found_of, rows_of, rule_of, shape_of};
 ghost use Rattle.command.specs.Job.{AsksFor, FileName, GivesNumbers, GivesOptions, HasFiles};
 ghost use Rattle.command.specs.Job.{HasFlag, HasNumbers, HasRanges, IsFaultless, IsNumberOf};
-ghost use Rattle.command.specs.Job.{NamesFiles, NamesNewStore};
+ghost use Rattle.command.specs.Job.{NamesFiles, NamesNewStore, verbose_of};
 ghost use Rattle.command.specs.Line.{aries_line, audit_line, file_rule, free_file_rule, number_rule};
 ghost use Rattle.command.specs.Line.{recover_line};
 ghost use Rattle.command.specs.declared.job.Job.{Job};
-ghost use Rattle.command.specs.declared.job.Task.{Task};
 ghost use Rattle.restart.specs.Options.{AreInRange};
 ghost use Rattle.words.specs.Flags.{IsFlagOf};
 ghost use Rattle.words.specs.declared.refusal.Refusal.TheVariants.{Memory};
@@ -25,17 +24,7 @@ use words::{Refusal, flag_of, flag_option, no_command};
 
 /// What a command line asks for.
 #[derive(Debug, Drop)]
-pub struct Job {
-    /// What is to be done.
-    pub task: Task,
-    /// Whether standard error is to say more: after a refusal which file and which call, else how
-    /// long each part took.
-    pub verbose: bool,
-}
-
-/// What is to be done.
-#[derive(Debug, Drop)]
-pub enum Task {
+pub enum Job {
     /// Recover the store `store` by the log `log`, into two files that are made anew.
     Recover {
         log: String,
@@ -45,6 +34,9 @@ pub enum Task {
         options: Options,
         /// Whether one worker may do instead where the log is short: the line names no number.
         may_be_one: bool,
+        /// Whether standard error is to say more: after a refusal which file and which call, else
+        /// how long each part took.
+        verbose: bool,
     },
     /// Recover the store `store` by the log `log`, which is continued in its place. The new store
     /// is written to `out_store`, a file that is made, or takes the place of the old one if that is
@@ -56,6 +48,8 @@ pub enum Task {
         options: Options,
         /// Whether one worker may do instead where the log is short: the line names no number.
         may_be_one: bool,
+        /// Whether standard error is to say more, as of [`Job::Recover`].
+        verbose: bool,
     },
     /// Say whether the log `log` and the store `store` are lawful, over the pages of the base store
     /// `base` where it is given, else over empty ones.
@@ -63,6 +57,8 @@ pub enum Task {
         log: String,
         store: String,
         base: Option<String>,
+        /// Whether standard error is to say more, as of [`Job::Recover`].
+        verbose: bool,
     },
 }
 
@@ -265,34 +261,39 @@ fn new_store_of(alloc: Global, matches: &ArgMatches) -> Result<Option<String>, R
     }
 }
 
-/// What is to be recovered, and into which files, by the options of `recover`.
-fn recover_task(alloc: Global, command: &mut Command, matches: &ArgMatches) -> Result<Task, Refusal>
+/// What the options of `recover` ask for.
+fn recover_job(alloc: Global, command: &mut Command, matches: &ArgMatches) -> Result<Job, Refusal>
     ensures files { IfOk result (NamesFiles (codes "recover") (rows_of (found_of matches.now))) }
     ensures numbers { IfOk result (GivesNumbers (rows_of (found_of matches.now))) }
+    ensures verbose { IfOk result (λ job.
+        IsFlagOf (rows_of (found_of matches.now)) (codes "verbose") (verbose_of job)) }
     ensures ranges { IfOk result HasRanges }
-    ensures refused { IfErr result (λ refusal. (task : Task)
-        → NamesFiles (codes "recover") (rows_of (found_of matches.now)) task → refusal ≡ Memory) }
+    ensures refused { IfErr result (λ refusal. (job : Job)
+        → NamesFiles (codes "recover") (rows_of (found_of matches.now)) job → refusal ≡ Memory) }
 {
     let log = file_of(alloc, command, matches, "log")?;
     let store = file_of(alloc, command, matches, "store")?;
     let out_log = given_file(alloc, matches, "out-log")?;
     let out_store = new_store_of(alloc, matches)?;
     let (options, may_be_one) = options_of(matches);
+    let verbose = flag_of(matches, "verbose");
     match (flag_of(matches, "in-place"), out_log, out_store) {
-        (false, Some(out_log), Some(out_store)) => Ok(Task::Recover {
+        (false, Some(out_log), Some(out_store)) => Ok(Job::Recover {
             log,
             store,
             out_log,
             out_store,
             options,
             may_be_one,
+            verbose,
         }),
-        (true, None, out_store) => Ok(Task::RecoverInPlace {
+        (true, None, out_store) => Ok(Job::RecoverInPlace {
             log,
             store,
             out_store,
             options,
             may_be_one,
+            verbose,
         }),
         (false, None, _) => Err(missing_option(alloc, help::NO_LOG)?),
         (false, Some(_), None) => Err(missing_option(alloc, help::REPLACE_ALONE)?),
@@ -300,41 +301,20 @@ fn recover_task(alloc: Global, command: &mut Command, matches: &ArgMatches) -> R
     }
 }
 
-/// What a line of `recover` asks for.
-fn recover_job(alloc: Global, command: &mut Command, matches: &ArgMatches) -> Result<Job, Refusal>
-    ensures files { IfOk result (λ job.
-        NamesFiles (codes "recover") (rows_of (found_of matches.now)) job.task) }
-    ensures numbers { IfOk result (λ job. GivesNumbers (rows_of (found_of matches.now)) job.task) }
-    ensures verbose { IfOk result (λ job.
-        IsFlagOf (rows_of (found_of matches.now)) (codes "verbose") job.verbose) }
-    ensures ranges { IfOk result (λ job. HasRanges job.task) }
-    ensures refused { IfErr result (λ refusal. (task : Task)
-        → NamesFiles (codes "recover") (rows_of (found_of matches.now)) task → refusal ≡ Memory) }
-{
-    Ok(Job {
-        task: recover_task(alloc, command, matches)?,
-        verbose: flag_of(matches, "verbose"),
-    })
-}
-
 /// What the options of `audit` ask for.
 fn audit_job(alloc: Global, command: &mut Command, matches: &ArgMatches) -> Result<Job, Refusal>
-    ensures files { IfOk result (λ job.
-        NamesFiles (codes "audit") (rows_of (found_of matches.now)) job.task) }
-    ensures numbers { IfOk result (λ job. GivesNumbers (rows_of (found_of matches.now)) job.task) }
+    ensures files { IfOk result (NamesFiles (codes "audit") (rows_of (found_of matches.now))) }
+    ensures numbers { IfOk result (GivesNumbers (rows_of (found_of matches.now))) }
     ensures verbose { IfOk result (λ job.
-        IsFlagOf (rows_of (found_of matches.now)) (codes "verbose") job.verbose) }
-    ensures ranges { IfOk result (λ job. HasRanges job.task) }
-    ensures refused { IfErr result (λ refusal. (task : Task)
-        → NamesFiles (codes "audit") (rows_of (found_of matches.now)) task → refusal ≡ Memory) }
+        IsFlagOf (rows_of (found_of matches.now)) (codes "verbose") (verbose_of job)) }
+    ensures ranges { IfOk result HasRanges }
+    ensures refused { IfErr result (λ refusal. (job : Job)
+        → NamesFiles (codes "audit") (rows_of (found_of matches.now)) job → refusal ≡ Memory) }
 {
-    let task = Task::Audit {
+    Ok(Job::Audit {
         log: file_of(alloc, command, matches, "log")?,
         store: file_of(alloc, command, matches, "store")?,
         base: given_file(alloc, matches, "base")?,
-    };
-    Ok(Job {
-        task,
         verbose: flag_of(matches, "verbose"),
     })
 }
@@ -349,7 +329,7 @@ pub fn command_of<'a>(alloc: Global, words: &'a [&'a str]) -> Result<Job, Refusa
     ensures files { IfOk result (HasFiles (map (λ w. w.now) words.now)) }
     ensures numbers { IfOk result (HasNumbers (map (λ w. w.now) words.now)) }
     ensures verbose { IfOk result (HasFlag (map (λ w. w.now) words.now)) }
-    ensures ranges { IfOk result (λ job. HasRanges job.task) }
+    ensures ranges { IfOk result HasRanges }
     ensures refused { IfErr result (λ refusal. (job : Job)
         → AsksFor (map (λ w. w.now) words.now) job → refusal ≡ Memory) }
 {

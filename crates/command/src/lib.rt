@@ -4,5 +4,5 @@
 mod help;
 mod job;
 
-pub use job::{Job, Task, command_of};
+pub use job::{Job, command_of};
 pub use words::Refusal;

@@ -25,5 +25,5 @@ IsStatusOf Memory status = status ≡ 1
 
 -- of a run without words: 2 where one is no text, as for any line that is wrong, 1 for want of memory
 abbrev pub wordless_status : NoWords → ℕ
-wordless_status NoText = 2
+wordless_status (NoText place) = 2
 wordless_status NoMemory = 1

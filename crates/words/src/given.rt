@@ -1,7 +1,7 @@
 //! The words that a program was given.
 
 ghost use Rattle.std.specs.IoError.{error_kind};
-ghost use Rattle.std.specs.Prelude.{◌≡◌, ◌≢◌, ℕ, IfOk, option_map, slice_get, string_bytes};
+ghost use Rattle.std.specs.Prelude.{◌≡◌, ◌≢◌, ℕ, IfOk, None, option_map, slice_get, string_bytes};
 ghost use Rattle.std.specs.declared.io.ErrorKind.TheVariants.{InvalidData};
 ghost use Rattle.words.specs.Statuses.{wordless_status};
 ghost use Rattle.words.specs.declared.given.NoWords.TheVariants.{NoMemory, NoText};
@@ -13,11 +13,18 @@ use std::env;
 use std::io::{self, ErrorKind, Write};
 use std::rt::Env;
 
+/// How many bytes of lines a program holds back before they go to standard error.
+pub const ERROR_BUFFER_BYTES: usize = 8_192;
+
+/// A word of Linux has fewer bytes than this, where a page of memory has 4,096.
+const LONGEST_WORD: usize = 131_072;
+
 /// Why there are no words.
 #[derive(Debug, Drop)]
 pub enum NoWords {
-    /// A word is no text.
-    NoText,
+    /// The word at this place is no text; the program's name has the place 0. `None` where the place
+    /// is not known.
+    NoText(Option<usize>),
     /// Memory was refused.
     NoMemory,
 }
@@ -31,12 +38,12 @@ impl From<AllocError> for NoWords {
 }
 
 impl From<io::Error> for NoWords {
-    ghost from_gives = { λ error why. (error_kind error ≡ InvalidData → why ≡ NoText)
+    ghost from_gives = { λ error why. (error_kind error ≡ InvalidData → why ≡ NoText None)
         × (error_kind error ≢ InvalidData → why ≡ NoMemory) };
 
     fn from(error: io::Error) -> NoWords {
         match error.kind() {
-            ErrorKind::InvalidData => NoWords::NoText,
+            ErrorKind::InvalidData => NoWords::NoText(None),
             _ => NoWords::NoMemory,
         }
     }
@@ -49,8 +56,9 @@ impl NoWords {
         ensures { IfOk result (λ status. status ≡ wordless_status self.now) }
     {
         match self {
-            NoWords::NoText => {
-                writeln!(err, "error: a word of the command line is no text")?;
+            NoWords::NoText(place) => {
+                tell_no_text(*place, err)?;
+                err.flush()?;
                 Ok(2)
             }
             NoWords::NoMemory => Ok(refuse(Fault::NoResource, err)),
@@ -58,10 +66,39 @@ impl NoWords {
     }
 }
 
+/// Prints that the word at this place is no text.
+fn tell_no_text<E: Write>(place: Option<usize>, err: &mut E) -> io::Result<()> {
+    match place {
+        Some(place) => writeln!(
+            err,
+            "error: word {place} of the command line is no text (UTF-8)"
+        ),
+        None => writeln!(err, "error: a word of the command line is no text"),
+    }
+}
+
+/// The place of the first word that is no text. `None` where memory is refused, or where a word
+/// before it is longer than Linux lets one be.
+fn place_without_text<R: Env + AllocGlobal>(rt: &R) -> Option<usize> {
+    let mut buffer = vec![in rt.alloc(); 0; LONGEST_WORD].ok()?;
+    for place in 0..usize::MAX {
+        let length = rt.arg(place, &mut buffer).ok()?;
+        if str::from_utf8(&buffer[..length]).is_err() {
+            return Some(place);
+        }
+    }
+    None
+}
+
 /// The words of the command line, each of them text; the first is the program's name.
 pub fn words_of<R: Env + AllocGlobal>(rt: &R) -> Result<Vec<String>, NoWords> {
-    let words = env::args(rt)?.collect(rt.alloc())?;
-    Ok(words)
+    match env::args(rt) {
+        Ok(words) => Ok(words.collect(rt.alloc())?),
+        Err(error) => match NoWords::from(error) {
+            NoWords::NoText(_) => Err(NoWords::NoText(place_without_text(rt))),
+            NoWords::NoMemory => Err(NoWords::NoMemory),
+        },
+    }
 }
 
 /// The same words, lent, each at its place.

@@ -6,8 +6,9 @@ mod fault;
 mod flag;
 mod given;
 mod refusal;
+mod shown;
 
 pub use fault::refuse;
 pub use flag::{flag_of, flag_option};
-pub use given::{NoWords, slices_of, words_of};
+pub use given::{ERROR_BUFFER_BYTES, NoWords, slices_of, words_of};
 pub use refusal::{Refusal, no_command};

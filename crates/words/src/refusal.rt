@@ -7,6 +7,7 @@ ghost use Rattle.words.specs.Statuses.{IsLineStatus, IsStatusOf};
 ghost use Rattle.words.specs.declared.refusal.Refusal.TheVariants.{Memory};
 
 use crate::refuse;
+use crate::shown::print_shown;
 use clap::Command;
 use clap::error::ErrorKind;
 use page::Fault;
@@ -41,17 +42,17 @@ impl From<clap::Error> for Refusal {
     }
 }
 
-/// Prints what clap says of a line, and gives the status: 2 for a mistake, 0 where help or the
-/// version was asked for, 1 where the print failed.
+/// Prints what clap says of a line, with what a terminal would obey escaped in a mistake, and gives the status: 2 for a
+/// mistake, 0 where help or the version was asked for, 1 where the print failed.
 fn explain_line<O: Write, E: Write>(error: clap::Error, out: &mut O, err: &mut E) -> u8
     ensures { IsLineStatus (kind_of error) result }
 {
-    let (printed, status) = if error.use_stderr() {
-        (write!(err, "{error}"), 2)
+    let (is_printed, status) = if error.use_stderr() {
+        (print_shown(&error, err).is_ok(), 2)
     } else {
-        (write!(out, "{error}"), 0)
+        (write!(out, "{error}").is_ok(), 0)
     };
-    if printed.is_ok() { status } else { 1 }
+    if is_printed { status } else { 1 }
 }
 
 impl Refusal {
