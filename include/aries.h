@@ -8,9 +8,9 @@
  * do not overlap any other, and nobody changes one while a call runs. A call keeps no state and frees what it
  * allocates before it returns. Any number of threads may call at once; no signal handler may.
  *
- * ANSWERS. Each call answers a struct aries_fault. Number 0: it did what it was asked. At any other number the
- * buffers are as they were; what is told beside them (a length, counts, lengths of a recovery) is so too, but at
- * ARIES_NO_ROOM, which tells how long the buffers have to be.
+ * RESULTS. Each call returns a struct aries_fault. Number 0: it did what it was asked. With any other number the
+ * buffers are unchanged, and so is what else a call writes (a length, counts, lengths of a recovery), except at
+ * ARIES_NO_ROOM: that says how long the buffers have to be.
  *
  * PROCESSOR. x86-64 with SSSE3 and SSE4.1 (x86-64-v2). The archive does not check that; the programs do.
  *
@@ -30,7 +30,7 @@ extern "C" {
 /*
  * Numbers of faults: ARIES_OK; 2 to 29 as `aries` prints them (docs/FORMATS.md has the table); and these.
  * ARIES_NO_RESOURCE: memory was refused. ARIES_NO_ROOM: a buffer is too short. ARIES_NOT_WRITABLE: what is to be
- * written has no spelling, or what is asked for does not stand there.
+ * written has no encoding, or what is asked for is not there.
  */
 enum { ARIES_OK = 0, ARIES_NO_RESOURCE = 1, ARIES_NO_ROOM = 64, ARIES_NOT_WRITABLE = 65 };
 
@@ -44,7 +44,7 @@ enum {
 };
 
 /*
- * What a call answers. place is where the cause is: an offset in the log (numbers 7 to 9), an LSN (14, 16, 20 to 25),
+ * What a call returns. place is where the cause is: an offset in the log (numbers 7 to 9), an LSN (14, 16, 20 to 25),
  * or a page (12, 15, 26, 28); else 0.
  */
 struct aries_fault {
@@ -72,13 +72,13 @@ struct aries_recovered {
 /*
  * Recovers a store by its log. The new log is log[0 .. log_length - made->torn] and after it
  * tail[0 .. made->tail_length]; the new store is out_store[0 .. made->store_length]; in_doubt[0 .. made->in_doubt]
- * has the numbers of the transactions in doubt, rising. After these the buffers are as they were. Put the new log in
- * place before the new store: an interrupted recovery is done again from what stands then, to the same end. To make
+ * has the numbers of the transactions in doubt, ascending. After these the buffers are as they were. Put the new log in
+ * place before the new store: an interrupted recovery is done again from what is there then, with the same result. To make
  * the new log in the file of the old one, cut off the torn tail, sync the file, write the tail, and sync it again.
  * Without the first sync a power cut may lose the cut and keep some of the tail; torn bytes can then complete a frame.
  *
  * The room that is needed is known before: for the store store_length; for the tail of a lawful log twice log_length
- * at most. Where the room for the tail or for the numbers does not do, ARIES_NO_ROOM tells in `made` what a recovery
+ * at most. If the room for the tail or for the numbers is too small, `made` has at ARIES_NO_ROOM what a recovery
  * needs, and a second call does it.
  *
  * Faults: 6 to 9 of the log; 10 to 12 of the store; 15, 13, 14 and 16 of the restart; 1; 64. A lawful log and its
@@ -99,14 +99,14 @@ struct aries_fault aries_audit(const uint8_t *log, size_t log_length, const uint
 
 /*
  * The same over the pages that a base store holds: what they held before the log's first record. Its own faults: 10
- * to 12 of the base store too, behind those of the store, and 29.
+ * to 12 of the base store too, after those of the store, and 29.
  */
 struct aries_fault aries_audit_from(const uint8_t *log, size_t log_length, const uint8_t *store, size_t store_length,
                                     const uint8_t *base, size_t base_length);
 
 /*
- * The text of a fault, as `dirty write at LSN 7`, without a 0 behind it: *length bytes at the front of out.
- * ARIES_NOT_WRITABLE: no fault has this number (0, 19, 64 and 65 among them), or its place is no page. 1; 64.
+ * The text of a fault, as `dirty write at LSN 7`, without a 0 after it: *length bytes at the front of out.
+ * ARIES_NOT_WRITABLE: no fault has this number (0, 19, 64 and 65 among them), or its place is not a page. 1; 64.
  */
 struct aries_fault aries_fault_text(const struct aries_fault *fault, uint8_t *out, size_t room, size_t *length);
 
@@ -133,7 +133,7 @@ enum {
 struct aries_record {
     uint64_t lsn;              /* its LSN */
     uint64_t prev;             /* PrevLSN: its transaction's record before it, 0 for none; not of kinds 6 and 7 */
-    uint64_t next;             /* UndoNxtLSN of a CLR; of a checkpoint end the LSN of its begin */
+    uint64_t next;             /* UndoNxtLSN of a CLR; of a checkpoint end the LSN of its begin record */
     uint32_t tx;               /* its transaction, from 1; not of kinds 6 and 7 */
     uint32_t page;             /* of an update and a CLR */
     uint8_t kind;              /* 1 to 8, as above */
@@ -144,7 +144,7 @@ struct aries_record {
 
 /* What of a log was read. */
 struct aries_read {
-    uint64_t base_lsn; /* the LSN behind which the log begins, 0 in version 1 */
+    uint64_t base_lsn; /* the LSN after which the log begins, 0 in version 1 */
     uint64_t records;  /* its whole records */
     uint64_t torn;     /* bytes of its torn tail */
     uint64_t given;    /* how many records stand in `out` */
@@ -153,7 +153,7 @@ struct aries_read {
 /*
  * A dump: the log's records from the LSN `first` on, as many as there are and have room: read->given of them at the
  * front of out. first 0, and any up to the base LSN, is the first record. The whole log is read at each call. The
- * tables of a checkpoint end are told by aries_checkpoint. Faults: 6 to 9 of the log; 1.
+ * tables of a checkpoint end come from aries_checkpoint. Faults: 6 to 9 of the log; 1.
  */
 struct aries_fault aries_records(const uint8_t *log, size_t log_length, uint64_t first, struct aries_record *out,
                                  size_t room, struct aries_read *read);
@@ -172,7 +172,7 @@ struct aries_dirty {
     uint32_t page;
 };
 
-/* What a checkpoint end says: the LSN of its begin, and how many entries its tables have. */
+/* What a checkpoint end says: the LSN of its begin record, and how many entries its tables have. */
 struct aries_tables {
     uint64_t begin;
     uint64_t transactions;
@@ -180,8 +180,8 @@ struct aries_tables {
 };
 
 /*
- * The tables of the checkpoint end at this LSN, each at the front of its buffer, in rising order of transaction and
- * of page. ARIES_NOT_WRITABLE: no checkpoint end stands there; 64: the counts are told in `made`; 6 to 9 of the log;
+ * The tables of the checkpoint end at this LSN, each at the front of its buffer, in ascending order of transaction
+ * and of page. ARIES_NOT_WRITABLE: there is no checkpoint end; 64: `made` has the counts; 6 to 9 of the log;
  * 1. The whole log is read at each call.
  */
 struct aries_fault aries_checkpoint(const uint8_t *log, size_t log_length, uint64_t lsn,
@@ -189,8 +189,8 @@ struct aries_fault aries_checkpoint(const uint8_t *log, size_t log_length, uint6
                                     struct aries_dirty *dirty, size_t dirty_room, struct aries_tables *made);
 
 /*
- * WHAT AN ENGINE WRITES. Each call writes one text to the front of out, of *length bytes, and leaves what is behind
- * it. 64: out is too short, and *length is told; ARIES_NOT_WRITABLE: there is no such text.
+ * WHAT AN ENGINE WRITES. Each call writes one text to the front of out, of *length bytes, and leaves what is after
+ * it. 64: out is too short, and *length is set; ARIES_NOT_WRITABLE: there is no such text.
  */
 
 /* The header of a log: version 1, base_lsn 0, 8 bytes; or version 2, base_lsn at most 2^63 - 1, 16 bytes. */
@@ -204,7 +204,7 @@ struct aries_fault aries_write_log_header(uint32_t version, uint64_t base_lsn, u
 struct aries_fault aries_write_record(const struct aries_record *record, uint8_t *out, size_t room, size_t *length);
 
 /*
- * The frame of a checkpoint end at its LSN, with the LSN of its begin and its tables: 29 bytes, 21 for each
+ * The frame of a checkpoint end at its LSN, with the LSN of its begin record and its tables: 29 bytes, 21 for each
  * transaction and 12 for each page. Not writable: more than 1,024 or 4,096 entries, numbers that do not rise,
  * transaction 0, a state above 2, LSN 0. 1.
  */

@@ -28,6 +28,7 @@ from operate import check_operation
 from pages import check_pages
 from pieces import check_order, check_pieces
 from program import ARIES, LARGE_ROWS, SMALL_ROWS, TOP, Row, Tally, bytes_of, has_printed, has_refused, in_doubt, library_of, run, text_of
+from prose import check_prose
 from spoiled import check_spoiled
 
 ROW_RUNNER = os.path.join(TOP, "crates/rows/out/rows")
@@ -383,7 +384,7 @@ def main():
     check_edits(tally)
     ways = run([sys.executable, os.path.join(TOP, "bench/way.py")])
     tally.say("no way through the crates is longer than it is to be", ways.returncode == 0, ways.stdout)
-    asked = check_instructions(tally)
+    asked = check_prose(tally) + check_instructions(tally)
     with tempfile.TemporaryDirectory(prefix="aries-tests-") as room:
         check_large_rows(tally, room)
         check_long_logs(tally, room)
