@@ -43,11 +43,13 @@ returns-in_err-end-clause-so_far g c =
     let line : c.deref.result.now ≡ log_line c.args.style log.begins =
     c.deref.ensures.value ∙ c.in_ok-put_start.ensures ∙ ap (λ (l : List ℕ). l ++ log_line c.args.style c.start-start.result) c.new-line.ensures.items ∙ ap (log_line c.args.style) begins in
     let so_far : (lsn : ℕ) × Appends (g.W.Write.contents c.write_all.new.self) (g.W.Write.contents c.print_records.new.out) (lines c.header_bytes-header.result lsn)
-        → BeginsLog c.args.style c.args.choice.now log (g.W.Write.contents c.args.out.now) (g.W.Write.contents c.print_records.new.out) =
-    λ some. inr (some.0,
-    subst (Appends (g.W.Write.contents c.args.out.now) (g.W.Write.contents c.print_records.new.out))
-    (ap₂ (λ (l : List ℕ) n. l ++ lines n some.0) line header)
-    (Appends-trans _ _ _ _ _ c.in_ok-write_all.ensures.bytes some.1)) in
+    → BeginsLog c.args.style c.args.choice.now log (g.W.Write.contents c.args.out.now) (g.W.Write.contents c.print_records.new.out) =
+    λ some. inr (
+      some.0,
+      subst (Appends (g.W.Write.contents c.args.out.now) (g.W.Write.contents c.print_records.new.out))
+          (ap₂ (λ (l : List ℕ) n. l ++ lines n some.0) line header)
+          (Appends-trans _ _ _ _ _ c.in_ok-write_all.ensures.bytes some.1),
+    ) in
     rw (exit.1, exit.2) (if_memory_weaker _ _ _ so_far c.in_err-end.ensures.so_far)
 
 pub returns-clause-so_far : goal.returns-clause-so_far
@@ -66,6 +68,6 @@ returns-clause-so_far g c =
     (ap (λ (l : List ℕ). c.deref.result.now ++ l) all ∙ ap₂ (λ (l : List ℕ) n. l ++ lines n last) line header)
     (Appends-trans _ _ _ _ _ c.in_ok-write_all.ensures.bytes c.in_ok-end.ensures.printed) in
     let so_far : Keeps (g.W.Write.contents c.print_records.new.out) (g.W.Write.contents c.print_torn_tail.new.out)
-        → BeginsLog c.args.style c.args.choice.now log (g.W.Write.contents c.args.out.now) (g.W.Write.contents c.print_torn_tail.new.out) =
+    → BeginsLog c.args.style c.args.choice.now log (g.W.Write.contents c.args.out.now) (g.W.Write.contents c.print_torn_tail.new.out) =
     λ kept. inr (last, Appends-kept _ _ _ (log_line c.args.style log.begins ++ lines (header_bytes log.begins) last) out kept) in
     IfErr-weaker c.print_torn_tail.result _ _ (λ e kept. if_memory_weaker _ _ e so_far kept) c.print_torn_tail.ensures.kept

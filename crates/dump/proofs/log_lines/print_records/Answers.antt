@@ -65,6 +65,6 @@ returns-in_err-print_record-clause-so_far g c =
     let exit = err_from_is_err_and c.from_residual.result c.from_residual.ensures.1 in
     let lines = λ (lsn : ℕ). record_lines c.args.style c.args.choice.now c.args.header (first lsn (history c.args.log.now)) in
     let so_far : Keeps (g.W.Write.contents c.loop-lsn.out) (g.W.Write.contents c.print_record.new.out)
-        → (lsn : ℕ) × Appends (g.W.Write.contents c.args.out.now) (g.W.Write.contents c.print_record.new.out) (lines lsn) =
+    → (lsn : ℕ) × Appends (g.W.Write.contents c.args.out.now) (g.W.Write.contents c.print_record.new.out) (lines lsn) =
     λ kept. (c.loop-lsn.lsn, Appends-kept _ _ _ (lines c.loop-lsn.lsn) c.loop-lsn.invariant.printed kept) in
     rw (exit.1, exit.2) (if_memory_weaker _ _ _ so_far c.in_err-print_record.ensures.kept)

@@ -23,6 +23,6 @@ returns-in_err-print_image-clause-so_far g c =
     let exit = err_from_is_err_and c.from_residual.result c.from_residual.ensures.1 in
     let (front, lines, printed) = c.loop-number.invariant in
     let so_far : Keeps (g.W.Write.contents c.loop-number.out) (g.W.Write.contents c.print_image.new.out)
-        → BeginsPages c.args.style c.args.asked c.args.images.now (g.W.Write.contents c.args.out.now) (g.W.Write.contents c.print_image.new.out) =
+    → BeginsPages c.args.style c.args.asked c.args.images.now (g.W.Write.contents c.args.out.now) (g.W.Write.contents c.print_image.new.out) =
     λ kept. (c.loop-number.number, front, lines, Appends-kept _ _ _ front printed kept) in
     rw (exit.1, exit.2) (if_memory_weaker _ _ _ so_far c.in_err-print_image.ensures.kept)

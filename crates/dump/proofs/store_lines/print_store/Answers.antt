@@ -19,7 +19,7 @@ returns-in_err-print_page-clause-so_far g c =
     subst (λ (l : List ℕ). Appends (g.W.Write.contents c.args.out.now) (g.W.Write.contents c.loop-page.out) (l ++ lines c.loop-page.page-index)) line
     (Appends-trans _ _ _ _ _ c.in_ok-write_all.ensures.bytes c.loop-page.invariant) in
     let so_far : Keeps (g.W.Write.contents c.loop-page.out) (g.W.Write.contents c.print_page.new.out)
-        → BeginsStore c.args.style c.args.asked store (g.W.Write.contents c.args.out.now) (g.W.Write.contents c.print_page.new.out) =
+    → BeginsStore c.args.style c.args.asked store (g.W.Write.contents c.args.out.now) (g.W.Write.contents c.print_page.new.out) =
     λ kept. inr (c.loop-page.page-index, Appends-kept _ _ _ (store_line c.args.style store ++ lines c.loop-page.page-index) out kept) in
     rw (exit.1, exit.2) (if_memory_weaker _ _ _ so_far c.in_err-print_page.ensures.kept)
 
