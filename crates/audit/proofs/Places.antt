@@ -116,13 +116,17 @@ module _ {V : Type 0} where
       ]
 
   -- THE BUCKET, gone through from its start
-  pub bucket_none : (places : List (Place V)) (number start end : ℕ) → start ≡ bucket_start (length places) number → min (start + 8) (length places) ≤ end → HasNoneIn places start end number → found_in places number ≡ None
-  bucket_none places number start end at upto none =
-      subst (λ s. found_from places s 8 number ≡ None) at (none_found places start 8 number (λ i f t.
+  -- the places past the last have no number
+  pub none_to_end : (places : List (Place V)) (number start end : ℕ) → min (start + 8) (length places) ≤ end → HasNoneIn places start end number → HasNoneIn places start (start + 8) number
+  none_to_end places number start end upto none i f t =
       elim (cases_lt i (length places)) [
         | inl lt ↦ none i f (omega (arith, t, lt, upto))
         | inr ge ↦ subst (IsNotOf number) (sym (get_or_past places i None ge)) tt
-      ]))
+      ]
+
+  pub bucket_none : (places : List (Place V)) (number start end : ℕ) → start ≡ bucket_start (length places) number → min (start + 8) (length places) ≤ end → HasNoneIn places start end number → found_in places number ≡ None
+  bucket_none places number start end at upto none =
+      subst (λ s. found_from places s 8 number ≡ None) at (none_found places start 8 number (none_to_end places number start end upto none))
 
   pub bucket_some : (places : List (Place V)) (number start place own : ℕ) (v : V) → start ≡ bucket_start (length places) number → start ≤ place → place < start + 8 → get_or places place None ≡ Some (own, v) → own ≡ number
       → HasNoneIn places start place number → found_in places number ≡ Some v

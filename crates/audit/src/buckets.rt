@@ -1,8 +1,8 @@
 //! Buckets of eight places each, one behind the other. A place is free, or has a number and its
 //! value; a number stands in its own bucket.
 
-ghost use Rattle.std.specs.Prelude.{◌≡◌, ◌≢◌, ℕ, IfSome, IfNone, None};
-ghost use Rattle.audit.specs.NumberTable.{bucket_start, found_in, IsPlaceFor};
+ghost use Rattle.std.specs.Prelude.{◌≡◌, ◌≢◌, ◌+◌, ℕ, IfSome, IfNone, None, length};
+ghost use Rattle.audit.specs.NumberTable.{bucket_start, found_in, HasNoneIn, IsPlaceFor};
 
 /// How many places a bucket has.
 pub const BUCKET: usize = 8;
@@ -34,6 +34,39 @@ pub fn find<V: Copy>(places: &[Option<(u32, V)>], number: u32) -> Option<V>
     None
 }
 
+/// The place that has a number, if one of its bucket has.
+#[inline(always)]
+fn own_place<V: Copy>(places: &[Option<(u32, V)>], number: u32) -> Option<usize>
+    ensures some { IfSome result (λ place. IsPlaceFor places.now number place) }
+    ensures none { IfNone result (HasNoneIn places.now (bucket_start (length places.now) number)
+        (bucket_start (length places.now) number + BUCKET) number) }
+{
+    let start = bucket_start(places.len(), number);
+    for place in start..(start + BUCKET).min(places.len()) {
+        if let Some((own, _)) = places[place] {
+            if own == number {
+                return Some(place);
+            }
+        }
+    }
+    None
+}
+
+/// The first free place in the bucket of a number that no place of it has.
+fn free_place<V: Copy>(places: &[Option<(u32, V)>], number: u32) -> Option<usize>
+    requires { HasNoneIn places.now (bucket_start (length places.now) number)
+        (bucket_start (length places.now) number + BUCKET) number }
+    ensures { IfSome result (λ place. IsPlaceFor places.now number place) }
+{
+    let start = bucket_start(places.len(), number);
+    for place in start..(start + BUCKET).min(places.len()) {
+        if places[place].is_none() {
+            return Some(place);
+        }
+    }
+    None
+}
+
 /// The place for a number in its bucket: the one that has it, else the first free one. None where
 /// the bucket is full, or there is none.
 #[inline(always)]
@@ -41,23 +74,10 @@ pub fn place_for<V: Copy>(places: &[Option<(u32, V)>], number: u32) -> Option<us
     ensures some { IfSome result (λ place. IsPlaceFor places.now number place) }
     ensures none { IfNone result (found_in places.now number ≡ None) }
 {
-    let start = bucket_start(places.len(), number);
-    let mut free = None;
-    for place in start..(start + BUCKET).min(places.len()) {
-        match places[place] {
-            Some((own, _)) => {
-                if own == number {
-                    return Some(place);
-                }
-            }
-            None => {
-                if free.is_none() {
-                    free = Some(place);
-                }
-            }
-        }
+    match own_place(places, number) {
+        Some(place) => Some(place),
+        None => free_place(places, number),
     }
-    free
 }
 
 /// Frees each place of its bucket that has the number; returns how many.

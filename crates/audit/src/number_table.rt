@@ -53,6 +53,7 @@ impl<V: Copy> NumberTable<V> {
     }
 
     /// Puts the value of a number where there is room for it now.
+    #[inline(always)]
     fn put_now(&mut self, number: u32, value: V) -> Result<(), Fault>
         ensures ok { OnOk result ((n : ℕ) → value_in self.new n
             ≡ (if number == n then Some value else value_in self.old n)) }
@@ -98,7 +99,7 @@ impl<V: Copy> NumberTable<V> {
             ≡ (if number == n then Some value else value_in self.old n)) }
         ensures err { IsOkUnless result NoResource }
     {
-        if self.taken >= self.places.len() / BUCKET * 3 {
+        if self.taken >= self.places.len() / 2 {
             self.grow()?;
         }
         self.put_now(number, value)
