@@ -25,6 +25,20 @@ pub struct NumberTable<V> {
     pub overflow: BTreeMap<u32, V>,
 }
 
+/// How many places a table has up to which it is kept nearly empty.
+const SMALL: usize = 4096;
+
+/// How many places may be taken before there are twice as many. In a small table most numbers
+/// stand at the first place of their bucket, where a look is quickest.
+#[inline(always)]
+fn limit(places: usize) -> usize {
+    if places <= SMALL {
+        places / BUCKET
+    } else {
+        places / 2
+    }
+}
+
 impl<V: Copy> NumberTable<V> {
     /// No number has a value.
     pub fn new(alloc: Global) -> NumberTable<V>
@@ -99,7 +113,7 @@ impl<V: Copy> NumberTable<V> {
             ≡ (if number == n then Some value else value_in self.old n)) }
         ensures err { IsOkUnless result NoResource }
     {
-        if self.taken >= self.places.len() / 2 {
+        if self.taken >= limit(self.places.len()) {
             self.grow()?;
         }
         self.put_now(number, value)

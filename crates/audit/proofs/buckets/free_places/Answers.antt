@@ -26,13 +26,13 @@ loop-place-preserved g c =
       | in-Some+else-own-number w ↦ record {
         freed = omega (arith, w.freed-is, before.freed);
         none = subst (λ (ps : List (Place g.row.V.Denot)). HasNoneIn ps start (place + 1) number) (sym w.places-is)
-        (none_more places start place number _ before.none (sym (get_or_default places place _ None within) ∙ w.in-Some.is) w.if-own-number.false);
+            (none_more places start place number _ before.none (sym (get_or_default places place _ None within) ∙ w.in-Some.is) w.if-own-number.false);
         other = λ n ne. ap (λ (ps : List (Place g.row.V.Denot)). found_in ps n) w.places-is ∙ before.other n ne;
       }
       | in_default w ↦ record {
         freed = omega (arith, w.freed-is, before.freed);
         none = subst (λ (ps : List (Place g.row.V.Denot)). HasNoneIn ps start (place + 1) number) (sym w.places-is)
-        (none_more places start place number _ before.none (sym (get_or_default places place _ None within) ∙ w.in_default.is) tt);
+            (none_more places start place number _ before.none (sym (get_or_default places place _ None within) ∙ w.in_default.is) tt);
         other = λ n ne. ap (λ (ps : List (Place g.row.V.Denot)). found_in ps n) w.places-is ∙ before.other n ne;
       }
     ]

@@ -1,4 +1,4 @@
-use Rattle.std.proofs.Common.{◌≡◌, ◌≤◌, ◌<◌, ◌∙◌, ℕ, Option, ap, subst, refl, arith, option_map, eqb}
+use Rattle.std.proofs.Common.{◌≡◌, ◌≤◌, ◌<◌, ◌∙◌, ℕ, Option, ap, subst, refl, arith, option_map}
 use Rattle.std.specs.Prelude.{IsTrue, ◌↔◌}
 use Rattle.wal.specs.Records.{UpdateRecord}
 use Rattle.audit.specs.declared.cell.Cell.{Cell}

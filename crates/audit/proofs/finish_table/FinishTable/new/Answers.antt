@@ -1,4 +1,4 @@
-use Rattle.std.proofs.Common.{ℕ, Option, None, List, get_or, replicate, unwrap_or, ap, ◌∙◌, arith}
+use Rattle.std.proofs.Common.{Option, None, List, get_or, replicate, unwrap_or, ap, ◌∙◌, arith}
 use Rattle.std.proofs.lemmas.List.{get_or-replicate}
 use Rattle.std.specs.Prelude.{◌/◌, ◌%◌}
 use Rattle.audit.specs.declared.standing.Finish.{Finish}

@@ -1,4 +1,4 @@
-use Rattle.std.proofs.Common.{◌≡◌, ◌⊎◌, ◌++◌, ◌∷◌, [], ℕ, List, true, false, Option, Some, None, eqb, eqb-true, get_or, map, refl, sym, ap, subst, ◌∙◌, inl, inr}
+use Rattle.std.proofs.Common.{◌≡◌, ◌⊎◌, ◌∷◌, [], ℕ, List, true, Option, Some, None, eqb-true, get_or, map, refl, sym, ap, subst, ◌∙◌, inl, inr}
 use Rattle.std.proofs.lemmas.List.{map_push}
 use Rattle.std.proofs.lemmas.List.Elements.{All-push, Contains-append_left, Contains-push}
 use Rattle.std.proofs.lemmas.Map.Entries.{place_from_lookup}
@@ -36,10 +36,10 @@ loop-number-preserved g c =
     record {
       places = λ n some. subst (λ xs. Contains xs n) (sym pushed) (Contains-append_left old (number ∷ []) n (c.loop-number.invariant.places n some));
       overflow = subst (All P) (sym (map_push deref_pair c.loop-number.yielded (c.in-Some.number, c.in-Some.field-0-1)))
-      (All-push P (map deref_pair c.loop-number.yielded) (number, c.in-Some.field-0-1.now)
-      (λ k d lt. subst (λ xs. Contains xs (get_or (map deref_pair c.loop-number.yielded) k d).0) (sym pushed)
-      (Contains-append_left old (number ∷ []) (get_or (map deref_pair c.loop-number.yielded) k d).0 (c.loop-number.invariant.overflow k d lt)))
-      (subst (λ xs. Contains xs number) (sym pushed) (Contains-push old number)));
+          (All-push P (map deref_pair c.loop-number.yielded) (number, c.in-Some.field-0-1.now)
+          (λ k d lt. subst (λ xs. Contains xs (get_or (map deref_pair c.loop-number.yielded) k d).0) (sym pushed)
+          (Contains-append_left old (number ∷ []) (get_or (map deref_pair c.loop-number.yielded) k d).0 (c.loop-number.invariant.overflow k d lt)))
+          (subst (λ xs. Contains xs number) (sym pushed) (Contains-push old number)));
     }
 
 pub returns-clause-ok : goal.returns-clause-ok
