@@ -20,8 +20,7 @@ first_end_after m log [] x e = e
 first_end_after m log (CheckpointEnd begin ts d ∷ rs) x e = first_end_after m (log ▸ CheckpointEnd begin ts d) rs x (rw e refl)
 first_end_after m log (r ∷ rs) x e = first_end_after m (log ▸ r) rs x e
 
--- the end that is met names m, and none before it does
--- and one that is found up to an LSN is the first of the log
+-- an end that is found up to an LSN is the first of the log
 first_end_before : (m lsn : ℕ) (log : History) (x : List TableEntry × List (ℕ × ℕ)) → first_end m (first lsn log) ≡ Some x → first_end m log ≡ Some x
 first_end_before m lsn (start _) x e = e
 first_end_before m lsn (log ▸ r) x e =
@@ -30,6 +29,7 @@ first_end_before m lsn (log ▸ r) x e =
       | inr i ↦ first_end_after m log (r ∷ []) x (first_end_before m lsn log x (sym (ap (λ b. first_end m (cond b (log ▸ r) (first lsn log))) i) ∙ e))
     ]
 
+-- so is an end that names m, where none up to the LSN in front of it does
 pub first_end_met : (log : History) (m lsn : ℕ) (begin : ℕ) (ts : List TableEntry) (d : List (ℕ × ℕ)) → base_lsn log ≤ m → lsn < last_lsn log → m ≤ lsn → begin ≡ m → first_end m (first lsn log) ≡ None
     → first (lsn + 1) log ≡ first lsn log ▸ CheckpointEnd begin ts d → Some (ts, d) ≡ first_end m log
 first_end_met log m lsn begin ts d from lt le own none next =
