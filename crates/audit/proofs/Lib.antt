@@ -1,3 +1,5 @@
+pub mod Places
+pub mod Growing
 pub mod Statuses
 pub mod StandingAfter
 pub mod Finishing

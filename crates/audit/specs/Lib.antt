@@ -1,4 +1,5 @@
 pub mod Statuses
+pub mod NumberTable
 pub mod Standings
 pub mod Cells
 pub mod FirstFault
