@@ -1,5 +1,3 @@
-pub mod Places
-pub mod Growing
 pub mod Statuses
 pub mod StandingAfter
 pub mod Finishing

@@ -1,7 +1,6 @@
 -- Unfinished transactions, and those in doubt, by what is known of each.
 use Rattle.std.proofs.Common.{◌≡◌, ◌&&◌, not, ℕ, suc, Bool, true, false, List, Option, Some, None, refl, sym, ap, ap₂, ◌∙◌, inl, inr, arith, eqb, eq-eqb, ne_eqb}
 use Rattle.std.proofs.lemmas.Bool.{cases_Bool, cases_eq, or_cases, or_left, or_right, false≢true, both_ways}
-use Rattle.std.specs.Prelude.{is_some}
 use Rattle.wal.specs.Records.{LogRecord, Prepare, History, start, ◌▸◌, last_lsn}
 use Rattle.wal.specs.Meaning.{is_of, is_prepare_of, has, prepared, aborted, in_doubt, is_unfinished, finished, last_of}
 use Rattle.audit.specs.declared.status.Status.{Status}
@@ -49,11 +48,6 @@ absent_not_unfinished links t log finish h =
       | inl some ↦ rw (some, absent_finished links t log finish h some) refl
       | inr none ↦ rw none refl
     ]
-
--- so one that is unfinished is among them
-pub unfinished_some : (links : List ℕ) (t : ℕ) (log : History) (s : Option Status) (finish : Option Finish) → IsStandingOf links t log (standing_by s finish) → is_unfinished t log ≡ true → is_some s ≡ true
-unfinished_some links t log None finish h live = absurd (both_ways (is_unfinished t log) (absent_not_unfinished links t log finish h) live)
-unfinished_some links t log (Some s) finish h live = refl
 
 -- one that is among them has not
 pub present_unfinished : (links : List ℕ) (t : ℕ) (log : History) (s : Option Status) (finish : Option Finish) → IsStandingOf links t log (standing_by s finish) → finished t log ≡ true → s ≡ None

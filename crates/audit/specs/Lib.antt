@@ -1,5 +1,4 @@
 pub mod Statuses
-pub mod NumberTable
 pub mod Standings
 pub mod Cells
 pub mod FirstFault

@@ -1,5 +1,6 @@
 -- How the transactions stand, finished or not (own).
-use Rattle.std.specs.Prelude.{◌≡◌, ℕ, List, Option, Some, None, Bool, true, false, unwrap_or, slice_index_or, replicate, ◌/◌, ◌%◌}
+use Rattle.std.specs.Prelude.{◌≡◌, ℕ, List, Option, Some, None, Bool, true, false, nat_eq, unwrap_or, slice_index_or, replicate, ◌/◌, ◌%◌}
+use Rattle.std.specs.HashMap.{get}
 use Rattle.wal.specs.Records.{LogRecord, Commit, End, History}
 use Rattle.wal.specs.Meaning.{committed, ended, is_commit_of, is_end_of}
 use Rattle.audit.specs.declared.status.Status.{Status}
@@ -9,7 +10,6 @@ use Rattle.audit.specs.declared.standing.Standing.{Standing}
 use Rattle.audit.specs.declared.standing.Standing.TheVariants.{Unfinished, Finished}
 use Rattle.audit.specs.declared.finish_table.FinishTable.{FinishTable}
 use Rattle.audit.specs.declared.standings.Standings.{Standings}
-use Rattle.audit.specs.NumberTable.{value_in}
 use Rattle.audit.specs.Statuses.{IsStatusOf, unknown, after}
 
 -- ONE TRANSACTION
@@ -48,7 +48,7 @@ is_some_with test (Some r) = test r
 -- ALL OF THEM
 -- how the 16 transactions of a block have finished
 abbrev pub block_in : FinishTable → ℕ → List (Option Finish)
-block_in table number = unwrap_or (value_in table.blocks number) (replicate 16 None)
+block_in table number = unwrap_or (get nat_eq table.blocks number) (replicate 16 None)
 
 -- how the transaction t has finished
 abbrev pub finish_in : FinishTable → ℕ → Option Finish
@@ -60,9 +60,5 @@ standing_by (Some s) finish = Unfinished s
 standing_by None (Some finish) = Finished finish
 standing_by None None = Unfinished unknown
 
--- what is known of the transaction t where it has a record and has not finished
-abbrev pub status_in : Standings → ℕ → Option Status
-status_in standings t = value_in standings.unfinished t
-
 abbrev pub standing_in : Standings → ℕ → Standing
-standing_in standings t = standing_by (status_in standings t) (finish_in standings.finished t)
+standing_in standings t = standing_by (get nat_eq standings.unfinished t) (finish_in standings.finished t)

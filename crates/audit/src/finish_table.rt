@@ -4,10 +4,10 @@ ghost use Rattle.std.specs.Prelude.{◌≡◌, ◌==◌, ◌/◌, ◌%◌, ℕ, 
 ghost use Rattle.page.specs.declared.fault.Fault.TheVariants.{NoResource};
 ghost use Rattle.audit.specs.Standings.{block_in, finish_in};
 
-use crate::number_table::NumberTable;
 use crate::standing::Finish;
 use page::Fault;
 use std::alloc::Global;
+use std::collections::HashMap;
 
 /// How many transactions a block is of.
 const BLOCK: usize = 16;
@@ -17,7 +17,7 @@ const BLOCK: usize = 16;
 #[derive(Drop)]
 pub struct FinishTable {
     /// By a sixteenth of their numbers; None for one that has not finished.
-    pub blocks: NumberTable<[Option<Finish>; BLOCK]>,
+    pub blocks: HashMap<u32, [Option<Finish>; BLOCK]>,
 }
 
 /// Puts into its block how a transaction has finished.
@@ -35,7 +35,7 @@ impl FinishTable {
         ensures { (t : ℕ) → finish_in result t ≡ None }
     {
         FinishTable {
-            blocks: NumberTable::new(alloc),
+            blocks: HashMap::new(alloc),
         }
     }
 
@@ -43,8 +43,8 @@ impl FinishTable {
     fn block(&self, number: u32) -> [Option<Finish>; BLOCK]
         ensures { result ≡ block_in self.now number }
     {
-        match self.blocks.get(number) {
-            Some(block) => block,
+        match self.blocks.get(&number) {
+            Some(block) => *block,
             None => [None; BLOCK],
         }
     }
@@ -62,9 +62,11 @@ impl FinishTable {
             ≡ (if tx == t then Some finish else finish_in self.old t)) }
         ensures err { IsOkUnless result NoResource }
     {
-        let number = tx / BLOCK as u32;
-        let mut block = self.block(number);
-        put(&mut block, tx, finish);
-        self.blocks.put(number, block)
+        let block = self
+            .blocks
+            .entry(tx / BLOCK as u32)?
+            .or_insert([None; BLOCK]);
+        put(block, tx, finish);
+        Ok(())
     }
 }

@@ -3,14 +3,12 @@
 
 mod audit_state;
 mod base;
-mod buckets;
 mod cell;
 mod decide;
 mod dirty;
 mod finish_table;
 mod laws;
 mod master;
-mod number_table;
 mod pages;
 mod records;
 mod standing;

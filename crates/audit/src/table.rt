@@ -102,28 +102,15 @@ fn listed_in(alloc: Global, transactions: &TransactionTable) -> Result<HashSet<u
     Ok(listed)
 }
 
-/// Whether a transaction is listed, if it is unfinished.
-fn is_listed_if_unfinished(standings: &Standings, listed: &HashSet<u32>, tx: u32) -> bool
-    ensures { (log : History) (links : List ℕ)
-        → IsStandingOf links tx log (standing_in standings.now tx)
-        → IsTrue result ↔ (is_unfinished tx log ≡ true
-        → IsTrue (contains nat_eq listed.now tx)) }
-{
-    match standings.get(tx) {
-        Standing::Unfinished(status) => !has_begun(status) || listed.contains(&tx),
-        Standing::Finished(_) => true,
-    }
-}
-
-/// Whether each unfinished transaction of these is listed.
-fn unfinished_are_listed(standings: &Standings, numbers: &[u32], listed: &HashSet<u32>) -> bool
+/// Whether each unfinished transaction is listed.
+fn unfinished_are_listed(standings: &Standings, listed: &HashSet<u32>) -> bool
     ensures { (log : History) (links : List ℕ)
         → ((t : ℕ) → IsStandingOf links t log (standing_in standings.now t))
-        → IsTrue result ↔ All (λ t. is_unfinished t log ≡ true
-        → IsTrue (contains nat_eq listed.now t)) numbers.now }
+        → IsTrue result ↔ ((t : ℕ) → is_unfinished t log ≡ true
+        → IsTrue (contains nat_eq listed.now t)) }
 {
-    for tx in numbers {
-        if !is_listed_if_unfinished(standings, listed, *tx) {
+    for (tx, status) in &standings.unfinished {
+        if has_begun(*status) && !listed.contains(tx) {
             return false;
         }
     }
@@ -147,8 +134,7 @@ fn is_true_table(
         return Ok(false);
     }
     let listed = listed_in(alloc, transactions)?;
-    let numbers = standings.unfinished.numbers()?;
-    Ok(unfinished_are_listed(standings, &numbers, &listed))
+    Ok(unfinished_are_listed(standings, &listed))
 }
 
 /// Whether the table, if there is one, is exactly that of the unfinished transactions. The only

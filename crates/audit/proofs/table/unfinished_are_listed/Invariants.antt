@@ -1,6 +1,7 @@
-use Rattle.std.proofs.Common.{ℕ, List, ◌≡◌, true, eqb, take}
+use Rattle.std.proofs.Common.{ℕ, List, ◌≡◌, true, eqb, map}
 use Rattle.std.specs.Prelude.{All}
 use Rattle.std.specs.HashSet.{contains}
+use Rattle.std.specs.Map.Iter.{deref_pair}
 use Rattle.wal.specs.Records.{History}
 use Rattle.wal.specs.Meaning.{is_unfinished}
 use Rattle.audit.specs.Standings.{IsStandingOf, standing_in}
@@ -9,4 +10,4 @@ use Rattle.audit.proofs.table.unfinished_are_listed.Given as goal
 abbrev pub invariant-loop-tx : goal.invariant-loop-tx
 invariant-loop-tx l =
     (log : History) (links : List ℕ) → ((t : ℕ) → IsStandingOf links t log (standing_in l.standings t))
-    → All (λ t. is_unfinished t log ≡ true → contains eqb l.listed t ≡ true) (take l.tx-index l.numbers)
+    → All (λ e. is_unfinished e.0 log ≡ true → contains eqb l.listed e.0 ≡ true) (map deref_pair l.yielded)

@@ -1,5 +1,0 @@
-use Rattle.audit.specs.NumberTable.{HasNoneIn}
-use Rattle.audit.proofs.buckets.own_place.Given as goal
-
-abbrev pub invariant-loop-place : goal.invariant-loop-place
-invariant-loop-place g l = HasNoneIn l.places l.start l.place l.number
