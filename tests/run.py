@@ -19,7 +19,6 @@ import tempfile
 
 sys.dont_write_bytecode = True  # no folder of it beside the tests
 from borrow import check_borrow
-from chosen import check_chosen
 from dump import check_dump
 from edits import check_edits
 from in_place import check_in_place
@@ -399,7 +398,6 @@ def main():
         check_order(tally, room, library_of(room, "watch_calls"))
         check_spoiled(tally, room)
         check_borrow(tally, room)
-        check_chosen(tally, room)
         check_prints(tally, room)
         check_refusals(tally, room)
         check_dump(tally, room, Refuser(room))
