@@ -269,7 +269,7 @@ def machine(bench, options):
     return (
         f"{day}; {names[0]}, {os.cpu_count()} processors, {memory:.0f} GB of memory; {platform.system()}"
         f" {platform.release()}; files in {file_system(bench.folder)}; least of {options.runs} runs; load {load:.1f} at"
-        f" the begin. A peak below {floor:.0f} MB cannot be told.\n"
+        f" the start. A peak below {floor:.0f} MB cannot be measured.\n"
     )
 
 
