@@ -67,34 +67,16 @@ fn redoes_nothing_on_a_page_that_was_written(rt: HostRuntime) -> Result<(), Fail
     check(is_right, "checkpoint-loser-flushed")
 }
 
-/// The page of `two-losers` as the record with this LSN leaves it, and the one after its end.
-fn page_at(lsn: u64) -> Page {
-    match lsn {
-        0 => Page::empty(0),
-        1 => page_with(1, Some(b'a'), None),
-        2 => page_with(2, Some(b'a'), Some(b'b')),
-        3 => page_with(3, Some(b'c'), Some(b'b')),
-        4 => page_with(4, Some(b'a'), Some(b'b')),
-        5 => page_with(5, Some(b'a'), None),
-        _ => page_with(7, None, None),
-    }
+/// What a restart was to make when it was cut short: the new log, and the page at each PageLSN that it can
+/// have, the last one at the end.
+#[derive(Clone, Copy)]
+struct Crash<'a> {
+    made: &'a Text,
+    master: u64,
+    images: &'a [Page],
 }
 
-/// The LSNs of the updates and CLRs of `two-losers` and of what is appended to it.
-const CHANGES: [u64; 6] = [1, 2, 3, 4, 5, 7];
-
-/// How many of these a log of so many records has that a page with this PageLSN lacks.
-fn redone_of(records: u64, lsn: u64) -> u64 {
-    let mut count = 0;
-    for change in CHANGES {
-        if lsn < change && change <= records {
-            count += 1;
-        }
-    }
-    count
-}
-
-/// A log that a restart left: how many records it has, its bytes, and the losers, CLRs and ends of the
+/// A beginning of a new log: how many records it has, its bytes, and the losers, CLRs and ends of the
 /// restart that goes on with it.
 struct Cut {
     records: u64,
@@ -102,8 +84,8 @@ struct Cut {
     numbers: [u64; 3],
 }
 
-/// What a crash during the restart of `two-losers` leaves of the new log.
-const CUTS: [Cut; 6] = [
+/// The beginnings of the new log of `two-losers`.
+const OF_TWO_LOSERS: [Cut; 6] = [
     Cut {
         records: 3,
         bytes: 108,
@@ -136,26 +118,79 @@ const CUTS: [Cut; 6] = [
     },
 ];
 
-/// The new log of `two-losers`, cut, and what a restart is to make of it again.
-fn cut_row(alloc: Global, cut: &Cut) -> Result<Row, Fault> {
-    let made = two_losers(alloc)?.made;
+/// The beginnings of the new log of `checkpoint-loser`.
+const OF_CHECKPOINT_LOSER: [Cut; 3] = [
+    Cut {
+        records: 3,
+        bytes: 116,
+        numbers: [1, 1, 1],
+    },
+    Cut {
+        records: 4,
+        bytes: 155,
+        numbers: [1, 0, 1],
+    },
+    Cut {
+        records: 5,
+        bytes: 180,
+        numbers: [0, 0, 0],
+    },
+];
+
+/// How many records change the page between this PageLSN and the end of a log of so many records.
+fn redone_of(images: &[Page], records: u64, lsn: u64) -> u64 {
+    let mut count = 0_u64;
+    for image in images {
+        if lsn < image.lsn && image.lsn <= records {
+            count = count.saturating_add(1);
+        }
+    }
+    count
+}
+
+/// The new log, cut, and what a restart is to make of it again.
+fn cut_row(alloc: Global, made: &Text, cut: &Cut) -> Result<Row, Fault> {
     let end = cut.bytes.min(made.bytes.len());
     let given = Text {
         bytes: Vec::from_slice(alloc, &made.bytes[..end])?,
         lsn: cut.records,
     };
-    Ok(Row { given, made })
+    Ok(Row {
+        given,
+        made: made.copied()?,
+    })
 }
 
 /// Whether a restart on a cut log makes the whole one of it, over each image that the page can have.
-fn is_completed<R: Threads + Sync>(rt: &R, alloc: Global, cut: &Cut) -> Result<bool, Fault> {
-    let row = cut_row(alloc, cut)?;
+fn is_completed<R: Threads + Sync>(
+    rt: &R,
+    alloc: Global,
+    crash: &Crash,
+    cut: &Cut,
+) -> Result<bool, Fault> {
+    let row = cut_row(alloc, crash.made, cut)?;
+    let last = crash.images.last().map_or(0, |page| page.lsn);
     let [losers, compensated, ended] = cut.numbers;
-    for lsn in [0, 1, 2, 3, 4, 5, 7] {
-        let numbers = [redone_of(cut.records, lsn), losers, compensated, ended];
-        let expected = rolled_back(7, numbers);
-        let can_be = lsn <= cut.records;
-        if can_be && !is_restarted_on(rt, alloc, &row, 0, &page_at(lsn), &expected)? {
+    for image in crash.images {
+        let redone = redone_of(crash.images, cut.records, image.lsn);
+        let expected = rolled_back(last, [redone, losers, compensated, ended]);
+        let can_be = image.lsn <= cut.records;
+        if can_be && !is_restarted_on(rt, alloc, &row, crash.master, image, &expected)? {
+            return Ok(false);
+        }
+    }
+    Ok(true)
+}
+
+/// Whether that is so of each of these beginnings.
+fn are_completed<R: Threads + Sync>(
+    rt: &R,
+    alloc: Global,
+    crash: &Crash,
+    cuts: &[Cut],
+) -> Result<bool, Fault> {
+    for cut in cuts {
+        if !is_completed(rt, alloc, crash, cut)? {
             return Ok(false);
         }
     }
@@ -163,12 +198,43 @@ fn is_completed<R: Threads + Sync>(rt: &R, alloc: Global, cut: &Cut) -> Result<b
 }
 
 #[test]
-fn goes_on_with_what_was_cut(rt: HostRuntime) -> Result<(), Fail> {
+fn goes_on_with_two_losers(rt: HostRuntime) -> Result<(), Fail> {
     let alloc = rt.alloc();
-    for cut in &CUTS {
-        check(is_completed(&rt, alloc, cut)?, "cuts-of-two-losers")?;
-    }
-    Ok(())
+    let row = two_losers(alloc)?;
+    let images = [
+        Page::empty(0),
+        page_with(1, Some(b'a'), None),
+        page_with(2, Some(b'a'), Some(b'b')),
+        page_with(3, Some(b'c'), Some(b'b')),
+        page_with(4, Some(b'a'), Some(b'b')),
+        page_with(5, Some(b'a'), None),
+        page_with(7, None, None),
+    ];
+    let crash = Crash {
+        made: &row.made,
+        master: 0,
+        images: &images,
+    };
+    let is_right = are_completed(&rt, alloc, &crash, &OF_TWO_LOSERS)?;
+    check(is_right, "cuts-of-two-losers")
+}
+
+#[test]
+fn goes_on_with_checkpoint_loser(rt: HostRuntime) -> Result<(), Fail> {
+    let alloc = rt.alloc();
+    let row = checkpoint_loser(alloc)?;
+    let images = [
+        Page::empty(0),
+        page_with(1, Some(b'a'), None),
+        page_with(4, None, None),
+    ];
+    let crash = Crash {
+        made: &row.made,
+        master: 2,
+        images: &images,
+    };
+    let is_right = are_completed(&rt, alloc, &crash, &OF_CHECKPOINT_LOSER)?;
+    check(is_right, "cuts-of-checkpoint-loser")
 }
 
 /// Whether a restart of `ten-pages` changes each page once and appends nothing.
