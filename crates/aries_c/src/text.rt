@@ -1,6 +1,6 @@
 //! The text of a fault.
 
-ghost use Rattle.std.specs.Prelude.{◌≡◌, ◌≢◌, ◌<◌, ◌≤◌, ¬◌, IfSome, IfNone, drop, length};
+ghost use Rattle.std.specs.Prelude.{◌≡◌, ◌≢◌, ◌<◌, ◌≤◌, IfSome, IfNone, drop, length};
 ghost use Rattle.page.specs.declared.fault.Fault.{Fault as Content};
 ghost use Rattle.page.specs.Fault.{number_of};
 ghost use Rattle.aries_c.specs.declared.fault.TheConstants.{NO_ROOM, NOT_WRITABLE};
