@@ -138,7 +138,7 @@ def check_damage(tally, room):
     store = bytes_of(os.path.join(SMALL_ROWS, "ten-pages", "store"))
     sizes = [store[:-1], store + b"\0", store[:24], store[:-1024]]
     answers = [dump("store", written(room, "another-size", text)) for text in sizes]
-    tally.say("dump of a store of another size", all(has_refused(ran, b"fault 11: store size\n") for ran in answers))
+    tally.say("dump of a store of another size", all(has_refused(ran, b"fault 11: bad store size\n") for ran in answers))
 
 
 def check_words(tally, room):
