@@ -19,7 +19,7 @@ AreBytes-take n bytes h i =
       | inr le ↦ rw (get_or_past (take n bytes) i 0 (omega (arith, length-take n bytes))) (omega arith)
     ]
 
--- a number that was read is spelled by the bytes that it was read from
+-- the encoding of a number that was read is the bytes that it was read from
 pub spelled_32 : (bytes : List ℕ) (n : ℕ) → length bytes ≡ 4 → AreBytes bytes → n ≡ big_number 4 bytes → to_be_bytes w32 n ≡ bytes
 spelled_32 bytes n len fits e = be_bytes_4 bytes n len fits (omega (arith, e))
 
@@ -38,7 +38,7 @@ spelled_header bytes a b c len fits ea eb ec =
     let third = spelled_64 (drop 4 rest) c (omega (arith, length-drop 4 rest, length-drop 4 bytes)) (AreBytes-drop 4 rest rest_fits) ec in
     sym (ap₂ (λ (x y : List ℕ). x ++ y) first (ap₂ (λ (x y : List ℕ). x ++ y) second third ∙ take-append-drop 4 rest) ∙ take-append-drop 4 bytes)
 
--- bytes of numbers that fit tell the numbers
+-- numbers that fit and have the same bytes are equal
 pub same_32 : (a b : ℕ) → a < 2 ^ 32 → b < 2 ^ 32 → to_be_bytes w32 a ≡ to_be_bytes w32 b → a ≡ b
 same_32 a b la lb e = sym (from_be_bytes-to_be_bytes_4 a la) ∙ ap (from_be_bytes w32) e ∙ from_be_bytes-to_be_bytes_4 b lb
 

@@ -1,4 +1,4 @@
--- Bytes that are no store are refused for one cause, and those of a store for none.
+-- Bytes that are not a store have one error, and the bytes of a store have none.
 use Rattle.std.proofs.Common.{◌≡◌, ℕ, ◌+◌, ◌*◌, ◌<◌, List, length, sym, ap, subst, ◌∙◌, arith, refl}
 use Rattle.std.proofs.lemmas.List.{length-drop}
 use Rattle.page.specs.declared.fault.Fault.TheVariants.{NoResource, BadStoreHeader, StoreSize, BadPage}
@@ -8,7 +8,7 @@ use Rattle.page.specs.Laws.{OneStoreFault, NoFaultOfAStore}
 use Rattle.page.proofs.Files.{store_header_of, store_pages_of, length-images, spelled_no_fault}
 use Rattle.page.proofs.Once.{same_numbers}
 
--- one page is the first bad one
+-- only one page is the first bad one
 not_later : (images : List ℕ) (count n m : ℕ) → FirstBadPage images count n → FirstBadPage images count m → n < m → ⊥
 not_later images count n m a b lt = (let (page, spells, own) = b.good n lt in a.bad page spells own)
 

@@ -40,7 +40,7 @@ header_whole bytes front mark numbers count blank master ef em en e n z some few
   small = small;
 }
 
--- what a reader of the header took is what stands there
+-- what a reader of the header took is what is there
 pub one_header : (bytes front mark numbers : List ℕ) (count blank master other lsn : ℕ) → front ≡ take 24 bytes → mark ≡ take 8 front → numbers ≡ drop 8 front
     → numbers ≡ to_be_bytes w32 count ++ to_be_bytes w32 blank ++ to_be_bytes w64 master → count < 2 ^ 32 → blank < 2 ^ 32 → master < 2 ^ 64
     → BeginsWithHeader bytes other lsn → (count ≡ other) × (blank ≡ 0) × (master ≡ lsn)
@@ -146,7 +146,7 @@ store_pages_of bytes images store s e = record {
   text = e ∙ ap (drop 24) s.text ∙ drop_at (store_header (length store.pages) store.master) (flat_map page_text store.pages) 24 refl;
 }
 
--- images that spell pages are refused for want of memory alone
+-- images that encode pages have no error except a lack of memory
 pub spelled_no_fault : (images : List ℕ) (count : ℕ) (pages : List Page) (e : Fault) → SpellPages images count pages → PagesFault images count e → e ≡ NoResource
 spelled_no_fault images count pages NoResource s f = refl
 spelled_no_fault images count pages (BadPage n) s f =

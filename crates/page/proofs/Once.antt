@@ -1,4 +1,4 @@
--- No bytes spell two slots, two pages or two stores.
+-- The same bytes never encode two slots, two pages or two stores.
 use Rattle.std.proofs.Common.{◌≡◌, ℕ, zero, suc, ◌+◌, ◌*◌, ◌<◌, ◌≤◌, ◌^◌, List, [], ◌∷◌, ◌++◌, length, get_or, take, drop, Some, None, sym, ap, ap₂, subst, ◌∙◌, arith, refl, add-one}
 use Rattle.std.specs.Int.{w16, to_be_bytes, from_be_bytes}
 use Rattle.std.proofs.lemmas.List.{take_all, take_more, same_lists, length-take}

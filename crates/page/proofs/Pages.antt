@@ -8,7 +8,7 @@ use Rattle.page.specs.Parts.{SpellsSlots}
 use Rattle.page.proofs.BigEndian.{same_32, same_64}
 use Rattle.page.proofs.Slots.{length-directory}
 
--- header, directory and body of a spelled page
+-- header, directory and body of a page's encoding
 pub record HasParts (front entries rest : List ℕ) (page : Page) : Type 0 where
   pub header : front ≡ header page.number page.lsn
   pub slots : SpellsSlots entries rest page.slots

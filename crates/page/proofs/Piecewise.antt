@@ -33,7 +33,7 @@ bad_stays images more count n le b = record {
   bad = λ page s. b.bad page (subst (λ (t : List ℕ). SpellsPage t page) (image_stays images more n le) s);
 }
 
--- where no further page is read, more images change nothing
+-- if no further page is read, more images change nothing
 pub read_stays : (images more : List ℕ) (count : ℕ) (pages : List Page) (bad : Bool) → (bad ≡ false → count ≤ length pages) → AreRead images count pages bad → AreRead (images ++ more) count pages bad
 read_stays images more count pages bad all r =
     let long = length-append images more in
@@ -46,7 +46,7 @@ read_stays images more count pages bad all r =
       going = λ e. omega (arith, long, r.going e, all e, r.few);
     }
 
--- the images that came are those of the pages that were read, where more of them are wanted
+-- if more images are wanted, those that came are the images of the pages that were read
 pub just_these : (images : List ℕ) (count : ℕ) (pages : List Page) → length images % 1024 ≡ 0 → length pages < count → AreRead images count pages false → length images ≡ 1024 * length pages
 just_these images count pages whole lt r = omega (arith, whole, lt, r.going refl)
 
@@ -131,7 +131,7 @@ so_far_more bytes more count master size next pages new was_bad bad refused le s
   read = subst (λ (t : List ℕ). AreRead t count new bad) (sym (drop-append-le 24 bytes more le)) r;
 }
 
--- nothing but a header came
+-- only a header came
 pub so_far_first : (bytes : List ℕ) (count master : ℕ) (pages : List Page) (refused : Bool) → length bytes ≤ 24 → pages ≡ [] → (0 < count → BeginsWithHeader bytes count master)
     → (refused ≡ false → count ≡ 0 → HasStoreHeader bytes → ⊥) → count ≤ 4096 → IsSoFar bytes count master pages (length bytes) false refused
 so_far_first bytes count master pages refused short e header none few =

@@ -11,7 +11,7 @@ use Rattle.page.specs.Image.{Image, cell, cells, entry, directory, FitsSlot}
 use Rattle.page.specs.Parts.{BeginsWithSlot, SpellsSlots}
 use Rattle.page.proofs.Slots.{cells-append, directory-append, length-entry, length-directory, short_cell}
 
--- the first i slots stand in front, their cells end here, and the bytes can spell no others
+-- the first i slots are in front, their cells end here, and the bytes can encode no others
 pub record ReadSoFar (entries bytes : List ℕ) (i end : ℕ) (slots : List Image) : Type 0 where
   pub count : length slots ≡ 16
   pub here : end ≡ length (cells (take i slots))
@@ -25,7 +25,7 @@ pub record ReadSoFar (entries bytes : List ℕ) (i end : ℕ) (slots : List Imag
 parts : (slots : List Image) (i : ℕ) (d : Image) → i < length slots → slots ≡ take i slots ++ get_or slots i d ∷ drop (i + 1) slots
 parts slots i d lt = sym (take-append-drop i slots) ∙ ap (λ (t : List Image). take i slots ++ t) (drop_more slots i d lt)
 
--- what spells slots has each slot's entry and cell at their places
+-- bytes that encode slots have the entry and the cell of each slot at their places
 pub slot_inside : (entries bytes : List ℕ) (slots : List Image) (i : ℕ) (d : Image) → SpellsSlots entries bytes slots → i < 16
     → BeginsWithSlot (drop (4 * i) entries) (drop (length (cells (take i slots))) bytes) (80 + length (cells (take i slots))) (get_or slots i d)
 slot_inside entries bytes slots i d s lt =
@@ -49,7 +49,7 @@ slot_inside entries bytes slots i d s lt =
       cell = ap (take (length (cell slot))) at_cell ∙ take_at (cell slot) (cells rest ++ zeros) (length (cell slot)) refl;
     }
 
--- what spells other slots has at this place one that the reader takes too
+-- bytes that encode other slots have at this place one that the reader takes too
 pub slot_there : (entries bytes at_entry at_cell : List ℕ) (i end : ℕ) (slots others : List Image) (d : Image) → ReadSoFar entries bytes i end slots → SpellsSlots entries bytes others → i < 16
     → at_entry ≡ drop (4 * i) entries → at_cell ≡ drop end bytes
     → BeginsWithSlot at_entry at_cell (80 + end) (get_or others i d)
@@ -106,7 +106,7 @@ read_all entries bytes left i end slots so_far e le lb el zeros =
       body = sym (take-append-drop end bytes) ∙ ap₂ (λ (x y : List ℕ). x ++ y) (so_far.cells ∙ ap cells all) (sym el ∙ zeros ∙ ap (λ n. replicate n 0) room);
     }
 
--- what spells slots spells these, and has zeros behind the last cell
+-- bytes that encode slots encode these, and have zeros after the last cell
 pub only_these : (entries bytes left : List ℕ) (i end : ℕ) (slots others : List Image) → ReadSoFar entries bytes i end slots → i ≡ 16 → left ≡ drop end bytes → SpellsSlots entries bytes others
     → (left ≡ replicate (length left) 0) × (slots ≡ others)
 only_these entries bytes left i end slots others so_far e el s =
@@ -117,7 +117,7 @@ only_these entries bytes left i end slots others so_far e el s =
     let zeros : left ≡ replicate n 0 = el ∙ ap (drop end) s.body ∙ drop_at (cells others) (replicate n 0) end here in
     (zeros ∙ ap (λ m. replicate m 0) (sym (length-replicate n 0) ∙ ap length (sym zeros)), sym same)
 
--- the first i bytes are zero exactly where all of them together are
+-- the first i bytes are zero if and only if all of them together are
 pub record ZeroSoFar (bytes : List ℕ) (i all : ℕ) : Type 0 where
   pub zero : all ≡ 0 → take i bytes ≡ replicate i 0
   pub only : take i bytes ≡ replicate i 0 → all ≡ 0

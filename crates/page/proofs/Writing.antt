@@ -12,20 +12,20 @@ use Rattle.page.specs.declared.page.Page.{Page}
 use Rattle.page.specs.Images.{AreImages}
 use Rattle.page.proofs.Slots.{cells_more, directory_more, length-entry, short_cell}
 
--- the entries of the first i slots stand in front, and the next cell has this place
+-- the entries of the first i slots are in front, and the next cell has this place
 pub record Directed (slots : List Image) (i place : ℕ) (entries : List ℕ) : Type 0 where
   pub next : place ≡ 80 + length (cells (take i slots))
   pub near : place ≤ 80 + 48 * i
   pub front : take (4 * i) entries ≡ directory 80 (take i slots)
   pub fits : All FitsSlot (take i slots)
 
--- the cells of the first i slots stand in front, and end here
+-- the cells of the first i slots are in front, and end here
 pub record Filled (slots : List Image) (i end : ℕ) (room : List ℕ) : Type 0 where
   pub here : end ≡ length (cells (take i slots))
   pub near : end ≤ 48 * i
   pub front : take end room ≡ cells (take i slots)
 
--- a part that is written behind what stands
+-- a part that is written after what is there
 pub written_behind : (a k n : ℕ) (xs ys front : List ℕ) → take a xs ≡ front → n ≡ a + length ys → a ≤ length xs → take n (put_mid a k xs ys) ≡ front ++ ys
 written_behind a k n xs ys front e m le = take-put_mid a k xs ys n m le ∙ ap (λ (t : List ℕ). t ++ ys) e
 
@@ -47,7 +47,7 @@ directed_more slots i place later entries next d k so_far lt room e after fits =
       fits = All-more FitsSlot slots i d lt so_far.fits fits;
     }
 
--- a part that is written after what stands, of which the first n bytes count
+-- a part that is written after what is there, and of which the first n bytes count
 pub written_in_front : (a k n : ℕ) (xs ys front : List ℕ) → take a xs ≡ front → a ≤ length xs → n ≤ length ys → take (a + n) (put_mid a k xs ys) ≡ front ++ take n ys
 written_in_front a k n xs ys front e le short =
     let long : length (take a xs) ≡ a = omega (arith, length-take a xs) in
@@ -79,7 +79,7 @@ filled_none slots i end room slot so_far lt none =
       front = so_far.front ∙ sym more;
     }
 
--- three parts written one after the other, over what stood there
+-- three parts written one after the other, over what was there
 pub three_parts : (xs a b c : List ℕ) (m n k l : ℕ) → length a ≡ m → length b ≡ k → n ≡ m + k → n ≤ length xs → length xs ≤ n + l
     → put_mid n l (put_mid m k (a ++ drop m xs) b) c ≡ a ++ b ++ c
 three_parts xs a b c m n k l la lb mn nx all =
@@ -91,7 +91,7 @@ three_parts xs a b c m n k l la lb mn nx all =
     let none : drop l (drop n inner) ≡ [] = drop_all l (drop n inner) (omega (arith, ap length back, length-drop n first)) in
     ap₂ (λ (f p : List ℕ). f ++ (c ++ p)) front none ∙ ap (λ (t : List ℕ). (a ++ b) ++ t) (append-nil c)
 
--- the image of the next page put behind those of the first i pages
+-- the image of the next page put after those of the first i pages
 pub images_more : (pages : List Page) (i k : ℕ) (images image : List ℕ) (page : Page) → AreImages (take (1024 * i) images) (take i pages) → 1024 * i ≤ length images
     → i < length pages → page ≡ get_or pages i page → image ≡ page_text page → FitsPage page → length image ≡ 1024
     → AreImages (take (1024 * (i + 1)) (put_mid (1024 * i) k images image)) (take (i + 1) pages)

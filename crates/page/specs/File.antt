@@ -1,4 +1,4 @@
--- The one spelling of a store in bytes (own).
+-- The only encoding of a store in bytes (own).
 use Rattle.std.specs.Prelude.{◌≡◌, ◌≢◌, ℕ, ◌+◌, ◌*◌, ◌<◌, ◌≤◌, ◌^◌, List, [], ◌∷◌, ◌++◌, All, length, take, drop, ⊤}
 use Rattle.std.specs.Int.{w32, w64, to_be_bytes}
 use Rattle.std.specs.List.{flat_map}
@@ -21,13 +21,13 @@ store_header count master = magic ++ to_be_bytes w32 count ++ to_be_bytes w32 0 
 abbrev pub store_text : StoreContent → List ℕ
 store_text store = store_header (length store.pages) store.master ++ flat_map page_text store.pages
 
--- a store that has a spelling, as each store of the program has
+-- a store that has an encoding, as each store of the program has
 pub record FitsStore (store : StoreContent) : Type 0 where
   pub master : store.master < 2 ^ 64
   pub numbered : AreNumbered store.pages
   pub pages : All FitsPage store.pages
 
--- these bytes spell this store
+-- these bytes encode this store
 pub record SpellsStore (bytes : List ℕ) (store : StoreContent) : Type 0 where
   pub fits : FitsStore store
   pub text : bytes ≡ store_text store
@@ -43,18 +43,18 @@ pub record BeginsWithHeader (bytes : List ℕ) (count master : ℕ) : Type 0 whe
 abbrev pub HasStoreHeader : List ℕ → Type 0
 HasStoreHeader bytes = (count : ℕ) × (master : ℕ) × BeginsWithHeader bytes count master
 
--- the images behind the header
+-- the images after the header
 abbrev pub images_of : List ℕ → List ℕ
 images_of bytes = drop STORE_HEADER_BYTES bytes
 
--- the header is right, and the length is not what it says
+-- the header is right, and the length is not the one it implies
 pub record HasWrongSize (bytes : List ℕ) : Type 0 where
   pub count : ℕ
   pub master : ℕ
   pub header : BeginsWithHeader bytes count master
   pub size : length bytes ≢ STORE_HEADER_BYTES + PAGE_BYTES * count
 
--- header and length are right, and page n is the smallest whose image spells no page of its number
+-- header and length are right, and page n is the lowest whose image does not encode the page of its number
 pub record HasBadPage (bytes : List ℕ) (n : ℕ) : Type 0 where
   pub count : ℕ
   pub master : ℕ
@@ -62,7 +62,7 @@ pub record HasBadPage (bytes : List ℕ) (n : ℕ) : Type 0 where
   pub size : length bytes ≡ STORE_HEADER_BYTES + PAGE_BYTES * count
   pub page : FirstBadPage (images_of bytes) count n
 
--- why bytes are refused: what is wrong, and nothing that is looked at before it
+-- the error of bytes that are not a store: the condition of the error holds, and none that is checked before it
 abbrev pub StoreFault : List ℕ → Fault → Type 0
 StoreFault bytes NoResource = ⊤
 StoreFault bytes BadStoreHeader = ¬ HasStoreHeader bytes

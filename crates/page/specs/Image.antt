@@ -1,4 +1,4 @@
--- The one spelling of a page in 1,024 bytes (own).
+-- The only encoding of a page in 1,024 bytes (own).
 use Rattle.std.specs.Prelude.{◌≡◌, ℕ, ◌+◌, ◌-◌, ◌<◌, ◌≤◌, ◌^◌, List, [], ◌∷◌, ◌++◌, All, length, replicate, Option, Some, None, IfSome}
 use Rattle.std.specs.Int.{w16, w32, w64, to_be_bytes}
 use Rattle.page.specs.declared.page.Page.{Page}
@@ -8,7 +8,7 @@ use Rattle.page.specs.declared.sizes.TheConstants.{SLOTS, VALUE_BYTES, CELLS_AT,
 abbrev pub Image : Type 0
 Image = Option (List ℕ)
 
--- the bytes that it takes in the page, none where it is absent
+-- the bytes that it takes in the page, none if it is absent
 abbrev pub cell : Image → List ℕ
 cell None = []
 cell (Some value) = value
@@ -18,12 +18,12 @@ abbrev pub cells : List Image → List ℕ
 cells [] = []
 cells (slot ∷ slots) = cell slot ++ cells slots
 
--- a directory entry, offset and length: zeros where the slot is absent, else the place of its cell
+-- a directory entry, offset and length: zeros if the slot is absent, otherwise the place of its cell
 abbrev pub entry : ℕ → Image → List ℕ
 entry place None = to_be_bytes w16 0 ++ to_be_bytes w16 0
 entry place (Some value) = to_be_bytes w16 place ++ to_be_bytes w16 (length value)
 
--- the entries of these slots, the cell of the first of which has this place
+-- the entries of these slots, if the cell of the first one has this place
 abbrev pub directory : ℕ → List Image → List ℕ
 directory place [] = []
 directory place (slot ∷ slots) = entry place slot ++ directory (place + length (cell slot)) slots
@@ -44,14 +44,14 @@ page_text page = header page.number page.lsn ++ directory CELLS_AT page.slots ++
 abbrev pub FitsSlot : Image → Type 0
 FitsSlot slot = IfSome slot (λ value. length value ≤ VALUE_BYTES)
 
--- a page that has a spelling, as each page of the program has
+-- a page that has an encoding, as each page of the program has
 pub record FitsPage (page : Page) : Type 0 where
   pub number : page.number < 2 ^ 32
   pub lsn : page.lsn < 2 ^ 64
   pub slots : length page.slots ≡ SLOTS
   pub values : All FitsSlot page.slots
 
--- these bytes spell this page
+-- these bytes encode this page
 pub record SpellsPage (bytes : List ℕ) (page : Page) : Type 0 where
   pub fits : FitsPage page
   pub text : bytes ≡ page_text page

@@ -3,13 +3,13 @@ use Rattle.std.specs.Prelude.{◌≡◌, ℕ, List, All, length, take}
 use Rattle.page.specs.Image.{Image, cell, entry, directory, body, FitsSlot}
 use Rattle.page.specs.declared.sizes.TheConstants.{SLOTS, CELLS_AT}
 
--- these entries and bytes, from a slot's entry and place on, begin with the entry and the cell of this slot
+-- these entries and bytes, from the entry and the place of a slot on, begin with the entry and the cell of this slot
 pub record BeginsWithSlot (entries bytes : List ℕ) (place : ℕ) (slot : Image) : Type 0 where
   pub fits : FitsSlot slot
   pub entry : take 4 entries ≡ entry place slot
   pub cell : take (length (cell slot)) bytes ≡ cell slot
 
--- this directory and the bytes behind it spell these slots
+-- this directory and the bytes after it encode these slots
 pub record SpellsSlots (entries bytes : List ℕ) (slots : List Image) : Type 0 where
   pub count : length slots ≡ SLOTS
   pub values : All FitsSlot slots

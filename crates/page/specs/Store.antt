@@ -8,7 +8,7 @@ pub record StoreContent : Type 0 where
   pub master : ℕ
   pub pages : List Page
 
--- 1 to 4,096 pages, each standing at its number
+-- 1 to 4,096 pages, each at the index of its number
 pub record AreNumbered (pages : List Page) : Type 0 where
   pub some : 0 < length pages
   pub few : length pages ≤ PAGES

@@ -1,12 +1,12 @@
-//! Bytes that contracts alone see.
+//! Bytes that only contracts see.
 
 ghost use Rattle.std.specs.Prelude.{◌≡◌, ℕ, List, [], ◌++◌};
 ghost use Rattle.std.specs.Borrow.{ftrue};
 
 use std::marker::Model;
 
-/// The bytes that came so far, as `bytes` in clauses. It takes no memory, and its calls do nothing
-/// when the program runs.
+/// The bytes that have come so far: `bytes` in clauses. It takes no memory, and its calls do
+/// nothing when the program runs.
 #[derive(Drop)]
 pub struct Came {
     pub ghost bytes: { List ℕ },
@@ -24,7 +24,7 @@ impl Came {
         Came {}
     }
 
-    /// The bytes that came, and more behind them.
+    /// The bytes that came before, followed by these bytes.
     pub fn joined(both: &(&Came, &[u8])) -> Came
         ensures { result.bytes ≡ both.now.0.now.bytes ++ both.now.1.now }
     {

@@ -1,4 +1,4 @@
-//! Why a call was refused.
+//! The errors of calls.
 
 ghost use Rattle.std.specs.Prelude.{◌≡◌};
 ghost use Rattle.page.specs.Fault.{number_of};
@@ -6,11 +6,11 @@ ghost use Rattle.page.specs.Fault.{number_of};
 use std::alloc::{AllocError, AllocFailed};
 use thiserror::Error;
 
-/// Why a call was refused. What a variant carries is the place of its cause: an offset in bytes of
-/// a frame's length field in the log file, an LSN, or a page number.
+/// Why a call failed. A variant carries the place of the error: the offset in bytes of a frame's
+/// length field in the log file, an LSN, or a page number.
 #[derive(Clone, Copy, Debug, PartialEq, Eq, Error)]
 pub enum Fault {
-    /// Memory or a thread was refused in the call.
+    /// The call was refused memory or a thread.
     #[error("no resource")]
     NoResource,
     /// The reader of the log failed.
@@ -29,13 +29,13 @@ pub enum Fault {
     /// and the log has fewer than 16 bytes or a base LSN above 9,223,372,036,854,775,807.
     #[error("bad log header")]
     BadLogHeader,
-    /// The length field of the frame at this offset lies outside 9 to 70,681.
+    /// The length field of the frame at this offset is outside 9 to 70,681.
     #[error("bad length at byte {0}")]
     BadLength(u64),
-    /// The body of the frame at this offset spells no record with any LSN.
+    /// The body of the frame at this offset does not encode a record with any LSN.
     #[error("bad record at byte {0}")]
     BadRecord(u64),
-    /// The body of the frame at this offset spells a record with another LSN than the sum of the
+    /// The body of the frame at this offset encodes a record, but its LSN is not the sum of the
     /// log's base LSN and the frame's number.
     #[error("bad LSN at byte {0}")]
     BadLsn(u64),
@@ -46,66 +46,69 @@ pub enum Fault {
     /// The store's length is not 24 + 1,024 x its page count.
     #[error("bad store size")]
     StoreSize,
-    /// The image at this page's place is no spelling of a page of that number; the smallest one.
+    /// The image at this page's place does not encode a page with this number. This is the lowest
+    /// such page.
     #[error("bad image of page {0}")]
     BadPage(u32),
-    /// The master is not 0, and its record is no checkpoint begin or no later end names it.
+    /// The master is not 0, and the record at the master is not a checkpoint begin, or no later end
+    /// record names it.
     #[error("bad master")]
     BadMaster,
     /// The record at this LSN names a page that the store does not have.
     #[error("no such page at LSN {0}")]
     NoSuchPage(u64),
-    /// The PageLSN of this page is above the log's last LSN; the smallest such page.
+    /// The PageLSN of this page is above the log's last LSN. This is the lowest such page.
     #[error("page {0} is ahead of the log")]
     PageAheadOfLog(u32),
-    /// An undo was sent to this LSN, where no update or CLR of its transaction stands below the
-    /// record that it came from.
+    /// Undo was sent to this LSN, but no update or CLR of the transaction is there, or this LSN is
+    /// not below the record that sent undo here.
     #[error("broken chain at LSN {0}")]
     BrokenChain(u64),
-    /// Pages or parts outside 1 to 4,096, or a parting that does not give each page one of its
-    /// parts.
+    /// The number of pages or parts is outside 1 to 4,096, or the partition does not give each page
+    /// one of its parts.
     #[error("bad parting")]
     BadParting,
-    /// Workers outside 1 to 64.
+    /// The number of workers is outside 1 to 64.
     #[error("bad worker count")]
     BadWorkers,
-    /// The PrevLSN of the record at this LSN is not its transaction's last record.
+    /// The PrevLSN of the record at this LSN is not the last record of its transaction.
     #[error("wrong previous LSN at LSN {0}")]
     Chain(u64),
-    /// A commit, abort, end or prepare of its transaction forbids the record at this LSN.
+    /// An earlier commit, abort, end or prepare of its transaction forbids the record at this LSN.
     #[error("record after finish at LSN {0}")]
     AfterFinish(u64),
-    /// The CLR at this LSN does not compensate its transaction's latest pending update.
+    /// The CLR at this LSN does not compensate the latest pending update of its transaction.
     #[error("wrong compensation at LSN {0}")]
     WrongCompensation(u64),
-    /// The before image of the update at this LSN is not its cell's value.
+    /// The before image of the update at this LSN is not the value of its cell.
     #[error("wrong before image at LSN {0}")]
     BeforeImage(u64),
-    /// The update at this LSN is in a cell of another unfinished transaction.
+    /// The update at this LSN changes a cell of another unfinished transaction.
     #[error("dirty write at LSN {0}")]
     DirtyWrite(u64),
-    /// The end at this LSN stands without a commit while updates are left.
+    /// The end at this LSN has no commit before it, but its transaction still has updates to undo.
     #[error("end too early at LSN {0}")]
     EndTooEarly(u64),
-    /// The image of this page is not the log's page at its PageLSN.
+    /// The image of this page differs from what the log gives the page at its PageLSN.
     #[error("wrong content of page {0}")]
     PageImage(u32),
-    /// The checkpoint's transaction table is not exactly that of the unfinished transactions of the
-    /// log up to its begin.
+    /// The checkpoint's transaction table is not exactly the table of the transactions that are
+    /// unfinished at its begin record.
     #[error("wrong transaction table")]
     TransactionTable,
-    /// The checkpoint's dirty page table leaves out a record that this page's image lacks, or lists
-    /// a RecLSN that is not above the log's base LSN, or is above the master; the smallest such page.
+    /// The checkpoint's dirty page table leaves out a record that this page's image lacks, or it
+    /// lists a RecLSN that is not above the log's base LSN or is above the master. This is the
+    /// lowest such page.
     #[error("wrong dirty page table at page {0}")]
     DirtyTable(u32),
     /// The base store has another page count than the store, or a page whose PageLSN is above the
-    /// LSN behind which the log begins.
+    /// log's base LSN.
     #[error("bad base store")]
     BadBase,
 }
 
 impl Fault {
-    /// Its number, 1 to 29 without 19, as the program prints it.
+    /// The number of the fault as the program prints it: 1 to 29, without 19.
     pub fn number(self) -> u8
         ensures { result ≡ number_of self }
     {

@@ -12,8 +12,8 @@ use crate::{Fault, Page, Store};
 use byteorder::{BigEndian, ByteOrder};
 use std::alloc::Global;
 
-/// The header of a store's file: the first 24 bytes of the one spelling of a store with so many pages
-/// and this master.
+/// The header of a store's file: the first 24 bytes of the encoding of a store with this page count
+/// and master.
 pub fn store_header(count: u32, master: u64) -> [u8; STORE_HEADER_BYTES]
     ensures text { result ≡ store_header count master }
     ensures fits { master < 2 ^ 64 }
@@ -25,8 +25,8 @@ pub fn store_header(count: u32, master: u64) -> [u8; STORE_HEADER_BYTES]
     header
 }
 
-/// Writes the images of pages over bytes of their length, one after the other. So the images of a
-/// store can be written piece by piece, after [`store_header`].
+/// Writes the images of pages, one after the other, over bytes of the same length. With it and
+/// [`store_header`] a store can be written piece by piece.
 pub fn encode_pages_into(pages: &[Page], images: &mut [u8])
     requires { length images.old ≡ PAGE_BYTES * length pages.now }
     ensures { AreImages images.new pages.now }
@@ -37,10 +37,10 @@ pub fn encode_pages_into(pages: &[Page], images: &mut [u8])
     }
 }
 
-/// The one spelling of a store, in place of what the vector holds: `ARIESPG1`, page count, four
-/// zeros, master; then the images of the pages in order: 24 + 1,024 x count bytes, all numbers big
-/// endian. A vector of that length takes no memory. The only error is `NoResource`, where memory is
-/// refused, and the vector keeps its bytes.
+/// Replaces the bytes in the vector with the only encoding of a store: `ARIESPG1`, page count, four
+/// zeros, master, then the images of the pages in order. These are 24 + 1,024 x count bytes; all
+/// numbers are big endian. If the vector has this length already, no memory is taken. The only
+/// error is `NoResource`, if memory is refused; the vector then keeps its bytes.
 pub fn encode_store_into(store: &Store, bytes: &mut Vec<u8>) -> Result<(), Fault>
     ensures ok { OnOk result (bytes.new.items ≡ store_text store.now) }
     ensures fits { OnOk result (FitsStore store.now) }
@@ -54,8 +54,8 @@ pub fn encode_store_into(store: &Store, bytes: &mut Vec<u8>) -> Result<(), Fault
     Ok(())
 }
 
-/// The one spelling of a store, as [`encode_store_into`] writes it. The only error is `NoResource`,
-/// where memory is refused.
+/// The only encoding of a store, as [`encode_store_into`] writes it. The only error is
+/// `NoResource`, if memory is refused.
 pub fn encode_store(alloc: Global, store: &Store) -> Result<Vec<u8>, Fault>
     ensures ok { IfOk result (λ bytes. bytes.items ≡ store_text store.now) }
     ensures fits { OnOk result (FitsStore store.now) }
@@ -66,7 +66,8 @@ pub fn encode_store(alloc: Global, store: &Store) -> Result<Vec<u8>, Fault>
     Ok(bytes)
 }
 
-/// Page count and master in the header of a store file.
+/// The page count and the master in the header of a store file. `None` if the bytes do not begin
+/// with a valid header.
 pub fn header_at(bytes: &[u8]) -> Option<(u32, u64)>
     ensures found { IfSome result (λ header. BeginsWithHeader bytes.now header.0 header.1) }
     ensures only { (count master : ℕ) → BeginsWithHeader bytes.now count master

@@ -12,7 +12,7 @@ use crate::sizes::{CELLS_AT, DIRECTORY_BYTES, PAGE_BYTES, PAGE_HEADER_BYTES, SLO
 use crate::{Fault, Page, Value};
 use byteorder::{BigEndian, ByteOrder};
 
-/// The directory entry of a slot whose cell has this place.
+/// The directory entry of a slot whose cell is at this place.
 fn entry(place: u16, slot: &Option<Value>) -> [u8; 4]
     ensures { result ≡ entry place slot.now }
 {
@@ -41,8 +41,8 @@ fn put_directory(slots: &[Option<Value>; SLOTS], entries: &mut [u8])
 }
 
 /// Writes the present cells of these slots, and zeros after them. Each cell is copied at the full
-/// length that a value may have, since a copy of a fixed length is faster. What is copied after the
-/// value is then written over by the next cell or by the zeros.
+/// length that a value may have, since a copy of a fixed length is faster. The next cell or the
+/// zeros then overwrite what was copied after the value.
 fn put_cells(slots: &[Option<Value>; SLOTS], room: &mut [u8])
     requires { length room.old ≡ ROOM_BYTES }
     ensures { room.new ≡ body slots.now }
@@ -79,8 +79,8 @@ pub fn put_page(page: &Page, image: &mut [u8])
     put_cells(&page.slots, &mut image[CELLS_AT..]);
 }
 
-/// The one spelling of a page: page number, four zeros, PageLSN; 16 directory entries of offset and
-/// length; the present cells in slot order from byte 80 on; zeros. All numbers are big endian.
+/// The only encoding of a page: page number, four zeros, PageLSN; 16 directory entries of offset
+/// and length; the present cells in slot order from byte 80 on; zeros. All numbers are big endian.
 pub fn encode_page(page: &Page) -> [u8; PAGE_BYTES]
     ensures text { result ≡ page_text page.now }
     ensures fits { FitsPage page.now }
@@ -90,7 +90,7 @@ pub fn encode_page(page: &Page) -> [u8; PAGE_BYTES]
     image
 }
 
-/// The offset and the length in the directory entry that stands first.
+/// The offset and the length in the first directory entry.
 fn entry_at(entries: &[u8]) -> (u16, u16)
     requires { 4 ≤ length entries.now }
     ensures text { take 4 entries.now ≡ to_be_bytes w16 result.0 ++ to_be_bytes w16 result.1 }
@@ -100,8 +100,8 @@ fn entry_at(entries: &[u8]) -> (u16, u16)
     (BigEndian::read_u16(offset), BigEndian::read_u16(rest))
 }
 
-/// The slot whose directory entry stands first in `entries` and whose cell, at this place, first in
-/// `bytes`.
+/// The slot of the first directory entry in `entries`. Its cell has this place and comes first in
+/// `bytes`. `None` if these do not encode a slot.
 fn slot_at(entries: &[u8], bytes: &[u8], place: u16) -> Option<Option<Value>>
     requires entry { 4 ≤ length entries.now }
     requires place { 0 < place }
@@ -120,7 +120,8 @@ fn slot_at(entries: &[u8], bytes: &[u8], place: u16) -> Option<Option<Value>>
     Some(Some(value))
 }
 
-/// Whether all of these bytes are zero. It looks at each, so that many can be looked at together.
+/// Whether all of these bytes are zero. It looks at every byte, so that many bytes can be checked
+/// at once.
 fn is_zero(bytes: &[u8]) -> bool
     ensures { IsTrue result ↔ (bytes.now ≡ replicate (length bytes.now) 0) }
 {
@@ -131,7 +132,7 @@ fn is_zero(bytes: &[u8]) -> bool
     all == 0
 }
 
-/// The slots that this directory and the bytes behind it spell.
+/// The slots that this directory and the bytes after it encode. `None` if they encode no slots.
 fn slots_at(entries: &[u8], bytes: &[u8]) -> Option<[Option<Value>; SLOTS]>
     requires entries { length entries.now ≡ DIRECTORY_BYTES }
     requires bytes { length bytes.now ≡ ROOM_BYTES }
@@ -157,7 +158,7 @@ fn slots_at(entries: &[u8], bytes: &[u8]) -> Option<[Option<Value>; SLOTS]>
     Some(slots)
 }
 
-/// The page of this number that these 1,024 bytes spell.
+/// The page of this number that these 1,024 bytes encode. `None` if they encode no such page.
 pub fn page_at(bytes: &[u8], number: u32) -> Option<Page>
     requires { length bytes.now ≡ PAGE_BYTES }
     ensures found { IfSome result (λ page. SpellsPage bytes.now page × (page.number ≡ number)) }
@@ -174,7 +175,8 @@ pub fn page_at(bytes: &[u8], number: u32) -> Option<Page>
     Some(Page { number, lsn, slots })
 }
 
-/// The page of this number that the bytes spell. Any other image is `BadPage(number)`.
+/// The page of this number that the bytes encode. For any other image the error is
+/// `BadPage(number)`.
 pub fn decode_page(bytes: &[u8; PAGE_BYTES], number: u32) -> Result<Page, Fault>
     ensures found { IfOk result (λ page. SpellsPage bytes.now page × (page.number ≡ number)) }
     ensures only { (page : Page) → SpellsPage bytes.now page → page.number ≡ number

@@ -1,23 +1,23 @@
-//! Laws of the spellings, each the contract of an empty function.
+//! Laws of the encodings, each as the contract of an empty function.
 
 ghost use Rattle.page.specs.Laws.{OnePageSpelling, OneStoreSpelling, OneStoreFault, NoFaultOfAStore};
 
-/// No bytes spell two pages.
+/// The same bytes never encode two pages.
 pub fn one_page_spelling()
     ensures { OnePageSpelling }
 {}
 
-/// No bytes spell two stores.
+/// The same bytes never encode two stores.
 pub fn one_store_spelling()
     ensures { OneStoreSpelling }
 {}
 
-/// No bytes are refused as a store for two causes, want of memory aside.
+/// Bytes that are not a store have at most one error, besides a lack of memory.
 pub fn one_store_fault()
     ensures { OneStoreFault }
 {}
 
-/// No bytes that spell a store are refused as one, want of memory aside.
+/// Bytes that encode a store have no error, besides a lack of memory.
 pub fn no_fault_of_a_store()
     ensures { NoFaultOfAStore }
 {}

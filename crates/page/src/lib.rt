@@ -1,5 +1,5 @@
-//! Pages of a store: values, pages, stores, the faults of a restart, and the one spelling of each
-//! in bytes.
+//! The pages of a store: values, pages, stores, the faults of a restart, and the only encoding of
+//! each in bytes.
 #![tactic(auto)]
 
 mod came;

@@ -1,11 +1,11 @@
-//! The numbers that the header of a page and the header of a store file have in 16 bytes.
+//! The numbers in the 16 bytes that the headers of a page and of a store file have in common.
 
 ghost use Rattle.std.specs.Prelude.{◌≡◌, ◌<◌, ◌^◌, ◌++◌, length};
 ghost use Rattle.std.specs.Int.{w32, w64, to_be_bytes};
 
 use byteorder::{BigEndian, ByteOrder};
 
-/// The three big endian numbers that these 16 bytes spell.
+/// The three big endian numbers in these 16 bytes.
 pub fn numbers_at(bytes: &[u8]) -> (u32, u32, u64)
     requires { length bytes.now ≡ 16 }
     ensures text { bytes.now

@@ -9,11 +9,11 @@ use crate::sizes::SLOTS;
 /// A page: 16 slots, each absent or a value.
 #[derive(Clone, Copy)]
 pub struct Page {
-    /// Its number, from 0.
+    /// The page's number, from 0.
     pub number: u32,
-    /// PageLSN: the LSN of the record of the latest update in it, 0 for none.
+    /// PageLSN: the LSN of the record of the latest update in the page, 0 if there is none.
     pub lsn: u64,
-    /// What the slots hold, None for absent.
+    /// What the slots hold, `None` for an absent slot.
     pub slots: [Option<Value>; SLOTS],
 }
 
@@ -37,7 +37,8 @@ impl Page {
         self.slots[i]
     }
 
-    /// Puts a value, or none, into slot `i` as the record at this LSN did.
+    /// Puts a value into slot `i`, or makes it absent, as the record at this LSN did. The PageLSN
+    /// becomes this LSN.
     pub fn set(&mut self, i: usize, value: Option<Value>, lsn: u64)
         requires { i < SLOTS }
         ensures { self.new

@@ -15,8 +15,9 @@ use crate::{Fault, Page, Store};
 use std::alloc::Global;
 use std::marker::Model;
 
-/// Takes the pages whose images stand one after the other, the first that of page `pages.len()`, up
-/// to the page count; with none behind a bad one. Whether one was bad, or is.
+/// Takes the pages whose images follow each other here. The first image is that of page
+/// `pages.len()`. It stops at the page count and before a bad page. Returns whether a page was bad
+/// before, or is now.
 fn take_pages(pages: &mut Vec<Page>, count: u32, bad: bool, images: &[u8]) -> bool
     requires few { count ≤ PAGES }
     requires room { count ≤ vec_capacity pages.old }
@@ -43,22 +44,24 @@ fn take_pages(pages: &mut Vec<Page>, count: u32, bad: bool, images: &[u8]) -> bo
     false
 }
 
-/// The store whose bytes come piece by piece. Contracts see it as the bytes that came.
+/// A store whose bytes come piece by piece. Contracts see it as the bytes that have come.
 #[derive(Drop)]
 pub struct StoreReader {
-    /// The page count in the header; 0 where the header is no store's, or room was refused.
+    /// The page count in the header. 0 if the header is not that of a store, or if memory was
+    /// refused.
     count: u32,
     /// The master in the header.
     master: u64,
-    /// The pages that were read, with room for all.
+    /// The pages read so far, with room for all.
     pages: Vec<Page>,
-    /// How many bytes came, or the largest number, where more did.
+    /// How many bytes have come, or the largest number if there are more.
     size: u64,
-    /// Whether the image behind the pages that were read came, and is none of a page of its number.
+    /// Whether the image after the pages read so far has come and does not encode the page of its
+    /// number.
     bad: bool,
-    /// Whether room for the pages was refused.
+    /// Whether memory for the pages was refused.
     refused: bool,
-    /// The bytes that came.
+    /// The bytes that have come.
     came: Came,
 }
 
@@ -76,9 +79,9 @@ impl Model for StoreReader {
 }
 
 impl StoreReader {
-    /// Begins with the first bytes of a store's file: its header, 24 bytes, or all bytes where there
-    /// are fewer. The memory for the pages is taken here. Where it is refused, or the header is no
-    /// store's, the bytes that follow can still be taken, and `finish` says so.
+    /// Begins with the first bytes of a store's file: the 24 bytes of the header, or all bytes if
+    /// there are fewer. This call takes the memory for the pages. If memory is refused, or the
+    /// header is not that of a store, later bytes can still be taken; `finish` returns the error.
     pub fn begin(alloc: Global, header: &[u8]) -> StoreReader
         requires { length header.now ≤ STORE_HEADER_BYTES }
         ensures { result ≡ header.now }
@@ -111,8 +114,8 @@ impl StoreReader {
         }
     }
 
-    /// Takes the bytes behind those that came. These are a header and whole images: only the last
-    /// piece may end inside an image.
+    /// Takes the bytes that follow those taken so far. Together they are a header and whole images:
+    /// only the last piece may end inside an image.
     pub fn take(&mut self, images: &[u8])
         requires header { STORE_HEADER_BYTES ≤ length self.old }
         requires whole { (length self.old - STORE_HEADER_BYTES) % PAGE_BYTES ≡ 0 }
@@ -123,9 +126,9 @@ impl StoreReader {
         self.came = Came::joined(&(&self.came, images));
     }
 
-    /// The store that the bytes spell, where all came. Else the first of `BadStoreHeader`,
-    /// `StoreSize` and `BadPage` of the smallest page whose image is not the spelling of a page of
-    /// its number; or `NoResource`, where memory was refused.
+    /// The store that the bytes encode, after all bytes have come. Otherwise the error is the first
+    /// of these that holds: `BadStoreHeader`, `StoreSize`, `BadPage` of the lowest page whose image
+    /// does not encode the page of its number. Or it is `NoResource`, if memory was refused.
     pub fn finish(self) -> Result<Store, Fault>
         ensures found { IfOk result (SpellsStore self) }
         ensures only { (store : StoreContent) → SpellsStore self store
@@ -157,9 +160,9 @@ impl StoreReader {
     }
 }
 
-/// The store that the bytes spell. Else the first of `BadStoreHeader`, `StoreSize` and `BadPage` of
-/// the smallest page whose image is not the spelling of a page of its number; or `NoResource`,
-/// where memory is refused.
+/// The store that the bytes encode. Otherwise the error is the first of these that holds:
+/// `BadStoreHeader`, `StoreSize`, `BadPage` of the lowest page whose image does not encode the page
+/// of its number. Or it is `NoResource`, if memory is refused.
 pub fn decode_store(alloc: Global, bytes: &[u8]) -> Result<Store, Fault>
     ensures found { IfOk result (SpellsStore bytes.now) }
     ensures only { (store : StoreContent) → SpellsStore bytes.now store

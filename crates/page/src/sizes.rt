@@ -21,7 +21,7 @@ pub const DIRECTORY_BYTES: usize = 4 * SLOTS;
 /// Where the cells of a page begin.
 pub const CELLS_AT: usize = PAGE_HEADER_BYTES + DIRECTORY_BYTES;
 
-/// How many bytes the cells of a page have room in.
+/// How many bytes a page has for its cells.
 pub const ROOM_BYTES: usize = PAGE_BYTES - CELLS_AT;
 
 /// How many bytes the header of a store takes.

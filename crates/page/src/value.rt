@@ -7,8 +7,8 @@ ghost use mathlib.Core.Path.{sym, ap, ap₂, ◌∙◌};
 use crate::sizes::VALUE_BYTES;
 use std::marker::Model;
 
-/// A value of 0 to 48 bytes, held in place: it is copied and takes no memory. Contracts see it as
-/// the list of its bytes.
+/// A value of 0 to 48 bytes, kept in place: copying it takes no memory. Contracts see it as the
+/// list of its bytes.
 #[derive(Clone, Copy)]
 pub struct Value {
     bytes: [u8; VALUE_BYTES],
@@ -28,7 +28,7 @@ impl Model for Value {
 }
 
 impl Value {
-    /// The value of these bytes, or None where there are more than 48.
+    /// The value of these bytes. `None` if there are more than 48.
     pub fn new(bytes: &[u8]) -> Option<Value>
         ensures found { IfSome result (λ v. v ≡ bytes.now) }
         ensures fits { IsSome result ↔ (length bytes.now ≤ VALUE_BYTES) }
@@ -53,7 +53,7 @@ impl Value {
         &self.bytes[..self.len as usize]
     }
 
-    /// Its bytes, and after them zeros up to the most bytes that a value may have.
+    /// Its bytes, followed by zeros up to the largest length of a value.
     #[inline(always)]
     pub(crate) fn padded(&self) -> &[u8; VALUE_BYTES]
         ensures front { take (length self.now) result.now ≡ self.now }
