@@ -24,7 +24,7 @@ command_added old below new line shape adds plain old_is below_is =
     adds.shape (plain_fields below (ap (λ (s : Shape). s.is_plain) below_is ∙ plain)).globals ∙ ap₂ with_subcommand old_is below_is
 
 -- THE COMMAND THAT A PARSE ENTERED
--- the name and the rows of what is met, from the two apart
+-- the name and the rows of what is met, from the two separately
 met : {B : Type 0} (o : Option B) (found : B → Text × List Row) (name : Text) (rows : List Row) → option_map (λ p. p.1) (option_map found o) ≡ Some rows
     → option_map (λ b. (found b).0) o ≡ Some name → option_map found o ≡ Some (name, rows)
 met None found name rows e f = cc
@@ -33,7 +33,7 @@ met (Some b) found name rows e f =
     let y : (found b).1 ≡ rows = cc in
     λ i. Some (x i, y i)
 
--- what the words give, where the line has no setting that changes how they are read
+-- what the words give, if the line has no setting that changes how they are read
 pub rows_met : (matches : ArgMatches) (words : List Text) (line known : App) → is_simple known ≡ true → line ≡ known → HasMatchesOf line words matches
     → subcommand_rows_of matches ≡ subcommand_of known words
 rows_met matches words line known simple line_is has = (has (ap is_simple line_is ∙ simple)).1 ∙ ap (λ a. subcommand_of a words) line_is
@@ -45,14 +45,14 @@ command_met : (matches : ArgMatches) (words : List Text) (line known : App) (nam
 command_met matches words line known name rows simple line_is has name_is rows_are =
     sym (rows_met matches words line known simple line_is has) ∙ met _ _ name rows rows_are name_is
 
--- what holds of the command that a parse entered and of its rows, holds of what the words give
+-- what holds for the command that a parse entered and for its rows, holds for what the words give
 pub given : (matches : ArgMatches) (words : List Text) (line known : App) (name : Text) (rows : List Row) (P : Text × List Row → Type 0) → is_simple known ≡ true
     → line ≡ known → HasMatchesOf line words matches → subcommand_name_of matches ≡ Some name → option_map (λ p. p.1) (subcommand_rows_of matches) ≡ Some rows
     → P (name, rows) → IsSomeAnd (subcommand_of known words) P
 given matches words line known name rows P simple line_is has name_is rows_are holds =
     subst (λ o. IsSomeAnd o P) (sym (command_met matches words line known name rows simple line_is has name_is rows_are)) holds
 
--- and what the words give, holds of the command that a parse entered and of its rows
+-- and what holds for what the words give, holds for the command that a parse entered and for its rows
 pub entered : (matches : ArgMatches) (words : List Text) (line known : App) (name : Text) (rows : List Row) (P : Text × List Row → Type 0) → is_simple known ≡ true
     → line ≡ known → HasMatchesOf line words matches → subcommand_name_of matches ≡ Some name → option_map (λ p. p.1) (subcommand_rows_of matches) ≡ Some rows
     → IsSomeAnd (subcommand_of known words) P → P (name, rows)
@@ -60,17 +60,17 @@ entered matches words line known name rows P simple line_is has name_is rows_are
     subst (λ o. IsSomeAnd o P) (command_met matches words line known name rows simple line_is has name_is rows_are) holds
 
 -- REFUSALS
--- what holds of the error that `?` made, holds of the result's
+-- what holds for the error that `?` made, holds for the error of the result
 pub error_made : {T E : Type 0} (r : Result T E) (P Q : E → Type 0) → ((e : E) → P e → Q e) → IsErrAnd r P → IfErr r Q
 error_made (Ok x) P Q weaker made = tt
 error_made (Err e) P Q weaker made = weaker e made
 
--- a parse that answers found no fault
+-- a parse that succeeds found no fault
 pub faultless : (line known : App) (words : List Text) → is_simple_and_free known ≡ true → line ≡ known → (is_simple_and_free line ≡ true → fault_of line words ≡ [])
     → fault_of known words ≡ []
 faultless line known words free line_is none = ap (λ a. fault_of a words) (sym line_is) ∙ none (ap is_simple_and_free line_is ∙ free)
 
--- a parse of faultless words fails for want of memory alone
+-- a parse of faultless words fails only for lack of memory
 pub fails_by_memory : (line known : App) (words : List Text) (kind : ErrorKind) → is_simple_and_free known ≡ true → line ≡ known
     → (is_simple_and_free line ≡ true → (kind ≡ OutOfMemory) ⊎ IsAmong kind (fault_of line words)) → fault_of known words ≡ [] → kind ≡ OutOfMemory
 fails_by_memory line known words kind free line_is fails none =
@@ -80,7 +80,7 @@ fails_by_memory line known words kind free line_is fails none =
     ]
 
 -- FLAGS
--- a flag that is read from a text is set exactly where the text is `true`, and one without a text is not set
+-- a flag that is read from a text is set if and only if the text is `true`, and a flag without a text is not set
 pub flag_read : (E : Type 0) (text : Option Text) (read : Option Bool) (flag : Bool) → flag ≡ unwrap_or read false → (text ≡ None → read ≡ None)
     → ((t : Text) → text ≡ Some t → ReadsOne (λ bs (r : Result Bool E). ParsesBool bs r) t read) → IsTrue flag ↔ (text ≡ Some (codes "true"))
 flag_read E None (Some v) flag is none parses = absurd (let none_read : Some v ≡ None = none refl in cc)

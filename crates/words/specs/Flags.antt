@@ -7,6 +7,6 @@ use Rattle.clap.specs.declared.builder.action.ArgAction.TheVariants.{SetTrue}
 abbrev pub flag_rule : Text → Rule
 flag_rule name = record (new_rule name) { long = Some name; action = Some SetTrue }
 
--- the flag is set exactly where its value is true, as that of a flag on the line is
+-- the flag is set if and only if its value is true, as that of a flag on the line is
 abbrev pub IsFlagOf : (values : List Row) → (option : Text) → (flag : Bool) → Type 0
 IsFlagOf values option flag = IsTrue flag ↔ (one_of option values ≡ Some (codes "true"))

@@ -1,4 +1,4 @@
--- The statuses of a run that ends at its words.
+-- The statuses of a run that ends when its words are read.
 use Rattle.std.specs.Prelude.{◌≡◌, ◌⊎◌, ℕ}
 use Rattle.clap.specs.Words.{kind_of}
 use Rattle.clap.specs.declared.error.kind.ErrorKind.{ErrorKind}
@@ -8,22 +8,22 @@ use Rattle.words.specs.declared.given.NoWords.TheVariants.{NoMemory, NoText}
 use Rattle.words.specs.declared.refusal.Refusal.{Refusal}
 use Rattle.words.specs.declared.refusal.Refusal.TheVariants.{Line, Memory}
 
--- of a line about which clap has something to say: 0 where help or the version was asked for, else 2
+-- the status of a line for which clap has a message: 0 if help or the version was asked for, otherwise 2
 abbrev pub line_status : ErrorKind → ℕ
 line_status DisplayHelp = 0
 line_status DisplayVersion = 0
 line_status _ = 2
 
--- the same, or 1 where that could not be printed
+-- the same, or 1 if the message could not be printed
 abbrev pub IsLineStatus : ErrorKind → (status : ℕ) → Type 0
 IsLineStatus kind status = (status ≡ line_status kind) ⊎ (status ≡ 1)
 
--- of a refusal; 1 for want of memory
+-- the status of a rejected line; 1 if out of memory
 abbrev pub IsStatusOf : Refusal → (status : ℕ) → Type 0
 IsStatusOf (Line error) status = IsLineStatus (kind_of error) status
 IsStatusOf Memory status = status ≡ 1
 
--- of a run without words: 2 where one is no text, as for any line that is wrong, 1 for want of memory
+-- the status of a run without words: 2 if a word is not valid UTF-8, as for any line that is wrong; 1 if out of memory
 abbrev pub wordless_status : NoWords → ℕ
 wordless_status (NoText place) = 2
 wordless_status NoMemory = 1

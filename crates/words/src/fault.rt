@@ -1,11 +1,11 @@
-//! How a run ends that a fault refuses.
+//! How a run ends that returns a fault.
 
 ghost use Rattle.std.specs.Prelude.{◌≡◌};
 
 use page::Fault;
 use std::io::Write;
 
-/// Prints the line of a fault, and gives its status.
+/// Prints the line of a fault and returns its status.
 pub fn refuse<E: Write>(fault: Fault, err: &mut E) -> u8
     ensures { result ≡ 1 }
 {

@@ -18,7 +18,7 @@ pub fn flag_option<'a>(alloc: Global, name: &'a str, help: &'a str) -> Arg<'a>
         .help(help)
 }
 
-/// Whether a flag is on the line.
+/// Whether a flag is set on the line.
 pub fn flag_of(matches: &ArgMatches, name: &str) -> bool
     ensures { IsFlagOf (rows_of (found_of matches.now)) name.now result }
 {

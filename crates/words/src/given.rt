@@ -13,17 +13,17 @@ use std::env;
 use std::io::{self, ErrorKind, Write};
 use std::rt::Env;
 
-/// How many bytes of lines a program holds back before they go to standard error.
+/// How many bytes of lines a program buffers before they go to standard error.
 pub const ERROR_BUFFER_BYTES: usize = 8_192;
 
-/// A word of Linux has fewer bytes than this, where a page of memory has 4,096.
+/// A word of Linux has fewer bytes than this, if a page of memory has 4,096.
 const LONGEST_WORD: usize = 131_072;
 
 /// Why there are no words.
 #[derive(Debug, Drop)]
 pub enum NoWords {
-    /// The word at this place is no text; the program's name has the place 0. `None` where the place
-    /// is not known.
+    /// The word at this place is not valid UTF-8; the program's name has the place 0. `None` if the
+    /// place is not known.
     NoText(Option<usize>),
     /// Memory was refused.
     NoMemory,
@@ -50,8 +50,9 @@ impl From<io::Error> for NoWords {
 }
 
 impl NoWords {
-    /// Prints why, and gives the status: 1 where memory was refused, 2 for a word that is no text,
-    /// as for any line that is wrong. Fails where the latter could not be printed.
+    /// Prints the error and returns the status: 1 if memory was refused, 2 for a word that is not
+    /// valid UTF-8, as for any line that is wrong. Fails if the message about such a word could not
+    /// be printed.
     pub fn explain<E: Write>(&self, err: &mut E) -> io::Result<u8>
         ensures { IfOk result (λ status. status ≡ wordless_status self.now) }
     {
@@ -66,7 +67,7 @@ impl NoWords {
     }
 }
 
-/// Prints that the word at this place is no text.
+/// Prints that the word at this place is not valid UTF-8.
 fn tell_no_text<E: Write>(place: Option<usize>, err: &mut E) -> io::Result<()> {
     match place {
         Some(place) => writeln!(
@@ -77,8 +78,8 @@ fn tell_no_text<E: Write>(place: Option<usize>, err: &mut E) -> io::Result<()> {
     }
 }
 
-/// The place of the first word that is no text. `None` where memory is refused, or where a word
-/// before it is longer than Linux lets one be.
+/// The place of the first word that is not valid UTF-8. `None` if memory is refused, or if a word
+/// before it is longer than Linux allows.
 fn place_without_text<R: Env + AllocGlobal>(rt: &R) -> Option<usize> {
     let mut buffer = vec![in rt.alloc(); 0; LONGEST_WORD].ok()?;
     for place in 0..usize::MAX {
@@ -90,7 +91,7 @@ fn place_without_text<R: Env + AllocGlobal>(rt: &R) -> Option<usize> {
     None
 }
 
-/// The words of the command line, each of them text; the first is the program's name.
+/// The words of the command line, each as text. The first is the program's name.
 pub fn words_of<R: Env + AllocGlobal>(rt: &R) -> Result<Vec<String>, NoWords> {
     match env::args(rt) {
         Ok(words) => Ok(words.collect(rt.alloc())?),
@@ -101,7 +102,7 @@ pub fn words_of<R: Env + AllocGlobal>(rt: &R) -> Result<Vec<String>, NoWords> {
     }
 }
 
-/// The same words, lent, each at its place.
+/// The same words, borrowed, each at its place.
 pub fn slices_of<'a>(alloc: Global, words: &'a [String]) -> Result<Vec<&'a str>, NoWords>
     ensures { IfOk result (λ slices. (k : ℕ) →
         option_map (λ s. s.now) (slice_get slices.items k)

@@ -1,5 +1,5 @@
-//! What the command lines of the programs have in common: the words that were given, why a line is
-//! not taken, flags, and how a run ends that is refused.
+//! What the command lines of the programs have in common: the words that were given, the errors of
+//! a line, flags, and how a run ends that returns an error.
 #![tactic(auto)]
 
 mod fault;

@@ -1,4 +1,4 @@
-//! Why a command line is not taken.
+//! Why a command line is rejected.
 
 ghost use Rattle.std.specs.Prelude.{◌≡◌};
 ghost use Rattle.clap.specs.Words.{kind_of};
@@ -14,10 +14,11 @@ use page::Fault;
 use std::alloc::AllocError;
 use std::io::Write;
 
-/// Why a command line was not taken.
+/// Why a command line was rejected.
 #[derive(Debug, Drop)]
 pub enum Refusal {
-    /// The line is wrong, or asks for help or the version: the text to print, and where.
+    /// The line is wrong, or asks for help or the version. This holds the text to print, and the
+    /// stream for it.
     Line(clap::Error),
     /// Memory was refused.
     Memory,
@@ -42,8 +43,9 @@ impl From<clap::Error> for Refusal {
     }
 }
 
-/// Prints what clap says of a line, with what a terminal would obey escaped in a mistake, and gives the status: 2 for a
-/// mistake, 0 where help or the version was asked for, 1 where the print failed.
+/// Prints what clap reports for a line. In a mistake, characters that a terminal would obey are
+/// escaped. Returns the status: 2 for a mistake, 0 if help or the version was asked for, 1 if the
+/// print failed.
 fn explain_line<O: Write, E: Write>(error: clap::Error, out: &mut O, err: &mut E) -> u8
     ensures { IsLineStatus (kind_of error) result }
 {
@@ -56,8 +58,9 @@ fn explain_line<O: Write, E: Write>(error: clap::Error, out: &mut O, err: &mut E
 }
 
 impl Refusal {
-    /// Prints why, to `out` where help or the version was asked for, else to `err`, and gives the
-    /// status: 1 where memory was refused or the print failed, 2 for a line that is wrong, else 0.
+    /// Prints the message: to `out` if help or the version was asked for, otherwise to `err`.
+    /// Returns the status: 1 if memory was refused or the print failed, 2 for a line that is wrong,
+    /// otherwise 0.
     pub fn explain<O: Write, E: Write>(self, out: &mut O, err: &mut E) -> u8
         ensures { IsStatusOf self result }
     {
@@ -68,7 +71,7 @@ impl Refusal {
     }
 }
 
-/// Why a line without a command is refused. `clap` refuses such a line before this is asked.
+/// The error of a line without a command. `clap` rejects such a line before this is called.
 pub fn no_command(command: &mut Command) -> Refusal {
     match command.error(ErrorKind::MissingSubcommand, "a command is needed") {
         Ok(error) => Refusal::Line(error),

@@ -1,10 +1,10 @@
-//! Text in which words of the command line stand, as a terminal may show it.
+//! Text with words of the command line in it, as a terminal may show it.
 
 use std::fmt;
 use std::io::{self, Write};
 
-/// Whether a terminal obeys or hides a character, other than a line end: `{:?}` escapes it, and it is
-/// no quote and no backslash.
+/// Whether a terminal obeys or hides a character other than a line end. `{:?}` escapes such a
+/// character, and it is neither a quote nor a backslash.
 fn is_hidden(character: char) -> bool {
     match character {
         '\n' | '"' | '\'' | '\\' => false,
