@@ -9,13 +9,13 @@ use Rattle.std.proofs.KnownBytes.{Appends-kept, Consumes-trans}
 use Rattle.device.specs.Reread.{ReadsFrom}
 use Rattle.device.specs.Transfer.{ReadBehind, TookBeginning}
 
--- what is done grows by a piece of the rest, and the rest is what stands behind it
+-- what is done grows by a piece of the rest, and the rest is what follows the piece
 pub goes_on : (all done rest : List ℕ) (n : ℕ) → all ≡ done ++ rest → all ≡ (done ++ take n rest) ++ take (length rest - n) (drop n rest)
 goes_on all done rest n e =
     e ∙ ap (λ l. done ++ l) (sym (take-append-drop n rest)) ∙ sym (append_assoc done (take n rest) (drop n rest))
     ∙ ap (λ l. (done ++ take n rest) ++ l) (sym (take_rest rest n))
 
--- what a failure leaves taken is a beginning
+-- what was taken before a failure is a prefix
 pub stays_beginning : (a b c : Option (List ℕ)) (all done rest : List ℕ) → all ≡ done ++ rest → Appends a b done → Keeps b c → TookBeginning a c all
 stays_beginning a b c all done rest e taken kept =
     let front : take (length done) all ≡ done = ap (take (length done)) e ∙ take-append_seam done rest in
@@ -28,7 +28,7 @@ filled_by a b c old room new f n kept front before read =
     subst (Consumes a c) (sym (take-add f n new))
     (Consumes-trans a b c (take f new) (take n (drop f new)) (subst (Consumes a b) (sym (front ∙ kept)) before) read)
 
--- a buffer filled up to f behind the bytes in front, and then by n bytes more
+-- a buffer filled up to f after the bytes in front, and then by n bytes more
 pub behind_by : (a b c : Option (List ℕ)) (front old room new : List ℕ) (f n : ℕ) → take f room ≡ take f old → take f new ≡ take f room
     → ReadBehind a b front (take f old) → Consumes b c (take n (drop f new)) → ReadBehind a c front (take (f + n) new)
 behind_by a b c front old room new f n kept same before read =

@@ -1,4 +1,4 @@
--- What the devices over files tell (own).
+-- What contracts know of the devices over files (own).
 use Rattle.std.specs.Prelude.{◌≡◌, ℕ, List, Some, IfSome, OnOk, Result}
 use Rattle.std.specs.declared.option.Option.{Option}
 use Rattle.std.specs.Io.KnownBytes.{ReadConsumes}
@@ -14,7 +14,7 @@ read_file source = source.file
 abbrev pub read_failures : {F : Type 0} → FileSource F → ℕ
 read_failures source = source.failures.count
 
--- where a read was answered, the file stood at the offset before it, as far as it tells its position, and gave these bytes from there
+-- if a read succeeded, the file was at the offset before it, if its position is known, and gave these bytes from there
 abbrev pub ReadsThere : {F E : Type 0} → (position : F → Option ℕ) → (remaining : F → Option (List ℕ)) → (before after : F) → (offset : ℕ)
     → Result ℕ E → (buffer : List ℕ) → Type 0
 ReadsThere {F} position remaining before after offset result buffer = OnOk result ((there : F)

@@ -1,4 +1,4 @@
--- What the devices over memory tell (own).
+-- What contracts know of the devices over memory (own).
 use Rattle.std.specs.Prelude.{ℕ, List}
 use Rattle.device.specs.declared.memory.MemorySource.{MemorySource}
 use Rattle.device.specs.declared.memory.MemorySink.{MemorySink}

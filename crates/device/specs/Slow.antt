@@ -1,4 +1,4 @@
--- What the devices for tests tell (own).
+-- What contracts know of the devices for tests (own).
 use Rattle.std.specs.Prelude.{ℕ, List}
 use Rattle.device.specs.declared.slow.SlowSource.{SlowSource}
 use Rattle.device.specs.declared.slow.SlowSink.{SlowSink}
@@ -20,10 +20,10 @@ bytes_taken sink = kept_taken sink.kept
 abbrev pub bytes_flushed : SlowSink → List ℕ
 bytes_flushed sink = kept_flushed sink.kept
 
--- how often it failed, reading
+-- how often it failed in reading
 abbrev pub read_failures : SlowSource → ℕ
 read_failures source = source.failures.count
 
--- how often it failed, writing
+-- how often it failed in writing
 abbrev pub write_failures : SlowSink → ℕ
 write_failures sink = sink.failures.count

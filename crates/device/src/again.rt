@@ -15,8 +15,8 @@ pub fn bytes_from(bytes: &[u8], offset: u64) -> &[u8]
     &bytes[start..]
 }
 
-/// One read behind the bytes of a buffer that were read before it, the first of which stands at
-/// `start`.
+/// One read into a buffer after the bytes that were read before it. The first byte of the buffer is
+/// at offset `start`.
 fn read_behind_at<S: Reread>(
     source: &mut S,
     start: u64,
@@ -36,13 +36,13 @@ fn read_behind_at<S: Reread>(
     source.read_at(start + filled as u64, &mut buffer[filled..])
 }
 
-/// Fills a buffer with the bytes that a source holds from `offset` on, and returns how many they are:
-/// fewer than the buffer takes only where the source ends. What stands after them in the buffer is not
-/// told, nor where `read` goes on after this. `offset` and the buffer's length are together 2^64 at
-/// most.
+/// Fills a buffer with the bytes that a source holds from `offset` on, and returns how many they
+/// are. They are fewer than the buffer takes only if the source ends. The rest of the buffer is not
+/// specified, nor is the place from which `read` continues afterwards. The sum of `offset` and the
+/// buffer's length is at most 2^64.
 ///
-/// `Failed` if the source failed. Its count of failures has then risen by one, and what the buffer
-/// holds is not told. The source still holds the same bytes.
+/// `Failed` if the source failed. Its count of failures then rises by one, and the content of the
+/// buffer is not specified. The source still holds the same bytes.
 pub fn read_full_at<S: Reread>(
     source: &mut S,
     offset: u64,

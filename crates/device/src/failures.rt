@@ -1,12 +1,12 @@
-//! A count of failures that contracts alone see.
+//! A count of failures that only contracts see.
 
 ghost use Rattle.std.specs.Prelude.{◌≡◌, ℕ, ◌+◌};
 ghost use Rattle.std.specs.Borrow.{ftrue};
 
 use std::marker::Model;
 
-/// How often a device has failed, as `count` in clauses. It takes no memory, and its calls do
-/// nothing when the program runs; so it has no greatest number either.
+/// How often a device has failed: `count` in clauses. It takes no memory, and its calls do nothing
+/// when the program runs. So the count has no maximum either.
 #[derive(Drop)]
 pub struct Failures {
     pub ghost count: { ℕ },
@@ -17,21 +17,21 @@ impl Model for Failures {
 }
 
 impl Failures {
-    /// No failure yet.
+    /// No failures yet.
     pub fn new() -> Failures
         ensures { result.count ≡ 0 }
     {
         Failures {}
     }
 
-    /// The count after one failure more.
+    /// The count after one more failure.
     fn risen(&self) -> Failures
         ensures { result.count ≡ self.now.count + 1 }
     {
         Failures {}
     }
 
-    /// One failure more.
+    /// Counts one more failure.
     pub fn rise(&mut self)
         ensures { self.new.count ≡ self.old.count + 1 }
     {

@@ -1,6 +1,7 @@
-//! Devices over files. They tell what the file tells: a file of the system tells no bytes; a reader
-//! or a writer that does, as one over memory, shows that none is lost, doubled or made up here.
-//! What is flushed they do not tell, since no file does.
+//! Devices over files. Contracts know the bytes of such a device only if they know the bytes of its
+//! file. The bytes of a file of the system are not known. A reader or a writer whose bytes are
+//! known, such as one over memory, shows that none is lost, doubled or made up here. Contracts do
+//! not know what is flushed, since they do not know it for any file.
 
 ghost use Rattle.std.specs.Prelude.{◌≡◌, IfOk, ◌<◌, length};
 ghost use Rattle.std.specs.Io.{ReadsAtMost, WritesAtMost};
@@ -21,7 +22,7 @@ pub struct FileSource<F> {
 }
 
 impl<F> FileSource<F> {
-    /// A source that gives what the file gives from where it stands.
+    /// A source that reads the file from its current position.
     pub fn new(file: F) -> FileSource<F>
         ensures file { read_file result ≡ file }
         ensures failures { read_failures result ≡ 0 }
@@ -35,8 +36,8 @@ impl<F> FileSource<F> {
 }
 
 impl<F: OpenFile> FileSource<F> {
-    /// As `new`, and the length that the file tells of itself is a hint to who reads. A file that
-    /// tells none is read as well.
+    /// As `new`, and the length that the file reports is a hint to the reader. A file that reports
+    /// no length is read as well.
     pub fn sized(file: F) -> FileSource<F>
         ensures file { read_file result ≡ file }
         ensures failures { read_failures result ≡ 0 }
@@ -53,7 +54,7 @@ impl<F: OpenFile> FileSource<F> {
     }
 }
 
-/// One read, which is tried again where a signal interrupted it.
+/// One read, which is tried again if a signal interrupted it.
 fn read_once<F: Read>(file: &mut F, buffer: &mut [u8]) -> Result<usize, Failed>
     ensures within { ReadsAtMost result buffer.new }
     ensures bytes { ReadConsumes (F.remaining file.old) (F.remaining file.new) result buffer.new }
@@ -89,7 +90,7 @@ impl<F: Read> Source for FileSource<F> {
     }
 }
 
-/// Goes to a place of a file, and reads once there.
+/// Goes to an offset of a file, and reads once there.
 fn read_once_at<F: Read + Seek>(
     file: &mut F,
     offset: u64,
@@ -105,10 +106,10 @@ fn read_once_at<F: Read + Seek>(
     }
 }
 
-/// It tells no bytes, since no file tells what it holds.
+/// Contracts do not know all of its bytes, since no file reports what it holds.
 impl<F: Read + Seek> Reread for FileSource<F> {
-    /// `Failed` too if the file cannot go to the offset, as to 2^63 or more. `read` goes on after the
-    /// bytes that this read.
+    /// `Failed` too if the file cannot go to the offset, for example to 2^63 or more. `read`
+    /// continues after the bytes that this call read.
     fn read_at(&mut self, offset: u64, buffer: &mut [u8]) -> Result<usize, Failed>
         ensures bound { ReadsAtMost result buffer.new }
         ensures there { ReadsThere F.stream_position F.remaining (read_file self.old)
@@ -131,7 +132,7 @@ pub struct FileSink<F> {
 }
 
 impl<F> FileSink<F> {
-    /// A sink that writes to the file from where it stands.
+    /// A sink that writes to the file from its current position.
     pub fn new(file: F) -> FileSink<F>
         ensures file { written_file result ≡ file }
         ensures failures { write_failures result ≡ 0 }
@@ -143,8 +144,8 @@ impl<F> FileSink<F> {
     }
 }
 
-/// One write, which is tried again where a signal interrupted it. One that takes none of some bytes
-/// has failed.
+/// One write, which is tried again if a signal interrupted it. A write that takes none of some
+/// bytes has failed.
 fn write_once<F: Write>(file: &mut F, bytes: &[u8]) -> Result<usize, Failed>
     ensures within { WritesAtMost result bytes.now }
     ensures progress { IfOk result (λ count. 0 < length bytes.now → 0 < count) }
@@ -164,8 +165,8 @@ fn write_once<F: Write>(file: &mut F, bytes: &[u8]) -> Result<usize, Failed>
     Err(Failed)
 }
 
-/// What is in the file's own buffer is written, and the file then asked to reach its disk. Whether
-/// both were done.
+/// Writes what is in the file's own buffer, and then asks the file to reach its disk. Whether both
+/// were done.
 fn is_synced<F: Write + OpenFile>(file: &mut F) -> bool
     ensures bytes { Keeps (F.contents file.old) (F.contents file.new) }
 {
@@ -194,8 +195,8 @@ impl<F: Write + OpenFile> Sink for FileSink<F> {
     }
 }
 
-/// A log in an open file that is continued where it lies. It tells no bytes, since no file tells what
-/// it holds.
+/// A log in an open file that is continued in place. Contracts do not know its bytes, since no file
+/// reports what it holds.
 #[derive(Drop)]
 pub struct FileLog<F> {
     sink: FileSink<F>,
@@ -224,9 +225,9 @@ impl<F: Write + OpenFile> Sink for FileLog<F> {
     }
 }
 
-/// Cuts off what stands in a file after so many bytes. Whether that was done: it is not if the file
-/// is shorter, since the cut would fill it up with zeros. A file of just this length is left alone, so
-/// that a sync of it costs nothing.
+/// Cuts off what a file holds after this many bytes. Whether that was done: it is not if the file
+/// is shorter, since the cut would fill it up with zeros. A file of just this length is not
+/// changed, so that a sync of it costs nothing.
 fn is_cut<F: OpenFile>(file: &F, length: u64) -> bool {
     match file.metadata() {
         Ok(metadata) if length == metadata.len() => true,

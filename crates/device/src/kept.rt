@@ -4,7 +4,7 @@ ghost use Rattle.std.specs.Prelude.{◌≡◌, ◌≤◌, ◌++◌, ℕ, [], tak
 
 use std::alloc::AllocError;
 
-/// Bytes that were taken, of which a beginning is flushed.
+/// The bytes that were taken, of which a prefix is flushed.
 #[derive(Drop)]
 pub struct Kept {
     bytes: Vec<u8>,
@@ -47,7 +47,7 @@ impl Kept {
         &self.bytes[..self.flushed]
     }
 
-    /// Takes more bytes. `AllocError` where memory for them was refused; none is taken then.
+    /// Takes more bytes. `AllocError` if memory for them was refused; then none is taken.
     pub fn append(&mut self, bytes: &[u8]) -> Result<(), AllocError>
         ensures taken { OnOk result (bytes_taken self.new ≡ bytes_taken self.old ++ bytes.now) }
         ensures refused { OnErr result (bytes_taken self.new ≡ bytes_taken self.old) }
@@ -64,7 +64,7 @@ impl Kept {
         self.flushed = self.bytes.len();
     }
 
-    /// Cuts off what stands after the first `length` bytes.
+    /// Cuts off what comes after the first `length` bytes.
     pub fn cut(&mut self, length: u64)
         ensures taken { bytes_taken self.new ≡ take length (bytes_taken self.old) }
         ensures flushed { (count : ℕ) × (bytes_flushed self.new

@@ -1,6 +1,6 @@
-//! Devices that bytes are read from and written to, each of which may fail at any call: over
-//! memory, over files, and what reads and writes all of one; and devices that fail when they are
-//! told to, for tests.
+//! Devices that bytes are read from and written to. Each may fail at any call. There are devices
+//! over memory and over files, functions that read or write everything, and, for tests, devices
+//! that fail at a chosen call.
 #![tactic(auto)]
 
 mod again;

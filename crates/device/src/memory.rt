@@ -1,4 +1,4 @@
-//! Devices over memory. They tell their bytes.
+//! Devices over memory. Contracts know their bytes.
 
 ghost use Rattle.std.specs.Prelude.{◌≡◌, ℕ, Some, []};
 ghost use Rattle.device.specs.Memory.{bytes_left, bytes_held, bytes_taken, bytes_flushed, failures_met};
@@ -9,7 +9,7 @@ use crate::{Continue, Failed, Failures, Reread, Sink, Source};
 use std::alloc::Global;
 use std::io::Read;
 
-/// A source of lent bytes. It never fails.
+/// A source of borrowed bytes. It never fails.
 #[derive(Drop)]
 pub struct MemorySource<'a> {
     all: &'a [u8],
@@ -58,7 +58,7 @@ impl<'a> Reread for MemorySource<'a> {
     }
 }
 
-/// A sink that keeps what it takes. It fails where it is refused the memory for it.
+/// A sink that keeps what it takes. It fails if it is refused the memory for it.
 #[derive(Drop)]
 pub struct MemorySink {
     kept: Kept,

@@ -1,5 +1,5 @@
-//! Devices for tests: over memory, they pass a few bytes a call and fail at a call that is said
-//! beforehand. They tell their bytes.
+//! Devices for tests, over memory. They pass a few bytes a call and fail at a call that is chosen
+//! beforehand. Contracts know their bytes.
 
 ghost use Rattle.std.specs.Prelude.{◌≡◌, Some, None, true, false, [], IfOk, ◌<◌, ◌≤◌, ◌-◌, ◌^◌};
 ghost use Rattle.device.specs.Slow.{bytes_left, bytes_held, bytes_taken, bytes_flushed, read_failures, write_failures};
@@ -54,7 +54,7 @@ impl Pace {
         }
     }
 
-    /// Counts a call. Whether it fails.
+    /// Counts a call. Returns whether it fails.
     fn is_due(&mut self) -> bool {
         match self.fails_at {
             Some(1) => {
@@ -78,7 +78,7 @@ impl Pace {
     }
 }
 
-/// A source of lent bytes.
+/// A source of borrowed bytes.
 #[derive(Drop)]
 pub struct SlowSource<'a> {
     all: &'a [u8],
@@ -108,7 +108,8 @@ impl<'a> Source for SlowSource<'a> {
 
     ghost left = { λ source. Some (bytes_left source) };
 
-    /// What one call passes at most: wrong of more bytes, and of fewer.
+    /// How much one call passes at most. As a hint this is wrong: there may be more bytes, or
+    /// fewer.
     fn hint(&self) -> usize {
         self.pace.step
     }
@@ -141,7 +142,7 @@ impl<'a> Reread for SlowSource<'a> {
     }
 }
 
-/// A sink that keeps what it takes, in room that it has beforehand. It fails where that is full.
+/// A sink that keeps what it takes, in memory that it has beforehand. It fails if that is full.
 #[derive(Drop)]
 pub struct SlowSink {
     kept: Kept,
@@ -150,7 +151,8 @@ pub struct SlowSink {
 }
 
 impl SlowSink {
-    /// A sink that has taken nothing, with room for `room` bytes. `AllocError` where that was refused.
+    /// A sink that has taken nothing, with room for `room` bytes. `AllocError` if the memory was
+    /// refused.
     pub fn new(alloc: Global, room: usize, pace: Pace) -> Result<SlowSink, AllocError>
         ensures taken { IfOk result (λ sink. bytes_taken sink ≡ []) }
         ensures flushed { IfOk result (λ sink. bytes_flushed sink ≡ []) }
@@ -164,7 +166,7 @@ impl SlowSink {
     }
 
     /// A sink that holds these bytes, all of them flushed, and has room for `room` bytes in all.
-    /// `AllocError` where that was refused.
+    /// `AllocError` if the memory was refused.
     pub fn holding(
         alloc: Global,
         bytes: &[u8],

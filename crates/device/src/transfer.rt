@@ -1,4 +1,4 @@
-//! Reading all of a source, writing all to a sink.
+//! Functions that read all of a source, or write all bytes to a sink.
 
 ghost use Rattle.std.specs.Prelude.{◌≡◌, ◌+◌, ◌≤◌, ◌<◌, [], ◌++◌, take, drop, length, vec_len, IfErr, IfOk, IfSome, OnErr, OnOk};
 ghost use Rattle.std.specs.Io.KnownBytes.{Appends, Consumes, IsAtEnd, Keeps};
@@ -17,11 +17,11 @@ pub enum ReadFault {
     NoMemory,
 }
 
-/// How many bytes a read is given room for, at least.
+/// How many bytes of room a read has, at least.
 const PIECE: usize = 64 * 1024;
 
-/// No bytes yet, with room for as many as are hinted at and one read more. Where that much memory is
-/// refused there is none, and it is made as bytes come.
+/// An empty buffer with room for the bytes of the hint and one more read. If so much memory is
+/// refused, the buffer has no room, and memory is taken as bytes come.
 fn room_for(alloc: Global, hint: usize) -> Vec<u8>
     ensures { result.items ≡ [] }
 {
@@ -31,8 +31,8 @@ fn room_for(alloc: Global, hint: usize) -> Vec<u8>
     }
 }
 
-/// Makes room for one read more in a buffer of which this many bytes are read. A buffer that has as
-/// much behind them stays as it is.
+/// Makes room for one more read in a buffer of which this many bytes are read. A buffer that has
+/// enough room after them stays as it is.
 fn make_room(bytes: &mut Vec<u8>, filled: usize) -> Result<(), AllocError>
     requires { filled ≤ vec_len bytes.old }
     ensures front { take filled bytes.new.items ≡ take filled bytes.old.items }
@@ -46,7 +46,7 @@ fn make_room(bytes: &mut Vec<u8>, filled: usize) -> Result<(), AllocError>
     }
 }
 
-/// One read behind the bytes that were read before it.
+/// One read into a buffer after the bytes that were read before it.
 fn read_behind<S: Source>(source: &mut S, bytes: &mut [u8], filled: usize) -> Result<usize, Failed>
     requires { filled < length bytes.old }
     ensures front { take filled bytes.new ≡ take filled bytes.old }
@@ -60,8 +60,8 @@ fn read_behind<S: Source>(source: &mut S, bytes: &mut [u8], filled: usize) -> Re
     source.read(&mut bytes[filled..])
 }
 
-/// Reads behind the first `filled` bytes, once and then on until there are as many bytes as are
-/// wanted or the source is at its end. What stands behind those that were read is cut off.
+/// Reads after the first `filled` bytes: once, and then again until there are as many bytes as are
+/// wanted or the source is at its end. The rest of the buffer is cut off.
 fn read_on<S: Source>(
     source: &mut S,
     bytes: &mut Vec<u8>,
@@ -88,12 +88,12 @@ fn read_on<S: Source>(
     }
 }
 
-/// All bytes that a source has left, by reads of up to 64 KiB. Room is made once where the source's
-/// hint is right, and else as bytes come. A source without end ends in want of memory.
+/// All bytes that a source has left, by reads of up to 64 KiB. Room is made once if the source's
+/// hint is right, and otherwise as bytes come. A source without end runs out of memory.
 ///
-/// `Failed` where the source failed; its count of failures has risen by one. `NoMemory` where
-/// memory for the bytes was refused; no failure is counted. After either a beginning of the bytes
-/// that were left has been read, and is dropped.
+/// `Failed` if the source failed; its count of failures has risen by one. `NoMemory` if memory for
+/// the bytes was refused; no failure is counted. After either error a prefix of the bytes that were
+/// left has been read, and is dropped.
 pub fn read_all<S: Source>(alloc: Global, source: &mut S) -> Result<Vec<u8>, ReadFault>
     ensures all { IfOk result (λ bytes. IfSome (S.left source.old) (λ left. bytes.items ≡ left)) }
     ensures read { IfOk result (λ bytes. Consumes (S.left source.old)
@@ -109,14 +109,14 @@ pub fn read_all<S: Source>(alloc: Global, source: &mut S) -> Result<Vec<u8>, Rea
     Ok(bytes)
 }
 
-/// Behind the first `filled` bytes of a buffer, reads all bytes that a source has left. What stands
-/// behind the first `filled` is room, and is lost: it is read into, by reads as large as it is, and
-/// where less than 64 KiB of it are free, room for so many more is made as bytes come. A source
-/// without end ends in want of memory.
+/// Reads all bytes that a source has left into a buffer, after its first `filled` bytes. What the
+/// buffer holds after these is lost: it is room for reads as large as it is. If less than 64 KiB of
+/// it are free, room for that many more is made as bytes come. A source without end runs out of
+/// memory.
 ///
-/// `Failed` where the source failed; its count of failures has risen by one. `NoMemory` where
-/// memory for the bytes was refused; no failure is counted. After either a beginning of the bytes
-/// that were left has been read, and what the buffer holds is not told.
+/// `Failed` if the source failed; its count of failures has risen by one. `NoMemory` if memory for
+/// the bytes was refused; no failure is counted. After either error a prefix of the bytes that were
+/// left has been read, and the content of the buffer is not specified.
 pub fn read_rest<S: Source>(
     source: &mut S,
     bytes: &mut Vec<u8>,
@@ -136,13 +136,13 @@ pub fn read_rest<S: Source>(
     read_on(source, bytes, filled, usize::MAX)
 }
 
-/// The next bytes that a source has, `count` or up to 64 KiB more; fewer only where it is at its
-/// end. Room for `count` is made at once where there is memory for it, and else as bytes come, and
-/// no read is of more than 64 KiB. One is made even where `count` is 0.
+/// The next bytes of a source: `count`, or up to 64 KiB more. There are fewer only if the source is
+/// at its end. Room for `count` is made at once if there is memory for it, and otherwise as bytes
+/// come. No read is of more than 64 KiB. One read is made even if `count` is 0.
 ///
-/// `Failed` where the source failed; its count of failures has risen by one. `NoMemory` where
-/// memory for the bytes was refused; no failure is counted. After either a beginning of the bytes
-/// that were left has been read, and is dropped.
+/// `Failed` if the source failed; its count of failures has risen by one. `NoMemory` if memory for
+/// the bytes was refused; no failure is counted. After either error a prefix of the bytes that were
+/// left has been read, and is dropped.
 pub fn read_front<S: Source>(
     alloc: Global,
     source: &mut S,
@@ -161,11 +161,10 @@ pub fn read_front<S: Source>(
     Ok(bytes)
 }
 
-/// Fills a buffer with the bytes that a source gives next, and gives how many they are: fewer than
-/// the buffer takes only where the source is at its end. What stands behind them in the buffer is not
-/// told.
+/// Fills a buffer with the next bytes of a source, and returns how many they are. They are fewer
+/// than the buffer takes only if the source is at its end. The rest of the buffer is not specified.
 ///
-/// `Failed` where the source failed; its count of failures has risen by one. A beginning of the bytes
+/// `Failed` if the source failed; its count of failures has risen by one. A prefix of the bytes
 /// that were left has been read, and is dropped.
 pub fn read_full<S: Source>(source: &mut S, buffer: &mut [u8]) -> Result<usize, Failed>
     ensures within { IfOk result (λ count. count ≤ length buffer.new) }
@@ -186,10 +185,10 @@ pub fn read_full<S: Source>(source: &mut S, buffer: &mut [u8]) -> Result<usize, 
     Ok(filled)
 }
 
-/// Writes all bytes to a sink, behind those that it took before. The sink is not flushed.
+/// Writes all bytes to a sink, after those that it took before. The sink is not flushed.
 ///
-/// `Failed` where the sink failed; its count of failures has risen by one, and it has taken a
-/// beginning of the bytes.
+/// `Failed` if the sink failed; its count of failures has risen by one, and it has taken a prefix
+/// of the bytes.
 pub fn write_all<S: Sink>(sink: &mut S, bytes: &[u8]) -> Result<(), Failed>
     ensures all { OnOk result (Appends (S.taken sink.old) (S.taken sink.new) bytes.now) }
     ensures cause { Counts (S.failures sink.old) (S.failures sink.new) result }

@@ -1,5 +1,5 @@
--- What is filled stands in the source from the offset on, the source still holds the same, and no
--- failure came. Each turn fills more of the buffer.
+-- What is filled is in the source from the offset on, the source still holds the same, and no failure came. Each turn fills more of the
+-- buffer.
 use Rattle.std.proofs.Common.{◌≡◌, ◌≤◌, ◌-◌, length}
 use Rattle.std.specs.Io.KnownBytes.{Keeps}
 use Rattle.device.specs.Reread.{ReadsFrom}

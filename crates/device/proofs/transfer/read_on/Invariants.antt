@@ -1,5 +1,5 @@
--- What is filled behind the bytes in front was read, and no failure came. Each turn fills more of a
--- buffer that is no longer than a `usize` tells.
+-- What is filled after the bytes in front was read, and no failure came. Each turn fills more of a buffer that is no longer than a `usize`
+-- can say.
 use Rattle.std.proofs.Common.{◌≡◌, ◌≤◌, ◌-◌, ◌^◌, take, vec_len}
 use Rattle.device.specs.Transfer.{ReadBehind}
 use Rattle.device.proofs.transfer.read_on.Given as goal

@@ -1,4 +1,4 @@
--- What is gone from the rest was taken, none of it is flushed, and no failure came.
+-- What is no longer in the rest was taken, none of it is flushed, and no failure came.
 use Rattle.std.proofs.Common.{◌≡◌, ℕ, List, ◌++◌, length}
 use Rattle.std.specs.Io.KnownBytes.{Appends, Keeps}
 use Rattle.device.proofs.transfer.write_all.Given as goal
