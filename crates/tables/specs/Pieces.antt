@@ -2,7 +2,7 @@
 use Rattle.std.specs.Prelude.{◌≡◌, ℕ, ◌<◌, ◌≤◌}
 use Rattle.wal.specs.Records.{History, last_lsn, base_lsn, record_at}
 
--- A PIECE OF A LOG: each of its records stands in the log at its own LSN.
+-- A PIECE OF A LOG: each of its records is in the log at the same LSN.
 pub record IsPieceOf (whole piece : History) : Type 0 where
   pub low : base_lsn whole ≤ base_lsn piece
   pub high : last_lsn piece ≤ last_lsn whole

@@ -1,4 +1,4 @@
-//! The tables of a crash, which analysis finds, redo begins by, and undo ends.
+//! The tables of a crash. Analysis finds them, redo starts from them, and undo completes them.
 #![tactic(auto)]
 
 mod tables;

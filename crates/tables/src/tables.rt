@@ -7,16 +7,17 @@ use std::collections::BTreeMap;
 use std::marker::Model;
 use wal::Entry;
 
-/// The tables of a crash. Contracts see them as the lists of their entries, in rising number, and
-/// the LSN from which redo looks at records.
+/// The tables of a crash. Contracts see them as the lists of their entries, in ascending order of
+/// number, and the LSN from which redo looks at records.
 #[derive(Drop)]
 pub struct Tables {
-    /// The unfinished transactions and what is known of each: its state, LastLSN and UndoNxtLSN.
+    /// The unfinished transactions and what is known of each: state, LastLSN and UndoNxtLSN.
     pub transactions: BTreeMap<u32, Entry>,
-    /// The dirty page table: the pages that may lack records, and from which LSN on (RecLSN).
+    /// The dirty page table: the pages that may lack records, each with the LSN of the first record
+    /// that it may lack (RecLSN).
     pub dirty: BTreeMap<u32, u64>,
-    /// The LSN from which redo looks at records: the smallest RecLSN, where one up to the log's base
-    /// LSN counts as the LSN after it; 0 where no page is listed.
+    /// The LSN from which redo looks at records: the smallest RecLSN, or 0 if no page is listed. A
+    /// RecLSN that is not above the log's base LSN counts as the LSN after the base LSN.
     pub redo_lsn: u64,
 }
 
@@ -31,7 +32,7 @@ impl Model for Tables {
 }
 
 impl Tables {
-    /// The RecLSN of a page, None where it is not listed as dirty.
+    /// The RecLSN of a page, `None` if it is not listed as dirty.
     pub fn rec_lsn(&self, page: u32) -> Option<u64>
         ensures { result ≡ rec_lsn_of page self.now.dirty }
     {
