@@ -1,4 +1,4 @@
--- The actions of a rollback: whose they are, and what is written of them.
+-- The actions of a rollback: their transactions, and what is written of them.
 use Rattle.std.proofs.Common.{ℕ, suc, zero, ◌≡◌, ◌+◌, ◌<◌, ◌≤◌, Bool, true, cond, ◌||◌, List, [], ◌∷◌, ◌++◌, map, refl, sym, ap, ap₂, ◌∙◌, inl, inr, arith, eq-eqb, eqb-true, eqb}
 use Rattle.std.specs.Prelude.{filter, flat_map, ⊤}
 use Rattle.std.proofs.lemmas.Bool.{cases_Bool, cases_eq, false≢true, or_cases, or_left, or_right, cond_both, both_ways, false_from_ne_true}
@@ -44,7 +44,7 @@ numbers_among n (suc k) t a b =
       | inr d ↦ or_right (eqb t n) (is_among t (numbers_from (suc n) k)) (numbers_among (suc n) k t (omega (arith, d)) (omega arith))
     ]
 
--- where only transactions of the log are chosen, those are listed, and no others
+-- if only transactions of the log are chosen, exactly those are listed
 chosen_among : (p : ℕ → Bool) (log : History) (t : ℕ) → has (is_of t) log ≡ true → p t ≡ true → is_among t (transactions_of p log) ≡ true
 chosen_among p log t h e = filter_among p t (numbers_from 0 (above_all log)) (numbers_among 0 (above_all log) t (omega arith) (omega (arith, tx_below t log h))) e
 
@@ -64,7 +64,7 @@ abbrev pub AllFor : (ℕ → Type 0) → List Action → Type 0
 AllFor P [] = ⊤
 AllFor P (a ∷ actions) = P (tx_for a) × AllFor P actions
 
--- what is written hangs on the last records of the transactions concerned
+-- what is written depends on the last records of the transactions concerned
 pub records_for_same : (f g : ℕ → ℕ) (lsn : ℕ) (actions : List Action) → AllFor (λ t. f t ≡ g t) actions → records_for f lsn actions ≡ records_for g lsn actions
 records_for_same f g lsn [] h = refl
 records_for_same f g lsn (a ∷ actions) h =
@@ -106,13 +106,13 @@ module _ (P : ℕ → Type 0) (losers : List ℕ) (stack : ℕ → List ℕ) (ea
             (cond_both (is_lowest x.0 (stack x.1.tx)) (Finish x.1.tx ∷ []) [] (λ acts. AllFor P acts) (λ _. (own, tt)) (λ _. tt)) (of_undos xs h.1),
       )
 
-  -- a rollback is of its losers alone
+  -- a rollback is of its losers only
   pub of_rollback : (log : History) → AllFor P (rollback losers stack log)
   of_rollback log =
       AllFor-append P (map Finish (filter (λ t. is_empty (stack t)) losers)) (flat_map (undo_of stack) (updates_where (is_stacked stack) log))
       (of_ends (λ t. is_empty (stack t)) losers each) (of_undos (updates_where (is_stacked stack) log) (updates_pass (is_stacked stack) log))
 
--- what is left to do is of losers alone
+-- what is left to do is of losers only
 pub left_is_of_losers : (P : ℕ → Type 0) (log : History) → ((t : ℕ) → is_loser t log ≡ true → P t) → AllFor P (left_to_do log)
 left_is_of_losers P log h =
     of_rollback P (losers_of log) (left_of log) (λ t i. h t (among_chosen (λ x. is_loser x log) log t i)) (λ t n i. h t (left_loser log t n i)) log

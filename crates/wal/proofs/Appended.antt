@@ -1,4 +1,4 @@
--- What a tail is made of, and what its records take over from the log.
+-- What a tail is made of, and what its records take from the log.
 use Rattle.std.proofs.Common.{ℕ, suc, zero, ◌≡◌, ◌+◌, ◌^◌, ◌<◌, ◌≤◌, true, cond, List, [], ◌∷◌, ◌++◌, length, take, Some, sym, subst, inl, inr, arith, eqb-true, eqb}
 use Rattle.std.specs.Prelude.{All, ⊤}
 use Rattle.std.specs.List.{AllByRecursion}
@@ -32,17 +32,17 @@ records_for_rollback P last lsn (a ∷ actions) h = (by_action a h.0, records_fo
     by_action (Finish t) p = p
     by_action (Undo u) p = p
 
--- the tail has CLRs and ends of losers alone
+-- the tail has only CLRs and ends, of losers
 pub tail_rollback : (P : ℕ → Type 0) (log : History) → ((t : ℕ) → is_loser t log ≡ true → P t) → AllByRecursion (IsRollback P) (tail log)
 tail_rollback P log h = records_for_rollback P (λ t. last_of t log) (suc (last_lsn log)) (left_to_do log) (left_is_of_losers P log h)
 
--- what is so of each is so of each in front
+-- what holds for each record holds for each one in front
 each_taken : (P : LogRecord → Type 0) (k : ℕ) (xs : List LogRecord) → AllByRecursion P xs → AllByRecursion P (take k xs)
 each_taken P zero xs h = tt
 each_taken P (suc k) [] h = tt
 each_taken P (suc k) (x ∷ xs) h = (h.0, each_taken P k xs h.1)
 
--- WHAT EACH RECORD TAKES OVER
+-- WHAT EACH RECORD TAKES FROM THE LOG
 pub each_more : (P : LogRecord → Type 0) (log : History) (r : LogRecord) → EachRecord P log → P r → EachRecord P (log ▸ r)
 each_more P log r h own n x f =
     elim (cases_Bool (eqb n (suc (last_lsn log)))) [
@@ -50,7 +50,7 @@ each_more P log r h own n x f =
       | inr e ↦ h n x (rw e at f)
     ]
 
--- what each CLR and end has of the records before it, those of a lawful log's tail have
+-- a property that each CLR and end has after the records before it holds for those of a lawful log's tail
 module _ (base : BasePages) (P : LogRecord → Type 0) (Q : ℕ → Type 0) (bound : ℕ) (next : (log : History) (r : LogRecord) → last_lsn log < bound → Obeys base log r → EachRecord P log → IsRollback Q r → P r) where
   taken_over : (log : History) (rs : List LogRecord) → last_lsn log + length rs ≤ bound → IsLawful base (log ▸▸ rs) → EachRecord P log → AllByRecursion (IsRollback Q) rs → AllByRecursion P rs
   taken_over log [] le h p q = tt
@@ -64,7 +64,7 @@ module _ (base : BasePages) (P : LogRecord → Type 0) (Q : ℕ → Type 0) (bou
       taken_over (history log) (take k (tail_of log)) le (cut_of base (history log) k h).lawful p
       (each_taken (IsRollback Q) k (tail_of log) (tail_rollback Q (history log) q))
 
--- so it is of each record of the log and these
+-- so it holds for each record of the log and these
 pub each_after : (P : LogRecord → Type 0) (log : History) (rs : List LogRecord) → EachRecord P log → AllByRecursion P rs → EachRecord P (log ▸▸ rs)
 each_after P log [] p h = p
 each_after P log (r ∷ rs) p h = each_after P (log ▸ r) rs (each_more P log r p h.0) h.1
@@ -75,23 +75,23 @@ names_next base count log (Compensation c) o p q = (let k = o.compensation in su
 names_next base count log (End s) o p q = tt
 names_next base count log r o p q = absurd q
 
--- a beginning of the tail names pages of the log
+-- a prefix of the tail names pages of the log
 pub tail_names : (base : BasePages) (count : ℕ) (log : LogContent) (k : ℕ) → IsLawful base (history log) → EachRecord (NamesPages count) (history log) → EachRecord (NamesPages count) (history log ▸▸ take k (tail_of log))
 tail_names base count log k h p =
     each_after (NamesPages count) (history log) (take k (tail_of log)) p
     (tail_has base (NamesPages count) (λ _. ⊤) (last_lsn (history log) + length (take k (tail_of log))) (λ log r _ o each q. names_next base count log r o each q) log k (omega arith) h (λ t l. tt) p)
 
--- SPELLINGS
+-- ENCODINGS
 abbrev FitsTx : ℕ → Type 0
 FitsTx t = (0 < t) × (t < 2 ^ 32)
 
--- a record that has a spelling is of a transaction whose number has one
+-- a record that has an encoding is of a transaction whose number has one
 tx_fits : (t : ℕ) (r : LogRecord) → Fits r → is_of t r ≡ true → FitsTx t
 tx_fits t CheckpointBegin f e = absurd (false≢true e)
 tx_fits t (CheckpointEnd begin transactions dirty) f e = absurd (false≢true e)
 tx_fits t r f e = (omega (arith, f.some_tx, eqb-true (tx_of r) t e), omega (arith, f.tx, eqb-true (tx_of r) t e))
 
--- so is each transaction of which the log has a record
+-- so has each transaction of which the log has a record
 transaction_fits : (t : ℕ) (log : History) → EachRecord Fits log → has (is_of t) log ≡ true → FitsTx t
 transaction_fits t (start _) p h = absurd (false≢true h)
 transaction_fits t (log ▸ r) p h =
@@ -122,7 +122,7 @@ fits_next base log (Compensation c) few o p q =
 fits_next base log (End s) few o p q = record { some_tx = q.0; tx = q.1; prev = omega (arith, few, o.chain, last_of_within s.tx log) }
 fits_next base log r few o p q = absurd q
 
--- where the records have spellings, and no LSN is too large, those of a beginning of the tail have too
+-- if the records have encodings, and no LSN is too large, those of a prefix of the tail have encodings too
 pub tail_fits : (base : BasePages) (log : LogContent) (k : ℕ) → last_lsn (history log) + length (take k (tail_of log)) < 2 ^ 64 → IsLawful base (history log) → AllByRecursion Fits log.records
     → AllByRecursion Fits (log ⧺ take k (tail_of log)).records
 tail_fits base log k few h fits =

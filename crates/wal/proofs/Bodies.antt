@@ -16,7 +16,7 @@ use Rattle.page.specs.Image.{FitsSlot}
 abbrev pub Read : ℕ → List ℕ → LogRecord × List ℕ → Type 0
 Read kind bytes x = Takes bytes (fields x.0) x.1 × Fits x.0 × (kind ≡ kind_of x.0)
 
--- a record of just a transaction and its previous record
+-- a record that holds only its transaction and the previous record
 plain_takes : (kind : ℕ) (make : PlainRecord → LogRecord) (bytes : List ℕ) (x : LogRecord × List ℕ)
     → ((own : PlainRecord) (rest : List ℕ) → Takes bytes (plain own) rest → FitsPlain own → Read kind bytes (make own, rest))
     → AreBytes bytes → (plain_at bytes >>= λ own. Some (make own.0, own.1)) ≡ Some x → Read kind bytes x

@@ -1,4 +1,4 @@
--- A text that is no log is refused for one cause, and a log for none.
+-- Bytes that are not a log have one error, and the bytes of a log have none.
 use Rattle.std.proofs.Common.{◌≡◌, ◌≢◌, ◌⊎◌, ℕ, ◌+◌, ◌^◌, ◌<◌, List, [], ◌∷◌, ◌++◌, length, drop, Some, None, Option, refl, sym, ap, subst, ◌∙◌, append_assoc, arith, inl, inr}
 use Rattle.std.specs.List.{AllByRecursion}
 use Rattle.std.proofs.lemmas.List.{length-append}
@@ -17,7 +17,7 @@ use Rattle.wal.proofs.Headers.{header_dropped, one_start}
 use Rattle.wal.proofs.Whole.{ok_is, body_size, right_body, frame_length, frame_rest, frame_next, torn_none}
 
 -- IN FRONT
--- no fault where a right frame stands
+-- no fault if a right frame is there
 right_frame : (r : LogRecord) (lsn offset : ℕ) (rest : List ℕ) (e : Fault) → Fits r → lsn < 2 ^ 64 → HasFault e lsn offset (frame r lsn ++ rest) → ⊥
 right_frame r lsn offset rest (BadLength place) fits lt h =
     let size = body_size r lsn fits in
@@ -57,8 +57,8 @@ one_in_front lsn offset bytes (BadLsn a) (BadLsn b) x y = ap (λ n. BadLsn n) (x
 one_in_front lsn offset bytes (BadLsn a) _ x y = absurd y
 one_in_front lsn offset bytes _ e x y = absurd x
 
--- BEHIND WHOLE FRAMES
--- two right frames in front are one, and so is what stands behind
+-- AFTER WHOLE FRAMES
+-- two right frames at the front are the same, and so is what follows them
 record AreSameFrames (r s : LogRecord) (rest other : List ℕ) : Type 0 where
   pub records : r ≡ s
   pub behind : rest ≡ other
@@ -76,7 +76,7 @@ same_frames r s lsn rest other fits other_fits lt e =
           ∙ frame_rest s lsn other;
     }
 
--- a fault's text with its first frame off
+-- the fault follows these records
 abbrev Behind : ℕ → ℕ → List LogRecord → List ℕ → Fault → Type 0
 Behind lsn offset records rest e = HasFault e (lsn + length records) (offset + length (spellings lsn records)) rest
 
@@ -133,7 +133,7 @@ none_behind lsn offset (r ∷ xs) (s ∷ ys) tail rest e fit also small torn tex
     (sym (append_assoc (frame r lsn) (spellings (lsn + 1) xs) tail) ∙ text ∙ append_assoc (frame s lsn) (spellings (lsn + 1) ys) rest) in
     none_behind (lsn + 1) (offset + length (frame s lsn)) xs ys tail rest e fit.1 also.1 (omega (arith, small)) torn same.behind (one_more lsn offset s ys rest e y)
 
--- THE TEXT
+-- THE BYTES
 abbrev NoHeader : List ℕ → Type 0
 NoHeader bytes = (begins : LogStart) (rest : List ℕ) → FitsStart begins → bytes ≢ header_of begins ++ rest
 
@@ -142,7 +142,7 @@ either bytes NoResource some h = absurd (some refl)
 either bytes BadLogHeader some h = inl (refl, h)
 either bytes e some h = inr h
 
--- behind one header there is one fault
+-- after the same header there is one fault
 one_fault_behind : (bytes : List ℕ) (d e : Fault) (a : HasFaultBehind bytes d) (b : HasFaultBehind bytes e) → a.begins ≡ b.begins → d ≡ e
 one_fault_behind bytes d e a b same =
     let p = a.behind in

@@ -20,7 +20,7 @@ first_end_after m log [] x e = e
 first_end_after m log (CheckpointEnd begin ts d ∷ rs) x e = first_end_after m (log ▸ CheckpointEnd begin ts d) rs x (rw e refl)
 first_end_after m log (r ∷ rs) x e = first_end_after m (log ▸ r) rs x e
 
--- the end that is found in the records up to an LSN is that of the whole log
+-- the end that is found in the records up to an LSN is the one found in the whole log
 first_end_before : (m lsn : ℕ) (log : History) (x : List TableEntry × List (ℕ × ℕ)) → first_end m (first lsn log) ≡ Some x → first_end m log ≡ Some x
 first_end_before m lsn (start _) x e = e
 first_end_before m lsn (log ▸ r) x e =
@@ -38,7 +38,7 @@ first_end_met log m lsn begin ts d from lt le own none next =
     let here : first_end m (first (lsn + 1) log) ≡ Some (ts, d) = ap (first_end m) next ∙ (rw (none, named, behind) refl) in
     sym (first_end_before m (lsn + 1) log (ts, d) here)
 
--- THE CHECKPOINT: a begin, and the first end that names it
+-- THE CHECKPOINT: a begin record, and the first end that names it
 abbrev Both : Type 0
 Both = List TableEntry × List (ℕ × ℕ)
 
@@ -54,7 +54,7 @@ chosen false o x e = absurd cc
 pub checkpoint_begins : (m : ℕ) (log : History) (x : Both) → checkpoint_at m log ≡ Some x → record_at log m ≡ Some CheckpointBegin
 checkpoint_begins m log x e = begin_is (record_at log m) (chosen (is_begin (record_at log m)) (first_end m log) x e).0
 
--- a begin is a record of the log
+-- a begin record is a record of the log
 pub begin_above : (m : ℕ) (log : History) → is_begin (record_at log m) ≡ true → base_lsn log ≤ m
 begin_above m log h = omega (arith, record_above log m CheckpointBegin (begin_is (record_at log m) h))
 

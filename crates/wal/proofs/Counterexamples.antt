@@ -1,4 +1,4 @@
--- What each law of records is for: a log that keeps the others alone, and fails.
+-- What each law of records is for: a log that keeps only the others, and fails.
 use Rattle.std.proofs.Common.{ℕ, ◌≡◌, ◌≢◌, ◌&&◌, ◌||◌, true, false, List, [], ◌∷◌, Option, Some, None, inl, inr, refl, sym, ◌∙◌, ap, eqb, ne_eqb, length, arith, get_or}
 use Rattle.std.proofs.lemmas.Bool.{false≢true, or_from, and_right}
 use Rattle.wal.specs.Records.{LogRecord, CheckpointBegin, CheckpointEnd, History, start, ◌▸◌, LogContent, history}
@@ -35,7 +35,7 @@ abbrev KeepsBut : Law → History → Type 0
 KeepsBut law (start _) = Unit {0}
 KeepsBut law (log ▸ r) = KeepsBut law log × ((other : Law) → other ≢ law → says other log r)
 
--- without this law, the log and its tail leave in the first cell something else than the winners do
+-- without this law, the log and its tail leave in the first cell something other than the winners do
 record Fails (law : Law) (log : LogContent) : Type 0 where
   others : KeepsBut law (history log)
   differs : replay no_base (history (with_tail log)) 0 0 ≢ winners no_base (history log) 0 0
@@ -52,7 +52,7 @@ keeps law log r o TheStrictness n = o.strict
 first_update : Obeys no_base (start 0) (U 1 0 0 None a)
 first_update = record { chain = refl; finish = (refl, refl, refl); compensation = tt; before = refl; strict = λ other n w. absurd (false≢true w) }
 
--- none of another transaction is in a cell that only this one could have touched
+-- no record of another transaction is in a cell that only this one could have touched
 nobody : (other : ℕ) → ((eqb 1 other && false) || false) ≡ true → ⊥
 nobody other w = false≢true (sym (or_from (eqb 1 other && false) false (and_right (eqb 1 other) false refl) refl) ∙ w)
 
@@ -84,7 +84,7 @@ unstrict_out = refl
 unstrict_page : PageLaw no_base (history (with_tail unstrict)) (holding 4 b) → ⊥
 unstrict_page law = (let f : b ≡ None = ap (λ slots. get_or slots 0 None) law.slots_are in cc)
 
--- COMPENSATION. An end with an update left: nothing undoes it any more.
+-- COMPENSATION. An end although an update is left: nothing will undo it.
 without_compensation_of_ends : Fails TheCompensation (L (U 1 0 0 None a ∷ E 1 1 ∷ []))
 without_compensation_of_ends = record { others = ((tt, keeps TheCompensation (start 0) (U 1 0 0 None a) first_update), second); differs = λ e. (let f : a ≡ None = e in cc) }
   where
@@ -95,7 +95,7 @@ without_compensation_of_ends = record { others = ((tt, keeps TheCompensation (st
     second TheBefore n = tt
     second TheStrictness n = tt
 
--- A CLR that puts another value there than was before.
+-- A CLR that puts back another value than the one before.
 without_compensation : Fails TheCompensation (L (U 1 0 0 None a ∷ C 1 1 0 0 b ∷ []))
 without_compensation = record { others = ((tt, keeps TheCompensation (start 0) (U 1 0 0 None a) first_update), second); differs = λ e. (let f : b ≡ None = e in cc) }
   where
@@ -106,7 +106,7 @@ without_compensation = record { others = ((tt, keeps TheCompensation (start 0) (
     second TheBefore n = tt
     second TheStrictness n = tt
 
--- BEFORE. A before image that was never there is what undoing leaves.
+-- BEFORE. Undo leaves a before image that was never in the cell.
 without_before : Fails TheBefore (L (U 1 0 0 b a ∷ []))
 without_before = record { others = (tt, only); differs = λ e. (let f : b ≡ None = e in cc) }
   where
@@ -117,7 +117,7 @@ without_before = record { others = (tt, only); differs = λ e. (let f : b ≡ No
     only TheBefore n = absurd (n refl)
     only TheStrictness n = λ other d w. absurd (false≢true w)
 
--- FINISH. An update behind its transaction's end is no loser's, and no winner's.
+-- FINISH. An update after the end of its transaction is neither a loser's nor a winner's.
 without_finish : Fails TheFinish (L (E 1 0 ∷ U 1 1 0 None a ∷ []))
 without_finish = record { others = ((tt, first), second); differs = λ e. (let f : a ≡ None = e in cc) }
   where
@@ -135,7 +135,7 @@ without_finish = record { others = ((tt, first), second); differs = λ e. (let f
     second TheBefore n = refl
     second TheStrictness n = λ other d w. absurd (nobody other w)
 
--- CHAIN. What the winners leave does not hang on it, but the hops do: one that passes over an update.
+-- CHAIN. What the winners leave does not depend on it, but the hops do: here one passes over an update.
 abbrev unchained : LogContent
 unchained = L (U 1 0 0 None a ∷ U 1 0 1 None b ∷ [])
 
@@ -152,7 +152,7 @@ unchained_others = ((tt, keeps TheChain (start 0) (U 1 0 0 None a) first_update)
 without_chain : hops 1 (history unchained) (undo_next_of 1 (history unchained)) ≢ record { met = pending 1 (history unchained); ends = 0 }
 without_chain e = (let f : ◌≡◌ {A = ℕ} 1 2 = ap (λ w. length w.met) e in omega (arith, f))
 
--- PREPARE. Of its transaction nothing stands behind a prepare but a commit or an abort
+-- PREPARE. Only a commit or an abort of its transaction follows a prepare
 no_update_behind : FinishLaw (history prepared) (U 1 2 0 a b) → ⊥
 no_update_behind law = false≢true (sym law.2)
 
@@ -165,7 +165,7 @@ no_end_behind law = false≢true (sym law.1)
 no_second_prepare : FinishLaw (history prepared) (P 1 2) → ⊥
 no_second_prepare law = false≢true (sym law.2)
 
--- and it stands itself behind no abort, commit or end
+-- and a prepare does not follow an abort, a commit or an end
 no_prepare_behind_abort : FinishLaw (history (L (U 1 0 0 None a ∷ A 1 1 ∷ []))) (P 1 2) → ⊥
 no_prepare_behind_abort law = false≢true (sym law.1)
 
@@ -175,7 +175,7 @@ no_prepare_behind_commit law = false≢true (sym law.0)
 no_prepare_behind_end : FinishLaw (history (L (A 1 0 ∷ E 1 1 ∷ []))) (P 1 2) → ⊥
 no_prepare_behind_end law = false≢true (sym law.0)
 
--- from an update behind one a hop would come to the prepare, and be bad, once the transaction is aborted
+-- from an update after a prepare a hop would come to the prepare, and be bad, once the transaction is aborted
 abbrev worked_on : LogContent
 worked_on = L (U 1 0 0 None a ∷ P 1 1 ∷ U 1 2 0 a b ∷ A 1 3 ∷ [])
 
@@ -212,11 +212,11 @@ worked_on_others = ((((tt, keeps TheFinish (start 0) (U 1 0 0 None a) first_upda
 worked_on_hops : hops 1 (history worked_on) (undo_next_of 1 (history worked_on)) ≢ record { met = pending 1 (history worked_on); ends = 0 }
 worked_on_hops e = (let f : ◌≡◌ {A = ℕ} 2 0 = ap (λ w. w.ends) e in omega (arith, f))
 
--- STRICTNESS holds of one in doubt too: a prepare doesn't free its cells.
+-- STRICTNESS holds for a transaction in doubt too: a prepare does not free its cells.
 no_write_over_prepared : Strictness (history prepared) (U 2 0 0 a c) → ⊥
 no_write_over_prepared law = false≢true (law 1 (λ e. omega (arith, e)) refl)
 
--- Aborted later, it would take away what another committed there.
+-- If it were aborted later, it would take away what another transaction committed there.
 without_strictness_of_prepared : Fails TheStrictness (L (U 1 0 0 None a ∷ P 1 1 ∷ U 2 0 0 a c ∷ K 2 3 ∷ A 1 2 ∷ []))
 without_strictness_of_prepared = record {
   others = (((((tt, keeps TheStrictness (start 0) (U 1 0 0 None a) first_update), second), third), fourth), fifth);
@@ -251,7 +251,7 @@ without_strictness_of_prepared = record {
     fifth TheBefore n = tt
     fifth TheStrictness n = tt
 
--- CHECKPOINT. A table that has one in doubt as active isn't true: undo would roll it back.
+-- CHECKPOINT. A table that has a transaction in doubt as active is not true: undo would roll it back.
 prepared_as_active : active 1 2 1 ∷ [] ≢ true_table (history prepared)
 prepared_as_active e = (let f : ◌≡◌ {A = List ℕ} [] (1 ∷ []) = ap doubtful_in e in cc)
 
@@ -262,7 +262,7 @@ prepared_as_active_undone = refl
 redo_left_out : redo_of None 1 (history (L (U 1 0 0 None a ∷ []))) (holding 0 None) ≢ replayed_page no_base (history (L (U 1 0 0 None a ∷ []))) 0
 redo_left_out e = (let f : ◌≡◌ {A = ℕ} 0 1 = ap (λ page. page.lsn) e in omega (arith, f))
 
--- INTERRUPTED. A page that is set back behind a checkpoint, whose dirty page table left it out, lacks a record that nobody names.
+-- INTERRUPTED. A page that is set back past a checkpoint whose dirty page table leaves it out lacks a record that nothing names.
 set_back : DirtyLaw (history (L (U 1 0 0 None a ∷ CheckpointBegin ∷ CheckpointEnd 2 (active 1 1 1 ∷ []) [] ∷ []))) 2 0 0 None → ⊥
 set_back law =
     elim (law.covers 1 (U 1 0 0 None a) (omega arith) refl refl) [

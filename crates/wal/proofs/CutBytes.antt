@@ -1,4 +1,4 @@
--- A log file that was cut within a tail: its whole records are a beginning of the log and its tail.
+-- A log file that was cut within a tail: its whole records are a prefix of the log and its tail.
 use Rattle.std.proofs.Common.{◌≡◌, ℕ, ◌+◌, ◌^◌, ◌<◌, ◌≤◌, ◌-◌, List, [], ◌∷◌, ◌++◌, length, take, Option, Some, None, Result, Ok, refl, sym, ap, ap₂, subst, ◌∙◌, append_assoc, length-append, arith}
 use Rattle.std.specs.Prelude.{All}
 use Rattle.std.specs.List.{AllByRecursion}
@@ -23,11 +23,11 @@ use Rattle.wal.proofs.Whole.{frame_next, torn_none}
 use Rattle.wal.proofs.Appended.{tail_fits}
 use Rattle.wal.proofs.Settled.{restart_goes_on}
 
--- what is read in front
+-- what is read at the front
 abbrev Front : Type 0
 Front = Result (Option (LogRecord × ℕ)) Fault
 
--- two readings of one front have one record
+-- two readings of the same front have the same record
 same_record : (x y : LogRecord) (m n : ℕ) → ◌≡◌ {A = Front} (Ok (Some (x, m))) (Ok (Some (y, n))) → x ≡ y
 same_record x y m n e = (let p : ◌≡◌ {A = LogRecord × ℕ} (x, m) (y, n) = cc in ap (λ z. z.0) p)
 
@@ -35,13 +35,13 @@ same_record x y m n e = (let p : ◌≡◌ {A = LogRecord × ℕ} (x, m) (y, n) 
 never_torn : (x : LogRecord) (m : ℕ) → ◌≡◌ {A = Front} (Ok (Some (x, m))) (Ok None) → ⊥
 never_torn x m e = cc
 
--- the first frames of one text are one
+-- the first frames of the same bytes are the same
 first_same : (x y : LogRecord) (lsn : ℕ) (a b : List ℕ) → Fits x → Fits y → lsn < 2 ^ 64 → frame x lsn ++ a ≡ frame y lsn ++ b → (x ≡ y) × (a ≡ b)
 first_same x y lsn a b fits_x fits_y lt e =
     let same : x ≡ y = same_record x y (4 + length (body x lsn)) (4 + length (body y lsn)) (sym (frame_next x lsn 0 a fits_x lt) ∙ ap (next_at lsn 0) e ∙ frame_next y lsn 0 b fits_y lt) in
     (same, append_cancel_left (frame y lsn) a b (sym (ap (λ z. frame z lsn ++ a) same) ∙ e))
 
--- records whose text goes on as the text of others are a beginning of these
+-- if the bytes of some records begin with the bytes of others, the others are a prefix of them
 beginning : (lsn : ℕ) (xs ys : List LogRecord) (rest : List ℕ) → AllByRecursion Fits (take (length ys) xs) → AllByRecursion Fits ys → lsn + length ys ≤ 2 ^ 64 → spellings lsn xs ≡ spellings lsn ys ++ rest → ys ≡ take (length ys) xs
 beginning lsn xs [] rest fits_x fits_y few e = refl
 beginning lsn [] (y ∷ ys) rest fits_x fits_y few e =
@@ -50,7 +50,7 @@ beginning lsn (x ∷ xs) (y ∷ ys) rest fits_x fits_y few e =
     let both = first_same x y lsn (spellings (lsn + 1) xs) (spellings (lsn + 1) ys ++ rest) fits_x.0 fits_y.0 (omega (arith, few)) (e ∙ append_assoc (frame y lsn) (spellings (lsn + 1) ys) rest) in
     ap₂ (λ (z : LogRecord) (zs : List LogRecord). z ∷ zs) (sym both.0) (beginning (lsn + 1) xs ys rest fits_x.1 fits_y.1 (omega (arith, few)) both.1)
 
--- a text that begins with these records has as many whole ones
+-- bytes that begin with these records have at least as many whole ones
 as_many : (lsn : ℕ) (xs ys : List LogRecord) (more torn : List ℕ) → AllByRecursion Fits xs → AllByRecursion Fits ys → lsn + length xs ≤ 2 ^ 64 → IsTorn torn
     → spellings lsn ys ++ torn ≡ spellings lsn xs ++ more → length xs ≤ length ys
 as_many lsn [] ys more torn fits_x fits_y few t e = omega arith
@@ -91,7 +91,7 @@ module _ (base : BasePages) (log : LogContent) (store : StoreContent) (bytes : L
   same_base : lsn_before c.whole.begins ≡ lsn_before log.begins
   same_base = ap lsn_before same_start
 
-  -- the cut's bytes, and then what is missing, spell the log and its tail
+  -- the cut's bytes, followed by what is missing, encode the log and its tail
   whole_first : spellings lsn (with_tail log).records ≡ spellings lsn c.whole.records ++ (c.reads.tail ++ c.missing)
   whole_first =
       append_cancel_left (header_of log.begins) (spellings lsn (with_tail log).records) (spellings lsn c.whole.records ++ (c.reads.tail ++ c.missing))
@@ -107,7 +107,7 @@ module _ (base : BasePages) (log : LogContent) (store : StoreContent) (bytes : L
   past : length log.records ≤ length c.whole.records
   past = as_many lsn log.records c.whole.records c.written c.reads.tail fits c.reads.each (omega (arith, few, size_of_log log)) c.reads.torn_tail log_first
 
-  -- the records up to the cut have spellings
+  -- the records up to the cut have encodings
   all_fit : AllByRecursion Fits (take (length c.whole.records) (with_tail log).records)
   all_fit =
       let k : ℕ = length c.whole.records - length log.records in
@@ -141,7 +141,7 @@ module _ (base : BasePages) (log : LogContent) (store : StoreContent) (bytes : L
   cut_goes_on numbered left_numbered =
       subst (λ l. GoesOn base log store l left) (sym whole_is) (restart_goes_on base log store (last_lsn (history c.whole)) left numbered h (cut_interrupted left_numbered))
 
-  -- the text of the cut's records goes on from that of the log's
+  -- the bytes of the cut's records continue those of the log
   text_goes_on : (rest : List ℕ) → log_text c.whole ++ rest ≡ log_text log ++ (spellings (lsn + length log.records) (take (length c.whole.records - length log.records) (tail_of log)) ++ rest)
   text_goes_on rest =
       let k : ℕ = length c.whole.records - length log.records in
@@ -168,7 +168,7 @@ module _ (base : BasePages) (log : LogContent) (store : StoreContent) (bytes : L
         not_older = λ i p lt. omega (arith, c.not_older i p lt, d.not_older i p (omega (arith, c.count, lt)));
       }
 
--- what the cut leaves goes on, its records being a beginning
+-- a restart continues from what the cut leaves, since its records are a prefix
 pub cuts_settle : CutsSettle
 cuts_settle base log store text torn bytes left read numbered left_numbered h c = cut_goes_on base log store bytes left h read.starts read.each read.few c numbered left_numbered
 

@@ -12,12 +12,12 @@ use Rattle.wal.proofs.Cuts.{tail_first, no_loser}
 use Rattle.wal.proofs.Actions.{AllFor, left_is_of_losers}
 
 -- NUMBERS THAT PASS A TEST
--- where none passes
+-- if none passes
 none_pass : (p : ℕ → Bool) (xs : List ℕ) → ((x : ℕ) → p x ≡ false) → filter p xs ≡ []
 none_pass p [] h = refl
 none_pass p (x ∷ xs) h = rw (h x) (none_pass p xs h)
 
--- where one of them no longer passes, they are one less
+-- if one of them no longer passes, there is one less
 one_less : (p q : ℕ → Bool) (n k t : ℕ) → ((x : ℕ) → x ≢ t → q x ≡ p x) → p t ≡ true → q t ≡ false → n ≤ t → t < n + k
     → length (filter p (numbers_from n k)) ≡ suc (length (filter q (numbers_from n k)))
 one_less p q n zero t h on off a b = absurd (omega arith)
@@ -35,7 +35,7 @@ one_less p q n (suc k) t h on off a b =
           ])
     ]
 
--- THE LOSERS, one record of the tail on
+-- THE LOSERS, after one more record of the tail
 losers_without : (log : History) (t : ℕ) → is_loser t log ≡ true → length (losers_of log) ≡ suc (length (losers_of (log ▸ next_record log (Finish t))))
 losers_without log t l =
     let after : History = log ▸ next_record log (Finish t) in

@@ -1,4 +1,4 @@
--- Transaction tables as lists: in rising number, one entry for each transaction.
+-- Transaction tables as lists: in ascending order of number, one entry for each transaction.
 use Rattle.std.proofs.Common.{ℕ, suc, zero, ◌≡◌, ◌<◌, ◌≤◌, Bool, true, false, cond, ◌||◌, List, [], ◌∷◌, map, Some, None, refl, sym, ap, ap₂, ◌∙◌, subst, inl, inr, arith, eq-eqb, ne_eqb, eqb, ltb}
 use Rattle.std.specs.Prelude.{filter, option_map, ⊤}
 use Rattle.std.specs.Ordering.{is_eq, nat_cmp}
@@ -59,12 +59,12 @@ abbrev pub AreDistinct : List ℕ → Type 0
 AreDistinct [] = ⊤
 AreDistinct (t ∷ ts) = (is_among t ts ≡ false) × AreDistinct ts
 
--- each is at least the bound, and they rise
+-- each number is at least the bound, and they ascend
 abbrev pub Rise : ℕ → List TableEntry → Type 0
 Rise b [] = ⊤
 Rise b (e ∷ es) = (b ≤ e.tx) × Rise (suc e.tx) es
 
--- those below are not there
+-- numbers below the bound are not there
 none_among : (b t : ℕ) (es : List TableEntry) → Rise b es → t < b → is_among t (map tx_in es) ≡ false
 none_among b t [] r h = refl
 none_among b t (e ∷ es) r h =
@@ -80,7 +80,7 @@ pub distinct : (b : ℕ) (es : List TableEntry) → Rise b es → AreDistinct (m
 distinct b [] r = tt
 distinct b (e ∷ es) r = (none_among (suc e.tx) e.tx es r.1 (omega arith), distinct (suc e.tx) es r.1)
 
--- the entries of a map rise
+-- the entries of a map ascend
 abbrev IsFrom : ℕ → List (ℕ × Entry) → Type 0
 IsFrom b [] = ⊤
 IsFrom b (e ∷ es) = b ≤ e.0
@@ -96,8 +96,8 @@ pub rise : (es : List (ℕ × Entry)) → IsStrictlySortedBy nat_cmp (keys_of es
 rise [] s = tt
 rise (e ∷ es) s = rise_from 0 (e ∷ es) s (omega arith)
 
--- TWO TABLES THAT RISE
--- with the same entry for each transaction are the same
+-- TWO TABLES IN ASCENDING ORDER
+-- that have the same entry for each transaction are the same
 pub same_table : (b : ℕ) (xs ys : List TableEntry) → Rise b xs → Rise b ys → ((t : ℕ) → entry_for t xs ≡ entry_for t ys) → xs ≡ ys
 same_table b [] [] r s h = refl
 same_table b [] (y ∷ ys) r s h =
@@ -125,7 +125,7 @@ same_table b (x ∷ xs) (y ∷ ys) r s h =
           ∙ ap (λ c. cond c (Some y) (entry_for t ys)) (ne_eqb y.tx t (λ i. d (sym i ∙ sym same_tx)))
     ]))
 
--- the true table rises
+-- the true table ascends
 rise_filtered : (log : History) (p : ℕ → Bool) (n k : ℕ) → Rise n (map (true_entry log) (filter p (numbers_from n k)))
 rise_filtered log p n zero = tt
 rise_filtered log p n (suc k) =

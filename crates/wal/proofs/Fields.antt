@@ -23,7 +23,7 @@ pub record Takes (bytes text rest : List ℕ) : Type 0 where
 pub Takes-then : (a x b y c : List ℕ) → Takes a x b → Takes b y c → Takes a (x ++ y) c
 Takes-then a x b y c p q = record { parts = p.parts ∙ ap (λ (t : List ℕ). x ++ t) q.parts ∙ sym (append_assoc x y c); rest_fits = q.rest_fits }
 
--- a reader and a spelling belong together
+-- a reader and an encoding belong together
 pub record IsField {X : Type 0} (at : List ℕ → Option (X × List ℕ)) (spell : X → List ℕ) (Fit : X → Type 0) : Type 0 where
   pub takes : (bytes : List ℕ) (x : X × List ℕ) → AreBytes bytes → at bytes ≡ Some x → Takes bytes (spell x.0) x.1 × Fit x.0
   pub again : (x : X) (rest : List ℕ) → Fit x → at (spell x ++ rest) ≡ Some (x, rest)

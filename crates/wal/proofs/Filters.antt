@@ -1,4 +1,4 @@
--- The lists that a restart goes by: the losers with nothing pending, and the pending updates.
+-- The lists that a restart works by: the losers with nothing pending, and the pending updates.
 use Rattle.std.proofs.Common.{ℕ, suc, zero, ◌≡◌, ◌≢◌, ◌+◌, ◌<◌, ◌≤◌, Bool, true, false, cond, List, [], ◌∷◌, Option, Some, None, refl, sym, ap, ap₂, ◌∙◌, subst, inl, inr, arith, eq-eqb, ne_eqb, eqb-true, eqb}
 use Rattle.std.specs.Prelude.{filter, ⊤}
 use Rattle.std.proofs.lemmas.Bool.{cond_both, cases_Bool, cases_eq, false≢true, or_cases, or_from, both_ways, false_from_ne_true}
@@ -15,7 +15,7 @@ numbers_same p q n (suc k) h =
     let rest : filter q (numbers_from (suc n) k) ≡ filter p (numbers_from (suc n) k) = numbers_same p q (suc n) k (λ t i. h t (omega arith)) in
     ap₂ (λ b xs. cond b (n ∷ xs) xs) (h n (omega arith)) rest
 
--- the first that passes, passes and is not below the start
+-- the first number that passes is not below the start
 pub first_number : (p : ℕ → Bool) (n k t : ℕ) (ts : List ℕ) → filter p (numbers_from n k) ≡ t ∷ ts → (n ≤ t) × (p t ≡ true)
 first_number p n zero t ts e = absurd (cc)
 first_number p n (suc k) t ts e =
@@ -27,7 +27,7 @@ first_number p n (suc k) t ts e =
       | inr i ↦ (let r = first_number p (suc n) k t ts (rw i at e) in (omega (arith, r.0), r.1))
     ]
 
--- where the first no longer passes, the others are left
+-- if the first no longer passes, the others are left
 pub first_number_gone : (p q : ℕ → Bool) (n k t : ℕ) (ts : List ℕ) → filter p (numbers_from n k) ≡ t ∷ ts → ((x : ℕ) → x ≢ t → q x ≡ p x) → q t ≡ false → filter q (numbers_from n k) ≡ ts
 first_number_gone p q n zero t ts e h g = absurd (cc)
 first_number_gone p q n (suc k) t ts e h g =
@@ -45,7 +45,7 @@ first_number_gone p q n (suc k) t ts e h g =
           rw m (first_number_gone p q (suc n) k t ts e' h g))
     ]
 
--- where none passes
+-- if none passes
 pub no_number : (p : ℕ → Bool) (n k t : ℕ) → filter p (numbers_from n k) ≡ [] → n ≤ t → t < n + k → p t ≡ false
 no_number p n zero t e a b = absurd (omega arith)
 no_number p n (suc k) t e a b =
@@ -58,7 +58,7 @@ no_number p n (suc k) t e a b =
           ]
     ]
 
--- where none passes, and then perhaps one does
+-- if none passes before, and then perhaps one does
 pub one_number : (p q : ℕ → Bool) (n k t : ℕ) → filter p (numbers_from n k) ≡ [] → ((x : ℕ) → x ≢ t → q x ≡ p x) → n ≤ t → t < n + k → filter q (numbers_from n k) ≡ cond (q t) (t ∷ []) []
 one_number p q n zero t e h a b = absurd (omega arith)
 one_number p q n (suc k) t e h a b =
@@ -93,7 +93,7 @@ tx_below t (log ▸ r) e =
       | inr i ↦ omega (arith, tx_below t log i)
     ]
 
--- one record more of a transaction of the log leaves the bound
+-- one more record of a transaction of the log does not change the bound
 pub above_all_same : (log : History) (r : LogRecord) → has (is_of (tx_of r)) log ≡ true → above_all (log ▸ r) ≡ above_all log
 above_all_same log r h = omega (arith, tx_below (tx_of r) log h)
 
@@ -102,7 +102,7 @@ pub lowest_below : (n m : ℕ) (ms : List ℕ) → n ≢ m → is_lowest n (m �
 lowest_below n m [] h = ne_eqb n m h
 lowest_below n m (k ∷ ms) h = refl
 
--- what is above all is not the lowest, unless it is alone
+-- a number that is above all others is not the lowest, unless it is the only one
 pub not_lowest : (n : ℕ) (ms : List ℕ) → Falls n ms → is_lowest n ms ≡ false
 not_lowest n [] f = refl
 not_lowest n (m ∷ []) f = ne_eqb n m (λ e. omega (arith, f.0))
@@ -112,7 +112,7 @@ pub lowest_on_top : (n : ℕ) (ms : List ℕ) → Falls n ms → is_lowest n (n 
 lowest_on_top n [] f = eq-eqb n n refl
 lowest_on_top n (m ∷ ms) f = not_lowest n (m ∷ ms) f
 
--- what is above all is not among them
+-- a number that is above all is not among them
 pub not_among : (n : ℕ) (ms : List ℕ) → Falls n ms → is_among n ms ≡ false
 not_among n [] f = refl
 not_among n (m ∷ ms) f = or_from (eqb n m) (is_among n ms) (ne_eqb n m (λ e. omega (arith, f.0))) (lower n m ms (omega (arith, f.0)) f.1)
@@ -122,7 +122,7 @@ not_among n (m ∷ ms) f = or_from (eqb n m) (is_among n ms) (ne_eqb n m (λ e. 
     lower n m (k ∷ ms) h g = or_from (eqb n k) (is_among n ms) (ne_eqb n k (λ e. omega (arith, g.0))) (lower n k ms (omega (arith, g.0)) g.1)
 
 -- UPDATES THAT PASS A TEST
--- each of the list is so
+-- each of the list has the property
 abbrev pub Each : (ℕ → UpdateRecord → Type 0) → List (ℕ × UpdateRecord) → Type 0
 Each P [] = ⊤
 Each P (x ∷ xs) = P x.0 x.1 × Each P xs
@@ -131,7 +131,7 @@ pub Each-more : (P Q : ℕ → UpdateRecord → Type 0) (xs : List (ℕ × Updat
 Each-more P Q [] h e = tt
 Each-more P Q (x ∷ xs) h e = (h x.0 x.1 e.0, Each-more P Q xs h e.1)
 
--- their LSNs are of the log
+-- their LSNs are in the log
 pub updates_within : (p : ℕ → UpdateRecord → Bool) (log : History) → Each (λ n u. n ≤ last_lsn log) (updates_where p log)
 updates_within p (start _) = tt
 updates_within p (log ▸ Update u) =
@@ -139,7 +139,7 @@ updates_within p (log ▸ Update u) =
     cond_both (p (suc (last_lsn log)) u) ((suc (last_lsn log), u) ∷ updates_where p log) (updates_where p log) (λ xs. Each (λ n u. n ≤ suc (last_lsn log)) xs) (λ _. (omega arith, older)) (λ _. older)
 updates_within p (log ▸ _) = Each-more (λ n u. n ≤ last_lsn log) (λ n u. n ≤ suc (last_lsn log)) (updates_where p log) (λ n u h. omega arith) (updates_within p log)
 
--- what is known where one of them is the first
+-- what is known if one of them is the first
 pub record Leading (p : ℕ → UpdateRecord → Bool) (log : History) (x : ℕ × UpdateRecord) (xs : List (ℕ × UpdateRecord)) : Type 0 where
   pub found : record_at log x.0 ≡ Some (Update x.1)
   pub passes : p x.0 x.1 ≡ true
@@ -185,14 +185,14 @@ leading p (log ▸ Update u) x xs e =
     ]
 leading p (log ▸ r) x xs e = Leading-more p log r x xs (λ w f. absurd (cc)) (leading p log x xs e)
 
--- where two tests agree they choose the same
+-- two tests that agree choose the same
 pub updates_same : (p q : ℕ → UpdateRecord → Bool) (log : History) → ((m : ℕ) (w : UpdateRecord) → m ≤ last_lsn log → q m w ≡ p m w) → updates_where q log ≡ updates_where p log
 updates_same p q (start _) h = refl
 updates_same p q (log ▸ Update u) h =
     ap₂ (λ b xs. cond b ((suc (last_lsn log), u) ∷ xs) xs) (h (suc (last_lsn log)) u (omega arith)) (updates_same p q log (λ m w o. h m w (omega arith)))
 updates_same p q (log ▸ _) h = updates_same p q log (λ m w o. h m w (omega arith))
 
--- where the first no longer passes, the others are left
+-- if the first no longer passes, the others are left
 pub first_update_gone : (p q : ℕ → UpdateRecord → Bool) (log : History) (x : ℕ × UpdateRecord) (xs : List (ℕ × UpdateRecord)) → updates_where p log ≡ x ∷ xs
     → ((m : ℕ) (w : UpdateRecord) → m ≢ x.0 → q m w ≡ p m w) → q x.0 x.1 ≡ false → updates_where q log ≡ xs
 first_update_gone p q (start _) x xs e h g = absurd (cc)
@@ -214,7 +214,7 @@ first_update_gone p q (log ▸ Update u) x xs e h g =
 first_update_gone p q (log ▸ Compensation _) x xs e h g = first_update_gone p q log x xs e h g
 first_update_gone p q (log ▸ _) x xs e h g = first_update_gone p q log x xs e h g
 
--- where no update passes
+-- if no update passes
 pub no_update : (p : ℕ → UpdateRecord → Bool) (log : History) (m : ℕ) (w : UpdateRecord) → updates_where p log ≡ [] → record_at log m ≡ Some (Update w) → p m w ≡ false
 no_update p (start _) m w e f = absurd (cc)
 no_update p (log ▸ r) m w e f =

@@ -1,4 +1,4 @@
--- What the first bytes of a log say, whatever comes behind them.
+-- What the first bytes of a log determine, whatever follows them.
 use Rattle.std.proofs.Common.{◌≡◌, ◌≢◌, ◌⊎◌, ℕ, ◌+◌, ◌<◌, ◌≤◌, ◌^◌, List, [], ◌∷◌, ◌++◌, length, take, drop, map, Some, None, Ok, Err, refl, sym, ap, subst, ◌∙◌, append_assoc, arith, inl, inr, length-append}
 use Rattle.std.specs.Int.{w32, from_be_bytes}
 use Rattle.std.proofs.lemmas.List.{drop-append-le, length-drop, length-map, take-append-drop, take-append-le, take_at}
@@ -43,7 +43,7 @@ fault_stays (BadLsn place) lsn offset bytes more (at, whole, r, n, fits, lt, sam
     (at, whole_stays bytes more whole, r, n, fits, lt, body_stays bytes more whole ∙ same, wrong)
 fault_stays e lsn offset bytes more h = absurd h
 
--- that there is no header, where there are bytes enough for one
+-- that there is no header, if there are bytes enough for one
 pub no_header : (bytes more : List ℕ) → 16 ≤ length bytes → start_at bytes ≡ None → (begins : LogStart) (rest : List ℕ) → FitsStart begins → bytes ++ more ≢ header_of begins ++ rest
 no_header bytes more long none begins rest fits text =
     let n = header_bytes begins in
@@ -57,7 +57,7 @@ no_header bytes more long none begins rest fits text =
     at_most Version1 = omega arith
     at_most (Version2 base) = omega arith
 
--- a fault behind the first frames is the log's
+-- a fault after the first frames is the log's
 pub first_fault : (begins : LogStart) (bytes more : List ℕ) (s : Stretch) (e : Fault) → AreBytes bytes → length bytes < 2 ^ 63 → AreFirst begins bytes s → next_at (s.lsn + length s.offsets) s.end (drop s.end bytes) ≡ Err e
     → HasFaultBehind (bytes ++ more) e
 first_fault begins bytes more s e fits short one wrong =

@@ -37,7 +37,7 @@ compensation_seen bytes x e =
     let is = same_Some _ x f.2 in
     rw (a.1, b.1, c.1, d.1) (ap (λ (y : LogRecord × List ℕ). Some (glance_of y.0)) is)
 
--- a record of just a transaction and its previous record
+-- a record that holds only its transaction and the previous record
 plain_seen : (make : PlainRecord → LogRecord) (see : ℕ → Glance) (bytes : List ℕ) (x : LogRecord × List ℕ) → ((own : PlainRecord) → see own.tx ≡ glance_of (make own))
     → (plain_at bytes >>= λ own. Some (make own.0, own.1)) ≡ Some x → (plain_at bytes >>= λ own. Some (see own.0.tx)) ≡ Some (glance_of x.0)
 plain_seen make see bytes x seen e =

@@ -1,4 +1,4 @@
--- The header that is read is the header that stands there, and what was written is read again.
+-- The header that is read is the header that is there, and what was written is read again.
 use Rattle.std.proofs.Common.{◌≡◌, ◌≢◌, ℕ, ◌+◌, ◌^◌, ◌<◌, ◌≤◌, true, false, cond, ltb, eqb, List, ◌++◌, length, drop, Option, Some, None, refl, sym, ap, subst, ◌∙◌, append_assoc, arith, inl, inr}
 use Rattle.std.specs.List.{starts_with}
 use Rattle.std.specs.Int.{w64, to_be_bytes}
@@ -25,12 +25,12 @@ pub header_length : (begins : LogStart) → length (header_of begins) ≡ header
 header_length Version1 = refl
 header_length (Version2 base) = refl
 
--- it has 8 bytes at least
+-- it has at least 8 bytes
 pub at_least : (begins : LogStart) → 8 ≤ header_bytes begins
 at_least Version1 = omega arith
 at_least (Version2 base) = omega arith
 
--- what stands behind the header
+-- what follows the header
 pub header_dropped : (begins : LogStart) (rest : List ℕ) → drop (header_bytes begins) (header_of begins ++ rest) ≡ rest
 header_dropped begins rest = drop_at (header_of begins) rest (header_bytes begins) (header_length begins)
 
@@ -50,7 +50,7 @@ start_again (Version2 base) rest h =
     let l : ltb LARGEST_BASE base ≡ false = le-ltb LARGEST_BASE base h in
     ap (λ o. o >>= λ x. low_start x.0) n ∙ ap (λ b. cond b None (Some (Version2 base))) l
 
--- one text has one header
+-- the same bytes have one header
 pub one_start : (a b : LogStart) (x y : List ℕ) → FitsStart a → FitsStart b → header_of a ++ x ≡ header_of b ++ y → a ≡ b
 one_start a b x y fits_a fits_b e = same_Some a b (sym (start_again a x fits_a) ∙ ap start_at e ∙ start_again b y fits_b)
 

@@ -28,7 +28,7 @@ pub base_within : (log : History) → base_lsn log ≤ last_lsn log
 base_within (start _) = omega arith
 base_within (log ▸ r) = omega (arith, base_within log)
 
--- what is found stands behind where the log begins
+-- the LSN of what is found is above the base LSN
 pub record_above : (log : History) (n : ℕ) (x : LogRecord) → record_at log n ≡ Some x → base_lsn log < n
 record_above (start _) n x h = absurd (cc)
 record_above (log ▸ r) n x h =
@@ -41,7 +41,7 @@ record_above (log ▸ r) n x h =
 pub record_more : (log : History) (r : LogRecord) (n : ℕ) (x : LogRecord) → record_at log n ≡ Some x → record_at (log ▸ r) n ≡ Some x
 record_more log r n x h = record_older log r n (record_within log n x h) ∙ h
 
--- nothing is found up to where the log begins, and behind its end
+-- nothing is found up to the base LSN, and above the last LSN
 pub record_none : (log : History) (n : ℕ) → (n ≤ base_lsn log) ⊎ (last_lsn log < n) → record_at log n ≡ None
 record_none (start _) n h = refl
 record_none (log ▸ r) n h =
@@ -75,7 +75,7 @@ size-after log (x ∷ xs) = size-after (log ▸ x) xs ∙ omega arith
 pub size_of_log : (log : LogContent) → last_lsn (history log) ≡ lsn_before log.begins + length log.records
 size_of_log log = size-after (start (lsn_before log.begins)) log.records
 
--- more records leave where it begins
+-- more records do not change the base LSN
 pub base_after : (log : History) (xs : List LogRecord) → base_lsn (log ▸▸ xs) ≡ base_lsn log
 base_after log [] = refl
 base_after log (x ∷ xs) = base_after (log ▸ x) xs
@@ -83,7 +83,7 @@ base_after log (x ∷ xs) = base_after (log ▸ x) xs
 pub base_of_log : (log : LogContent) → base_lsn (history log) ≡ lsn_before log.begins
 base_of_log log = base_after (start (lsn_before log.begins)) log.records
 
--- what follows changes nothing in front
+-- what follows does not change what is before it
 pub record_in_front : (log : History) (xs : List LogRecord) (n : ℕ) → n ≤ last_lsn log → record_at (log ▸▸ xs) n ≡ record_at log n
 record_in_front log [] n h = refl
 record_in_front log (x ∷ xs) n h = record_in_front (log ▸ x) xs n (omega arith) ∙ record_older log x n h
@@ -92,7 +92,7 @@ record_in_front log (x ∷ xs) n h = record_in_front (log ▸ x) xs n (omega ari
 pub first_older : (log : History) (r : LogRecord) (n : ℕ) → n ≤ last_lsn log → first n (log ▸ r) ≡ first n log
 first_older log r n h = (let e : ltb (last_lsn log) n ≡ false = le-ltb (last_lsn log) n h in rw e)
 
--- records up to where the log begins are none
+-- up to the base LSN there are no records
 pub first_base : (log : History) (n : ℕ) → n ≤ base_lsn log → first n log ≡ start (base_lsn log)
 first_base (start _) n h = refl
 first_base (log ▸ r) n h = (let l : ltb (last_lsn log) n ≡ false = le-ltb (last_lsn log) n (omega (arith, h, base_within log)) in rw l (first_base log n h))
@@ -108,14 +108,14 @@ pub first_in_front : (log : History) (xs : List LogRecord) (n : ℕ) → n ≤ l
 first_in_front log [] n h = refl
 first_in_front log (x ∷ xs) n h = first_in_front (log ▸ x) xs n (omega arith) ∙ first_older log x n h
 
--- the records of the list stand behind the log
+-- the records of the list follow the log
 record_behind : (log : History) (xs : List LogRecord) (i : ℕ) (d : LogRecord) → i < length xs → record_at (log ▸▸ xs) (suc (last_lsn log + i)) ≡ Some (get_or xs i d)
 record_behind log [] i d h = absurd (omega arith)
 record_behind log (x ∷ xs) zero d h =
     ap (record_at ((log ▸ x) ▸▸ xs)) (omega arith) ∙ record_in_front (log ▸ x) xs (suc (last_lsn log)) (omega arith) ∙ record_last log x
 record_behind log (x ∷ xs) (suc i) d h = ap (record_at ((log ▸ x) ▸▸ xs)) (omega arith) ∙ record_behind (log ▸ x) xs i d (omega arith)
 
--- the record at an LSN is the item at its place behind where the log begins
+-- the record at an LSN is the item at its place after the base LSN
 pub record_item : (log : LogContent) (i : ℕ) (d : LogRecord) → i < length log.records → record_at (history log) (lsn_before log.begins + i + 1) ≡ Some (get_or log.records i d)
 record_item log i d lt = ap (record_at (history log)) (omega arith) ∙ record_behind (start (lsn_before log.begins)) log.records i d lt
 
@@ -133,7 +133,7 @@ pub first_all : (lsn : ℕ) (log : History) → last_lsn log ≤ lsn → first l
 first_all lsn (start _) h = refl
 first_all lsn (log ▸ r) h = rw (lt-ltb (last_lsn log) lsn h)
 
--- up to an LSN and one further it is one record longer
+-- up to the next LSN it is one record longer
 pub first_more : (log : History) (lsn : ℕ) (r : LogRecord) → record_at log (lsn + 1) ≡ Some r → first (lsn + 1) log ≡ first lsn log ▸ r
 first_more (start _) lsn r f = absurd cc
 first_more (log ▸ x) lsn r f =
@@ -155,7 +155,7 @@ first_first m n (log ▸ r) le =
       | inr e ↦ rw e (first_first m n log le ∙ sym (first_older log r m (omega (arith, le, ltb-false (last_lsn log) n e))))
     ]
 
--- the record behind an LSN that is not the last
+-- the record after an LSN that is not the last
 pub record Behind (log : History) (lsn : ℕ) : Type 0 where
   pub entry : LogRecord
   pub there : record_at log (lsn + 1) ≡ Some entry
@@ -190,7 +190,7 @@ base_of_first lsn (log ▸ r) =
       | inr e ↦ rw e (base_of_first lsn log)
     ]
 
--- below it the records stay
+-- up to this LSN the records stay
 pub record_in_first : (lsn : ℕ) (log : History) (n : ℕ) → n ≤ lsn → record_at (first lsn log) n ≡ record_at log n
 record_in_first lsn (start _) n h = refl
 record_in_first lsn (log ▸ r) n h =
@@ -218,7 +218,7 @@ size_of_first_le lsn (log ▸ r) from =
 pub up_to_is : (lsn : ℕ) (log : LogContent) → base_lsn (history log) ≤ lsn → history (up_to lsn log) ≡ first lsn (history log)
 up_to_is lsn log from = first_of_list (start (lsn_before log.begins)) log.records (lsn - lsn_before log.begins) ∙ ap (λ n. first n (history log)) (omega (arith, from, base_of_log log))
 
--- what is so of each record is so of the record at each LSN
+-- what holds for each record holds for the record at each LSN
 pub each_found : (P : LogRecord → Type 0) (log : LogContent) → All P log.records → (n : ℕ) (r : LogRecord) → record_at (history log) n ≡ Some r → P r
 each_found P log h n r f =
     let above = record_above (history log) n r f in

@@ -1,4 +1,4 @@
--- The image that is read of a record alone is the one that the record put.
+-- The image that is read without the rest of the record is the one that the record put into its cell.
 use Rattle.std.proofs.Common.{◌≡◌, ℕ, false, eqb, List, length, ◌≤◌, Option, Some, None, Bor, refl, sym, subst, rules}
 use Rattle.std.specs.Prelude.{option_map, IfSome}
 use Rattle.page.specs.Image.{FitsSlot}

@@ -36,7 +36,7 @@ tail_settles base log h =
       same = ap (winners base) e ∙ fun_ext (λ page. fun_ext (λ slot. whole_winners base (history log) h page slot));
     }
 
--- a beginning that has all of the first list
+-- a prefix that has all of the first list
 pub take-append-ge : (n : ℕ) (xs ys : List LogRecord) → length xs ≤ n → take n (xs ++ ys) ≡ xs ++ take (n - length xs) ys
 take-append-ge n xs ys h = ap (λ m. take m (xs ++ ys)) (omega arith) ∙ take-append-add xs ys (n - length xs)
 
@@ -63,7 +63,7 @@ cuts_resume base log lsn h le =
     }
 
 -- EACH RECORD
--- a beginning of a lawful log is lawful
+-- a prefix of a lawful log is lawful
 pub lawful_before : (base : BasePages) (log : History) (xs : List LogRecord) → IsLawful base (log ▸▸ xs) → IsLawful base log
 lawful_before base log [] h = h
 lawful_before base log (x ∷ xs) h = (lawful_before base (log ▸ x) xs h).0

@@ -21,7 +21,7 @@ pub unwrapped : {A B : Type 0} (other : A) (o : Option (A × B)) → is_some o �
 unwrapped other None e = absurd cc
 unwrapped other (Some x) e = refl
 
--- a whole frame with the right LSN stands in front
+-- a whole frame with the right LSN is at the front
 pub record Found (lsn : ℕ) (bytes : List ℕ) (r : LogRecord) (size : ℕ) : Type 0 where
   pub size_is : size ≡ 4 + length_of bytes
   pub whole : 4 + length_of bytes ≤ length bytes

@@ -1,4 +1,4 @@
--- The frame in front, by its size alone.
+-- The frame at the front, by its size only.
 use Rattle.std.proofs.Common.{◌≡◌, ◌≢◌, ℕ, List, Option, Some, None, Result, Ok, Err, refl, sym, ap, ◌∙◌, eq-eqb, ne_eqb}
 use Rattle.std.specs.Prelude.{option_map, IfSome}
 use Rattle.page.specs.declared.fault.Fault.{Fault}
@@ -7,7 +7,7 @@ use Rattle.wal.specs.Records.{PlainRecord, LogRecord}
 use Rattle.wal.specs.Reading.{plain_at, plain_record_at, ◌>>=◌}
 use Rattle.wal.specs.Frames.{frame_if_right, size_in, Fails}
 
--- A BODY by the LSN that it spells
+-- A BODY by the LSN that it encodes
 pub size_of_none : (lsn offset size : ℕ) (body : Option (LogRecord × ℕ)) → option_map (λ x. x.1) body ≡ None → size_in (frame_if_right lsn offset size body) ≡ Err (BadRecord offset)
 size_of_none lsn offset size None e = refl
 size_of_none lsn offset size (Some x) e = absurd cc
@@ -39,7 +39,7 @@ pub fails_with : (next : Result (Option (LogRecord × ℕ)) Fault) (e : Fault) �
 fails_with next NoResource h = tt
 fails_with next e h = faulty next e h
 
--- what was not sized is no frame
+-- what has no size is not a frame
 pub no_frame_none : (next : Result (Option (LogRecord × ℕ)) Fault) (r : LogRecord) (size : ℕ) → size_in next ≡ Ok None → next ≡ Ok (Some (r, size)) → ⊥
 no_frame_none next r size none e = (let both : ◌≡◌ {A = Result (Option ℕ) Fault} (Ok None) (Ok (Some size)) = sym none ∙ ap size_in e in absurd cc)
 

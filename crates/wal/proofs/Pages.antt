@@ -19,7 +19,7 @@ writes_on page slot (Update u) e = (and_parts (eqb u.page page) (eqb u.slot slot
 writes_on page slot (Compensation c) e = (and_parts (eqb c.page page) (eqb c.slot slot) e).0
 writes_on page slot r e = absurd (false≢true e)
 
--- the slots of a page hang on its 16 cells alone
+-- the slots of a page depend only on its 16 cells
 pub same_slots : (f g : Cells) (page : ℕ) → ((slot : ℕ) → slot < 16 → f page slot ≡ g page slot) → slots_in f page ≡ slots_in g page
 same_slots f g page h = from 0 16 (λ slot lt. h slot (omega (arith, lt)))
   where
@@ -61,7 +61,7 @@ last_on_found base page (log ▸ r) =
           subst (IsOnPage base page (log ▸ r)) (sym i) (elim (last_on_found base page log) [ inl z ↦ inl z | inr p ↦ inr (p.0, record_more log r (last_on base page log) p.0 p.1, p.2) ]))
     ]
 
--- no record on the page is behind it
+-- no record on the page is after it
 pub last_on_highest : (base : BasePages) (page : ℕ) (log : History) (n : ℕ) (r : LogRecord) → record_at log n ≡ Some r → is_on page r ≡ true → n ≤ last_on base page log
 last_on_highest base page (start _) n r f on = absurd (cc)
 last_on_highest base page (log ▸ x) n r f on =
@@ -96,7 +96,7 @@ on_page_last base (log ▸ x) k page r f o =
           on_page_last base log k page r f' o ∙ sym (ap (λ b. last_on base page (cond b (log ▸ x) (first k log))) l))
     ]
 
--- the cells of the page stay as it left them
+-- the cells of the page stay as that record left them
 pub replay_to_last : (base : BasePages) (page slot : ℕ) (log : History) → BaseLaw base log → replay base (first (last_on base page log) log) page slot ≡ replay base log page slot
 replay_to_last base page slot (start _) l = refl
 replay_to_last base page slot (log ▸ r) law =

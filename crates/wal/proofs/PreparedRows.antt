@@ -84,7 +84,7 @@ prepared_commit_out = refl
 prepared_commit_numbers : numbers prepared_commit ≡ 1 ∷ 0 ∷ 0 ∷ 0 ∷ []
 prepared_commit_numbers = refl
 
--- ---- turned back by an abort
+-- ---- rolled back after an abort
 
 abbrev prepared_abort : LogContent
 prepared_abort = L (U 1 0 0 None a ∷ P 1 1 ∷ A 1 2 ∷ [])
@@ -119,11 +119,11 @@ only_prepared_lawful = (tt, record { chain = refl; finish = (refl, refl, refl); 
 only_prepared_doubt : in_doubt_of (history only_prepared) ≡ 1 ∷ []
 only_prepared_doubt = refl
 
--- aborted, its end is among those that stand first
+-- aborted, its end is among those that come first
 only_prepared_abort_tail : tail_of (L (P 1 0 ∷ A 1 1 ∷ U 2 0 0 None a ∷ [])) ≡ E 1 2 ∷ C 2 3 0 0 None ∷ E 2 5 ∷ []
 only_prepared_abort_tail = refl
 
--- ---- beside a loser
+-- ---- with a loser
 
 abbrev beside_loser : LogContent
 beside_loser = L (U 1 0 0 None a ∷ P 1 1 ∷ U 2 0 1 None b ∷ [])
@@ -169,7 +169,7 @@ beside_loser_numbers = refl
 
 -- ---- checkpoints
 
--- a prepare in front of a checkpoint is in its table
+-- a prepare before a checkpoint is in its table
 abbrev at_checkpoint : LogContent
 at_checkpoint = L (U 1 0 0 None a ∷ P 1 1 ∷ CheckpointBegin ∷ CheckpointEnd 3 (prepared_entry 1 2 1 ∷ []) ((0, 1) ∷ []) ∷ [])
 
@@ -202,7 +202,7 @@ at_checkpoint_out = refl
 at_checkpoint_numbers : numbers at_checkpoint ≡ 1 ∷ 0 ∷ 0 ∷ 0 ∷ []
 at_checkpoint_numbers = refl
 
--- one behind its begin isn't: active there, and in doubt in the log
+-- a prepare after its begin record is not: the transaction is active there, and in doubt in the log
 abbrev behind_begin : LogContent
 behind_begin = L (U 1 0 0 None a ∷ CheckpointBegin ∷ P 1 1 ∷ CheckpointEnd 2 (active 1 1 1 ∷ []) ((0, 1) ∷ []) ∷ [])
 
@@ -235,6 +235,6 @@ behind_begin_doubt = refl
 behind_begin_tail : tail_of behind_begin ≡ []
 behind_begin_tail = refl
 
--- one of each before and behind a checkpoint
+-- one of each before and after a checkpoint
 around_checkpoint_table : true_table (history (L (U 1 0 0 None a ∷ P 1 1 ∷ U 2 0 1 None b ∷ CheckpointBegin ∷ P 2 3 ∷ []))) ≡ prepared_entry 1 2 1 ∷ prepared_entry 2 5 3 ∷ []
 around_checkpoint_table = refl

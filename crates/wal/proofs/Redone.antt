@@ -10,7 +10,7 @@ use Rattle.wal.specs.Theorems.{RedoReplays, RedoSuffices}
 use Rattle.wal.proofs.Histories.{record_last, record_more, first_base}
 use Rattle.wal.proofs.Pages.{writes_on, slot_held, same_slots, on_page_last}
 
--- where nothing is chosen nothing changes
+-- if nothing is chosen nothing changes
 none_chosen : (chosen : ℕ → Bool) (state : Cells) (log : History) (page slot : ℕ) → ((n : ℕ) → n ≤ last_lsn log → chosen n ≡ false) → effects (λ n _. chosen n) state log page slot ≡ state page slot
 none_chosen chosen state (start _) page slot h = refl
 none_chosen chosen state (log ▸ r) page slot h =
@@ -18,7 +18,7 @@ none_chosen chosen state (log ▸ r) page slot h =
     (and_right (writes page slot r) (chosen (suc (last_lsn log))) (h (suc (last_lsn log)) (omega arith)))
     ∙ none_chosen chosen state log page slot (λ n o. h n (omega arith))
 
--- one chosen from after the first k on
+-- if records are chosen from after the first k on
 redo_from : (base : BasePages) (chosen : ℕ → Bool) (k : ℕ) (state : Cells) (log : History) (page slot : ℕ) → ((n : ℕ) → n ≤ k → chosen n ≡ false)
     → ((n : ℕ) (r : LogRecord) → record_at log n ≡ Some r → is_on page r ≡ true → k < n → chosen n ≡ true)
     → state page slot ≡ replay base (first k log) page slot → effects (λ n _. chosen n) state log page slot ≡ replay base log page slot
@@ -46,7 +46,7 @@ none_last chosen page lsn (log ▸ r) h =
     cond-false (is_on page r && chosen (suc (last_lsn log))) (suc (last_lsn log)) (last_where chosen page lsn log) (and_right (is_on page r) (chosen (suc (last_lsn log))) (h (suc (last_lsn log)) (omega arith)))
     ∙ none_last chosen page lsn log (λ n o. h n (omega arith))
 
--- one chosen from after the first k on, the PageLSN is that of the log
+-- if records are chosen from after the first k on, the PageLSN is that of the log
 last_from : (base : BasePages) (chosen : ℕ → Bool) (k : ℕ) (log : History) (page : ℕ) → ((n : ℕ) → n ≤ k → chosen n ≡ false)
     → ((n : ℕ) (r : LogRecord) → record_at log n ≡ Some r → is_on page r ≡ true → k < n → chosen n ≡ true)
     → k ≡ last_on base page (first k log) → last_where chosen page k log ≡ last_on base page log

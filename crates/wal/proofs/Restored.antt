@@ -23,7 +23,7 @@ effects_same f g state (log ▸ r) page slot h =
       | inr w ↦ rw (w, older)
     ]
 
--- which transactions count in a cell hangs on those that have touched it
+-- which transactions count in a cell depends on those that have touched it
 effects_touched : (base : BasePages) (f g : ℕ → Bool) (log : History) (page slot : ℕ) → ((t : ℕ) → touches t page slot log ≡ true → f t ≡ g t) → effects_of f base.cells log page slot ≡ effects_of g base.cells log page slot
 effects_touched base f g log page slot h =
     effects_same (λ _ x. is_owned_among f (owner x)) (λ _ x. is_owned_among g (owner x)) base.cells log page slot (λ n x e w. by_owner n x e w (owner x) refl)
@@ -33,7 +33,7 @@ effects_touched base f g log page slot h =
     by_owner n x e w (Some t) i =
         h t (found_has (λ r. is_of t r && writes page slot r) log n x e (and_from (is_of t x) (writes page slot x) (ap (is_owned_by t) i ∙ eq-eqb t t refl) w))
 
--- where the holder counts, the newest of all records does
+-- if the holder counts, the newest of all records does
 effects_of_holder : (base : BasePages) (chosen : ℕ → Bool) (log : History) (page slot t : ℕ) → holder page slot log ≡ Some t → chosen t ≡ true → effects_of chosen base.cells log page slot ≡ replay base log page slot
 effects_of_holder base chosen (start _) page slot t e h = absurd (cc)
 effects_of_holder base chosen (log ▸ Update u) page slot t e h =
@@ -58,7 +58,7 @@ effects_of_holder base chosen (log ▸ Commit s) page slot t e h = effects_of_ho
 effects_of_holder base chosen (log ▸ End s) page slot t e h = effects_of_holder base chosen log page slot t (release_keeps s.tx t (holder page slot log) e).1 h
 effects_of_holder base chosen (log ▸ r) page slot t e h = effects_of_holder base chosen log page slot t e h
 
--- a record that counts for nobody, where the same transactions count with it
+-- a record that does not count, if the same transactions count with it
 pub effects_more : (base : BasePages) (f g : ℕ → Bool) (log : History) (r : LogRecord) (page slot : ℕ) → ((t : ℕ) → f t ≡ g t) → (writes page slot r && is_owned_among g (owner r)) ≡ false
     → effects_of f base.cells (log ▸ r) page slot ≡ effects_of g base.cells log page slot
 effects_more base f g log r page slot same e =
@@ -99,20 +99,20 @@ abbrev restored_by : (base : BasePages) → Option ℕ → ℕ → ℕ → Histo
 restored_by base None page slot log = replay base log page slot
 restored_by base (Some t) page slot log = undone log page slot (pending t log) (replay base log page slot)
 
--- what is in the cell once its holder is rolled back
+-- what is in the cell after its holder is rolled back
 abbrev pub restored : (base : BasePages) → ℕ → ℕ → History → Image
 restored base page slot log = restored_by base (holder page slot log) page slot log
 
 -- THE COMMITTED
--- what the committed transactions alone leave in the cells
+-- what only the committed transactions leave in the cells
 abbrev pub kept : (base : BasePages) → History → Cells
 kept base log = effects_of (λ t. committed t log) base.cells log
 
--- a record that is no commit and counts for nobody
+-- a record that is not a commit and does not count
 kept_more : (base : BasePages) (log : History) (r : LogRecord) (page slot : ℕ) → ((t : ℕ) → is_commit_of t r ≡ false) → (writes page slot r && is_owned_among (λ t. committed t log) (owner r)) ≡ false → kept base (log ▸ r) page slot ≡ kept base log page slot
 kept_more base log r page slot h e = effects_more base (λ t. committed t (log ▸ r)) (λ t. committed t log) log r page slot (λ t. ap (λ b. b || committed t log) (h t)) e
 
--- what a transaction that may update the cell would restore in it
+-- what the rollback of a transaction that may update the cell would restore in it
 module _ (base : BasePages) (log : History) (h : IsLawful base log) (page slot : ℕ) (ih : restored base page slot log ≡ kept base log page slot) where
   own_by : (t : ℕ) → finished t log ≡ false → ((other : ℕ) → other ≢ t → touches other page slot log ≡ true → finished other log ≡ true) → (o : Option ℕ) → holder page slot log ≡ o → undone log page slot (pending t log) (replay base log page slot) ≡ kept base log page slot
   own_by t f strict None e =
@@ -221,7 +221,7 @@ module _ (base : BasePages) (log : History) (h : IsLawful base log) (page slot :
       ])
       (kept_more base log (Compensation c) page slot (λ _. refl) (and_left (eqb c.page page && eqb c.slot slot) (committed c.tx log) off))
 
-  -- a commit makes its transaction's records count: where it holds base the cell the newest is its own, elsewhere there are none
+  -- a commit makes its transaction's records count: the newest record of a cell that it holds is its own, and in other cells it has none
   restored_commit : (s : PlainRecord) → Obeys base log (Commit s) → restored base page slot (log ▸ Commit s) ≡ kept base (log ▸ Commit s) page slot
   restored_commit s o = by_holder (holder page slot log) refl
     where
@@ -266,7 +266,7 @@ module _ (base : BasePages) (log : History) (h : IsLawful base log) (page slot :
             | inr i ↦ restored_same (End s) (release_other s.tx t (holder page slot log) i e ∙ sym e) refl (λ t _ v. undone_plain (End s) t refl v) unchanged
           ]
 
--- once the holder of a cell is rolled back, the cell has what the committed ones leave there
+-- after the holder of a cell is rolled back, the cell has what the committed transactions leave there
 pub restored_is_kept : (base : BasePages) (log : History) → IsLawful base log → (page slot : ℕ) → restored base page slot log ≡ kept base log page slot
 restored_is_kept base (start _) h page slot = refl
 restored_is_kept base (log ▸ Update u) h page slot =
@@ -284,7 +284,7 @@ restored_is_kept base (log ▸ End s) h page slot = restored_end base log h.0 pa
 restored_is_kept base (log ▸ r) h page slot =
     restored_same base log h.0 page slot (restored_is_kept base log h.0 page slot) r refl refl (λ t _ v. undone_plain base log h.0 page slot (restored_is_kept base log h.0 page slot) r t refl v) (kept_more base log r page slot (λ _. refl) refl)
 
--- who touched a cell has a record
+-- a transaction that touched a cell has a record
 touches_has : (t page slot : ℕ) (log : History) → touches t page slot log ≡ true → has (is_of t) log ≡ true
 touches_has t page slot (start _) w = w
 touches_has t page slot (log ▸ r) w =
@@ -294,20 +294,20 @@ touches_has t page slot (log ▸ r) w =
     ]
 
 -- THE WINNERS
--- who is in doubt has not finished
+-- a transaction in doubt has not finished
 doubt_open : (t : ℕ) (log : History) → in_doubt t log ≡ true → finished t log ≡ false
 doubt_open t log d = unfinished_open t log (and_parts (is_unfinished t log) (prepared t log && not (aborted t log)) d).0
 
--- where no transaction in doubt has touched a cell, the committed ones are the winners there
+-- if no transaction in doubt has touched a cell, the committed ones are the winners there
 winners_kept : (base : BasePages) (log : History) (page slot : ℕ) → ((t : ℕ) → touches t page slot log ≡ true → in_doubt t log ≡ false) → winners base log page slot ≡ kept base log page slot
 winners_kept base log page slot h =
     effects_touched base (is_winner log) (λ t. committed t log) log page slot (λ t w. ap (λ b. committed t log || b) (h t w) ∙ or-false (committed t log))
 
--- where one in doubt holds it, the newest record there is a winner's
+-- if a transaction in doubt holds the cell, the newest record there is a winner's
 winners_held : (base : BasePages) (log : History) (page slot t : ℕ) → holder page slot log ≡ Some t → in_doubt t log ≡ true → winners base log page slot ≡ replay base log page slot
 winners_held base log page slot t e d = effects_of_holder base (is_winner log) log page slot t e (or_right (committed t log) (in_doubt t log) d)
 
--- so where no transaction is a loser, the cell has what the winners leave there
+-- so if no transaction is a loser, the cell has what the winners leave there
 pub replay_is_winners : (base : BasePages) (log : History) → IsLawful base log → ((t : ℕ) → is_loser t log ≡ false) → (page slot : ℕ) → replay base log page slot ≡ winners base log page slot
 replay_is_winners base log h none page slot = by_holder (holder page slot log) refl
   where

@@ -1,4 +1,4 @@
--- Numbers that rise, and a loop that looks whether they do.
+-- Ascending numbers, and a loop that checks whether they ascend.
 use Rattle.std.proofs.Common.{◌≡◌, ℕ, ◌+◌, ◌<◌, ◌≤◌, List, [], ◌∷◌, length, get_or, take, drop, map, refl, sym, ap, subst, suc, drop-cons, ◌∙◌, arith}
 use Rattle.std.specs.Prelude.{All, ◌↔◌, ⊤}
 use Rattle.std.proofs.lemmas.List.{take_more, drop_all, take_all, get_or-map, length-map}
@@ -31,11 +31,11 @@ rising_from_0 (n ∷ ns) h = rising_rises 0 n ns (omega arith) h
 -- ---- the loop
 
 module _ {X : Type 0} (number : X → ℕ) (P : X → Type 0) (xs : List X) where
-  -- each item is right, and their numbers rise
+  -- each item is right, and their numbers ascend
   abbrev pub AreRight : Type 0
   AreRight = All P xs × IsRising (map number xs)
 
-  -- this many were looked at, and the next number is to be at least `low`
+  -- this many were looked at, and the next number must be at least `low`
   pub record Looked (i low : ℕ) : Type 0 where
     pub each : All P (take i xs)
     pub rising : RisesFrom 0 (map number xs) ↔ RisesFrom low (drop i (map number xs))
@@ -73,7 +73,7 @@ module _ {X : Type 0} (number : X → ℕ) (P : X → Type 0) (xs : List X) wher
 
 -- ---- the tables of a record
 
--- this number of entries at most, each right and in rising order
+-- at most this number of entries, each right and in ascending order
 abbrev pub IsTable : {X : Type 0} → ℕ → (X → ℕ) → (X → Type 0) → List X → Type 0
 IsTable most number P xs = (length xs ≤ most) × (All P xs × IsRising (map number xs))
 

@@ -58,7 +58,7 @@ L records = record { begins = Version1; records = records }
 one_commit : tail_of (L (U 1 0 0 None a ∷ K 1 1 ∷ [])) ≡ []
 one_commit = refl
 
--- one that doesn't
+-- one that does not
 one_loser : tail_of (L (U 1 0 0 None a ∷ [])) ≡ C 1 1 0 0 None ∷ E 1 2 ∷ []
 one_loser = refl
 
@@ -70,11 +70,11 @@ two_losers = refl
 two_losers_cut : tail_of (L (take 5 (U 1 0 0 None a ∷ U 2 0 1 None b ∷ U 1 1 0 a c ∷ C 1 3 1 0 a ∷ C 2 2 0 1 None ∷ E 2 5 ∷ C 1 4 0 0 None ∷ E 1 7 ∷ []))) ≡ E 2 5 ∷ C 1 4 0 0 None ∷ E 1 7 ∷ []
 two_losers_cut = refl
 
--- rolled back in part, and gone on
+-- rolled back in part, and then continued
 partial_rollback_loser : tail_of (L (U 1 0 0 None a ∷ U 1 1 0 a b ∷ C 1 2 1 0 a ∷ U 1 3 0 a c ∷ [])) ≡ C 1 4 3 0 a ∷ C 1 5 0 0 None ∷ E 1 6 ∷ []
 partial_rollback_loser = refl
 
--- in the midst of a rollback
+-- in the middle of a rollback
 rollback_interrupted : tail_of (L (U 1 0 0 None a ∷ U 1 1 0 a b ∷ A 1 2 ∷ C 1 3 1 0 a ∷ [])) ≡ C 1 4 0 0 None ∷ E 1 5 ∷ []
 rollback_interrupted = refl
 
@@ -82,7 +82,7 @@ rollback_interrupted = refl
 several_kinds_of_loser : tail_of (L (U 1 0 0 None a ∷ A 1 1 ∷ C 1 2 0 0 None ∷ U 2 0 1 None b ∷ A 3 0 ∷ [])) ≡ E 1 3 ∷ E 3 5 ∷ C 2 4 0 1 None ∷ E 2 8 ∷ []
 several_kinds_of_loser = refl
 
--- one that has rolled back a part and commits: the CLR counts
+-- a transaction that has rolled back a part and commits: the CLR counts
 partial_rollback_commit : winners no_base (history (L (U 1 0 0 None a ∷ U 1 1 0 a b ∷ C 1 2 1 0 a ∷ K 1 3 ∷ []))) 0 0 ≡ a
 partial_rollback_commit = refl
 
@@ -149,7 +149,7 @@ loser_flushed = refl
 loser_not_flushed : redo_of (Some 1) 1 (history (L (U 1 0 0 None a ∷ []))) (holding 0 None) ≡ holding 1 a
 loser_not_flushed = refl
 
--- with the record at PageLSN there, the two behind it
+-- if the page has the records up to its PageLSN, the two after it
 partial_rollback_redone : redo_of (Some 3) 3 (history (L (U 1 0 0 None a ∷ U 1 1 0 a b ∷ C 1 2 1 0 a ∷ U 1 3 0 a c ∷ []))) (holding 2 b) ≡ holding 4 c
 partial_rollback_redone = refl
 
@@ -181,11 +181,11 @@ checkpoint_loser = L (U 1 0 0 None a ∷ CheckpointBegin ∷ CheckpointEnd 2 (ac
 checkpoint_loser_tail : tail_of checkpoint_loser ≡ C 1 1 0 0 None ∷ E 1 4 ∷ []
 checkpoint_loser_tail = refl
 
--- of two ends that name it the first counts
+-- if two ends name it, the first counts
 first_end_counts : first_end 1 (history (L (CheckpointBegin ∷ CheckpointEnd 1 [] [] ∷ CheckpointEnd 1 (active 9 8 8 ∷ []) [] ∷ []))) ≡ Some ([], [])
 first_end_counts = refl
 
--- one that another begin's end stands behind
+-- one that is followed by the end of another begin record
 begin_not_named : first_end 2 (history (L (CheckpointBegin ∷ CheckpointBegin ∷ CheckpointEnd 1 [] [] ∷ []))) ≡ None
 begin_not_named = refl
 
@@ -268,7 +268,7 @@ one_page_numbered page e = record { some = omega arith; few = omega arith; at_pl
     at_place zero d lt = e
     at_place (suc i) d lt = absurd (omega arith)
 
--- it goes on to the end record alone
+-- a restart continues with the end record only
 checkpoint_loser_goes_on : GoesOn no_base checkpoint_loser (store_of 2 (holding 0 None)) checkpoint_loser_undone (store_of 2 (holding 4 None))
 unfolding checkpoint_loser_cut
 checkpoint_loser_goes_on =

@@ -21,7 +21,7 @@ use Rattle.wal.proofs.Pages.{base_within_last, last_on_highest, replayed_page_la
 use Rattle.wal.proofs.Appended.{tail_names}
 
 -- THE CHECKPOINT
--- a longer log and a newer page keep what the dirty page table says up to m
+-- a longer log and a newer page keep what the dirty page table holds up to m
 dirty_stays : (log : History) (xs : List LogRecord) (m page lsn newer : ℕ) (listed : Option ℕ) → m ≤ last_lsn log → lsn ≤ newer → DirtyLaw log m page lsn listed → DirtyLaw (log ▸▸ xs) m page newer listed
 dirty_stays log xs m page lsn newer listed le older d =
     record {
@@ -51,7 +51,7 @@ checkpoint_stays log xs old new m old_numbered new_numbered count not_older (inr
           (dirty_stays log xs m (get_or old i d).number (get_or old i d).lsn (get_or new i d).lsn (rec_lsn_of (get_or old i d).number t.dirty) le (not_older i d within) (t.dirty_are i d within)));
     })
 
--- more records leave the base law
+-- more records keep the base law
 base_stays : (base : BasePages) (log : History) (xs : List LogRecord) → BaseLaw base log → BaseLaw base (log ▸▸ xs)
 base_stays base log xs l page = omega (arith, l page, base_after log xs)
 
@@ -60,7 +60,7 @@ base_stays base log xs l page = omega (arith, l page, base_after log xs)
 abbrev made : (base : BasePages) (master count : ℕ) → History → Cells → StoreContent
 made base master count log state = record { master = master; pages = map (λ page. record { number = page; lsn = last_on base page log; slots = slots_in state page }) (range_with_len 0 count) }
 
--- what is left beside a beginning of the whole goes on
+-- a restart continues from what is left with a prefix of the whole
 pub restart_goes_on : RestartGoesOn
 restart_goes_on base log store lsn left numbered h l =
     let whole : LogContent = up_to lsn (with_tail log) in

@@ -6,7 +6,7 @@ use Rattle.wal.specs.Meaning.{pending}
 use Rattle.wal.specs.Tail.{is_among}
 use Rattle.wal.proofs.Histories.{record_last, record_more}
 
--- the numbers fall, each below the bound
+-- the numbers descend, each below the bound
 abbrev pub Falls : ℕ → List ℕ → Type 0
 Falls b [] = Unit {0}
 Falls b (n ∷ ns) = (n < b) × Falls n ns
@@ -29,7 +29,7 @@ Falls-among b n (m ∷ ns) f h =
       | inr e ↦ omega (arith, Falls-among m n ns f.1 e, f.0)
     ]
 
--- what is pending falls
+-- the pending LSNs descend
 pub pending_falls : (t : ℕ) (log : History) → Falls (suc (last_lsn log)) (pending t log)
 pending_falls t (start _) = tt
 pending_falls t (log ▸ Update u) =

@@ -1,4 +1,4 @@
--- Frames of a stretch, and of what was read in front of it.
+-- Frames of a stretch, and of what was read before it.
 use Rattle.std.proofs.Common.{◌≡◌, ℕ, zero, suc, ◌+◌, ◌-◌, ◌^◌, ◌≤◌, ◌<◌, List, [], ◌∷◌, ◌++◌, length, take, drop, map, Some, Ok, Err, Result, Option, None, inl, inr, refl, sym, ap, ap₂, subst, ◌∙◌, append_assoc, arith, length-append}
 use Rattle.std.specs.Prelude.{All, is_some, IfOk, IfNone}
 use Rattle.std.specs.List.{AllByRecursion}
@@ -31,13 +31,13 @@ frames_more bytes lsn from [] to r size frames e =
 frames_more bytes lsn from (offset ∷ offsets) to r size frames e =
     (frames.0, frames.1, frames.2, frames.3, frames_more bytes (suc lsn) (from + frames.2) offsets to r size frames.4 (subst (λ n. next_at n to (drop to bytes) ≡ Ok (Some (r, size))) (omega arith) e))
 
--- a frame takes 13 bytes at least, and there are as many as it takes
+-- a frame takes at least 13 bytes, and there are as many as it takes
 pub frame_takes : (bytes : List ℕ) (lsn offset : ℕ) (r : LogRecord) (size : ℕ) → offset ≤ length bytes → next_at lsn offset (drop offset bytes) ≡ Ok (Some (r, size)) → (13 ≤ size) × (offset + size ≤ length bytes)
 frame_takes bytes lsn offset r size room e =
     let found = next_is lsn offset (drop offset bytes) r size e in
     (omega (arith, found.size_is, found.low), omega (arith, room, found.size_is, found.whole, length-drop offset bytes))
 
--- frames, and behind them others
+-- frames, followed by others
 pub frames_joined : (bytes : List ℕ) (lsn from : ℕ) (xs : List ℕ) (middle : ℕ) (ys : List ℕ) (to : ℕ) → AreFrames bytes lsn from xs middle → AreFrames bytes (lsn + length xs) middle ys to
     → AreFrames bytes lsn from (xs ++ ys) to
 frames_joined bytes lsn from [] middle ys to first second =
@@ -45,7 +45,7 @@ frames_joined bytes lsn from [] middle ys to first second =
 frames_joined bytes lsn from (x ∷ xs) middle ys to first second =
     (first.0, first.1, first.2, first.3, frames_joined bytes (suc lsn) (from + first.2) xs middle ys to first.4 (subst (λ n. AreFrames bytes n middle ys to) (omega arith) second))
 
--- each stands in the bytes
+-- each is in the bytes
 pub frames_places : (bytes : List ℕ) (lsn from : ℕ) (offsets : List ℕ) (to : ℕ) → AreFrames bytes lsn from offsets to → All (IsPlace bytes) offsets
 frames_places bytes lsn from [] to frames = All-nil (IsPlace bytes)
 frames_places bytes lsn from (offset ∷ offsets) to frames =
@@ -55,7 +55,7 @@ frames_places bytes lsn from (offset ∷ offsets) to frames =
     (subst (IsPlace bytes) (sym frames.0) (record { room = omega (arith, found.whole, found.low, rest); whole = omega (arith, found.whole, found.low, rest); spelled = ap is_some found.spelled }))
     (frames_places bytes (suc lsn) (from + frames.2) offsets to frames.4)
 
--- the bytes are their spellings
+-- the bytes are their encodings
 pub frames_spelled : (bytes : List ℕ) (lsn from : ℕ) (offsets : List ℕ) (to : ℕ) → AreBytes bytes → AreFrames bytes lsn from offsets to
     → (drop from bytes ≡ spellings lsn (map (record_of bytes) offsets) ++ drop to bytes) × AllByRecursion Fits (map (record_of bytes) offsets)
 frames_spelled bytes lsn from [] to fits frames = (ap (λ at. drop at bytes) frames, tt)
@@ -72,7 +72,7 @@ frames_spelled bytes lsn from (offset ∷ offsets) to fits frames =
       (subst Fits is one.1, others.1),
     )
 
--- a front, and all frames behind it
+-- a front, and all frames after it
 pub begun : (begins : LogStart) (front back : List ℕ) (first second : Stretch) → AreBytes front → AreBytes back → length front + length back < 2 ^ 63 → AreFront begins front first → AreBehind first back second
     → Begins (front ++ back) begins (records_of front first back second) (drop second.end back)
 begun begins front back first second front_fits back_fits short one two =
@@ -107,7 +107,7 @@ begun begins front back first second front_fits back_fits short one two =
     all_append [] ys first others = others
     all_append (x ∷ xs) ys first others = (first.0, all_append xs ys first.1 others)
 
--- the LSN and the offset behind them
+-- the LSN and the offset after them
 pub lsn_is : (begins : LogStart) (front back : List ℕ) (first second : Stretch) → AreFront begins front first → AreBehind first back second → lsn_behind begins (records_of front first back second) ≡ second.lsn + length second.offsets
 lsn_is begins front back first second one two =
     omega
@@ -132,7 +132,7 @@ header_alone bytes begins fits starts =
 pub header_within : (bytes : List ℕ) (begins : LogStart) → AreBytes bytes → start_at bytes ≡ Some begins → header_bytes begins ≤ length bytes
 header_within bytes begins fits starts = omega (arith, header_room begins bytes (drop (header_bytes begins) bytes) (header_taken bytes begins fits starts).front)
 
--- a frame stands where it stands, whatever its place in a log
+-- a frame is the same, whatever its place in a log
 pub moved : (lsn place offset : ℕ) (bytes : List ℕ) (r : LogRecord) (size : ℕ) → AreBytes bytes → next_at lsn place bytes ≡ Ok (Some (r, size)) → next_at lsn offset bytes ≡ Ok (Some (r, size))
 moved lsn place offset bytes r size fits e =
     let found = next_is lsn place bytes r size e in
@@ -140,19 +140,19 @@ moved lsn place offset bytes r size fits e =
     let is : 4 + length (body r lsn) ≡ size = omega (arith, ap length one.0, length-append (frame r lsn) (drop size bytes), length-append (to_be_bytes w32 (length (body r lsn))) (body r lsn), length-drop size bytes, found.size_is, found.whole) in
     ap (next_at lsn offset) one.0 ∙ frame_next r lsn offset (drop size bytes) one.1 one.2 ∙ ap (λ n. Ok (Some (r, n))) is
 
--- no frame stands in no bytes
+-- no frame is in no bytes
 pub none_left : (bytes : List ℕ) (lsn offset : ℕ) → length bytes ≤ offset → HasNoFrame bytes lsn offset
 none_left bytes lsn offset le place r size e =
     let found = next_is lsn place (drop offset bytes) r size e in
     omega (arith, found.whole, length-drop offset bytes, le)
 
--- bytes behind bytes
+-- bytes followed by bytes
 pub both_bytes : (xs ys : List ℕ) → AreBytes xs → AreBytes ys → AreBytes (xs ++ ys)
 both_bytes [] ys first second i = second i
 both_bytes (x ∷ xs) ys first second zero = first zero
 both_bytes (x ∷ xs) ys first second (suc i) = both_bytes xs ys (λ j. first (suc j)) second i
 
--- where no size was found
+-- if no size was found
 pub none_sized : (bytes : List ℕ) (lsn offset : ℕ) (found : Option ℕ) (B : Type 0) → AreBytes bytes → size_in (next_at lsn offset (drop offset bytes)) ≡ Ok found → IfNone found (B → HasNoFrame bytes lsn offset)
 none_sized bytes lsn offset None B fits e = λ _ place r size there.
     no_frame_none (next_at lsn offset (drop offset bytes)) r size e (moved lsn place offset (drop offset bytes) r size (AreBytes-drop offset bytes fits) there)
@@ -171,11 +171,11 @@ read_to_end bytes (Ok x) h =
       | inr p ↦ h p.1
     ]
 
--- there is room for LSNs behind a header, and behind the first frames
+-- there is room for LSNs after a header, and after the first frames
 pub room_behind : (begins : LogStart) (bytes : List ℕ) → AreBytes bytes → start_at bytes ≡ Some begins → lsn_before begins < 2 ^ 63
 room_behind begins bytes fits starts = start_small begins (header_taken bytes begins fits starts).fits
 
--- the first frames, cut behind the last
+-- the first frames, cut after the last
 frames_rise : (bytes : List ℕ) (lsn from : ℕ) (offsets : List ℕ) (to : ℕ) → AreFrames bytes lsn from offsets to → from ≤ to
 frames_rise bytes lsn from [] to frames = omega (arith, frames)
 frames_rise bytes lsn from (offset ∷ offsets) to frames = omega (arith, frames_rise bytes (suc lsn) (from + frames.2) offsets to frames.4)

@@ -133,7 +133,7 @@ module _ {E : Type 0} (number : E → ℕ) (one : List ℕ → Option (E × List
       ap (table_at number one (suc (length es)) low) (append_assoc (spell e) (flat_map spell es) rest)
       ∙ rw (field.again e (flat_map spell es ++ rest) each.0, order, others) refl
 
-  -- a count of at most this number of, and the table
+  -- a count that is at most this number, and the table
   abbrev counted_at : ℕ → List ℕ → Option (List E × List ℕ)
   counted_at most bytes = number_at w32 bytes >>= λ count. cond (ltb most count.0) None (table_at number one count.0 0 count.1)
 

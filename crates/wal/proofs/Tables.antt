@@ -16,7 +16,7 @@ use Rattle.wal.proofs.Fields.{bind_some, guard_some}
 
 -- ---- how many bytes an entry takes
 
--- this number of bytes were taken from the front
+-- this number of bytes was taken from the front
 abbrev Sized : ℕ → List ℕ → List ℕ → Type 0
 Sized n bytes rest = (n ≤ length bytes) × (rest ≡ drop n bytes)
 
@@ -93,7 +93,7 @@ module _ {E : Type 0} (number : E → ℕ) (one : List ℕ → Option (E × List
   abbrev pub with_front : List E → Option (List E × List ℕ) → Option (List E × List ℕ)
   with_front front read = read >>= λ x. Some (front ++ x.0, x.1)
 
-  -- this number of entries were read; `rest` stands behind them, and the next number is at least `low`
+  -- this number of entries was read; `rest` follows them, and the next number is at least `low`
   pub record SoFar (bytes : List ℕ) (count i low : ℕ) (rest : List ℕ) : Type 0 where
     pub room : size * i ≤ length bytes
     pub there : rest ≡ drop (size * i) bytes

@@ -25,7 +25,7 @@ entry_among log t (x ∷ ts) =
       | inr d ↦ rw (ne_eqb x t (λ i. d (sym i)), ne_eqb t x d) (entry_among log t ts)
     ]
 
--- of the chosen transactions of the log each has an entry, and it is the true one
+-- each of the chosen transactions of the log has an entry, and it is the true one
 chosen_entry_for : (p : ℕ → Bool) (log : History) → ((t : ℕ) → p t ≡ true → has (is_of t) log ≡ true) → (t : ℕ)
     → entry_for t (map (true_entry log) (transactions_of p log)) ≡ cond (p t) (Some (true_entry log t)) None
 chosen_entry_for p log of_log t = entry_among log t (transactions_of p log) ∙ ap (λ b. cond b (Some (true_entry log t)) None) (among_is p log of_log t)
@@ -54,7 +54,7 @@ entries_where p q log same =
     ∙ ap (map (true_entry log)) (filter-filter (λ t. p (true_entry log t)) (λ t. is_unfinished t log) (numbers_from 0 (above_all log)))
     ∙ ap (λ f. map (true_entry log) (transactions_of f log)) (fun_ext same)
 
--- the entry of one in doubt is prepared, that of a loser is not
+-- the entry of a transaction in doubt is prepared, that of a loser is not
 prepared_is : (aborts prepares : Bool) → is_prepared (state_by aborts prepares) ≡ (prepares && not aborts)
 prepared_is true true = refl
 prepared_is true false = refl
@@ -85,7 +85,7 @@ module _ (base : BasePages) (log : History) (h : IsLawful base log) where
   abbrev lost : List TableEntry
   lost = lost_in (true_table log)
 
-  -- a transaction has an entry there where it is a loser, and it is the true one
+  -- a transaction has an entry there if it is a loser, and it is the true one
   lost_entry_for : (t : ℕ) → entry_for t lost ≡ cond (is_loser t log) (Some (true_entry log t)) None
   lost_entry_for t = ap (entry_for t) (lost_is log) ∙ chosen_entry_for (λ x. is_loser x log) log (λ x. loser_has x log) t
 

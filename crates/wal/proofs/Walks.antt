@@ -55,7 +55,7 @@ pub record Meets (t : ℕ) (log : History) (m : ℕ) (ms : List ℕ) : Type 0 wh
 Meets-more : (t : ℕ) (log : History) (r : LogRecord) (m : ℕ) (ms : List ℕ) → Meets t log m ms → Meets t (log ▸ r) m ms
 Meets-more t log r m ms p = record { update = p.update; found = record_more log r m (Update p.update) p.found; goes_on = walk_more t log r p.update.prev ms p.goes_on }
 
--- what the first update that is met tells
+-- what the first update that is met determines
 pub first_met : (t : ℕ) (log : History) (n m : ℕ) (ms : List ℕ) → Walks t log n (m ∷ ms) → Meets t log m ms
 first_met t (start _) n m ms w = absurd (let e : [] ≡ m ∷ ms = ap (λ w. w.met) w in cc)
 first_met t (log ▸ Update u) n m ms w =
@@ -130,7 +130,7 @@ leads_own_compensation base log c h o =
       last = λ _ _ _. walks_at c.tx (log ▸ Compensation c) _ _ _ _ l_is p_is (walk_from_compensation c.tx log c own ∙ g);
     }
 
--- a record that changes none of it
+-- a record that does not change any of it
 leads_same : (t : ℕ) (log : History) (r : LogRecord) → undo_next_of t (log ▸ r) ≡ undo_next_of t log → pending t (log ▸ r) ≡ pending t log
     → (finished t (log ▸ r) ≡ false → aborted t (log ▸ r) ≡ false → prepared t (log ▸ r) ≡ false
     → (finished t log ≡ false) × (aborted t log ≡ false) × (prepared t log ≡ false) × (last_of t (log ▸ r) ≡ last_of t log))

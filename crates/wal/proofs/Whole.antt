@@ -1,4 +1,4 @@
--- The frames that are read are the frames that stand there, and no others.
+-- The frames that are read are exactly the frames that are there.
 use Rattle.std.proofs.Common.{◌≡◌, ◌⊎◌, ℕ, zero, suc, ◌+◌, ◌-◌, ◌^◌, ◌<◌, ◌≤◌, ◌||◌, false, ltb, eqb, eq-eqb, List, [], ◌∷◌, ◌++◌, length, take, drop, Option, Some, None, Result, Ok, Err, refl, sym, ap, ap₂, subst, ◌∙◌, append_assoc, arith, inl, inr}
 use Rattle.std.specs.Prelude.{IfOk, IfErr}
 use Rattle.std.specs.List.{AllByRecursion}
@@ -38,7 +38,7 @@ ok_is x y e = cc
 
 -- ---- one frame
 
--- a found frame is the spelling of its record, and then the rest
+-- a frame that was found is the encoding of its record, followed by the rest
 pub found_frame : (lsn : ℕ) (bytes : List ℕ) (r : LogRecord) (size : ℕ) → AreBytes bytes → Found lsn bytes r size → (bytes ≡ frame r lsn ++ drop size bytes) × Fits r × (lsn < 2 ^ 64)
 found_frame lsn bytes r size fits found =
     let inner = body_takes (body_of bytes) r lsn (AreBytes-take (length_of bytes) (drop 4 bytes) (AreBytes-drop 4 bytes fits)) found.spelled in
@@ -85,7 +85,7 @@ body_size (CheckpointEnd begin transactions dirty) lsn fits =
     (omega (arith, a, b, c, d, e), omega (arith, a, b, c, d, e))
 body_size r lsn fits = (omega arith, omega arith)
 
--- a frame that stands in front is read
+-- a frame at the front is read
 pub frame_length : (r : LogRecord) (lsn : ℕ) (rest : List ℕ) → Fits r → length_of (frame r lsn ++ rest) ≡ length (body r lsn)
 frame_length r lsn rest fits =
     ap length_of (append_assoc (to_be_bytes w32 (length (body r lsn))) (body r lsn) rest)
@@ -187,7 +187,7 @@ one_more : (r : LogRecord) (rs : List LogRecord) (read : Result (List LogRecord 
 one_more r rs (Ok x) = refl
 one_more r rs (Err e) = refl
 
--- where whole frames stand in front, they are read, and what is read behind them
+-- whole frames at the front are read, and then what is read after them
 pub frames_on : (limit lsn offset : ℕ) (records : List LogRecord) (rest : List ℕ) → length records ≤ limit → AllByRecursion Fits records → lsn + length records ≤ 2 ^ 64
     → frames_at limit lsn offset (spellings lsn records ++ rest) ≡ with_front records (frames_at (limit - length records) (lsn + length records) (offset + length (spellings lsn records)) rest)
 unfolding frames_at
@@ -252,14 +252,14 @@ log_takes bytes x fits short e = by (start_at bytes) refl e
         let read = bind_ok (frames_behind begins bytes) (λ y. Ok (as_log begins y)) x h in
         subst (λ (y : LogContent × ℕ). Reads bytes y.0 y.1) (ok_is (as_log begins read.0) x read.2) (records_read begins bytes (header_taken bytes begins fits is) read.0 fits short read.1)
 
--- a header, frames, and what stands behind them
+-- a header, frames, and what follows them
 pub record Begins (text : List ℕ) (begins : LogStart) (records : List LogRecord) (tail : List ℕ) : Type 0 where
   pub starts : FitsStart begins
   pub text_is : text ≡ header_of begins ++ (spellings (lsn_before begins + 1) records ++ tail)
   pub each : AllByRecursion Fits records
   pub few : lsn_before begins + 1 + length records ≤ 2 ^ 64
 
--- the LSN and the offset of a frame behind them
+-- the LSN and the offset of a frame after them
 abbrev pub lsn_behind : LogStart → List LogRecord → ℕ
 lsn_behind begins records = lsn_before begins + 1 + length records
 
@@ -287,7 +287,7 @@ log_begun : (text : List ℕ) (begins : LogStart) (records : List LogRecord) (ta
 unfolding log_at
 log_begun text begins records tail b = ap (log_from text) (ap start_at b.text_is ∙ start_again begins (spellings (lsn_before begins + 1) records ++ tail) b.starts)
 
--- the log ends where no more than a torn tail comes
+-- the log ends if at most a torn tail follows
 pub log_ends : (text : List ℕ) (begins : LogStart) (records : List LogRecord) (tail : List ℕ) → Begins text begins records tail → next_at (lsn_behind begins records) (offset_behind begins records) tail ≡ Ok None
     → log_at text ≡ Ok (record { begins = begins; records = records }, length tail)
 log_ends text begins records tail b none =
@@ -295,7 +295,7 @@ log_ends text begins records tail b none =
     ∙ ap (λ read. read >>= λ y. Ok (as_log begins y))
     (ends records (length text) (length records) (lsn_behind begins records) (offset_behind begins records) tail (frames_behind begins text) (fewer text begins records tail b) none (read_behind text begins records tail b))
 
--- what is wrong behind whole frames is what is wrong with the log
+-- what is wrong after whole frames is what is wrong with the log
 pub log_fails : (text : List ℕ) (begins : LogStart) (records : List LogRecord) (tail : List ℕ) (e : Fault) → Begins text begins records tail → Fails e (next_at (lsn_behind begins records) (offset_behind begins records) tail)
     → Fails e (log_at text)
 log_fails text begins records tail e b wrong =

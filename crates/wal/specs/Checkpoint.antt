@@ -6,20 +6,20 @@ use Rattle.wal.specs.Meaning.{state_at, last_of, undo_next_of, is_on}
 use Rattle.wal.specs.Tail.{unfinished_of}
 use Rattle.wal.specs.Redo.{rec_lsn_of}
 
--- THE CHECKPOINT. ARIES, section 5.4 (fuzzy checkpoints); that the tables describe the moment of the begin, and that the
--- first end which names it counts, are own.
+-- THE CHECKPOINT. ARIES, section 5.4 (fuzzy checkpoints). Two rules are own: the tables describe the moment of the begin record, and the
+-- first end that names it counts.
 abbrev pub or_else : {A : Type 0} → Option A → Option A → Option A
 or_else (Some x) other = Some x
 or_else None other = other
 
--- the tables of the first checkpoint end behind the LSN m that names m
+-- the tables of the first checkpoint end after the LSN m that names m
 abbrev pub first_end : ℕ → History → Option (List TableEntry × List (ℕ × ℕ))
 first_end m (start _) = None
 first_end m (log ▸ CheckpointEnd begin transactions dirty) =
     or_else (first_end m log) (if begin == m && nat_le m (last_lsn log) then Some (transactions, dirty) else None)
 first_end m (log ▸ _) = first_end m log
 
--- CHECKPOINT of the master m: a begin stands there, and a later end names it. Its tables are those of the first such end. ARIES,
+-- CHECKPOINT of the master m: there is a begin record at m, and a later end names it. Its tables are those of the first such end. ARIES,
 -- section 5.4 (fuzzy checkpoints); that the first end counts is own.
 abbrev pub is_begin : Option LogRecord → Bool
 is_begin (Some CheckpointBegin) = true
@@ -32,12 +32,12 @@ checkpoint_at m log = if is_begin (record_at log m) then first_end m log else No
 abbrev pub true_entry : History → ℕ → TableEntry
 true_entry log t = record { tx = t; state = state_at t log; last = last_of t log; undo_next = undo_next_of t log }
 
--- the unfinished transactions of the log with what is true of them, in rising number
+-- the unfinished transactions of the log with what is true of them, in ascending order of number
 abbrev pub true_table : History → List TableEntry
 true_table log = map (true_entry log) (unfinished_of log)
 
--- DIRTY LAW of a checkpoint at m, for a page: its RecLSN is of the log and at most m, and no record up to m that its image lacks
--- is left out
+-- DIRTY LAW of a checkpoint at m, for a page: its RecLSN is an LSN of the log and at most m, and no record up to m that its image lacks is
+-- left out
 pub record DirtyLaw (log : History) (m page page_lsn : ℕ) (listed : Option ℕ) : Type 0 where
   pub range : (rec_lsn : ℕ) → listed ≡ Some rec_lsn → (base_lsn log < rec_lsn) × (rec_lsn ≤ m)
   pub covers : (lsn : ℕ) (r : LogRecord) → lsn ≤ m → record_at log lsn ≡ Some r → is_on page r ≡ true
@@ -51,6 +51,6 @@ pub record TablesLaw (log : History) (pages : List Page) (m : ℕ) : Type 0 wher
   pub transactions_are : transactions ≡ true_table (first m log)
   pub dirty_are : All (λ page. DirtyLaw log m page.number page.lsn (rec_lsn_of page.number dirty)) pages
 
--- CHECKPOINT LAW for the master m: there is none, or its tables are true.
+-- CHECKPOINT LAW for the master m: there is no checkpoint, or its tables are true.
 abbrev pub CheckpointLaw : History → List Page → ℕ → Type 0
 CheckpointLaw log pages m = (m ≡ 0) ⊎ TablesLaw log pages m

@@ -1,4 +1,4 @@
--- A record of the program, and one as it lies in the bytes of a log, as the laws see them (own).
+-- A record of the program, and a record as it is in the bytes of a log, as the laws see them (own).
 use Rattle.std.specs.Prelude.{◌≡◌, ℕ, List, ◌++◌, map, option_map}
 use Rattle.wal.specs.declared.record.Entry.{Entry}
 use Rattle.wal.specs.declared.record.Record.{Record}
@@ -9,7 +9,7 @@ use Rattle.wal.specs.declared.view.RecordView.{RecordView}
 use Rattle.wal.specs.declared.view.RecordView.TheVariants as view
 use Rattle.wal.specs.Meaning.{Change}
 
--- a transaction and what a table says of it
+-- a transaction and its entry in a table
 abbrev pub entry_of : ℕ × Entry → TableEntry
 entry_of p = record { tx = p.0; state = p.1.state; last = p.1.last; undo_next = p.1.undo_next }
 
@@ -24,7 +24,7 @@ content (code.Prepare tx prev) = Prepare (record { tx = tx; prev = prev })
 content code.CheckpointBegin = CheckpointBegin
 content (code.CheckpointEnd begin transactions dirty) = CheckpointEnd begin (map entry_of transactions.items) dirty.items
 
--- the record that a view shows: without where its parts lie in memory
+-- the record that a view shows, without the places of its parts in memory
 abbrev pub shown : RecordView → LogRecord
 shown (view.Update tx prev page slot before after) =
     Update (record { tx = tx; prev = prev; page = page; slot = slot; before = option_map (λ s. s.now) before; after = option_map (λ s. s.now) after })
@@ -42,7 +42,7 @@ abbrev pub shown_change : put.Change → Change
 shown_change c = record { page = c.page; slot = c.slot; image = option_map (λ s. s.now) c.image }
 
 -- BYTES
--- what stood there is still in front
+-- the bytes that were there are still in front
 pub record Keeps (old new : List ℕ) : Type 0 where
   pub more : List ℕ
   pub is : new ≡ old ++ more

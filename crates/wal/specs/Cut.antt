@@ -1,4 +1,4 @@
--- CUT. What a restart may leave that was interrupted (own).
+-- CUT. What an interrupted restart may leave (own).
 use Rattle.std.specs.Prelude.{◌≡◌, ◌≤◌, ◌<◌, ℕ, List, ◌++◌, length, All, slice_index_or}
 use Rattle.page.specs.declared.page.Page.{Page}
 use Rattle.page.specs.Store.{StoreContent}
@@ -8,9 +8,8 @@ use Rattle.wal.specs.Tail.{with_tail}
 use Rattle.wal.specs.Reads.{log_text, Reads}
 use Rattle.wal.specs.Pages.{PageLaw}
 
--- CUT (own). What a restart of (L, S) that was interrupted may leave: L's log text and a beginning of its tail's, with the
--- whole records L' in it; and a store of the same count and master whose pages keep the page law over L', none of them older
--- than in S.
+-- CUT (own). What an interrupted restart of (L, S) may leave: the bytes of the log L and a prefix of the bytes of its tail, whose whole
+-- records make the log L'; and a store of the same count and master whose pages keep the page law over L', none of them older than in S.
 pub record Cut (base : BasePages) (log : LogContent) (store : StoreContent) (bytes : List ℕ) (left : StoreContent) : Type 0 where
   pub written : List ℕ
   pub missing : List ℕ

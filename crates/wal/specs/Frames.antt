@@ -1,4 +1,4 @@
--- Reading the frames of a log from left to right, with the first fault that is met (own).
+-- Reading the frames of a log from left to right, up to the first fault (own).
 use Rattle.std.specs.Prelude.{◌≡◌, ℕ, zero, suc, ◌+◌, ◌*◌, ◌^◌, ◌≤◌, ◌<◌, true, All, ◌||◌, List, [], ◌∷◌, length, take, drop, Option, Some, None, Result, Ok, Err, nat_lt, ◌==◌, if◌then◌else◌, get_or, is_some, option_map, unwrap_or, ⊤}
 use Rattle.std.specs.Int.{w32, from_be_bytes}
 use Rattle.page.specs.declared.fault.Fault.{Fault}
@@ -10,54 +10,54 @@ use Rattle.wal.specs.Reading.{body_at}
 use Rattle.wal.specs.Spelling.{Fits}
 use Rattle.wal.specs.declared.sizes.TheConstants.{HEADER_BYTES, LARGEST_BODY, SMALLEST_BODY, SMALLEST_FRAME}
 
--- the length that a frame in front says, and its body
+-- the length that a frame at the front says, and its body
 abbrev pub length_of : List ℕ → ℕ
 length_of bytes = from_be_bytes w32 (take 4 bytes)
 
 abbrev pub body_of : List ℕ → List ℕ
 body_of bytes = take (length_of bytes) (drop 4 bytes)
 
--- what the body of the frame in front spells
+-- what the body of the frame at the front encodes
 abbrev pub frame_at : List ℕ → Option (LogRecord × ℕ)
 frame_at bytes = body_at (body_of bytes)
 
--- a body that spells a record, if there is one, and what it spells has a spelling
+-- a body that encodes a record, if there is one, and that record has an encoding
 pub record IsBody (bytes : List ℕ) : Type 0 where
   pub spelled : 0 < length bytes → is_some (body_at bytes) ≡ true
   pub fits : (r : LogRecord) (lsn : ℕ) → body_at bytes ≡ Some (r, lsn) → Fits r
 
 -- THE LOG BY ITS OFFSETS
--- a frame stands at the offset, and its body spells a record
+-- a frame is at the offset, and its body encodes a record
 pub record IsPlace (bytes : List ℕ) (offset : ℕ) : Type 0 where
   pub room : offset + 4 ≤ length bytes
   pub whole : offset + 4 + length_of (drop offset bytes) ≤ length bytes
   pub spelled : is_some (frame_at (drop offset bytes)) ≡ true
 
--- so does at each, each in bytes of its own: behind the header
+-- so it is at each offset, and each frame has bytes of its own after the header
 pub record ArePlaces (bytes : List ℕ) (offsets : List ℕ) : Type 0 where
   pub each : All (IsPlace bytes) offsets
   pub room : HEADER_BYTES + SMALLEST_FRAME * length offsets ≤ length bytes
 
--- these records, each in bytes of its own behind the header, are those of a log that begins so
+-- these records, each in bytes of its own after the header, are those of a log with this start
 pub record IsLog (begins : LogStart) (records : List LogRecord) : Type 0 where
   pub starts : FitsStart begins
   pub room : HEADER_BYTES + SMALLEST_FRAME * length records < 2 ^ 63
 
--- the record of the frame at an offset (some record, where none is)
+-- the record of the frame at an offset (some record, if there is none)
 unfoldable pub record_of : List ℕ → ℕ → LogRecord
 record_of bytes offset = unwrap_or (option_map (λ x. x.0) (frame_at (drop offset bytes))) CheckpointBegin
 
--- the record with this number from 0 (some record, where there is none)
+-- the record with this number from 0 (some record, if there is none)
 abbrev pub entry_at : List LogRecord → ℕ → LogRecord
 entry_at records index = get_or records index CheckpointBegin
 
 -- READING
--- a body that was looked at: it spells no record, or has the wrong LSN, or is the frame
+-- the result for a body that was looked at: it encodes no record, or it has the wrong LSN, or it is the frame
 abbrev pub frame_if_right : (lsn offset size : ℕ) → Option (LogRecord × ℕ) → Result (Option (LogRecord × ℕ)) Fault
 frame_if_right lsn offset size None = Err (BadRecord offset)
 frame_if_right lsn offset size (Some x) = if x.1 == lsn then Ok (Some (x.0, size)) else Err (BadLsn offset)
 
--- the record of a frame in front and the bytes that the frame takes, or None where the whole frames have ended
+-- the record of the frame at the front and the bytes that the frame takes, or None after the last whole frame
 unfoldable pub next_at : (lsn offset : ℕ) → List ℕ → Result (Option (LogRecord × ℕ)) Fault
 next_at lsn offset bytes =
     if nat_lt (length bytes) 4 then Ok None
@@ -75,17 +75,17 @@ abbrev pub ◌>>=◌ : {A B : Type 0} → Result A Fault → (A → Result B Fau
 (Ok x) >>= f = f x
 (Err e) >>= f = Err e
 
--- a frame, and what is read behind it
+-- a frame, and what is read after it
 abbrev pub frame_then : List ℕ → (ℕ → Result (List LogRecord × ℕ) Fault) → Option (LogRecord × ℕ) → Result (List LogRecord × ℕ) Fault
 frame_then bytes others None = Ok ([], length bytes)
 frame_then bytes others (Some x) = others x.1 >>= λ y. Ok (x.0 ∷ y.0, y.1)
 
--- the records of at most this number of frames, and how many bytes are left; the first frame has this LSN and stands at this offset
+-- the records of at most this number of frames, and how many bytes are left; the first frame has this LSN and is at this offset
 unfoldable pub frames_at : (limit lsn offset : ℕ) → List ℕ → Result (List LogRecord × ℕ) Fault
 frames_at zero lsn offset bytes = Ok ([], length bytes)
 frames_at (suc limit) lsn offset bytes = next_at lsn offset bytes >>= frame_then bytes (λ size. frames_at limit (lsn + 1) (offset + size) (drop size bytes))
 
--- the frames behind the header of a log that begins so
+-- the frames after the header of a log with this start
 abbrev pub frames_behind : LogStart → List ℕ → Result (List LogRecord × ℕ) Fault
 frames_behind begins bytes = frames_at (length bytes) (lsn_before begins + 1) (header_bytes begins) (drop (header_bytes begins) bytes)
 
@@ -101,7 +101,7 @@ log_from bytes (Some begins) = frames_behind begins bytes >>= λ x. Ok (as_log b
 unfoldable pub log_at : List ℕ → Result (LogContent × ℕ) Fault
 log_at bytes = log_from bytes (start_at bytes)
 
--- What a function returned, seen by view, is what reading gives, unless memory ran out.
+-- What a function returned, seen through `view`, is what reading gives, unless memory ran out.
 abbrev pub Fails : {Y : Type 0} → Fault → Result Y Fault → Type 0
 Fails NoResource read = ⊤
 Fails e read = read ≡ Err e

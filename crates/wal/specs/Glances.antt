@@ -18,7 +18,7 @@ glance_of (Prepare s) = seen.Prepare s.tx
 glance_of CheckpointBegin = seen.Checkpoint
 glance_of (CheckpointEnd begin transactions dirty) = seen.Checkpoint
 
--- whose record it is; a checkpoint's is nobody's
+-- the transaction of the record; a record of a checkpoint has none
 abbrev pub owner_seen : Glance → Option ℕ
 owner_seen (seen.Update tx page slot) = Some tx
 owner_seen (seen.Compensation tx page slot undo_next) = Some tx
@@ -28,7 +28,7 @@ owner_seen (seen.End tx) = Some tx
 owner_seen (seen.Prepare tx) = Some tx
 owner_seen seen.Checkpoint = None
 
--- what is seen behind an LSN: of the record whose LSN is one more, which has a spelling
+-- what is seen after an LSN: the record whose LSN is one higher, which has an encoding
 pub record IsGlanceBehind (log : History) (lsn : ℕ) (glance : Glance) : Type 0 where
   pub entry : LogRecord
   pub there : record_at log (lsn + 1) ≡ Some entry
@@ -36,7 +36,7 @@ pub record IsGlanceBehind (log : History) (lsn : ℕ) (glance : Glance) : Type 0
   pub fits : Fits entry
   pub next : first (lsn + 1) log ≡ first lsn log ▸ entry
 
--- READING. As much of a body as it takes.
+-- READING. Only as much of a body as is needed.
 unfoldable pub update_glance : List ℕ → Option Glance
 update_glance bytes = do
   own ← plain_at bytes

@@ -14,7 +14,7 @@ magic_1 = 0x41 ∷ 0x52 ∷ 0x49 ∷ 0x45 ∷ 0x53 ∷ 0x4c ∷ 0x47 ∷ 0x31 �
 abbrev pub magic_2 : List ℕ
 magic_2 = 0x41 ∷ 0x52 ∷ 0x49 ∷ 0x45 ∷ 0x53 ∷ 0x4c ∷ 0x47 ∷ 0x32 ∷ []
 
--- the header: the magic of the version, and in the second the base LSN behind it
+-- the header: the magic of the version, and in version 2 the base LSN after it
 abbrev pub header_of : LogStart → List ℕ
 header_of Version1 = magic_1
 header_of (Version2 base) = magic_2 ++ to_be_bytes w64 base
@@ -24,12 +24,12 @@ abbrev pub header_bytes : LogStart → ℕ
 header_bytes Version1 = HEADER_BYTES
 header_bytes (Version2 base) = BASED_HEADER_BYTES
 
--- a base LSN is not so large that LSNs could run out
+-- a base LSN is small enough that LSNs cannot run out
 abbrev pub FitsStart : LogStart → Type 0
 FitsStart Version1 = ⊤
 FitsStart (Version2 base) = base ≤ LARGEST_BASE
 
--- READING. How the log in these bytes begins, or None where they begin with no header.
+-- READING. How the log in these bytes begins, or None if they begin with no header.
 unfoldable pub start_at : List ℕ → Option LogStart
 start_at bytes =
     if starts_with nat_eq bytes magic_1 then Some Version1

@@ -1,11 +1,11 @@
--- What a log means: who has finished, what it leaves in the cells, what is pending.
+-- What a log means: which transactions have finished, what it leaves in the cells, what is pending.
 use Rattle.std.specs.Prelude.{ℕ, suc, List, [], ◌∷◌, Option, Some, None, Bool, true, false, not, ◌&&◌, ◌||◌, ◌==◌, ◌≤◌, if◌then◌else◌, drop, option_map}
 use Rattle.page.specs.Image.{Image}
 use Rattle.wal.specs.declared.record.State.{State}
 use Rattle.wal.specs.declared.record.State.TheVariants.{Active, Prepared, Aborting}
 use Rattle.wal.specs.Records.{LogRecord, Update, Compensation, Commit, Abort, End, Prepare, CheckpointBegin, CheckpointEnd, History, start, ◌▸◌, last_lsn, base_lsn}
 
--- OWNER. The transaction whose record it is; a checkpoint's has none. ARIES, section 4.1 (TransID).
+-- OWNER. The transaction of a record; a record of a checkpoint has none. ARIES, section 4.1 (TransID).
 abbrev pub owner : LogRecord → Option ℕ
 owner (Update u) = Some u.tx
 owner (Compensation c) = Some c.tx
@@ -16,7 +16,7 @@ owner (Prepare s) = Some s.tx
 owner CheckpointBegin = None
 owner (CheckpointEnd begin transactions dirty) = None
 
--- its PrevLSN; a checkpoint's has none
+-- its PrevLSN; a record of a checkpoint has none
 abbrev pub prev_of : LogRecord → ℕ
 prev_of (Update u) = u.prev
 prev_of (Compensation c) = c.prev
@@ -57,8 +57,8 @@ abbrev pub has : (LogRecord → Bool) → History → Bool
 has test (start _) = false
 has test (log ▸ r) = test r || has test log
 
--- STATUS. Committed, aborted, ended, prepared, finished, unfinished, in doubt, and what a loser is. ARIES, sections 5.2, 5.3 and
--- 6.1 (prepared transactions of a two-phase commit); that a commit finishes a transaction is own.
+-- STATUS. What committed, aborted, ended, prepared, finished, unfinished, in doubt and loser mean. ARIES, sections 5.2, 5.3 and 6.1
+-- (prepared transactions of a two-phase commit); that a commit finishes a transaction is own.
 abbrev pub committed : ℕ → History → Bool
 committed t log = has (is_commit_of t) log
 
@@ -74,19 +74,19 @@ prepared t log = has (is_prepare_of t) log
 abbrev pub finished : ℕ → History → Bool
 finished t log = committed t log || ended t log
 
--- the tables of a checkpoint and of analysis list the unfinished ones
+-- the tables of a checkpoint and of analysis list the unfinished transactions
 abbrev pub is_unfinished : ℕ → History → Bool
 is_unfinished t log = has (is_of t) log && not (finished t log)
 
--- in doubt: it has prepared to commit and not turned back, and whoever coordinates it has not settled it yet
+-- in doubt: it has prepared to commit and has not aborted, and its coordinator has not settled it yet
 abbrev pub in_doubt : ℕ → History → Bool
 in_doubt t log = is_unfinished t log && (prepared t log && not (aborted t log))
 
--- a restart rolls the losers back: the unfinished ones that are not in doubt
+-- a restart rolls the losers back: the unfinished transactions that are not in doubt
 abbrev pub is_loser : ℕ → History → Bool
 is_loser t log = is_unfinished t log && not (in_doubt t log)
 
--- the state of an unfinished one: an abort outweighs a prepare
+-- the state of an unfinished transaction: an abort outweighs a prepare
 abbrev pub state_by : (aborts prepares : Bool) → State
 state_by aborts prepares = if aborts then Aborting else if prepares then Prepared else Active
 
@@ -133,7 +133,7 @@ writes page slot r = is_in_cell page slot (change_of r)
 abbrev pub image_of : LogRecord → Image
 image_of r = image_put (change_of r)
 
--- what the record at an LSN did, where there is one
+-- what the record at an LSN did, if there is one
 abbrev pub image_in : Option LogRecord → Image
 image_in None = None
 image_in (Some r) = image_of r
@@ -150,15 +150,15 @@ pub record BasePages : Type 0 where
   pub cells : Cells
   pub page_lsn : ℕ → ℕ
 
--- where the log begins over empty pages
+-- a log that begins over empty pages
 abbrev pub no_base : BasePages
 no_base = record { cells = empty; page_lsn = λ page. 0 }
 
--- BASE LAW. The base pages are of records before the log. Own.
+-- BASE LAW. The PageLSNs of the base pages are those of records before the log. Own.
 abbrev pub BaseLaw : BasePages → History → Type 0
 BaseLaw base log = (page : ℕ) → base.page_lsn page ≤ base_lsn log
 
--- what cells become by the effects of the chosen records, in order: a record is chosen by its LSN and itself
+-- what the effects of the chosen records, in order, make of the cells: a record is chosen by its LSN and its content
 abbrev pub effects : (ℕ → LogRecord → Bool) → Cells → History → Cells
 effects chosen cells (start _) page slot = cells page slot
 effects chosen cells (log ▸ r) page slot =
@@ -168,7 +168,7 @@ effects chosen cells (log ▸ r) page slot =
 abbrev pub replay : BasePages → History → Cells
 replay base log = effects (λ _ _. true) base.cells log
 
--- the effects over given cells of the records of these transactions alone
+-- the effects of only the records of these transactions, over given cells
 abbrev pub is_owned_among : (ℕ → Bool) → Option ℕ → Bool
 is_owned_among chosen None = false
 is_owned_among chosen (Some t) = chosen t
@@ -176,8 +176,8 @@ is_owned_among chosen (Some t) = chosen t
 abbrev pub effects_of : (ℕ → Bool) → Cells → History → Cells
 effects_of chosen cells log = effects (λ _ r. is_owned_among chosen (owner r)) cells log
 
--- WINNERS. The effects over the base pages of those records alone whose transaction is committed or in doubt in the log. ARIES,
--- section 3 (what recovery is for).
+-- WINNERS. Over the base pages, the effects of only those records whose transaction is committed or in doubt in the log. ARIES, section 3
+-- (what recovery is for).
 abbrev pub is_winner : History → ℕ → Bool
 is_winner log t = committed t log || in_doubt t log
 
@@ -188,8 +188,8 @@ winners base log = effects_of (is_winner log) base.cells log
 abbrev pub touches : ℕ → ℕ → ℕ → History → Bool
 touches t page slot log = has (λ r. is_of t r && writes page slot r) log
 
--- PENDING. The updates of t not yet compensated, by LSN, the newest on top: an update goes onto the stack, a CLR takes the
--- top off (an empty stack stays empty). ARIES, section 5.2 (CLRs and nested rollbacks); as a stack, own.
+-- PENDING. The updates of t that are not yet compensated, by LSN, the newest on top: an update is pushed on the stack, a CLR takes the top
+-- off (an empty stack stays empty). ARIES, section 5.2 (CLRs and nested rollbacks); as a stack, own.
 abbrev pub pending : ℕ → History → List ℕ
 pending t (start _) = []
 pending t (log ▸ Update u) = if u.tx == t then suc (last_lsn log) ∷ pending t log else pending t log
@@ -201,7 +201,8 @@ abbrev pub last_of : ℕ → History → ℕ
 last_of t (start _) = 0
 last_of t (log ▸ r) = if is_of t r then suc (last_lsn log) else last_of t log
 
--- RAW UNDO-NEXT. Of the last update or CLR of t the own LSN, or its UndoNxtLSN; else 0. ARIES, section 4.3.
+-- RAW UNDO-NEXT. The LSN of the last update or CLR of t if it is an update, its UndoNxtLSN if it is a CLR; 0 if there is none. ARIES,
+-- section 4.3.
 abbrev pub undo_next_of : ℕ → History → ℕ
 undo_next_of t (start _) = 0
 undo_next_of t (log ▸ Update u) = if u.tx == t then suc (last_lsn log) else undo_next_of t log
@@ -212,7 +213,7 @@ undo_next_of t (log ▸ _) = undo_next_of t log
 abbrev pub is_on : ℕ → LogRecord → Bool
 is_on page r = is_on_page page (change_of r)
 
--- LAST-ON. The LSN of the last update or CLR on the page, or where there is none the PageLSN given. ARIES, section 4.2 (PageLSN).
+-- LAST-ON. The LSN of the last update or CLR on the page, or the given PageLSN if there is none. ARIES, section 4.2 (PageLSN).
 abbrev pub last_on_from : (page page_lsn : ℕ) → History → ℕ
 last_on_from page page_lsn (start _) = page_lsn
 last_on_from page page_lsn (log ▸ r) = if is_on page r then suc (last_lsn log) else last_on_from page page_lsn log

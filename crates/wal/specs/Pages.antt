@@ -1,4 +1,5 @@
--- PAGES. The base pages that a store has, and the law of a page: what a log has made of it. ARIES, section 4.2 (PageLSN); base pages are own.
+-- PAGES. The base pages that a store has, and the law of a page: what a log has made of it. ARIES, section 4.2 (PageLSN); base pages are
+-- own.
 use Rattle.std.specs.Prelude.{◌≡◌, ◌≤◌, ◌⊎◌, ℕ, List, Option, Some, None, true, slice_index_or}
 use Rattle.std.specs.List.{slice_get}
 use Rattle.page.specs.declared.page.Page.{Page}
@@ -7,7 +8,7 @@ use Rattle.wal.specs.Records.{LogRecord, History, last_lsn, record_at, first}
 use Rattle.wal.specs.Meaning.{BasePages, replay, is_on}
 use Rattle.wal.specs.Redo.{slots_in}
 
--- the base pages that the pages of a store are, each at the place of its number
+-- the pages of a store as base pages, each at the index of its number
 abbrev pub held_in : Option Page → ℕ → Image
 held_in None slot = None
 held_in (Some page) slot = slice_index_or page.slots slot None
@@ -19,8 +20,8 @@ lsn_of (Some page) = page.lsn
 abbrev pub base_pages : List Page → BasePages
 base_pages pages = record { cells = λ page slot. held_in (slice_get pages page) slot; page_lsn = λ page. lsn_of (slice_get pages page) }
 
--- PAGE LAW. PageLSN is that of the base page or the LSN of a record on the page, and the slots are what the log up to PageLSN
--- makes of the base page's. ARIES, section 4.2 (PageLSN), and write-ahead logging, section 1.1.
+-- PAGE LAW. The PageLSN is that of the base page or the LSN of a record on the page, and the slots are what the log up to the PageLSN makes
+-- of the base page's slots. ARIES, section 4.2 (PageLSN), and write-ahead logging, section 1.1.
 pub record PageLaw (base : BasePages) (log : History) (page : Page) : Type 0 where
   pub within : page.lsn ≤ last_lsn log
   pub on_page : (page.lsn ≡ base.page_lsn page.number) ⊎ ((r : LogRecord) × (record_at log page.lsn ≡ Some r) × (is_on page.number r ≡ true))

@@ -1,4 +1,4 @@
--- Reading the body of a frame from left to right: a record and its LSN, or None where the bytes spell none.
+-- Reading the body of a frame from left to right: a record and its LSN, or None if the bytes encode no record.
 use Rattle.std.specs.Prelude.{◌≡◌, ℕ, zero, suc, ◌+◌, ◌*◌, ◌≤◌, ◌<◌, true, List, [], ◌∷◌, length, take, drop, map, Option, Some, None, nat_lt, ◌==◌, if◌then◌else◌, is_some, option_map, unwrap_or}
 use Rattle.std.specs.List.{range_with_len}
 use Rattle.std.specs.Int.{Width, w32, w64, byte_len, from_be_bytes}
@@ -94,7 +94,7 @@ dirty_at bytes = do
   rec_lsn ← number_at w64 page.1
   Some ((page.0, rec_lsn.0), rec_lsn.1)
 
--- this number of entries, rising, none of them below `low`
+-- this number of entries, in ascending order, none of them below `low`
 unfoldable pub table_at : {E : Type 0} (number : E → ℕ) (entry : List ℕ → Option (E × List ℕ)) (count low : ℕ) → List ℕ → Option (List E × List ℕ)
 table_at number entry zero low bytes = Some ([], bytes)
 table_at number entry (suc count) low bytes = do
@@ -114,7 +114,7 @@ dirties_at bytes = do
   count ← number_at w32 bytes
   if nat_lt PAGES count.0 then None else table_at page_in dirty_at count.0 0 count.1
 
--- the begin that it names, and the two tables
+-- the begin record that it names, and the two tables
 unfoldable pub checkpoint_at : List ℕ → Option (LogRecord × List ℕ)
 checkpoint_at bytes = do
   begin ← number_at w64 bytes
@@ -135,7 +135,7 @@ fields_at kind bytes =
     else if kind == 8 then plain_record_at Prepare bytes
     else None
 
--- the kind, the LSN and the fields, and no byte behind them
+-- the kind, the LSN and the fields, and no byte after them
 unfoldable pub body_at : List ℕ → Option (LogRecord × ℕ)
 body_at [] = None
 body_at (kind ∷ bytes) = do
@@ -144,7 +144,7 @@ body_at (kind ∷ bytes) = do
   if length fields.1 == 0 then Some (fields.0, lsn.0) else None
 
 -- A TABLE THAT STAYS IN THE BYTES
--- the entry in front (some entry, where none is)
+-- the entry at the front (some entry, if there is none)
 unfoldable pub entry_there : {E : Type 0} (entry : List ℕ → Option (E × List ℕ)) (other : E) → List ℕ → E
 entry_there entry other bytes = unwrap_or (option_map (λ x. x.0) (entry bytes)) other
 
@@ -152,7 +152,7 @@ entry_there entry other bytes = unwrap_or (option_map (λ x. x.0) (entry bytes))
 abbrev pub table_in : {E : Type 0} (entry : List ℕ → Option (E × List ℕ)) (other : E) (size count : ℕ) → List ℕ → List E
 table_in entry other size count bytes = map (λ place. entry_there entry other (drop (size * place) bytes)) (range_with_len 0 count)
 
--- there is room for this number of them, and each can be read
+-- there are bytes for this number of entries, and each can be read
 pub record IsTable {E : Type 0} (entry : List ℕ → Option (E × List ℕ)) (size count : ℕ) (bytes : List ℕ) : Type 0 where
   pub room : size * count ≤ length bytes
   pub each : (place : ℕ) → place < count → is_some (entry (drop (size * place) bytes)) ≡ true

@@ -1,4 +1,4 @@
--- What a log file is: the header, the spellings of its records with the LSNs behind its base LSN, and a torn tail (own).
+-- What a log file is: the header, the encodings of its records with the LSNs after its base LSN, and a torn tail (own).
 use Rattle.std.specs.Prelude.{◌≡◌, ◌≢◌, ℕ, ◌+◌, ◌<◌, ◌≤◌, ◌^◌, List, [], ◌∷◌, ◌++◌, length, drop, ◌⊎◌, ⊤}
 use Rattle.std.specs.List.{AllByRecursion}
 use Rattle.wal.specs.declared.header.LogStart.{LogStart}
@@ -11,7 +11,7 @@ use Rattle.page.specs.declared.fault.Fault.TheVariants.{NoResource, BadLogHeader
 use Rattle.wal.specs.Frames.{length_of, body_of}
 use Rattle.wal.specs.declared.sizes.TheConstants.{LARGEST_BODY, SMALLEST_BODY}
 
--- the spellings of these records, the first of them with this LSN
+-- the encodings of these records, the first of them with this LSN
 abbrev pub spellings : ℕ → List LogRecord → List ℕ
 spellings lsn [] = []
 spellings lsn (r ∷ rs) = frame r lsn ++ spellings (lsn + 1) rs
@@ -19,7 +19,7 @@ spellings lsn (r ∷ rs) = frame r lsn ++ spellings (lsn + 1) rs
 abbrev pub log_text : LogContent → List ℕ
 log_text log = header_of log.begins ++ spellings (lsn_before log.begins + 1) log.records
 
--- up to 3 bytes, or a length that a body may have and fewer bytes than it says
+-- up to 3 bytes, or a length that a body may have and fewer bytes than this length
 abbrev pub IsTorn : List ℕ → Type 0
 IsTorn tail = (length tail < 4) ⊎ ((4 ≤ length tail) × (SMALLEST_BODY ≤ length_of tail) × (length_of tail ≤ LARGEST_BODY) × (length tail < 4 + length_of tail))
 
@@ -32,7 +32,7 @@ pub record Reads (bytes : List ℕ) (log : LogContent) (torn : ℕ) : Type 0 whe
   pub each : AllByRecursion Fits log.records
   pub few : last_lsn (history log) < 2 ^ 64
 
--- one text has one reading
+-- the same bytes have one reading
 abbrev pub OneReading : Type 0
 OneReading = (bytes : List ℕ) (first second : LogContent) (t u : ℕ) → Reads bytes first t → Reads bytes second u → (first ≡ second) × (t ≡ u)
 
@@ -40,14 +40,14 @@ OneReading = (bytes : List ℕ) (first second : LogContent) (t u : ℕ) → Read
 abbrev pub IsWhole : List ℕ → Type 0
 IsWhole bytes = (SMALLEST_BODY ≤ length_of bytes) × (length_of bytes ≤ LARGEST_BODY) × (4 + length_of bytes ≤ length bytes)
 
--- what is wrong in front, where a frame with this LSN should stand
+-- what is wrong at the front, where there should be a frame with this LSN
 abbrev pub HasFault : Fault → (lsn offset : ℕ) → List ℕ → Type 0
 HasFault (BadLength place) lsn offset bytes = (place ≡ offset) × (4 ≤ length bytes) × ((length_of bytes < SMALLEST_BODY) ⊎ (LARGEST_BODY < length_of bytes))
 HasFault (BadRecord place) lsn offset bytes = (place ≡ offset) × IsWhole bytes × ((r : LogRecord) (n : ℕ) → Fits r → n < 2 ^ 64 → body_of bytes ≢ body r n)
 HasFault (BadLsn place) lsn offset bytes = (place ≡ offset) × IsWhole bytes × (r : LogRecord) × (n : ℕ) × Fits r × (n < 2 ^ 64) × (body_of bytes ≡ body r n) × (n ≢ lsn)
 HasFault e lsn offset bytes = ⊥
 
--- whole frames with right LSNs, and behind them the fault
+-- whole frames with right LSNs, followed by the fault
 pub record FaultBehind (lsn offset : ℕ) (bytes : List ℕ) (e : Fault) : Type 0 where
   pub records : List LogRecord
   pub rest : List ℕ
@@ -56,23 +56,23 @@ pub record FaultBehind (lsn offset : ℕ) (bytes : List ℕ) (e : Fault) : Type 
   pub few : lsn + length records < 2 ^ 64
   pub fault : HasFault e (lsn + length records) (offset + length (spellings lsn records)) rest
 
--- a header, and behind it frames with the fault
+-- a header, followed by frames with the fault
 pub record HasFaultBehind (bytes : List ℕ) (e : Fault) : Type 0 where
   pub begins : LogStart
   pub starts : FitsStart begins
   pub front : bytes ≡ header_of begins ++ drop (header_bytes begins) bytes
   pub behind : FaultBehind (lsn_before begins + 1) (header_bytes begins) (drop (header_bytes begins) bytes) e
 
--- why a log is refused, memory aside
+-- the error of a log, memory aside
 abbrev pub Cause : List ℕ → Fault → Type 0
 Cause bytes NoResource = ⊤
 Cause bytes BadLogHeader = (begins : LogStart) (rest : List ℕ) → FitsStart begins → bytes ≢ header_of begins ++ rest
 Cause bytes e = HasFaultBehind bytes e
 
--- a text that is no log is refused for one cause
+-- bytes that are not a log have one error
 abbrev pub OneLogFault : Type 0
 OneLogFault = (bytes : List ℕ) → HasOneCause (Cause bytes)
 
--- and one that is a log for none
+-- bytes that are a log have none
 abbrev pub NoFaultOfALog : Type 0
 NoFaultOfALog = (bytes : List ℕ) (log : LogContent) (torn : ℕ) → Reads bytes log torn → HasNoCause (Cause bytes)

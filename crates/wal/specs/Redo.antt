@@ -7,13 +7,13 @@ use Rattle.wal.specs.Records.{History, start, ◌▸◌, last_lsn}
 use Rattle.wal.specs.Meaning.{Cells, effects, is_on}
 use Rattle.page.specs.declared.sizes.TheConstants.{SLOTS}
 
--- a page's RecLSN, if it is listed in a dirty page table
+-- the RecLSN of a page, if it is listed in a dirty page table
 abbrev pub rec_lsn_of : ℕ → List (ℕ × ℕ) → Option ℕ
 rec_lsn_of page [] = None
 rec_lsn_of page (d ∷ dirty) = if d.0 == page then Some d.1 else rec_lsn_of page dirty
 
--- whether the record at an LSN is applied to a page on which it is: the page is listed, the LSN is at least its RecLSN and
--- at least redo_lsn, which is not 0, and above the page's PageLSN
+-- whether the record at an LSN on a page is applied to it: the page is listed, the LSN is at least its RecLSN, at least redo_lsn (which is
+-- not 0), and above the PageLSN of the page
 abbrev pub is_redone : (listed : Option ℕ) (redo_lsn page_lsn lsn : ℕ) → Bool
 is_redone None redo_lsn page_lsn lsn = false
 is_redone (Some rec_lsn) redo_lsn page_lsn lsn =
@@ -23,17 +23,17 @@ is_redone (Some rec_lsn) redo_lsn page_lsn lsn =
 abbrev pub slots_in : Cells → ℕ → List Image
 slots_in state page = map (λ slot. state page slot) (range_with_len 0 SLOTS)
 
--- what an image says of its own cells
+-- what an image holds in its own cells
 abbrev pub held_by : Page → Cells
 held_by image page slot = slice_index_or image.slots slot None
 
--- the LSN of the last chosen record on the page, else the one given
+-- the LSN of the last chosen record on the page, otherwise the one given
 abbrev pub last_where : (ℕ → Bool) → (page page_lsn : ℕ) → History → ℕ
 last_where chosen page page_lsn (start _) = page_lsn
 last_where chosen page page_lsn (log ▸ r) =
     if is_on page r && chosen (suc (last_lsn log)) then suc (last_lsn log) else last_where chosen page page_lsn log
 
--- REDO-OF. The effects of these records on the image's slots, in order, and as PageLSN the last of them, else the old one.
+-- REDO-OF. The effects of these records on the image's slots, in order; the PageLSN is the LSN of the last of them, otherwise the old one.
 abbrev pub redo_of : (listed : Option ℕ) (redo_lsn : ℕ) → History → Page → Page
 redo_of listed redo_lsn log image = record {
   number = image.number;

@@ -1,4 +1,4 @@
--- The one spelling of each record, and what has one (own).
+-- The only encoding of each record, and which records have one (own).
 use Rattle.std.specs.Prelude.{ℕ, ◌<◌, ◌≤◌, ◌^◌, List, [], ◌∷◌, ◌++◌, length, map, flat_map, Some, None, ⊤}
 use Rattle.std.specs.List.{AllByRecursion}
 use Rattle.std.specs.Int.{w32, w64, to_be_bytes}
@@ -9,7 +9,7 @@ use Rattle.wal.specs.Records.{TableEntry, tx_in, page_in, UpdateRecord, Compensa
 use Rattle.page.specs.declared.sizes.TheConstants.{PAGES}
 use Rattle.wal.specs.declared.sizes.TheConstants.{TRANSACTIONS}
 
--- 255 for absent, or the length and the bytes
+-- 255 if it is absent, otherwise the length and the bytes
 abbrev pub image : Image → List ℕ
 image None = 255 ∷ []
 image (Some value) = length value ∷ value
@@ -71,7 +71,7 @@ body r lsn = kind_of r ∷ to_be_bytes w64 lsn ++ fields r
 abbrev pub frame : LogRecord → ℕ → List ℕ
 frame r lsn = to_be_bytes w32 (length (body r lsn)) ++ body r lsn
 
--- WHAT HAS A SPELLING
+-- WHAT HAS AN ENCODING
 pub record FitsPlain (r : PlainRecord) : Type 0 where
   pub some_tx : 0 < r.tx
   pub tx : r.tx < 2 ^ 32
@@ -111,7 +111,7 @@ IsRising [] = ⊤
 IsRising (m ∷ []) = ⊤
 IsRising (m ∷ n ∷ ns) = (m < n) × IsRising (n ∷ ns)
 
--- at most this number of entries, each with a spelling, in rising order of number
+-- at most this number of entries, each with an encoding, in ascending order of number
 pub record FitsTable {E : Type 0} (most : ℕ) (number : E → ℕ) (Fit : E → Type 0) (entries : List E) : Type 0 where
   pub few : length entries ≤ most
   pub each : AllByRecursion Fit entries

@@ -11,14 +11,14 @@ use Rattle.wal.specs.Redo.{slots_in}
 use Rattle.wal.specs.Pages.{PageLaw}
 use Rattle.wal.specs.Checkpoint.{CheckpointLaw}
 
--- every page that a record names, or a dirty page table in one, is below the count (own)
+-- every page that a record names, or that a dirty page table in a record names, is below the count (own)
 abbrev pub NamesPages : ℕ → LogRecord → Type 0
 NamesPages count (Update u) = u.page < count
 NamesPages count (Compensation c) = c.page < count
 NamesPages count (CheckpointEnd begin transactions dirty) = All (λ d. d.0 < count) dirty
 NamesPages count _ = ⊤
 
--- LAWFUL. A log and a store that an ARIES system can leave behind that began over these base pages.
+-- LAWFUL. A log and a store that an ARIES system can leave behind if it began over these base pages.
 pub record Lawful (base : BasePages) (content : LogContent) (store : StoreContent) : Type 0 where
   pub based : BaseLaw base (history content)
   pub log : IsLawful base (history content)
@@ -26,8 +26,8 @@ pub record Lawful (base : BasePages) (content : LogContent) (store : StoreConten
   pub pages : All (PageLaw base (history content)) store.pages
   pub checkpoint : CheckpointLaw (history content) store.pages store.master
 
--- STORE-OUT. The count and the master stay; each page has what the winners leave, and as PageLSN the last record on it in the
--- log and its tail. ARIES, section 3.
+-- STORE-OUT. The count and the master stay; each page has what the winners leave, and its PageLSN is the LSN of the last record on it in
+-- the log and its tail. ARIES, section 3.
 abbrev pub page_out : BasePages → LogContent → ℕ → Page
 page_out base log page = record { number = page; lsn = last_on base page (history (with_tail log)); slots = slots_in (winners base (history log)) page }
 

@@ -1,4 +1,4 @@
--- Frames that were read from the middle of a log on, before it is known whether the log's frames come to there (own).
+-- Frames that are read from the middle of a log on, before it is known whether the log has a frame that begins there (own).
 use Rattle.std.specs.Prelude.{◌≡◌, ◌≢◌, ℕ, suc, ◌+◌, ◌*◌, ◌^◌, ◌≤◌, List, [], ◌∷◌, ◌++◌, length, take, drop, map, Option, Some, Result, Ok, Err, IfSome}
 use Rattle.page.specs.declared.fault.Fault.{Fault}
 use Rattle.page.specs.declared.fault.Fault.TheVariants.{NoResource}
@@ -9,7 +9,7 @@ use Rattle.wal.specs.Headers.{header_bytes, start_at}
 use Rattle.wal.specs.Frames.{record_of, next_at}
 use Rattle.wal.specs.declared.sizes.TheConstants.{SMALLEST_FRAME}
 
--- frames stand at these offsets, one behind the other, the first with this LSN
+-- frames are at these offsets, one after the other, the first with this LSN
 abbrev pub AreFrames : List ℕ → (lsn from : ℕ) → List ℕ → (to : ℕ) → Type 0
 AreFrames bytes lsn from [] to = from ≡ to
 AreFrames bytes lsn from (offset ∷ offsets) to =
@@ -25,16 +25,16 @@ pub record IsStretch (bytes : List ℕ) (s : Stretch) : Type 0 where
   pub long : s.begin + SMALLEST_FRAME * length s.offsets ≤ s.end
   pub low : LeavesRoom s.lsn
 
--- a stretch, or none, where memory for it was there
+-- a stretch or none, if there was memory for it
 abbrev pub IfStretch : List ℕ → Result (Option Stretch) Fault → Type 0
 IfStretch bytes (Ok found) = IfSome found (IsStretch bytes)
 IfStretch bytes (Err e) = e ≡ NoResource
 
--- no frame with this LSN stands at the offset, wherever in a log these bytes are
+-- there is no frame with this LSN at the offset, wherever in a log these bytes are
 abbrev pub HasNoFrame : List ℕ → (lsn offset : ℕ) → Type 0
 HasNoFrame bytes lsn offset = (place : ℕ) (r : LogRecord) (size : ℕ) → next_at lsn place (drop offset bytes) ≢ Ok (Some (r, size))
 
--- the bytes begin with the header of a log that begins so, and these frames
+-- the bytes begin with the header of a log with this start, followed by these frames
 pub record AreFirst (begins : LogStart) (bytes : List ℕ) (s : Stretch) : Type 0 where
   pub starts : start_at bytes ≡ Some begins
   pub frames : IsStretch bytes s
@@ -45,16 +45,16 @@ pub record AreFirst (begins : LogStart) (bytes : List ℕ) (s : Stretch) : Type 
 abbrev pub BeginsLog : List ℕ → Stretch → Type 0
 BeginsLog bytes s = (begins : LogStart) × AreFirst begins bytes s
 
--- cut behind these frames, they are a header and the frames
+-- if they are cut after these frames, they are a header and the frames
 abbrev pub BeginsCut : List ℕ → Stretch → Type 0
 BeginsCut bytes s = BeginsLog (take s.end bytes) s × (s.end ≡ length (take s.end bytes))
 
--- they are these, to their end
+-- they are exactly these, to their end
 pub record AreFront (begins : LogStart) (bytes : List ℕ) (s : Stretch) : Type 0 where
   pub first : AreFirst begins bytes s
   pub whole : s.end ≡ length bytes
 
--- these are all frames of the bytes behind such a front
+-- these are all frames of the bytes after such a front
 pub record AreBehind (first : Stretch) (bytes : List ℕ) (s : Stretch) : Type 0 where
   pub frames : IsStretch bytes s
   pub begin : s.begin ≡ 0

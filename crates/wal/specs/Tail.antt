@@ -1,5 +1,5 @@
--- What a restart adds to a log. ARIES, section 6.3 (undo pass); that the ends of losers with nothing pending come first, in
--- rising number, and the LSNs by counting, are own.
+-- What a restart appends to a log. ARIES, section 6.3 (undo pass). Two things are own: the ends of losers with nothing pending come first,
+-- in ascending order of number, and LSNs are counted.
 use Rattle.std.specs.Prelude.{ℕ, suc, zero, List, [], ◌∷◌, ◌++◌, Bool, true, false, ◌||◌, ◌==◌, if◌then◌else◌, map, filter, flat_map, max, Option, Some, None}
 use Rattle.wal.specs.Records.{UpdateRecord, LogRecord, Update, Compensation, End, History, start, ◌▸◌, LogContent, history, ◌⧺◌, last_lsn}
 use Rattle.wal.specs.Meaning.{owner, is_unfinished, in_doubt, is_loser, pending, last_of}
@@ -14,7 +14,7 @@ abbrev pub tx_for : Action → ℕ
 tx_for (Finish t) = t
 tx_for (Undo u) = u.tx
 
--- its record, where `last` says which record of each transaction is the last
+-- the record of an action, if `last` gives the last record of each transaction
 abbrev pub record_for : (ℕ → ℕ) → Action → LogRecord
 record_for last (Finish t) = End (record { tx = t; prev = last t })
 record_for last (Undo u) =
@@ -28,7 +28,7 @@ record_for last (Undo u) =
       image = u.before;
     })
 
--- the records of these actions from an LSN on: PrevLSN is the transaction's record before it
+-- the records of these actions from an LSN on: PrevLSN is the LSN of the transaction's record before
 abbrev pub records_for : (ℕ → ℕ) → ℕ → List Action → List LogRecord
 records_for last lsn [] = []
 records_for last lsn (a ∷ actions) =
@@ -64,11 +64,11 @@ updates_where chosen (log ▸ Update u) =
     if chosen (suc (last_lsn log)) u then (suc (last_lsn log), u) ∷ updates_where chosen log else updates_where chosen log
 updates_where chosen (log ▸ _) = updates_where chosen log
 
--- the updates on the stacks, which have the LSNs that each transaction is to undo
+-- the updates on the stacks, which hold the LSNs that each transaction has to undo
 abbrev pub is_stacked : (ℕ → List ℕ) → ℕ → UpdateRecord → Bool
 is_stacked stack lsn u = is_among lsn (stack u.tx)
 
--- the CLR of such an update; behind that of a transaction's lowest one its end
+-- the CLR of such an update; after the CLR of a transaction's lowest update, its end
 abbrev pub undo_of : (ℕ → List ℕ) → ℕ × UpdateRecord → List Action
 undo_of stack p = Undo p.1 ∷ (if is_lowest p.0 (stack p.1.tx) then Finish p.1.tx ∷ [] else [])
 
@@ -97,7 +97,7 @@ abbrev pub above_all : History → ℕ
 above_all (start _) = 0
 above_all (log ▸ r) = max (suc (tx_of r)) (above_all log)
 
--- the transactions of the log that are chosen, in rising number
+-- the chosen transactions of the log, in ascending order of number
 abbrev pub transactions_of : (ℕ → Bool) → History → List ℕ
 transactions_of chosen log = filter chosen (numbers_from 0 (above_all log))
 
@@ -117,7 +117,7 @@ left_of log t = if is_loser t log then pending t log else []
 abbrev pub left_to_do : History → List Action
 left_to_do log = rollback (losers_of log) (left_of log) log
 
--- TAIL. The losers of the log are rolled back, and these records written behind it.
+-- TAIL. The losers of the log are rolled back, and these records are written after it.
 abbrev pub tail : History → List LogRecord
 tail log = records_for (λ t. last_of t log) (suc (last_lsn log)) (left_to_do log)
 

@@ -1,4 +1,4 @@
--- What is proved of the definitions alone (own).
+-- What is proved of the definitions only (own).
 use Rattle.std.specs.Prelude.{suc, ◌≡◌, ◌↔◌, ◌≤◌, ◌<◌, ℕ, List, [], length, slice_index_or, true, false, Option, Some, filter, map, All}
 use Rattle.page.specs.declared.page.Page.{Page}
 use Rattle.page.specs.Store.{StoreContent, AreNumbered}
@@ -15,7 +15,7 @@ use Rattle.wal.specs.Store.{Lawful, store_out}
 use Rattle.wal.specs.Cut.{Cut}
 use Rattle.wal.specs.Reads.{Reads}
 
--- A log is lawful where each record obeys the laws after those before it.
+-- A log is lawful if and only if each record obeys the laws after the records before it.
 abbrev pub LawfulByRecord : Type 0
 LawfulByRecord = (base : BasePages) (log : LogContent) →
     IsLawful base (history log) ↔ ((lsn : ℕ) (r : LogRecord) → record_at (history log) (suc lsn) ≡ Some r → Obeys base (first lsn (history log)) r)
@@ -25,7 +25,7 @@ abbrev pub HopsMeetPending : Type 0
 HopsMeetPending = (base : BasePages) (log : LogContent) (t : ℕ) → IsLawful base (history log) →
     hops t (history log) (undo_next_of t (history log)) ≡ record { met = pending t (history log); ends = 0 }
 
--- The log and its tail, replayed, leave in each cell what the winners leave there.
+-- A replay of the log and its tail leaves in each cell what the winners leave there.
 abbrev pub ReplayIsWinners : Type 0
 ReplayIsWinners = (base : BasePages) (log : LogContent) → IsLawful base (history log) →
     replay base (history (with_tail log)) ≡ winners base (history log)
@@ -45,7 +45,7 @@ TailSettles = (base : BasePages) (log : LogContent) → IsLawful base (history l
 abbrev pub LosersEnd : Type 0
 LosersEnd = (base : BasePages) (log : LogContent) → IsLawful base (history log) → length (filter is_end (tail_of log)) ≡ length (losers_of (history log))
 
--- A log that was cut within its tail is lawful, and its own tail completes it to the same whole.
+-- A log that was cut within its tail is lawful, and its own tail completes it to the same log.
 pub record Resumes (base : BasePages) (log : LogContent) (lsn : ℕ) : Type 0 where
   pub lawful : IsLawful base (history (up_to lsn (with_tail log)))
   pub whole : with_tail (up_to lsn (with_tail log)) ≡ with_tail log
@@ -62,13 +62,13 @@ SkipsNothing listed redo_lsn page page_lsn log =
 abbrev pub replayed_page : BasePages → History → ℕ → Page
 replayed_page base log page = record { number = page; lsn = last_on base page log; slots = slots_in (replay base log) page }
 
--- Redo of a page that keeps the page law, and skips nothing, makes it what the log makes of it.
+-- If redo of a page that keeps the page law skips nothing, the page becomes what the log makes of it.
 abbrev pub RedoReplays : Type 0
 RedoReplays = (base : BasePages) (listed : Option ℕ) (redo_lsn : ℕ) (log : History) (image : Page)
     → BaseLaw base log → PageLaw base log image → SkipsNothing listed redo_lsn image.number image.lsn log
     → redo_of listed redo_lsn log image ≡ replayed_page base log image.number
 
--- redo reaches an LSN of a page: the page is listed from there or before, and redo_lsn lies in 1 to that LSN
+-- redo reaches an LSN of a page: the page is listed with a RecLSN not above it, and redo_lsn is between 1 and that LSN
 pub record IsReached (listed : Option ℕ) (redo_lsn lsn : ℕ) : Type 0 where
   pub rec_lsn : ℕ
   pub is_listed : listed ≡ Some rec_lsn
@@ -76,12 +76,12 @@ pub record IsReached (listed : Option ℕ) (redo_lsn lsn : ℕ) : Type 0 where
   pub some : 1 ≤ redo_lsn
   pub from_redo_lsn : redo_lsn ≤ lsn
 
--- it reaches each record on the page that its image lacks
+-- redo reaches each record on the page that its image lacks
 abbrev pub ReachesAll : List (ℕ × ℕ) → (redo_lsn : ℕ) → History → Page → Type 0
 ReachesAll dirty redo_lsn log page =
     (lsn : ℕ) (r : LogRecord) → record_at log lsn ≡ Some r → is_on page.number r ≡ true → page.lsn < lsn → IsReached (rec_lsn_of page.number dirty) redo_lsn lsn
 
--- By any dirty page table and redo_lsn that reach all that the images lack, redo makes each page what the log makes of it.
+-- If the dirty page table and redo_lsn reach all that the images lack, redo makes each page what the log makes of it.
 abbrev pub RedoSuffices : Type 0
 RedoSuffices = (base : BasePages) (log : LogContent) (store : StoreContent) (dirty : List (ℕ × ℕ)) (redo_lsn : ℕ)
     → Lawful base log store → All (ReachesAll dirty redo_lsn (history log)) store.pages
@@ -95,7 +95,7 @@ pub record UndoesAll (log : History) : Type 0 where
 abbrev pub UndoIsTail : Type 0
 UndoIsTail = (base : BasePages) (log : LogContent) → IsLawful base (history log) → UndoesAll (history log)
 
--- The true table of a log has as prepared those in doubt, and as lost the losers, in rising number.
+-- In the true table of a log, the prepared transactions are those in doubt, and the others are the losers, in ascending order of number.
 pub record TellsDoubt (log : History) : Type 0 where
   pub doubtful : doubtful_in (true_table log) ≡ in_doubt_of log
   pub lost : map tx_in (lost_in (true_table log)) ≡ losers_of log
@@ -104,7 +104,7 @@ abbrev pub TableTellsDoubt : Type 0
 TableTellsDoubt = (log : LogContent) → TellsDoubt (history log)
 
 -- THE STORE
--- A store that a restart may leave beside the log and its tail up to an LSN, not below the log's last: the count and the master
+-- A store that a restart may leave with the log and its tail up to an LSN, not below the log's last: the count and the master
 -- stay, the pages keep the page law over these records, and none is older.
 pub record Interrupted (base : BasePages) (log : LogContent) (store : StoreContent) (lsn : ℕ) (left : StoreContent) : Type 0 where
   pub past : last_lsn (history log) ≤ lsn
@@ -114,13 +114,13 @@ pub record Interrupted (base : BasePages) (log : LogContent) (store : StoreConte
   pub pages : All (PageLaw base (history (up_to lsn (with_tail log)))) left.pages
   pub not_older : (i : ℕ) (d : Page) → i < length store.pages → (slice_index_or store.pages i d).lsn ≤ (slice_index_or left.pages i d).lsn
 
--- A log and a store from which a restart goes on to the same log and the same store.
+-- A log and a store from which a restart continues to the same log and the same store.
 pub record GoesOn (base : BasePages) (log : LogContent) (store : StoreContent) (whole : LogContent) (left : StoreContent) : Type 0 where
   pub lawful : Lawful base whole left
   pub same_log : with_tail whole ≡ with_tail log
   pub same_store : store_out base whole left ≡ store_out base log store
 
--- A restart that was interrupted is lawful, and a further one goes on to the same end.
+-- What an interrupted restart leaves is lawful, and a further restart continues to the same end.
 abbrev pub RestartGoesOn : Type 0
 RestartGoesOn = (base : BasePages) (log : LogContent) (store : StoreContent) (lsn : ℕ) (left : StoreContent)
     → AreNumbered store.pages → Lawful base log store → Interrupted base log store lsn left → GoesOn base log store (up_to lsn (with_tail log)) left
@@ -133,14 +133,14 @@ pub record Settled (base : BasePages) (log : LogContent) (store : StoreContent) 
 abbrev pub StoreSettles : Type 0
 StoreSettles = (base : BasePages) (log : LogContent) (store : StoreContent) → AreNumbered store.pages → Lawful base log store → Settled base log store
 
--- Of a log that was read and its store: the whole records of a cut and its store are lawful, and a restart goes on from them to
--- the same log and the same store.
+-- For a log that was read and its store: the whole records of a cut and its store are lawful, and a restart continues from them to the same
+-- log and the same store.
 abbrev pub CutsSettle : Type 0
 CutsSettle = (base : BasePages) (log : LogContent) (store : StoreContent) (text : List ℕ) (torn : ℕ) (bytes : List ℕ) (left : StoreContent)
     → Reads text log torn → AreNumbered store.pages → AreNumbered left.pages
     → Lawful base log store → (c : Cut base log store bytes left) → GoesOn base log store c.whole left
 
--- So a restart may be interrupted again and again: a cut of what a cut goes on to is a cut of the first log and store.
+-- So a restart may be interrupted again and again: a cut of what a restart continues to from a cut is a cut of the first log and store.
 abbrev pub CutsCompose : Type 0
 CutsCompose = (base : BasePages) (log : LogContent) (store : StoreContent) (text : List ℕ) (torn : ℕ) (bytes : List ℕ) (left : StoreContent)
     → Reads text log torn → AreNumbered store.pages → AreNumbered left.pages → Lawful base log store → (c : Cut base log store bytes left)

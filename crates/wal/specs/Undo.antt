@@ -20,7 +20,7 @@ abbrev pub last_in : Option TableEntry → ℕ
 last_in None = 0
 last_in (Some e) = e.last
 
--- THE LOSERS of a table of unfinished transactions: those that it does not have as prepared
+-- THE LOSERS of a table of unfinished transactions: those that the table does not have as prepared
 abbrev pub is_prepared : State → Bool
 is_prepared Active = false
 is_prepared Prepared = true
@@ -32,11 +32,11 @@ is_lost e = not (is_prepared e.state)
 abbrev pub lost_in : List TableEntry → List TableEntry
 lost_in entries = filter is_lost entries
 
--- those in doubt: the numbers of the ones that it has as prepared
+-- those in doubt: the numbers of the transactions that the table has as prepared
 abbrev pub doubtful_in : List TableEntry → List ℕ
 doubtful_in entries = map tx_in (filter (λ e. is_prepared e.state) entries)
 
--- UNDONE. The transactions of the table are rolled back, each by the updates that its hops meet, and these records written.
+-- UNDONE. The transactions of the table are rolled back, each by the updates that its hops meet, and these records are written.
 abbrev pub undone_by : History → List TableEntry → List LogRecord
 undone_by log entries =
     records_for (λ t. last_in (entry_for t entries)) (suc (last_lsn log)) (rollback (map tx_in entries) (λ t. (walk_of log (entry_for t entries)).met) log)

@@ -1,4 +1,4 @@
-//! The body of a record as it lies in the log, and what can be seen of the record.
+//! The body of a record as it is in the log, and what can be read from it.
 
 ghost use Rattle.std.specs.Prelude.{◌≡◌, None, Some, IfSome, drop, option_map};
 ghost use Rattle.wal.specs.Content.{shown};
@@ -15,8 +15,8 @@ use crate::view::{RecordView, value_of};
 use page::Value;
 use std::marker::Model;
 
-/// The body of a record as it lies in the log, of which nothing has been decoded; empty where there
-/// is no record. Contracts see the record, if there is one.
+/// The body of a record as it is in the log, with nothing decoded; empty if there is no record.
+/// Contracts see the record, if there is one.
 #[derive(Drop)]
 pub struct Body<'a> {
     bytes: &'a [u8],
@@ -57,7 +57,7 @@ impl<'a> Body<'a> {
         }
     }
 
-    /// The record, which takes no memory; None where there is none. What it shows fits the grammar.
+    /// The record, which takes no memory; `None` if there is none. What it shows fits the grammar.
     #[inline(always)]
     pub fn view(&self) -> Option<RecordView<'a>>
         ensures found { option_map shown result ≡ self.now }
@@ -66,7 +66,7 @@ impl<'a> Body<'a> {
         body_view(self.bytes)
     }
 
-    /// The record at a glance; None where there is none. No more of it is decoded than that.
+    /// The record at a glance; `None` if there is none. Nothing else of the record is decoded.
     #[inline(always)]
     pub fn glance(&self) -> Option<Glance>
         ensures seen { result ≡ option_map glance_of self.now }
@@ -75,8 +75,8 @@ impl<'a> Body<'a> {
         body_glance(self.bytes)
     }
 
-    /// The image that the record put into its cell: None where that was no value, for a record that
-    /// is in no cell, and where there is no record. No more of the record is decoded than that.
+    /// The image that the record put into its cell. `None` if the record made the slot absent, if
+    /// it is in no cell, and if there is no record. Nothing else of the record is decoded.
     pub fn image(&self) -> Option<Value>
         ensures { result ≡ image_in self.now }
     {

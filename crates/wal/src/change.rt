@@ -1,4 +1,4 @@
-//! What every record says: whose it is, which one came before it, and what it puts into a cell.
+//! What every record has: its transaction, the record before it, and what it puts into a cell.
 
 ghost use Rattle.std.specs.Prelude.{◌≡◌, option_map};
 ghost use Rattle.wal.specs.Meaning.{owner, prev_of, change_of};
@@ -6,19 +6,19 @@ ghost use Rattle.wal.specs.Content.{shown, shown_change};
 
 use crate::view::RecordView;
 
-/// What an update or a compensation log record (CLR) puts into a cell, which is a slot of a page.
+/// What an update or a compensation log record (CLR) puts into a cell, that is, a slot of a page.
 #[derive(Clone, Copy)]
 pub struct Change<'a> {
     /// The number of the page.
     pub page: u32,
     /// The slot in the page. Records of a log have slots up to 15.
     pub slot: u8,
-    /// The value that the slot has then, None where it is absent.
+    /// The value that the slot then has, `None` if it is absent.
     pub image: Option<&'a [u8]>,
 }
 
 impl<'a> RecordView<'a> {
-    /// The transaction whose record it is; None for a checkpoint's.
+    /// The transaction of the record; `None` for a record of a checkpoint.
     #[inline]
     pub fn tx(&self) -> Option<u32>
         ensures { result ≡ owner (shown self.now) }
@@ -35,7 +35,8 @@ impl<'a> RecordView<'a> {
         }
     }
 
-    /// PrevLSN: the LSN of its transaction's previous record, 0 for none; 0 for a checkpoint's.
+    /// PrevLSN: the LSN of the previous record of its transaction, 0 if there is none. It is 0 for
+    /// a record of a checkpoint.
     #[inline]
     pub fn prev(&self) -> u64
         ensures { result ≡ prev_of (shown self.now) }
@@ -52,8 +53,8 @@ impl<'a> RecordView<'a> {
         }
     }
 
-    /// What it puts into a cell: an update its after image, a CLR its image; None for a record of
-    /// another kind, which changes no cell.
+    /// What it puts into a cell: the after image of an update, the image of a CLR. `None` for a
+    /// record of another kind, which changes no cell.
     #[inline]
     pub fn change(&self) -> Option<Change<'a>>
         ensures { option_map shown_change result ≡ change_of (shown self.now) }

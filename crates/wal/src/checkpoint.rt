@@ -9,7 +9,7 @@ use crate::log::Log;
 use crate::view::{DirtyTable, RecordView, TransactionTable};
 
 impl<'a> Log<'a> {
-    /// The tables of the first checkpoint end behind the LSN `master` that names it.
+    /// The tables of the first checkpoint end after the LSN `master` that names `master`.
     fn checkpoint_end(&self, master: u64) -> Option<(TransactionTable<'a>, DirtyTable<'a>)>
         requires { base_lsn (history self.now) ≤ master }
         ensures found { option_map (λ x. (x.0, x.1)) result ≡ first_end master (history self.now) }
@@ -31,8 +31,8 @@ impl<'a> Log<'a> {
     }
 
     /// The tables of the checkpoint whose begin record has the LSN `master`: those of the first
-    /// later checkpoint end that names it. None where no checkpoint begin stands there, or no later
-    /// end names it. The entries stay in the log's bytes, and no memory is taken.
+    /// later checkpoint end that names it. `None` if the record there is not a checkpoint begin, or
+    /// if no later end names it. The entries stay in the log's bytes, and no memory is taken.
     pub fn checkpoint(&self, master: u64) -> Option<(TransactionTable<'a>, DirtyTable<'a>)>
         ensures tables { option_map (λ x. (x.0, x.1)) result
             ≡ checkpoint_at master (history self.now) }

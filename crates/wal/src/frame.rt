@@ -84,7 +84,8 @@ fn dirties_at(bytes: &[u8]) -> Option<(DirtyTable, &[u8])>
     view::dirties_at(count, rest)
 }
 
-/// The checkpoint end in front. It is not inlined, since its tables take long to read.
+/// The fields of a checkpoint end at the front. The function is not inlined, since reading the
+/// tables takes long.
 #[inline(never)]
 #[tactic(auto, unfolding(crate::specs::Reading::checkpoint_at))]
 pub fn checkpoint_at(bytes: &[u8]) -> Option<(RecordView, &[u8])>
@@ -101,8 +102,8 @@ pub fn checkpoint_at(bytes: &[u8]) -> Option<(RecordView, &[u8])>
     Some((view, rest))
 }
 
-/// The record of this kind in front. Each arm makes the record where it is wanted: to copy one that was
-/// just put together waits for its fields to be written.
+/// The record of this kind at the front. Each arm makes the record where it is wanted: copying a
+/// record that was just put together waits until its fields are written.
 #[inline(always)]
 #[tactic(auto, unfolding(crate::specs::Reading::fields_at, crate::specs::Reading::plain_record_at))]
 fn fields_at(kind: u8, bytes: &[u8]) -> Option<RecordView>
@@ -136,7 +137,7 @@ fn fields_at(kind: u8, bytes: &[u8]) -> Option<RecordView>
     }
 }
 
-/// The record whose body these bytes are; None where there are none.
+/// The record whose body these bytes are; `None` if they are no such body.
 #[inline(always)]
 #[tactic(auto, unfolding(crate::specs::Reading::body_at))]
 pub fn body_view(bytes: &[u8]) -> Option<RecordView>
@@ -243,10 +244,10 @@ fn put_frame<A: Allocator>(
     Ok(())
 }
 
-/// Appends the one spelling of the record with this LSN. `Record::is_writable` tells whether there
-/// is one.
+/// Appends the only encoding of the record with this LSN. `Record::is_writable` returns whether
+/// there is one.
 ///
-/// NoResource, where a growth of the vector was refused, leaves in it what it had.
+/// On the error NoResource, the vector was refused memory and keeps the bytes that it had.
 #[tactic(auto, using(crate::proofs::Keeping::cut_back))]
 pub fn write_frame<A: Allocator>(
     logged: &Record,

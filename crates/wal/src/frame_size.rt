@@ -42,7 +42,7 @@ pub fn body_len(logged: &Record) -> u32
     }
 }
 
-/// How many bytes an image takes: one, and its value.
+/// How many bytes an image takes: one, and those of its value.
 fn image_bytes(image: Option<&[u8]>) -> usize
     requires { IfSome image (λ bytes. length bytes.now ≤ VALUE_BYTES) }
     ensures size { result ≡ length (spelling (option_map (λ bytes. bytes.now) image.entry)) }

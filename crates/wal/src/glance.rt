@@ -1,4 +1,4 @@
-//! What is seen of a record at a glance: whose it is, and which cell it is in.
+//! What is seen of a record at a glance: its transaction, and the cell that it is in.
 
 ghost use Rattle.std.specs.Prelude.{◌≡◌, Some};
 ghost use Rattle.wal.specs.Records.{LogRecord};
@@ -16,7 +16,7 @@ pub enum Glance {
         page: u32,
         slot: u8,
     },
-    /// An update was undone. Undo goes on at `undo_next`.
+    /// An update was undone. Undo continues at `undo_next`.
     Compensation {
         tx: u32,
         page: u32,
@@ -44,8 +44,8 @@ pub enum Glance {
 }
 
 impl Glance {
-    /// The page and the slot of the cell that the record puts an image into; None for a record that
-    /// changes no cell.
+    /// The page and the slot of the cell that the record puts an image into; `None` for a record
+    /// that changes no cell.
     #[inline(always)]
     pub fn cell(&self) -> Option<(u32, u8)>
         ensures { (r : LogRecord) → self.now ≡ glance_of r → result ≡ cell_of r }

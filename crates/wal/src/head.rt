@@ -1,5 +1,5 @@
-//! The head of a frame: what stands before its images and tables. It is put together here, so that a frame
-//! takes few appends.
+//! The head of a frame: what comes before its images and tables. It is put together here, so that a
+//! frame takes few appends.
 
 ghost use Rattle.std.specs.Prelude.{◌≡◌, ◌++◌, ◌∷◌, []};
 ghost use Rattle.std.specs.Int.{w32, w64, to_be_bytes};
@@ -31,7 +31,7 @@ impl FrameHead {
         head
     }
 
-    /// Its bytes, and after them a transaction and a PrevLSN.
+    /// Its bytes, followed by a transaction and a PrevLSN.
     #[inline(always)]
     pub fn with_plain(self, tx: u32, prev: u64) -> [u8; PLAIN_FRAME]
         ensures { result ≡ head_text self ++ (to_be_bytes w32 tx ++ to_be_bytes w64 prev) }
@@ -43,7 +43,7 @@ impl FrameHead {
         head
     }
 
-    /// The same, and after them a page and a slot.
+    /// The same, followed by a page and a slot.
     #[inline(always)]
     pub fn with_cell(self, tx: u32, prev: u64, page: u32, slot: u8) -> [u8; CELL_HEAD]
         ensures { result ≡ head_text self ++ ((to_be_bytes w32 tx ++ to_be_bytes w64 prev)

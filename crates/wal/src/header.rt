@@ -1,4 +1,4 @@
-//! How a log file begins: its header.
+//! The header of a log file.
 
 ghost use Rattle.std.specs.Prelude.{◌≡◌};
 ghost use Rattle.wal.specs.Records.{lsn_before};
@@ -8,20 +8,21 @@ ghost use Rattle.wal.specs.declared.header.LogStart.TheVariants.{Version1, Versi
 use crate::field::u64_at;
 use crate::sizes::{BASED_HEADER_BYTES, HEADER_BYTES, LARGEST_BASE};
 
-/// How a log file begins: which version it is written in, and behind which LSN its records come.
+/// How a log file begins: the version of its format, and the LSN after which its records come.
 #[derive(Clone, Copy)]
 pub enum LogStart {
     /// Version 1: the first record has LSN 1.
     Version1,
-    /// Version 2, of a log that goes on from one that was archived.
+    /// Version 2, for a log that continues one that was archived.
     Version2 {
-        /// The base LSN: that of the last record before this log. The first record here has the next.
+        /// The base LSN: that of the last record before this log. The first record here has the
+        /// next LSN.
         base: u64,
     },
 }
 
 impl LogStart {
-    /// The LSN behind which its records come.
+    /// The LSN after which its records come.
     #[inline(always)]
     pub fn base(self) -> u64
         ensures { result ≡ lsn_before self }
@@ -51,7 +52,7 @@ pub fn plain_header() -> [u8; HEADER_BYTES]
     *b"ARIESLG1"
 }
 
-/// The header of a log in version 2 with this base LSN, which is to be at most
+/// The header of a log in version 2 with this base LSN, which must be at most
 /// 9,223,372,036,854,775,807.
 pub fn based_header(base: u64) -> [u8; BASED_HEADER_BYTES]
     ensures { result ≡ header_of (Version2 base) }
@@ -62,8 +63,8 @@ pub fn based_header(base: u64) -> [u8; BASED_HEADER_BYTES]
     header
 }
 
-/// How the log in these bytes begins, None where it has no header: the first 8 bytes are neither
-/// magic, or in version 2 there are fewer than 16 bytes, or the base LSN is above
+/// How the log in these bytes begins. `None` if it has no header: the first 8 bytes are neither
+/// magic; or, in version 2, there are fewer than 16 bytes, or the base LSN is above
 /// 9,223,372,036,854,775,807.
 #[tactic(auto, unfolding(crate::specs::Headers::start_at))]
 pub fn start_at(bytes: &[u8]) -> Option<LogStart>

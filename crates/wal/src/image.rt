@@ -47,8 +47,8 @@ fn fields_image(kind: u8, bytes: &[u8]) -> Option<&[u8]>
     }
 }
 
-/// The image that the record with this body put into its cell: None where that was no value, and for
-/// a record that is in no cell.
+/// The image that the record with this body put into its cell. `None` if the record made the slot
+/// absent, and if it is in no cell.
 #[inline(always)]
 #[tactic(auto, unfolding(crate::specs::Reading::body_at))]
 pub fn body_image(bytes: &[u8]) -> Option<&[u8]>

@@ -9,8 +9,8 @@ use page::Fault;
 use std::alloc::Global;
 use std::thread::Threads;
 
-/// A stretch, and behind it the frames of another, if that begins where it ends, with the LSN behind
-/// its own; if not, they are left out. The only error is `NoResource`.
+/// A stretch, followed by the frames of the next one if that begins at the offset where the first
+/// ends, and with the next LSN. If not, those frames are left out. The only error is `NoResource`.
 fn take_stretch(bytes: &[u8], known: Stretch, next: Stretch) -> Result<Stretch, Fault>
     requires known { IsStretch bytes.now known }
     requires next { IsStretch bytes.now next }
@@ -32,9 +32,9 @@ fn take_stretch(bytes: &[u8], known: Stretch, next: Stretch) -> Result<Stretch, 
     })
 }
 
-/// The frames from `begin` on, of which the first is to have this LSN, by stretches of them: where one
-/// does not begin right behind the frames in front of it, they are read on up to there first. The only
-/// error is `NoResource`.
+/// The frames from `begin` on, taken from stretches of them; the first frame must have this LSN. If
+/// a stretch does not begin directly after the frames before it, the frames up to it are read
+/// first. The only error is `NoResource`.
 fn join_stretches(
     alloc: Global,
     bytes: &[u8],
@@ -58,11 +58,11 @@ fn join_stretches(
     read_on(bytes, known, bytes.len())
 }
 
-/// The frames from `begin` on, of which the first is to have this LSN, until what stands there is no
-/// frame; in as many threads as this where the bytes are many: each takes a share of them, guesses
-/// where its first frame begins, and reads on from there. What it read counts where the frames in front
-/// of it end just there, with the LSN before; else those bytes are read again. The only error is
-/// `NoResource`.
+/// The frames from `begin` on, up to the first bytes that are not a frame; the first frame must
+/// have this LSN. If there are many bytes, they are read by this many threads: each takes a share
+/// of the bytes, guesses where its first frame begins, and reads from there. What it read counts if
+/// the frames before it end exactly there, with the LSN before; otherwise those bytes are read
+/// again. The only error is `NoResource`.
 pub fn stretch_by<R: Threads + Sync>(
     rt: &R,
     alloc: Global,

@@ -1,41 +1,41 @@
-//! Laws of logs. Each function is its law: what it ensures holds of the definitions alone.
+//! Laws of logs. Each function is a law: what it ensures follows from the definitions only.
 
 ghost use Rattle.wal.specs.Reads.{OneReading, OneLogFault, NoFaultOfALog};
 ghost use Rattle.wal.specs.Theorems.{LawfulByRecord, HopsMeetPending, ReplayIsWinners, TailSettles, LosersEnd, CutsResume, RedoReplays, RedoSuffices, UndoIsTail, TableTellsDoubt, StoreSettles, RestartGoesOn, CutsSettle, CutsCompose};
 
-/// No text is two logs.
+/// The same bytes never encode two logs.
 pub fn one_reading()
     ensures { OneReading }
 {}
 
-/// No text is refused as a log for two causes, want of memory aside.
+/// Bytes that are not a log have at most one error, besides a lack of memory.
 pub fn one_log_fault()
     ensures { OneLogFault }
 {}
 
-/// No text that is a log is refused as one, want of memory aside.
+/// Bytes that are a log have no error, besides a lack of memory.
 pub fn no_fault_of_a_log()
     ensures { NoFaultOfALog }
 {}
 
-/// A log is lawful exactly where each record obeys the laws after those before it.
+/// A log is lawful if and only if each record obeys the laws after the records before it.
 pub fn lawful_by_record()
     ensures { LawfulByRecord }
 {}
 
-/// The hops of a transaction of a lawful log from its undo-next meet its pending updates, the
-/// newest first, and none is bad.
+/// In a lawful log, the hops of a transaction from its undo-next meet its pending updates, the
+/// newest first, and none of the hops is bad.
 pub fn hops_meet_pending()
     ensures { HopsMeetPending }
 {}
 
-/// A lawful log and its tail, replayed, give what the winners leave.
+/// A replay of a lawful log and its tail gives what the winners leave.
 pub fn replay_is_winners()
     ensures { ReplayIsWinners }
 {}
 
-/// A lawful log and its tail are lawful, have no loser, no tail, the same transactions in doubt,
-/// and the same winners.
+/// A lawful log with its tail is lawful, has no loser and no tail, and has the same transactions in
+/// doubt and the same winners.
 pub fn tail_settles()
     ensures { TailSettles }
 {}
@@ -45,29 +45,30 @@ pub fn losers_end()
     ensures { LosersEnd }
 {}
 
-/// A lawful log that was cut within its tail is lawful, and its tail completes it to the same
-/// whole.
+/// A lawful log that was cut within its tail is lawful, and its tail completes it to the same log.
 pub fn cuts_resume()
     ensures { CutsResume }
 {}
 
-/// Redo of a page that keeps the page law, and skips nothing, makes it what the log makes of it.
+/// If redo of a page that keeps the page law skips nothing, the page becomes what the log makes of
+/// it.
 pub fn redo_replays()
     ensures { RedoReplays }
 {}
 
-/// Of a lawful log and its store, redo by any dirty page table and redo_lsn that reach all that the
-/// pages lack makes each page what the log makes of it.
+/// For a lawful log and its store: if the dirty page table and redo_lsn reach all that the pages
+/// lack, redo makes each page what the log makes of it.
 pub fn redo_suffices()
     ensures { RedoSuffices }
 {}
 
-/// Undo by the losers of a lawful log's true table appends the tail, and no hop is bad.
+/// Undo of a lawful log, by the losers of the true table, appends the tail, and no hop is bad.
 pub fn undo_is_tail()
     ensures { UndoIsTail }
 {}
 
-/// The true table of a log has as prepared the transactions in doubt, and as lost the losers.
+/// In the true table of a log, the prepared transactions are those in doubt, and the others are the
+/// losers.
 pub fn table_tells_doubt()
     ensures { TableTellsDoubt }
 {}
@@ -77,19 +78,19 @@ pub fn store_settles()
     ensures { StoreSettles }
 {}
 
-/// What a restart that was interrupted leaves is lawful, and a further restart goes on to the same
-/// log and the same store.
+/// What an interrupted restart leaves is lawful, and a further restart continues to the same log
+/// and the same store.
 pub fn restart_goes_on()
     ensures { RestartGoesOn }
 {}
 
-/// The whole records of a cut and its store are lawful, and a restart goes on from them to the log
+/// The whole records of a cut and its store are lawful. A restart continues from them to the log
 /// and the store that an uninterrupted restart leaves.
 pub fn cuts_settle()
     ensures { CutsSettle }
 {}
 
-/// A cut of what a cut goes on to is a cut of the first log and store.
+/// A cut of what a restart continues to from a cut is a cut of the first log and store.
 pub fn cuts_compose()
     ensures { CutsCompose }
 {}

@@ -1,9 +1,9 @@
 //! The log: its records, their frames in bytes, and what a log means.
 //!
-//! `read_log` reads a log in place, `read_log_by` does so in several threads, `write_frame` appends a
-//! record's frame. A log whose bytes come in two parts is read by `first_frames` and
-//! `read_log_behind`. The definitions of what a log means (replay, winners, pending, the laws, the tail of
-//! a restart) stand in `specs/`, and their laws are the functions of `laws`.
+//! `read_log` reads a log in place, `read_log_by` reads it with several threads, and `write_frame`
+//! appends the frame of a record. A log whose bytes come in two parts is read by `first_frames` and
+//! `read_log_behind`. The definitions of what a log means (replay, winners, pending, the laws, the
+//! tail of a restart) are in `specs/`. Their laws are the functions of `laws`.
 #![tactic(auto)]
 
 mod body;

@@ -1,4 +1,4 @@
-//! A log that lies in bytes.
+//! A log that stays in bytes.
 
 ghost use Rattle.std.specs.Prelude.{◌≡◌, ◌+◌, ◌*◌, ◌<◌, ◌≤◌, ◌^◌, ◌++◌, ℕ, List, length, Some, None, option_map, IfErr, IfNone, IfOk, IfSome, Ok};
 ghost use Rattle.wal.specs.Glances.{IsGlanceBehind};
@@ -24,9 +24,9 @@ use std::alloc::Global;
 use std::marker::Model;
 use std::thread::Threads;
 
-/// A log that stays in the bytes that it was read from, which may lie in two parts. Beside them it
-/// holds one offset for each record, of 4 bytes in the first 4 GiB of a part and of 8 behind them.
-/// Contracts see its content: how it begins, and its records, whose LSNs go on from there.
+/// A log that stays in the bytes that it was read from, which may be in two parts. Besides these it
+/// holds one offset for each record: 4 bytes in the first 4 GiB of a part, and 8 bytes after them.
+/// Contracts see its content: how it begins, and its records, whose LSNs continue from there.
 #[derive(Drop)]
 pub struct Log<'a> {
     begins: LogStart,
@@ -50,21 +50,22 @@ impl<'a> Log<'a> {
         (self.front.len() + self.back.len()) as u64
     }
 
-    /// How it begins: in which version it is written, and after which LSN its records come.
+    /// How it begins: the version of its format, and the LSN after which its records come.
     pub fn start(&self) -> LogStart
         ensures { result ≡ self.now.begins }
     {
         self.begins
     }
 
-    /// The LSN of its last record; where it has none, the base LSN. It is the sum of `base` and `len`.
+    /// The LSN of its last record; the base LSN if it has no record. It is the sum of `base` and
+    /// `len`.
     pub fn last(&self) -> u64
         ensures { result ≡ last_lsn (history self.now) }
     {
         self.begins.base() + self.len()
     }
 
-    /// The base LSN, behind which the log begins: its first record has the next one. It is 0 in
+    /// The base LSN, after which the log begins: its first record has the next LSN. It is 0 in
     /// version 1 of a log, and at most 9,223,372,036,854,775,807.
     #[inline(always)]
     pub fn base(&self) -> u64
@@ -74,9 +75,9 @@ impl<'a> Log<'a> {
         self.begins.base()
     }
 
-    /// The LSN of a record that is to come behind the last one. The base LSN is below 2^63 (`low`),
-    /// the log's bytes are fewer than 2^63, and each record takes 13 of them at least, so there is
-    /// room for many LSNs more (`room`).
+    /// The LSN of the record that would follow the last one. The base LSN is below 2^63 (`low`),
+    /// the log has fewer than 2^63 bytes, and each record takes at least 13 of them. So there is
+    /// room for many more LSNs (`room`).
     pub fn next_lsn(&self) -> u64
         ensures next { result ≡ last_lsn (history self.now) + 1 }
         ensures low { base_lsn (history self.now) ≤ LARGEST_BASE }
@@ -85,9 +86,9 @@ impl<'a> Log<'a> {
         self.begins.base() + 1 + self.len()
     }
 
-    /// The record at an LSN, None up to the base LSN and past the end. It is decoded from the bytes
-    /// at each call, and takes no memory. What it shows fits the grammar (`fits`), as `to_record`
-    /// asks.
+    /// The record at an LSN. `None` if the LSN is not above the base LSN, or is above the last one.
+    /// The record is decoded from the bytes at each call, and takes no memory. What it shows fits
+    /// the grammar (`fits`), as `to_record` requires.
     #[inline(always)]
     pub fn get(&self, lsn: u64) -> Option<RecordView<'a>>
         ensures found { option_map shown result ≡ record_at (history self.now) lsn }
@@ -96,9 +97,9 @@ impl<'a> Log<'a> {
         self.body(lsn).view()
     }
 
-    /// The body of the record at an LSN, that of no record up to the base LSN and past the end. Where
-    /// several are wanted, to ask for all before the first is looked at lets the processor fetch them
-    /// beside each other.
+    /// The body of the record at an LSN. It is the body of no record if the LSN is not above the
+    /// base LSN, or is above the last one. If several are wanted, ask for all before looking at the
+    /// first: the processor can then fetch them at the same time.
     #[inline(always)]
     pub fn body(&self, lsn: u64) -> Body<'a>
         ensures { result ≡ record_at (history self.now) lsn }
@@ -110,16 +111,16 @@ impl<'a> Log<'a> {
         part.body(index)
     }
 
-    /// The image that the record at an LSN put into its cell, as `Body::image` tells it: None up to
-    /// the base LSN and past the end.
+    /// The image that the record at an LSN put into its cell, as `Body::image` returns it. `None`
+    /// also if the LSN is not above the base LSN, or is above the last one.
     pub fn image(&self, lsn: u64) -> Option<Value>
         ensures { result ≡ image_in (record_at (history self.now) lsn) }
     {
         self.body(lsn).image()
     }
 
-    /// The record behind an LSN, which is the base LSN or above it and below the last one: the
-    /// record whose LSN is one more.
+    /// The record after an LSN, that is, the record whose LSN is one higher. The given LSN must be
+    /// at least the base LSN and below the last one.
     #[inline(always)]
     pub fn after(&self, lsn: u64) -> RecordView<'a>
         requires from { base_lsn (history self.now) ≤ lsn }
@@ -136,7 +137,7 @@ impl<'a> Log<'a> {
         }
     }
 
-    /// The record behind an LSN at a glance: as `after`, but no more of it is decoded than that.
+    /// The record after an LSN at a glance: as `after`, but nothing else of it is decoded.
     #[inline(always)]
     pub fn glance_after(&self, lsn: u64) -> Glance
         requires from { base_lsn (history self.now) ≤ lsn }
@@ -150,7 +151,8 @@ impl<'a> Log<'a> {
         }
     }
 
-    /// The number, from 0, of the record at an LSN; None up to the base LSN and past the end.
+    /// The number, from 0, of the record at an LSN. `None` if the LSN is not above the base LSN, or
+    /// is above the last one.
     #[inline(always)]
     fn number_of(&self, lsn: u64) -> Option<usize>
         ensures some { IfSome result (λ number. (number < length self.now.records)
@@ -164,7 +166,7 @@ impl<'a> Log<'a> {
         Some((lsn - base - 1) as usize)
     }
 
-    /// The part that has the record with this number from 0, and the record's number there.
+    /// The part with the record of this number, from 0, and the number of the record in that part.
     #[inline(always)]
     fn place(&self, number: usize) -> (&Part<'a>, usize)
         requires { number < length self.now.records }
@@ -180,8 +182,8 @@ impl<'a> Log<'a> {
     }
 }
 
-/// The log that begins so, of which the front is the header and these frames, and these are all
-/// frames behind it. With it how many bytes its torn tail has.
+/// The log with this start. Its front is the header and these frames, and the second stretch has
+/// all frames after the front. Returned with it is how many bytes the torn tail has.
 fn log_of<'a>(
     begins: LogStart,
     front: &'a [u8],
@@ -225,24 +227,24 @@ fn split_header<'a>(
 }
 
 /// The log in these bytes, and how many bytes its torn tail has: up to 3 bytes, or a length that a
-/// body may have and fewer bytes than it says. A torn tail is not looked at, and is no part of the
-/// log. The bytes are gone through once.
+/// body may have and fewer bytes than this length. A torn tail is not looked at, and is not part of
+/// the log. The bytes are read once.
 ///
-/// Errors, of which the first in the bytes is given; an offset is that of a frame's length field:
+/// Errors. The first one in the bytes is returned; an offset is that of a frame's length field:
 /// - NoResource: memory for the offsets was refused.
 /// - BadLogHeader: the bytes begin neither with `ARIESLG1`, which is version 1, nor with `ARIESLG2`
 ///   and 8 bytes of a base LSN of at most 9,223,372,036,854,775,807, which is version 2.
 /// - BadLength(offset): a complete length field is outside 9 to 70,681.
-/// - BadRecord(offset): a complete body spells no record with any LSN.
-/// - BadLsn(offset): the body spells a record with another LSN than the sum of the base LSN and the
+/// - BadRecord(offset): a complete body does not encode a record with any LSN.
+/// - BadLsn(offset): the body encodes a record, but its LSN is not the sum of the base LSN and the
 ///   frame's number from 1.
 pub fn read_log<'a>(alloc: Global, bytes: &'a [u8]) -> Result<(Log<'a>, usize), Fault>
-    // What is answered is what the bytes spell.
+    // What is returned is what the bytes encode.
     ensures found { IfOk result (λ x. Reads bytes.now x.0 x.1) }
-    // What the bytes spell is answered, unless memory runs out.
+    // What the bytes encode is returned, unless memory runs out.
     ensures only { (log : LogContent) (torn : ℕ) → Reads bytes.now log torn
         → Gives (λ x. x) result (Ok (log, torn)) }
-    // A refusal has its cause in the bytes, memory aside.
+    // An error is in the bytes, a lack of memory aside.
     ensures fault { IfErr result (Cause bytes.now) }
 {
     let (begins, header, none, behind) = split_header(alloc, bytes)?;
@@ -250,10 +252,11 @@ pub fn read_log<'a>(alloc: Global, bytes: &'a [u8]) -> Result<(Log<'a>, usize), 
     log_of(begins, header, none, behind, frames)
 }
 
-/// As [`read_log`], with its answers and errors, in as many threads as this where the log is long:
-/// each takes a stretch of the bytes, guesses where its first frame begins, and reads on from there.
-/// What it read counts where the frames in front of it end just there, with the LSN before; else
-/// those bytes are read again. More threads take more memory, by an offset for each record.
+/// As [`read_log`], with the same results and errors, but with this many threads if the log is
+/// long. Each thread takes a stretch of the bytes, guesses where its first frame begins, and reads
+/// from there. What it read counts if the frames before it end exactly there, with the LSN before;
+/// otherwise those bytes are read again. More threads take more memory: one more offset for each
+/// record.
 pub fn read_log_by<'a, R: Threads + Sync>(
     rt: &R,
     alloc: Global,
@@ -270,9 +273,9 @@ pub fn read_log_by<'a, R: Threads + Sync>(
     log_of(begins, header, none, behind, frames)
 }
 
-/// The frames that stand behind the header in the first bytes of a log, of which 16 have come at
-/// least; read as [`read_log_by`] does. What comes behind the last of them is the beginning of a frame
-/// at most. The error is the log's, whatever comes behind these bytes.
+/// The frames after the header in the first bytes of a log, which must be at least 16 bytes; read
+/// as [`read_log_by`] does. What comes after the last frame is at most the beginning of a frame.
+/// The error is the log's, whatever comes after these bytes.
 pub fn first_frames<R: Threads + Sync>(
     rt: &R,
     alloc: Global,
@@ -294,8 +297,9 @@ pub fn first_frames<R: Threads + Sync>(
     Ok(frames)
 }
 
-/// The log of which the front is a header and these frames, to its end, and what comes behind it is in
-/// other bytes; as [`read_log_by`], with its answers and errors for all of the bytes.
+/// The log of a front and the bytes after it, which are in other memory. The front is a header and
+/// these frames, to its end. The results and errors are those of [`read_log_by`] for all of the
+/// bytes.
 pub fn read_log_behind<'a, R: Threads + Sync>(
     rt: &R,
     alloc: Global,

@@ -1,5 +1,5 @@
-//! The frame in front: whether there is one, and how many bytes it takes. All of it is read, and no
-//! more of the record kept than its LSN.
+//! The frame at the front: whether there is one, and how many bytes it takes. All of it is read,
+//! but only the LSN of the record is kept.
 
 ghost use Rattle.std.specs.Prelude.{◌≡◌, option_map};
 ghost use Rattle.wal.specs.Reading.{update_at, compensation_at, fields_at, body_at};
@@ -10,7 +10,7 @@ use crate::frame::checkpoint_at;
 use crate::sizes::{LARGEST_BODY, SMALLEST_BODY};
 use page::Fault;
 
-/// What stands behind the fields of an update.
+/// The bytes after the fields of an update.
 #[inline(always)]
 #[tactic(auto, unfolding(crate::specs::Reading::update_at))]
 fn update_end(bytes: &[u8]) -> Option<&[u8]>
@@ -24,7 +24,7 @@ fn update_end(bytes: &[u8]) -> Option<&[u8]>
     Some(rest)
 }
 
-/// What stands behind the fields of a CLR.
+/// The bytes after the fields of a CLR.
 #[inline(always)]
 #[tactic(auto, unfolding(crate::specs::Reading::compensation_at))]
 fn compensation_end(bytes: &[u8]) -> Option<&[u8]>
@@ -39,7 +39,7 @@ fn compensation_end(bytes: &[u8]) -> Option<&[u8]>
     Some(rest)
 }
 
-/// What stands behind the fields of a record of this kind.
+/// The bytes after the fields of a record of this kind.
 #[inline(always)]
 #[tactic(auto, unfolding(crate::specs::Reading::fields_at, crate::specs::Reading::plain_record_at))]
 fn fields_end(kind: u8, bytes: &[u8]) -> Option<&[u8]>
@@ -73,7 +73,7 @@ fn fields_end(kind: u8, bytes: &[u8]) -> Option<&[u8]>
     }
 }
 
-/// The LSN of the record that these bytes spell, all of them.
+/// The LSN of the record that all of these bytes encode.
 #[inline(always)]
 #[tactic(auto, unfolding(crate::specs::Reading::body_at))]
 fn body_lsn(bytes: &[u8]) -> Option<u64>
@@ -92,8 +92,8 @@ fn body_lsn(bytes: &[u8]) -> Option<u64>
     }
 }
 
-/// How many bytes the frame in front takes, which is to have this LSN; None where the whole frames
-/// have ended.
+/// How many bytes the frame at the front takes, which must have this LSN. `None` after the last
+/// whole frame.
 #[inline(always)]
 #[tactic(auto, using(crate::proofs::NextFrame::size_of_none, crate::proofs::NextFrame::size_of_other, crate::proofs::NextFrame::size_of_right), unfolding(crate::specs::Frames::next_at))]
 pub fn next_at(lsn: u64, offset: usize, bytes: &[u8]) -> Result<Option<usize>, Fault>

@@ -7,11 +7,11 @@ use page::Fault;
 use std::alloc::Global;
 use std::marker::Model;
 
-/// How many bytes a frame is thought to have when room is made.
+/// How many bytes a frame is expected to have when room is made.
 const USUAL_FRAME: usize = 32;
 
-/// Offsets in a text, one behind the other: in 4 bytes each as far as that holds them, in 8 from
-/// the first one past 4 GiB on. Contracts see their list.
+/// Offsets in some bytes, in order: 4 bytes each until the first offset past 4 GiB, 8 bytes each
+/// from there on. Contracts see the list of them.
 #[derive(Drop)]
 pub struct Offsets {
     short: Vec<u32>,
@@ -25,8 +25,8 @@ impl Model for Offsets {
 }
 
 impl Offsets {
-    /// No offset, with room for one each 32 of this many bytes, as far as they take 4 bytes each. Where
-    /// that much memory is refused there is none, and it is made as offsets come.
+    /// No offsets, with room for one offset of 4 bytes for each 32 of this many bytes, up to 4 GiB.
+    /// If so much memory is refused, there is no room, and memory is taken as offsets come.
     pub fn with_room(alloc: Global, bytes: usize) -> Offsets
         ensures { result ≡ [] }
     {
@@ -57,7 +57,7 @@ impl Offsets {
         }
     }
 
-    /// Puts one behind the others. The only error is `NoResource`.
+    /// Appends an offset. The only error is `NoResource`.
     #[inline(always)]
     pub fn push(&mut self, offset: usize) -> Result<(), Fault>
         ensures ok { OnOk result (self.new ≡ self.old ++ offset ∷ []) }
@@ -71,8 +71,8 @@ impl Offsets {
         Ok(())
     }
 
-    /// Puts others behind them; those are taken as they are where there is none yet. The only error
-    /// is `NoResource`.
+    /// Appends other offsets. If there are none yet, the others are taken over without a copy. The
+    /// only error is `NoResource`.
     pub fn append(&mut self, others: Offsets) -> Result<(), Fault>
         ensures ok { OnOk result (self.new ≡ self.old ++ others) }
         ensures err { IsOkUnless result NoResource }
@@ -95,7 +95,7 @@ impl Offsets {
     }
 }
 
-/// Nothing, with room for so many short offsets, if memory for them is not refused.
+/// No offsets, with room for this many short ones, if memory for them is not refused.
 fn room_for(alloc: Global, count: usize) -> Vec<u32>
     ensures { result.items ≡ [] }
 {
@@ -105,7 +105,7 @@ fn room_for(alloc: Global, count: usize) -> Vec<u32>
     }
 }
 
-/// Puts short offsets behind long ones. The only error is `NoResource`.
+/// Appends short offsets to long ones. The only error is `NoResource`.
 fn append_long(long: &mut Vec<usize>, short: &[u32]) -> Result<(), Fault>
     ensures ok { OnOk result (long.new.items ≡ long.old.items ++ short.now) }
     ensures err { IsOkUnless result NoResource }

@@ -1,4 +1,4 @@
-//! A part of a log: frames one behind the other in bytes of their own.
+//! A part of a log: frames one after the other in bytes of their own.
 
 ghost use Rattle.std.specs.Prelude.{◌≡◌, ◌<◌, List, All, Some, length, map};
 ghost use Rattle.wal.specs.Records.{LogRecord};
@@ -24,7 +24,7 @@ impl<'a> Model for Part<'a> {
 }
 
 impl<'a> Part<'a> {
-    /// The frames that stand at these offsets.
+    /// The frames at these offsets.
     pub fn new(bytes: &'a [u8], offsets: Offsets) -> Part<'a>
         requires { All (IsPlace bytes.now) offsets }
         ensures { result ≡ map (record_of bytes.now) offsets }

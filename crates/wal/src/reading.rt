@@ -1,4 +1,4 @@
-//! The log that frames make: those of its first bytes, those behind them, and a torn tail.
+//! The log that frames make: the frames of its first bytes, those after them, and a torn tail.
 
 ghost use Rattle.std.specs.Prelude.{◌≡◌, ◌≤◌, ◌<◌, ◌+◌, ◌^◌, ◌++◌, None, Ok, drop, length, IfErr, IfOk};
 ghost use Rattle.wal.specs.Frames.{next_at, Fails};
@@ -7,9 +7,9 @@ ghost use Rattle.wal.specs.Stretches.{HasNoFrame};
 use crate::next::next_at;
 use page::Fault;
 
-/// How many bytes stand behind the last frame of a log, which ends at `end`, if they are a torn tail;
-/// else what is wrong with them. A frame there would have this LSN, and `before` bytes of the log
-/// stand in front of these.
+/// How many bytes come after the last frame of a log, which ends at `end`, if they are a torn tail.
+/// Otherwise the error is what is wrong with them. A frame there would have this LSN, and `before`
+/// bytes of the log come before these bytes.
 pub fn torn_from(lsn: u64, before: usize, bytes: &[u8], end: usize) -> Result<usize, Fault>
     requires end { end ≤ length bytes.now }
     requires short { before + length bytes.now < 2 ^ 63 }

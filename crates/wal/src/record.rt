@@ -11,31 +11,31 @@ ghost use Rattle.page.specs.Image.{FitsSlot};
 use crate::sizes::TRANSACTIONS;
 use page::{PAGES, SLOTS, VALUE_BYTES, Value};
 
-/// What a transaction table says of how a transaction stands.
+/// The state of a transaction in a transaction table.
 #[derive(Clone, Copy, Debug, PartialEq, Eq)]
 pub enum State {
-    /// It works.
+    /// It is working.
     Active,
     /// It has asked to be rolled back.
     Aborting,
-    /// It has prepared to commit, and waits to be told whether it does (two-phase commit). A
-    /// restart leaves it in doubt: its changes stay, and it is listed.
+    /// It has prepared to commit, and waits for the decision (two-phase commit). A restart leaves
+    /// it in doubt: its changes stay, and it is listed.
     Prepared,
 }
 
-/// What a transaction table says of a transaction.
+/// What a transaction table has for a transaction.
 #[derive(Clone, Copy, Debug, PartialEq, Eq)]
 pub struct Entry {
-    /// How it stands.
+    /// Its state.
     pub state: State,
-    /// LastLSN: the LSN of its last record, 0 for none.
+    /// LastLSN: the LSN of its last record, 0 if there is none.
     pub last: u64,
-    /// UndoNxtLSN: the LSN from which its undo goes on, 0 for none.
+    /// UndoNxtLSN: the LSN at which its undo continues, 0 if there is none.
     pub undo_next: u64,
 }
 
-/// A record of the log, with what it holds. LSNs are numbers from 1, the first of a log being that
-/// behind its base LSN; 0 stands for none. A value is None where the slot is absent.
+/// A record of the log, with what it holds. LSNs are numbers from 1; the first LSN of a log is the
+/// one after its base LSN. 0 means none. A value is `None` if the slot is absent.
 #[derive(Drop)]
 pub enum Record {
     /// A transaction changed a slot of a page, from the value before to the value after. `prev` is
@@ -49,7 +49,7 @@ pub enum Record {
         after: Option<Value>,
     },
     /// A compensation log record (CLR): an update was undone, and the slot has this image. Undo
-    /// goes on at `undo_next`.
+    /// continues at `undo_next`.
     Compensation {
         tx: u32,
         prev: u64,
@@ -73,7 +73,7 @@ pub enum Record {
         tx: u32,
         prev: u64,
     },
-    /// A transaction has prepared to commit: it does no more work, and survives a crash in doubt
+    /// A transaction has prepared to commit. It does no more work, and stays in doubt after a crash
     /// until a commit or an abort of it is logged.
     Prepare {
         tx: u32,
@@ -82,7 +82,7 @@ pub enum Record {
     /// A checkpoint began.
     CheckpointBegin,
     /// The checkpoint that began at the LSN `begin`, with the transaction table and the dirty page
-    /// table (page and RecLSN) as they were at its begin.
+    /// table (page and RecLSN) as they were at its begin record.
     CheckpointEnd {
         begin: u64,
         transactions: Vec<(u32, Entry)>,
@@ -91,8 +91,9 @@ pub enum Record {
 }
 
 impl Record {
-    /// Whether it has a spelling: a transaction number is at least 1 and a slot at most 15; the
-    /// tables of a checkpoint end have at most 1,024 and 4,096 entries, in rising order of number.
+    /// Whether it has an encoding: a transaction number is at least 1 and a slot at most 15. The
+    /// tables of a checkpoint end have at most 1,024 and 4,096 entries, in ascending order of
+    /// number.
     pub fn is_writable(&self) -> bool
         ensures { result ≡ true ↔ Fits (content self.now) }
     {

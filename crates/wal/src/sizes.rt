@@ -33,19 +33,19 @@ pub const SMALLEST_BODY: usize = 1 + LSN_BYTES;
 /// How many bytes the smallest frame takes: the length of its body, and the body.
 pub const SMALLEST_FRAME: usize = 4 + SMALLEST_BODY;
 
-/// How many bytes the body of a commit, an abort, an end or a prepare takes: kind, LSN, transaction,
-/// PrevLSN.
+/// How many bytes the body of a commit, an abort, an end or a prepare takes: kind, LSN,
+/// transaction, PrevLSN.
 pub const PLAIN_BODY: usize = SMALLEST_BODY + 4 + LSN_BYTES;
 
 /// How many bytes the frame of a commit, an abort, an end or a prepare takes.
 pub const PLAIN_FRAME: usize = 4 + PLAIN_BODY;
 
-/// How many bytes of the frame of an update or a CLR stand before its images and UndoNxtLSN: the frame's
-/// head, the transaction, the PrevLSN, the page and the slot.
+/// How many bytes of the frame of an update or a CLR come before its images and UndoNxtLSN: the
+/// frame's head, the transaction, the PrevLSN, the page and the slot.
 pub const CELL_HEAD: usize = PLAIN_FRAME + CELL_BYTES;
 
 /// How many bytes the body of a checkpoint end takes without its entries: kind, LSN, the LSN of its
-/// begin, and the count of each table.
+/// begin record, and the count of each table.
 pub const CHECKPOINT_BODY: usize = SMALLEST_BODY + LSN_BYTES + 8;
 
 /// How many bytes the frame of a checkpoint end takes without its entries.

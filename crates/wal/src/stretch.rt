@@ -14,14 +14,14 @@ use std::alloc::Global;
 use std::thread;
 use std::thread::Threads;
 
-/// A stretch of fewer bytes than this is not worth a thread.
+/// A stretch with fewer bytes than this is not worth a thread.
 pub const SMALLEST_STRETCH: usize = 1 << 16;
 
-/// The largest LSN that a guess takes: each record behind it in a log has room for its LSN.
+/// The largest LSN that a guess takes. Each record after it in a log has room for its LSN.
 pub const LARGEST_GUESS: u64 = 3 << 62;
 
-/// Frames one behind the other in some bytes. The first begins at `begin` and has LSN `lsn`; behind
-/// the last stands `end`.
+/// Frames one after the other in some bytes. The first begins at `begin` and has LSN `lsn`; the
+/// last ends at `end`.
 #[derive(Drop)]
 pub struct Stretch {
     pub lsn: u64,
@@ -31,8 +31,8 @@ pub struct Stretch {
 }
 
 impl Stretch {
-    /// No frames yet, in bytes where the first is to begin at `begin` and to have this LSN. There is
-    /// room for those of `room` bytes.
+    /// No frames yet, in bytes where the first frame will begin at `begin` and have this LSN. There
+    /// is room for the frames of `room` bytes.
     pub fn none(alloc: Global, lsn: u64, begin: usize, room: usize) -> Stretch
         requires { LeavesRoom lsn }
         ensures frames { (bytes : List ℕ) → begin ≤ length bytes → IsStretch bytes result }
@@ -48,8 +48,8 @@ impl Stretch {
     }
 }
 
-/// A stretch, and the frames behind it: until one ends at `upto` or behind it, or what stands there
-/// is no frame. All frames of all logs are read here. The only error is `NoResource`.
+/// A stretch and the frames after it, until a frame ends at `upto` or later, or the bytes are not a
+/// frame. All frames of all logs are read here. The only error is `NoResource`.
 pub fn read_on(bytes: &[u8], known: Stretch, upto: usize) -> Result<Stretch, Fault>
     requires known { IsStretch bytes.now known }
     ensures frames { IfOk result (IsStretch bytes.now) }
@@ -86,7 +86,7 @@ pub fn read_on(bytes: &[u8], known: Stretch, upto: usize) -> Result<Stretch, Fau
     })
 }
 
-/// The LSN of the frame in front, if these bytes begin with one.
+/// The LSN of the frame at the front, if these bytes begin with one.
 fn lsn_in_front(bytes: &[u8]) -> Option<u64>
     ensures { IfSome result LeavesRoom }
 {
@@ -101,8 +101,8 @@ fn lsn_in_front(bytes: &[u8]) -> Option<u64>
     }
 }
 
-/// The first place from `from` on, and in front of `upto`, that looks as if a frame began there, and
-/// that frame's LSN. Bytes of a value may look so too.
+/// The first place from `from` on and before `upto` that looks like the beginning of a frame, and
+/// the LSN of that frame. The bytes of a value may look like that too.
 pub fn guess(bytes: &[u8], from: usize, upto: usize) -> Option<(u64, usize)>
     requires { upto ≤ length bytes.now }
     ensures { IfSome result (λ x. LeavesRoom x.0 × (x.1 ≤ length bytes.now)) }
@@ -116,8 +116,9 @@ pub fn guess(bytes: &[u8], from: usize, upto: usize) -> Option<(u64, usize)>
     None
 }
 
-/// The stretch that a thread reads: of `count` about equal shares of what stands from `begin` on, the
-/// frames that begin in the one with this number, if a frame seems to begin there.
+/// The stretch that a thread reads. The bytes from `begin` on have `count` shares of about the same
+/// size; this function reads the frames that begin in the share with this number, if one seems to
+/// begin there.
 fn guessed_stretch(
     alloc: Global,
     begin: usize,
@@ -134,13 +135,13 @@ fn guessed_stretch(
     let Some((lsn, begin)) = guess(bytes, from, from + share) else {
         return Ok(None);
     };
-    // The others are put behind the first.
+    // The others are appended to the first.
     let room = if number == 0 { bytes.len() } else { share };
     let none = Stretch::none(alloc, lsn, begin, room);
     Ok(Some(read_on(bytes, none, from + share)?))
 }
 
-/// What the threads have read, if memory was there for all of it.
+/// What the threads have read, if there was memory for all of it.
 fn all_of(
     alloc: Global,
     bytes: &[u8],
@@ -159,8 +160,8 @@ fn all_of(
     Ok(stretches)
 }
 
-/// The stretches behind `begin` that `threads` threads read, of about the same length, in their order.
-/// The only error is `NoResource`.
+/// The stretches after `begin` that `threads` threads read, of about the same length, in order. The
+/// only error is `NoResource`.
 pub fn stretches_of<R: Threads + Sync>(
     rt: &R,
     alloc: Global,

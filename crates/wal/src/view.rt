@@ -1,4 +1,4 @@
-//! A record as it lies in the bytes of a log.
+//! A record as it is in the bytes of a log.
 
 ghost use Rattle.std.specs.Prelude.{ℕ, slice_index_or, ◌≡◌, ◌<◌, ◌*◌, ◌≤◌, length, map, option_map, IfSome, IfOk, IsOkUnless};
 ghost use Rattle.std.specs.List.{slice_get};
@@ -16,7 +16,7 @@ use page::{Fault, Value};
 use std::alloc::{AllocError, Global};
 use std::marker::Model;
 
-/// The transaction table of a checkpoint end, lent from the log: an entry is decoded at use.
+/// The transaction table of a checkpoint end, borrowed from the log: an entry is decoded at use.
 /// Contracts see the list of its entries.
 #[derive(Drop)]
 pub struct TransactionTable<'a> {
@@ -45,8 +45,8 @@ impl<'a> TransactionTable<'a> {
         self.count
     }
 
-    /// The transaction and its entry at a place from 0, in rising order of transaction; None past
-    /// the end.
+    /// The transaction and its entry at a place from 0, in ascending order of transaction; `None`
+    /// past the end.
     pub fn get(&self, place: usize) -> Option<(u32, Entry)>
         ensures { option_map entry_of result ≡ slice_get self.now place }
     {
@@ -78,7 +78,7 @@ fn entry_in(bytes: &[u8], count: usize, place: usize) -> Option<(u32, Entry)>
     Some((tx, entry))
 }
 
-/// The dirty page table of a checkpoint end, lent from the log: an entry is decoded at use.
+/// The dirty page table of a checkpoint end, borrowed from the log: an entry is decoded at use.
 /// Contracts see the list of its entries.
 #[derive(Drop)]
 pub struct DirtyTable<'a> {
@@ -106,7 +106,7 @@ impl<'a> DirtyTable<'a> {
         self.count
     }
 
-    /// The page and its RecLSN at a place from 0, in rising order of page; None past the end.
+    /// The page and its RecLSN at a place from 0, in ascending order of page; `None` past the end.
     pub fn get(&self, place: usize) -> Option<(u32, u64)>
         ensures { result ≡ slice_get self.now place }
     {
@@ -138,7 +138,8 @@ fn dirty_in(bytes: &[u8], count: usize, place: usize) -> Option<(u32, u64)>
     Some((page, rec_lsn))
 }
 
-/// A table of `count` entries at the front, in rising order of transaction, and the bytes after it.
+/// A table of `count` entries at the front, in ascending order of transaction, and the bytes after
+/// it.
 pub fn entries_at(count: u32, bytes: &[u8]) -> Option<(TransactionTable, &[u8])>
     ensures { option_map (λ x. (x.0, x.1.now)) result ≡ table_at tx_in entry_at count 0 bytes.now }
 {
@@ -160,7 +161,7 @@ pub fn entries_at(count: u32, bytes: &[u8]) -> Option<(TransactionTable, &[u8])>
     Some((table, rest))
 }
 
-/// A table of `count` entries at the front, in rising order of page, and the bytes after it.
+/// A table of `count` entries at the front, in ascending order of page, and the bytes after it.
 pub fn dirties_at(count: u32, bytes: &[u8]) -> Option<(DirtyTable, &[u8])>
     ensures { option_map (λ x. (x.0, x.1.now)) result
         ≡ table_at page_in dirty_at count 0 bytes.now }
@@ -183,7 +184,7 @@ pub fn dirties_at(count: u32, bytes: &[u8]) -> Option<(DirtyTable, &[u8])>
     Some((table, rest))
 }
 
-/// A record as it lies in the bytes of a log. Values and tables are lent from them.
+/// A record as it is in the bytes of a log. Values and tables are borrowed from them.
 #[derive(Drop)]
 pub enum RecordView<'a> {
     /// A transaction changed a slot of a page, from the value before to the value after.
@@ -226,7 +227,7 @@ pub enum RecordView<'a> {
     },
     /// A checkpoint began.
     CheckpointBegin,
-    /// The checkpoint that began at this LSN, with the tables as they were at its begin.
+    /// The checkpoint that began at this LSN, with the tables as they were at its begin record.
     CheckpointEnd {
         begin: u64,
         transactions: TransactionTable<'a>,
@@ -235,8 +236,8 @@ pub enum RecordView<'a> {
 }
 
 impl<'a> RecordView<'a> {
-    /// The record that it shows, with memory of its own. NoResource where memory for a table was
-    /// refused. Views that `Log::get` gives fit.
+    /// The record that it shows, with memory of its own. NoResource if memory for a table was
+    /// refused. The views that `Log::get` returns fit.
     pub fn to_record(&self, alloc: Global) -> Result<Record, Fault>
         requires { Fits (shown self.now) }
         ensures ok { IfOk result (λ r. content r ≡ shown self.now) }
@@ -304,7 +305,7 @@ impl<'a> RecordView<'a> {
     }
 }
 
-/// The value of an image that a view lends; an image of a log has at most 48 bytes.
+/// The value of an image that a view borrows; an image of a log has at most 48 bytes.
 pub fn value_of(image: Option<&[u8]>) -> Option<Value>
     requires { IfSome image (λ bytes. length bytes.now ≤ VALUE_BYTES) }
     ensures { result ≡ option_map (λ bytes. bytes.now) image.entry }

@@ -5,11 +5,11 @@ use Rattle.wal.proofs.Stretches.{frames_more, frame_takes, none_sized, fault_siz
 use Rattle.wal.proofs.stretch.read_on.Goals.{else-loop-end-test, then-loop-end-test+in_default, then-loop-end-test+in-Ok+in_default-found}
 use Rattle.wal.proofs.stretch.read_on.Goals as goal
 
--- a frame of this size stands there
+-- a frame of this size is there
 here : (c : goal.In_ok-push) → size_in (next_at c.loop-end.next c.loop-end.end (drop c.loop-end.end c.args.bytes.now)) ≡ Ok (Some c.in-Some.size)
 here c = ap (λ rest. size_in (next_at c.loop-end.next c.loop-end.end rest)) (sym c.split_at.ensures.back) ∙ (cc)
 
--- a frame takes 13 bytes at least, and there are as many as it takes
+-- a frame takes at least 13 bytes, and there are as many as it takes
 takes : (c : goal.In_ok-push) → (13 ≤ c.in-Some.size) × (c.loop-end.end + c.in-Some.size ≤ length c.args.bytes.now)
 takes c =
     let one = sized (next_at c.loop-end.next c.loop-end.end (drop c.loop-end.end c.args.bytes.now)) c.in-Some.size (here c) in
