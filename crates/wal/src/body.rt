@@ -15,7 +15,7 @@ use crate::view::{RecordView, value_of};
 use page::Value;
 use std::marker::Model;
 
-/// The body of a record as it is in the log, with nothing decoded; empty if there is no record.
+/// The body of a record as it is in the log, with nothing decoded; empty for a missing record.
 /// Contracts see the record, if there is one.
 #[derive(Drop)]
 pub struct Body<'a> {
@@ -76,7 +76,7 @@ impl<'a> Body<'a> {
     }
 
     /// The image that the record put into its cell. `None` if the record made the slot absent, if
-    /// it is in no cell, and if there is no record. Nothing else of the record is decoded.
+    /// it is in no cell, and if the record is missing. Nothing else of the record is decoded.
     pub fn image(&self) -> Option<Value>
         ensures { result ≡ image_in self.now }
     {
