@@ -1,16 +1,16 @@
--- How many numbers of a stretch stand in a list.
+-- How many numbers of a stretch are in a list.
 use Rattle.std.proofs.Common.{◌≡◌, ℕ, zero, suc, ◌+◌, ◌<◌, ◌≤◌, List, [], ◌∷◌, length, refl, ap, arith}
 use mathlib.Core.Logic.{dite}
 use native.Mathlib.Decide.{ℕ_discrete, dec_le}
 use Rattle.board.specs.Claims.{times}
 use Rattle.board.proofs.Times.{times_head, times_tail}
 
--- how often the n numbers from a on stand in the list
+-- how often the n numbers from a on are in the list
 abbrev pub among : (a n : ℕ) → List ℕ → ℕ
 among a zero xs = 0
 among a (suc n) xs = among a n xs + times (a + n) xs
 
--- a stretch and the one behind it
+-- a stretch and the one after it
 pub among_cut : (a m n : ℕ) (xs : List ℕ) → among a (m + n) xs ≡ among a m xs + among (a + m) n xs
 among_cut a m zero xs = let same : m + 0 ≡ m = omega arith in let e : among a (m + 0) xs ≡ among a m xs = ap (λ (k : ℕ). among a k xs) same in omega arith
 among_cut a m (suc n) xs =
@@ -21,12 +21,12 @@ among_cut a m (suc n) xs =
     let t : times (a + (m + n)) xs ≡ times (a + m + n) xs = ap (λ (k : ℕ). times k xs) there in
     omega arith
 
--- none stands there twice
+-- none is in it twice
 among_le : (a n : ℕ) (xs : List ℕ) → ((k : ℕ) → k < n → times (a + k) xs ≤ 1) → among a n xs ≤ n
 among_le a zero xs one = omega arith
 among_le a (suc n) xs one = let r = among_le a n xs (λ k h. one k (omega arith)) in let t = one n (omega arith) in omega arith
 
--- nor any behind the first w of them
+-- nor any after the first w of them
 pub among_few : (a n w : ℕ) (xs : List ℕ) → ((k : ℕ) → k < n → times (a + k) xs ≤ 1) → ((k : ℕ) → k < n → w ≤ k → times (a + k) xs ≡ 0) → among a n xs ≤ w
 among_few a zero w xs one none_there = omega arith
 among_few a (suc n) w xs one none_there = dite (dec_le w n)

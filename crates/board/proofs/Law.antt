@@ -1,4 +1,4 @@
--- What follows from the rule of the words at once, and what a changed word or view leaves of it.
+-- What follows at once from the rule of the words, and what still holds after a word or a view changes.
 use Rattle.std.proofs.Common.{◌≡◌, ◌≢◌, ℕ, zero, suc, ◌+◌, ◌<◌, ◌≤◌, List, [], length, set, slice_index, refl, sym, ap, ◌∙◌, subst, ⊎_elim, arith, get_or-set_same, get_or-set_other, le_refl}
 use Rattle.std.proofs.lemmas.List.{set-get_or}
 use Rattle.std.proofs.Common.{Bool, true, false, cond}
@@ -44,7 +44,7 @@ size-le p r any in' = let a = start_below p.parts p.ranges (r + 1) any (omega ar
 pub past-le : (p : Plan) (s : S) → IsLawful p s → (r : ℕ) → total (places_past r) s.views ≤ p.seats
 past-le p s kept r = let a = total_le (places_past r) places (λ v. if_any-le (times r v.ended) v.places) s.views in let b = kept.all_places in omega arith
 
--- each number stands once at most among all that were drawn
+-- each number is at most once among all that were drawn
 pub once : (p : Plan) (s : S) → IsLawful p s → (x : ℕ) → total (draws x) s.views ≤ 1
 once p s kept x = dite (dec_le p.parts x)
     (λ le. let a = kept.beyond x le in omega arith)
@@ -63,7 +63,7 @@ word_here ws r q n h e = ap (slice_index (set ws r n)) e ∙ get_or-set_same ws 
 pub word_there : (ws : List ℕ) (r q n : ℕ) → q ≢ r → slice_index (set ws r n) q ≡ slice_index ws q
 word_there ws r q n ne = get_or-set_other ws r q n 0 ne
 
--- a word that rises keeps what is known of the ends
+-- a word that grows keeps what is known of the ends
 pub knows_more : (p : Plan) (ws ended : List ℕ) (r n : ℕ) → r < length ws → slice_index ws r ≤ n → Knows p ws ended → Knows p (set ws r n) ended
 knows_more p ws ended r n long up knows q in' any = let a = knows q in' any in
     dite (ℕ_discrete q r)
@@ -77,7 +77,7 @@ Live p ws v = 0 < v.places → (v.plan ≡ p) × Knows p ws v.ended
 abbrev pub Spent : View → Type 0
 Spent v = v.places ≡ 0 → (v.drawn ≡ []) × (v.ended ≡ []) × (v.stopped ≡ false) × (v.told ≡ false)
 
--- a view that was told knows that n is not 0
+-- a view that has seen a stop knows that n is not 0
 abbrev pub Told : ℕ → View → Type 0
 Told n v = v.told ≡ true → 0 < n
 

@@ -1,4 +1,4 @@
--- Which range a draw gives a number of.
+-- The range from which a draw returns a number.
 use Rattle.std.proofs.Common.{◌≡◌, ℕ, ◌<◌, ◌≤◌, List, Contains, Option, Some, None, IfSome, subst, inl, inr, ⊎_elim, arith, le_refl}
 use mathlib.Core.Logic.{dite}
 use native.Mathlib.Decide.{dec_lt}
@@ -9,11 +9,11 @@ if_some None P Q more h = tt
 if_some (Some x) P Q more h = more x h
 
 module _ (board : BoardId) (home : ℕ) (ended : List ℕ) (x : ℕ) where
-  -- a sweep from the home range on gave it
+  -- a sweep from the home range on returned it
   pub next_ahead : IsOfFirst board home board.ranges ended x → IsNext board home ended x
   next_ahead f = record { range = f.range; within = f.high; before = inl (f.low, f.before); not_ended = f.not_ended; number = f.number }
 
-  -- and one from the first range on, after that gave none
+  -- and a sweep from the first range on, after that returned none
   pub next_around : home < board.ranges → EndedWithin home board.ranges ended → IsOfFirst board 0 home ended x → IsNext board home ended x
   next_around in' high f = let a = f.high in record { range = f.range; within = omega arith; before = inr (f.high, high, f.before); not_ended = f.not_ended; number = f.number }
 

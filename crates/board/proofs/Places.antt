@@ -73,7 +73,7 @@ both_flags true b = (omega arith, flag-le b, omega arith, omega arith)
 both_flags false true = (omega arith, omega arith, omega arith, omega arith)
 both_flags false false = (omega arith, omega arith, omega arith, omega arith)
 
--- two views are made one, and nobody is left
+-- two views become one, and no seat is left over
 module _ (p : Plan) (s : S) (kept : IsLawful p s) (id : ℕ) (v : View) (at : get_elem? s.views id ≡ some v) (by : ℕ) (w : View) (apart' : by ≢ id) (that : get_elem? (set s.views id (united v w)) by ≡ some w) (lives : 0 < v.places) (lives' : 0 < w.places) where
   abbrev one : List View
   one = set (set s.views id (united v w)) by nobody

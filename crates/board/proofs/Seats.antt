@@ -1,4 +1,4 @@
--- What a seat's fields show, and that each step keeps them in line with its token.
+-- What a seat's fields show, and that they agree with its token after each step.
 use Rattle.std.proofs.Common.{◌≡◌, ◌↔◌, ℕ, zero, suc, ◌+◌, ◌<◌, ◌≤◌, Bool, true, false, ◌||◌, List, [], ◌∷◌, ◌++◌, length, get_or, Contains, slice_index_or, slice_index, slice_set, refl, sym, ap, ◌∙◌, subst, ⊎_elim, arith, get_or-set_same, get_or-set_other}
 use Rattle.std.proofs.lemmas.Bool.{or_cases}
 use Rattle.std.proofs.lemmas.List.{length-replicate, take-replicate}
@@ -86,7 +86,7 @@ module _ (s : Inside) (sits : IsSeat s) (t : Tok) (empty : t.me.1 ≡ s.token.me
     ended = λ r h. subst (λ (v : View). (slice_index_or s.ended r false ≡ true) ↔ (0 < times r v.ended)) (sym e) (sits.ended r h);
   }
 
-  -- a step met the end of range q
+  -- a step found the end of range q
   pub met : (q : ℕ) → length s.ended ≡ 64 → q < 64 → t.me.0 ≡ with_ended s.token.me.0 q → IsSeat (record { token = t; places = s.places; ended = slice_set s.ended q true })
   met q long few e = record {
     no_slot = empty ∙ sits.no_slot;
@@ -146,7 +146,7 @@ joined_seat s u sits sits' t flags e one few parts or = record {
       );
 }
 
--- what a flag tells
+-- what a flag shows
 pub open_from_flag : (s : Inside) → IsSeat s → (r : ℕ) → r < 64 → slice_index_or s.ended r false ≡ false → Contains s.token.me.0.ended r → ⊥
 open_from_flag s sits r few clear c = off (sym clear ∙ (sits.ended r few).1 (times_from_contains r s.token.me.0.ended c))
 

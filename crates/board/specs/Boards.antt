@@ -9,7 +9,7 @@ board_of b =
     let p = b.table.shared.key in
     record { table = b.table.shared.table_id; parts = p.parts; ranges = p.ranges; seats = p.seats }
 
--- the sizes are those that the rule reads, and there is a word for each range and one more
+-- the sizes are those of the rule, and there is a word for each range and one more
 pub record IsBoard (b : Inside) : Type 0 where
   pub same_plan : b.plan ≡ b.table.shared.key
   pub words : b.table.shared.table_id.words ≡ b.plan.ranges + 1

@@ -1,6 +1,6 @@
--- The rule of a board's words, and what each step on them tells (own).
--- Claim word r counts the steps on range r: a step that finds k there below the range's size claims its number k, and any other one meets the range's end.
--- The last word, the stop word, is 1 where some seat has stopped the board, and else 0.
+-- The rule of a board's words, and what each step on them shows (own).
+-- Claim word r counts the steps on range r: a step that finds k there below the range's size claims its number k, and any other step finds
+-- that the range has ended. The last word, the stop word, is 1 if some seat has stopped the board, and 0 otherwise.
 use Rattle.std.specs.Prelude.{◌≡◌, ℕ, zero, suc, ◌+◌, ◌-◌, ◌<◌, ◌≤◌, min, true, false, cond, ◌||◌, eqb, List, [], ◌∷◌, ◌++◌, length, slice_index, ⊤}
 use mathlib.Core.Option.{some}
 use lib.ListN.{get_elem?}
@@ -9,12 +9,12 @@ use Rattle.board.specs.declared.view.Plan.{Plan}
 use Rattle.board.specs.declared.view.View.{View}
 use Rattle.board.specs.Drawn.{AllEnded, range_start, range_size}
 
--- how often x stands in the list
+-- how often x is in the list
 abbrev pub times : ℕ → List ℕ → ℕ
 times x [] = 0
 times x (y ∷ ys) = cond (eqb y x) 1 0 + times x ys
 
--- f of each view, added up
+-- the sum of f over the views
 abbrev pub total : (View → ℕ) → List View → ℕ
 total f [] = 0
 total f (v ∷ vs) = f v + total f vs
@@ -27,16 +27,16 @@ places v = v.places
 abbrev pub draws : ℕ → View → ℕ
 draws x v = times x v.drawn
 
--- 1 of a view whose seat has stopped the board
+-- 1 for a view whose seat has stopped the board
 abbrev pub stops : View → ℕ
 stops v = cond v.stopped 1 0
 
--- n where k is not 0, and else 0
+-- n if k is not 0, otherwise 0
 abbrev pub if_any : ℕ → ℕ → ℕ
 if_any zero n = 0
 if_any (suc k) n = n
 
--- the places of a seat that has met the end of range r, which bound its steps past the end
+-- the places of a seat that has found the end of range r, which bound its steps past the end
 abbrev pub places_past : ℕ → View → ℕ
 places_past r v = if_any (times r v.ended) v.places
 
@@ -48,12 +48,13 @@ start p r = range_start p.parts p.ranges r
 abbrev pub size : Plan → ℕ → ℕ
 size p r = range_size p.parts p.ranges r
 
--- a range is among the ended ones only where its word has reached its size
+-- a range is among the ended ones only if its word has reached its size
 abbrev pub Knows : Plan → List ℕ → List ℕ → Type 0
 Knows p words ended = (r : ℕ) → r < p.ranges → 0 < times r ended → size p r ≤ slice_index words r
 
 -- The rule of the words and of what all seats know.
--- Each number of a range whose step was made is in one seat's list once, and each other one in none; a word passes its range's size by no more than the places that met its end; whoever was told of a stop has its cause.
+-- Each number of a range whose step was made is once in the list of one seat, and each other number is in none; a word passes its range's
+-- size by at most the places of the seats that found its end; if a seat has seen a stop, some seat has stopped the board.
 pub record IsLawful (p : Plan) (s : State ⊤ View) : Type 0 where
   pub sized : (p.parts ≤ 4096) × (0 < p.ranges) × (p.ranges ≤ 64) × (p.seats ≤ 64)
   pub rows : length s.words ≡ p.ranges + 1
@@ -67,13 +68,13 @@ pub record IsLawful (p : Plan) (s : State ⊤ View) : Type 0 where
   pub stop : slice_index s.words p.ranges ≡ min 1 (total stops s.views)
   pub told : (id : ℕ) (v : View) → get_elem? s.views id ≡ some v → v.told ≡ true → 0 < total stops s.views
 
--- The numbers that all seats drew are below n and distinct, and where some seat knows all ranges as ended they are all the numbers below n
+-- The numbers that all seats drew are below n and distinct; if some seat knows all ranges as ended, they are all the numbers below n
 pub record IsDrawn (n ranges : ℕ) (views : List View) : Type 0 where
   pub below : (x : ℕ) → 0 < total (draws x) views → x < n
   pub distinct : (x : ℕ) → total (draws x) views ≤ 1
   pub all : (id : ℕ) (v : View) → get_elem? views id ≡ some v → AllEnded ranges v.ended → (x : ℕ) → x < n → total (draws x) views ≡ 1
 
--- The drawn law: so it is wherever the rule holds
+-- The drawn law: this holds whenever the rule holds
 abbrev pub DrawnLaw : Type 0
 DrawnLaw = (p : Plan) (s : State ⊤ View) → IsLawful p s → IsDrawn p.parts p.ranges s.views
 
@@ -93,7 +94,7 @@ with_ended v r = record v { ended = v.ended ++ r ∷ [] }
 abbrev pub with_stop : View → View
 with_stop v = record v { stopped = true }
 
--- the seat was told of a stop
+-- the seat has seen a stop
 abbrev pub with_told : View → View
 with_told v = record v { told = true }
 
@@ -124,14 +125,14 @@ nobody = record { plan = record { parts = 0; ranges = 0; seats = 0 }; places = 0
 abbrev Own : Type 0
 Own = Me ⊤ View
 
--- a claim found n: below the range's size its number is drawn, which the seat had not, and else the range has ended
+-- a claim found n: if n is below the range's size, its number, which the seat did not have, is drawn; otherwise the range has ended
 abbrev pub claimed : Step ⊤ → Own → ℕ → Own → Type 0
 claimed st m n m' =
     (m'.1 ≡ m.1)
     × (n < size m.0.plan st.word → (m'.0 ≡ with_drawn m.0 (start m.0.plan st.word + n)) × (times (start m.0.plan st.word + n) m.0.drawn ≡ 0))
     × (size m.0.plan st.word ≤ n → m'.0 ≡ with_ended m.0 st.word)
 
--- a look at the stop word that notes nothing: it changes nothing, and tells that the seat's numbers are distinct and its places few
+-- a look at the stop word that notes nothing: it changes nothing, and shows that the seat's numbers are distinct and its places few
 abbrev pub looked : Step ⊤ → Own → ℕ → Own → Type 0
 looked st m n m' = (m' ≡ m) × ((x : ℕ) → times x m.0.drawn ≤ 1) × (m.0.places ≤ 64)
 
@@ -139,6 +140,7 @@ looked st m n m' = (m' ≡ m) × ((x : ℕ) → times x m.0.drawn ≤ 1) × (m.0
 abbrev pub stop_set : Step ⊤ → Own → ℕ → Own → Type 0
 stop_set st m n m' = m' ≡ (with_stop m.0, m.1)
 
--- a look at the stop word that notes what it sees: where it is 0 nothing changes, and the seat has not stopped and was not told; else it is told
+-- a look at the stop word that notes what it sees: if it is 0, nothing changes, and the seat has not stopped the board and has seen no
+-- stop; otherwise the seat notes a stop
 abbrev pub stop_seen : Step ⊤ → Own → ℕ → Own → Type 0
 stop_seen st m n m' = (n ≡ 0 → (m' ≡ m) × (m.0.stopped ≡ false) × (m.0.told ≡ false)) × (0 < n → m' ≡ (with_told m.0, m.1))

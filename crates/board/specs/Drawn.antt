@@ -3,14 +3,15 @@ use Rattle.std.specs.Prelude.{◌≡◌, ◌≢◌, ℕ, ◌+◌, ◌-◌, ◌*�
 use Rattle.std.specs.List.{Contains, AllPairs}
 use Rattle.atomic_table.specs.Seated.{TableId}
 
--- Which board it is: its words, how many numbers it hands out, in how many ranges, and for how many seats at most
+-- The identity of a board: its words, how many numbers it hands out, in how many ranges, and for how many seats at most
 pub record BoardId : Type 0 where
   pub table : TableId
   pub parts : ℕ
   pub ranges : ℕ
   pub seats : ℕ
 
--- What a seat has: its board, its places, the numbers that it drew in order, the ranges that it knows as ended, whether it has stopped the board, and whether it was told that some seat has
+-- What a seat has: its board, its places, the numbers that it drew in order, the ranges that it knows as ended, whether it has stopped the
+-- board, and whether it has seen that some seat has
 pub record SeatState : Type 0 where
   pub board : BoardId
   pub places : ℕ
@@ -24,7 +25,7 @@ pub record TallyState : Type 0 where
   pub words : List ℕ
   pub stopped : Bool
 
--- no number stands in the list twice
+-- no number is in the list twice
 abbrev pub AreDistinct : List ℕ → Type 0
 AreDistinct xs = AllPairs (λ x y. x ≢ y) xs
 
@@ -40,19 +41,19 @@ EndedWithin from to ended = (r : ℕ) → from ≤ r → r < to → Contains end
 abbrev pub IsWithin : List ℕ → List ℕ → Type 0
 IsWithin xs ys = (x : ℕ) → Contains xs x → Contains ys x
 
--- between these two states the seat stays at its board with its places
+-- between these two states the seat stays at its board and keeps its places
 abbrev pub KeepsPlaces : SeatState → SeatState → Type 0
 KeepsPlaces old new = (new.board ≡ old.board) × (new.places ≡ old.places)
 
--- and so do its two notes of a stop
+-- and it keeps its two notes of a stop
 abbrev pub KeepsNotes : SeatState → SeatState → Type 0
 KeepsNotes old new = (new.stopped ≡ old.stopped) × (new.told ≡ old.told)
 
--- a draw gave x: a number that the board hands out, which the seat did not have and which is now its last
+-- a draw returned x: a number that the board hands out, which the seat did not have and which is now its last
 abbrev pub Gains : BoardId → SeatState → SeatState → ℕ → Type 0
 Gains board old new x = (x < board.parts) × (¬ Contains old.drawn x) × (new.drawn ≡ old.drawn ++ x ∷ [])
 
--- the first number of range r, where `parts` numbers are cut into `ranges` ranges
+-- the first number of range r, if `parts` numbers are cut into `ranges` ranges
 abbrev pub range_start : ℕ → ℕ → ℕ → ℕ
 range_start parts ranges r = r * parts / ranges
 
@@ -73,7 +74,7 @@ pub record IsOfFirst (board : BoardId) (from to : ℕ) (ended : List ℕ) (x : �
   pub not_ended : ¬ Contains ended range
   pub number : IsInRange board range x
 
--- the ranges from `home` up to, not including, r are among the ended ones, where the last range is followed by range 0
+-- the ranges from `home` up to, not including, r are among the ended ones; range 0 follows the last range
 abbrev pub EndedBefore : (ranges home r : ℕ) → List ℕ → Type 0
 EndedBefore ranges home r ended = ((home ≤ r) × EndedWithin home r ended) ⊎ ((r < home) × EndedWithin home ranges ended × EndedWithin 0 r ended)
 

@@ -3,19 +3,19 @@ use Rattle.std.specs.Prelude.{ℕ, Bool, true, false, ⊤}
 use Rattle.board.specs.declared.draw.Draw.{Draw}
 use Rattle.board.specs.declared.draw.Draw.TheVariants.{Part, Finished, Stopped}
 
--- where a number x came, P x
+-- if a number x came, P x
 abbrev pub IfPart : Draw → (ℕ → Type 0) → Type 0
 IfPart (Part x) P = P x
 IfPart Finished P = ⊤
 IfPart Stopped P = ⊤
 
--- where all ranges had ended, P
+-- if all ranges had ended, P
 abbrev pub IfFinished : Draw → Type 0 → Type 0
 IfFinished (Part x) P = ⊤
 IfFinished Finished P = P
 IfFinished Stopped P = ⊤
 
--- where a seat had stopped the board, P
+-- if a seat had stopped the board, P
 abbrev pub IfStopped : Draw → Type 0 → Type 0
 IfStopped (Part x) P = ⊤
 IfStopped Finished P = ⊤

@@ -1,4 +1,4 @@
--- What a seat shows of its token, and what ties its fields to it (own).
+-- What a seat shows of its token, and how its fields agree with it (own).
 use Rattle.std.specs.Prelude.{◌≡◌, ◌↔◌, ℕ, ◌<◌, ◌≤◌, true, false, [], slice_index_or}
 use Rattle.board.specs.declared.seat.Seat.TheInside.{Inside}
 use Rattle.board.specs.Drawn.{SeatState}

@@ -14,14 +14,14 @@ use page::Fault;
 use std::alloc::Global;
 use std::marker::Model;
 
-/// Hands out the numbers below a count, its parts, each to one seat. Threads share it by reference,
-/// and each draws with a seat of its own; no call waits for another.
+/// Hands out the numbers below a count, its parts, each to one seat. Threads share the board by
+/// reference, and each draws with a seat of its own. No call waits for another.
 ///
-/// The parts are cut into ranges, each with a word that counts the steps on it: range r holds the
-/// numbers from `r * parts / ranges` up to, not including, `(r + 1) * parts / ranges`, rounded
-/// down. One more word tells that some seat has stopped the board.
+/// The parts are cut into ranges, and each range has a word that counts the steps on it. Range r
+/// holds the numbers from `r * parts / ranges` up to, but not including, `(r + 1) * parts /
+/// ranges`, rounded down. One more word records that some seat has stopped the board.
 ///
-/// Contracts see it as which board it is, with its sizes (`BoardId`).
+/// Contracts see it as its identity, with its sizes (`BoardId`).
 #[derive(Drop)]
 pub struct Board {
     pub(crate) table: Table<(), View, Plan, ClaimRule, Global>,
@@ -42,10 +42,11 @@ impl Model for Board {
 
 impl Board {
     /// A board of `parts` numbers (at most 4,096) in `ranges` ranges (1 to 64), and a seat with all
-    /// its `seats` places (1 to 64). No number is drawn yet, the seat knows no range as ended, and
-    /// it has neither stopped the board nor was it told so.
+    /// its `seats` places (1 to 64). No number is drawn yet. The seat knows no range as ended, has
+    /// not stopped the board, and has seen no stop.
     ///
-    /// The only call that takes memory: `NoResource` where it is refused, and then nothing is left.
+    /// This is the only call that takes memory. It returns `NoResource` if memory is refused, and
+    /// then nothing is left.
     pub fn new(alloc: Global, parts: u32, ranges: u32, seats: u32) -> Result<(Board, Seat), Fault>
         requires parts { parts ≤ 4096 }
         requires ranges { (1 ≤ ranges) × (ranges ≤ 64) }
@@ -72,8 +73,8 @@ impl Board {
     }
 
     /// Cuts a seat with at least two places in two: the first half gets one place, the second the
-    /// others. The numbers of both together are the seat's, and both know the ranges that it knew
-    /// as ended and have its notes of a stop.
+    /// others. Together they have the numbers of the seat. Both know the ranges that it knew as
+    /// ended, and have its notes of a stop.
     pub fn split(&self, seat: Seat) -> (Seat, Seat)
         requires board { seat.board ≡ self.now }
         requires places { 2 ≤ seat.places }
@@ -103,11 +104,11 @@ impl Board {
         (first, second)
     }
 
-    /// Makes one seat of two: it has the places, the numbers, the ended ranges and the notes of a
+    /// Makes one seat of two. It has the places, the numbers, the ended ranges and the notes of a
     /// stop of both. Its numbers are distinct.
     ///
-    /// One load of the stop word tells what no seat knows alone: that the two have no number in
-    /// common. What the word says is not noted, and no word changes.
+    /// The load of the stop word shows a fact that neither seat knows by itself: the two have no
+    /// number in common. The content of the word is not noted, and no word changes.
     pub fn join(&self, first: Seat, second: Seat) -> Seat
         requires board { (first.board ≡ self.now) × (second.board ≡ self.now) }
         ensures board { result.board ≡ self.now }
@@ -139,13 +140,13 @@ impl Board {
     }
 
     /// Ends the board, by a seat that has all its places. The numbers of that seat are below
-    /// `parts` and distinct, and where it knows all ranges as ended they are all the numbers below
+    /// `parts` and distinct. If it knows all ranges as ended, they are all the numbers below
     /// `parts`.
     ///
-    /// The tally's words tell which they are: number k of range r was drawn exactly where word r
-    /// counts more than k steps (`claims`). So the steps on all ranges are at least as many as the
-    /// numbers (`drawn`); they are at most `parts + seats * ranges` (`bound`). Where the seat was
-    /// told of a stop, it has the note of the seat that stopped.
+    /// The tally's words show which numbers they are: number k of range r was drawn if and only if
+    /// word r counts more than k steps (`claims`). So there are at least as many steps on all
+    /// ranges as numbers (`drawn`), and at most `parts + seats * ranges` (`bound`). If the seat has
+    /// seen a stop, it has the note of the seat that stopped the board.
     pub fn close(self, seat: Seat) -> Tally
         requires board { seat.board ≡ self }
         requires places { seat.places ≡ self.seats }

@@ -23,9 +23,9 @@ impl Board {
         (start, end - start)
     }
 
-    /// One step on a range that the seat does not know as ended: a number of the range, or None
-    /// where the range has ended, which the seat then knows. A step that finds k on the word claims
-    /// the range's number k, if it has that many.
+    /// Makes one step on a range that the seat does not know as ended. It returns a number of the
+    /// range, or `None` if the range has ended, which the seat then knows. A step that finds k on
+    /// the word claims the range's number k, if it has that many.
     fn claim(&self, seat: &mut Seat, range: u32) -> Option<u32>
         requires board { seat.old.board ≡ self.now }
         requires range { range < self.now.ranges }
@@ -52,7 +52,7 @@ impl Board {
         }
     }
 
-    /// The same on any range, without a step where the seat knows the range as ended.
+    /// The same on any range, without a step if the seat knows the range as ended.
     fn claim_if_open(&self, seat: &mut Seat, range: u32) -> Option<u32>
         requires board { seat.old.board ≡ self.now }
         requires range { range < self.now.ranges }
@@ -74,8 +74,8 @@ impl Board {
         }
     }
 
-    /// Claims on the ranges from `from` up to, not including, `to`, without those that the seat
-    /// knows as ended, until a step gives a number.
+    /// Claims on the ranges from `from` up to, but not including, `to`, without those that the seat
+    /// knows as ended, until a step returns a number.
     fn sweep(&self, seat: &mut Seat, from: u32, to: u32) -> Option<u32>
         requires board { seat.old.board ≡ self.now }
         requires ranges { to ≤ self.now.ranges }
@@ -98,14 +98,14 @@ impl Board {
         None
     }
 
-    /// Draws a number below `parts` that no seat has drawn, from range `home` or else from the next
-    /// one that has any left, the last range being followed by range 0: it is a number of the first
-    /// range, in this order, that the seat does not know as ended afterwards. The number is put at
-    /// the end of the seat's. `home` is below the count of ranges.
+    /// Draws a number below `parts` that no seat has drawn. It comes from range `home`, or else
+    /// from the next range that has any left; range 0 follows the last range. In this order, it is
+    /// a number of the first range that the seat does not know as ended afterwards. The number is
+    /// put at the end of the seat's numbers. `home` is below the count of ranges.
     ///
-    /// None where all ranges have ended, which the seat then knows; its numbers stay. A seat steps
-    /// at most once on the word of an ended range, so one call makes at most as many steps as there
-    /// are ranges. A stop is not heeded: see `draw_or_stop`.
+    /// `None` if all ranges have ended, which the seat then knows; its numbers stay. A seat makes
+    /// at most one step on the word of an ended range. So one call makes at most as many steps as
+    /// there are ranges. The call ignores a stop: see `draw_or_stop`.
     pub fn draw(&self, seat: &mut Seat, home: u32) -> Option<u32>
         requires board { seat.old.board ≡ self.now }
         requires home { home < self.now.ranges }

@@ -1,11 +1,10 @@
-//! The law of a board's words. The function is its law: what it ensures holds of the definitions
-//! alone.
+//! The law of a board's words. The function is a law: what it ensures follows from the definitions
+//! only.
 
 ghost use Rattle.board.specs.Claims.{DrawnLaw};
 
-/// Wherever the rule of the words holds, the numbers that all seats drew are below the count of
-/// parts and distinct, and where some seat knows all ranges as ended, each number below it was
-/// drawn.
+/// If the rule of the words holds, the numbers that all seats drew are below the count of parts and
+/// distinct. If also some seat knows all ranges as ended, each number below the count was drawn.
 pub fn drawn()
     ensures { DrawnLaw }
 {}

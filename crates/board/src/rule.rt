@@ -1,9 +1,9 @@
-//! The rule of a board's words, and what each step on them tells.
+//! The rule of a board's words, and what each step on them shows.
 
 use crate::view::{Plan, View};
 use atomic_table::{Join, Play, Split, TableRule};
 
-/// What holds of the words and of what all seats know, between any two steps.
+/// What holds for the words and for what all seats know, between any two steps.
 pub struct ClaimRule;
 
 impl TableRule<(), View, Plan> for ClaimRule {
@@ -14,7 +14,7 @@ impl TableRule<(), View, Plan> for ClaimRule {
     ghost first = { opened };
 }
 
-/// A step on a claim word: it draws a number or meets the range's end.
+/// A step on a claim word: it draws a number, or finds that the range has ended.
 pub(crate) struct Claim;
 
 impl Play<(), View> for Claim {
@@ -23,7 +23,7 @@ impl Play<(), View> for Claim {
     ghost then = { claimed };
 }
 
-/// A look at the stop word that notes nothing, and tells that the seat's numbers are distinct.
+/// A look at the stop word that notes nothing, and shows that the seat's numbers are distinct.
 pub(crate) struct Look;
 
 impl Play<(), View> for Look {

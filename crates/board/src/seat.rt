@@ -7,12 +7,12 @@ use atomic_table::Seat as Token;
 use std::marker::Model;
 
 /// The right to draw from one board, in one thread at a time. It has at least one place, and can be
-/// cut into as many seats as it has places. It holds no list: the numbers that it drew are seen by
-/// contracts alone.
+/// cut into as many seats as it has places. It holds no list: only contracts see the numbers that
+/// it drew.
 ///
 /// Contracts see it as its board, its places, the list of the numbers drawn, in order, the list of
 /// the ranges that it knows as ended, and its two notes: whether it stopped the board, and whether
-/// it was told that some seat had (`SeatState`).
+/// it saw that some seat had (`SeatState`).
 #[derive(Drop)]
 pub struct Seat {
     pub(crate) token: Token<(), View>,
@@ -34,7 +34,7 @@ impl Model for Seat {
 }
 
 impl Seat {
-    /// How many seats it can be cut into, itself included: at least 1.
+    /// How many seats it can be cut into, including itself: at least 1.
     pub fn places(&self) -> u32
         ensures places { result ≡ self.now.places }
         ensures some { 0 < result }

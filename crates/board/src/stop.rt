@@ -1,4 +1,4 @@
-//! Stopping a board, and drawing as long as no seat has stopped it.
+//! Stopping a board, and drawing until a seat has stopped it.
 
 ghost use Rattle.std.specs.Prelude.{◌≡◌, ◌<◌, Contains, length, true, false};
 ghost use Rattle.board.specs.Drawn.{AllEnded, IsWithin, IsInRange, IsNext, Gains, KeepsPlaces};
@@ -10,8 +10,9 @@ use crate::rule::{SeeStop, SetStop};
 use crate::seat::Seat;
 
 impl Board {
-    /// Stops the board, which the seat notes: from now on `draw_or_stop` gives no number to any
-    /// seat. The seat's numbers and ended ranges stay. A board stopped twice is stopped.
+    /// Stops the board, which the seat notes. From now on `draw_or_stop` gives no number to any
+    /// seat. The seat's numbers and ended ranges stay. Stopping a board twice has no further
+    /// effect.
     pub fn stop(&self, seat: &mut Seat)
         requires board { seat.old.board ≡ self.now }
         ensures seat { KeepsPlaces seat.old seat.new }
@@ -24,7 +25,7 @@ impl Board {
             .fetch_or::<SetStop>(&mut seat.token, word, 1);
     }
 
-    /// Whether some seat has stopped the board, which this seat then notes that it was told.
+    /// Whether some seat has stopped the board. If so, this seat notes it.
     fn is_stopped(&self, seat: &mut Seat) -> bool
         requires board { seat.old.board ≡ self.now }
         ensures seat { KeepsPlaces seat.old seat.new }
@@ -37,10 +38,10 @@ impl Board {
         self.table.shared.load::<SeeStop>(&mut seat.token, word) != 0
     }
 
-    /// Draws as `draw` does, as long as no seat has stopped the board: `Part` for a number,
-    /// `Finished` where all ranges have ended. Else `Stopped`: the seat's numbers and ended ranges
-    /// stay, and it notes that it was told. A seat that has stopped the board or was told once is
-    /// always answered `Stopped`.
+    /// Draws as `draw` does if no seat has stopped the board: `Part` for a number, `Finished` if
+    /// all ranges have ended. Otherwise it returns `Stopped`: the seat's numbers and ended ranges
+    /// stay, and the seat notes the stop. A seat that has stopped the board, or has seen a stop,
+    /// always gets `Stopped`.
     pub fn draw_or_stop(&self, seat: &mut Seat, home: u32) -> Draw
         requires board { seat.old.board ≡ self.now }
         requires home { home < self.now.ranges }

@@ -8,7 +8,7 @@ use std::alloc::Global;
 use std::marker::Model;
 
 /// How many steps a closed board has seen on each range, and whether it was stopped. Contracts see
-/// it as these counts and that answer (`TallyState`).
+/// it as these counts and this flag (`TallyState`).
 #[derive(Drop)]
 pub struct Tally {
     pub(crate) words: [u64; 64],
@@ -29,7 +29,7 @@ impl Model for Tally {
 
 impl Tally {
     /// How many steps all seats together made on this range, which is below the count of ranges:
-    /// those that gave its numbers, and those that met its end.
+    /// the steps that returned its numbers, and those that found its end.
     pub fn word(&self, range: u32) -> u64
         requires { range < length self.now.words }
         ensures { result ≡ slice_index self.now.words range }
