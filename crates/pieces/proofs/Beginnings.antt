@@ -14,12 +14,12 @@ use Rattle.wal.proofs.Histories.{after-append, record_in_front, record_none, siz
 use Rattle.pieces.specs.Pieces.{PiecesBelong}
 use Rattle.pieces.proofs.Pieces.{frames_long}
 
--- of records that were read in front, the rest come behind
+-- if records are read in front of others, the others come after them
 in_front : (front : List LogRecord) (read : Result (List LogRecord × ℕ) Fault) (records : List LogRecord) (torn : ℕ) → with_front front read ≡ Ok (records, torn) → (more : List LogRecord) × (records ≡ front ++ more)
 in_front front (Ok x) records torn e = (x.0, sym (ap (λ (p : List LogRecord × ℕ). p.0) (ok_is (front ++ x.0, x.1) (records, torn) e)))
 in_front front (Err f) records torn e = absurd cc
 
--- what a header and frames behind it are read as
+-- what a header and the frames after it are read as
 read_behind : (begins : LogStart) (read : Result (List LogRecord × ℕ) Fault) (log : LogContent) (torn : ℕ) → (read >>= λ x. Ok (as_log begins x)) ≡ Ok (log, torn) → read ≡ Ok (log.records, torn)
 read_behind begins (Ok x) log torn e =
     let same = ok_is (as_log begins x) (log, torn) e in
@@ -64,7 +64,7 @@ module _ (text : List ℕ) (log : LogContent) (torn : ℕ) (whole : Reads text l
       in_front before.records _ log.records torn
       (sym (frames_on (length text) (lsn_before begins + 1) (header_bytes begins) before.records rest few reads.each (omega (arith, reads.few, size_of_log before))) ∙ frames)
 
--- where two logs have the same records behind an LSN, they have the same when more come
+-- if two logs have the same records after an LSN, they still have when more records come
 same_behind : (x y : History) (m : ℕ) (rs : List LogRecord) → last_lsn x ≡ last_lsn y → ((lsn : ℕ) → m < lsn → record_at x lsn ≡ record_at y lsn) → (lsn : ℕ) → m < lsn → record_at (x ▸▸ rs) lsn ≡ record_at (y ▸▸ rs) lsn
 same_behind x y m [] last same lsn lt = same lsn lt
 same_behind x y m (r ∷ rs) last same lsn lt =

@@ -1,4 +1,4 @@
--- What a piece shows of a log: its records go on from those before it, and its fault is the log's.
+-- What a piece shows of a log: its records continue those before it, and its fault is the log's.
 use Rattle.std.proofs.Common.{◌≡◌, ℕ, ◌+◌, ◌-◌, ◌^◌, ◌<◌, ◌≤◌, List, [], ◌∷◌, ◌++◌, length, take, drop, refl, sym, ap, ap₂, subst, ◌∙◌, append_assoc, arith, inl, inr, length-append, take-add, take-take, length-drop, ◌*◌}
 use Rattle.std.specs.Prelude.{Option, Some, None, IfSome}
 use Rattle.std.specs.List.{AllByRecursion}
@@ -23,7 +23,7 @@ use Rattle.wal.proofs.CutBytes.{spellings-append}
 use Rattle.pieces.specs.declared.mark.Mark.{Mark}
 use Rattle.pieces.specs.Pieces.{IsMark, piece_text, GoesOn, moved, OffsetFits}
 
--- WHAT STAYS where more bytes come behind
+-- WHAT STAYS when more bytes follow
 length_stays : (bytes more : List ℕ) → 4 ≤ length bytes → length_of (bytes ++ more) ≡ length_of bytes
 length_stays bytes more h = ap (from_be_bytes w32) (take-append-le 4 bytes more h)
 
@@ -61,7 +61,7 @@ each_more : (xs ys : List LogRecord) → AllByRecursion Fits xs → AllByRecursi
 each_more [] ys a b = b
 each_more (x ∷ xs) ys a b = (a.0, each_more xs ys a.1 b)
 
--- each frame takes 13 bytes at least
+-- each frame takes at least 13 bytes
 pub frames_long : (lsn : ℕ) (records : List LogRecord) → AllByRecursion Fits records → 13 * length records ≤ length (spellings lsn records)
 frames_long lsn [] fits = omega arith
 frames_long lsn (r ∷ rs) fits =
@@ -132,7 +132,7 @@ fault_front text bytes more e is h =
       };
     }
 
--- that they are no header
+-- that they are not a header
 no_header : (text bytes : List ℕ) → bytes ≡ take 16 text → Cause bytes BadLogHeader → Cause text BadLogHeader
 no_header text bytes is none = λ begins rest fits text_is.
     none begins (take (16 - header_bytes begins) rest) fits
@@ -151,7 +151,7 @@ first_cause text bytes (BadRecord at) is h = fault_front text bytes (drop 16 tex
 first_cause text bytes (BadLsn at) is h = fault_front text bytes (drop 16 text) (BadLsn at) (sym (take-append-drop 16 text) ∙ ap (λ (t : List ℕ). t ++ drop 16 text) (sym is)) h
 first_cause text bytes e is h = absurd h.behind.fault
 
--- THE ROOM: its header, and what was read behind it
+-- THE ROOM: its header, and what was read after it
 pub piece_is : (held : Option (List ℕ)) (mark : Mark) (count : ℕ) (room : List ℕ) → take 16 room ≡ header_of (Version2 mark.lsn) → ReadsFrom held mark.offset count (drop 16 room)
     → IfSome held (λ text. take (16 + count) room ≡ piece_text text mark (16 + count - 16))
 piece_is None mark count room header reads = tt
@@ -162,7 +162,7 @@ module _ (text : List ℕ) (before : LogContent) (mark : Mark) (is : IsMark text
   abbrev first : ℕ
   first = lsn_before before.begins + 1
 
-  -- the text before the mark is that of the log before it
+  -- the bytes before the mark are those of the log before it
   front_is : take mark.offset text ≡ log_text before
   front_is = is.reads.text ∙ ap (λ (t : List ℕ). log_text before ++ t) (nil_from_length is.reads.tail is.reads.torn_count) ∙ append-nil (log_text before)
 
@@ -173,7 +173,7 @@ module _ (text : List ℕ) (before : LogContent) (mark : Mark) (is : IsMark text
   next_lsn : mark.lsn + 1 ≡ first + length before.records
   next_lsn = omega (arith, is.lsn, size_of_log before)
 
-  -- records that come behind
+  -- records that follow
   text_more : (more : List LogRecord) → log_text before ++ spellings (mark.lsn + 1) more ≡ log_text (before ⧺ more)
   text_more more =
       ap (λ n. log_text before ++ spellings n more) next_lsn
@@ -187,7 +187,7 @@ module _ (text : List ℕ) (before : LogContent) (mark : Mark) (is : IsMark text
     rest_length : length rest ≡ length bytes - 16
     rest_length = omega (arith, ap (λ (t : List ℕ). length t) piece_is, length-append (header_of (Version2 mark.lsn)) rest, header_length (Version2 mark.lsn))
 
-    -- the text's next bytes, as many as the piece has
+    -- the next bytes of the log, as many as the piece has
     next_bytes : (k : ℕ) → k ≤ length rest → take k (drop mark.offset text) ≡ take k rest
     next_bytes k le =
         ap (take k) (sym (take-append-drop count (drop mark.offset text))) ∙ take-append-le k rest (drop count (drop mark.offset text)) le
@@ -223,7 +223,7 @@ module _ (text : List ℕ) (before : LogContent) (mark : Mark) (is : IsMark text
       last_is : last_lsn (history (before ⧺ piece.records)) ≡ last_lsn (history piece)
       last_is = omega (arith, size_of_log (before ⧺ piece.records), size_of_log before, size_of_log piece, length-append before.records piece.records, is.lsn, ap lsn_before begins_is)
 
-      -- the text up to the next mark
+      -- the bytes up to the next mark
       next_front : take (mark.offset + ((length bytes - 16) - torn)) text ≡ log_text (before ⧺ piece.records)
       next_front =
           take-add mark.offset ((length bytes - 16) - torn) text
@@ -262,7 +262,7 @@ module _ (text : List ℕ) (before : LogContent) (mark : Mark) (is : IsMark text
         };
       }
 
-    -- REFUSED
+    -- ERRORS
     abbrev more : List ℕ
     more = drop count (drop mark.offset text)
 

@@ -10,14 +10,14 @@ use Rattle.tables.specs.Pieces.{IsPieceOf}
 use Rattle.pieces.specs.declared.mark.Mark.{Mark}
 use Rattle.wal.specs.declared.sizes.TheConstants.{BASED_HEADER_BYTES}
 
--- READ. The bytes of a log's text before the mark are a whole log, these records with nothing torn, and the mark has the LSN
--- of the last of them.
+-- READ. The bytes of a log before the mark are a whole log, made of these records with nothing torn, and the mark has the LSN of the last
+-- of them.
 pub record IsMark (text : List ℕ) (before : LogContent) (mark : Mark) : Type 0 where
   pub reads : Reads (take mark.offset text) before 0
   pub lsn : mark.lsn ≡ last_lsn (history before)
   pub within : mark.offset ≤ length text
 
--- A PIECE. The header of a log that goes on after the mark, and then this many of the text's next bytes.
+-- A PIECE. The header of a log that continues after the mark, and then this many of the log's next bytes.
 abbrev pub piece_text : List ℕ → Mark → (count : ℕ) → List ℕ
 piece_text text mark count = header_of (Version2 mark.lsn) ++ take count (drop mark.offset text)
 
@@ -25,8 +25,8 @@ piece_text text mark count = header_of (Version2 mark.lsn) ++ take count (drop m
 abbrev pub mark_after : Mark → (last count torn : ℕ) → Mark
 mark_after mark last count torn = record { lsn = last; offset = mark.offset + (count - torn) }
 
--- GOING ON. The records of the piece come after those before it; after them stands the next mark. At the text's end the bytes
--- that are left are the torn tail of the whole log.
+-- CONTINUED. The records of the piece come after those before it; the next mark comes after them. At the end of the log the bytes that are
+-- left are the torn tail of the whole log.
 pub record GoesOn (text : List ℕ) (before : LogContent) (mark : Mark) (count : ℕ) (piece : LogContent) (torn : ℕ) : Type 0 where
   pub begins : piece.begins ≡ Version2 mark.lsn
   pub next : IsMark text (before ⧺ piece.records) (mark_after mark (last_lsn (history piece)) count torn)

@@ -1,8 +1,8 @@
-//! Laws of pieces. Each function is its law: what it ensures holds of the definitions alone.
+//! Laws of pieces. Each function is a law: what it ensures follows from the definitions only.
 
 ghost use Rattle.pieces.specs.Pieces.{PiecesBelong};
 
-/// Each record of a piece stands in the whole log at its own LSN.
+/// Each record of a piece is in the whole log at the same LSN.
 pub fn pieces_belong()
     ensures { PiecesBelong }
 {}

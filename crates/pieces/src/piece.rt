@@ -33,9 +33,9 @@ fn moved(mark: Mark, fault: Fault) -> Fault
     }
 }
 
-/// The log of a piece after this mark, and how many bytes stand after its last whole frame.
+/// The log of a piece after this mark, and how many bytes come after its last whole frame.
 ///
-/// Errors, of which the first in the piece is given, are those of [`read_log`](wal::read_log), with
+/// The error is the first in the piece. The errors are those of [`read_log`](wal::read_log), with
 /// offsets that count from the log's beginning.
 pub fn piece_log<'a>(alloc: Global, mark: Mark, bytes: &'a [u8]) -> Result<(Log<'a>, usize), Fault>
     requires low { mark.lsn ≤ LARGEST_BASE }

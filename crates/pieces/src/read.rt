@@ -18,10 +18,11 @@ use page::Fault;
 use std::alloc::Global;
 use wal::{BASED_HEADER_BYTES, based_header, read_log};
 
-/// The mark before the first record of a log that begins with these bytes: its first 16, or all if there
-/// are fewer.
+/// The mark before the first record of a log that begins with these bytes: its first 16, or all if
+/// there are fewer.
 ///
-/// Errors are those of [`read_log`](wal::read_log) for the whole log, if its first 16 bytes show one.
+/// The errors are those of [`read_log`](wal::read_log) for the whole log, if its first 16 bytes
+/// show one.
 pub fn first_mark(alloc: Global, bytes: &[u8]) -> Result<Mark, Fault>
     requires { length bytes.now ≤ BASED_HEADER_BYTES }
     ensures mark { IfOk result (λ mark. (text : List ℕ) → bytes.now ≡ take BASED_HEADER_BYTES text
@@ -38,7 +39,7 @@ pub fn first_mark(alloc: Global, bytes: &[u8]) -> Result<Mark, Fault>
     })
 }
 
-/// Puts the header of a log that goes on after this LSN to the front of the room.
+/// Puts the header of a log that continues after this LSN at the front of the room.
 fn put_header(room: &mut [u8], lsn: u64)
     requires { BASED_HEADER_BYTES ≤ length room.old }
     ensures { take BASED_HEADER_BYTES room.new ≡ header_of (Version2 lsn) }
@@ -66,12 +67,12 @@ fn read_after_header<S: Reread>(
     read_full_at(source, offset, &mut room[BASED_HEADER_BYTES..])
 }
 
-/// Puts the piece after a mark into the room: a header of version 2, and then the bytes that the source
-/// holds from there on. Returns how many bytes of the room that takes: fewer than it has only where the
-/// log ends.
+/// Puts the piece after a mark into the room: a header of version 2, and then the bytes that the
+/// source holds from there on. Returns how many bytes of the room that takes: fewer than it has
+/// only if the log ends.
 ///
-/// `Failed` if the source failed. Its count of failures has then risen by one, and what the room holds is
-/// unknown.
+/// `Failed` if the source failed. Its count of failures then rises by one, and the content of the
+/// room is not specified.
 pub fn read_piece<S: Reread>(source: &mut S, mark: Mark, room: &mut [u8]) -> Result<usize, Failed>
     requires room { BASED_HEADER_BYTES ≤ length room.old }
     requires reach { mark.offset + length room.old ≤ 2 ^ 64 }
