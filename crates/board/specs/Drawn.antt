@@ -78,7 +78,7 @@ pub record IsOfFirst (board : BoardId) (from to : ℕ) (ended : List ℕ) (x : �
 abbrev pub EndedBefore : (ranges home r : ℕ) → List ℕ → Type 0
 EndedBefore ranges home r ended = ((home ≤ r) × EndedWithin home r ended) ⊎ ((r < home) × EndedWithin home ranges ended × EndedWithin 0 r ended)
 
--- x is a number of the first range that is not among the ended ones, from `home` on, where the last range is followed by range 0
+-- x is a number of the first range that is not among the ended ones, from `home` on; range 0 follows the last range
 pub record IsNext (board : BoardId) (home : ℕ) (ended : List ℕ) (x : ℕ) : Type 0 where
   pub range : ℕ
   pub within : range < board.ranges
@@ -86,6 +86,6 @@ pub record IsNext (board : BoardId) (home : ℕ) (ended : List ℕ) (x : ℕ) : 
   pub not_ended : ¬ Contains ended range
   pub number : IsInRange board range x
 
--- of each range its first numbers were drawn and no others: number k of range r just where its word counts more than k steps
+-- exactly the first numbers of each range were drawn: number k of range r if and only if its word counts more than k steps
 abbrev pub AreFirst : BoardId → (words drawn : List ℕ) → Type 0
 AreFirst board words drawn = (r k : ℕ) → r < board.ranges → k < range_size board.parts board.ranges r → Contains drawn (range_start board.parts board.ranges r + k) ↔ (k < slice_index words r)
