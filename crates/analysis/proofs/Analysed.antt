@@ -38,7 +38,7 @@ pub record Absent (t : ℕ) (log : History) : Type 0 where
   pub undo_next : undo_next_of t log ≡ 0
   pub last : last_of t log ≡ 0
 
--- a record of another is not the last of t
+-- a record of another transaction is not the last of t
 last_other : (t : ℕ) (log : History) (r : LogRecord) → is_of t r ≡ false → last_of t (log ▸ r) ≡ last_of t log
 last_other t log r e = rw e refl
 
@@ -71,7 +71,7 @@ aborting_is true prepares = refl
 aborting_is false true = refl
 aborting_is false false = refl
 
--- two that say the same state say the same behind one record more
+-- two pairs with the same state have the same state after one more record
 same_state : (a p b q aborts prepares : Bool) → state_by a p ≡ state_by b q → state_by (aborts || a) (prepares || p) ≡ state_by (aborts || b) (prepares || q)
 same_state a p b q true prepares e = refl
 same_state a p b q false true e = ap (λ x. state_by x true) (sym (aborting_is a p) ∙ ap is_aborting e ∙ aborting_is b q)
@@ -131,8 +131,8 @@ at_checkpoint t log = by_has (has (is_of t) log) refl (finished t log) refl
           own = λ x i. absurd (cc);
         }))
 
--- ONE RECORD ON
--- a record that is none of t's
+-- ONE MORE RECORD
+-- a record that is not of t
 Known-other : (t : ℕ) (log : History) (r : LogRecord) (work : List (ℕ × LogRecord)) (base : Option TableEntry)
     → finished t (log ▸ r) ≡ finished t log → state_at t (log ▸ r) ≡ state_at t log → undo_next_of t (log ▸ r) ≡ undo_next_of t log → is_of t r ≡ false
     → Known t log work base → Known t (log ▸ r) work base
@@ -160,7 +160,7 @@ Known-finished t log f =
       own = λ x i. absurd (cc);
     }
 
--- one that goes on with the work of t
+-- a record that continues the work of t
 Known-work : (t : ℕ) (log : History) (r : LogRecord) (work : List (ℕ × LogRecord)) (base : Option TableEntry)
     → finished t (log ▸ r) ≡ false → is_of t r ≡ true
     → state_in_work t ((suc (last_lsn log), r) ∷ work) base ≡ state_at t (log ▸ r)
@@ -182,14 +182,14 @@ abbrev KnownAt : ℕ → ℕ → Option TableEntry → History → Type 0
 KnownAt t m base log = Known t log (work_since t m log) (base_since t m base log)
 
 module _ (over : BasePages) (t m : ℕ) (base : Option TableEntry) (log : History) (behind : ltb (last_lsn log) m ≡ false) (k : KnownAt t m base log) where
-  -- a record of another, or of none
+  -- a record of another transaction, or of none
   other_next : (r : LogRecord) → finished t (log ▸ r) ≡ finished t log → state_at t (log ▸ r) ≡ state_at t log → undo_next_of t (log ▸ r) ≡ undo_next_of t log → is_of t r ≡ false
       → work_since t m (log ▸ r) ≡ work_since t m log → base_since t m base (log ▸ r) ≡ base_since t m base log → KnownAt t m base (log ▸ r)
   other_next r f s u o w b =
       subst (λ x. Known t (log ▸ r) x (base_since t m base (log ▸ r))) (sym w)
       (subst (λ x. Known t (log ▸ r) (work_since t m log) x) (sym b) (Known-other t log r (work_since t m log) (base_since t m base log) f s u o k))
 
-  -- one that goes on with the work of t
+  -- a record that continues the work of t
   work_next : (r : LogRecord) → finished t (log ▸ r) ≡ false → is_of t r ≡ true
       → finished t log ≡ false
       → undo_next_of t (log ▸ r) ≡ undo_next_in ((suc (last_lsn log), r) ∷ work_since t m log) (base_since t m base log)

@@ -1,4 +1,4 @@
--- Both tables while a log is read, and when all of it was.
+-- Both tables while a log is read, and after all of it was read.
 use Rattle.std.proofs.Common.{ℕ, ◌≡◌, ◌+◌, ◌≤◌, List, map, max, sym, ap, ◌∙◌, inl, inr, arith}
 use Rattle.std.specs.List.Sorted.{IsStrictlySortedBy}
 use Rattle.std.specs.Map.{keys_of}

@@ -10,7 +10,7 @@ use Rattle.wal.specs.Theorems.{IsReached}
 use Rattle.analysis.proofs.Smallest.{not_below}
 use Rattle.wal.proofs.Histories.{base_within}
 
--- the first record behind m is no later than any
+-- the first record after m is no later than any
 abbrev Behind : ℕ → ℕ → Option ℕ → Type 0
 Behind m lsn o = (i : ℕ) × (o ≡ Some i) × (i ≤ lsn) × (m < i)
 

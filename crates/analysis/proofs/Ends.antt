@@ -26,7 +26,7 @@ base_stays m log records x e =
           ∙ first_end_after m log records x (checkpoint_ends m log x there))
     ]
 
--- the first end among those of a log and of the records behind it
+-- the first end among those of a log and of the records after it
 ends_after : (m : ℕ) (o : Option Both) (a b : History) (records : List LogRecord) → last_lsn a ≡ last_lsn b → first_end m a ≡ or_else o (first_end m b) → first_end m (a ▸▸ records) ≡ or_else o (first_end m (b ▸▸ records))
 ends_after m o a b [] at same = same
 ends_after m o a b (CheckpointEnd begin ts d ∷ records) at same =
@@ -38,7 +38,7 @@ ends_after m o a b (r ∷ records) at same = ends_after m o (a ▸ r) (b ▸ r) 
 pub end_behind : (m : ℕ) (log : History) (records : List LogRecord) → first_end m log ≡ None → first_end m (log ▸▸ records) ≡ first_end m (start (last_lsn log) ▸▸ records)
 end_behind m log records none = ends_after m None log (start (last_lsn log)) records refl none
 
--- the record at an LSN stands in front, or in the records
+-- the record at an LSN is in front, or in the records
 records_after : (n : ℕ) (a b : History) (records : List LogRecord) → last_lsn a ≡ last_lsn b → record_at a n ≡ record_at b n → record_at (a ▸▸ records) n ≡ record_at (b ▸▸ records) n
 records_after n a b [] at same = same
 records_after n a b (r ∷ records) at same = records_after n (a ▸ r) (b ▸ r) records (ap suc at) (ap₂ (λ k o. cond (eqb n (suc k)) (Some r) o) at same)
@@ -62,7 +62,7 @@ begin_parts m log records =
     ]
 
 -- PIECES
--- where there was no base, whether a begin was met, and the base
+-- if there was no base: whether a begin record was found, and the base
 pub record Met (m : ℕ) (log : History) (piece : LogContent) (begins : Bool) : Type 0 where
   pub begin : begins ≡ is_begin (record_at (log ▸▸ piece.records) m)
   pub base : base_of m (log ▸▸ piece.records) ≡ cond begins (first_end m (history piece)) None
@@ -70,7 +70,7 @@ pub record Met (m : ℕ) (log : History) (piece : LogContent) (begins : Bool) : 
 some_master : (m : ℕ) (log : History) → base_of m log ≡ None → m ≡ 0 → ⊥
 some_master m log none z = (let f : ◌≡◌ {A = Option Both} (Some ([], [])) None = sym (ap (λ n. base_of n log) z) ∙ none in cc)
 
--- without a base there is no end in front of what comes, if a begin is
+-- without a base there is no end in front of what comes, if a begin record is
 no_end : (m : ℕ) (log : History) (piece : History) → last_lsn log ≡ base_lsn piece → base_of m log ≡ None → (is_begin (record_at log m) || is_begin (record_at piece m)) ≡ true → first_end m log ≡ None
 no_end m log piece at none met = by_front (is_begin (record_at log m)) refl
   where

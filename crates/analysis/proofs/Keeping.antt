@@ -13,7 +13,7 @@ use Rattle.analysis.specs.Steps.{those_kept, kept_entry, held_entry, AreKept, Is
 abbrev pub Slots : Type 0
 Slots = List (Option (ℕ × Entry))
 
--- what is kept of another transaction is nothing of this one
+-- what is kept of another transaction does not count for this one
 kept_other : (t : ℕ) (p : ℕ × Entry) (other : Option TableEntry) → (t ≡ p.0 → ⊥) → kept_entry t (Some p) other ≡ other
 kept_other t p other ne = ap (λ b. cond b (Some (entry_of (t, p.1))) other) (ne_eqb p.0 t (λ e. ne (sym e)))
 
@@ -56,7 +56,7 @@ AreKeptFrom from kept = (i : ℕ) (p : ℕ × Entry) → get_or kept i None ≡ 
 kept_later : (from : ℕ) (o : Option (ℕ × Entry)) (kept : Slots) → AreKeptFrom from (o ∷ kept) → AreKeptFrom (from + 1) kept
 kept_later from o kept are i p is = are (suc i) p is ∙ omega arith
 
--- another transaction's comes in front
+-- an entry of another transaction comes in front
 another_first : (t : ℕ) (p : ℕ × Entry) (entries : List (ℕ × Entry)) → (p.0 ≡ t → ⊥) → entry_at t (p ∷ entries) ≡ entry_at t entries
 another_first t p entries ne = ap (λ b. cond b (Some (entry_of p)) (entry_at t entries)) (ne_eqb p.0 t ne)
 
@@ -193,7 +193,7 @@ none_above_removed tx highest old new gone up t above small =
     ]
 
 -- PUT BACK
--- the table has what it is to have up to a place
+-- up to a place the table has what it must have
 pub record IsBackTo (place : ℕ) (kept : Slots) (first now : List (ℕ × Entry)) : Type 0 where
   pub same : (t : ℕ) → held_entry t kept now ≡ held_entry t kept first
   pub back : (t : ℕ) → t % 256 < place → entry_at t now ≡ held_entry t kept first

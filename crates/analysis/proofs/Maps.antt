@@ -50,7 +50,7 @@ listed_stays p page lsn old h =
     by_none None = refl
     by_none (Some x) = refl
 
--- one that is not is listed from there on
+-- a page that is not listed is listed from there on
 pub unlisted_begins : (p page lsn : ℕ) (old new : List (ℕ × ℕ)) → is_some (lookup (λ k. is_eq (nat_cmp page k)) old) ≡ false
     → lookup (λ k. is_eq (nat_cmp p k)) new ≡ cond (is_eq (nat_cmp page p)) (Some lsn) (lookup (λ k. is_eq (nat_cmp p k)) old)
     → rec_lsn_of p new ≡ or_else (rec_lsn_of p old) (cond (eqb page p) (Some lsn) None)
@@ -80,7 +80,7 @@ none_known n page e = (let f : get_or (replicate n false) page false ≡ false =
     never (suc n) zero = refl
     never (suc n) (suc page) = never n page
 
--- one that is noted as known is listed by then
+-- a page that is noted as known is listed by then
 pub listed_noted : (known : List Bool) (old new : List (ℕ × ℕ)) (page lsn : ℕ) → ((p : ℕ) → rec_lsn_of p new ≡ or_else (rec_lsn_of p old) (cond (eqb page p) (Some lsn) None))
     → AreListed known old → AreListed (set known page true) new
 listed_noted known old new page lsn step listed p noted =
@@ -102,7 +102,7 @@ listed_noted known old new page lsn step listed p noted =
     by_other : p ≡ page → eqb page p ≡ false → ⊥
     by_other same e = (let f : eqb page p ≡ true = eq-eqb page p (sym same) in cc)
 
--- pages that are listed, and those behind them that are known
+-- pages that are listed, and those after them that are known
 pub listed_upto : (known : List Bool) (dirty : List (ℕ × ℕ)) (whole upto : ℕ) → AreListed known dirty → AreAllListed whole dirty → ((page : ℕ) → whole ≤ page → page < upto → get_or known page false ≡ true) → AreAllListed upto dirty
 listed_upto known dirty whole upto listed before noted page lt =
     elim (cases_Bool (ltb page whole)) [
@@ -110,12 +110,12 @@ listed_upto known dirty whole upto listed before noted page lt =
       | inr l ↦ listed page (noted page (ltb-false page whole l) lt)
     ]
 
--- a page that is listed stays so behind a record
+-- a page that is listed stays so after a record
 pub stays_listed : (lsn page : ℕ) (r : LogRecord) (old new : Option ℕ) → new ≡ rec_lsn_after lsn r page old → is_some old ≡ true → is_some new ≡ true
 stays_listed lsn page r None new e listed = absurd cc
 stays_listed lsn page r (Some x) new e listed = ap is_some e
 
--- LENT TABLES, from their end to their front
+-- BORROWED TABLES, from their end to their front
 pub drop-get : {X : Type 0} (xs : List X) (i : ℕ) (x : X) → i < length xs → get_or xs i x ≡ x → drop i xs ≡ x ∷ drop (i + 1) xs
 drop-get xs i x lt there =
     let n : suc i ≡ i + 1 = omega arith in

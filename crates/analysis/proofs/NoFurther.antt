@@ -15,12 +15,12 @@ use Rattle.analysis.proofs.Maps.{listed_stays}
 use Rattle.analysis.proofs.Rising.{same_pages}
 use Rattle.analysis.proofs.Scanned.{or_else-none, rec_lsn_next}
 
--- ---- a page more in a table whose numbers rise, in its place
+-- ---- one more page in a table with ascending numbers, at its place
 abbrev listed_in : (page lsn : ℕ) → List (ℕ × ℕ) → List (ℕ × ℕ)
 listed_in page lsn [] = (page, lsn) ∷ []
 listed_in page lsn (d ∷ ds) = cond (ltb page d.0) ((page, lsn) ∷ d ∷ ds) (d ∷ listed_in page lsn ds)
 
--- one that is not listed is not the first, and is not listed behind it
+-- a page that is not listed is not the first, and is not listed after it
 unlisted_behind : (page : ℕ) (d : ℕ × ℕ) (ds : List (ℕ × ℕ)) → rec_lsn_of page (d ∷ ds) ≡ None → (eqb d.0 page ≡ false) × (rec_lsn_of page ds ≡ None)
 unlisted_behind page d ds none =
     elim (cases_Bool (eqb d.0 page)) [
@@ -58,7 +58,7 @@ listed_in-rises low page lsn (d ∷ ds) le none rises =
           rw l (rises.0, listed_in-rises (d.0 + 1) page lsn ds (omega (arith, ltb-false page d.0 l, other)) apart.1 rises.1))
     ]
 
--- the smallest RecLSN is the smaller of it and the other's
+-- the smallest RecLSN is the smaller of this one and the smallest of the others
 redo_lsn_of-cons : (from : ℕ) (d : ℕ × ℕ) (ds : List (ℕ × ℕ)) → 1 ≤ length ds → redo_lsn_of from (d ∷ ds) ≡ min (max from d.1) (redo_lsn_of from ds)
 redo_lsn_of-cons from d [] some = absurd (omega (arith, some))
 redo_lsn_of-cons from d (e ∷ ds) some = refl
@@ -88,14 +88,14 @@ listed_in-redo from page lsn d (e ∷ ds) =
     turned x y z = omega arith
 
 -- ---- the whole table
--- a table of a log's dirty pages that begins redo where another does
+-- a table of a log's dirty pages by which redo begins at the same LSN
 record Whole (from m : ℕ) (dirty found : List (ℕ × ℕ)) (log : History) : Type 0 where
   table : List (ℕ × ℕ)
   pages : (page : ℕ) → rec_lsn_of page table ≡ analysed_rec_lsn page m (rec_lsn_of page dirty) log
   rises : RisesFrom 0 (map page_in table)
   begins : redo_lsn_of from table ≡ redo_lsn_of from found
 
--- of one record more, which comes behind the LSN where redo begins
+-- after one more record, which comes after the LSN at which redo begins
 one_more : (from m : ℕ) (dirty found : List (ℕ × ℕ)) (log : History) (r : LogRecord) → m ≤ last_lsn log → 1 ≤ redo_lsn_of from found → redo_lsn_of from found ≤ last_lsn log
     → Whole from m dirty found log → Whole from m dirty found (log ▸ r)
 one_more from m dirty found log r le some low whole = by_change (change_of r) refl
@@ -137,7 +137,7 @@ older : (m upto : ℕ) (dirty found : List (ℕ × ℕ)) (log : History) (r : Lo
 older m upto dirty found log r le is =
     record { behind = is.behind; pages = λ p. is.pages p ∙ ap (analysed_rec_lsn p m (rec_lsn_of p dirty)) (first_older log r upto le) }
 
--- these are all where no record comes behind
+-- these are all, if no record comes after
 all : (m upto : ℕ) (dirty found : List (ℕ × ℕ)) (log : History) → last_lsn log ≤ upto → Found m upto dirty found log → (p : ℕ) → rec_lsn_of p found ≡ analysed_rec_lsn p m (rec_lsn_of p dirty) log
 all m upto dirty found log le is p = is.pages p ∙ ap (analysed_rec_lsn p m (rec_lsn_of p dirty)) (first_all upto log le)
 
@@ -163,7 +163,7 @@ whole from m upto dirty found log rises some low is =
           | inr l ↦ found_whole log (ltb-false upto (last_lsn log) l) before
         ]))
 
--- it says of a page what was found, if that is listed wherever a record behind is on it
+-- it has for a page what was found, if the page is listed whenever a later record is on it
 same : (m upto : ℕ) (dirty found : List (ℕ × ℕ)) (p : ℕ) (log : History) → ((lsn : ℕ) (r : LogRecord) → upto ≤ lsn → record_at log lsn ≡ Some r → is_on p r ≡ true → is_some (rec_lsn_of p found) ≡ true)
     → Found m upto dirty found log → rec_lsn_of p found ≡ analysed_rec_lsn p m (rec_lsn_of p dirty) log
 same m upto dirty found p (start base) listed is = is.pages p
@@ -184,8 +184,8 @@ same m upto dirty found p (log ▸ r) listed is =
     kept None e other = absurd cc
     kept (Some x) e other = refl
 
--- ---- what redo asks for
--- a table found in all records, or in the first of them, where each page of the store is listed and redo begins no later
+-- ---- what redo needs
+-- a table found in all records, or in the first of them if each page of the store is listed by then and redo has begun
 pub serves : (log : LogContent) (m upto count : ℕ) (transactions : List TableEntry) (dirty found : List (ℕ × ℕ)) → base_of m (history log) ≡ Some (transactions, dirty) → m ≤ upto → IsRising (map page_in found)
     → ((p : ℕ) → rec_lsn_of p found ≡ analysed_rec_lsn p m (rec_lsn_of p dirty) (first upto (history log)))
     → (last_lsn (history log) ≤ upto) ⊎ (AreAllListed count found × (1 ≤ redo_lsn_of (suc (base_lsn (history log))) found) × (redo_lsn_of (suc (base_lsn (history log))) found ≤ upto))

@@ -1,4 +1,4 @@
--- A log has tables behind an LSN, or none for one cause.
+-- A log has tables after an LSN, or one error.
 use Rattle.std.proofs.Common.{◌≡◌, Some, None, refl, sym, ◌∙◌}
 use Rattle.page.specs.declared.fault.Fault.TheVariants.{NoResource, BadMaster}
 use Rattle.analysis.specs.Tables.{OneBaseFault, NoFaultOfTables}

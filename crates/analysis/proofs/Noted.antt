@@ -33,7 +33,7 @@ module _ (m : ℕ) (piece : LogContent) where
         no_transaction_0 = λ none. none;
       }
 
-  -- one record more
+  -- one more record
   pub noted_more : (lsn : ℕ) (g : Glance) (old now new : SeenTables) → m ≤ lsn → base_lsn log ≤ lsn → lsn < last_lsn log → IsGlanceBehind log lsn g
       → ((t : ℕ) → entry_at t new.entries ≡ entry_seen (lsn + 1) g t (entry_at t now.entries))
       → ((r : LogRecord) → g ≡ glance_of r → (page : ℕ) → rec_lsn_of page new.pages ≡ rec_lsn_after (lsn + 1) r page (rec_lsn_of page now.pages))
@@ -52,7 +52,7 @@ module _ (m : ℕ) (piece : LogContent) where
         no_transaction_0 = λ none. entry_glanced (lsn + 1) 0 r g _ _ seen.seen_of (entries 0) ∙ ap (entry_after (lsn + 1) r 0) (noted.no_transaction_0 none) ∙ none_noted (lsn + 1) r seen.fits;
       }
 
-  -- all of them: what was found in the log that was read goes on
+  -- all of them: what was found continues what was found in the log that was read
   pub noted_all : (lsn : ℕ) (old new : SeenTables) → last_lsn log ≤ lsn → HasNoted m piece lsn old new
       → (whole before : History) → last_lsn before ≡ base_lsn log → HasAnalysed m whole before old → HasAnalysed m whole (before ▸▸ piece.records) new
   noted_all lsn old new end noted whole before at analysed =

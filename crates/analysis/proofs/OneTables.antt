@@ -1,4 +1,4 @@
--- Two tables of one log are the same: their numbers rise, and at each number stands the same.
+-- Two tables of one log are the same: their numbers ascend, and each number has the same entry in both.
 use Rattle.std.proofs.Common.{◌≡◌, ℕ, List, sym, ap, ap₂, ◌∙◌, suc}
 use Rattle.wal.specs.Records.{TableEntry, history, base_lsn}
 use Rattle.wal.specs.Redo.{rec_lsn_of}

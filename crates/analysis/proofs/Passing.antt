@@ -1,4 +1,4 @@
--- More records, looked at from what the ones in front of them say.
+-- More records, looked at with what was found in those before them.
 use Rattle.std.proofs.Common.{ℕ, suc, ◌≡◌, ltb, List, [], ◌∷◌, Option, refl, sym, ap, ap₂, ◌∙◌, arith, inl, inr}
 use Rattle.std.proofs.lemmas.Bool.{cases_Bool, ltb-true, ltb-false}
 use Rattle.wal.specs.Records.{TableEntry, LogRecord, History, start, ◌▸◌, ◌▸▸◌, LogContent, history, last_lsn, base_lsn}
@@ -8,7 +8,7 @@ use Rattle.analysis.specs.Steps.{entry_after, rec_lsn_after}
 use Rattle.analysis.specs.Passing.{EntriesGoOn, RecLsnsGoOn}
 use Rattle.analysis.proofs.Scanned.{entry_none, entry_more, rec_lsn_none, rec_lsn_more, or_else-none}
 
--- two logs that end at one LSN and say the same of a transaction say the same behind one record more
+-- if two logs end at the same LSN and have the same entry for a transaction, they have the same entry after one more record
 entry_step : (t m : ℕ) (base other : Option TableEntry) (a b : History) (r : LogRecord) → last_lsn a ≡ last_lsn b
     → analysed_entry t m base a ≡ analysed_entry t m other b → analysed_entry t m base (a ▸ r) ≡ analysed_entry t m other (b ▸ r)
 entry_step t m base other a b r at same =
@@ -30,7 +30,7 @@ entries_after t m base other a b (r ∷ records) at same = entries_after t m bas
 pub entries_go_on : EntriesGoOn
 entries_go_on t m base log records = entries_after t m base (analysed_entry t m base log) log (start (last_lsn log)) records refl refl
 
--- so does a piece that goes on where a log ends
+-- so does a piece that continues a log
 pub entry_on : (t m : ℕ) (base old new : Option TableEntry) (log : History) (piece : LogContent) → last_lsn log ≡ base_lsn (history piece)
     → old ≡ analysed_entry t m base log → new ≡ analysed_entry t m old (history piece) → new ≡ analysed_entry t m base (log ▸▸ piece.records)
 entry_on t m base old new log piece at before after =

@@ -1,4 +1,4 @@
--- Tables whose numbers rise: the entries of a map do, and two with the same at each number are the same.
+-- Tables with ascending numbers: the entries of a map ascend, and two tables with the same entry at each number are the same.
 use Rattle.std.proofs.Common.{ℕ, suc, ◌≡◌, ◌+◌, ◌<◌, List, [], ◌∷◌, map, Some, None, refl, sym, ap, ap₂, ◌∙◌, subst, cond, eq-eqb, ne_eqb, inl, inr, arith}
 use Rattle.std.proofs.lemmas.Bool.{cases_eq}
 use Rattle.std.proofs.lemmas.Map.Keys.{sorted_tail, below_from_sorted}
@@ -13,7 +13,7 @@ use Rattle.wal.specs.Spelling.{IsRising}
 use Rattle.wal.proofs.Entries.{Rise}
 use Rattle.wal.proofs.Rising.{RisesFrom, rising_from_0}
 
--- keys in order rise
+-- keys in order ascend
 sorted_rising : (ns : List ℕ) → IsStrictlySortedBy nat_cmp ns → IsRising ns
 sorted_rising [] s = tt
 sorted_rising (m ∷ []) s = tt
@@ -29,7 +29,7 @@ numbers_of (e ∷ es) = ap (λ ns. e.0 ∷ ns) (numbers_of es)
 pub entries_rise : (es : List (ℕ × Entry)) → IsStrictlySortedBy nat_cmp (keys_of es) → IsRising (map tx_in (map entry_of es))
 entries_rise es s = subst IsRising (numbers_of es) (sorted_rising (keys_of es) s)
 
--- a transaction table that rises
+-- a transaction table that ascends
 rise_from : (low : ℕ) (es : List TableEntry) → RisesFrom low (map tx_in es) → Rise low es
 rise_from low [] r = tt
 rise_from low (e ∷ es) r = (r.0, rise_from (suc e.tx) es (subst (λ n. RisesFrom n (map tx_in es)) (omega arith) r.1))
@@ -37,7 +37,7 @@ rise_from low (e ∷ es) r = (r.0, rise_from (suc e.tx) es (subst (λ n. RisesFr
 pub rise_from_0 : (es : List TableEntry) → IsRising (map tx_in es) → Rise 0 es
 rise_from_0 es r = rise_from 0 es (rising_from_0 (map tx_in es) r)
 
--- A DIRTY PAGE TABLE that rises: a smaller number is not listed
+-- A DIRTY PAGE TABLE that ascends: a smaller number is not listed
 unlisted : (low page : ℕ) (ds : List (ℕ × ℕ)) → RisesFrom low (map page_in ds) → page < low → rec_lsn_of page ds ≡ None
 unlisted low page [] r h = refl
 unlisted low page (d ∷ ds) r h =

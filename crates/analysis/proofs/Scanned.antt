@@ -1,4 +1,4 @@
--- One record more, looked at.
+-- One more record, looked at.
 use Rattle.std.proofs.Common.{ℕ, suc, ◌≡◌, ◌+◌, ◌≤◌, Bool, true, false, ◌||◌, cond, eqb, ltb, leb, List, [], ◌∷◌, Option, Some, None, refl, sym, ap, ap₂, ◌∙◌, arith, inl, inr, max}
 use Rattle.std.proofs.lemmas.Bool.{cases_Bool, le-ltb, lt-ltb, le-leb, lt-leb}
 use Rattle.wal.specs.declared.record.State.{State}
@@ -13,7 +13,7 @@ use Rattle.wal.specs.declared.glance.Glance.{Glance}
 use Rattle.wal.specs.Glances.{glance_of}
 use Rattle.wal.proofs.Histories.{base_within, size_of_first_le, base_of_first}
 
--- what the entry says of the state and the undo-next
+-- what the entry has as state and undo-next
 pub state_by-state : (s : State) → state_by (is_aborting s) (is_prepared s) ≡ s
 state_by-state Active = refl
 state_by-state Prepared = refl
@@ -29,17 +29,17 @@ undo_next-entry t [] None = refl
 undo_next-entry t [] (Some e) = refl
 undo_next-entry t (x ∷ work) base = refl
 
--- an entry that says this
+-- an entry with these fields
 abbrev saying : ℕ → State → ℕ → ℕ → Option TableEntry
 saying t s lsn n = Some (record { tx = t; state = s; last = lsn; undo_next = n })
 
--- behind a prepare
+-- after a prepare
 prepared_by : (aborts prepares : Bool) → prepared_from (state_by aborts prepares) ≡ state_by aborts true
 prepared_by true prepares = refl
 prepared_by false true = refl
 prepared_by false false = refl
 
--- ONE RECORD MORE, behind m
+-- ONE MORE RECORD, after m
 pub entry_more : (t m : ℕ) (base : Option TableEntry) (log : History) (r : LogRecord) → m ≤ last_lsn log
     → analysed_entry t m base (log ▸ r) ≡ entry_after (suc (last_lsn log)) r t (analysed_entry t m base log)
 entry_more t m base log CheckpointBegin le = (let behind : ltb (last_lsn log) m ≡ false = le-ltb _ _ le in rw behind refl)
@@ -90,7 +90,7 @@ rec_lsn_more page m base log r le =
     let behind : leb m (last_lsn log) ≡ true = le-leb _ _ le in
     rw behind (or_else-assoc base (first_behind m page log) (cond (is_on page r) (Some (suc (last_lsn log))) None))
 
--- NO RECORD behind m
+-- NO RECORD after m
 pub work_none : (t m : ℕ) (log : History) → last_lsn log ≤ max m (base_lsn log) → work_since t m log ≡ []
 work_none t m (start _) le = refl
 work_none t m (log ▸ r) le = (let e : ltb (last_lsn log) m ≡ true = lt-ltb _ _ (omega (arith, le, base_within log)) in rw e refl)
@@ -135,7 +135,7 @@ entry_glanced lsn t r g old new is e = e ∙ (ap (λ x. entry_seen lsn x t old) 
     same (Update u) = refl
     same r = refl
 
--- behind the master there is no record yet
+-- after the master there is no record yet
 pub at_first : (page m from : ℕ) (base : Option ℕ) (log : History) → base_lsn log ≤ from → from ≡ max m (base_lsn log) → base ≡ analysed_rec_lsn page m base (first from log)
 at_first page m from base log le is =
     sym (rec_lsn_none page m base (first from log) (omega (arith, is, size_of_first_le from log le, base_of_first from log)))

@@ -49,7 +49,7 @@ not_yet m log scan own is none begins = record {
   begins = λ _. begins;
 }
 
--- AT FIRST, where the record at m is still to come
+-- AT FIRST, if the record at m is still to come
 pub empty_base : (m : ℕ) (log : History) (scan : CheckpointSoFar) (x : Maps) → scan.master ≡ m → scan.found ≡ Some (both x) → m ≡ 0 → x.0.entries ≡ [] → x.1.entries ≡ [] → HasSeen m log scan
 empty_base m log scan x own is zero transactions pages =
     found_it m log scan (both x) own is (
@@ -67,7 +67,7 @@ pub none_met : (m : ℕ) (log : History) (scan : CheckpointSoFar) → scan.maste
 none_met m log scan own is begins some none =
     not_yet m log scan own is (base_is log m some ∙ ap (λ o. cond (is_begin o) (first_end m log) None) none) (begins ∙ sym (ap is_begin none))
 
--- A PIECE MORE
+-- ONE MORE PIECE
 -- what is found stays
 pub stays_found : (m : ℕ) (log : History) (records : List LogRecord) (scan : CheckpointSoFar) → is_some scan.found ≡ true → HasSeen m log scan → HasSeen m (log ▸▸ records) scan
 stays_found m log records scan some seen = by_found scan.found refl some
@@ -91,7 +91,7 @@ is_none : (o : Option Both) → is_some o ≡ false → o ≡ None
 is_none None e = refl
 is_none (Some x) e = absurd cc
 
--- where no begin was met
+-- if no begin record was found
 pub stays_missing : (m : ℕ) (log : History) (piece : LogContent) (scan : CheckpointSoFar) → last_lsn log ≡ base_lsn (history piece) → is_some scan.found ≡ false
     → (scan.begins || is_begin (record_at (history piece) scan.master)) ≡ false → HasSeen m log scan → HasSeen m (log ▸▸ piece.records) scan
 stays_missing m log piece scan at no_tables no_begin seen =
@@ -100,7 +100,7 @@ stays_missing m log piece scan at no_tables no_begin seen =
     let k = met m log piece scan.begins false at (seen.missing none) (seen.begins none) (sym own) in
     not_yet m (log ▸▸ piece.records) scan seen.master none k.base ((or_parts scan.begins (is_begin (record_at (history piece) m)) own).0 ∙ k.begin)
 
--- where one was: what the piece has
+-- if one was: what the piece has
 pub met_now : (m : ℕ) (log : History) (piece : LogContent) (scan new : CheckpointSoFar) (found : Option Maps) → last_lsn log ≡ base_lsn (history piece) → is_some scan.found ≡ false
     → (scan.begins || is_begin (record_at (history piece) scan.master)) ≡ true → new.master ≡ scan.master → new.begins ≡ true → new.found ≡ option_map both found
     → IfSome found (λ x. IsEnd scan.master (history piece) x.0.entries x.1.entries) → IfNone found (first_end scan.master (history piece) ≡ None)

@@ -4,7 +4,7 @@ use Rattle.std.proofs.lemmas.Bool.{cases_Bool, ltb-true, ltb-false}
 use Rattle.analysis.specs.Tables.{redo_lsn_of}
 use Rattle.analysis.specs.Steps.{lower}
 
--- it is never below the first LSN where a page is listed
+-- it is never below the first LSN if a page is listed
 pub not_below : (first : ℕ) (d : ℕ × ℕ) (dirty : List (ℕ × ℕ)) → first ≤ redo_lsn_of first (d ∷ dirty)
 not_below first d [] = omega arith
 not_below first d (e ∷ dirty) = omega (arith, not_below first e dirty)

@@ -7,8 +7,8 @@ use Rattle.wal.specs.Redo.{rec_lsn_of}
 use Rattle.wal.specs.Undo.{entry_for}
 use Rattle.analysis.specs.Tables.{analysed_entry, analysed_rec_lsn, base_of, entry_at, IsBase}
 
--- THE LAWS OF GOING ON. What analysis finds in a log with more records after it is what it finds in these records alone, if it begins
--- with what it found in the log.
+-- THE LAWS OF CONTINUED READING. What analysis finds in a log with more records after it is what it finds in these records only, if it
+-- begins with what it found in the log.
 abbrev pub EntriesGoOn : Type 0
 EntriesGoOn = (t m : ℕ) (base : Option TableEntry) (log : History) (records : List LogRecord)
     → analysed_entry t m base (log ▸▸ records) ≡ analysed_entry t m (analysed_entry t m base log) (start (last_lsn log) ▸▸ records)
@@ -37,8 +37,8 @@ pub record CheckpointSoFar : Type 0 where
 abbrev pub HasNoTransaction0 : Option (List (ℕ × Entry)) → Type 0
 HasNoTransaction0 found = IfSome found (λ entries. entry_at 0 entries ≡ None)
 
--- what the scan for the master m has found in the log that was read: the base, which has no transaction 0; or no base, and then it
--- knows whether a begin record stands at m
+-- what the scan for the master m has found in the log that was read: the base, which has no transaction 0; or no base, and then it knows
+-- whether a begin record is at m
 pub record HasSeen (m : ℕ) (log : History) (scan : CheckpointSoFar) : Type 0 where
   pub master : scan.master ≡ m
   pub found : IfSome scan.found (λ x. IsBase m log x.0 x.1 × (entry_at 0 x.0 ≡ None))
@@ -46,7 +46,8 @@ pub record HasSeen (m : ℕ) (log : History) (scan : CheckpointSoFar) : Type 0 w
   pub begins : scan.found ≡ None → scan.begins ≡ is_begin (record_at log m)
 
 -- BOTH TABLES
--- a scan for both tables: the entries of the transactions, of which the first one of a transaction counts, and the pages, each with its RecLSN
+-- a scan for both tables: the entries of the transactions, of which the first one of a transaction counts, and the pages, each with its
+-- RecLSN
 pub record SeenTables : Type 0 where
   pub entries : List (ℕ × Entry)
   pub pages : List (ℕ × ℕ)

@@ -1,4 +1,4 @@
--- What one record more does to the tables (ARIES section 6.1, the analysis pass).
+-- What one more record does to the tables (ARIES section 6.1, the analysis pass).
 use Rattle.std.specs.Prelude.{◌≡◌, ℕ, ◌%◌, ◌<◌, ◌^◌, nat_lt, ◌||◌, Bool, true, false, List, slice_index_or, Option, Some, None, is_some, ◌==◌, if◌then◌else◌, ◌≢◌}
 use Rattle.std.specs.List.{filter_map}
 use Rattle.wal.specs.declared.record.State.{State}
@@ -24,13 +24,13 @@ abbrev pub undo_next_of_entry : Option TableEntry → ℕ
 undo_next_of_entry None = 0
 undo_next_of_entry (Some e) = e.undo_next
 
--- a prepare makes prepared what is not aborting
+-- a prepare makes a transaction prepared if it is not aborting
 abbrev pub prepared_from : State → State
 prepared_from Active = Prepared
 prepared_from Prepared = Prepared
 prepared_from Aborting = Aborting
 
--- the entry of t when the record with this LSN has been looked at; one that is no more than a record of t is its last
+-- the entry of t after the record with this LSN has been looked at; a record of t of any other kind only becomes its last one
 abbrev pub entry_after : ℕ → LogRecord → ℕ → Option TableEntry → Option TableEntry
 entry_after lsn (Update u) t old =
     if u.tx == t then Some (record { tx = t; state = state_in old; last = lsn; undo_next = lsn }) else old
@@ -45,7 +45,7 @@ entry_after lsn (Prepare s) t old =
 entry_after lsn r t old =
     if is_of t r then Some (record { tx = t; state = state_in old; last = lsn; undo_next = undo_next_of_entry old }) else old
 
--- the same by what is seen of the record at a glance
+-- the same, given the record at a glance
 abbrev pub entry_seen : ℕ → Glance → ℕ → Option TableEntry → Option TableEntry
 entry_seen lsn (seen.Update tx page slot) t old =
     if tx == t then Some (record { tx = t; state = state_in old; last = lsn; undo_next = lsn }) else old
@@ -62,7 +62,7 @@ entry_seen lsn glance t old =
     then Some (record { tx = t; state = state_in old; last = lsn; undo_next = undo_next_of_entry old })
     else old
 
--- the RecLSN of a page when the record with this LSN has been looked at
+-- the RecLSN of a page after the record with this LSN has been looked at
 abbrev pub rec_lsn_after : ℕ → LogRecord → ℕ → Option ℕ → Option ℕ
 rec_lsn_after lsn r page old = or_else old (if is_on page r then Some lsn else None)
 
@@ -70,12 +70,12 @@ rec_lsn_after lsn r page old = or_else old (if is_on page r then Some lsn else N
 abbrev pub AreListed : List Bool → List (ℕ × ℕ) → Type 0
 AreListed known dirty = (page : ℕ) → slice_index_or known page false ≡ true → is_some (rec_lsn_of page dirty) ≡ true
 
--- an entry that is kept aside, where it is of t, else another
+-- an entry that is kept aside if it is of t, otherwise another
 abbrev pub kept_entry : ℕ → Option (ℕ × Entry) → Option TableEntry → Option TableEntry
 kept_entry t None other = other
 kept_entry t (Some p) other = if p.0 == t then Some (entry_of (t, p.1)) else other
 
--- the entry of t, which is kept at its place or stands in the table (own)
+-- the entry of t, which is kept at its place or is in the table (own)
 abbrev pub held_entry : ℕ → List (Option (ℕ × Entry)) → List (ℕ × Entry) → Option TableEntry
 held_entry t kept entries = kept_entry t (slice_index_or kept (t % PLACES) None) (entry_at t entries)
 
@@ -87,7 +87,7 @@ those_kept kept = filter_map (λ o. o) kept
 abbrev pub AreKept : List (Option (ℕ × Entry)) → Type 0
 AreKept kept = (place : ℕ) (p : ℕ × Entry) → slice_index_or kept place None ≡ Some p → p.0 % PLACES ≡ place
 
--- the entry that is kept at the place of tx stands in the table, if it is another's
+-- the entry that is kept at the place of tx is in the table, if it is of another transaction
 pub record IsMoved (tx : ℕ) (kept : List (Option (ℕ × Entry))) (old new : List (ℕ × Entry)) : Type 0 where
   pub here : (t : ℕ) → (t ≢ tx) → t % PLACES ≡ tx % PLACES → entry_at t new ≡ held_entry t kept old
   pub elsewhere : (t : ℕ) → (t % PLACES ≡ tx % PLACES → ⊥) → entry_at t new ≡ entry_at t old

@@ -1,5 +1,6 @@
-//! Analysis in two halves, which two threads can do beside each other: the transaction table, which
-//! undo asks for, here, and the dirty page table, which redo asks for, in `dirty`; and both joined.
+//! Analysis in two halves, which two threads can do at the same time. The transaction table, which
+//! undo needs, is found here; the dirty page table, which redo needs, is found in `dirty`. Both are
+//! joined here.
 
 ghost use Rattle.std.specs.Prelude.{◌≡◌, ℕ, map, None, IfOk, IfErr};
 ghost use Rattle.page.specs.Store.{StoreContent};
@@ -18,7 +19,8 @@ use std::alloc::Global;
 use std::collections::BTreeMap;
 use wal::{Entry, Log};
 
-/// The transaction table of [`analyse`](crate::analyse), found without the other, with its errors.
+/// The transaction table of [`analyse`](crate::analyse), found without the dirty page table, with
+/// the same errors.
 pub fn analyse_transactions(
     alloc: Global,
     log: &Log,
@@ -33,13 +35,13 @@ pub fn analyse_transactions(
     let mut scan = TransactionScan::begin(base);
     scan.pass(log, master)?;
     let transactions = scan.finish()?;
-    // For the proof: the keys rise.
+    // For the proof: the keys ascend.
     let _in_order = transactions.iter();
     Ok(transactions)
 }
 
-/// The tables of [`analyse`](crate::analyse) of its two halves: these transactions, and the pages of
-/// the others.
+/// Joins the tables of [`analyse`](crate::analyse) from its two halves: these transactions, and the
+/// pages of the other tables.
 pub fn join_tables(transactions: BTreeMap<u32, Entry>, pages: Tables) -> Tables
     ensures parts { result ≡ tables_with (map entry_of transactions.entries) pages }
     ensures tables { (log : LogContent) (m : ℕ)

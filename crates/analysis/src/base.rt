@@ -12,7 +12,8 @@ use std::alloc::Global;
 use std::collections::BTreeMap;
 use wal::{DirtyTable, Entry, Log, TransactionTable};
 
-/// Puts the entry at a place of a lent table over those behind it.
+/// Puts the entry at a place of a borrowed table into a map of the entries after it, and replaces
+/// one with the same number.
 fn put_transaction(
     map: &mut BTreeMap<u32, Entry>,
     table: &TransactionTable,
@@ -29,7 +30,7 @@ fn put_transaction(
     Ok(())
 }
 
-/// The entries of a lent table as a map.
+/// The entries of a borrowed table as a map.
 pub fn transactions_of(
     alloc: Global,
     table: &TransactionTable,
@@ -45,7 +46,8 @@ pub fn transactions_of(
     Ok(map)
 }
 
-/// Puts the entry at a place of a lent table over those behind it.
+/// Puts the entry at a place of a borrowed table into a map of the entries after it, and replaces
+/// one with the same number.
 fn put_page(map: &mut BTreeMap<u32, u64>, table: &DirtyTable, place: usize) -> Result<(), Fault>
     requires { place < length table.now }
     ensures ok { OnOk result (((p : ℕ) → rec_lsn_of p map.old.entries
@@ -58,7 +60,7 @@ fn put_page(map: &mut BTreeMap<u32, u64>, table: &DirtyTable, place: usize) -> R
     Ok(())
 }
 
-/// The entries of a lent table as a map.
+/// The entries of a borrowed table as a map.
 pub fn dirty_pages_of(alloc: Global, table: &DirtyTable) -> Result<BTreeMap<u32, u64>, Fault>
     ensures ok { IfOk result (λ map. (p : ℕ) → rec_lsn_of p map.entries ≡ rec_lsn_of p table.now) }
     ensures err { IsOkUnless result NoResource }
@@ -71,9 +73,9 @@ pub fn dirty_pages_of(alloc: Global, table: &DirtyTable) -> Result<BTreeMap<u32,
     Ok(map)
 }
 
-/// The tables that analysis begins from: empty ones where `master` is 0, else those of the first
-/// checkpoint end behind the begin at `master` that names it. Answers `BadMaster` where there is
-/// none.
+/// The tables from which analysis begins: empty ones if `master` is 0, otherwise those of the first
+/// checkpoint end that names the begin record at `master`, after it. The error is `BadMaster` if
+/// there is none.
 pub fn checkpoint_tables(
     alloc: Global,
     log: &Log,

@@ -1,4 +1,4 @@
-//! The tables of the checkpoint that the master names, looked for while a log is read.
+//! The tables of the checkpoint that the master names, found while a log is read.
 
 ghost use Rattle.std.specs.Prelude.{◌≡◌, ◌||◌, ℕ, Some, None, option_map, is_some, IfOk, IfErr, IfSome, IfNone, OnOk, IsOkUnless};
 ghost use Rattle.page.specs.declared.fault.Fault.TheVariants.{NoResource, BadMaster};
@@ -16,9 +16,9 @@ use std::marker::Model;
 use wal::{DirtyTable, Entry, Log, RecordView, TransactionTable};
 
 /// Looks for the tables of the checkpoint that a master names while a log is read. The log comes in
-/// pieces, up to its last record: each piece is a log whose base LSN is the last LSN of the one before
-/// it. The begin of the checkpoint and its end may stand in different pieces. The tables are copied,
-/// so that no piece needs to stay.
+/// pieces, up to its last record: each piece is a log whose base LSN is the last LSN of the one
+/// before it. The begin record of the checkpoint and its end may be in different pieces. The tables
+/// are copied, so that no piece has to stay.
 #[derive(Drop)]
 pub struct CheckpointScan {
     alloc: Global,
@@ -40,9 +40,9 @@ impl Model for CheckpointScan {
 }
 
 impl CheckpointScan {
-    /// The scan for the tables of the checkpoint whose begin record has the LSN `master`, before the
-    /// first piece. They are empty if `master` is 0. The first piece may begin at any record that
-    /// comes no later than the one at `master`: no record before that one is asked for.
+    /// The scan for the tables of the checkpoint whose begin record has the LSN `master`, before
+    /// the first piece. They are empty if `master` is 0. The first piece may begin at any record up
+    /// to the one at `master`: no earlier record is needed.
     pub fn new(alloc: Global, master: u64) -> CheckpointScan
         ensures { (log : History) → record_at log master ≡ None → HasSeen master log result }
     {
@@ -59,8 +59,8 @@ impl CheckpointScan {
         }
     }
 
-    /// Looks for the begin and for its end in the next piece. The only error is `NoResource`, which
-    /// says that memory was refused; it leaves the scan as it was.
+    /// Looks for the begin record and for its end in the next piece. The only error is
+    /// `NoResource`, if memory was refused; the scan then stays as it was.
     pub fn pass(&mut self, piece: &Log) -> Result<(), Fault>
         ensures seen { OnOk result ((m : ℕ) (log : History)
             → last_lsn log ≡ base_lsn (history piece.now) → HasSeen m log self.old
@@ -79,15 +79,16 @@ impl CheckpointScan {
         Ok(())
     }
 
-    /// Whether the tables are found. Then no more records are looked at.
+    /// Whether the tables are found. If so, no more records are looked at.
     pub fn is_found(&self) -> bool
         ensures { result ≡ is_some self.now.found }
     {
         self.found.is_some()
     }
 
-    /// The tables from which analysis of the log that was read begins: empty ones if the master is 0,
-    /// else those of the first checkpoint end that names it, after the begin record at it.
+    /// The tables from which analysis of the log that was read begins: empty ones if the master is
+    /// 0, otherwise those of the first checkpoint end that names the begin record at the master,
+    /// after it.
     ///
     /// The error is [`Fault::BadMaster`], if there is none.
     pub fn finish(self) -> Result<(BTreeMap<u32, Entry>, BTreeMap<u32, u64>), Fault>
@@ -105,7 +106,7 @@ impl CheckpointScan {
     }
 }
 
-/// Whether a checkpoint begin was met before, or stands at this LSN of the piece.
+/// Whether a checkpoint begin was found before, or is at this LSN of the piece.
 fn has_begun(before: bool, piece: &Log, lsn: u64) -> bool
     ensures { result ≡ (before || is_begin (record_at (history piece.now) lsn)) }
 {
@@ -118,8 +119,8 @@ fn has_begun(before: bool, piece: &Log, lsn: u64) -> bool
     }
 }
 
-/// The tables of the first checkpoint end after the LSN `master` that names it; whether a begin
-/// stands there is not asked.
+/// The tables of the first checkpoint end after the LSN `master` that names it. The function does
+/// not check that a begin record is there.
 fn end_in<'a>(log: &Log<'a>, master: u64) -> Option<(TransactionTable<'a>, DirtyTable<'a>)>
     ensures found { option_map (λ x. (x.0, x.1)) result ≡ first_end master (history log.now) }
     ensures fits { IfSome result (λ x. Fits (CheckpointEnd master x.0 x.1)) }

@@ -1,4 +1,5 @@
-//! The dirty page table by itself, which redo asks for: found in as many records as that takes.
+//! The dirty page table by itself, which redo needs. It is found in only as many records as that
+//! takes.
 
 ghost use Rattle.std.specs.Prelude.{◌≡◌, ◌≤◌, ◌<◌, ◌⊎◌, ℕ, List, [], map, true, false, Option, Some, slice_index_or, IsTrue, IfOk, IfErr, IsOkUnless};
 ghost use Rattle.page.specs.declared.fault.Fault.TheVariants.{NoResource};
@@ -18,7 +19,7 @@ use std::alloc::Global;
 use std::collections::BTreeMap;
 use wal::Log;
 
-/// The first page from this one on that is not known and below `count`; `count` where there is none.
+/// The first page from this one on that is below `count` and not known; `count` if there is none.
 fn first_unknown(known: &[bool; PAGES], from: usize, count: usize) -> usize
     ensures { (page : ℕ) → from ≤ page → page < result
         → slice_index_or known.now page false ≡ true }
@@ -31,8 +32,8 @@ fn first_unknown(known: &[bool; PAGES], from: usize, count: usize) -> usize
     count
 }
 
-/// Whether each page below `stop` is known, if there is one. Those below `whole` are, which rises as
-/// far as that shows.
+/// Whether each page below `stop` is known, if there is a `stop`. All pages below `whole` are
+/// known; `whole` grows as far as that is found.
 fn are_known(known: &[bool; PAGES], whole: &mut usize, stop: Option<usize>) -> bool
     ensures known { (page : ℕ) → whole.old ≤ page → page < whole.new
         → slice_index_or known.now page false ≡ true }
@@ -47,9 +48,9 @@ fn are_known(known: &[bool; PAGES], whole: &mut usize, stop: Option<usize>) -> b
     }
 }
 
-/// Looks at the records behind the LSN `from` for what they do to the dirty page table: all of them,
-/// or until each page below `stop` is listed, if there is one. The LSN up to which it has looked.
-/// Pages that are known are listed.
+/// Looks at the records after the LSN `from` for what they do to the dirty page table: at all of
+/// them, or, if there is a `stop`, until each page below it is listed. Returns the LSN up to which
+/// it has looked. Pages that are known are listed.
 pub fn scan_pages(
     log: &Log,
     from: u64,
@@ -79,8 +80,8 @@ pub fn scan_pages(
     Ok(log.last().max(from))
 }
 
-/// Lists in the table of the checkpoint that `master` names the dirty pages behind it that redo asks
-/// for, of a store of so many pages. The LSN to redo from.
+/// Adds to the table of the checkpoint that `master` names the later dirty pages that redo needs,
+/// for a store with this many pages. Returns the LSN from which redo begins.
 fn list_pages(
     log: &Log,
     master: u64,
@@ -105,13 +106,14 @@ fn list_pages(
     Ok(redo_lsn_of(first, dirty))
 }
 
-/// The dirty pages that redo of a store of so many pages asks for, and the LSN to redo from, found
-/// without the transactions, with the errors of [`analyse`](crate::analyse). The tables have no
-/// transactions, which redo does not ask for.
+/// The dirty pages that redo needs for a store with this many pages, and the LSN from which redo
+/// begins. They are found without the transactions, with the errors of [`analyse`](crate::analyse).
+/// The tables have no transactions, since redo does not need them.
 ///
-/// The records are looked at no further than to where each page of the store is listed and redo has
-/// begun. What comes behind is on pages that are listed, or on one that the store lacks: for that redo
-/// refuses, and these tables may lack it. Else they are those of `analyse`.
+/// The records are looked at only up to the point at which each page of the store is listed and
+/// redo has begun. Later records are on pages that are listed, or on a page that the store does not
+/// have. These tables may lack such a page, and redo returns an error for it. Otherwise they are
+/// those of `analyse`.
 pub fn analyse_pages(alloc: Global, log: &Log, master: u64, count: usize) -> Result<Tables, Fault>
     ensures pages { IfOk result (λ found. ServesRedo log.now master count
         found.dirty found.redo_lsn) }
@@ -120,7 +122,7 @@ pub fn analyse_pages(alloc: Global, log: &Log, master: u64, count: usize) -> Res
 {
     let (_, mut dirty) = checkpoint_tables(alloc, log, master)?;
     let redo_lsn = list_pages(log, master, count, &mut dirty)?;
-    // For the proof: the keys rise.
+    // For the proof: the keys ascend.
     let _in_order = dirty.iter();
     Ok(Tables {
         transactions: BTreeMap::new(alloc),
@@ -129,8 +131,8 @@ pub fn analyse_pages(alloc: Global, log: &Log, master: u64, count: usize) -> Res
     })
 }
 
-/// The dirty pages of [`analyse`](crate::analyse), all of them, and the LSN to redo from, found without
-/// the transactions, with its errors. The tables have no transactions.
+/// All dirty pages of [`analyse`](crate::analyse), and the LSN from which redo begins. They are
+/// found without the transactions, with the same errors. The tables have no transactions.
 pub fn analyse_all_pages(alloc: Global, log: &Log, master: u64) -> Result<Tables, Fault>
     ensures pages { IfOk result (λ found. AreDirtyPagesOf log.now master
         found.dirty found.redo_lsn) }
@@ -141,7 +143,7 @@ pub fn analyse_all_pages(alloc: Global, log: &Log, master: u64) -> Result<Tables
     scan.pass(log, master)?;
     let dirty = scan.finish();
     let redo_lsn = redo_lsn_of(log.base() + 1, &dirty);
-    // For the proof: the keys rise.
+    // For the proof: the keys ascend.
     let _in_order = dirty.iter();
     Ok(Tables {
         transactions: BTreeMap::new(alloc),

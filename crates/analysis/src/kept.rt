@@ -1,6 +1,6 @@
-//! The transaction table during the scan: of 256 transactions the entries are kept aside, each at
-//! the place of its transaction's number modulo 256, where it is found at once. The table itself is
-//! not searched for a transaction above the highest number that may stand in it.
+//! The transaction table during the scan. The entries of up to 256 transactions are kept aside,
+//! each at the place of its transaction's number modulo 256, where it is found at once. The table
+//! itself is not searched for a transaction above the highest number that it may hold.
 
 ghost use Rattle.std.specs.Prelude.{◌≡◌, ℕ, List, OnOk, IfErr, if◌then◌else◌, ◌==◌, Some, None, IsOkUnless, ◌≢◌};
 ghost use Rattle.page.specs.declared.fault.Fault.TheVariants.{NoResource};
@@ -61,7 +61,8 @@ fn put(transactions: &mut BTreeMap<u32, Entry>, tx: u32, entry: Entry) -> Result
     Ok(())
 }
 
-/// Puts the entry that is kept at the place of a transaction, if it is another's.
+/// Moves the entry that is kept at the place of a transaction to the table, if it is the entry of
+/// another transaction.
 fn make_place(
     transactions: &mut BTreeMap<u32, Entry>,
     kept: &[Option<(u32, Entry)>; PLACES],
@@ -114,7 +115,7 @@ pub fn keep(
     Ok(())
 }
 
-/// Keeps no entry of a transaction.
+/// Drops the entry of a transaction that is kept aside.
 fn forget(kept: &mut [Option<(u32, Entry)>; PLACES], tx: u32)
     requires { AreKept kept.old }
     ensures other { (t : ℕ) (entries : List (ℕ × Entry)) → (t ≢ tx)
@@ -131,7 +132,7 @@ fn forget(kept: &mut [Option<(u32, Entry)>; PLACES], tx: u32)
     }
 }
 
-/// Takes the entry of a transaction away, if it has one.
+/// Removes the entry of a transaction, if it has one.
 pub fn finish(
     transactions: &mut BTreeMap<u32, Entry>,
     kept: &mut [Option<(u32, Entry)>; PLACES],
@@ -151,14 +152,14 @@ pub fn finish(
     }
 }
 
-/// The highest number that may stand in a table: 0 where it is empty, else that of all numbers.
+/// An upper bound of the numbers in a table: 0 if it is empty, otherwise the largest `u32`.
 pub fn highest_in(transactions: &BTreeMap<u32, Entry>) -> u32
     ensures { HasNoneAbove result transactions.now.entries }
 {
     if transactions.is_empty() { 0 } else { u32::MAX }
 }
 
-/// Puts all entries that are kept.
+/// Puts all entries that are kept aside into the table.
 pub fn put_back(
     transactions: &mut BTreeMap<u32, Entry>,
     kept: &[Option<(u32, Entry)>; PLACES],

@@ -1,8 +1,8 @@
 //! Analysis: the tables of a crash, from the last checkpoint on.
 //!
-//! `analyse` takes a whole log. If a log is read in pieces, `CheckpointScan` finds the tables of the
-//! checkpoint, and from these on `TableScan` finds the tables of the crash: the transactions by a
-//! `TransactionScan`, the pages by a `PageScan`.
+//! `analyse` takes a whole log. If a log is read in pieces, `CheckpointScan` finds the tables of
+//! the checkpoint. From these on `TableScan` finds the tables of the crash: the transactions with a
+//! `TransactionScan`, the pages with a `PageScan`.
 #![tactic(auto)]
 
 mod apart;

@@ -17,7 +17,7 @@ use wal::{Glance, Log};
 
 /// The dirty page table while a log is read. The log comes in pieces, from its first record to its
 /// last: each piece is a log whose base LSN is the last LSN of the one before it, and no record is
-/// looked at twice. Contracts see the list of its entries, a page and its RecLSN each.
+/// looked at twice. Contracts see the list of its entries, each a page and its RecLSN.
 #[derive(Drop)]
 pub struct PageScan {
     dirty: BTreeMap<u32, u64>,
@@ -47,9 +47,9 @@ impl PageScan {
         }
     }
 
-    /// Notes what the record at an LSN, of which this is seen at a glance, does to the table.
+    /// Notes in the table what the record at an LSN does to it. The record is given at a glance.
     ///
-    /// The only error is `NoResource`, which says that memory was refused.
+    /// The only error is `NoResource`, if memory was refused.
     #[inline(always)]
     pub fn note(&mut self, glance: Glance, lsn: u64) -> Result<(), Fault>
         ensures pages { OnOk result ((r : LogRecord) → glance ≡ glance_of r → (page : ℕ)
@@ -63,8 +63,8 @@ impl PageScan {
     /// the checkpoint's begin record, 0 for none, and the same for all pieces: records up to it do
     /// nothing to the table.
     ///
-    /// The only error is `NoResource`, which says that memory was refused. The table then has what
-    /// some of the piece's records do to it, and the scan is to be begun again.
+    /// The only error is `NoResource`, if memory was refused. The table then has what some of the
+    /// piece's records do to it, and the scan must be begun again.
     pub fn pass(&mut self, piece: &Log, master: u64) -> Result<(), Fault>
         ensures pages { OnOk result ((page : ℕ) → rec_lsn_of page self.new
             ≡ analysed_rec_lsn page master (rec_lsn_of page self.old) (history piece.now)) }

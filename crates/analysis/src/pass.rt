@@ -18,8 +18,8 @@ use std::alloc::Global;
 use std::collections::BTreeMap;
 use wal::Log;
 
-/// The smaller of the smallest RecLSN so far, 0 for none, and another, which counts as the first LSN
-/// of the log where it is below that.
+/// The smaller of two numbers: the smallest RecLSN so far, 0 for none, and another RecLSN. The
+/// latter counts as the first LSN of the log if it is below that.
 fn lower(smallest: u64, first: u64, rec_lsn: u64) -> u64
     ensures { result ≡ lower smallest (max first rec_lsn) }
 {
@@ -31,8 +31,8 @@ fn lower(smallest: u64, first: u64, rec_lsn: u64) -> u64
     }
 }
 
-/// The LSN from which redo looks at records: the smallest RecLSN, one below the first LSN of the log
-/// counting as that; 0 where no page is listed.
+/// The LSN from which redo looks at records: the smallest RecLSN, or 0 if no page is listed. A
+/// RecLSN below the first LSN of the log counts as that LSN.
 pub fn redo_lsn_of(first: u64, dirty: &BTreeMap<u32, u64>) -> u64
     requires { 1 ≤ first }
     ensures { result ≡ redo_lsn_of first dirty.now.entries }
@@ -45,16 +45,19 @@ pub fn redo_lsn_of(first: u64, dirty: &BTreeMap<u32, u64>) -> u64
 }
 
 /// The tables of a crash: from the checkpoint whose begin record has the LSN `master`, 0 for none,
-/// on to the log's end. They are what last and first records say, for every log, lawful or not.
+/// up to the end of the log. They are defined by last and first records, for every log, lawful or
+/// not.
 ///
-/// Answers [`Fault::BadMaster`] where `master` is not 0 and no checkpoint begin stands at it or no
-/// later checkpoint end names it; [`Fault::NoResource`] where memory was refused.
+/// The error is [`Fault::BadMaster`] if `master` is not 0 and the record there is not a checkpoint
+/// begin, or no later checkpoint end names it. It is [`Fault::NoResource`] if memory was refused.
 pub fn analyse(alloc: Global, log: &Log, master: u64) -> Result<Tables, Fault>
     ensures tables { IfOk result (AreTablesOf log.now master) }
-    // On a lawful log and its store: exactly the unfinished transactions, and no record that an image lacks is skipped.
+    // For a lawful log and its store: exactly the unfinished transactions, and no record that an
+    // image lacks is skipped.
     ensures lawful { (over : BasePages) (store : StoreContent) → Lawful over log.now store
         → store.master ≡ master → IfOk result (AreTrue log.now store) }
-    // No record and no checkpoint that was read names transaction 0: the grammar of logs forbids it.
+    // No record and no checkpoint that was read names transaction 0: the grammar of logs forbids
+    // it.
     ensures no_transaction_0 { IfOk result (λ tables. entry_for 0 tables.transactions ≡ None) }
     ensures fault { IfErr result (BaseFault master (history log.now)) }
 {

@@ -14,7 +14,7 @@ use page::{Fault, PAGES};
 use std::collections::BTreeMap;
 use wal::{Entry, Glance, State};
 
-/// The state behind a prepare: prepared, unless it is aborting.
+/// The state after a prepare: prepared, unless it is aborting.
 fn prepared(old: State) -> State
     ensures { result ≡ prepared_from old }
 {
@@ -68,7 +68,7 @@ pub fn note_transaction(
     Ok(())
 }
 
-/// Lists a page from this LSN on, if it is not listed.
+/// Lists a page with this RecLSN, if it is not listed.
 fn list_page(dirty: &mut BTreeMap<u32, u64>, page: u32, lsn: u64) -> Result<(), Fault>
     ensures ok { OnOk result ((p : ℕ) → rec_lsn_of p dirty.new.entries
         ≡ or_else (rec_lsn_of p dirty.old.entries) (if page == p then Some lsn else None)) }
@@ -88,7 +88,7 @@ pub fn is_known(known: &[bool; PAGES], page: usize) -> bool
     page < PAGES && known[page]
 }
 
-/// Notes that a page is known, where it is below their number.
+/// Notes that a page is known, if it is below `PAGES`.
 fn note_known(known: &mut [bool; PAGES], page: u32)
     ensures { known.new ≡ slice_set known.old page true }
 {
@@ -98,8 +98,8 @@ fn note_known(known: &mut [bool; PAGES], page: u32)
     }
 }
 
-/// Lists a page from this LSN on, if it is not listed. The table is searched once for a page below
-/// `PAGES`: then it is known to be listed.
+/// Lists a page with this RecLSN, if it is not listed. The table is searched once for a page below
+/// `PAGES`: after that the page is known to be listed.
 fn list_unknown(
     dirty: &mut BTreeMap<u32, u64>,
     known: &mut [bool; PAGES],

@@ -24,9 +24,9 @@ use std::collections::BTreeMap;
 use std::marker::Model;
 use wal::{Entry, Glance, Log};
 
-/// The transaction table and the dirty page table while a log is read. The log comes in pieces, up to
-/// its last record: each piece is a log whose base LSN is the last LSN of the one before it, and no
-/// record is looked at twice. Contracts see the entries of both tables.
+/// The transaction table and the dirty page table while a log is read. The log comes in pieces, up
+/// to its last record: each piece is a log whose base LSN is the last LSN of the one before it, and
+/// no record is looked at twice. Contracts see the entries of both tables.
 #[derive(Drop)]
 pub struct TableScan {
     transactions: TransactionScan,
@@ -43,9 +43,9 @@ impl Model for TableScan {
 
 impl TableScan {
     /// The scan before the first piece, with the tables of the checkpoint that the master names, as
-    /// [`CheckpointScan`](crate::CheckpointScan) finds them. The first piece may begin at any record
-    /// that comes no later than the one after the checkpoint's begin record: those before that one do
-    /// nothing to the tables.
+    /// [`CheckpointScan`](crate::CheckpointScan) finds them. The first piece may begin at any
+    /// record up to the one after the checkpoint's begin record: earlier records do nothing to the
+    /// tables.
     pub fn begin(transactions: BTreeMap<u32, Entry>, dirty: BTreeMap<u32, u64>) -> TableScan
         ensures begun { (m : ℕ) (whole log : History)
             → IsBase m whole transactions.entries dirty.entries → ComesBefore m log
@@ -59,11 +59,11 @@ impl TableScan {
         }
     }
 
-    /// Notes what the record at an LSN, of which this is seen at a glance, does to both tables. It is
-    /// the next one after those that were looked at, and comes after the checkpoint's begin record.
+    /// Notes in both tables what the record at an LSN does to them. The record is given at a
+    /// glance. It is the next one after those that were looked at, and comes after the checkpoint's
+    /// begin record.
     ///
-    /// The only error is `NoResource`, which says that memory was refused. The scan is to be begun again
-    /// then.
+    /// The only error is `NoResource`, if memory was refused. The scan must then be begun again.
     #[inline(always)]
     pub fn note(&mut self, glance: Glance, lsn: u64) -> Result<(), Fault>
         ensures entries { OnOk result ((t : ℕ) → entry_at t self.new.entries
@@ -77,12 +77,12 @@ impl TableScan {
         self.pages.note(glance, lsn)
     }
 
-    /// Looks at the records of the next piece for what they do to both tables. `master` is the LSN of
-    /// the checkpoint's begin record, 0 for none, and the same for all pieces: records up to it do
-    /// nothing to the tables.
+    /// Looks at the records of the next piece for what they do to both tables. `master` is the LSN
+    /// of the checkpoint's begin record, 0 for none, and the same for all pieces: records up to it
+    /// do nothing to the tables.
     ///
-    /// The only error is `NoResource`, which says that memory was refused. The tables then have what
-    /// some of the piece's records do to them, and the scan is to be begun again.
+    /// The only error is `NoResource`, if memory was refused. The tables then have what some of the
+    /// piece's records do to them, and the scan must be begun again.
     pub fn pass(&mut self, piece: &Log, master: u64) -> Result<(), Fault>
         ensures goes_on { OnOk result ((whole log : History)
             → last_lsn log ≡ base_lsn (history piece.now) → HasAnalysed master whole log self.old
@@ -98,14 +98,15 @@ impl TableScan {
         Ok(())
     }
 
-    /// The tables of the crash, after all pieces. `base` is the base LSN of the whole log, after which
-    /// redo begins at the earliest. The only error is `NoResource`: memory was refused.
+    /// The tables of the crash, after all pieces. `base` is the base LSN of the whole log, after
+    /// which redo begins at the earliest. The only error is `NoResource`, if memory was refused.
     pub fn finish(self, base: u64) -> Result<Tables, Fault>
         requires { base ≤ LARGEST_BASE }
         ensures tables { IfOk result (λ tables. (log : LogContent) (m : ℕ)
             → base_lsn (history log) ≡ base → HasAnalysed m (history log) (history log) self
             → AreTablesOf log m tables) }
-        // On a lawful log and its store: exactly the unfinished transactions, and no record that an image lacks is skipped.
+        // For a lawful log and its store: exactly the unfinished transactions, and no record that
+        // an image lacks is skipped.
         ensures lawful { IfOk result (λ tables. (over : BasePages) (log : LogContent)
             (store : StoreContent) → Lawful over log store → base_lsn (history log) ≡ base
             → HasAnalysed store.master (history log) (history log) self
@@ -121,7 +122,7 @@ impl TableScan {
         let transactions = transactions.finish()?;
         let dirty = pages.finish();
         let redo_lsn = redo_lsn_of(base + 1, &dirty);
-        // For the proof: the keys of both rise.
+        // For the proof: the keys of both ascend.
         let _in_order = transactions.iter();
         let _pages_in_order = dirty.iter();
         Ok(Tables {

@@ -15,7 +15,8 @@ use wal::{Entry, Glance, Log};
 
 /// The transaction table while a log is read. The log comes in pieces, from its first record to its
 /// last: each piece is a log whose base LSN is the last LSN of the one before it, and no record is
-/// looked at twice. Contracts see a list of entries, in which the first one of a transaction counts.
+/// looked at twice. Contracts see a list of entries. If it has two entries of a transaction, the
+/// first one counts.
 #[derive(Drop)]
 pub struct TransactionScan {
     transactions: BTreeMap<u32, Entry>,
@@ -49,9 +50,9 @@ impl TransactionScan {
         }
     }
 
-    /// Notes what the record at an LSN, of which this is seen at a glance, does to the table.
+    /// Notes in the table what the record at an LSN does to it. The record is given at a glance.
     ///
-    /// The only error is `NoResource`, which says that memory was refused.
+    /// The only error is `NoResource`, if memory was refused.
     #[inline(always)]
     pub fn note(&mut self, glance: Glance, lsn: u64) -> Result<(), Fault>
         ensures entries { OnOk result ((t : ℕ) → entry_at t self.new
@@ -72,8 +73,8 @@ impl TransactionScan {
     /// the checkpoint's begin record, 0 for none, and the same for all pieces: records up to it do
     /// nothing to the table.
     ///
-    /// The only error is `NoResource`, which says that memory was refused. The table then has what
-    /// some of the piece's records do to it, and the scan is to be begun again.
+    /// The only error is `NoResource`, if memory was refused. The table then has what some of the
+    /// piece's records do to it, and the scan must be begun again.
     pub fn pass(&mut self, piece: &Log, master: u64) -> Result<(), Fault>
         ensures entries { OnOk result ((t : ℕ) → entry_at t self.new
             ≡ analysed_entry t master (entry_at t self.old) (history piece.now)) }
@@ -100,7 +101,8 @@ impl TransactionScan {
         Ok(())
     }
 
-    /// The table after the log that was read. The only error is `NoResource`: memory was refused.
+    /// The table after the log that was read. The only error is `NoResource`, if memory was
+    /// refused.
     #[inline(always)]
     pub fn finish(self) -> Result<BTreeMap<u32, Entry>, Fault>
         ensures entries { IfOk result (λ found. (t : ℕ) → entry_at t found.entries
