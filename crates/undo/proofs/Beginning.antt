@@ -196,7 +196,7 @@ module _ (log : History) (losers done : List TableEntry) (at new : Waiting) (app
   own_walk : (hops e.tx log e.undo_next).met ≡ met_by log losers e.tx
   own_walk = sym (ap (λ o. (walk_of log o).met) own)
 
-  -- of the losers resolved before, those that walk badly have met an update
+  -- those of the losers resolved before that walk badly have met an update
   module _ (earlier : (t : ℕ) (x : TableEntry) → t < e.tx → entry_for t losers ≡ Some x → is_among t (map tx_in done) ≡ true) where
     met_before : (t : ℕ) → t < e.tx → EndsBadly log losers t → last_met log losers t ≤ last_lsn log
     met_before t lt bad = by_entry (entry_for t losers) refl
@@ -317,7 +317,7 @@ module _ (log : History) (losers done : List TableEntry) (at new : Waiting) (app
   pub begun_more : Resolved log loser end e.undo_next at new appended after_ → Begun log losers (done ++ e ∷ []) new after_
   begun_more resolved = elim resolved [ inl s ↦ ended_more s | inr s ↦ stayed_more s ]
 
--- in a table whose numbers rise, a smaller number stands earlier
+-- in a table with ascending numbers, a smaller number comes earlier
 pub stands_earlier : (bound : ℕ) (done rest : List TableEntry) (e : TableEntry) → Rise bound (done ++ e ∷ rest)
     → (t : ℕ) (x : TableEntry) → t < e.tx → entry_for t (done ++ e ∷ rest) ≡ Some x → is_among t (map tx_in done) ≡ true
 stands_earlier bound [] rest e rises t x lt some =
@@ -330,7 +330,7 @@ stands_earlier bound (d ∷ done) rest e rises t x lt some =
           (stands_earlier (suc d.tx) done rest e rises.1 t x lt (sym (ap (λ c. cond c (Some d) (entry_for t (done ++ e ∷ rest))) (ne_eqb d.tx t i)) ∙ some))
     ]
 
--- those that stand earlier have smaller numbers
+-- those that come earlier have smaller numbers
 earlier_below : (bound : ℕ) (done rest : List TableEntry) (e : TableEntry) → Rise bound (done ++ e ∷ rest) → (t : ℕ) → is_among t (map tx_in done) ≡ true → (bound ≤ t) × (t < e.tx)
 earlier_below bound [] rest e rises t h = absurd (false≢true h)
 earlier_below bound (d ∷ done) rest e rises t h =
@@ -347,7 +347,7 @@ earlier_below bound (d ∷ done) rest e rises t h =
 pub begun_others : (log : History) (losers done rest : List TableEntry) (e : TableEntry) (at : Waiting) (appended : List LogRecord) → Begun log losers done at appended → Rise 0 (done ++ e ∷ rest) → AreOthers e.tx at
 begun_others log losers done rest e at appended b rises n l there same = omega (arith, same, (earlier_below 0 done rest e rises l.tx (b.known n l there)).1)
 
--- ENDS ALONE
+-- ONLY ENDS
 pub are_ends : (es : List TableEntry) → AreEnds (map end_of es)
 are_ends [] = tt
 are_ends (e ∷ es) = are_ends es
@@ -357,7 +357,7 @@ ends_name_no_page count [] h = All-nil (NamesPages count)
 ends_name_no_page count (End s ∷ rs) h = All-cons (NamesPages count) (End s) rs tt (ends_name_no_page count rs h)
 ends_name_no_page count (_ ∷ rs) h = absurd h
 
--- where 0 has no entry, who has one is not 0
+-- if 0 has no entry, a transaction with an entry is not 0
 pub some_tx : (t : ℕ) (e : TableEntry) (losers : List TableEntry) → entry_for 0 losers ≡ None → entry_for t losers ≡ Some e → 0 < t
 some_tx zero e losers none some = absurd (let f : None ≡ Some e = sym none ∙ some in cc)
 some_tx (suc t) e losers none some = omega arith

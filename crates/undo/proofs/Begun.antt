@@ -1,4 +1,4 @@
--- A rollback at its start: what is appended, and who waits, when the losers so far have been resolved.
+-- A rollback at its start: what is appended, and which losers wait, after the losers so far have been resolved.
 use Rattle.std.specs.Prelude.{◌≡◌, ℕ, ◌⊎◌, List, [], ◌∷◌, map, filter, Some, Bool, true, ⊤}
 use Rattle.wal.specs.Records.{TableEntry, tx_in, LogRecord, End, History}
 use Rattle.wal.specs.Hops.{hops}

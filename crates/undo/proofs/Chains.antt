@@ -34,7 +34,7 @@ kept_here places links lsn place d there within =
 pub kept_nowhere : (places : List (ℕ × ℕ)) (links : List LogRecord) (lsn : ℕ) → place_of lsn places ≡ None → kept_at places links lsn ≡ None
 kept_nowhere places links lsn none = ap (λ o. o >>= λ p. option_map link_in (slice_get links p)) none
 
--- a link more, which no place has yet
+-- one more link, which no place has yet
 pub kept_before : (places : List (ℕ × ℕ)) (links : List LogRecord) (x : LogRecord) (n : ℕ) → ((place : ℕ) → place_of n places ≡ Some place → place < length links) → kept_at places (links ++ x ∷ []) n ≡ kept_at places links n
 kept_before places links x n placed = by_place (place_of n places) refl
   where
@@ -72,7 +72,7 @@ placed_more old new links x lsn n place placed changed there =
           omega (arith, before, length-append links (x ∷ [])))
     ]
 
--- the log has as many records as are said
+-- the log has as many records as the count says
 module _ (base count : ℕ) (places : List (ℕ × ℕ)) (links : List LogRecord) where
   pub gathered_last : last_lsn (history (gathered_log base count places links)) ≡ base + count
   gathered_last = size_of_log (gathered_log base count places links) ∙ ap (λ n. base + n) (length-map-range_with_len (λ n. unwrap_or (kept_at places links n) CheckpointBegin) (suc base) count)
@@ -97,7 +97,7 @@ module _ (base count : ℕ) (places : List (ℕ × ℕ)) (links : List LogRecord
   pub gathered_past : (lsn : ℕ) → base + count < lsn → record_at (history (gathered_log base count places links)) lsn ≡ None
   gathered_past lsn lt = record_none (history (gathered_log base count places links)) lsn (inr (omega (arith, lt, gathered_last)))
 
--- a record more is kept
+-- one more record is kept
 pub gathered_more : (base count lsn n : ℕ) (old new : List (ℕ × ℕ)) (links : List LogRecord) (x : LogRecord) → base < lsn → lsn ≤ base + count
     → kept_at new (links ++ x ∷ []) n ≡ cond (eqb lsn n) (Some (link_in x)) (kept_at old links n)
     → record_at (history (gathered_log base count new (links ++ x ∷ []))) n ≡ cond (eqb lsn n) (Some (link_in x)) (record_at (history (gathered_log base count old links)) n)

@@ -17,7 +17,7 @@ use Rattle.undo.proofs.Rolling.{update_within}
 pub one_more : {X : Type 0} (old new : List X) (x : X) → new ≡ old ++ x ∷ [] → length new ≡ length old + 1
 one_more old new x e = omega (arith, ap length e, length-append old (x ∷ []))
 
--- one end for each loser at most, of those that meet nothing
+-- at most one end for each loser that meets nothing
 pub ends_few : (log : History) (es : List TableEntry) → length (map end_of (filter (meets_nothing log) es)) ≤ length es
 ends_few log [] = omega arith
 ends_few log (e ∷ es) =
@@ -46,10 +46,10 @@ resolved_few log l from lsn old new before after r =
       | inr s ↦ omega (arith, ap length s.appended)
     ]
 
--- losers that wait stand at most so high
+-- losers that wait are not above this height
 pub height_within : (log : History) (entries : List (ℕ × Loser)) → ((n : ℕ) (l : Loser) → lookup (eqb n) entries ≡ Some l → IsUpdateAt log l.tx n) → height entries ≤ last_lsn log + 1
 height_within log entries updates = height_least (last_lsn log + 1) entries (λ n l e. omega (arith, update_within log l.tx n (updates n l e)))
 
--- a turn appends two records at most, and all that wait behind it undo an earlier update next
+-- a turn appends at most two records, and all losers that wait after it undo an earlier update next
 pub turn_few : (base update_lsn high low before after most : ℕ) → base < update_lsn → update_lsn < high → low ≤ update_lsn → after ≤ before + 2 → before + 2 * (high - 1 - base) ≤ most → after + 2 * (low - 1 - base) ≤ most
 turn_few base update_lsn high low before after most some above below two few = omega (arith, some, above, below, two, few)

@@ -1,4 +1,4 @@
--- The losers of the tables go on at their UndoNxtLSNs, if the log has records there.
+-- The losers of the tables continue at their UndoNxtLSNs, if the log has records there.
 use Rattle.std.proofs.Common.{ℕ, suc, ◌≡◌, ◌⊎◌, ◌<◌, ◌+◌, ◌++◌, List, [], ◌∷◌, get_or, Option, Some, None, cond, eq-eqb, ne_eqb, refl, subst, sym, ap, ◌∙◌, inl, inr, arith}
 use Rattle.std.specs.Prelude.{All}
 use Rattle.std.proofs.lemmas.Bool.{cases_eq, cases_lt}
@@ -15,11 +15,11 @@ use Rattle.undo.specs.Gathered.{IsPassedOver}
 use Rattle.undo.specs.Enough.{IsFound, sends}
 use Rattle.undo.specs.Gathering.{IsWanted, MayWant, AreGatheredSoFar}
 
--- it goes on, or the log, which ends at this LSN, has nothing there
+-- it continues, or the log, which ends at this LSN, has nothing there
 abbrev pub Waits : (last : ℕ) → List Want → TableEntry → Type 0
 Waits last wants e = IsWanted wants e.tx e.undo_next ⊎ ((e.undo_next ≡ 0) ⊎ (last < e.undo_next))
 
--- what went on still does
+-- a transaction that continued still does
 still_waits : (last t from lsn : ℕ) (old new : List Want) (e : TableEntry) → MayWant t from lsn old new → Waits last old e → Waits last new e
 still_waits last t from lsn old new e (inl none) waits = subst (λ ws. Waits last ws e) (sym none.0) waits
 still_waits last t from lsn old new e (inr moved) (inl wanted) =
@@ -38,7 +38,7 @@ this_waits last old new e (inl none) =
     ]
 this_waits last old new e (inr moved) = inl (Contains-permutation (record { lsn = e.undo_next; tx = e.tx } ∷ old) new (record { lsn = e.undo_next; tx = e.tx }) moved (0, omega arith, refl))
 
--- one loser more
+-- one more loser
 pub one_waits : (last : ℕ) (old new : List Want) (done : List TableEntry) (e : TableEntry) → MayWant e.tx (last + 1) e.undo_next old new → All (Waits last old) done → All (Waits last new) (done ++ e ∷ [])
 one_waits last old new done e may waits =
     All-push (Waits last new) done e (λ k d lt. still_waits last e.tx (last + 1) e.undo_next old new (get_or done k d) may (waits k d lt)) (this_waits last old new e may)
@@ -58,7 +58,7 @@ sends_none t (Some (Update u)) passed = absurd passed
 sends_none t (Some (Compensation c)) passed = absurd passed
 sends_none t (Some _) passed = refl
 
--- as a gathering begins
+-- a gathering at its start
 pub begun : (whole some : History) (losers : List TableEntry) (wants : List Want) → base_lsn some ≡ base_lsn whole → last_lsn some ≡ last_lsn whole → ((lsn : ℕ) → IsPassedOver (record_at some lsn))
     → All (Waits (last_lsn whole) wants) losers → AreGatheredSoFar whole some losers wants
 begun whole some losers wants base last none waits = record {

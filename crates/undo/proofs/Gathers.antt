@@ -1,4 +1,4 @@
--- What is gathered while a log goes by: one want less, and what it leads to.
+-- What is gathered while a log is read: one want less, and what it leads to.
 use Rattle.std.proofs.Common.{ℕ, zero, suc, ◌≡◌, ◌⊎◌, ◌<◌, ◌≤◌, cond, eqb, eqb-true, eq-eqb, ne_eqb, List, ◌∷◌, Option, Some, None, refl, subst, sym, ap, ◌∙◌, inl, inr, arith, IsPermutation}
 use Rattle.std.specs.Prelude.{option_map}
 use Rattle.std.proofs.lemmas.Bool.{cases_Bool, cases_eq}
@@ -20,7 +20,7 @@ wanted_cases : (want : Want) (wants : List Want) (t lsn : ℕ) → IsWanted (wan
 wanted_cases want wants t lsn (zero, lt, is) = inl (ap (λ (w : Want). w.tx) is, ap (λ (w : Want). w.lsn) is)
 wanted_cases want wants t lsn (suc k, lt, is) = inr (k, omega (arith, lt), is)
 
--- up to an LSN all go on still, where one more does below it, and where one is taken
+-- all still continue at most at an LSN, if one more continues below it, and if one is taken
 pub up_to_put : (n : ℕ) (want : Want) (old new : List Want) → IsPermutation (want ∷ old) new → want.lsn ≤ n → AreUpTo n old → AreUpTo n new
 up_to_put n want old new moved le up =
     All-permutation (λ w. w.lsn ≤ n) (want ∷ old) new moved (All-cons (λ w. w.lsn ≤ n) want old le up)
@@ -55,7 +55,7 @@ nowhere t (Some (Update u)) h =
     ]
 nowhere t (Some r) h = ap (option_map hop.On) h
 
--- a record that sends a walk on is looked at, and is its own transaction's alone
+-- a record that sends a walk to an LSN is looked at, and is only of its own transaction
 is_link : (t next : ℕ) (r : LogRecord) → sends t (Some r) ≡ Some next → link_in r ≡ r
 is_link t next (Update u) h = refl
 is_link t next (Compensation c) h = refl
@@ -85,7 +85,7 @@ one_owner t other next lsn (Compensation c) a b =
 one_owner t other next lsn _ a b = absurd cc
 
 module _ (whole some : History) (losers : List TableEntry) (want : Want) (wants : List Want) (far : AreGatheredSoFar whole some losers (want ∷ wants)) where
-  -- nothing of the transaction stands where it goes on
+  -- no record of the transaction is where it continues
   pub dropped : hop_of want.tx (record_at whole want.lsn) ≡ None → AreGatheredSoFar whole some losers wants
   dropped none = record {
     base = far.base;
@@ -103,7 +103,7 @@ module _ (whole some : History) (losers : List TableEntry) (want : Want) (wants 
             | inr other ↦ inr other
           ]
 
-  -- its record is kept, and it goes on from there
+  -- its record is kept, and the transaction continues from there
   module _ (new : History) (more : List Want) (r : LogRecord) (next : ℕ) (there : record_at whole want.lsn ≡ Some r) (sent : sends want.tx (Some r) ≡ Some next) (same_base : base_lsn new ≡ base_lsn some) (same_last : last_lsn new ≡ last_lsn some)
       (kept : (n : ℕ) → record_at new n ≡ cond (eqb want.lsn n) (Some (link_in r)) (record_at some n)) (goes_on : MayWant want.tx want.lsn next wants more) where
     here : record_at new want.lsn ≡ record_at whole want.lsn
@@ -136,7 +136,7 @@ module _ (whole some : History) (losers : List TableEntry) (want : Want) (wants 
           | inr other ↦ inr (still_wanted t lsn other)
         ]
 
-    -- the transaction goes on where its record sends it
+    -- the transaction continues where its record sends it
     next_wanted : next < want.lsn → IsFound whole new want.tx next ⊎ IsWanted more want.tx next
     next_wanted below =
         elim goes_on [
@@ -171,7 +171,7 @@ module _ (whole some : History) (losers : List TableEntry) (want : Want) (wants 
           ];
     }
 
--- where the walks go on before the log, enough is gathered
+-- if the walks continue before the log, enough is gathered
 pub all_gathered : (whole some : History) (losers : List TableEntry) (wants : List Want) → AreUpTo (base_lsn whole) wants → AreGatheredSoFar whole some losers wants → AreGathered whole some losers
 all_gathered whole some losers wants up far = record {
   base = far.base;

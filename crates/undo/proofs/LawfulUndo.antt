@@ -1,4 +1,4 @@
--- Undo of a lawful log by true tables: the tail, and no fault but want of memory.
+-- Undo of a lawful log by true tables: the tail, and no error but a lack of memory.
 use Rattle.std.proofs.Common.{◌≡◌, ◌<◌, List, length, refl, sym, ap, ◌∙◌, arith}
 use Rattle.page.specs.declared.fault.Fault.{Fault}
 use Rattle.page.specs.declared.fault.Fault.TheVariants.{NoResource, NoSuchPage, BrokenChain}

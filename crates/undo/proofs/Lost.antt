@@ -10,18 +10,18 @@ use Rattle.wal.specs.Records.{TableEntry}
 use Rattle.wal.specs.Undo.{entry_for, is_lost, lost_in}
 use Rattle.wal.proofs.Entries.{Rise}
 
--- one entry more
+-- one more entry
 pub one_lost : (es : List TableEntry) (e : TableEntry) → is_lost e ≡ true → lost_in (es ++ e ∷ []) ≡ lost_in es ++ e ∷ []
 one_lost es e i = filter-append is_lost es (e ∷ []) ∙ ap (λ c. lost_in es ++ cond c (e ∷ []) []) i
 
 pub none_lost : (es : List TableEntry) (e : TableEntry) → is_lost e ≡ false → lost_in (es ++ e ∷ []) ≡ lost_in es
 none_lost es e i = filter-append is_lost es (e ∷ []) ∙ ap (λ c. lost_in es ++ cond c (e ∷ []) []) i ∙ append-nil (lost_in es)
 
--- those before an entry and those behind it
+-- those before an entry and those after it
 pub lost_about : (done rest : List TableEntry) (e : TableEntry) → is_lost e ≡ true → lost_in (done ++ e ∷ rest) ≡ lost_in done ++ e ∷ lost_in rest
 lost_about done rest e i = filter-append is_lost done (e ∷ rest) ∙ ap (λ c. lost_in done ++ cond c (e ∷ lost_in rest) (lost_in rest)) i
 
--- numbers that rise from one bound on rise from a smaller one on
+-- numbers that ascend from one bound on ascend from a smaller one on
 rise_from : (a b : ℕ) (es : List TableEntry) → a ≤ b → Rise b es → Rise a es
 rise_from a b [] le h = tt
 rise_from a b (e ∷ es) le h = (omega (arith, le, h.0), h.1)
@@ -51,7 +51,7 @@ lost_found t e (x ∷ es) found i =
           ])
     ]
 
--- who has no entry has none among them
+-- a transaction without an entry has none among them
 pub lost_none : (t : ℕ) (es : List TableEntry) → entry_for t es ≡ None → entry_for t (lost_in es) ≡ None
 lost_none t [] none = none
 lost_none t (x ∷ es) none =
@@ -65,7 +65,7 @@ lost_none t (x ∷ es) none =
           ])
     ]
 
--- the entries of the turns so far, and of one turn more
+-- the entries of the turns so far, and of one more turn
 pub one_more : (yielded : List (Bor ℕ × Bor Entry)) (tx : Bor ℕ) (entry : Bor Entry)
     → map entry_of (map deref_pair (yielded ++ (tx, entry) ∷ [])) ≡ map entry_of (map deref_pair yielded) ++ entry_of (tx.now, entry.now) ∷ []
 one_more yielded tx entry = ap (map entry_of) (map_push deref_pair yielded (tx, entry)) ∙ map_push entry_of (map deref_pair yielded) (tx.now, entry.now)

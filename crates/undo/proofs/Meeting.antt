@@ -1,4 +1,4 @@
--- What a walk meets: updates of its transaction, in falling LSN.
+-- What a walk meets: updates of its transaction, in descending LSN.
 use Rattle.std.proofs.Common.{ℕ, suc, ◌≡◌, ◌-◌, ◌<◌, true, false, cond, ◌||◌, Option, Some, None, sym, ap, ◌∙◌, inl, inr, arith, eqb-true, eqb, ltb, [], subst}
 use Rattle.std.specs.Prelude.{option_map, unwrap_or}
 use Rattle.std.proofs.lemmas.Bool.{cases_Bool, false≢true, or_cases, cases_lt}
@@ -10,7 +10,7 @@ use Rattle.wal.proofs.Stacks.{Falls, Falls-more, IsUpdateOf}
 use Rattle.undo.specs.Rollback.{walk_from}
 use Rattle.wal.proofs.Histories.{size_of_first_le}
 
--- it falls
+-- it descends
 met_falls : (t : ℕ) (log : History) (n : ℕ) → Falls (suc (last_lsn log)) (hops t log n).met
 met_falls t (start _) n = tt
 met_falls t (log ▸ Update u) n =
@@ -32,7 +32,7 @@ met_falls t (log ▸ r) n =
     by_sent None older = tt
     by_sent (Some next) older = Falls-more (suc (last_lsn log)) (suc (suc (last_lsn log))) (hops t log next).met (omega arith) (older next)
 
--- all of it are updates of t
+-- all of it is updates of t
 found_more : (t : ℕ) (log : History) (r : LogRecord) (n : ℕ) → IsUpdateOf t log n → IsUpdateOf t (log ▸ r) n
 found_more t log r n p = (p.0, record_more log r n (Update p.0) p.1, p.2)
 
@@ -70,7 +70,7 @@ found_in_first b (log ▸ r) n x h =
       | inr i ↦ record_more log r n x (found_in_first b log n x (ap (λ c. record_at (cond c (log ▸ r) (first b log)) n) (sym i) ∙ h))
     ]
 
--- the same of the walk from a record
+-- the same for the walk from a record
 pub walk_falls : (log : History) (t from lsn : ℕ) → 0 < from → Falls from (walk_from log t from lsn).met
 walk_falls log t from lsn p =
     elim (cases_lt (from - 1) (base_lsn log)) [

@@ -1,4 +1,4 @@
--- Undo is refused for one cause, and for none where it answers.
+-- Undo has at most one error, and none if it succeeds.
 use Rattle.std.proofs.Common.{◌≡◌, ◌<◌, ℕ, List, refl, sym, ap, ◌∙◌, inl, inr, arith}
 use Rattle.page.specs.declared.fault.Fault.TheVariants.{NoResource, NoSuchPage, BrokenChain}
 use Rattle.wal.specs.Records.{TableEntry, History}

@@ -9,7 +9,7 @@ use Rattle.undo.specs.declared.losers.Rollback.{Rollback}
 use Rattle.undo.specs.Turns.{Waiting, Taken}
 use Rattle.undo.specs.Rollback.{walk_from, IsUpdateAt, loser_at, AreBelow, AreOthers, WaitOnce, Resolved, AreUpdates, RollbackInvariant}
 
--- one above the largest LSN at which a loser waits, 0 where nobody waits
+-- one above the largest LSN at which a loser waits, 0 if no loser waits
 abbrev pub height : List (ℕ × Loser) → ℕ
 height [] = 0
 height (e ∷ entries) = max (suc e.0) (height entries)
@@ -37,7 +37,7 @@ height_above n l (e ∷ entries) f =
     ]
 
 -- ONE IS TAKEN
--- those that are left stand below it
+-- those that are left are below it
 pub left_below : (update_lsn : ℕ) (l : Loser) (old new : Waiting) → Taken update_lsn l old new → AreBelow update_lsn new
 left_below update_lsn l old new taken n m e =
     let apart : n ≢ update_lsn = λ i. (let f : None ≡ Some m = sym taken.gone ∙ ap new (sym i) ∙ e in cc) in
@@ -49,7 +49,7 @@ taken_updates log update_lsn l old new taken updates n m e =
     let apart : n ≢ update_lsn = λ i. (let f : None ≡ Some m = sym taken.gone ∙ ap (loser_at new) (sym i) ∙ e in cc) in
     updates n m (sym (taken.others n apart) ∙ e)
 
--- they are other transactions, where none waited twice
+-- they are other transactions, if none waited twice
 pub taken_others : (update_lsn : ℕ) (l : Loser) (old new : Waiting) → Taken update_lsn l old new → WaitOnce old → AreOthers l.tx new
 taken_others update_lsn l old new taken once n m e same =
     let apart : n ≢ update_lsn = λ i. (let f : None ≡ Some m = sym taken.gone ∙ ap new (sym i) ∙ e in cc) in
@@ -70,7 +70,7 @@ same_transaction log t s n x y =
     let same : x.update ≡ y.update = cc in
     sym x.own ∙ ap (λ u. u.tx) same ∙ y.own
 
--- so nobody waits at an update of one that does not wait
+-- so no loser waits at an update of a transaction that does not wait
 pub nobody_there : (log : History) (t n : ℕ) (at : Waiting) → IsUpdateAt log t n → ((m : ℕ) (l : Loser) → at m ≡ Some l → IsUpdateAt log l.tx m) → AreOthers t at → at n ≡ None
 nobody_there log t n at here updates others = by_place (at n) refl
   where
@@ -78,7 +78,7 @@ nobody_there log t n at here updates others = by_place (at n) refl
     by_place None e = e
     by_place (Some l) e = absurd (others n l e (same_transaction log l.tx t n (updates n l e) here))
 
--- when one has been resolved that did not wait, none waits twice
+-- after a loser that did not wait has been resolved, none waits twice
 pub resolved_once : (log : History) (l : Loser) (from lsn : ℕ) (old new : Waiting) (before after : List LogRecord) → Resolved log l from lsn old new before after
     → AreOthers l.tx old → WaitOnce old → WaitOnce new
 resolved_once log l from lsn old new before after (inl s) others once n m k j e f same = once n m k j (sym (s.waiting n) ∙ e) (sym (s.waiting m) ∙ f) same

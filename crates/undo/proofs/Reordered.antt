@@ -1,4 +1,4 @@
--- The turns of losers in the order of a heap: one turn more, and one less.
+-- The turns of losers in the order of a heap: one more turn, and one less.
 use Rattle.std.proofs.Common.{ℕ, ◌≡◌, ◌≤◌, cond, List, [], ◌∷◌, map, false, Some, None, refl, sym, ap, ◌∙◌, subst, inl, inr, arith, eqb, eq-eqb, ne_eqb, eqb-true, ltb, IsPermutation}
 use Rattle.std.proofs.lemmas.Bool.{cases_Bool, false≢true, ltb-false}
 use Rattle.std.proofs.lemmas.List.Sorted.{Contains-permutation, IsPermutation-map, IsPermutation-sym}
@@ -18,7 +18,7 @@ use Rattle.undo.specs.declared.turns.Turn.{Turn}
 use Rattle.undo.specs.Turns.{Taken}
 
 -- THE SAME TURNS IN ANOTHER ORDER
--- where no two have one LSN, the same loser is found
+-- if no two have the same LSN, the same loser is found
 same_found : (es fs : List (ℕ × Loser)) → IsPermutation es fs → IsDistinct eqb (keys_of es) → IsDistinct eqb (keys_of fs) → (n : ℕ) → lookup (eqb n) fs ≡ lookup (eqb n) es
 same_found es fs moved apart apart' n = by_first (lookup (eqb n) es) refl
   where
@@ -52,8 +52,8 @@ same_turns ts us moved apart =
     same_found (entries ts) (entries us) (IsPermutation-map (λ t. (t.lsn, t.loser)) ts us moved)
     (subst (IsDistinct eqb) (keys ts) apart) (subst (IsDistinct eqb) (keys us) (still_apart ts us moved apart))
 
--- ONE TURN MORE
--- where nobody waits at an LSN no turn has it
+-- ONE MORE TURN
+-- if no loser waits at an LSN, no turn has it
 none_there : (n : ℕ) (us : List Turn) → lookup (eqb n) (entries us) ≡ None → AllByRecursion (λ k. eqb n k ≡ false) (lsns us)
 none_there n [] free = tt
 none_there n (u ∷ us) free =
@@ -77,7 +77,7 @@ module _ (x : Turn) (us ts : List Turn) (moved : IsPermutation (x ∷ us) ts) (f
   pub put_there : (n : ℕ) → lookup (eqb n) (entries ts) ≡ cond (eqb x.lsn n) (Some x.loser) (lookup (eqb n) (entries us))
   put_there n = same_turns (x ∷ us) ts moved all_apart n ∙ ap (λ c. cond c (Some x.loser) (lookup (eqb n) (entries us))) (nat_eq_equiv.symm n x.lsn)
 
--- also where the heap is refused the memory, and stays as it is
+-- also if the heap is refused the memory, and stays as it is
 pub still_put_apart : {E : Type 0} (x : Turn) (us ts : List Turn) (n m : ℕ) (r : Result (Unit {0}) E) → OnOk r (IsPermutation (x ∷ us) ts) → OnErr r ((ts ≡ us) × (n ≡ m))
     → lookup (eqb x.lsn) (entries us) ≡ None → IsDistinct eqb (lsns us) → IsDistinct eqb (lsns ts)
 still_put_apart x us ts n m (Ok _) moved same free apart = put_apart x us ts moved free apart
@@ -115,7 +115,7 @@ module _ (x : Turn) (us ts : List Turn) (moved : IsPermutation ts (x ∷ us)) (a
             | inr i ↦ most all h.1 n l (sym (ap (λ c. cond c (Some y.loser) (lookup (eqb n) (entries all))) i) ∙ found)
           ]
 
--- also where no turn is left, and the heap stays as it is
+-- also if no turn is left, and the heap stays as it is
 pub still_taken_apart : (us ts : List Turn) (n m : ℕ) (r : Option Turn) → IfSome r (λ x. IsPermutation ts (x ∷ us)) → IfNone r ((us ≡ ts) × (n ≡ m))
     → IsDistinct eqb (lsns ts) → IsDistinct eqb (lsns us)
 still_taken_apart us ts n m (Some x) moved same apart = taken_apart x us ts moved apart

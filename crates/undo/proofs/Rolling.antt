@@ -1,4 +1,4 @@
--- A rollback under way, one update on.
+-- A rollback in progress, after one more update.
 use Rattle.std.specs.Prelude.{flat_map, All, map}
 use Rattle.std.proofs.Common.{append_assoc, append-nil, length-append, ℕ, suc, ◌≡◌, ◌≢◌, ◌+◌, ◌⊎◌, ◌<◌, ◌≤◌, true, false, cond, List, [], ◌∷◌, ◌++◌, length, Some, None, refl, sym, ap, ap₂, ◌∙◌, subst, inl, inr, arith, eq-eqb, ne_eqb, eqb-true, eqb}
 use Rattle.std.proofs.lemmas.List.Elements.{All-push}
@@ -233,7 +233,7 @@ module _ (log : History) (losers : List TableEntry) (count : ℕ) (at rest : Wai
       ∙ sym (owed_less log r.last appended (Undo u) (cond (is_empty below) (Finish u.tx ∷ []) [] ++ undos left' log))
       ∙ ap (owed log r.last appended) (sym undo_first) ∙ r.whole
 
-  -- where more is left
+  -- if more is left
   module _ (new : Waiting) (after : List LogRecord) (s : Stays log (record { tx = l.tx; last = lsn }) update_lsn u.prev rest new (appended ++ clr ∷ []) after) where
     met_is : below ≡ s.update_lsn ∷ (walk_from log l.tx s.update_lsn s.meets.is_update.update.prev).met
     met_is = ap (λ w. w.met) s.meets.goes_on
@@ -303,7 +303,7 @@ module _ (log : History) (losers : List TableEntry) (count : ℕ) (at rest : Wai
       met = still_met new stays_below;
     }
 
-  -- where nothing is left
+  -- if nothing is left
   module _ (new : Waiting) (after : List LogRecord) (s : Ends log (record { tx = l.tx; last = lsn }) update_lsn u.prev rest new (appended ++ clr ∷ []) after) where
     none_left : below ≡ []
     none_left = ap (λ w. w.met) s.nothing
@@ -357,7 +357,7 @@ module _ (log : History) (losers : List TableEntry) (count : ℕ) (at rest : Wai
         | inr s ↦ stays_rolling new after s
       ]
 
--- WHY IT BREAKS OFF
+-- WHY IT ENDS EARLY
 module _ (log : History) (losers : List TableEntry) (count : ℕ) (at rest : Waiting) (appended : List LogRecord) (update_lsn : ℕ) (l : Loser) (taken : Taken update_lsn l at rest) (r : RollbackInvariant log losers count at appended) where
   is_update : Waits log losers r.left r.last update_lsn l
   is_update = r.waits update_lsn l taken.there
@@ -369,7 +369,7 @@ module _ (log : History) (losers : List TableEntry) (count : ℕ) (at rest : Wai
   last_low : (t : ℕ) (p : IsWaiting at t) → last_met log losers t ≤ p.update_lsn
   last_low t p = subst (λ x. last_met log losers x ≤ p.update_lsn) p.own (last_within log losers r.left r.last p.update_lsn p.loser (r.waits p.update_lsn p.loser p.there))
 
-  -- what is met behind that update was undone
+  -- what is met after that update was undone
   behind_update : MetExist log losers count (suc update_lsn)
   behind_update n u le m =
       elim (r.met m.loser n m.met) [
@@ -400,7 +400,7 @@ module _ (log : History) (losers : List TableEntry) (count : ℕ) (at rest : Wai
   missing_page _ h = absurd h
 
   module _ (u : UpdateRecord) (there : record_at log update_lsn ≡ Some (Update u)) (exists : u.page < count) where
-    -- where the walk ends behind this update, it is the last that was met
+    -- if the walk ends after this update, it is the last that was met
     last_here : (walk_from log l.tx update_lsn u.prev).met ≡ [] → update_lsn ≤ last_met log losers l.tx
     last_here nothing =
         lowest_least update_lsn (suc (last_lsn log)) (walk_of log (entry_for l.tx losers)).met (omega (arith, update_within log l.tx update_lsn is_update.is_update))
@@ -469,7 +469,7 @@ pages_kept log l from to old new before after given pages resolved same =
     ]
 
 -- NOTHING IS LEFT
--- where no loser waits, all have ended
+-- if no loser waits, all have ended
 module _ (log : History) (losers : List TableEntry) (count : ℕ) (at : Waiting) (appended : List LogRecord) (r : RollbackInvariant log losers count at appended) (none : (n : ℕ) → at n ≡ None) where
   each_done : (t : ℕ) → IsDone log losers r.left t
   each_done t =

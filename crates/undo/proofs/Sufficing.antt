@@ -1,4 +1,4 @@
--- Where enough of a log is gathered, undo makes of what is gathered what it makes of the log.
+-- If enough of a log is gathered, undo makes of what is gathered what it makes of the log.
 use Rattle.std.proofs.Common.{ℕ, zero, suc, ◌≡◌, ◌+◌, ◌<◌, ◌≤◌, Bool, true, false, cond, eqb, ltb, ◌⊎◌, eq-eqb, List, [], ◌∷◌, ◌++◌, length, get_or, map, Option, Some, None, refl, subst, sym, ap, ap₂, ◌∙◌, inl, inr, arith}
 use mathlib.Core.Path.{fun_ext}
 use Rattle.std.specs.Prelude.{⊤, All, ◌&&◌, filter, flat_map, option_map}
@@ -36,14 +36,14 @@ use Rattle.undo.proofs.UndonePages.{map-same-at}
 use Rattle.undo.proofs.Walks.{walk_zero, walk_past, walk_stops, walk_goes_on, walk_meets, update_there}
 use Rattle.undo.proofs.Meeting.{walk_found}
 
--- what is passed over sends no walk on
+-- what is passed over sends no walk to an LSN
 passed_over : (t : ℕ) (o : Option LogRecord) → IsPassedOver o → hop_of t o ≡ None
 passed_over t None h = refl
 passed_over t (Some (Update u)) h = absurd h
 passed_over t (Some (Compensation c)) h = absurd h
 passed_over t (Some _) h = refl
 
--- a hop is where a record sends the walk on
+-- a hop is the LSN to which a record sends the walk
 hop_sends : (t next : ℕ) (o : Option LogRecord) → hop_of t o ≡ Some (hop.On next) → sends t o ≡ Some next
 hop_sends t next None h = absurd cc
 hop_sends t next (Some (Update u)) h =
@@ -57,7 +57,7 @@ hop_sends t next (Some r) h = by_sent (sent_on t r) h
     by_sent None h = absurd cc
     by_sent (Some n) h = (let i : n ≡ next = cc in ap (λ k. Some k) i)
 
--- the update that is compensated stands in a log
+-- the update that is compensated is in a log
 abbrev HasUpdate_at : History → Appended → Type 0
 HasUpdate_at log (brief.Compensation update prev) = IsUpdate (record_at log update)
 HasUpdate_at log (brief.End tx prev) = ⊤
@@ -80,7 +80,7 @@ passed_added : (chosen : ℕ → UpdateRecord → Bool) (lsn : ℕ) (r : LogReco
 passed_added chosen lsn (Update u) rest h = absurd h
 passed_added chosen lsn _ rest h = refl
 
--- at each LSN they have one record, or the first has one to pass over, and the second no update that is chosen
+-- at each LSN they have the same record, or the first has one to pass over, and the second no update that is chosen
 abbrev Agree : (ℕ → UpdateRecord → Bool) → History → History → ℕ → Type 0
 Agree chosen a b lsn = (record_at a lsn ≡ record_at b lsn) ⊎ (IsPassedOver (record_at a lsn) × ((u : UpdateRecord) → record_at b lsn ≡ Some (Update u) → chosen lsn u ≡ false))
 
@@ -111,7 +111,7 @@ same_updates chosen (a ▸ q) (b ▸ r) base last agree =
     ∙ ap (λ n. added chosen (suc n) r (updates_where chosen b)) before
     ∙ sym (one_added chosen b r)
 
--- THE EFFECTS of what is appended, on a page, whatever stands before it
+-- THE EFFECTS of what is appended, on a page, whatever comes before it
 module _ (b : ℕ) (image : Page) where
   abbrev behind : ℕ → LogRecord → Bool
   behind lsn r = ltb b lsn
@@ -140,7 +140,7 @@ same_page x y rs image last =
 
 module _ (whole some : History) (losers : List TableEntry) (are : AreGathered whole some losers) where
   -- THE WALKS
-  -- where nothing is to be found in the whole log, nothing is in what is gathered
+  -- if nothing is to be found in the whole log, nothing is in what is gathered
   none_found : (t lsn : ℕ) → hop_of t (record_at whole lsn) ≡ None → hop_of t (record_at some lsn) ≡ None
   none_found t lsn none =
       elim (are.each lsn) [
@@ -203,7 +203,7 @@ module _ (whole some : History) (losers : List TableEntry) (are : AreGathered wh
           ∙ sym (from_end whole e.tx e.undo_next))
 
   -- THE UPDATES
-  -- an update that is gathered stands in the whole log
+  -- an update that is gathered is in the whole log
   gathered_update : (lsn : ℕ) (u : UpdateRecord) → record_at some lsn ≡ Some (Update u) → record_at whole lsn ≡ Some (Update u)
   gathered_update lsn u there =
       elim (are.each lsn) [
@@ -251,7 +251,7 @@ module _ (whole some : History) (losers : List TableEntry) (are : AreGathered wh
       ∙ ap (λ (us : List (ℕ × UpdateRecord)). records_for (λ t. last_in (entry_for t losers)) (suc (last_lsn whole)) (map Finish (filter (λ t. is_empty (met_in whole t)) (map tx_in losers)) ++ flat_map (undo_of (met_in whole)) us))
       (same_updates (is_stacked (met_in whole)) some whole are.base are.last (λ lsn le. agree lsn))
 
-  -- WHY IT IS REFUSED
+  -- THE ERRORS
   met_there : (lsn : ℕ) (u : UpdateRecord) → IsMet some losers lsn u → IsMet whole losers lsn u
   met_there lsn u m = record {
     loser = m.loser;
@@ -297,7 +297,7 @@ module _ (whole some : History) (losers : List TableEntry) (are : AreGathered wh
   }
   fault_there count e h = absurd h
 
-  -- WHAT IS TOLD
+  -- THE RECORDS MEANT
   update_there_too : (a : Appended) → HasUpdate_at some a → HasUpdate_at whole a
   update_there_too (brief.Compensation update prev) h = by_record (record_at some update) refl h
     where

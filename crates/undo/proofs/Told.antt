@@ -1,4 +1,4 @@
--- Records told in brief, and the records with what they hold.
+-- Records in compact form, and the full records.
 use Rattle.std.proofs.Common.{◌≡◌, List, All, map, sym, subst, arith}
 use Rattle.std.proofs.lemmas.List.{get_or-map, length-map}
 use Rattle.std.proofs.lemmas.List.Elements.{All-map}
@@ -10,11 +10,11 @@ use Rattle.undo.specs.declared.appended.Appended.{Appended}
 use Rattle.undo.specs.Undone.{AreWritable}
 use Rattle.undo.specs.Appended.{record_of, records_of, AreFit}
 
--- what is told has a spelling
+-- what is given in compact form has an encoding
 pub told_fit : (log : LogContent) (told : List Appended) → AreFit log told → All Fits (records_of (history log) told)
 told_fit log told fit = All-map Fits (record_of (history log)) told fit
 
--- so have the records that it tells
+-- so have the full records
 pub told_writable : (log : LogContent) (told : List Appended) (records : List Record) → map content records ≡ records_of (history log) told → AreFit log told → AreWritable records
 told_writable log told records is fit = λ k d lt.
     let all : All Fits (map content records) = subst (All Fits) (sym is) (told_fit log told fit) in

@@ -1,4 +1,4 @@
--- Pages undone: one appended record more, applied to its page.
+-- Pages undone: one more appended record, applied to its page.
 use Rattle.std.proofs.Common.{ℕ, suc, zero, ◌≡◌, ◌≢◌, ◌+◌, ◌<◌, ◌≤◌, true, false, ◌&&◌, eqb, ne_eqb, eq-eqb, ltb, List, [], ◌∷◌, ◌++◌, length, get_or, set, map, None, refl, subst, sym, ap, ap₂, ◌∙◌, inl, inr, arith}
 use mathlib.Core.Path.{fun_ext}
 use Rattle.std.proofs.lemmas.Bool.{cases_eq, and_right, cond-false, lt-ltb, le-ltb}
@@ -30,7 +30,7 @@ set-mapped f g (x ∷ xs) zero y d lt others here = ap₂ (λ z zs. z ∷ zs) (s
 set-mapped f g (x ∷ xs) (suc j) y d lt others here =
     ap₂ (λ z zs. z ∷ zs) (sym (others 0 (omega arith) (λ e. omega (arith, e)))) (set-mapped f g xs j y d (omega arith) (λ k l n. others (suc k) (omega arith) (λ e. n (omega (arith, e)))) here)
 
--- a list made from a function, changed at one place, where it has that place
+-- a list made from a function, changed at one place, if it has that place
 set_tabulated : {X : Type 0} (f g : ℕ → X) (n j : ℕ) (y : X) → ((k : ℕ) → k ≢ j → g k ≡ f k) → g j ≡ y → set (map f (range_with_len 0 n)) j y ≡ map g (range_with_len 0 n)
 set_tabulated f g n j y others here =
     fill_by_all g (set (map f (range_with_len 0 n)) j y) n y (length-set (map f (range_with_len 0 n)) j y ∙ length-map-range_with_len f 0 n) at
@@ -44,7 +44,7 @@ set_tabulated f g n j y others here =
         ]
 
 -- A PAGE, BY THE WHOLE LOG
--- the effects of the records behind the first b
+-- the effects of the records after the first b
 abbrev by_log : ℕ → History → Page → Page
 by_log b log image = record {
   number = image.number;
@@ -75,7 +75,7 @@ nothing_done b log image le =
     ∙ sym (fill_by_all (λ s. get_or image.slots s None) image.slots (length image.slots) None refl (λ k l. refl)) in
     ap₂ (λ l s. record { number = image.number; lsn = l; slots = s }) (no_last b image.number image.lsn log le) slots
 
--- ONE RECORD MORE
+-- ONE MORE RECORD
 module _ (b : ℕ) (log : History) (r : LogRecord) (within : b ≤ last_lsn log) where
   behind : ltb b (suc (last_lsn log)) ≡ true
   behind = lt-ltb b (suc (last_lsn log)) (omega arith)
@@ -149,7 +149,7 @@ module _ (log : History) (appended : List LogRecord) (r : LogRecord) (given : Li
 pub end_idle : (s : PlainRecord) → Idle (End s)
 end_idle s = record { writes_none = λ p t. refl; on_none = λ p. refl }
 
--- ends alone leave all pages
+-- ends do not change any page
 pub ends_undo_nothing : (log : History) (appended : List LogRecord) (given : List Page) → AreEnds appended → given ≡ map (undone_page log appended) given
 ends_undo_nothing log appended given ends = sym (map-same-as given)
   where

@@ -1,4 +1,4 @@
--- A walk that a record sends on: what the record at the LSN says of it.
+-- A walk that a record sends to an LSN: what the record there means for it.
 use Rattle.std.proofs.Common.{ℕ, suc, ◌≡◌, ◌+◌, ◌-◌, ◌<◌, ◌≤◌, true, cond, [], Option, Some, None, refl, sym, ap, ap₂, ◌∙◌, inl, inr, arith, eq-eqb, eqb-true, ne_eqb, eqb}
 use Rattle.std.specs.Prelude.{option_map, unwrap_or}
 use Rattle.std.proofs.lemmas.Bool.{cases_Bool, cases_eq, cases_lt}
@@ -10,7 +10,7 @@ use Rattle.undo.specs.declared.walk.Hop.TheVariants as hop
 use Rattle.undo.specs.Rollback.{hop_of, walk_from, IsUpdateAt, Meets}
 
 -- WHERE A RECORD SENDS A WALK
--- what the record at an LSN says of the walk that is sent there
+-- what the record at an LSN means for the walk that is sent there
 abbrev sent_by : ℕ → History → ℕ → Option LogRecord → Walk
 sent_by t before lsn None = record { met = []; ends = lsn }
 sent_by t before lsn (Some (Update u)) = cond (eqb u.tx t) (meet lsn (hops t before u.prev)) (record { met = []; ends = lsn })
@@ -121,7 +121,7 @@ module _ (log : History) (t from lsn : ℕ) (some : lsn ≡ 0 → ⊥) (below : 
           by_sent None h = absurd (cc)
           by_sent (Some next) h = absurd (cc)
 
-  -- an update of t is met, and the walk goes on from it
+  -- an update of t is met, and the walk continues from it
   pub walk_meets : (u : IsUpdateAt log t lsn) → walk_from log t from lsn ≡ meet lsn (walk_from log t lsn u.update.prev)
   walk_meets u =
       walk_to ∙ ap (sent_by t (first (lsn - 1) log) lsn) u.found

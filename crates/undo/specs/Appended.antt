@@ -1,4 +1,4 @@
--- What undo appends, told in brief: which records are meant (own).
+-- What undo appends, in compact form: which records are meant (own).
 use Rattle.std.specs.Prelude.{◌≡◌, ℕ, List, All, Option, Some, map, ⊤}
 use Rattle.page.specs.declared.page.Page.{Page}
 use Rattle.wal.specs.Records.{LogRecord, LogContent, Update, End, CheckpointBegin, History, history, record_at}
@@ -13,13 +13,13 @@ abbrev pub IsUpdate : Option LogRecord → Type 0
 IsUpdate (Some (Update u)) = ⊤
 IsUpdate _ = ⊥
 
--- the CLR of an update whose transaction's last record is `last`; of no update there is none, and what stands here for it is
--- nothing that undo appends
+-- the CLR of an update whose transaction's last record is `last`; if there is no update there is no CLR, and the record given here is one
+-- that undo never appends
 abbrev pub clr_of : (last : ℕ) → Option LogRecord → LogRecord
 clr_of last (Some (Update u)) = record_for (λ _. last) (Undo u)
 clr_of last _ = CheckpointBegin
 
--- the record that is told
+-- the full record
 abbrev pub record_of : History → Appended → LogRecord
 record_of log (brief.Compensation update prev) = clr_of prev (record_at log update)
 record_of log (brief.End tx prev) = End (record { tx = tx; prev = prev })
@@ -27,7 +27,7 @@ record_of log (brief.End tx prev) = End (record { tx = tx; prev = prev })
 abbrev pub records_of : History → List Appended → List LogRecord
 records_of log appended = map (record_of log) appended
 
--- the update that is compensated stands in the log
+-- the update that is compensated is in the log
 abbrev pub HasUpdate : LogContent → Appended → Type 0
 HasUpdate log (brief.Compensation update prev) = IsUpdate (record_at (history log) update)
 HasUpdate log (brief.End tx prev) = ⊤
@@ -35,7 +35,7 @@ HasUpdate log (brief.End tx prev) = ⊤
 abbrev pub HaveUpdates : LogContent → List Appended → Type 0
 HaveUpdates log appended = All (HasUpdate log) appended
 
--- each has a spelling
+-- each has an encoding
 abbrev pub AreFit : LogContent → List Appended → Type 0
 AreFit log appended = All (λ a. Fits (record_of (history log) a)) appended
 
@@ -47,7 +47,7 @@ TellTail log appended = records_of (history log) appended ≡ tail_of log
 abbrev pub AreUndone : LogContent → (given : List Page) → List Appended → (pages : List Page) → Type 0
 AreUndone log given appended pages = pages ≡ map (undone_page (history log) (records_of (history log) appended)) given
 
--- THE LOSERS ARE ROLLED BACK, and this is what is told of it
+-- THE LOSERS ARE ROLLED BACK, and these are the appended records in compact form
 pub record RolledBackInBrief (log : LogContent) (tables : TablesContent) (given pages : List Page) (appended : List Appended) : Type 0 where
   pub rolled_back : RolledBack log tables given pages (records_of (history log) appended)
   pub updates : HaveUpdates log appended

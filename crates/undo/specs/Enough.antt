@@ -12,7 +12,7 @@ use Rattle.undo.specs.declared.appended.Appended.{Appended}
 use Rattle.undo.specs.Appended.{records_of, HaveUpdates, RolledBackInBrief}
 use Rattle.undo.specs.Gathered.{IsPassedOver}
 
--- where a record sends the walk of t on: an update to its PrevLSN, a CLR to its UndoNxtLSN
+-- the LSN to which a record sends the walk of t: an update to its PrevLSN, a CLR to its UndoNxtLSN
 abbrev pub sends : ℕ → Option LogRecord → Option ℕ
 sends t (Some (Update u)) = if u.tx == t then Some u.prev else None
 sends t (Some r) = sent_on t r
@@ -22,7 +22,7 @@ sends t None = None
 abbrev pub IsFound : (whole some : History) → ℕ → ℕ → Type 0
 IsFound whole some t lsn = (record_at some lsn ≡ record_at whole lsn) ⊎ (hop_of t (record_at whole lsn) ≡ None)
 
--- what is kept stands in the whole log, and so does all that the walks of the losers come to
+-- what is kept is in the whole log, and so is all that the walks of the losers come to
 pub record AreGathered (whole some : History) (losers : List TableEntry) : Type 0 where
   pub base : base_lsn some ≡ base_lsn whole
   pub last : last_lsn some ≡ last_lsn whole
@@ -30,7 +30,7 @@ pub record AreGathered (whole some : History) (losers : List TableEntry) : Type 
   pub begin : (t : ℕ) (e : TableEntry) → entry_for t losers ≡ Some e → IsFound whole some t e.undo_next
   pub go_on : (t lsn next : ℕ) (e : TableEntry) → entry_for t losers ≡ Some e → sends t (record_at some lsn) ≡ Some next → next < lsn → IsFound whole some t next
 
--- ENOUGH. What undo makes of what is gathered it makes of the whole log, and it refuses the one for a cause that the other has.
+-- ENOUGH. What undo makes of what is gathered it makes of the whole log, and an error with the one is an error with the other.
 pub record Suffices (whole some : LogContent) (tables : TablesContent) : Type 0 where
   pub rolled_back : (given pages : List Page) (appended : List Appended) → RolledBackInBrief some tables given pages appended → RolledBackInBrief whole tables given pages appended
   pub told : (appended : List Appended) → HaveUpdates some appended → records_of (history some) appended ≡ records_of (history whole) appended

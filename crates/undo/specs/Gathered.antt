@@ -1,4 +1,4 @@
--- A log of which only those records are kept that undo looks at (own).
+-- A log of which only the records are kept that undo looks at (own).
 use Rattle.std.specs.Prelude.{◌≡◌, ⊤, ℕ, suc, ◌+◌, ◌*◌, ◌<◌, ◌≤◌, ◌^◌, List, All, Option, Some, map, length, ◌==◌, option_map, unwrap_or}
 use Rattle.std.specs.List.{range_with_len, slice_get}
 use Rattle.std.specs.Map.{lookup}
@@ -8,7 +8,7 @@ use Rattle.wal.specs.Records.{LogRecord, LogContent, Update, Compensation, Check
 use Rattle.wal.specs.Spelling.{Fits}
 use Rattle.wal.specs.declared.sizes.TheConstants.{HEADER_BYTES, LARGEST_BASE, SMALLEST_FRAME}
 
--- an update or a CLR, which undo looks at; a checkpoint begin, over which it passes, stands for any other record
+-- an update or a CLR, which undo looks at; any other record is replaced by a checkpoint begin, over which undo passes
 abbrev pub link_in : LogRecord → LogRecord
 link_in (Update u) = Update u
 link_in (Compensation c) = Compensation c
@@ -22,19 +22,19 @@ place_of lsn places = lookup (λ n. lsn == n) places
 abbrev pub kept_at : List (ℕ × ℕ) → List LogRecord → ℕ → Option LogRecord
 kept_at places links lsn = place_of lsn places >>= λ place. option_map link_in (slice_get links place)
 
--- A checkpoint begin stands for each record that is not kept.
+-- Each record that is not kept is replaced by a checkpoint begin.
 abbrev pub gathered_log : (base count : ℕ) → List (ℕ × ℕ) → List LogRecord → LogContent
 gathered_log base count places links =
     record { begins = Version2 base; records = map (λ n. unwrap_or (kept_at places links n) CheckpointBegin) (range_with_len (suc base) count) }
 
--- there may be such a log; each place is one of a link, and each link has a spelling
+-- there may be such a log; each place is one of a link, and each link has an encoding
 pub record IsGathered (base count : ℕ) (places : List (ℕ × ℕ)) (links : List LogRecord) : Type 0 where
   pub starts : base ≤ LARGEST_BASE
   pub room : HEADER_BYTES + SMALLEST_FRAME * count < 2 ^ 63
   pub placed : (lsn place : ℕ) → place_of lsn places ≡ Some place → place < length links
   pub fits : All Fits links
 
--- undo passes over what stands there
+-- undo passes over what is there
 abbrev pub IsPassedOver : Option LogRecord → Type 0
 IsPassedOver (Some (Update u)) = ⊥
 IsPassedOver (Some (Compensation c)) = ⊥

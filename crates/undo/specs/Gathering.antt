@@ -8,15 +8,15 @@ use Rattle.undo.specs.Gathered.{IsPassedOver}
 use Rattle.undo.specs.Wants.{wants_in}
 use Rattle.undo.specs.declared.gathering.Gathering.{Gathering}
 
--- the walk of a transaction goes on at this LSN
+-- the walk of a transaction continues at this LSN
 abbrev pub IsWanted : List Want → (t lsn : ℕ) → Type 0
 IsWanted waiting t lsn = Contains waiting (record { lsn = lsn; tx = t })
 
--- one more goes on at an LSN, if that is one below the record that sends it there
+-- one more continues at an LSN, if that is below the record that sends it there
 abbrev pub MayWant : (t from lsn : ℕ) → (old new : List Want) → Type 0
 MayWant t from lsn old new = (new ≡ old × ((lsn < from → ⊥) ⊎ (lsn ≡ 0))) ⊎ IsPermutation (record { lsn = lsn; tx = t } ∷ old) new
 
--- What is kept stands in the whole log, and all that the walks of the losers come to is found, or wanted.
+-- What is kept is in the whole log, and all that the walks of the losers come to is found, or wanted.
 pub record AreGatheredSoFar (whole some : History) (losers : List TableEntry) (waiting : List Want) : Type 0 where
   pub base : base_lsn some ≡ base_lsn whole
   pub last : last_lsn some ≡ last_lsn whole
@@ -25,6 +25,6 @@ pub record AreGatheredSoFar (whole some : History) (losers : List TableEntry) (w
   pub go_on : (t lsn next : ℕ) (e : TableEntry) → entry_for t losers ≡ Some e → sends t (record_at some lsn) ≡ Some next → next < lsn
       → IsFound whole some t next ⊎ IsWanted waiting t next
 
--- The same of a gathering under way.
+-- The same for a gathering in progress.
 abbrev pub IsGathering : History → List TableEntry → Gathering → Type 0
 IsGathering whole losers g = AreGatheredSoFar whole (history g.gathered) losers (wants_in g.wants)

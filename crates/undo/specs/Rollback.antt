@@ -1,4 +1,4 @@
--- A rollback under way: where each loser goes on, and what is left to be undone (own).
+-- A rollback in progress: where each loser continues, and what is left to be undone (own).
 use Rattle.std.specs.Prelude.{◌≡◌, ◌≢◌, ℕ, suc, ◌+◌, ◌-◌, ◌<◌, ◌≤◌, ◌⊎◌, List, All, [], ◌∷◌, ◌++◌, length, flat_map, Option, Some, None, option_map, MatchOption, true, ◌==◌, if◌then◌else◌, ⊤}
 use Rattle.page.specs.declared.page.Page.{Page}
 use Rattle.page.specs.Store.{AreNumbered}
@@ -21,7 +21,7 @@ use Rattle.undo.specs.declared.turns.Turns.{Turns}
 use Rattle.undo.specs.Turns.{Waiting, Taken, turn_at}
 
 -- A WALK
--- where a transaction is sent by the record at an LSN, which must be an update or a CLR of it
+-- the place to which a transaction is sent by the record at an LSN, which must be an update or a CLR of it
 abbrev pub hop_of : ℕ → Option LogRecord → Option Hop
 hop_of t (Some (Update u)) = if u.tx == t then Some hop.Update else None
 hop_of t (Some r) = option_map hop.On (sent_on t r)
@@ -31,7 +31,7 @@ hop_of t None = None
 abbrev pub walk_from : History → ℕ → ℕ → ℕ → Walk
 walk_from log t from lsn = hops t (first (from - 1) log) lsn
 
--- an update of t stands there
+-- an update of t is there
 pub record IsUpdateAt (log : History) (t lsn : ℕ) : Type 0 where
   pub update : UpdateRecord
   pub found : record_at log lsn ≡ Some (Update update)
@@ -50,7 +50,7 @@ MeetsNothing log t from lsn = walk_from log t from lsn ≡ record { met = []; en
 abbrev pub FirstMet : History → ℕ → ℕ → ℕ → Option ℕ → Type 0
 FirstMet log t from lsn next = MatchOption next (MeetsNothing log t from lsn) (Meets log t from lsn)
 
--- why a walk breaks off before it meets an update, memory aside
+-- the error of a walk that ends before it meets an update, memory aside
 abbrev pub WalkFault : Walk → Fault → Type 0
 WalkFault walk NoResource = ⊤
 WalkFault walk (BrokenChain lsn) = (lsn ≢ 0) × (walk ≡ record { met = []; ends = lsn })
@@ -85,9 +85,9 @@ abbrev pub AreBelow : ℕ → Waiting → Type 0
 AreBelow most at = (n : ℕ) (l : Loser) → at n ≡ Some l → n < most
 
 -- WHAT IS LEFT
--- `left` says which updates each transaction is still to undo, `last` which record is its last one
+-- `left` gives the updates that each transaction still has to undo, `last` gives its last record
 
--- a loser waits at the newest update that it is to undo; it meets what its entry of the table sends it to
+-- a loser waits at the newest update that it has to undo; it meets what its entry of the table sends it to
 pub record Waits (log : History) (losers : List TableEntry) (left : ℕ → List ℕ) (last : ℕ → ℕ) (update_lsn : ℕ) (l : Loser) : Type 0 where
   pub is_update : IsUpdateAt log l.tx update_lsn
   pub left_is : left l.tx ≡ update_lsn ∷ (walk_from log l.tx update_lsn is_update.update.prev).met
@@ -110,7 +110,7 @@ pub record IsWaiting (at : Waiting) (t : ℕ) : Type 0 where
 abbrev pub undos : (ℕ → List ℕ) → History → List Action
 undos left log = flat_map (undo_of left) (updates_where (is_stacked left) log)
 
--- all that wait stand below this LSN, and the update there is on a page below the count
+-- all that wait are below this LSN, and the update there is on a page below the count
 pub record IsPassed (log : History) (count : ℕ) (at : Waiting) (lsn : ℕ) : Type 0 where
   pub above : AreBelow lsn at
   pub exists : (u : UpdateRecord) → record_at log lsn ≡ Some (Update u) → u.page < count
@@ -125,19 +125,19 @@ pub record RollbackInvariant (log : History) (losers : List TableEntry) (count :
   pub met : (t n : ℕ) → is_among n (walk_of log (entry_for t losers)).met ≡ true → (is_among n (left t) ≡ true) ⊎ IsPassed log count at n
 
 -- ONE UPDATE
--- its CLR is appended, and the walk goes on to its PrevLSN
+-- its CLR is appended, and the walk continues to its PrevLSN
 pub record Compensated (u : UpdateRecord) (last count prev : ℕ) (before after : List LogRecord) : Type 0 where
   pub exists : u.page < count
   pub goes_on : prev ≡ u.prev
   pub appended : after ≡ before ++ record_for (λ _. last) (Undo u) ∷ []
 
--- the same of the update at an LSN, with the CLR told in brief
+-- the same for the update at an LSN, with the CLR in compact form
 abbrev pub Undoes : LogContent → (update_lsn last : ℕ) → (pages : List Page) → (before after : List Appended) → (prev : ℕ) → Type 0
 Undoes log update_lsn last pages before after prev =
     (u : UpdateRecord) → record_at (history log) update_lsn ≡ Some (Update u)
     → Compensated u last (length pages) prev (records_of (history log) before) (records_of (history log) after)
 
--- why it is not undone, memory aside: its page is missing
+-- the error if it is not undone, memory aside: its page is missing
 abbrev pub CompensationFault : History → ℕ → ℕ → Fault → Type 0
 CompensationFault log update_lsn count NoResource = ⊤
 CompensationFault log update_lsn count (NoSuchPage lsn) = (lsn ≡ update_lsn) × ((u : UpdateRecord) → record_at log update_lsn ≡ Some (Update u) → count ≤ u.page)
@@ -147,7 +147,7 @@ CompensationFault log update_lsn count e = ⊥
 abbrev pub KeepsUndone : LogContent → (before : List Appended) → (old : List Page) → (after : List Appended) → (new : List Page) → Type 0
 KeepsUndone log before old after new = (given : List Page) → AreNumbered given → AreUndone log given before old → AreUndone log given after new
 
--- A ROLLBACK UNDER WAY, as the program has it
+-- A ROLLBACK IN PROGRESS, as the program has it
 -- the loser that waits at an LSN
 abbrev pub loser_at : Rollback → Waiting
 loser_at r = turn_at r.waiting
@@ -156,14 +156,14 @@ loser_at r = turn_at r.waiting
 abbrev pub AreUpdates : LogContent → Rollback → Type 0
 AreUpdates log r = (n : ℕ) (l : Loser) → loser_at r n ≡ Some l → IsUpdateAt (history log) l.tx n
 
--- a loser is resolved; what is appended still has its updates, and a spelling
+-- a loser is resolved; what is appended still has its updates, and an encoding
 pub record Resolves (log : LogContent) (l : Loser) (from lsn : ℕ) (old new : Rollback) : Type 0 where
   pub resolved : Resolved (history log) l from lsn (loser_at old) (loser_at new) (records_of (history log) old.appended.items) (records_of (history log) new.appended.items)
   pub updates : HaveUpdates log old.appended.items → HaveUpdates log new.appended.items
   pub writable : 0 < l.tx → AreFit log old.appended.items → AreFit log new.appended.items
 
--- the losers of the tables are being rolled back on pages that were the given ones: what is left waits, and the pages have the
--- effects of what is appended
+-- the losers of the tables are being rolled back on pages that were the given ones: what is left waits, and the pages have the effects of
+-- what is appended
 pub record IsRolling (log : LogContent) (tables : TablesContent) (given : List Page) (r : Rollback) (pages : List Page) : Type 0 where
   pub numbered : AreNumbered given
   pub left : RollbackInvariant (history log) (losers_in tables) (length given) (loser_at r) (records_of (history log) r.appended.items)
@@ -192,7 +192,7 @@ abbrev pub UndoesAll : LogContent → (old : Rollback) → (before : List Page) 
 UndoesAll log old before new after =
     (tables : TablesContent) (given : List Page) → IsRolling log tables given old before → RolledBackInBrief log tables given after new.appended.items
 
--- why the one cannot be done, and why all cannot
+-- why the one cannot be undone, and why all cannot
 abbrev pub StopsUndo : LogContent → ℕ → Loser → Rollback → List Page → Fault → Type 0
 StopsUndo log update_lsn l r pages e =
     (tables : TablesContent) (given : List Page) → IsTaken log tables given update_lsn l r pages → UndoFault (history log) (losers_in tables) (length given) e

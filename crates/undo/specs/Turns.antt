@@ -1,4 +1,4 @@
--- Who waits, and for which update (own).
+-- The losers that wait, and for which update (own).
 use Rattle.std.specs.Prelude.{◌≡◌, ◌≢◌, ℕ, ◌≤◌, List, map, Option, Some, None, ◌==◌}
 use Rattle.std.specs.Map.{lookup}
 use Rattle.std.specs.BinaryHeap.{heap_items}

@@ -1,4 +1,4 @@
--- What undo makes of any log, tables and pages, and why it is refused. ARIES, section 6.3 (undo pass).
+-- What undo makes of any log, tables and pages, and its errors. ARIES, section 6.3 (undo pass).
 use Rattle.std.specs.Prelude.{◌≡◌, ℕ, suc, ◌<◌, ◌≤◌, ◌⊎◌, min, [], ◌∷◌, List, All, Some, None, true, length, map, nat_lt, ⊤}
 use Rattle.std.specs.List.{range_with_len}
 use Rattle.page.specs.Image.{Image}
@@ -27,8 +27,8 @@ NoBadHop log losers = (t : ℕ) → (walk_of log (entry_for t losers)).ends ≡ 
 abbrev pub slots_of : Cells → Page → List Image
 slots_of state image = map (λ slot. state image.number slot) (range_with_len 0 (length image.slots))
 
--- UNDONE PAGE. An image with the effects of the records behind the log, in order, and as PageLSN the last of them on the page,
--- else the old one.
+-- UNDONE PAGE. An image with the effects of the records after the log, in order; its PageLSN is the LSN of the last of them on the page,
+-- otherwise the old one.
 abbrev pub undone_page : History → List LogRecord → Page → Page
 undone_page log appended image = record {
   number = image.number;
@@ -36,8 +36,8 @@ undone_page log appended image = record {
   slots = slots_of (effects (λ lsn _. nat_lt (last_lsn log) lsn) (held_by image) (log ▸▸ appended)) image;
 }
 
--- WHICH FAULT COMES FIRST. The losers begin to walk in rising number; then the updates that they have come to are undone, the
--- newest of all losers first, each before its loser walks on from it.
+-- WHICH FAULT COMES FIRST. The losers begin to walk in ascending order of number; then the updates that they have come to are undone, the
+-- newest of all losers first, each before its loser continues from it.
 
 -- an update at this LSN, which the hops of a loser meet
 pub record IsMet (log : History) (losers : List TableEntry) (lsn : ℕ) (update : UpdateRecord) : Type 0 where
@@ -45,12 +45,12 @@ pub record IsMet (log : History) (losers : List TableEntry) (lsn : ℕ) (update 
   pub met : is_among lsn (walk_of log (entry_for loser losers)).met ≡ true
   pub found : record_at log lsn ≡ Some (Update update)
 
--- each update met at this LSN or behind it is on a page below the count
+-- each update met at this LSN or after it is on a page below the count
 abbrev pub MetExist : History → List TableEntry → (count from : ℕ) → Type 0
 MetExist log losers count from = (lsn : ℕ) (update : UpdateRecord) → from ≤ lsn → IsMet log losers lsn update → update.page < count
 
--- ROLLED BACK. The losers of the tables are undone on these pages: behind the log come the CLRs of their updates, the newest first,
--- and their ends; the pages have the effects of these. No hop by UndoNxtLSN and PrevLSN is bad, and no page is missing.
+-- ROLLED BACK. The losers of the tables are undone on these pages: the CLRs of their updates, the newest first, and their ends come after
+-- the log; the pages have the effects of these. No hop by UndoNxtLSN and PrevLSN is bad, and no page is missing.
 pub record RolledBack (log : LogContent) (tables : TablesContent) (given pages : List Page) (appended : List LogRecord) : Type 0 where
   pub appended_are : appended ≡ undone_by (history log) (losers_in tables)
   pub pages_are : pages ≡ map (undone_page (history log) appended) given
@@ -70,17 +70,17 @@ pub record IsLawfulCrash (log : LogContent) (tables : TablesContent) (pages : Li
 abbrev pub EndsBadly : History → List TableEntry → ℕ → Type 0
 EndsBadly log losers t = (walk_of log (entry_for t losers)).ends ≡ 0 → ⊥
 
--- the lowest of these LSNs, and of the one behind the log
+-- the lowest of these LSNs and of the LSN after the log
 abbrev pub lowest : ℕ → List ℕ → ℕ
 lowest behind [] = behind
 lowest behind (n ∷ ns) = min n (lowest behind ns)
 
--- the last update that the walk of t meets, or the LSN behind the log where it meets none
+-- the last update that the walk of t meets, or the LSN after the log if it meets none
 abbrev pub last_met : History → List TableEntry → ℕ → ℕ
 last_met log losers t = lowest (suc (last_lsn log)) (walk_of log (entry_for t losers)).met
 
--- the update at this LSN is met, and on a page past the count; those met behind it are not, and no walk has ended badly before
--- it is undone
+-- the update at this LSN is met, and on a page past the count; those met at higher LSNs are not, and no walk has ended badly before it is
+-- undone
 pub record MeetsMissing (log : History) (losers : List TableEntry) (count lsn : ℕ) : Type 0 where
   pub update : UpdateRecord
   pub is_met : IsMet log losers lsn update
@@ -88,8 +88,8 @@ pub record MeetsMissing (log : History) (losers : List TableEntry) (count lsn : 
   pub behind : MetExist log losers count (suc lsn)
   pub none_broken : (t : ℕ) → EndsBadly log losers t → last_met log losers t ≤ lsn
 
--- the walk of a loser ends at a bad hop to this LSN; what is met before it is on pages below the count, and no other walk has
--- ended badly before: of those that meet nothing the smallest number does so first
+-- the walk of a loser ends at a bad hop to this LSN; what is met before it is on pages below the count, and no other walk has ended badly
+-- before: of those that meet nothing, the one with the smallest number does so first
 pub record Breaks (log : History) (losers : List TableEntry) (count lsn : ℕ) : Type 0 where
   pub loser : ℕ
   pub ends : (walk_of log (entry_for loser losers)).ends ≡ lsn
@@ -98,14 +98,14 @@ pub record Breaks (log : History) (losers : List TableEntry) (count lsn : ℕ) :
   pub first : (t : ℕ) → EndsBadly log losers t
       → (last_met log losers t < last_met log losers loser) ⊎ ((last_met log losers t ≡ last_met log losers loser) × (loser ≤ t))
 
--- why undo is refused, memory aside
+-- the error of undo, memory aside
 abbrev pub UndoFault : History → List TableEntry → ℕ → Fault → Type 0
 UndoFault log losers count NoResource = ⊤
 UndoFault log losers count (NoSuchPage lsn) = MeetsMissing log losers count lsn
 UndoFault log losers count (BrokenChain lsn) = Breaks log losers count lsn
 UndoFault log losers count e = ⊥
 
--- ONE CAUSE. No undo is refused for two, and none stands beside an answer.
+-- ONE ERROR. Undo has at most one error, and none if it succeeds.
 abbrev pub OneUndoFault : Type 0
 OneUndoFault = (log : History) (losers : List TableEntry) (count : ℕ) → HasOneCause (UndoFault log losers count)
 
@@ -113,10 +113,10 @@ abbrev pub NoFaultOfUndo : Type 0
 NoFaultOfUndo = (log : History) (losers : List TableEntry) (count : ℕ) → NoBadHop log losers → MetExist log losers count 0 → HasNoCause (UndoFault log losers count)
 
 -- WHAT CAN BE WRITTEN
--- no loser has the number 0, which is no transaction's (own)
+-- no loser has the number 0, which no transaction has (own)
 abbrev pub HasNoTransaction0 : TablesContent → Type 0
 HasNoTransaction0 tables = entry_for 0 (losers_in tables) ≡ None
 
--- each of these records has a spelling
+-- each of these records has an encoding
 abbrev pub AreWritable : List Record → Type 0
 AreWritable records = All (λ r. Fits (content r)) records

@@ -1,4 +1,4 @@
--- Where transactions go on that are rolled back (own).
+-- The LSNs at which the transactions that are rolled back continue (own).
 use Rattle.std.specs.Prelude.{ℕ, ◌≤◌, All, List}
 use Rattle.std.specs.BinaryHeap.{heap_items}
 use Rattle.undo.specs.declared.want.Want.{Want}
@@ -8,6 +8,6 @@ use Rattle.undo.specs.declared.want.Wants.{Wants}
 abbrev pub wants_in : Wants → List Want
 wants_in wants = heap_items wants.heap
 
--- none goes on after this LSN
+-- none continues after this LSN
 abbrev pub AreUpTo : (lsn : ℕ) → List Want → Type 0
 AreUpTo lsn wants = All (λ want. want.lsn ≤ lsn) wants

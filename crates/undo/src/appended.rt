@@ -1,4 +1,4 @@
-//! What undo appends, told in brief: a CLR by the LSN of the update that it compensates.
+//! What undo appends, in compact form: a CLR is given by the LSN of the update that it compensates.
 
 ghost use Rattle.std.specs.Prelude.{◌≡◌, ℕ, length, map, IfOk, IsOkUnless};
 ghost use Rattle.page.specs.declared.fault.Fault.TheVariants.{NoResource};
@@ -12,8 +12,9 @@ use page::Fault;
 use std::alloc::Global;
 use wal::{Record, RecordView, value_of};
 
-/// A record that undo appends, told in brief: what else a CLR holds stands in the log, in the update
-/// that it compensates. It takes 24 bytes, of which there may be many; a [`Record`] has more.
+/// A record that undo appends, in compact form: what else a CLR holds is in the log, in the update
+/// that it compensates. It takes 24 bytes, since there may be many of them; a [`Record`] takes
+/// more.
 #[derive(Clone, Copy, Debug, PartialEq, Eq)]
 pub enum Appended {
     /// The CLR of the update at the LSN `update`. `prev` is the LSN of the transaction's previous
@@ -23,7 +24,7 @@ pub enum Appended {
     End { tx: u32, prev: u64 },
 }
 
-/// How many bytes the frame takes of the record that is told.
+/// How many bytes the frame of the full record takes.
 #[inline]
 pub fn frame_bytes_of(log: &Looked, appended: Appended) -> u64
     requires told { HasUpdate log.now appended }
@@ -59,7 +60,7 @@ pub fn frame_bytes_of(log: &Looked, appended: Appended) -> u64
     }
 }
 
-/// The record that is told, with what it holds.
+/// The full record, with what it holds.
 pub fn record_of(log: &Looked, appended: Appended) -> Record
     requires { HasUpdate log.now appended }
     ensures { content result ≡ record_of (history log.now) appended }
@@ -92,8 +93,8 @@ pub fn record_of(log: &Looked, appended: Appended) -> Record
     }
 }
 
-/// The records that are told, with what they hold. The only error is [`Fault::NoResource`], where
-/// memory was refused.
+/// The full records, with what they hold. The only error is [`Fault::NoResource`], if memory was
+/// refused.
 pub fn records_of(alloc: Global, log: &Looked, appended: &[Appended]) -> Result<Vec<Record>, Fault>
     requires { HaveUpdates log.now appended.now }
     ensures ok { IfOk result (λ x. map content x.items

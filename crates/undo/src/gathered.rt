@@ -1,4 +1,4 @@
-//! A log of which only those records are kept that undo looks at.
+//! A log of which only the records are kept that undo looks at.
 
 ghost use Rattle.std.specs.Prelude.{◌≡◌, ◌+◌, ◌*◌, ◌-◌, ◌<◌, ◌≤◌, ◌^◌, length, option_map, ℕ, Some, None, OnOk, IfSome, if◌then◌else◌, ◌==◌, IsOkUnless, IsTrue, ◌↔◌};
 ghost use Rattle.page.specs.declared.fault.Fault.TheVariants.{NoResource};
@@ -25,7 +25,7 @@ fn bytes_of(value: &Option<Value>) -> Option<&[u8]>
     }
 }
 
-/// An update or a CLR as a log shows it. A checkpoint begin stands for any other record.
+/// An update or a CLR as a log shows it. A checkpoint begin is shown for any other record.
 #[inline(always)]
 fn view_of(kept: &Record) -> RecordView<'_>
     ensures { shown result ≡ link_in (content kept.now) }
@@ -71,8 +71,8 @@ fn view_of(kept: &Record) -> RecordView<'_>
 }
 
 /// The records of a log that were gathered: those in the chains of the transactions that are rolled
-/// back. Contracts see a log of as many records as the whole one, in which a checkpoint begin stands
-/// for each record that was not gathered: undo passes over it.
+/// back. Contracts see a log with as many records as the whole one. It has a checkpoint begin
+/// instead of each record that was not gathered: undo passes over it.
 #[derive(Drop)]
 pub struct Gathered {
     base: u64,
@@ -95,7 +95,7 @@ impl Model for Gathered {
 }
 
 impl Gathered {
-    /// No record yet of a log that begins after the LSN `base` and has `count` records.
+    /// No records yet of a log that begins after the LSN `base` and has `count` records.
     pub fn none(alloc: Global, base: u64, count: u64) -> Gathered
         requires low { base ≤ LARGEST_BASE }
         requires room { HEADER_BYTES + SMALLEST_FRAME * count < 2 ^ 63 }
@@ -111,8 +111,8 @@ impl Gathered {
         }
     }
 
-    /// Keeps an update or a CLR, which stands at this LSN of the log, in place of one that was kept
-    /// there before. Any other record is as good as none.
+    /// Keeps an update or a CLR, which is at this LSN of the log. It replaces one that was kept
+    /// there before. Any other record has no effect.
     ///
     /// The only error is `NoResource`, if memory was refused; then nothing changes.
     pub fn keep(&mut self, lsn: u64, link: Record) -> Result<(), Fault>
@@ -150,7 +150,7 @@ impl Gathered {
         self.count
     }
 
-    /// The LSN of a record that is to come after the last one.
+    /// The LSN of the record that would follow the last one.
     pub fn next_lsn(&self) -> u64
         ensures next { result ≡ last_lsn (history self.now) + 1 }
         ensures low { base_lsn (history self.now) ≤ LARGEST_BASE }
@@ -159,9 +159,10 @@ impl Gathered {
         self.base + 1 + self.count
     }
 
-    /// The record at an LSN, None up to the base LSN and past the end. For one that was not gathered a
-    /// checkpoint begin stands.
-    // Inlined with what it calls, so that a caller which looks at a few fields of a view makes no others.
+    /// The record at an LSN. `None` if the LSN is not above the base LSN, or is above the last one.
+    /// If the record was not gathered, it is a checkpoint begin.
+    // Inlined with what it calls, so that a caller that looks at a few fields of a view makes no
+    // others.
     #[inline(always)]
     pub fn get(&self, lsn: u64) -> Option<RecordView<'_>>
         ensures found { option_map shown result ≡ record_at (history self.now) lsn }

@@ -21,16 +21,16 @@ use std::alloc::Global;
 use tables::Tables;
 use wal::{Log, RecordView};
 
-/// What undo looks at of a log that is read in pieces, from its end to its beginning: the records that
-/// are gathered, and where the transactions go on that are rolled back.
+/// What undo looks at in a log that is read in pieces, from its end to its beginning: the records
+/// that are gathered, and the LSNs at which the transactions that are rolled back continue.
 #[derive(Drop)]
 pub struct Gathering {
     pub gathered: Gathered,
     pub wants: Wants,
 }
 
-/// Where a record sends the walk of a transaction on: an update of it to its PrevLSN, a CLR of it to its
-/// UndoNxtLSN. None if it is neither.
+/// The LSN to which a record sends the walk of a transaction: an update of it to its PrevLSN, a CLR
+/// of it to its UndoNxtLSN. `None` if it is neither.
 fn next_of(view: &RecordView, tx: u32) -> Option<u64>
     ensures { result ≡ sends tx (Some (shown view.now)) }
 {
@@ -55,8 +55,8 @@ fn next_of(view: &RecordView, tx: u32) -> Option<u64>
 }
 
 impl Gathering {
-    /// Nothing is gathered yet of a log that begins after the LSN `base` and has `count` records: the
-    /// losers of its tables go on at their UndoNxtLSNs.
+    /// Nothing is gathered yet of a log that begins after the LSN `base` and has `count` records.
+    /// The losers of its tables continue at their UndoNxtLSNs.
     ///
     /// The only error is `NoResource`, if memory was refused.
     pub fn begin(alloc: Global, base: u64, count: u64, tables: &Tables) -> Result<Gathering, Fault>
@@ -90,7 +90,8 @@ impl Gathering {
         self.gathered
     }
 
-    /// The highest LSN at which a transaction goes on; 0 if none does. No record after it is looked at.
+    /// The highest LSN at which a transaction continues; 0 if none does. No record after it is
+    /// looked at.
     pub fn upto(&self) -> u64
         ensures up_to { AreUpTo result (wants_in self.now.wants) }
         ensures least { (n : ℕ) → AreUpTo n (wants_in self.now.wants) → result ≤ n }
@@ -98,7 +99,7 @@ impl Gathering {
         self.wants.highest()
     }
 
-    /// A transaction goes on at an LSN, if that is below the record that sends it there.
+    /// Lets a transaction continue at an LSN, if that is below the record that sends it there.
     fn go_on(&mut self, tx: u32, from: u64, lsn: u64) -> Result<(), Fault>
         ensures same { self.new.gathered ≡ self.old.gathered }
         ensures wants { OnOk result (MayWant tx from lsn (wants_in self.old.wants)
@@ -113,8 +114,8 @@ impl Gathering {
         Ok(())
     }
 
-    /// Keeps the record where a transaction goes on, if it is an update or a CLR of it, and lets the
-    /// transaction go on from there. The only error is `NoResource`.
+    /// Keeps the record at which a transaction continues, if it is an update or a CLR of the
+    /// transaction, and lets the transaction continue from there. The only error is `NoResource`.
     fn gather_at(&mut self, alloc: Global, piece: &Log, want: Want) -> Result<(), Fault>
         ensures gathered { OnOk result ((whole : History) (losers : List TableEntry)
             → record_at (history piece.now) want.lsn ≡ record_at whole want.lsn
@@ -138,10 +139,12 @@ impl Gathering {
         self.go_on(want.tx, want.lsn, next)
     }
 
-    /// Gathers what is looked at in a piece, up to whose last LSN all transactions go on: after it they go
-    /// on before the piece. A piece that ends before the highest LSN where one goes on is not the next.
+    /// Gathers what undo looks at in a piece. Before the call all transactions continue at or below
+    /// the last LSN of the piece; after it they continue before the piece. A piece that ends before
+    /// the highest LSN at which a transaction continues is not the next piece.
     ///
-    /// The only error is `NoResource`, if memory was refused. What is gathered is then good for nothing.
+    /// The only error is `NoResource`, if memory was refused. What is gathered must then not be
+    /// used.
     pub fn take(&mut self, alloc: Global, piece: &Log) -> Result<(), Fault>
         ensures gathered { OnOk result ((whole : History) (losers : List TableEntry)
             → IsPieceOf whole (history piece.now)
@@ -158,7 +161,7 @@ impl Gathering {
             };
             self.gather_at(alloc, piece, want)?;
         }
-        // No log has so many records.
+        // No log has this many records.
         Err(Fault::NoResource)
     }
 }

@@ -1,22 +1,22 @@
-//! Laws of undo. Each function is its law: what it ensures holds of the definitions alone.
+//! Laws of undo. Each function is a law: what it ensures follows from the definitions only.
 
 ghost use Rattle.undo.specs.Enough.{GatheredSuffices};
 ghost use Rattle.undo.specs.Undone.{OneUndoFault, NoFaultOfUndo};
 
-/// No undo is refused for two causes, want of memory aside: the fault is the first that is met, the
-/// losers resolved in rising number, then the newest update first, its page before the walk goes on
-/// from it.
+/// Undo has at most one error, besides a lack of memory: the first one in this order. The losers
+/// are resolved in ascending order of number; then the newest update comes first, and its page
+/// comes before the walk from it.
 pub fn one_undo_fault()
     ensures { OneUndoFault }
 {}
 
-/// Where undo answers, no cause of a refusal stands.
+/// If undo succeeds, no error condition holds.
 pub fn no_fault_of_undo()
     ensures { NoFaultOfUndo }
 {}
 
-/// If what is gathered of a log has all that the walks of the losers come to, undo makes of it what it
-/// makes of the whole log, and is refused for a cause that the whole log has.
+/// If what is gathered of a log has all that the walks of the losers come to, undo makes of it what
+/// it makes of the whole log, and any error holds for the whole log too.
 pub fn gathered_suffices()
     ensures { GatheredSuffices }
 {}

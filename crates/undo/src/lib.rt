@@ -1,5 +1,5 @@
-//! Undo: the updates of the transactions that have not finished are taken back, the newest first,
-//! under compensation records.
+//! Undo: the updates of the transactions that have not finished are undone, the newest first, with
+//! compensation records.
 #![tactic(auto)]
 
 mod appended;

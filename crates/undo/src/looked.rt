@@ -1,4 +1,4 @@
-//! A log that undo looks at by LSN: all of its records in memory, or those alone that were gathered.
+//! A log that undo looks at by LSN: all of its records in memory, or only those that were gathered.
 
 ghost use Rattle.std.specs.Prelude.{◌≡◌, ◌+◌, ◌*◌, ◌<◌, ◌≤◌, ◌^◌, length, option_map, IfSome};
 ghost use Rattle.wal.specs.Content.{shown};
@@ -46,7 +46,7 @@ impl<'a> Looked<'a> {
         }
     }
 
-    /// The LSN of a record that is to come after the last one. There is room for many LSNs more, as
+    /// The LSN of the record that would follow the last one. There is room for many more LSNs, as
     /// [`Log::next_lsn`](wal::Log::next_lsn) says.
     pub fn next_lsn(&self) -> u64
         ensures next { result ≡ last_lsn (history self.now) + 1 }
@@ -59,7 +59,8 @@ impl<'a> Looked<'a> {
         }
     }
 
-    /// The record at an LSN, None up to the base LSN and past the end. It takes no memory.
+    /// The record at an LSN. `None` if the LSN is not above the base LSN, or is above the last one.
+    /// It takes no memory.
     #[inline(always)]
     pub fn get(&self, lsn: u64) -> Option<RecordView<'a>>
         ensures found { option_map shown result ≡ record_at (history self.now) lsn }

@@ -22,11 +22,11 @@ use wal::{Entry, State};
 pub struct Loser {
     /// Its number.
     pub tx: u32,
-    /// The LSN of its last record, 0 for none.
+    /// The LSN of its last record, 0 if there is none.
     pub last: u64,
 }
 
-/// A rollback under way.
+/// A rollback in progress.
 #[derive(Drop)]
 pub struct Rollback {
     /// The losers that wait, by the LSNs of the updates that they undo next.
@@ -35,7 +35,7 @@ pub struct Rollback {
     pub appended: Vec<Appended>,
 }
 
-/// Whether the transaction of an entry is rolled back: not where it is in doubt.
+/// Whether the transaction of an entry is rolled back: it is unless it is in doubt.
 pub fn is_lost(entry: Entry) -> bool
     ensures { (tx : ℕ) → result ≡ is_lost (entry_of (tx, entry)) }
 {
@@ -47,7 +47,7 @@ pub fn is_lost(entry: Entry) -> bool
 }
 
 impl Rollback {
-    /// Resolves the losers of the tables, in rising number, each from its UndoNxtLSN.
+    /// Resolves the losers of the tables, in ascending order of number, each from its UndoNxtLSN.
     pub fn of_losers(alloc: Global, log: &Looked, tables: &Tables) -> Result<Rollback, Fault>
         ensures ok { IfOk result (BeginsRollback log.now tables.now) }
         ensures few { IfOk result (λ r. length r.appended.items ≤ length (losers_in tables.now)) }
@@ -73,8 +73,8 @@ impl Rollback {
     }
 
     /// Resolves a loser that the record at the LSN `from` sends to `lsn`: it waits at the update
-    /// that it undoes next; where nothing is left, its end is appended. Its transaction
-    /// does not wait yet.
+    /// that it undoes next; if nothing is left, its end is appended. Its transaction must not wait
+    /// yet.
     pub fn resolve(&mut self, log: &Looked, loser: Loser, from: u64, lsn: u64) -> Result<(), Fault>
         requires positive { 0 < from }
         requires within { from ≤ last_lsn (history log.now) + 1 }

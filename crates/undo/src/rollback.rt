@@ -19,9 +19,8 @@ use std::alloc::Global;
 use tables::Tables;
 use wal::{Log, Record, RecordView, value_of};
 
-/// Undoes the update at an LSN: appends its CLR, which has this LSN, and puts the before image
-/// back into the page. `last` is the LSN of its transaction's last record. Gives the update's
-/// PrevLSN.
+/// Undoes the update at an LSN: appends its CLR, which has this LSN, and puts the before image back
+/// into the page. `last` is the LSN of its transaction's last record. Returns the update's PrevLSN.
 fn compensate(
     log: &Looked,
     update_lsn: u64,
@@ -117,8 +116,8 @@ impl Rollback {
     }
 }
 
-/// [`undo`] with the appended records told in brief, which takes 24 to 48 bytes for each: what else
-/// they hold stands in the log.
+/// [`undo`] with the appended records in compact form, which takes 24 to 48 bytes for each: what
+/// else they hold is in the log.
 pub fn undo_in_brief(
     alloc: Global,
     log: &Looked,
@@ -126,21 +125,22 @@ pub fn undo_in_brief(
     mut pages: Vec<Page>,
 ) -> Result<(Vec<Page>, Vec<Appended>), Fault>
     requires { AreNumbered pages.items }
-    // The losers are rolled back on the pages. Each update that is named stands in the log, and each
-    // appended record has a spelling, where no loser has the number 0.
+    // The losers are rolled back on the pages. Each update that is named is in the log, and each
+    // appended record has an encoding, if no loser has the number 0.
     ensures rolled_back { IfOk result
         (λ x. RolledBackInBrief log.now tables.now pages.items x.0.items x.1.items) }
 
-    // For each record of the log at most two are appended, and for each loser one; losers have numbers of 32 bits.
+    // At most two records are appended for each record of the log, and one for each loser; losers
+    // have numbers of 32 bits.
     ensures few { IfOk result (λ x. length x.1.items ≤ 2 * length log.now.records + length
         (losers_in tables.now)) }
     ensures numbers { OnOk result (length (losers_in tables.now) ≤ 2 ^ 32) }
 
-    // A refusal has its cause: a bad hop or a missing page, whichever comes first, memory aside.
+    // An error has its condition: a bad hop or a missing page, whichever comes first, memory aside.
     ensures fault { IfErr result (UndoFault (history log.now) (losers_in tables.now)
         (length pages.items)) }
 
-    // On a lawful log and its store, with true tables: the log's tail, unless memory runs out.
+    // For a lawful log and its store, with true tables: the log's tail, unless memory runs out.
     ensures tail { IsLawfulCrash log.now tables.now pages.items
         → IfOk result (λ x. TellTail log.now x.1.items) }
     ensures lawful { IsLawfulCrash log.now tables.now pages.items → IsOkUnless result NoResource }
@@ -158,21 +158,23 @@ fn undo_looked(
     pages: Vec<Page>,
 ) -> Result<(Vec<Page>, Vec<Record>), Fault>
     requires { AreNumbered pages.items }
-    // The losers are rolled back on the pages; each appended record has a spelling, where no loser has the number 0.
+    // The losers are rolled back on the pages; each appended record has an encoding, if no loser
+    // has the number 0.
     ensures rolled_back { IfOk result
         (λ x. RolledBack log.now tables.now pages.items x.0.items (map content x.1.items)) }
     ensures writable { IfOk result (λ x. HasNoTransaction0 tables.now → AreWritable x.1.items) }
 
-    // For each record of the log at most two are appended, and for each loser one; losers have numbers of 32 bits.
+    // At most two records are appended for each record of the log, and one for each loser; losers
+    // have numbers of 32 bits.
     ensures few { IfOk result (λ x. length x.1.items ≤ 2 * length log.now.records + length
         (losers_in tables.now)) }
     ensures numbers { OnOk result (length (losers_in tables.now) ≤ 2 ^ 32) }
 
-    // A refusal has its cause: a bad hop or a missing page, whichever comes first, memory aside.
+    // An error has its condition: a bad hop or a missing page, whichever comes first, memory aside.
     ensures fault { IfErr result (UndoFault (history log.now) (losers_in tables.now)
         (length pages.items)) }
 
-    // On a lawful log and its store, with true tables: the log's tail, unless memory runs out.
+    // For a lawful log and its store, with true tables: the log's tail, unless memory runs out.
     ensures tail { IsLawfulCrash log.now tables.now pages.items
         → IfOk result (λ x. map content x.1.items ≡ tail_of log.now) }
     ensures lawful { IsLawfulCrash log.now tables.now pages.items → IsOkUnless result NoResource }
@@ -182,26 +184,26 @@ fn undo_looked(
     Ok((pages, records))
 }
 
-/// Undoes the losers, which are the entries of the transaction table (ARIES, section 6.3). Gives
+/// Undoes the losers, which are the entries of the transaction table (ARIES, section 6.3). Returns
 /// the pages, changed in place, and the records that a restart appends to the log, which take the
-/// LSNs behind its last one.
+/// LSNs after its last one.
 ///
-/// First each loser, in rising number, is resolved from its UndoNxtLSN: at an update it waits; at a
-/// CLR it goes on at the CLR's UndoNxtLSN; at 0 nothing is left, and its end is appended. Then the
-/// update with the largest LSN at which a loser waits is undone, again and again: its CLR is
-/// appended, slot and PageLSN of its page are set, and the loser is resolved again from the
-/// update's PrevLSN. Time is near linear in the records met. Memory is the records appended, 24 to 48
-/// bytes more for each of them, and 24 to 48 bytes for each loser, at least 96 if there is one; what
-/// the losers take is requested before the first update is undone.
+/// First each loser, in ascending order of number, is resolved from its UndoNxtLSN: at an update it
+/// waits; at a CLR it continues at the CLR's UndoNxtLSN; at 0 nothing is left, and its end is
+/// appended. Then the update with the largest LSN at which a loser waits is undone, again and
+/// again: its CLR is appended, the slot and the PageLSN of its page are set, and the loser is
+/// resolved again from the update's PrevLSN. Time is near linear in the records met. Memory is the
+/// records appended, 24 to 48 bytes more for each of them, and 24 to 48 bytes for each loser, at
+/// least 96 if there is one. What the losers take is requested before the first update is undone.
 ///
-/// Errors, of which the first met in this order is given, the page of an update before the walk
-/// goes on from it:
-/// - BrokenChain(n): a loser is sent to an LSN n, not 0, at which no update or CLR of it stands
-///   below the record that sends it.
-/// - NoSuchPage(n): the update at the LSN n, which is to be undone, is on a page that is not given.
-/// - NoResource: memory was refused. It may come in place of any answer.
+/// Errors. The first one met in this order is returned, and the page of an update comes before the
+/// walk from it:
+/// - BrokenChain(n): a loser is sent to an LSN n, not 0, but no update or CLR of it is at n, or n
+///   is not below the record that sends it.
+/// - NoSuchPage(n): the update at the LSN n, which must be undone, is on a page that is not given.
+/// - NoResource: memory was refused. It may come instead of any other result.
 ///
-/// With an error the pages are gone.
+/// On an error the pages are lost.
 pub fn undo(
     alloc: Global,
     log: &Log,
@@ -209,21 +211,23 @@ pub fn undo(
     pages: Vec<Page>,
 ) -> Result<(Vec<Page>, Vec<Record>), Fault>
     requires { AreNumbered pages.items }
-    // The losers are rolled back on the pages; each appended record has a spelling, where no loser has the number 0.
+    // The losers are rolled back on the pages; each appended record has an encoding, if no loser
+    // has the number 0.
     ensures rolled_back { IfOk result
         (λ x. RolledBack log.now tables.now pages.items x.0.items (map content x.1.items)) }
     ensures writable { IfOk result (λ x. HasNoTransaction0 tables.now → AreWritable x.1.items) }
 
-    // For each record of the log at most two are appended, and for each loser one; losers have numbers of 32 bits.
+    // At most two records are appended for each record of the log, and one for each loser; losers
+    // have numbers of 32 bits.
     ensures few { IfOk result (λ x. length x.1.items ≤ 2 * length log.now.records + length
         (losers_in tables.now)) }
     ensures numbers { OnOk result (length (losers_in tables.now) ≤ 2 ^ 32) }
 
-    // A refusal has its cause: a bad hop or a missing page, whichever comes first, memory aside.
+    // An error has its condition: a bad hop or a missing page, whichever comes first, memory aside.
     ensures fault { IfErr result (UndoFault (history log.now) (losers_in tables.now)
         (length pages.items)) }
 
-    // On a lawful log and its store, with true tables: the log's tail, unless memory runs out.
+    // For a lawful log and its store, with true tables: the log's tail, unless memory runs out.
     ensures tail { IsLawfulCrash log.now tables.now pages.items
         → IfOk result (λ x. map content x.1.items ≡ tail_of log.now) }
     ensures lawful { IsLawfulCrash log.now tables.now pages.items → IsOkUnless result NoResource }

@@ -9,8 +9,8 @@ use crate::losers::Loser;
 use std::alloc::{AllocError, Global};
 use std::collections::BinaryHeap;
 
-/// The turn of a loser. Turns are compared by their fields in the order in which these stand here: the LSN
-/// decides.
+/// The turn of a loser. Turns are compared by their fields in the order in which they are declared
+/// here: the LSN decides.
 #[derive(Clone, Copy, Debug, PartialEq, Eq, PartialOrd, Ord)]
 pub struct Turn {
     /// The LSN of the update that is undone.
@@ -19,10 +19,10 @@ pub struct Turn {
     pub loser: Loser,
 }
 
-/// The losers that wait, of which no two wait at one LSN.
+/// The losers that wait. No two wait at the same LSN.
 #[derive(Drop)]
 pub struct Turns {
-    /// A turn for each of them; the newest update comes first.
+    /// A turn for each of them. The newest update comes first.
     heap: BinaryHeap<Turn>,
     ghost in_order: { IsHeap ⟦<Turn as Ord>⟧.cmp (heap_items heap) } by { Prim.hlevel props },
     ghost apart: { IsDistinct nat_eq
@@ -32,7 +32,7 @@ pub struct Turns {
 impl Turns {
     ghost use Rattle.undo.specs.Turns.{turn_at, Taken};
 
-    /// Nobody waits.
+    /// No loser waits.
     pub fn new(alloc: Global) -> Turns
         ensures { (lsn : ℕ) → turn_at result lsn ≡ None }
     {
@@ -41,7 +41,7 @@ impl Turns {
         }
     }
 
-    /// The loser waits at an LSN, at which nobody waits yet.
+    /// The loser waits at an LSN at which no loser waits yet.
     pub fn put(&mut self, lsn: u64, loser: Loser) -> Result<(), AllocError>
         requires free { turn_at self.old lsn ≡ None }
         ensures { OnOk result
@@ -51,7 +51,7 @@ impl Turns {
         Ok(())
     }
 
-    /// Takes the loser that waits at the newest update; None where nobody waits.
+    /// Takes the loser that waits at the newest update. `None` if no loser waits.
     pub fn take_newest(&mut self) -> Option<(u64, Loser)>
         ensures taken { IfSome result (λ x. Taken x.0 x.1 (turn_at self.old) (turn_at self.new)) }
         ensures nobody { IfNone result ((n : ℕ) → turn_at self.old n ≡ None) }

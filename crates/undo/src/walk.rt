@@ -1,4 +1,4 @@
-//! The walk of a transaction through the log, by which it is undone.
+//! The walk of a transaction through the log, by which the transaction is undone.
 
 ghost use Rattle.std.specs.Prelude.{◌≡◌, ◌≤◌, ◌<◌, ◌+◌, length, IfOk, IfErr};
 ghost use Rattle.wal.specs.Records.{history, record_at, last_lsn};
@@ -8,17 +8,17 @@ use crate::looked::Looked;
 use page::Fault;
 use wal::RecordView;
 
-/// What a record tells the walk that was sent to it.
+/// What a record means for the walk that was sent to it.
 #[derive(Clone, Copy, Debug, PartialEq, Eq)]
 pub enum Hop {
     /// It is an update of the transaction.
     Update,
-    /// It is a CLR of the transaction: the walk goes on at its UndoNxtLSN, this one.
+    /// It is a CLR of the transaction: the walk continues at its UndoNxtLSN, which is this one.
     On(u64),
 }
 
-/// What the record at an LSN tells the walk of a transaction; None where it is no update or CLR of
-/// it, and at 0 and past the log's end.
+/// What the record at an LSN means for the walk of a transaction. `None` if it is not an update or
+/// a CLR of the transaction, and at 0 and past the log's end.
 fn hop_at(log: &Looked, tx: u32, lsn: u64) -> Option<Hop>
     ensures { result ≡ hop_of tx (record_at (history log.now) lsn) }
 {
@@ -38,11 +38,11 @@ fn hop_at(log: &Looked, tx: u32, lsn: u64) -> Option<Hop>
     }
 }
 
-/// The first update that a transaction meets when the record at the LSN `from` sends it to `lsn`:
-/// at a CLR it goes on at the UndoNxtLSN at once. None where it comes to 0.
+/// The first update that a transaction meets if the record at the LSN `from` sends it to `lsn`: at
+/// a CLR it continues at the UndoNxtLSN at once. `None` if it comes to 0.
 ///
-/// BrokenChain(n) where it is sent to an LSN n, not 0, at which no update or CLR of the transaction
-/// stands below the record that sends it.
+/// BrokenChain(n) if it is sent to an LSN n, not 0, but no update or CLR of the transaction is at
+/// n, or n is not below the record that sends it.
 pub fn next_update(log: &Looked, tx: u32, from: u64, lsn: u64) -> Result<Option<u64>, Fault>
     requires positive { 0 < from }
     requires within { from ≤ last_lsn (history log.now) + 1 }

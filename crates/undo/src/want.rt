@@ -1,4 +1,4 @@
-//! Where transactions go on that are rolled back.
+//! The LSNs at which the transactions that are rolled back continue.
 
 ghost use Rattle.std.specs.Prelude.{◌≡◌, ◌∷◌, ◌<◌, ◌≤◌, ℕ, [], IfNone, IfSome, IsPermutation, OnOk};
 ghost use Rattle.std.specs.BinaryHeap.{IsHeap, heap_items};
@@ -7,8 +7,8 @@ ghost use Rattle.std.proofs.Props.{props};
 use std::alloc::{AllocError, Global};
 use std::collections::BinaryHeap;
 
-/// An LSN to which a transaction is sent. Wants are compared by their fields in the order in which these
-/// stand here: the LSN decides.
+/// An LSN to which a transaction is sent. Wants are compared by their fields in the order in which
+/// they are declared here: the LSN decides.
 #[derive(Clone, Copy, Debug, PartialEq, Eq, PartialOrd, Ord)]
 pub struct Want {
     /// The LSN of the record that is looked at next.
@@ -17,7 +17,7 @@ pub struct Want {
     pub tx: u32,
 }
 
-/// Where all transactions go on that are rolled back.
+/// The LSNs at which all transactions that are rolled back continue.
 #[derive(Drop)]
 pub struct Wants {
     /// The highest LSN comes first.
@@ -28,7 +28,7 @@ pub struct Wants {
 impl Wants {
     ghost use Rattle.undo.specs.Wants.{wants_in, AreUpTo};
 
-    /// No transaction goes on.
+    /// No transaction continues.
     pub fn new(alloc: Global) -> Wants
         ensures { wants_in result ≡ [] }
     {
@@ -37,7 +37,7 @@ impl Wants {
         }
     }
 
-    /// One more goes on.
+    /// One more transaction continues.
     pub fn put(&mut self, want: Want) -> Result<(), AllocError>
         ensures { OnOk result (IsPermutation (want ∷ wants_in self.old) (wants_in self.new)) }
     {
@@ -45,7 +45,7 @@ impl Wants {
         Ok(())
     }
 
-    /// The highest LSN at which one goes on; 0 if none does.
+    /// The highest LSN at which a transaction continues; 0 if none does.
     pub fn highest(&self) -> u64
         ensures up_to { AreUpTo result (wants_in self.now) }
         ensures least { (n : ℕ) → AreUpTo n (wants_in self.now) → result ≤ n }
@@ -56,7 +56,7 @@ impl Wants {
         }
     }
 
-    /// Takes one that goes on above this LSN; None if all go on at it or below.
+    /// Takes one that continues above this LSN; `None` if all continue at or below it.
     pub fn take_above(&mut self, lsn: u64) -> Option<Want>
         ensures above { IfSome result (λ want. lsn < want.lsn) }
         ensures taken { IfSome result

@@ -35,7 +35,7 @@ undo_all-requires-clause-once c =
     let rolling = c.in_ok-rollback.ensures.ok c.args.pages.items c.requires in
     rolling_once (history c.args.log.now) (losers_in c.args.tables.now) (length c.args.pages.items) _ _ rolling.left
 
--- the rollback begins on the pages, lent as a slice
+-- the rollback begins on the pages, borrowed as a slice
 begins : (log : LogContent) (tables : TablesContent) (given lent : List Page) (r : Rollback) → lent ≡ given → IsRolling log tables given r given → IsRolling log tables given r lent
 begins log tables given lent r same rolling = subst (λ (pages : List Page). IsRolling log tables given r pages) (sym same) rolling
 

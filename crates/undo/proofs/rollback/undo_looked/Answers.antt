@@ -12,7 +12,7 @@ returns-in_err-pages-clause-lawful c = λ crash.
     let exit = err_from_is_err_and c.from_residual.result c.from_residual.ensures.1 in
     rw (exit.1, exit.2) (c.in_err-pages.ensures.lawful crash)
 
--- the records are those that were told
+-- the full records are those of the compact form
 same : (c : goal.After-drop-appended-2) → map content c.in_ok-records.records.items ≡ records_of (history c.args.log.now) c.in_ok-pages.appended.items
 same c = c.in_ok-records.ensures.ok ∙ ap (records_of (history c.args.log.now)) c.deref.ensures.value
 

@@ -32,7 +32,7 @@ loop-tx-preserved-in-Continue-1 c =
       before = c.in_ok-go_on.ensures.below (c.args.base + c.args.count) (omega (arith, end)) c.loop-tx.invariant.before;
     }
 
--- one in doubt is passed over
+-- a transaction in doubt is passed over
 pub loop-tx-preserved : goal.loop-tx-preserved
 loop-tx-preserved c =
     let e : TableEntry = entry_of (c.in-Some.tx.now, c.in-Some.entry.now) in

@@ -24,7 +24,7 @@ use Rattle.undo.proofs.UndonePages.{ends_undo_nothing}
 use Rattle.undo.proofs.Few.{ends_few, numbers_few}
 use Rattle.undo.proofs.losers.Rollback.of_losers.Goals as goal
 
--- the entry of a turn is found among the losers, where it is one
+-- the entry of a turn is found among the losers, if it is one
 own : (t : ℕ) (entry : Entry) (entries : List (ℕ × Entry)) (losers : List TableEntry) → lost_in (map entry_of entries) ≡ losers
     → lookup (λ k. is_eq (nat_cmp t k)) entries ≡ Some entry → is_lost (entry_of (t, entry)) ≡ true → entry_for t losers ≡ Some (entry_of (t, entry))
 own t entry entries losers same found lost = sym (ap (entry_for t) same) ∙ lost_found t (entry_of (t, entry)) (map entry_of entries) (entry_found t entry entries found) lost
@@ -100,7 +100,7 @@ loop-tx-preserved-in-Continue-1 c =
       writable = λ counted. c.in_ok-resolve.ensures.ok.writable (some_tx c.in-Some.tx.now e (losers_in c.args.tables.now) counted found) (c.loop-tx.invariant.writable counted);
     }
 
--- one in doubt is passed over
+-- a transaction in doubt is passed over
 pub loop-tx-preserved : goal.loop-tx-preserved
 loop-tx-preserved c =
     let e : TableEntry = entry_of (c.in-Some.tx.now, c.in-Some.entry.now) in
@@ -121,7 +121,7 @@ all_taken c =
     iter_end deref_pair c.tables.inside.transactions.entries c.loop-tx.yielded c.into_iter-tx-iterator.result c.loop-tx.tx-iterator c.next.new.self c.next.result gives.0 c.loop-tx.yielded_by c.in-None.is c.next.ensures.steps in
     ap (λ es. lost_in (map entry_of es)) all.0 ∙ ap losers_in c.tables.view_is
 
--- and their numbers rise
+-- and their numbers ascend
 in_order : (c : goal.In-None) → Rise 0 (losers_in c.args.tables.now)
 in_order c =
     let gives = c.into_iter-tx-iterator.ensures.into_iter_gives in

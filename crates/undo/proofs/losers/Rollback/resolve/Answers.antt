@@ -4,7 +4,7 @@ use Rattle.undo.specs.Rollback.{Meets, FirstMet, loser_at}
 use Rattle.undo.proofs.Placed.{nobody_there}
 use Rattle.undo.proofs.losers.Rollback.resolve.Goals as goal
 
--- nobody waits at the update that it meets, which is its own
+-- no loser waits at the update that it meets, which is its own
 pub put-requires : goal.put-requires
 put-requires c =
     let log = history c.args.log.now in

@@ -40,7 +40,7 @@ undo_at-requires-clause-others c = taken_others c.in-Some.update_lsn c.in-Some.l
 pub undo_at-requires-clause-room : goal.undo_at-requires-clause-room
 undo_at-requires-clause-room c = omega (arith, c.loop-update_lsn.invariant.few, c.requires.room, c.loop-update_lsn.self.appended.ok.0, c.args.self.now.appended.ok.0)
 
--- the loser is taken from a rollback under way
+-- the loser is taken from a rollback in progress
 taken : (log : LogContent) (tables : TablesContent) (given pages : List Page) (update_lsn : ℕ) (l : Loser) (old : Rollback) (waiting : Turns) → Taken update_lsn l (loser_at old) (turn_at waiting)
     → IsRolling log tables given old pages → IsTaken log tables given update_lsn l (left old waiting) pages
 taken log tables given pages update_lsn l old waiting is_taken rolling = record { before = old.waiting; rolling = rolling; taken = is_taken }
@@ -50,7 +50,7 @@ returns-in_err-undo_at-clause-fault c =
     let exit = err_from_is_err_and c.from_residual.result c.from_residual.ensures.1 in
     rw (exit.1, exit.2) (λ tables given rolling. c.in_err-undo_at.ensures.fault tables given (taken c.args.log.now tables given c.loop-update_lsn.pages c.in-Some.update_lsn c.in-Some.loser c.loop-update_lsn.self c.take_newest.new.self c.in-Some.ensures.taken (c.loop-update_lsn.invariant.rolls tables given rolling)))
 
--- the LSN that is taken is below the height, and at or above the height behind it
+-- the LSN that is taken is below the height, and at or above the height after it
 above : (c : goal.In_ok-undo_at) → c.in-Some.update_lsn < height (turns_of c.loop-update_lsn.self.waiting)
 above c = height_above c.in-Some.update_lsn c.in-Some.loser (turns_of c.loop-update_lsn.self.waiting) c.in-Some.ensures.taken.there
 
