@@ -1,4 +1,4 @@
--- Why a restart is refused: the faults of its parts, in its own words.
+-- The errors of a restart: the faults of its parts.
 use Rattle.std.proofs.Common.{ℕ, List, length, inl, inr}
 use Rattle.page.specs.declared.fault.Fault.{Fault}
 use Rattle.page.specs.declared.fault.Fault.TheVariants.{NoResource, BadWorkers, BadParting, BadMaster, NoSuchPage, BrokenChain}
@@ -12,7 +12,7 @@ use Rattle.redo.specs.Redone.{AreWorkers, AllExist, RedoFault}
 use Rattle.undo.specs.Undone.{UndoFault}
 use Rattle.restart.specs.Restart.{AreSettings, SettingsFault, NoneAhead, PagesFault, InputFault}
 
--- settings that hold are not refused
+-- settings that are valid have no error
 pub settings_hold : (pages : ℕ) (parting : PartingContent) (workers : ℕ) (e : Fault) → AreSettings pages parting workers → SettingsFault pages parting workers e → ⊥
 settings_hold pages parting workers BadWorkers fit h = h fit.fit
 settings_hold pages parting workers BadParting fit h = h.1 fit.dealt
@@ -37,7 +37,7 @@ module _ (read : LogContent) (before : StoreContent) (none_ahead : NoneAhead rea
     undo_fault (BrokenChain lsn) exist h = (none_ahead, record { tables = tables; are = are; holds = (exist, h) })
     undo_fault e exist h = absurd h
 
-  -- where the transactions are known, what refuses redo by the dirty pages alone refuses it by the tables
+  -- if the transactions are known, an error of redo by only the dirty pages is an error of redo by the tables
   pub pages_fault : (transactions : List TableEntry) → AreTransactionsOf read before.master transactions → (workers : ℕ) (e : Fault) → AreWorkers workers → PagesFault read before workers e → InputFault read before e
   pages_fault transactions some workers e fit (inl h) = base_fault e h
   pages_fault transactions some workers e fit (inr (pages, other, h)) =

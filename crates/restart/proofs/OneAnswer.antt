@@ -1,4 +1,4 @@
--- Two outcomes of one log and store are the same: the tables are, and from them all else follows.
+-- Two outcomes of one log and store are the same: the tables are, and all else follows from them.
 use Rattle.std.proofs.Common.{◌≡◌, List, map, length, sym, ap, ap₂, ◌∙◌}
 use Rattle.std.specs.Prelude.{sum}
 use Rattle.page.specs.declared.page.Page.{Page}

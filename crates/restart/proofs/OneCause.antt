@@ -1,4 +1,4 @@
--- A restart is refused for one cause, and for none where it answers.
+-- A restart has at most one error, and none if it succeeds.
 use Rattle.std.proofs.Common.{◌≡◌, ◌<◌, ◌≤◌, ◌⊎◌, ℕ, List, Option, Some, None, length, refl, sym, ap, ◌∙◌, subst, inl, inr, arith}
 use Rattle.std.specs.Prelude.{slice_get}
 use Rattle.std.proofs.lemmas.List.{length-map}
@@ -58,7 +58,7 @@ module _ (read : LogContent) (count : ℕ) where
   one_pass_fault undo tables _ e x y = absurd x
 
 -- A RESTART
--- what stands in the input, in the order in which it is looked at
+-- what holds for the input, in the order in which it is checked
 abbrev Ahead : LogContent → StoreContent → Fault → Type 0
 Ahead read before e = (number : ℕ) × (e ≡ PageAheadOfLog number) × IsFirstAhead read before.pages number
 

@@ -1,4 +1,4 @@
--- Why options are refused: for one cause, and for none where they lie in their ranges.
+-- Options have at most one error, and none if they are in their ranges.
 use Rattle.std.proofs.Common.{◌≡◌, refl}
 use Rattle.page.specs.declared.fault.Fault.{Fault}
 use Rattle.page.specs.declared.fault.Fault.TheVariants.{BadWorkers, BadParting}

@@ -39,7 +39,7 @@ some_none : {X : Type 0} {x : X} → Some x ≡ None → ⊥
 some_none e = cc
 
 -- A PAGE THAT A LOG MADE, UNDONE
--- the effects of the records behind the first b, on what the log up to there replays to, are the replay
+-- the effects of the records after the first b, on what the log up to there replays to, are the replay
 effects_on : (base : BasePages) (b page slot : ℕ) (state : Cells) (log : History) (xs : List LogRecord) → b ≤ last_lsn log
     → effects (λ lsn _. ltb b lsn) state log page slot ≡ replay base log page slot → effects (λ lsn _. ltb b lsn) state (log ▸▸ xs) page slot ≡ replay base (log ▸▸ xs) page slot
 effects_on base b page slot state log [] le e = e
@@ -47,7 +47,7 @@ effects_on base b page slot state log (r ∷ xs) le e =
     effects_on base b page slot state (log ▸ r) xs (omega arith)
     (ap₂ (λ chosen v. cond (writes page slot r && chosen) (image_of r) v) (lt-ltb b (suc (last_lsn log)) (omega arith)) e)
 
--- and the last of them, else the last before, is the last of all
+-- and the last of them, otherwise the last before, is the last of all
 last_after : (base : BasePages) (b page lsn : ℕ) (log : History) (xs : List LogRecord) → b ≤ last_lsn log
     → last_where (λ n. ltb b n) page lsn log ≡ last_on base page log → last_where (λ n. ltb b n) page lsn (log ▸▸ xs) ≡ last_on base page (log ▸▸ xs)
 last_after base b page lsn log [] le e = e
@@ -61,7 +61,7 @@ last_after base b page lsn log (r ∷ xs) le e = last_after base b page lsn (log
           | inr off ↦ rw off e
         ])
 
--- what a log and the records behind it make of a page
+-- what a log and the records after it make of a page
 undone_replayed : (base : BasePages) (log : History) (xs : List LogRecord) (page : ℕ) → undone_page log xs (replayed_page base log page) ≡ replayed_page base (log ▸▸ xs) page
 undone_replayed base log xs page =
     let image : Page = replayed_page base log page in
@@ -162,7 +162,7 @@ module _ (base : BasePages) (read : LogContent) (before : StoreContent) (lawful 
       below (Compensation c) h page e = subst (λ p. p < length before.pages) (same_Some _ _ e) h
       below r h page e = absurd (cc)
 
-  -- so memory alone is refused
+  -- so only memory can be refused
   pub base_alone : (e : Fault) → BaseFault before.master (history read) e → e ≡ NoResource
   base_alone NoResource cause = refl
   base_alone BadMaster cause = absurd (based cause)
@@ -182,7 +182,7 @@ module _ (base : BasePages) (read : LogContent) (before : StoreContent) (lawful 
   ahead_alone (PageAheadOfLog number) cause = absurd (none_ahead number cause)
   ahead_alone e cause = absurd cause
 
--- pages of which each is changed, but for its number, stand at their numbers
+-- pages of which each is changed, except for its number, are at their numbers
 pub changed_numbered : (change : Page → Page) (pages : List Page) → ((page : Page) → (change page).number ≡ page.number) → AreNumbered pages → AreNumbered (map change pages)
 changed_numbered change pages same numbered =
     let len = length-map pages change in

@@ -1,4 +1,4 @@
--- The dirty pages that redo asked for are all, where redo has found each page.
+-- The dirty pages that redo needed are all, if redo has found each page.
 use Rattle.std.proofs.Common.{ℕ, ◌≡◌, List, Option, Some, None, true, eqb-true, sym, ap, subst, arith}
 use Rattle.std.specs.Prelude.{option_map}
 use Rattle.wal.specs.Records.{LogRecord, LogContent, history}

@@ -1,4 +1,4 @@
--- Counting CLRs and ends among records told in brief.
+-- Counting CLRs and ends among records in compact form.
 use Rattle.std.proofs.Common.{ℕ, ◌≡◌, ◌+◌, ◌<◌, ◌++◌, Bool, true, false, List, [], ◌∷◌, Option, Some, length, take, get_or, refl, subst, ap, ◌∙◌, arith, inl, inr}
 use Rattle.std.specs.Prelude.{filter}
 use Rattle.std.proofs.lemmas.Bool.{cases_Bool}
@@ -20,7 +20,7 @@ count_more kind (y ∷ ys) x =
       | inr i ↦ rw i (omega (arith, rest))
     ]
 
--- and of the first that are told, and the one behind them
+-- and of the first records in compact form, and the next one
 told_more : (kind : LogRecord → Bool) (log : LogContent) (told : List Appended) (i : ℕ) (d x : Appended) → i < length told → get_or told i d ≡ x
     → length (filter kind (records_of (history log) (take (i + 1) told))) ≡ length (filter kind (records_of (history log) (take i told))) + length (filter kind (record_of (history log) x ∷ []))
 told_more kind log told i d x lt is =
@@ -28,7 +28,7 @@ told_more kind log told i d x lt is =
     ∙ ap (λ rs. length (filter kind rs)) (map_push (record_of (history log)) (take i told) x)
     ∙ count_more kind (records_of (history log) (take i told)) (record_of (history log) x)
 
--- the CLR of an update is a CLR, and no end
+-- the CLR of an update is a CLR, and not an end
 is_one : (last : ℕ) (r : Option LogRecord) → IsUpdate r → (is_clr (clr_of last r) ≡ true) × (is_end (clr_of last r) ≡ false)
 is_one last (Some (Update u)) h = (refl, refl)
 is_one last _ h = absurd h

@@ -3,7 +3,7 @@ use Rattle.std.proofs.Common.{List, refl, inl}
 use Rattle.wal.specs.Records.{TableEntry, History}
 use Rattle.undo.specs.Enough.{AreGathered}
 
--- it is gathered of itself
+-- the log itself is enough as what is gathered of it
 pub gathered_of_itself : (log : History) (losers : List TableEntry) → AreGathered log log losers
 gathered_of_itself log losers = record {
   base = refl;

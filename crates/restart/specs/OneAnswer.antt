@@ -1,5 +1,5 @@
--- ONE ANSWER. A restart on one log and store answers one thing, whoever meets the clauses on every input: one outcome, or one
--- cause of a refusal, want of memory aside (own).
+-- ONE RESULT. A restart on a log and a store has only one result, if it meets the clauses on every input: one outcome, or one error, a lack
+-- of memory aside (own).
 use Rattle.std.specs.Prelude.{◌≡◌, ℕ, length}
 use Rattle.page.specs.declared.fault.Fault.{Fault}
 use Rattle.page.specs.Causes.{HasOneCause, HasNoCause}
@@ -10,7 +10,7 @@ use Rattle.restart.specs.Outcome.{OutcomeContent}
 use Rattle.restart.specs.Restart.{SettingsFault, Restarts, RestartFault}
 
 -- ONE OUTCOME
--- the same records are appended, the same store is left, the same numbers are told
+-- the same records are appended, the same store is left, the same numbers are reported
 pub record AreSame (x y : OutcomeContent) : Type 0 where
   pub appended : x.appended ≡ y.appended
   pub store : x.store ≡ y.store
@@ -24,11 +24,11 @@ pub record AreSame (x y : OutcomeContent) : Type 0 where
 abbrev pub OneOutcome : Type 0
 OneOutcome = (log : LogContent) (before : StoreContent) (x y : OutcomeContent) → Restarts log before x → Restarts log before y → AreSame x y
 
--- ONE CAUSE
+-- ONE ERROR
 abbrev pub OneRestartFault : Type 0
 OneRestartFault = (log : LogContent) (before : StoreContent) (parting : PartingContent) (workers : ℕ) → HasOneCause (RestartFault log before parting workers)
 
--- NO CAUSE BESIDE AN ANSWER. Settings are refused wherever they can be: where there is an answer, they are not.
+-- NO ERROR NEXT TO AN OUTCOME. Settings return an error whenever they can: if there is an outcome, they have none.
 abbrev pub NoFaultOfARestart : Type 0
 NoFaultOfARestart = (log : LogContent) (before : StoreContent) (parting : PartingContent) (workers : ℕ) (x : OutcomeContent)
     → ((e : Fault) → SettingsFault (length before.pages) parting workers e → ⊥) → Restarts log before x → HasNoCause (RestartFault log before parting workers)

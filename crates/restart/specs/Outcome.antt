@@ -1,4 +1,4 @@
--- What a restart answers, as the laws see it (own).
+-- The result of a restart, as the laws see it (own).
 use Rattle.std.specs.Prelude.{ℕ, List, map}
 use Rattle.page.specs.Store.{StoreContent}
 use Rattle.wal.specs.Records.{LogRecord, History}
@@ -8,7 +8,7 @@ use Rattle.undo.specs.declared.appended.Appended.{Appended}
 use Rattle.undo.specs.Appended.{record_of}
 use Rattle.restart.specs.declared.outcome.Outcome.{Outcome}
 
--- the store after it, the records that it appends, and the numbers that it tells
+-- the store after it, the records that it appends, and the numbers that it reports
 pub record OutcomeContent : Type 0 where
   pub store : StoreContent
   pub appended : List LogRecord
@@ -19,7 +19,7 @@ pub record OutcomeContent : Type 0 where
   pub compensated : ℕ
   pub ended : ℕ
 
--- its appended records are what these tell
+-- its appended records, each as this function gives it
 abbrev pub outcome_by : {A : Type 0} → (A → LogRecord) → Outcome A → OutcomeContent
 outcome_by record_in x = record {
   store = x.store;
@@ -35,6 +35,6 @@ outcome_by record_in x = record {
 abbrev pub outcome_of : Outcome Record → OutcomeContent
 outcome_of x = outcome_by content x
 
--- what is told in brief, by the log
+-- an outcome in compact form, with the records that the log gives
 abbrev pub outcome_in : History → Outcome Appended → OutcomeContent
 outcome_in log x = outcome_by (record_of log) x

@@ -1,4 +1,4 @@
--- What a restart makes of a log and a store, and why it is refused. ARIES, section 6 (restart processing).
+-- What a restart makes of a log and a store, and its errors. ARIES, section 6 (restart processing).
 use Rattle.std.specs.Prelude.{◌≡◌, ℕ, ◌<◌, ◌≤◌, ◌⊎◌, List, [], All, Some, None, false, length, map, filter, sum, slice_index_or, ⊤}
 use Rattle.std.specs.List.{slice_get}
 use Rattle.page.specs.declared.fault.Fault.{Fault}
@@ -22,12 +22,12 @@ use Rattle.undo.specs.Undone.{RolledBack, MeetsMissing, Breaks}
 abbrev pub IsPartingOf : ℕ → PartingContent → Type 0
 IsPartingOf pages parting = length parting.part_of ≡ pages
 
--- workers that redo may have, and a parting of the store's pages
+-- workers that redo may have, and a partition of the store's pages
 pub record AreSettings (pages : ℕ) (parting : PartingContent) (workers : ℕ) : Type 0 where
   pub fit : AreWorkers workers
   pub dealt : IsPartingOf pages parting
 
--- why they are refused
+-- the error of the settings
 abbrev pub SettingsFault : ℕ → PartingContent → ℕ → Fault → Type 0
 SettingsFault pages parting workers BadWorkers = AreWorkers workers → ⊥
 SettingsFault pages parting workers BadParting = AreWorkers workers × (IsPartingOf pages parting → ⊥)
@@ -47,7 +47,7 @@ pub record IsFirstAhead (log : LogContent) (pages : List Page) (number : ℕ) : 
   pub ahead : last_lsn (history log) < page.lsn
   pub before : (k : ℕ) (d : Page) → k < place → (slice_index_or pages k d).lsn ≤ last_lsn (history log)
 
--- why the pages are refused
+-- the error of the pages
 abbrev pub AheadFault : LogContent → List Page → Fault → Type 0
 AheadFault log pages (PageAheadOfLog number) = IsFirstAhead log pages number
 AheadFault log pages e = ⊥
@@ -59,7 +59,7 @@ clrs_in records = length (filter is_clr records)
 abbrev pub ends_in : List LogRecord → ℕ
 ends_in records = length (filter is_end records)
 
--- the losers of the tables are rolled back on the pages that redo made, and this is told of it
+-- the losers of the tables are rolled back on the pages that redo made, and the outcome reports it
 pub record RollsBack (log : LogContent) (master : ℕ) (tables : TablesContent) (redone : Redone) (x : OutcomeContent) : Type 0 where
   pub rolled_back : RolledBack log tables redone.pages.items x.store.pages x.appended
   pub master_kept : x.store.master ≡ master
@@ -79,22 +79,21 @@ pub record IsRedone (log : LogContent) (before : StoreContent) (tables : TablesC
   pub redone_pages : redone.pages.items ≡ map (redone_page log tables) before.pages
   pub applied : redone.applied ≡ sum (map (applied_to log tables) before.pages)
 
--- BY THE DIRTY PAGES ALONE, whatever the transactions
--- what redo has made of a log and a store; the tables are looked at for their pages, and for where redo begins
+-- BY THE DIRTY PAGES ONLY, whatever the transactions
+-- what redo has made of a log and a store; the tables are looked at only for their pages, and for where redo begins
 pub record ArePagesRedone (log : LogContent) (before : StoreContent) (pages : TablesContent) (redone : Redone) : Type 0 where
   pub are : AreDirtyPagesOf log before.master pages.dirty pages.redo_lsn
   pub exist : AllExist log (length before.pages) pages.redo_lsn
   pub redone_pages : redone.pages.items ≡ map (redone_page log pages) before.pages
   pub applied : redone.applied ≡ sum (map (applied_to log pages) before.pages)
 
--- why it has made nothing, memory aside
+-- the error if it has made nothing, memory aside
 abbrev pub PagesFault : LogContent → StoreContent → (workers : ℕ) → Fault → Type 0
 PagesFault log before workers e =
     BaseFault before.master (history log) e
     ⊎ ((pages : TablesContent) × AreDirtyPagesOf log before.master pages.dirty pages.redo_lsn × RedoFault log (length before.pages) pages.redo_lsn workers e)
 
--- EVERY INPUT. By the tables that analysis finds, redo makes the pages, and their losers are rolled back; none of the causes
--- of a refusal stands.
+-- EVERY INPUT. By the tables that analysis finds, redo makes the pages, and their losers are rolled back; no error condition holds.
 pub record Restarts (log : LogContent) (before : StoreContent) (x : OutcomeContent) : Type 0 where
   pub tables : TablesContent
   pub redone : Redone
@@ -109,14 +108,15 @@ pub record IsSettled (base : BasePages) (log : LogContent) (store : StoreContent
   pub no_tail : tail_of log ≡ []
   pub same_store : store_out base log store ≡ store
 
--- where redo begins, and how many records it applies, by the tables that analysis finds, of which there are no two
+-- where redo begins, and how many records it applies, by the only tables that analysis can find
 pub record Redoes (log : LogContent) (before : StoreContent) (redo_from redone : ℕ) : Type 0 where
   pub tables : TablesContent
   pub are : AreTablesOf log before.master tables
   pub begins : redo_from ≡ tables.redo_lsn
   pub applies : redone ≡ sum (map (applied_to log tables) before.pages)
 
--- the log's tail is appended, the store is what the winners leave; both together are settled; those in doubt are told, and stay so
+-- the log's tail is appended, the store is what the winners leave; both together are settled; the transactions in doubt are reported, and
+-- stay so
 pub record Restores (base : BasePages) (log : LogContent) (before : StoreContent) (x : OutcomeContent) : Type 0 where
   pub appended : x.appended ≡ tail_of log
   pub store : x.store ≡ store_out base log before
@@ -128,14 +128,14 @@ pub record Restores (base : BasePages) (log : LogContent) (before : StoreContent
   pub ended : x.ended ≡ length (losers_of (history log))
   pub compensated : x.compensated ≡ clrs_in (tail_of log)
 
--- REFUSALS
+-- ERRORS
 -- analysis finds tables of which this holds
 pub record Finds (log : LogContent) (before : StoreContent) (Holds : TablesContent → Type 0) : Type 0 where
   pub tables : TablesContent
   pub are : AreTablesOf log before.master tables
   pub holds : Holds tables
 
--- why redo and undo by these tables are refused, memory aside; undo comes where redo finds all pages
+-- the error of redo and undo by these tables, memory aside; undo is reached if redo finds all pages
 abbrev pub PassFault : LogContent → ℕ → Fault → TablesContent → Type 0
 PassFault log count (NoSuchPage lsn) tables =
     IsFirstMissing log count tables.redo_lsn lsn
@@ -144,14 +144,14 @@ PassFault log count (BrokenChain lsn) tables =
     AllExist log count tables.redo_lsn × Breaks (history log) (losers_in tables) count lsn
 PassFault log count e tables = ⊥
 
--- why a log and a store are not restarted, in the order in which causes are looked for, memory aside
+-- the error of a log and a store, in the order in which the conditions are checked, memory aside
 abbrev pub InputFault : LogContent → StoreContent → Fault → Type 0
 InputFault log before NoResource = ⊤
 InputFault log before (PageAheadOfLog number) = IsFirstAhead log before.pages number
 InputFault log before BadMaster = NoneAhead log before × (base_of before.master (history log) ≡ None)
 InputFault log before e = NoneAhead log before × Finds log before (PassFault log (length before.pages) e)
 
--- why a restart is refused: the settings, or where they hold the input
+-- the error of a restart: that of the settings, or, if they are valid, that of the input
 abbrev pub RestartFault : LogContent → StoreContent → PartingContent → ℕ → Fault → Type 0
 RestartFault log before parting workers e =
     SettingsFault (length before.pages) parting workers e ⊎ (AreSettings (length before.pages) parting workers × InputFault log before e)

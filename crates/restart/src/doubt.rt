@@ -1,4 +1,4 @@
-//! The transactions in doubt, which a restart leaves as they are and tells.
+//! The transactions in doubt, which a restart leaves as they are and reports.
 
 ghost use Rattle.std.specs.Prelude.{◌≡◌, ◌+◌, length, IfOk, IsOkUnless};
 ghost use Rattle.page.specs.declared.fault.Fault.TheVariants.{NoResource};
@@ -21,8 +21,8 @@ fn is_prepared(state: State) -> bool
     }
 }
 
-/// The numbers of the transactions that the tables have as prepared, in rising order. The only
-/// error is [`Fault::NoResource`], where memory was refused.
+/// The numbers of the transactions that the tables have as prepared, in ascending order. The only
+/// error is [`Fault::NoResource`], if memory was refused.
 pub fn in_doubt(alloc: Global, tables: &Tables) -> Result<Vec<u32>, Fault>
     ensures ok { IfOk result (λ x. x.items ≡ doubtful_in tables.now.transactions) }
     ensures others { IfOk result (λ x. length x.items + length (losers_in tables.now)

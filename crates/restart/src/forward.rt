@@ -1,6 +1,6 @@
-//! The passes that go forward over a log: analysis and redo. One thread does one behind the other. Redo
-//! asks analysis for the dirty pages alone, so where there are more workers the transactions are found
-//! beside it.
+//! The passes that go forward over a log: analysis and redo. One thread does one after the other.
+//! Redo needs only the dirty pages from analysis. So with more workers the transactions are found
+//! at the same time as redo.
 
 ghost use Rattle.std.specs.Prelude.{◌≡◌, ℕ, true, Some, None, is_some, IfSome, IfOk, IfErr, MatchResult, map, length};
 ghost use Rattle.page.specs.declared.fault.Fault.TheVariants.{NoResource};
@@ -23,8 +23,8 @@ use std::thread::{Threads, join_mut};
 use tables::Tables;
 use wal::{Entry, Log};
 
-/// Analysis and redo in the thread of the caller: the tables of the crash, in two halves, and the pages
-/// of the store, redone by them. No page is ahead of the log.
+/// Analysis and redo in the thread of the caller: the tables of the crash, in two halves, and the
+/// pages of the store, redone by them. No page is ahead of the log.
 pub fn forward_alone<G: Gate>(
     alloc: Global,
     log: &Log,
@@ -44,7 +44,7 @@ pub fn forward_alone<G: Gate>(
     Ok((join_tables(transactions, pages), redone))
 }
 
-/// The transactions, and beside them the dirty pages and redo by them.
+/// The transactions, and at the same time the dirty pages and redo by them.
 fn side_by_side<G: Gate, R: Threads + Sync>(
     rt: &R,
     alloc: Global,
@@ -72,7 +72,7 @@ fn side_by_side<G: Gate, R: Threads + Sync>(
         ensures no_transaction_0 { IfOk result (λ found. entry_at 0 found.entries ≡ None) }
         ensures fault { IfErr result (BaseFault master (history log.entry.now)) }
     { analyse_transactions(alloc, log, master) };
-    // The closures are lent, and the store lies ready for the one call.
+    // The closures are borrowed, and the store is ready for the one call.
     let mut given = Some(store);
     let mut redo = || -> Result<(Tables, Redone), Fault>
         requires settings { IfSome given
@@ -96,10 +96,11 @@ fn side_by_side<G: Gate, R: Threads + Sync>(
 }
 
 /// Analysis and redo: the tables of the crash, and the pages of the store, redone by them. The
-/// settings hold, and no page is ahead of the log. More workers than one find the transactions beside
-/// redo.
+/// settings must be valid, and no page may be ahead of the log. With more than one worker, the
+/// transactions are found at the same time as redo.
 ///
-/// Refuses as [`restart`](crate::restart) from [`Fault::BadMaster`] on, as far as redo.
+/// The errors are those of [`restart`](crate::restart) from [`Fault::BadMaster`] on, up to those of
+/// redo.
 pub fn go_forward<G: Gate, R: Threads + Sync>(
     rt: &R,
     alloc: Global,

@@ -1,20 +1,21 @@
-//! Laws of restarts on values. Each function is its law: what it ensures holds of the definitions
-//! alone.
+//! Laws of restarts on values. Each function is a law: what it ensures follows from the definitions
+//! only.
 
 ghost use Rattle.restart.specs.OneAnswer.{OneOutcome, OneRestartFault, NoFaultOfARestart};
 
 use analysis::one_tables;
 use undo::{no_fault_of_undo, one_undo_fault};
 
-/// A log and a store have one outcome: two that meet the clause of [`restart`](crate::restart) on
-/// every input append the same records, leave the same store and tell the same numbers.
+/// A log and a store have one outcome. Two outcomes that meet the clause of
+/// [`restart`](crate::restart) on every input append the same records, leave the same store and
+/// report the same numbers.
 pub fn one_outcome()
     ensures { OneOutcome }
 {
     one_tables();
 }
 
-/// No restart is refused for two causes, want of memory and threads aside.
+/// A restart has at most one error, besides a lack of memory or threads.
 pub fn one_restart_fault()
     ensures { OneRestartFault }
 {
@@ -22,7 +23,7 @@ pub fn one_restart_fault()
     one_undo_fault();
 }
 
-/// Where a restart answers, no cause of a refusal stands.
+/// If a restart succeeds, no error condition holds.
 pub fn no_fault_of_a_restart()
     ensures { NoFaultOfARestart }
 {

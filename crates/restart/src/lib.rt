@@ -1,5 +1,4 @@
-//! Restart on values: analysis, redo and undo, one behind the other; and how a restart is to be
-//! run.
+//! Restart on values: analysis, redo and undo, one after the other; and the options of a restart.
 #![tactic(auto)]
 
 mod doubt;

@@ -1,4 +1,4 @@
-//! How a recovery is to be run.
+//! The options of a recovery.
 
 ghost use Rattle.std.specs.Prelude.{◌≡◌, Err, OnOk, IfErr};
 ghost use Rattle.page.specs.declared.fault.Fault.{Fault};
@@ -7,17 +7,17 @@ ghost use Rattle.restart.specs.Options.{AreInRange, OptionsFault};
 use page::Fault;
 use redo::{Parting, are_workers};
 
-/// How a restart is to be run. What it writes does not depend on these.
+/// The options of a restart. What it writes does not depend on them.
 #[derive(Clone, Copy, Debug, PartialEq, Eq)]
 pub struct Options {
     /// How many threads redo the pages, 1 to 64.
     pub workers: u32,
-    /// Into how many parts the pages are dealt, 1 to 4,096: page p goes to part p modulo parts.
+    /// Into how many parts the pages are divided, 1 to 4,096: page p goes to part p modulo parts.
     pub parts: u32,
 }
 
-/// Refuses options out of their ranges: [`Fault::BadWorkers`] where `workers` is outside 1 to 64,
-/// then [`Fault::BadParting`] where `parts` is outside 1 to 4,096.
+/// Returns an error for options out of their ranges: [`Fault::BadWorkers`] if `workers` is outside
+/// 1 to 64, then [`Fault::BadParting`] if `parts` is outside 1 to 4,096.
 pub fn check_options(options: &Options) -> Result<(), Fault>
     ensures ok { OnOk result (AreInRange options.now) }
     ensures fault { IfErr result (OptionsFault options.now) }

@@ -1,4 +1,4 @@
-//! What a restart answers.
+//! The result of a restart.
 
 ghost use Rattle.std.specs.Prelude.{◌≡◌, IfOk, IsOkUnless};
 ghost use Rattle.page.specs.declared.fault.Fault.TheVariants.{NoResource};
@@ -16,29 +16,28 @@ use wal::Record;
 pub struct Outcome<A = Record> {
     /// The store after it: the master as it was, the pages recovered.
     pub store: Store,
-    /// The records that it adds to the log, which take the LSNs behind the log's last one.
+    /// The records that it appends to the log, which take the LSNs after the log's last one.
     pub appended: Vec<A>,
-    /// The LSN from which redo looked at records, 0 where it looked at none.
+    /// The LSN from which redo looked at records, 0 if it looked at none.
     pub redo_from: u64,
     /// How many records redo applied.
     pub redone: u64,
     /// How many transactions were rolled back.
     pub losers: u64,
-    /// The transactions in doubt, in rising order of number: they have prepared to commit, and
-    /// neither committed nor turned back. What they wrote stays. Whoever settles one appends a
-    /// commit or an abort record of it to the log and restarts again.
+    /// The transactions in doubt, in ascending order of number: they have prepared to commit, and
+    /// neither committed nor aborted. What they wrote stays. To settle one, append a commit or an
+    /// abort record of it to the log and restart again.
     pub in_doubt: Vec<u32>,
-    /// How many compensation records (CLRs) are among the appended.
+    /// How many compensation records (CLRs) are among the appended records.
     pub compensated: u64,
-    /// How many end records are among the appended.
+    /// How many end records are among the appended records.
     pub ended: u64,
 }
 
-/// An [`Outcome`] of which the appended records are told in brief: what they hold stands in the
-/// log.
+/// An [`Outcome`] with the appended records in compact form: what they hold is in the log.
 pub type BriefOutcome = Outcome<Appended>;
 
-/// The outcome that is told in brief. The only error is [`Fault::NoResource`], where memory was
+/// The outcome with the full records. The only error is [`Fault::NoResource`], if memory was
 /// refused.
 pub fn outcome_of(alloc: Global, log: &Looked, brief: BriefOutcome) -> Result<Outcome, Fault>
     requires { HaveUpdates log.now brief.appended.items }

@@ -1,4 +1,4 @@
-//! Restart on values: analysis, redo and undo, one behind the other.
+//! Restart on values: analysis, redo and undo, one after the other.
 
 ghost use Rattle.std.specs.Prelude.{◌≡◌, ◌≤◌, ◌+◌, ◌*◌, ◌^◌, All, Err, length, IfOk, OnOk, IfErr, MatchResult};
 ghost use Rattle.page.specs.declared.fault.Fault.{Fault};
@@ -26,7 +26,8 @@ use tables::Tables;
 use undo::{Appended, Looked, Place, undo_in_brief};
 use wal::Log;
 
-/// Refuses a number of workers out of its range, then a parting of another number of pages.
+/// Returns an error for a number of workers out of its range, then for a partition of another
+/// number of pages.
 fn check_settings(store: &Store, parting: &Parting, workers: u32) -> Result<(), Fault>
     ensures ok { OnOk result (AreSettings (length store.now.pages) parting.now workers) }
     ensures refused { (e : Fault) → SettingsFault (length store.now.pages) parting.now workers e
@@ -42,8 +43,8 @@ fn check_settings(store: &Store, parting: &Parting, workers: u32) -> Result<(), 
     Ok(())
 }
 
-/// Refuses, by [`Fault::PageAheadOfLog`] with its number, the first page whose PageLSN is above `last`,
-/// the LSN of the log's last record.
+/// Returns [`Fault::PageAheadOfLog`] with its number for the first page whose PageLSN is above
+/// `last`, the LSN of the log's last record.
 pub fn check_lsns(last: u64, pages: &[Page]) -> Result<(), Fault>
     ensures ok { OnOk result (All (λ page. page.lsn ≤ last) pages.now) }
     ensures fault { (log : LogContent) → last_lsn (history log) ≡ last
@@ -75,17 +76,17 @@ fn count_kinds(appended: &[Appended]) -> (u64, u64)
     (clrs, ends)
 }
 
-/// Rolls the losers back on the pages of a store that were redone, which ends a restart. `master`,
-/// `tables` and `redone` are the store's master, the tables that analysis finds in the whole log, and
-/// what redo makes of the store by them.
+/// Rolls the losers back on the redone pages of a store, which ends a restart. `master`, `tables`
+/// and `redone` are the store's master, the tables that analysis finds in the whole log, and what
+/// redo makes of the store by them.
 ///
 /// `log` is the whole log, or what an [`undo::Gathering`] gathers of it for the losers of `tables`.
 /// The outcome is the same: the store, the numbers, and the records that are appended, which
 /// [`undo::record_of`] makes of either.
 ///
-/// Refuses by the faults of [`undo`]: [`Fault::NoSuchPage`], [`Fault::BrokenChain`], and
-/// [`Fault::NoResource`] if memory was refused. A lawful log and its store are refused by nothing but
-/// the last. With an error the pages are gone.
+/// The errors are those of [`undo`]: [`Fault::NoSuchPage`], [`Fault::BrokenChain`], and
+/// [`Fault::NoResource`] if memory was refused. For a lawful log and its store only the last is
+/// possible. On an error the pages are lost.
 pub fn roll_back(
     alloc: Global,
     log: &Looked,
@@ -95,7 +96,8 @@ pub fn roll_back(
 ) -> Result<BriefOutcome, Fault>
     requires numbered { AreNumbered redone.pages.items }
     requires no_transaction_0 { HasNoTransaction0 tables.now }
-    // Of a lawful log and its store, over any base pages: the log's tail and the store that the winners leave.
+    // For a lawful log and its store, over any base pages: the log's tail and the store that the
+    // winners leave.
     ensures lawful { (whole : LogContent) (base : BasePages) (before : StoreContent)
         → AreGathered (history whole) (history log.now) (losers_in tables.now)
         → Lawful base whole before → AreNumbered before.pages → before.master ≡ master
@@ -103,7 +105,7 @@ pub fn roll_back(
         → MatchResult result (λ x. Restores base whole before (outcome_in (history whole) x))
         (λ e. e ≡ NoResource) }
 
-    // Wherever it answers: what undo makes of the whole log and the pages.
+    // On success: what undo makes of the whole log and the pages.
     ensures restarts { (whole : LogContent) (before : StoreContent)
         → AreGathered (history whole) (history log.now) (losers_in tables.now)
         → before.master ≡ master → IsRedone whole before tables.now redone
@@ -115,13 +117,13 @@ pub fn roll_back(
         → records_of (history log.now) x.appended.items
         ≡ records_of (history whole) x.appended.items) }
 
-    // Each update that is named stands in the log; each appended record has a spelling, and they are so
-    // few that there are LSNs for them after the log.
+    // Each update that is named is in the log; each appended record has an encoding, and they are
+    // so few that there are LSNs for them after the log.
     ensures told { IfOk result (λ x. HaveUpdates log.now x.appended.items) }
     ensures writable { IfOk result (λ x. AreFit log.now x.appended.items) }
     ensures few { IfOk result (λ x. length x.appended.items ≤ 2 * length log.now.records + 2 ^ 32) }
 
-    // A refusal has its cause in the whole log and the store, memory aside.
+    // An error has its condition in the whole log and the store, memory aside.
     ensures fault { (whole : LogContent) (before : StoreContent)
         → AreGathered (history whole) (history log.now) (losers_in tables.now)
         → IsRedone whole before tables.now redone → IfErr result (InputFault whole before) }
@@ -142,8 +144,8 @@ pub fn roll_back(
     })
 }
 
-/// [`restart`] on a store that is given away: its pages are changed in place and not copied, and the
-/// appended records are told in brief. With an error the pages are gone.
+/// [`restart`] on a store that is given away: its pages are changed in place and not copied, and
+/// the appended records are in compact form. On an error the pages are lost.
 pub fn restart_in_place<G: Gate, R: Threads + Sync>(
     rt: &R,
     alloc: Global,
@@ -153,25 +155,27 @@ pub fn restart_in_place<G: Gate, R: Threads + Sync>(
     workers: u32,
     gate: &G,
 ) -> Result<BriefOutcome, Fault>
-    // On a lawful log and its store, over any base pages: the log's tail and the store that the winners leave.
+    // For a lawful log and its store, over any base pages: the log's tail and the store that the
+    // winners leave.
     ensures lawful { (base : BasePages) → Lawful base log.now store
         → AreSettings (length store.pages) parting.now workers
         → MatchResult result (λ x. Restores base log.now store (outcome_in (history log.now) x))
         (λ e. e ≡ NoResource) }
 
-    // Wherever it answers: what analysis, redo and undo make of log and store, and no cause of a refusal stands.
+    // On success: what analysis, redo and undo make of log and store, and no error condition holds.
     ensures restarts { IfOk result (λ x. Restarts log.now store (outcome_in (history log.now) x)) }
     ensures settings { (e : Fault) → SettingsFault (length store.pages) parting.now workers e
         → result ≡ Err e }
 
-    // Each update that is named stands in the log.
+    // Each update that is named is in the log.
     ensures told { IfOk result (λ x. HaveUpdates log.now x.appended.items) }
 
-    // Each appended record has a spelling; they are so few that there are LSNs for them behind the log.
+    // Each appended record has an encoding; they are so few that there are LSNs for them after the
+    // log.
     ensures writable { IfOk result (λ x. AreFit log.now x.appended.items) }
     ensures few { IfOk result (λ x. length x.appended.items ≤ 2 * length log.now.records + 2 ^ 32) }
 
-    // A refusal has its cause in the input, memory aside.
+    // An error has its condition in the settings or the input, memory aside.
     ensures fault { IfErr result (RestartFault log.now store parting.now workers) }
 {
     check_settings(&store, parting, workers)?;
@@ -184,25 +188,25 @@ pub fn restart_in_place<G: Gate, R: Threads + Sync>(
     roll_back(alloc, &looked, master, &tables, redone)
 }
 
-/// Restarts on a log and its store after a crash (ARIES, section 6): analysis from the last
-/// checkpoint on, redo by `workers` threads that draw the parts of the pages and call the gate for
-/// each, undo of the transactions that have not finished and are not in doubt. Of two workers or
-/// more one thread beside them finds these transactions while redo goes on.
+/// Restarts on a log and its store after a crash (ARIES, section 6). Analysis begins at the last
+/// checkpoint. Redo runs in `workers` threads, which draw the parts of the pages and call the gate
+/// for each. Undo rolls back the transactions that have not finished and are not in doubt. With two
+/// or more workers, one more thread finds these transactions while redo runs.
 ///
-/// On a lawful log and its store each page has exactly what the committed and in-doubt
-/// transactions' updates and compensations, in LSN order, make of the base page (what it held before
-/// the log's first record), and as PageLSN the LSN of its last record; the appended records are the
+/// On a lawful log and its store each page has exactly what the updates and compensations of the
+/// committed and in-doubt transactions, in LSN order, make of the base page (what it held before
+/// the log's first record). Its PageLSN is the LSN of its last record. The appended records are the
 /// log's tail, and the transactions in doubt are listed. Log, store and outcome do not depend on
-/// workers, parting and gate. A restart on what was appended and the store after it appends
+/// workers, partition and gate. A restart on what was appended and the store after it appends
 /// nothing, leaves that store as it is and lists the same transactions.
 ///
-/// Refuses, in this order, by [`Fault::BadWorkers`] where `workers` is outside 1 to 64;
-/// [`Fault::BadParting`] where the parting has another number of pages than the store;
+/// The errors are, in this order: [`Fault::BadWorkers`] if `workers` is outside 1 to 64;
+/// [`Fault::BadParting`] if the partition has another number of pages than the store;
 /// [`Fault::PageAheadOfLog`] with the number of the first page whose PageLSN is above the log's
-/// last LSN; [`Fault::BadMaster`] for a master that no checkpoint has; by the faults of
-/// [`redo::redo`] and then those of [`undo`]. [`Fault::NoResource`], where memory or a thread was
-/// refused, may come in place of any answer; a lawful log and its store are refused by nothing
-/// else. After an error log and store are as they were.
+/// last LSN; [`Fault::BadMaster`] for a master that no checkpoint has; those of [`redo::redo`]; and
+/// then those of [`undo`]. [`Fault::NoResource`], if memory or a thread was refused, may come
+/// instead of any other result. For a lawful log and its store, with valid settings, no other error
+/// is possible. After an error log and store are as they were.
 pub fn restart<G: Gate, R: Threads + Sync>(
     rt: &R,
     alloc: Global,
@@ -212,22 +216,24 @@ pub fn restart<G: Gate, R: Threads + Sync>(
     workers: u32,
     gate: &G,
 ) -> Result<Outcome, Fault>
-    // On a lawful log and its store, over any base pages: the log's tail and the store that the winners leave.
+    // For a lawful log and its store, over any base pages: the log's tail and the store that the
+    // winners leave.
     ensures lawful { (base : BasePages) → Lawful base log.now store.now
         → AreSettings (length store.now.pages) parting.now workers
         → MatchResult result (λ x. Restores base log.now store.now (outcome_of x))
         (λ e. e ≡ NoResource) }
 
-    // Wherever it answers: what analysis, redo and undo make of log and store, and no cause of a refusal stands.
+    // On success: what analysis, redo and undo make of log and store, and no error condition holds.
     ensures restarts { IfOk result (λ x. Restarts log.now store.now (outcome_of x)) }
     ensures settings { (e : Fault) → SettingsFault (length store.now.pages) parting.now workers e
         → result ≡ Err e }
 
-    // Each appended record has a spelling; they are so few that there are LSNs for them behind the log.
+    // Each appended record has an encoding; they are so few that there are LSNs for them after the
+    // log.
     ensures writable { IfOk result (λ x. AreWritable x.appended.items) }
     ensures few { IfOk result (λ x. length x.appended.items ≤ 2 * length log.now.records + 2 ^ 32) }
 
-    // A refusal has its cause in the input, memory aside.
+    // An error has its condition in the settings or the input, memory aside.
     ensures fault { IfErr result (RestartFault log.now store.now parting.now workers) }
 {
     check_settings(store, parting, workers)?;

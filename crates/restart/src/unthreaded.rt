@@ -18,25 +18,26 @@ use std::alloc::Global;
 use undo::{Looked, Place};
 use wal::Log;
 
-/// [`restart_in_place`](crate::restart_in_place) in the thread of the caller: no thread is started,
-/// no gate called and no parting asked for. It refuses by the faults of the former from
+/// [`restart_in_place`](crate::restart_in_place) in the thread of the caller: it starts no thread,
+/// calls no gate and needs no partition. Its errors are those of `restart_in_place` from
 /// [`Fault::PageAheadOfLog`] on.
 pub fn restart_alone(alloc: Global, log: &Log, store: Store) -> Result<BriefOutcome, Fault>
-    // On a lawful log and its store, over any base pages: the log's tail and the store that the winners leave.
+    // For a lawful log and its store, over any base pages: the log's tail and the store that the
+    // winners leave.
     ensures lawful { (base : BasePages) → Lawful base log.now store
         → MatchResult result (λ x. Restores base log.now store (outcome_in (history log.now) x))
         (λ e. e ≡ NoResource) }
 
-    // Wherever it answers: what analysis, redo and undo make of log and store, and no cause of a refusal stands.
+    // On success: what analysis, redo and undo make of log and store, and no error condition holds.
     ensures restarts { IfOk result (λ x. Restarts log.now store (outcome_in (history log.now) x)) }
 
-    // Each update that is named stands in the log; each appended record has a spelling, and they are so
-    // few that there are LSNs for them behind the log.
+    // Each update that is named is in the log; each appended record has an encoding, and they are
+    // so few that there are LSNs for them after the log.
     ensures told { IfOk result (λ x. HaveUpdates log.now x.appended.items) }
     ensures writable { IfOk result (λ x. AreFit log.now x.appended.items) }
     ensures few { IfOk result (λ x. length x.appended.items ≤ 2 * length log.now.records + 2 ^ 32) }
 
-    // A refusal has its cause in the input, memory aside.
+    // An error has its condition in the input, memory aside.
     ensures fault { IfErr result (InputFault log.now store) }
 {
     check_lsns(log.last(), &store.pages)?;

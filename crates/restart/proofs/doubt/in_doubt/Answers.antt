@@ -12,7 +12,7 @@ use Rattle.wal.specs.Undo.{is_prepared, is_lost, doubtful_in}
 use Rattle.tables.specs.Tables.{TablesContent}
 use Rattle.restart.proofs.doubt.in_doubt.Goals as goal
 
--- the transactions in doubt among the entries of the turns so far, and of one turn more
+-- the transactions in doubt among the entries of the turns so far, and of one more turn
 one_more : (yielded : List (Bor ℕ × Bor Entry)) (tx : Bor ℕ) (entry : Bor Entry)
     → doubtful_in (map entry_of (map deref_pair (yielded ++ (tx, entry) ∷ [])))
     ≡ doubtful_in (map entry_of (map deref_pair yielded)) ++ map tx_in (cond (is_prepared entry.now.state) (entry_of (tx.now, entry.now) ∷ []) [])

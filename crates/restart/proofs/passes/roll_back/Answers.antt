@@ -61,7 +61,7 @@ rolled : (c : goal.After-len-2) (whole : LogContent) → AreGathered (history wh
 rolled c whole are =
     (gathered_suffices whole c.args.log.now c.args.tables.now are).rolled_back c.args.redone.pages.items c.in_ok-pages.pages.items c.in_ok-pages.appended.items c.in_ok-pages.ensures.rolled_back
 
--- what is answered: the losers are rolled back
+-- the outcome: the losers are rolled back
 abbrev outcome : goal.After-len-2 → LogContent → OutcomeContent
 outcome c whole =
     outcome_in (history whole)
