@@ -43,7 +43,7 @@ words_without_fault : IsFaultless (map codes ("aries" ∷ "audit" ∷ "--log" �
 unfolding clap_on_literals aries_line recover_line audit_line
 words_without_fault = refl
 
--- so are those of a recovery in place
+-- so are the words of a recovery in place
 words_in_place : List Text
 words_in_place = map codes ("aries" ∷ "recover" ∷ "--in-place" ∷ "--log" ∷ "a" ∷ "--store" ∷ "b" ∷ "--replace" ∷ [])
 
@@ -59,7 +59,7 @@ in_place_named log store options may_be_one verbose log_is store_is =
     let given : (name : Text) (file : FileName) → string_bytes file ≡ name → Some name ≡ Some (string_bytes file) = λ name file is. ap (λ (t : Text). Some t) (sym is) in
     (refl, given _ log log_is, given _ store store_is, (λ _. refl, λ _. refl), refl, (refl, (λ _. refl, λ _. refl)))
 
--- no values ask for a recovery into new files and for one in place
+-- no values ask for both a recovery into new files and one in place
 not_both : (command : Text) (values : List Row) (log store out_log out_store log' store' : FileName) (new : Option FileName) (options options' : Options) (may_be_one may_be_one' verbose verbose' : Bool)
     → NamesFiles command values (Recover log store out_log out_store options may_be_one verbose)
     → NamesFiles command values (RecoverInPlace log' store' new options' may_be_one' verbose') → ⊥

@@ -11,7 +11,7 @@ use Rattle.restart.specs.declared.options.Options.{Options}
 use Rattle.page.specs.declared.sizes.TheConstants.{PAGES}
 use Rattle.redo.specs.declared.rounds.TheConstants.{WORKERS}
 
--- its numbers lie in their ranges
+-- its numbers are in their ranges
 abbrev pub HasRanges : Job → Type 0
 HasRanges (Recover log store out_log out_store options may_be_one verbose) = AreInRange options
 HasRanges (RecoverInPlace log store out_store options may_be_one verbose) = AreInRange options
@@ -21,7 +21,7 @@ HasRanges (Audit log store base verbose) = ⊤
 abbrev pub FileName : Type 0
 FileName = String Global
 
--- the values name the file of the new store; or they name none, and it takes the place of the old one, as the flag says
+-- the values name the file of the new store; or they name none, and it replaces the old one, as the flag says
 abbrev pub NamesNewStore : (values : List Row) → (out_store : Option FileName) → Type 0
 NamesNewStore values out_store =
     (first_of (codes "out-store") values ≡ option_map string_bytes out_store)
@@ -61,12 +61,12 @@ IsFaultless words = fault_of aries_line words ≡ []
 abbrev pub AsksFor : (words : List Text) → Job → Type 0
 AsksFor words job = IsFaultless words × HasFiles words job
 
--- where the option's value is a number of 1 to `most` in decimal digits, without a sign, n is that number
+-- if the option's value is a number of 1 to `most` in decimal digits, without a sign, n is that number
 abbrev pub IsNumberOf : (values : List Row) → (option : Text) → (most : ℕ) → (n : ℕ) → Type 0
 IsNumberOf values option most n =
     (given : ℕ) → 1 ≤ given → given ≤ most → one_of option values ≡ Some (decimal given) → n ≡ given
 
--- the values of the options give the numbers of a recovery, and the number of workers is open where they give none
+-- the values of the options give the numbers of a recovery, and the number of workers is open if they give none
 abbrev pub GivesOptions : (values : List Row) → Options → (may_be_one : Bool) → Type 0
 GivesOptions values options may_be_one =
     IsNumberOf values (codes "workers") WORKERS options.workers

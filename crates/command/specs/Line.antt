@@ -29,7 +29,7 @@ number_rule name most default = record (new_rule name) {
   defaults = as_list default;
 }
 
--- `aries recover`; which of the options that may be left out go together, `NamesFiles` says
+-- `aries recover`; `NamesFiles` says which of the optional options go together
 unfoldable pub recover_line : Shape
 recover_line = record (new_shape (codes "recover")) {
   rules = file_rule (codes "log")

@@ -1,4 +1,4 @@
-//! What `--help` says beside the options, and what is said of a line of `recover` that is wrong.
+//! The texts of `--help` besides the options, and the messages for wrong lines of `recover`.
 
 /// The option `--verbose`.
 pub(crate) const VERBOSE: &str =
@@ -31,7 +31,7 @@ pub(crate) const IN_PLACE: &str = "Continue the log file where it lies; then no 
 pub(crate) const REPLACE: &str =
     "Put the recovered store in the place of the old one; only with --in-place";
 
-/// A line of `recover` that says nothing of the new log.
+/// A line of `recover` that does not say where the new log goes.
 pub(crate) const NO_LOG: &str = "'--out-log <FILE>' is needed, or '--in-place'";
 
 /// A line of `recover` that makes a new log and replaces the store.
@@ -42,7 +42,7 @@ pub(crate) const REPLACE_ALONE: &str =
 pub(crate) const TWO_LOGS: &str =
     "the argument '--in-place' cannot be used with '--out-log <FILE>'";
 
-/// A line of `recover` that says nothing of the recovered store.
+/// A line of `recover` that does not say where the recovered store goes.
 pub(crate) const NO_STORE: &str =
     "'--out-store <FILE>' is needed, or '--replace' with '--in-place'";
 

@@ -25,39 +25,38 @@ use words::{Refusal, flag_of, flag_option, no_command};
 /// What a command line asks for.
 #[derive(Debug, Drop)]
 pub enum Job {
-    /// Recover the store `store` by the log `log`, into two files that are made anew.
+    /// Recover the store `store` from the log `log`, into two new files.
     Recover {
         log: String,
         store: String,
         out_log: String,
         out_store: String,
         options: Options,
-        /// Whether one worker may do instead where the log is short: the line names no number.
+        /// Whether one worker may do all if the log is short: the line gives no number.
         may_be_one: bool,
-        /// Whether standard error is to say more: after a refusal which file and which call, else
-        /// how long each part took.
+        /// Whether to print more on standard error: after a fault, which file and which call;
+        /// otherwise how long each part took.
         verbose: bool,
     },
-    /// Recover the store `store` by the log `log`, which is continued in its place. The new store
-    /// is written to `out_store`, a file that is made, or takes the place of the old one if that is
-    /// `None`.
+    /// Recover the store `store` from the log `log`, which is continued in place. The new store is
+    /// written to `out_store`, a new file. If that is `None`, it replaces the old store.
     RecoverInPlace {
         log: String,
         store: String,
         out_store: Option<String>,
         options: Options,
-        /// Whether one worker may do instead where the log is short: the line names no number.
+        /// Whether one worker may do all if the log is short: the line gives no number.
         may_be_one: bool,
-        /// Whether standard error is to say more, as of [`Job::Recover`].
+        /// Whether to print more on standard error, as for [`Job::Recover`].
         verbose: bool,
     },
-    /// Say whether the log `log` and the store `store` are lawful, over the pages of the base store
-    /// `base` where it is given, else over empty ones.
+    /// Report whether the log `log` and the store `store` are lawful: over the pages of the base
+    /// store `base` if it is given, otherwise over empty pages.
     Audit {
         log: String,
         store: String,
         base: Option<String>,
-        /// Whether standard error is to say more, as of [`Job::Recover`].
+        /// Whether to print more on standard error, as for [`Job::Recover`].
         verbose: bool,
     },
 }
@@ -85,7 +84,7 @@ fn free_file_option<'a>(alloc: Global, name: &'a str, help: &'a str) -> Arg<'a>
         .help(help)
 }
 
-/// An option with a number of 1 to `most`, which may be left out, and then has its default, if there
+/// An option with a number of 1 to `most`. It may be left out, and then has its default, if there
 /// is one.
 fn number_option<'a>(
     alloc: Global,
@@ -170,8 +169,8 @@ fn aries_command<'a>(alloc: Global) -> Result<Command<'a>, AllocError>
         .subcommand(audit_command(alloc)?)
 }
 
-/// The name that an option gives a file. Such an option is required, so a line without it was
-/// refused.
+/// The file name that an option gives. Such an option is required, so a line without it was
+/// rejected.
 fn file_of(
     alloc: Global,
     command: &mut Command,
@@ -192,7 +191,7 @@ fn file_of(
     }
 }
 
-/// The name that an option gives a file, if it is there.
+/// The file name that an option gives, if it is there.
 fn given_file(alloc: Global, matches: &ArgMatches, name: &str) -> Result<Option<String>, Refusal>
     ensures given { IfOk result (λ file.
         first_of name.now (rows_of (found_of matches.now)) ≡ option_map string_bytes file) }
@@ -218,7 +217,7 @@ fn number_of(matches: &ArgMatches, name: &str, most: u32, default: u32) -> u32
         .clamp(1, most)
 }
 
-/// The numbers that the options of `recover` give, and whether one worker may do.
+/// The numbers that the options of `recover` give, and whether one worker may do all.
 fn options_of(matches: &ArgMatches) -> (Options, bool)
     ensures given { GivesOptions (rows_of (found_of matches.now)) result.0 result.1 }
     ensures ranges { AreInRange result.0 }
@@ -230,24 +229,24 @@ fn options_of(matches: &ArgMatches) -> (Options, bool)
     (options, matches.get_str("workers").is_none())
 }
 
-/// The refusal of a line of `recover`.
+/// The error of a line of `recover`.
 fn wrong_line(alloc: Global, kind: ErrorKind, message: &str) -> Result<Refusal, AllocError> {
     let mut command = recover_command(alloc)?;
     Ok(Refusal::Line(command.error(kind, message)?))
 }
 
-/// The refusal of a line of `recover` that leaves out an option.
+/// The error of a line of `recover` that leaves out an option.
 fn missing_option(alloc: Global, message: &str) -> Result<Refusal, AllocError> {
     wrong_line(alloc, ErrorKind::MissingRequiredArgument, message)
 }
 
-/// The refusal of a line of `recover` with two options that do not go together.
+/// The error of a line of `recover` with two options that exclude each other.
 fn option_conflict(alloc: Global, message: &str) -> Result<Refusal, AllocError> {
     wrong_line(alloc, ErrorKind::ArgumentConflict, message)
 }
 
-/// The name of the file that the recovered store is written to, or `None` where it takes the place
-/// of the old store. A line that says neither, or both, is refused.
+/// The name of the file that the recovered store is written to, or `None` if it replaces the old
+/// store. A line that says neither, or both, is an error.
 fn new_store_of(alloc: Global, matches: &ArgMatches) -> Result<Option<String>, Refusal>
     ensures given { IfOk result (λ file. NamesNewStore (rows_of (found_of matches.now)) file) }
     ensures refused { IfErr result (λ refusal. (file : Option FileName)
@@ -319,11 +318,11 @@ fn audit_job(alloc: Global, command: &mut Command, matches: &ArgMatches) -> Resu
     })
 }
 
-/// What a command line asks for; the first word is the program's name. Refuses a line that is wrong
-/// or asks for help or the version by [`Refusal::Line`], and by [`Refusal::Memory`] where memory
-/// was refused. A line that asks for a job, since `clap` finds no fault in it and its words give
-/// the job's command and files, is refused by [`Refusal::Memory`] alone. `clap` reads a number as
-/// `u32` does, so `+4` is 4; what `numbers` says of digits is said of those without a sign.
+/// What a command line asks for; the first word is the program's name. The error is
+/// [`Refusal::Line`] if the line is wrong or asks for help or the version, and [`Refusal::Memory`]
+/// if memory was refused. A line asks for a job if `clap` finds no fault in it and its words give
+/// the job's command and files; for such a line the only error is [`Refusal::Memory`]. `clap` reads
+/// a number as `u32` does, so `+4` is 4; the clause `numbers` covers only digits without a sign.
 pub fn command_of<'a>(alloc: Global, words: &'a [&'a str]) -> Result<Job, Refusal>
     ensures faultless { OnOk result (IsFaultless (map (λ w. w.now) words.now)) }
     ensures files { IfOk result (HasFiles (map (λ w. w.now) words.now)) }

@@ -4,7 +4,7 @@ use Rattle.clap.proofs.WalkLemmas.{first_value-rows}
 use Rattle.clap.specs.Words.{found_of}
 use Rattle.command.proofs.job.options_of.Goals as goal
 
--- a value that is not there, told by a test
+-- a value that is not there, found by a test
 left_out : {A B : Type 0} (f : A → B) (value : Option A) (first : Option B) (test : Bool) → is_some value ≡ not test → option_map f value ≡ first → IsTrue test ↔ (first ≡ None)
 left_out f None first true tested is = (λ _. sym is, λ _. refl)
 left_out f None first false tested is = absurd cc
