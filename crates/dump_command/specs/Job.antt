@@ -6,12 +6,12 @@ use Rattle.dump_command.specs.declared.job.Job.TheVariants.{Log, Store}
 use Rattle.words.specs.Flags.{IsFlagOf}
 use Rattle.dump_command.specs.Line.{dump_line}
 
--- the command is the job's, and the value behind it names the job's file
+-- the command is the job's, and the value after it names the job's file
 abbrev pub NamesFile : (command : Text) → (values : List Row) → Job → Type 0
 NamesFile command values (Log file from to transaction page is_json) = (command ≡ codes "log") × (first_of (codes "FILE") values ≡ Some (string_bytes file))
 NamesFile command values (Store file page is_json) = (command ≡ codes "store") × (first_of (codes "FILE") values ≡ Some (string_bytes file))
 
--- where the option has no value there is no number; where its value is a number below the limit in decimal digits, that is the number
+-- if the option has no value there is no number; if its value is a number below the limit in decimal digits, that is the number
 pub record IsGiven (limit : ℕ) (values : List Row) (option : Text) (number : Option ℕ) : Type 0 where
   pub none : one_of option values ≡ None → number ≡ None
   pub some : (given : ℕ) → given < limit → one_of option values ≡ Some (decimal given) → number ≡ Some given

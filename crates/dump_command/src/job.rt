@@ -13,13 +13,13 @@ use clap::{Arg, ArgMatches, Command, value_parser};
 use std::alloc::{AllocError, Global};
 use words::{Refusal, flag_of, flag_option, no_command};
 
-/// What `--help` says of the flag that asks for JSON.
+/// The text of `--help` for the flag that asks for JSON.
 const JSON: &str = "An object of JSON a line";
 
-/// What a command line of `aries_dump` asks for. A number that is None was not given.
+/// What a command line of `aries_dump` asks for. A number that is `None` was not given.
 #[derive(Debug, Drop)]
 pub enum Job {
-    /// Say what the log `file` holds: the records with LSNs of `from` to `to` that are of the
+    /// List what the log `file` holds: the records with LSNs of `from` to `to` that are of the
     /// transaction and on the page.
     Log {
         file: String,
@@ -29,7 +29,7 @@ pub enum Job {
         page: Option<u32>,
         is_json: bool,
     },
-    /// Say what the store `file` holds, or what the page does.
+    /// List what the store `file` holds, or only the page.
     Store {
         file: String,
         page: Option<u32>,
@@ -37,7 +37,7 @@ pub enum Job {
     },
 }
 
-/// The file, which stands behind the command.
+/// The file, which follows the command.
 fn path<'a>(alloc: Global, help: &'a str) -> Arg<'a>
     ensures rule { rule_of result ≡ path_rule }
     ensures local { result.global ≡ false }
@@ -57,7 +57,7 @@ fn lsn_option<'a>(alloc: Global, name: &'a str, help: &'a str) -> Arg<'a>
         .help(help)
 }
 
-/// An option with the number of a transaction or a page; `--help` shows `shown` in its place.
+/// An option with the number of a transaction or a page; `--help` shows `shown` for the number.
 fn number_option<'a>(alloc: Global, name: &'a str, shown: &'a str, help: &'a str) -> Arg<'a>
     ensures rule { rule_of result ≡ number_rule name.entry.now }
     ensures local { result.global ≡ false }
@@ -130,7 +130,7 @@ fn number_of(matches: &ArgMatches, name: &str) -> Option<u32>
     matches.get_one::<u32>(name)
 }
 
-/// The name that stands behind the command. It is required, so a line without it was refused.
+/// The name that follows the command. It is required, so a line without it was rejected.
 fn file_of(alloc: Global, command: &mut Command, matches: &ArgMatches) -> Result<String, Refusal>
     ensures given { IfOk result (λ file.
         first_of (codes "FILE") (rows_of (found_of matches.now)) ≡ Some (string_bytes file)) }
@@ -178,10 +178,11 @@ fn store_job(alloc: Global, command: &mut Command, matches: &ArgMatches) -> Resu
     })
 }
 
-/// What a command line of `aries_dump` asks for; the first word is the program's name. Refuses a
-/// line that is wrong or asks for help or the version by [`Refusal::Line`], and by
-/// [`Refusal::Memory`] where memory was refused. A line that asks for a job, since `clap` finds no
-/// fault in it and its words give the job's command and file, is refused by [`Refusal::Memory`] alone. A number may have a `+` in front, as `clap` takes it.
+/// What a command line of `aries_dump` asks for; the first word is the program's name. The error is
+/// [`Refusal::Line`] if the line is wrong or asks for help or the version, and [`Refusal::Memory`]
+/// if memory was refused. A line asks for a job if `clap` finds no fault in it and its words give
+/// the job's command and file; for such a line the only error is [`Refusal::Memory`]. A number may
+/// begin with a `+`, as `clap` takes it.
 pub fn dump_of<'a>(alloc: Global, words: &'a [&'a str]) -> Result<Job, Refusal>
     ensures faultless { OnOk result (IsFaultless (map (λ w. w.now) words.now)) }
     ensures file { IfOk result (HasFile (map (λ w. w.now) words.now)) }
