@@ -1,4 +1,4 @@
-//! Recovery from two files to two files, and the audit of two, or of two over a third.
+//! Recovery from two files to two files, and the audit of two files, or of two over a third.
 
 ghost use Rattle.std.specs.Prelude.{◌≢◌};
 ghost use Rattle.page.specs.declared.fault.Fault.TheVariants.{NoResource};
@@ -18,7 +18,7 @@ use std::rt::{Clock, Files};
 use std::thread::Threads;
 use wal::{BASED_HEADER_BYTES, LARGEST_BASE, read_log};
 
-/// A log of fewer bytes than this is short: to start threads takes longer than they save.
+/// A log of fewer bytes than this is short: starting threads takes longer than they save.
 const SHORT: usize = 16 << 20;
 
 /// What a job reads.
@@ -26,12 +26,12 @@ const SHORT: usize = 16 << 20;
 pub struct OldFiles<'a> {
     pub log: Notes<'a>,
     pub store: Notes<'a>,
-    /// The base store of an audit, where it is given.
+    /// The base store of an audit, if it is given.
     pub base: Option<Notes<'a>>,
 }
 
 impl<'a> OldFiles<'a> {
-    /// Files at these paths, of which nothing is noted yet.
+    /// Files at these paths, with nothing noted yet.
     pub fn new(log: &'a str, store: &'a str, base: Option<&'a str>) -> OldFiles<'a> {
         OldFiles {
             log: Notes::new("log", log),
@@ -41,14 +41,14 @@ impl<'a> OldFiles<'a> {
     }
 }
 
-/// What a recovery writes. Nothing is noted of it yet when it is made.
+/// What a recovery writes. Nothing is noted of it when it is made.
 #[derive(Drop)]
 pub struct NewFiles<'a> {
     pub log: Notes<'a>,
     pub store: Notes<'a>,
 }
 
-/// Notes that a file was not opened or made, and gives its fault: want of memory, or that file's.
+/// Notes that a file was not opened or made, and returns the fault: lack of memory, or the file's.
 pub fn refuse(file: &Notes, call: Call, error: io::Error, fault: Fault) -> Fault {
     file.fail(call, error);
     match error.kind() {
@@ -57,29 +57,31 @@ pub fn refuse(file: &Notes, call: Call, error: io::Error, fault: Fault) -> Fault
     }
 }
 
-/// Opens a file to be read; `fault` where that failed.
+/// Opens a file to be read; `fault` if that failed.
 pub fn open<R: Files>(rt: &R, file: &Notes, fault: Fault) -> Result<R::File, Fault> {
     File::open(rt, file.path).map_err(|error| refuse(file, Call::Open, error, fault))
 }
 
-/// What a mode lets its owner do, and what it lets both its group and all others do. That is the mode of a
-/// file of another group, whose members were among the others, and whose others may be of the old group.
+/// The rights that a mode gives its owner, and those that it gives both its group and all others.
+/// This is the mode for a file of another group: members of that group were among the others, and
+/// its others may be of the old group.
 fn mode_without_group(mode: u32) -> u32 {
     mode & 0o700 | mode & (mode >> 3) & 0o007
 }
 
-/// The group of a file, if it can be told.
+/// The group of a file, if it is known.
 fn group_of<F: OpenFile>(file: &F) -> Option<u32> {
     file.metadata().ok().map(|metadata| metadata.gid())
 }
 
-/// Makes a new file that nobody may read or write who may not read or write `old`, but for its owner, who
-/// makes it. It has the mode of `old` if it has its group, else no rights for a group; if the mode is not
-/// known, rights for its owner alone. `fault` if the file could not be made.
+/// Makes a new file. Only those who may read or write `old` may read or write it, except for its
+/// owner, who makes it. It has the mode of `old` if it has its group, otherwise no rights for a
+/// group; if the mode is not known, only its owner has rights. `fault` if the file could not be
+/// made.
 ///
-/// It is made without rights for its group, and its mode is set when the group is known, which also gives
-/// back the bits that the umask took away. On a file system that keeps no modes that fails, and changes
-/// nothing.
+/// The file is made without rights for its group. Its mode is set after the group is known; this
+/// also restores the bits that the umask took away. On a file system that keeps no modes this
+/// fails, and changes nothing.
 pub fn make<R: Files>(rt: &R, file: &Notes, old: &R::File, fault: Fault) -> Result<R::File, Fault> {
     let mode = match old.metadata() {
         Ok(metadata) => metadata.permissions().mode() & 0o777,
@@ -100,9 +102,9 @@ pub fn make<R: Files>(rt: &R, file: &Notes, old: &R::File, fault: Fault) -> Resu
     }
 }
 
-/// Asks that the name of a new file reaches the disk, which stands in its folder; `fault` where the
-/// folder could not be synced. Where the system lets nobody sync it, who may not read it or where a
-/// file system has no such thing, that is noted alone, as let pass.
+/// Syncs the folder of a new file, so that its name reaches the disk; `fault` if the folder could
+/// not be synced. If the system does not allow the sync, because the folder may not be read or the
+/// file system has no such operation, that is only noted, and the job goes on.
 pub fn sync_folder<R: Files>(rt: &R, file: &Notes, fault: Fault) -> Result<(), Fault> {
     let folder = match Path::new(file.path).parent() {
         Some(folder) if !folder.as_str().is_empty() => folder.as_str(),
@@ -124,7 +126,7 @@ pub fn sync_folder<R: Files>(rt: &R, file: &Notes, fault: Fault) -> Result<(), F
     }
 }
 
-/// These options, with one worker if it may be one and the log has few bytes.
+/// These options, with one worker if one worker may do all and the log has few bytes.
 pub fn options_for(options: &Options, may_be_one: bool, bytes: usize) -> Options {
     let mut chosen = *options;
     if may_be_one && bytes < SHORT {
@@ -133,7 +135,8 @@ pub fn options_for(options: &Options, may_be_one: bool, bytes: usize) -> Options
     chosen
 }
 
-/// Whether no LSN of a log is above the largest base LSN. A log has fewer records than bytes. Of this reading only a failure is noted.
+/// Whether no LSN of a log is above the largest base LSN. A log has fewer records than bytes. Only
+/// a failure of this reading is noted.
 fn has_low_lsns<R: Files + Clock>(rt: &R, alloc: Global, log: &Notes) -> Result<bool, Fault> {
     let notes = Notes::new(log.role, log.path);
     let file = open(rt, log, Fault::ReadLog)?;
@@ -151,8 +154,9 @@ fn has_low_lsns<R: Files + Clock>(rt: &R, alloc: Global, log: &Notes) -> Result<
     }
 }
 
-/// Whether an open log is to be read in pieces: if it is a regular file, which can be read again, and none
-/// of its LSNs is above the largest base LSN. `ReadLog` if its header could not be read.
+/// Whether an open log is to be read in pieces: it is if it is a regular file, which can be read
+/// again, and none of its LSNs is above the largest base LSN. `ReadLog` if its header could not be
+/// read.
 pub fn goes_in_pieces<R: Files + Clock>(
     rt: &R,
     alloc: Global,
@@ -165,14 +169,14 @@ pub fn goes_in_pieces<R: Files + Clock>(
     }
 }
 
-/// Recovers the store in a file by the log in another, into two files that are made anew, each with
-/// the mode of the one that it comes from. All four are opened, in the order log, store, new log,
-/// new store, before the first is read; the new store is written when the new log is whole and
-/// synced; the folders of the new files are synced last. After a fault, new files made so far stay:
-/// empty, or a beginning, or where a folder was not synced whole.
+/// Recovers the store in one file from the log in another, into two new files, each with the mode
+/// of the old one. All four are opened, in the order log, store, new log, new store, before the
+/// first is read. The new store is written after the new log is whole and synced. The folders of
+/// the new files are synced last. After a fault, new files made so far stay: empty, incomplete, or,
+/// if a folder was not synced, whole.
 ///
-/// A log in a regular file is read in pieces by one thread, and copied as the new log is written. Another
-/// is read into memory; there one worker does it all if it may be one and the log is short.
+/// A log in a regular file is read in pieces by one thread, and copied as the new log is written.
+/// Any other log is read into memory; then one worker does all if it may and the log is short.
 pub fn recover_files<R: Files + Clock + Threads + Sync>(
     rt: &R,
     alloc: Global,
@@ -217,7 +221,7 @@ pub fn recover_files<R: Files + Clock + Threads + Sync>(
     Ok(report)
 }
 
-/// The bytes of a file; `fault` where it cannot be opened or read to its end.
+/// The bytes of a file; `fault` if it cannot be opened or read to its end.
 fn read_file<R: Files + Clock>(
     rt: &R,
     alloc: Global,
@@ -231,9 +235,9 @@ fn read_file<R: Files + Clock>(
     read_source(alloc, &mut source, fault)
 }
 
-/// Whether the log and the store in two files are lawful, over the pages of the base store in a
-/// third where there is one, else over empty pages. All are read to their ends, in this order,
-/// before the first is decoded.
+/// Whether the log and the store in two files are lawful: over the pages of the base store in a
+/// third file if there is one, otherwise over empty pages. All are read to their ends, in this
+/// order, before the first is decoded.
 pub fn audit_files<R: Files + Clock>(rt: &R, alloc: Global, files: &OldFiles) -> Result<(), Fault> {
     let log = read_file(rt, alloc, &files.log, Fault::ReadLog)?;
     let store = read_file(rt, alloc, &files.store, Fault::ReadStore)?;

@@ -1,9 +1,10 @@
-//! Recovery in place: the log file is continued where it lies, and the new store is a new file or takes
-//! the place of the old one.
+//! Recovery in place: the log file is continued in place, and the new store is a new file or
+//! replaces the old one.
 //!
-//! What lies in the files at each moment is enough: until the file of the tail is whole and synced, the
-//! log is as it was; from then on the log can be continued by that file again, and the old store goes with
-//! it until the new one is whole and synced. So a run that was killed, or that the power cut, is run again.
+//! At each moment the files hold enough to recover. Until the file of the tail is whole and synced,
+//! the log is as it was. From then on the log can be continued again from that file, and the old
+//! store goes with it until the new one is whole and synced. So a run that was killed, or that a
+//! power failure ended, can be run again.
 
 ghost use Rattle.std.specs.Prelude.{◌≢◌};
 ghost use Rattle.page.specs.declared.fault.Fault.TheVariants.{NoResource};
@@ -57,10 +58,10 @@ fn read_from<R: Files + Clock>(
     read_source(alloc, &mut source, Fault::ReadLog)
 }
 
-/// Whether a log that holds these bytes from the tail's end of it on is still to be continued by the
-/// tail; `None` if the file of the tail belongs to another log. `after` are the bytes of the log from
-/// [`TailFile::end_offset`] on. If nothing is to be appended, a log of its old length may have its torn
-/// tail still, or zeros in the place of it.
+/// Whether a log with these bytes still has to be continued by the tail; `None` if the file of the
+/// tail belongs to another log. `after` are the bytes of the log from [`TailFile::end_offset`] on.
+/// If nothing is to be appended, a log of its old length may still have its torn tail, or zeros
+/// there.
 fn is_to_be_continued(file: &TailFile, after: &[u8]) -> Option<bool> {
     let length = file.kept.saturating_sub(file.end_offset()) as usize;
     let (end, rest) = after.split_at_checked(length)?;
@@ -78,7 +79,7 @@ fn is_to_be_continued(file: &TailFile, after: &[u8]) -> Option<bool> {
     (rest.len() as u64 <= longest).then_some(true)
 }
 
-/// Continues the log by the file of a tail that an interrupted run left whole.
+/// Continues the log from the file of a tail that an interrupted run left whole.
 fn continue_again<R: Files + Clock>(
     rt: &R,
     alloc: Global,
@@ -101,8 +102,8 @@ fn continue_again<R: Files + Clock>(
     }
 }
 
-/// Finishes what an interrupted run began: if it left the whole file of a tail, the log is continued by
-/// that, and if it left a beginning, the log was not touched. The file is removed then.
+/// Finishes what an interrupted run began. If it left the whole file of a tail, the log is
+/// continued from that; if it left part of one, the log was not touched. Then the file is removed.
 fn finish<R: Files + Clock>(rt: &R, alloc: Global, tail: &Notes, log: &Notes) -> Result<(), Fault> {
     let opened = match File::open(rt, tail.path) {
         Ok(opened) => opened,
@@ -123,8 +124,8 @@ fn remove_tail<R: Files>(rt: &R, tail: &Notes) -> Result<(), Fault> {
     sync_folder(rt, tail, Fault::WriteLog)
 }
 
-/// Makes the file of the new store. One that takes the place of the old store may stand there already,
-/// left by an interrupted run.
+/// Makes the file of the new store. If the store replaces the old one, the file may be there
+/// already, left by an interrupted run.
 fn make_store<R: Files>(
     rt: &R,
     store: &Notes,
@@ -137,7 +138,7 @@ fn make_store<R: Files>(
     make(rt, store, old, Fault::WriteStore)
 }
 
-/// Removes the files that a refused run made, if it wrote nothing to them.
+/// Removes the files that a run made which returned an error, if it wrote nothing to them.
 fn clear_after<R: Files>(rt: &R, fault: Fault, tail: &Notes, store: &Notes) {
     if matches!(fault, Fault::WriteLog | Fault::WriteStore) {
         return;
@@ -199,8 +200,8 @@ fn recover_opened<R: Files + Clock + Threads + Sync>(
     answer
 }
 
-/// Puts the new store, which is synced, in the place of the old one if it is to stand there, and syncs its
-/// folder.
+/// Renames the new store, which is synced, to the name of the old one, if it replaces that. Then
+/// syncs its folder.
 fn place_store<R: Files>(rt: &R, store: &Notes, replaced: Option<&str>) -> Result<(), Fault> {
     if let Some(path) = replaced {
         if let Err(error) = fs::rename(rt, store.path, path) {
@@ -210,14 +211,15 @@ fn place_store<R: Files>(rt: &R, store: &Notes, replaced: Option<&str>) -> Resul
     sync_folder(rt, store, Fault::WriteStore)
 }
 
-/// Recovers the store in a file by the log in another, which is continued where it lies. First what an
-/// interrupted run began is finished. Then the file of the tail is written and synced; the log is cut,
-/// synced, continued and synced; the new store is written, synced, and put in its place; and the file of
-/// the tail is removed.
+/// Recovers the store in one file from the log in another, which is continued in place. First it
+/// finishes what an interrupted run began. Then the file of the tail is written and synced; the log
+/// is cut, synced, continued and synced; the new store is written, synced, and put in its place;
+/// and the file of the tail is removed.
 ///
-/// Before anything is changed the log is opened to be read and to be appended to, and the store to be
-/// read. After `WriteLog` or `WriteStore` the run can be made again, and finishes what was begun. After any
-/// other fault the log and the store are as they were, or as the run before would have left the log.
+/// Before anything is changed the log is opened to be read and to be appended to, and the store to
+/// be read. After `WriteLog` or `WriteStore` the run can be made again, and finishes what was
+/// begun. After any other fault the log and the store are as they were, or as the run before would
+/// have left the log.
 pub fn recover_files_in_place<R: Files + Clock + Threads + Sync>(
     rt: &R,
     alloc: Global,

@@ -1,5 +1,5 @@
-//! ARIES restart: after a crash a log and a store go in, and a log, a recovered store and a report
-//! come out.
+//! ARIES restart: it takes a log and a store after a crash, and makes a log, a recovered store and
+//! a report.
 #![tactic(auto)]
 
 mod files;

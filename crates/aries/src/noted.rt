@@ -50,7 +50,7 @@ pub struct Failure {
 /// A file of a job, and what is noted of it.
 #[derive(Drop)]
 pub struct Notes<'a> {
-    /// What the file is to the job, as `new log`.
+    /// The role of the file in the job, such as `new log`.
     pub role: &'a str,
     pub path: &'a str,
     bytes: Cell<u64>,
@@ -61,7 +61,7 @@ pub struct Notes<'a> {
 }
 
 impl<'a> Notes<'a> {
-    /// A file of which nothing is noted yet.
+    /// A file with nothing noted yet.
     pub fn new(role: &'a str, path: &'a str) -> Notes<'a> {
         Notes {
             role,
@@ -79,12 +79,12 @@ impl<'a> Notes<'a> {
         self.bytes.get()
     }
 
-    /// When the first call on the open file began, where there was one and the clock told it.
+    /// When the first call on the open file began, if there was one and the clock worked.
     pub fn began(&self) -> Option<Instant> {
         self.began.get()
     }
 
-    /// When the last call on the open file ended, where there was one and the clock told it.
+    /// When the last call on the open file ended, if there was one and the clock worked.
     pub fn ended(&self) -> Option<Instant> {
         self.ended.get()
     }
@@ -99,19 +99,19 @@ impl<'a> Notes<'a> {
         self.failure.get()
     }
 
-    /// The last call that failed and was let pass: the job went on.
+    /// The last call that failed without ending the job.
     pub fn let_pass(&self) -> Option<Failure> {
         self.let_pass.get()
     }
 
-    /// Notes a call that failed. One that a signal interrupted is none: it is made again.
+    /// Notes a call that failed. A call that a signal interrupted does not count: it is made again.
     pub fn fail(&self, call: Call, error: io::Error) {
         if error.kind() != ErrorKind::Interrupted {
             self.failure.set(Some(Failure { call, error }));
         }
     }
 
-    /// Notes a call that failed where the job goes on.
+    /// Notes a call that failed although the job goes on.
     pub fn pass_over(&self, call: Call, error: io::Error) {
         self.let_pass.set(Some(Failure { call, error }));
     }
@@ -140,7 +140,7 @@ impl<'a> Notes<'a> {
     }
 }
 
-/// An open file whose calls are noted. It gives and takes the bytes of the file.
+/// An open file whose calls are noted. It reads and writes the bytes of the file.
 #[derive(Drop)]
 pub struct NotedFile<'a, F, C> {
     file: F,

@@ -21,7 +21,7 @@ fn print_text<O: Write>(text: &[u8], out: &mut O) -> io::Result<()> {
     out.flush()
 }
 
-/// The status of what was printed; where it is to be verbose, says why it was not.
+/// The status of what was printed. If verbose, it prints why a print failed.
 fn status_of_print<E: Write>(printed: io::Result<()>, verbose: bool, err: &mut E) -> u8 {
     let Err(error) = printed else {
         return 0;
@@ -32,8 +32,8 @@ fn status_of_print<E: Write>(printed: io::Result<()>, verbose: bool, err: &mut E
     1
 }
 
-/// Prints the report of a recovery or its fault, and fault 1 if memory for the report is refused; if it is
-/// to be verbose, before them what it did or why it was refused.
+/// Prints the report of a recovery or its fault, and fault 1 if memory for the report is refused.
+/// If verbose, it first prints what the recovery did or why it failed.
 fn tell_end<O: Write, E: Write>(
     alloc: Global,
     answer: Result<Report, Fault>,
@@ -62,8 +62,8 @@ fn tell_end<O: Write, E: Write>(
     }
 }
 
-/// Audits, and prints `lawful` or the fault; where it is to be verbose, before them what it did or
-/// why it was refused.
+/// Audits, and prints `lawful` or the fault. If verbose, it first prints what the audit did or why
+/// it failed.
 fn run_audit<R: Files + Clock, O: Write, E: Write>(
     rt: &R,
     alloc: Global,
@@ -88,13 +88,13 @@ fn run_audit<R: Files + Clock, O: Write, E: Write>(
     }
 }
 
-/// A path with an ending more.
+/// A path with one more ending.
 fn with_ending(alloc: Global, path: &str, ending: &str) -> Result<String, Fault> {
     Ok(format!(in alloc; "{path}{ending}")?)
 }
 
-/// Recovers in place, with the tail in a file whose name is the log's and `.tail`, and a new store that
-/// replaces the old one in a file whose name is the store's and `.new`.
+/// Recovers in place. The tail is in a file whose name is the log's and `.tail`. A new store that
+/// replaces the old one is in a file whose name is the store's and `.new`.
 fn run_in_place<'x, R: Files + Clock + Threads + Sync, O: Write, E: Write>(
     rt: &R,
     alloc: Global,
@@ -185,12 +185,12 @@ fn text_of(name: &Option<String>) -> Option<&str> {
     }
 }
 
-/// Runs the program `aries`: `words` are its words, the first of which is its name; `out` stands
-/// for standard output and `err` for standard error. Returns the exit status: 0 if the job was
-/// done or help was asked for, 1 for a fault, printed to `err` as `fault N: text`, or a failed
-/// print, 2 for a line that is wrong. After fault 1 of a recovery nothing is written, or all is if memory
-/// for the report was refused. With `--verbose` lines that begin with `aries: ` stand before that, in
-/// `err`: why a fault came, or what was read and written, in which time.
+/// Runs the program `aries`: `words` are its words, the first of which is its name; `out` is
+/// standard output and `err` is standard error. Returns the exit status: 0 if the job was done or
+/// help was asked for, 1 for a fault, printed to `err` as `fault N: text`, or a failed print, 2 for
+/// a line that is wrong. After fault 1 of a recovery nothing is written, or all is if memory for
+/// the report was refused. With `--verbose`, `err` first gets lines that begin with `aries: `: why
+/// a fault came, or what was read and written, and in which time.
 pub fn run<R: Files + Clock + Threads + Sync, O: Write, E: Write>(
     rt: &R,
     alloc: Global,

@@ -1,4 +1,4 @@
-//! What `--verbose` says on standard error: why a job was refused, or how long its parts took.
+//! The lines of `--verbose` on standard error: why a job failed, or how long its parts took.
 
 use crate::files::{NewFiles, OldFiles};
 use crate::noted::{Failure, Notes};
@@ -7,7 +7,7 @@ use std::fmt;
 use std::io::{self, Write};
 use std::time::{Duration, Instant};
 
-/// A file as it is called in a line: what it is to the job, and its path in quotes.
+/// A file as it is named in a line: its role in the job, and its path in quotes.
 #[derive(Drop)]
 struct Name<'n, 'a>(&'n Notes<'a>);
 
@@ -18,7 +18,7 @@ impl<'n, 'a> fmt::Display for Name<'n, 'a> {
     }
 }
 
-/// A time in milliseconds, to the microsecond; nothing where the clock did not tell it.
+/// A time in milliseconds, to the microsecond; nothing if the clock did not work.
 #[derive(Drop)]
 struct Took(Option<Duration>);
 
@@ -33,7 +33,7 @@ impl fmt::Display for Took {
     }
 }
 
-/// What a fault is of that no call on a file has brought.
+/// Where a fault lies that no call on a file has caused.
 #[derive(Clone, Copy)]
 enum Place {
     Memory,
@@ -44,11 +44,11 @@ enum Place {
     Base,
     /// The two do not fit each other.
     LogAndStore,
-    /// The fault of a call, or one that no command line brings.
+    /// The fault of a call, or one that no command line causes.
     Nowhere,
 }
 
-/// What a fault is of.
+/// Where a fault lies.
 fn place_of(fault: Fault) -> Place {
     match fault {
         Fault::NoResource => Place::Memory,
@@ -78,7 +78,7 @@ fn place_of(fault: Fault) -> Place {
     }
 }
 
-/// Says in which of the files a fault lies.
+/// Prints in which of the files a fault lies.
 fn tell_place<E: Write>(place: Place, old: &OldFiles, err: &mut E) -> io::Result<()> {
     let (log, store) = (Name(&old.log), Name(&old.store));
     match (place, &old.base) {
@@ -98,13 +98,13 @@ fn tell_place<E: Write>(place: Place, old: &OldFiles, err: &mut E) -> io::Result
     }
 }
 
-/// Says which call on a file failed and what the system said.
+/// Prints which call on a file failed and what the system reported.
 fn tell_call<E: Write>(file: &Notes, failure: Failure, err: &mut E) {
     let (name, Failure { call, error }) = (Name(file), failure);
     let _ = writeln!(err, "aries: {call} {name}: {error}");
 }
 
-/// Says which call on a file ended the job, where one has. Whether one has.
+/// Prints which call on a file ended the job, if one has. Returns whether one has.
 fn tell_failure<E: Write>(file: &Notes, err: &mut E) -> bool {
     let Some(failure) = file.failure() else {
         return false;
@@ -113,15 +113,15 @@ fn tell_failure<E: Write>(file: &Notes, err: &mut E) -> bool {
     true
 }
 
-/// Says which failed call on a file was let pass, where one was.
+/// Prints which call on a file failed without ending the job, if one has.
 fn tell_let_pass<E: Write>(file: &Notes, err: &mut E) {
     if let Some(failure) = file.let_pass() {
         tell_call(file, failure, err);
     }
 }
 
-/// Says why a job was refused: which call on which file failed, and what the system said of it;
-/// where none has, in which file the fault lies.
+/// Prints why a job failed: which call on which file failed, and what the system reported; if no
+/// call failed, in which file the fault lies.
 pub fn tell_why<E: Write>(
     fault: Fault,
     old: &OldFiles,
@@ -144,13 +144,13 @@ pub fn tell_why<E: Write>(
     }
 }
 
-/// Says how many bytes of a file were read or written, and how long it took.
+/// Prints how many bytes of a file were read or written, and how long it took.
 fn tell_file<E: Write>(done: &str, file: &Notes, err: &mut E) {
     let (name, bytes, took) = (Name(file), file.bytes(), Took(file.duration()));
     let _ = writeln!(err, "aries: {done} {name}: {bytes} bytes{took}");
 }
 
-/// The time between two instants, where the clock told both.
+/// The time between two instants, if the clock worked at both.
 fn between(from: Option<Instant>, to: Option<Instant>) -> Took {
     match (from, to) {
         (Some(from), Some(to)) => Took(Some(to.duration_since(from))),
@@ -158,8 +158,9 @@ fn between(from: Option<Instant>, to: Option<Instant>) -> Took {
     }
 }
 
-/// Says what a recovery read and wrote and how long each part took; and the folders that it could
-/// not sync, where the system lets nobody. The report comes after these lines, so they are flushed.
+/// Prints what a recovery read and wrote and how long each part took; and the folders that it could
+/// not sync because the system does not allow it. The report comes after these lines, so they are
+/// flushed.
 pub fn tell_recovery<E: Write>(old: &OldFiles, tail: Option<&Notes>, new: &NewFiles, err: &mut E) {
     tell_file("read", &old.log, err);
     tell_file("read", &old.store, err);
@@ -180,8 +181,8 @@ pub fn tell_recovery<E: Write>(old: &OldFiles, tail: Option<&Notes>, new: &NewFi
     let _ = err.flush();
 }
 
-/// Says what an audit that ended at `end` read, and how long each part took. The verdict comes after
-/// these lines, so they are flushed.
+/// Prints what an audit that ended at `end` read, and how long each part took. The verdict comes
+/// after these lines, so they are flushed.
 pub fn tell_audit<E: Write>(old: &OldFiles, end: Option<Instant>, err: &mut E) {
     tell_file("read", &old.log, err);
     tell_file("read", &old.store, err);
