@@ -1,4 +1,4 @@
-//! The program `aries`: hands its words and streams to `aries::run`.
+//! The program `aries`: passes its words and streams to `aries::run`.
 #![tactic(auto)]
 
 use std::io::{BufWriter, Write};
@@ -7,7 +7,7 @@ use std::rt::{Clock, Env, Files};
 use std::thread::Threads;
 use words::{ERROR_BUFFER_BYTES, NoWords, slices_of, words_of};
 
-/// Runs the program on the words that it was given, and gives its status.
+/// Runs the program on the words that it was given, and returns its status.
 fn run_words<R: Clock + Env + Files + AllocGlobal + Threads + Sync, O: Write, E: Write>(
     rt: &R,
     out: &mut O,
@@ -18,7 +18,7 @@ fn run_words<R: Clock + Env + Files + AllocGlobal + Threads + Sync, O: Write, E:
     Ok(aries::run(rt, rt.alloc(), &slices, out, err))
 }
 
-/// Runs the program and gives its status.
+/// Runs the program and returns its status.
 fn status_of<R: Clock + Env + Files + AllocGlobal + Threads + Sync, O: Write, E: Write>(
     rt: &R,
     out: &mut O,
@@ -26,7 +26,7 @@ fn status_of<R: Clock + Env + Files + AllocGlobal + Threads + Sync, O: Write, E:
 ) -> u8 {
     match run_words(rt, out, err) {
         Ok(status) => status,
-        // 1 where the print failed.
+        // 1 if the print failed.
         Err(why) => why.explain(err).unwrap_or(1),
     }
 }
@@ -34,7 +34,7 @@ fn status_of<R: Clock + Env + Files + AllocGlobal + Threads + Sync, O: Write, E:
 fn main(rt: HostRuntime) -> ExitCode {
     let mut out = rt.stdout();
     let mut err = rt.stderr();
-    // Lines are held back, so that runs which share a terminal do not mix theirs.
+    // Lines are buffered, so that runs that share a terminal do not mix theirs.
     let Ok(mut held) = BufWriter::with_capacity(rt.alloc(), ERROR_BUFFER_BYTES, rt.stderr()) else {
         return ExitCode::from(status_of(&rt, &mut out, &mut err));
     };
