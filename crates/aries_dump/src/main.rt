@@ -1,4 +1,4 @@
-//! The program `aries_dump`: says what a log or a store holds, a record or a page a line.
+//! The program `aries_dump`: lists what a log or a store holds, one record or page a line.
 #![tactic(auto)]
 
 mod program;
@@ -8,7 +8,7 @@ use std::process::ExitCode;
 use std::rt::{Env, Files};
 use words::{ERROR_BUFFER_BYTES, NoWords, slices_of, words_of};
 
-/// Runs the program on the words that it was given, and gives its status.
+/// Runs the program on the words that it was given, and returns its status.
 fn run_words<R: Env + Files + AllocGlobal, O: Write, E: Write>(
     rt: &R,
     out: &mut O,
@@ -19,7 +19,7 @@ fn run_words<R: Env + Files + AllocGlobal, O: Write, E: Write>(
     Ok(program::run(rt, rt.alloc(), &slices, out, err))
 }
 
-/// Runs the program and gives its status.
+/// Runs the program and returns its status.
 fn status_of<R: Env + Files + AllocGlobal, O: Write, E: Write>(
     rt: &R,
     out: &mut O,
@@ -27,7 +27,7 @@ fn status_of<R: Env + Files + AllocGlobal, O: Write, E: Write>(
 ) -> u8 {
     match run_words(rt, out, err) {
         Ok(status) => status,
-        // A line that is wrong, said or not.
+        // A line that is wrong, whether the message was printed or not.
         Err(why) => why.explain(err).unwrap_or(2),
     }
 }
@@ -35,7 +35,7 @@ fn status_of<R: Env + Files + AllocGlobal, O: Write, E: Write>(
 fn main(rt: HostRuntime) -> ExitCode {
     let mut out = rt.stdout();
     let mut err = rt.stderr();
-    // Lines are held back, so that runs which share a terminal do not mix theirs.
+    // Lines are buffered, so that runs that share a terminal do not mix theirs.
     let Ok(mut held) = BufWriter::with_capacity(rt.alloc(), ERROR_BUFFER_BYTES, rt.stderr()) else {
         return ExitCode::from(status_of(&rt, &mut out, &mut err));
     };

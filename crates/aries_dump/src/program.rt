@@ -10,10 +10,10 @@ use std::io::{self, BufWriter, ErrorKind, Write};
 use std::rt::Files;
 use words::refuse;
 
-/// How many bytes of lines are held back before they are printed.
+/// How many bytes of lines are buffered before they are printed.
 const HELD_BACK: usize = 65_536;
 
-/// What a file that was not opened is: want of memory, or that file's fault.
+/// The fault of a file that was not opened: lack of memory, or that file's fault.
 fn fault_of(error: io::Error, fault: Fault) -> Fault {
     match error.kind() {
         ErrorKind::OutOfMemory => Fault::NoResource,
@@ -21,7 +21,7 @@ fn fault_of(error: io::Error, fault: Fault) -> Fault {
     }
 }
 
-/// The bytes of a file; `fault` where it cannot be opened or read to its end.
+/// The bytes of a file; `fault` if it cannot be opened or read to its end.
 fn read_file<R: Files>(rt: &R, alloc: Global, path: &str, fault: Fault) -> Result<Vec<u8>, Fault> {
     let file = File::open(rt, path).map_err(|error| fault_of(error, fault))?;
     match read_all(alloc, &mut FileSource::sized(file)) {
@@ -67,7 +67,7 @@ fn list<R: Files, O: Write>(rt: &R, alloc: Global, job: &Job, out: &mut O) -> Re
     }
 }
 
-/// Does the job. What was listed in front of a fault is printed before the fault is.
+/// Does the job. What was listed before a fault is printed before the fault is.
 fn run_job<R: Files, O: Write, E: Write>(
     rt: &R,
     alloc: Global,
@@ -87,10 +87,10 @@ fn run_job<R: Files, O: Write, E: Write>(
     }
 }
 
-/// Runs the program: `words` are its words, the first of which is its name; `out` stands for standard
-/// output and `err` for standard error. Answers the exit status: 0 where all was listed or help was
-/// asked for, 1 for a fault, printed to `err` as `fault N: text`, or a failed print, 2 for a line that
-/// is wrong.
+/// Runs the program: `words` are its words, the first of which is its name; `out` is standard
+/// output and `err` is standard error. Returns the exit status: 0 if all was listed or help was
+/// asked for, 1 for a fault, printed to `err` as `fault N: text`, or a failed print, 2 for a line
+/// that is wrong.
 pub fn run<R: Files, O: Write, E: Write>(
     rt: &R,
     alloc: Global,
