@@ -1,4 +1,4 @@
--- The log in front of a damaged frame.
+-- The log before a damaged frame.
 use Rattle.std.proofs.Common.{ℕ, ◌≡◌, ◌+◌, ◌≤◌, List, [], ◌++◌, Some, None, length, take, refl, sym, ap, ◌∙◌, inl, Ok, Err, arith, append_assoc, append-nil, length-append}
 use Rattle.std.proofs.lemmas.List.{take_at}
 use Rattle.page.specs.declared.fault.Fault.{Fault}
@@ -11,7 +11,7 @@ use Rattle.wal.proofs.Histories.{size_of_log}
 use Rattle.dump.specs.LogLines.{fault_at}
 use Rattle.wal.proofs.Headers.{header_length}
 
--- frames with a fault behind them: the bytes up to the fault are a log
+-- frames followed by a fault: the bytes up to the fault are a log
 pub record Front (bytes : List ℕ) (offset : ℕ) : Type 0 where
   pub log : LogContent
   pub reads : Reads (take offset bytes) log 0

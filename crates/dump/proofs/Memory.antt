@@ -1,4 +1,4 @@
--- What is out where memory is refused.
+-- What is printed if memory is refused.
 use Rattle.std.proofs.Common.{◌≡◌, ◌∙◌, ℕ, List, Option, Some, None, length, take, inl, inr, refl, sym, subst, take_all, Result, Ok, Err, IfErr, arith, ◌≤◌}
 use Rattle.std.specs.Io.KnownBytes.{Appends, Keeps}
 use Rattle.page.specs.declared.fault.Fault.TheVariants.{NoResource}

@@ -1,4 +1,4 @@
--- Where the frames of a log stand in its bytes.
+-- Where the frames of a log are in its bytes.
 use Rattle.std.proofs.Common.{ℕ, suc, ◌≡◌, ◌+◌, ◌≤◌, true, false, List, [], ◌∷◌, ◌++◌, length, refl, sym, ap, ◌∙◌, inl, inr, arith, append_assoc, append-nil, length-append}
 use Rattle.std.specs.Prelude.{nat_lt, nat_eq}
 use Rattle.std.specs.List.{starts_with}
@@ -14,7 +14,7 @@ use Rattle.wal.proofs.Histories.{first_more, record_above, record_within, size_o
 use Rattle.dump.specs.LogLines.{place_behind, FramesStandThere}
 
 -- BYTES
--- a header, and the frames of a log behind it
+-- a header, and the frames of a log after it
 text_of : (header : List ℕ) → History → List ℕ
 text_of header (start base) = header
 text_of header (log ▸ r) = text_of header log ++ frame r (suc (last_lsn log))
@@ -40,7 +40,7 @@ unfolding text_of
 size_of_text header (start base) = refl
 size_of_text header (log ▸ r) = omega (arith, size_of_text header log, length-append (text_of header log) (frame r (suc (last_lsn log))))
 
--- a part of a log stands in front
+-- a part of a log is at the front
 text_within : (header : List ℕ) (n : ℕ) (log : History) → (more : List ℕ) × (text_of header log ≡ text_of header (first n log) ++ more)
 unfolding text_of
 text_within header n (start base) = ([], sym (append-nil header))
@@ -54,8 +54,7 @@ text_within header n (log ▸ r) =
     ]
 
 -- PLACES
--- a header takes as many bytes as it says
--- behind all of a log that was read
+-- after all of a log that was read
 pub place_behind_all : (bytes : List ℕ) (log : LogContent) (torn : ℕ) → Reads bytes log torn → place_behind (header_bytes log.begins) (history log) ≤ length bytes
 place_behind_all bytes log torn reads =
     let header = header_of log.begins in
@@ -71,7 +70,7 @@ place_within header n (log ▸ r) =
       | inr e ↦ rw e (omega (arith, place_within header n log))
     ]
 
--- there the frame of the next record stands
+-- the frame of the next record is there
 pub frames_stand_there : FramesStandThere
 unfolding text_of
 frames_stand_there bytes log torn lsn r reads there =

@@ -13,7 +13,7 @@ use Rattle.dump.specs.Tables.{listed}
 use Rattle.dump.specs.Values.{IsPlain, escaped}
 use Rattle.dump.specs.StoreLines.{slot_field, slot_fields}
 
--- one entry more
+-- one more entry
 pub flat_map_more : {A : Type 0} (f : A → List ℕ) (xs : List A) (i : ℕ) (d : A) → i < length xs → flat_map f (take (suc i) xs) ≡ flat_map f (take i xs) ++ f (get_or xs i d)
 flat_map_more f xs i d lt =
     let n : suc i ≡ i + 1 = omega arith in
@@ -30,7 +30,7 @@ listed_more between spell (e ∷ es) (suc i) d lt =
     rw behind (ap (λ ys. spell e ++ ys) (flat_map_more (λ other. between ++ spell other) es i d (omega arith))
     ∙ sym (append_assoc (spell e) (flat_map (λ other. between ++ spell other) (take i es)) (between ++ spell (get_or es i d))))
 
--- of the slots of a page
+-- for the slots of a page
 pub slot_fields_more : (style : Style) (slots : List Image) (from i : ℕ) (d : Image) → i < length slots
     → slot_fields style from (take (suc i) slots) ≡ slot_fields style from (take i slots) ++ slot_field style (from + i) (get_or slots i d)
 slot_fields_more style [] from i d lt = absurd (omega (arith, lt))
@@ -43,7 +43,7 @@ slot_fields_more style (s ∷ ss) from (suc i) d lt =
     ∙ sym (append_assoc (slot_field style from s) (slot_fields style (from + 1) (take i ss)) (slot_field style (from + 1 + i) (get_or ss i d)))
     ∙ ap (λ k. (slot_field style from s ++ slot_fields style (from + 1) (take i ss)) ++ slot_field style k (get_or ss i d)) n
 
--- what stands in front, what stands between and the entry, each behind the one before
+-- what comes in front, what comes between and the entry, each after the one before
 pub put_behind : (old front between entry text mid new : List ℕ) → text ≡ old ++ front → mid ≡ text ++ between → new ≡ mid ++ entry → new ≡ old ++ (front ++ (between ++ entry))
 put_behind old front between entry text mid new text_is mid_is new_is =
     new_is ∙ ap (λ xs. xs ++ entry) (mid_is ∙ ap (λ xs. xs ++ between) text_is) ∙ append_assoc (old ++ front) between entry ∙ append_assoc old front (between ++ entry)
@@ -74,7 +74,7 @@ record_written style offset lsn r old kind opened numbered short tables front en
     new_is ∙ ap (λ l. tables ++ l) ending_is ∙ ap (λ l. l ++ closing style) tables_all
     ∙ parts old (opening style offset (kind_word r)) number (short_fields style r) (table_fields style r) (fields style r) (closing style) (fields_parts style r)
 
--- bytes of which the first stand for themselves between quotes
+-- bytes of which the first are written as themselves between quotes
 pub plain_stay : (style : Style) (bytes : List ℕ) (n : ℕ) → ((k : ℕ) → k < n → IsPlain (get_or bytes k 0)) → flat_map (escaped style) bytes ≡ take n bytes ++ flat_map (escaped style) (drop n bytes)
 plain_stay style bytes zero each = refl
 plain_stay style [] (suc n) each = refl

@@ -4,14 +4,14 @@ use Rattle.wal.specs.Records.{LogRecord}
 use Rattle.wal.specs.Meaning.{owner, change_of}
 use Rattle.dump.specs.declared.choice.Choice.{Choice}
 
--- a number is the one that is asked for; where none is, any and none will do
+-- a number is the one that is asked for; if none is asked for, any number and none will do
 abbrev pub meets : (asked number : Option ℕ) → Bool
 meets None number = true
 meets (Some asked) None = false
 meets (Some asked) (Some number) = asked == number
 
--- the record of a log with this LSN lies between the smallest and the largest that are asked for, and is of the transaction and
--- on the page that are
+-- the record of a log with this LSN is between the smallest and the largest that are asked for, and is of the transaction and on the page
+-- that are
 abbrev pub is_asked_for : Choice → (lsn : ℕ) → LogRecord → Bool
 is_asked_for choice lsn r =
     not (nat_lt lsn choice.from) && (not (nat_lt choice.to lsn)

@@ -1,4 +1,4 @@
--- The parts of a line of a dump (own): where in the file it lies that the line tells of, what it is, and named fields; as text
+-- The parts of a line of a dump (own): the offset in the file of the thing that the line describes, what it is, and named fields; as text
 -- for people, or as an object of JSON.
 use Rattle.std.specs.Prelude.{ℕ, List, ◌++◌, codes, decimal}
 use Rattle.page.specs.Image.{Image}
@@ -14,7 +14,7 @@ abbrev pub closing : Style → List ℕ
 closing Text = codes "\n"
 closing Json = codes "}\n"
 
--- FIELDS. The name of a field, behind others.
+-- FIELDS. The name of a field, after others.
 abbrev pub named : Style → List ℕ → List ℕ
 named Text name = codes ", " ++ name ++ codes " "
 named Json name = codes ",\"" ++ name ++ codes "\":"

@@ -29,25 +29,25 @@ log_line style begins =
     ++ number_field style (codes "BaseLSN") (lsn_before begins)
     ++ closing style
 
--- where the frame behind a log stands: behind the header, which takes so many bytes, and behind the frames of its records
+-- where the frame after a log is: after the header, which takes this many bytes, and after the frames of its records
 abbrev pub place_behind : (header : ℕ) → History → ℕ
 place_behind header (start base) = header
 place_behind header (log ▸ r) = place_behind header log + length (frame r (suc (last_lsn log)))
 
--- a text stands in the bytes at a place
+-- a text is in the bytes at a place
 pub record StandsAt (bytes : List ℕ) (place : ℕ) (text : List ℕ) : Type 0 where
   pub front : List ℕ
   pub rest : List ℕ
   pub is : bytes ≡ front ++ (text ++ rest)
   pub place_is : length front ≡ place
 
--- the place behind the records up to an LSN is where, in the bytes of a log that was read, the frame of the next one stands
+-- the place after the records up to an LSN is where, in the bytes of a log that was read, the frame of the next one is
 abbrev pub FramesStandThere : Type 0
 FramesStandThere =
     (bytes : List ℕ) (log : LogContent) (torn lsn : ℕ) (r : LogRecord) → Reads bytes log torn → record_at (history log) (lsn + 1) ≡ Some r
     → StandsAt bytes (place_behind (header_bytes log.begins) (first lsn (history log))) (frame r (lsn + 1))
 
--- the line of a record where it is asked for, else none
+-- the line of a record if it is asked for, otherwise none
 abbrev pub line_if_asked : Style → Choice → (offset lsn : ℕ) → LogRecord → List ℕ
 line_if_asked style choice offset lsn r = if is_asked_for choice lsn r then record_line style offset lsn r else []
 
@@ -60,7 +60,7 @@ abbrev pub torn_line : Style → (offset torn : ℕ) → List ℕ
 torn_line style offset torn =
     if torn == 0 then [] else opening style offset (codes "torn tail") ++ number_field style (codes "bytes") torn ++ closing style
 
--- all lines of a log with a torn tail of so many bytes
+-- all lines of a log with a torn tail of this many bytes
 abbrev pub log_lines : Style → Choice → LogContent → (torn : ℕ) → List ℕ
 log_lines style choice log torn =
     let header = header_bytes log.begins in
@@ -75,7 +75,7 @@ pub record ListsLog (style : Style) (choice : Choice) (bytes : List ℕ) (old ne
   pub reads : Reads bytes log torn
   pub printed : Appends old new (log_lines style choice log torn)
 
--- where in the bytes the frame stands that a fault is of
+-- the offset in the bytes of the frame that a fault is about
 abbrev pub fault_at : Fault → Option ℕ
 fault_at (BadLength offset) = Some offset
 fault_at (BadRecord offset) = Some offset
@@ -96,23 +96,23 @@ PrintsUpToLsn style choice log old new =
 abbrev pub BeginsLog : Style → Choice → LogContent → (old new : Option (List ℕ)) → Type 0
 BeginsLog style choice log old new = Keeps old new ⊎ PrintsUpToLsn style choice log old new
 
--- What is out where memory is refused: nothing, or the first lines of the log that so many bytes from the front are.
+-- What is printed if memory is refused: nothing, or the first lines of a log that some prefix of the bytes encodes.
 abbrev pub PrintsFirstLines : Style → Choice → (bytes : List ℕ) → (old new : Option (List ℕ)) → Type 0
 PrintsFirstLines style choice bytes old new =
     Keeps old new ⊎ ((count : ℕ) × (log : LogContent) × (torn : ℕ) × Reads (take count bytes) log torn × PrintsUpToLsn style choice log old new)
 
--- where it was memory that was refused, this holds
+-- if memory was refused, this holds
 abbrev pub IfMemory : Stop → Type 0 → Type 0
 IfMemory (stop.Fault NoResource) Holds = Holds
 IfMemory e Holds = ⊤
 
--- A damaged log: the fault is why it is refused, and what stands in front of it was listed.
+-- A damaged log: the fault is its error, and what comes before it was listed.
 abbrev pub ListsToFault : Style → Choice → List ℕ → (old new : Option (List ℕ)) → Stop → Type 0
 ListsToFault style choice bytes old new (stop.Print error) = ⊤
 ListsToFault style choice bytes old new (stop.Fault NoResource) = PrintsFirstLines style choice bytes old new
 ListsToFault style choice bytes old new (stop.Fault e) = Cause bytes e × ListsFront style choice bytes old new (fault_at e)
 
--- the file is not to blame: memory was refused, or a print failed
+-- the file has no fault: memory was refused, or a print failed
 abbrev pub IsNoFault : Stop → Type 0
 IsNoFault (stop.Print error) = ⊤
 IsNoFault (stop.Fault e) = e ≡ NoResource

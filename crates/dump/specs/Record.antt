@@ -15,7 +15,7 @@ kind_word (Prepare r) = codes "prepare"
 kind_word CheckpointBegin = codes "checkpoint begin"
 kind_word (CheckpointEnd begin transactions dirty) = codes "checkpoint end"
 
--- whose record it is, and where its transaction's chain goes on
+-- its transaction and PrevLSN
 abbrev pub plain_fields : Style → (tx prev : ℕ) → List ℕ
 plain_fields style tx prev = number_field style (codes "transaction") tx ++ number_field style (codes "PrevLSN") prev
 
@@ -56,6 +56,6 @@ table_fields style (CheckpointEnd begin transactions dirty) =
     ++ table_field style (codes "dirty") dirty_entry dirty
 table_fields style r = []
 
--- a record with this LSN, whose frame stands at this offset
+-- a record with this LSN, whose frame is at this offset
 abbrev pub record_line : Style → (offset lsn : ℕ) → LogRecord → List ℕ
 record_line style offset lsn r = opening style offset (kind_word r) ++ number_field style (codes "LSN") lsn ++ fields style r ++ closing style

@@ -38,7 +38,7 @@ abbrev pub slot_fields : Style → (slot : ℕ) → List Image → List ℕ
 slot_fields style slot [] = []
 slot_fields style slot (held ∷ others) = slot_field style slot held ++ slot_fields style (slot + 1) others
 
--- a page, whose image stands at its place
+-- a page, whose image is at its place
 abbrev pub page_line : Style → Page → List ℕ
 page_line style page =
     opening style (STORE_HEADER_BYTES + PAGE_BYTES * page.number) (codes "page")
@@ -50,7 +50,7 @@ page_line style page =
 abbrev pub page_if_asked : Style → Option ℕ → Page → List ℕ
 page_if_asked style asked page = if meets asked (Some page.number) then page_line style page else []
 
--- all lines of a store, with this page alone or with all of them
+-- all lines of a store, with only this page or with all of them
 abbrev pub store_lines : Style → (asked : Option ℕ) → StoreContent → List ℕ
 store_lines style asked store = store_line style store ++ flat_map (page_if_asked style asked) store.pages
 
@@ -60,14 +60,14 @@ pub record ListsStore (style : Style) (asked : Option ℕ) (bytes : List ℕ) (o
   pub spells : SpellsStore bytes store
   pub printed : Appends old new (store_lines style asked store)
 
--- WHAT IS LEFT OF A DAMAGED STORE. What is listed of an image: the page of this number that it spells, where it is asked for;
--- nothing where it spells none.
+-- WHAT IS LEFT OF A DAMAGED STORE. What is listed for an image: the page of this number that it encodes, if it is asked for; nothing if it
+-- encodes no page.
 abbrev pub IsLineOf : Style → (asked : Option ℕ) → (image : List ℕ) → (number : ℕ) → (line : List ℕ) → Type 0
 IsLineOf style asked image number line =
     ((page : Page) × SpellsPage image page × (page.number ≡ number) × (line ≡ page_if_asked style asked page))
     ⊎ (((page : Page) → SpellsPage image page → page.number ≢ number) × (line ≡ []))
 
--- and of the images of the pages below this number
+-- and for the images of the pages below this number
 abbrev pub AreLinesOf : Style → (asked : Option ℕ) → (images : List ℕ) → (number : ℕ) → (text : List ℕ) → Type 0
 AreLinesOf style asked images zero text = text ≡ []
 AreLinesOf style asked images (suc number) text =
@@ -78,7 +78,7 @@ abbrev pub ListsWholePages : Style → (asked : Option ℕ) → (bytes : List �
 ListsWholePages style asked bytes old new =
     (text : List ℕ) × AreLinesOf style asked (images_of bytes) (length (images_of bytes) / PAGE_BYTES) text × Appends old new text
 
--- what was printed of a store that is refused for a fault: the pages that are whole if the fault is a page's, else nothing
+-- what was printed of a store with a fault: the whole pages if the fault is a page's, otherwise nothing
 abbrev pub PrintsRest : Style → (asked : Option ℕ) → (bytes : List ℕ) → (old new : Option (List ℕ)) → Fault → Type 0
 PrintsRest style asked bytes old new (BadPage number) = ListsWholePages style asked bytes old new
 PrintsRest style asked bytes old new e = Keeps old new
@@ -88,18 +88,18 @@ abbrev pub BeginsStore : Style → (asked : Option ℕ) → StoreContent → (ol
 BeginsStore style asked store old new =
     Keeps old new ⊎ ((count : ℕ) × Appends old new (store_line style store ++ flat_map (page_if_asked style asked) (take count store.pages)))
 
--- the lines of those of the pages below some number that are whole were printed
+-- the lines of the whole pages below some number were printed
 abbrev pub BeginsPages : Style → (asked : Option ℕ) → (images : List ℕ) → (old new : Option (List ℕ)) → Type 0
 BeginsPages style asked images old new = (number : ℕ) × (text : List ℕ) × AreLinesOf style asked images number text × Appends old new text
 
--- what is out where memory is refused: the first lines of the store, or of those of a damaged one
+-- what is printed if memory is refused: the first lines of the store, or of those of a damaged one
 abbrev pub PrintsFirstPages : Style → (asked : Option ℕ) → (bytes : List ℕ) → (old new : Option (List ℕ)) → Type 0
 PrintsFirstPages style asked bytes old new =
     Keeps old new
     ⊎ (((store : StoreContent) × SpellsStore bytes store × BeginsStore style asked store old new)
     ⊎ BeginsPages style asked (images_of bytes) old new)
 
--- a fault is why the bytes are refused, and what is left of the store was printed
+-- the fault is the error of the bytes, and what is left of the store was printed
 abbrev pub ListsStoreToFault : Style → (asked : Option ℕ) → (bytes : List ℕ) → (old new : Option (List ℕ)) → Stop → Type 0
 ListsStoreToFault style asked bytes old new (stop.Print error) = ⊤
 ListsStoreToFault style asked bytes old new (stop.Fault NoResource) = PrintsFirstPages style asked bytes old new

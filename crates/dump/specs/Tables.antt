@@ -34,7 +34,7 @@ transaction_entry style e =
 abbrev pub dirty_entry : Style → ℕ × ℕ → List ℕ
 dirty_entry style d = entry_opening style (codes "page") d.0 ++ number_field style (codes "RecLSN") d.1 ++ entry_closing style
 
--- LISTS. What stands between two entries, and in front of the one at a place.
+-- LISTS. What comes between two entries, and before the one at a place.
 abbrev pub between : Style → List ℕ
 between Text = codes "; "
 between Json = codes ","
@@ -42,7 +42,7 @@ between Json = codes ","
 abbrev pub between_at : Style → (place : ℕ) → List ℕ
 between_at style place = if place == 0 then [] else between style
 
--- the first entry, and the others, each behind what stands between two
+-- the first entry, and the others, each after what comes between two
 abbrev pub listed : {E : Type 0} → (between : List ℕ) → (E → List ℕ) → List E → List ℕ
 listed between spell [] = []
 listed between spell (entry ∷ entries) = spell entry ++ flat_map (λ other. between ++ spell other) entries

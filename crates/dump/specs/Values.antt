@@ -1,4 +1,4 @@
--- What a slot holds, as a line of a dump says it (own).
+-- What a slot holds, as a line of a dump shows it (own).
 use Rattle.std.specs.Prelude.{◌≡◌, ◌≤◌, ◌-◌, ℕ, false, take, length, slice_index, List, [], ◌∷◌, ◌++◌, Some, None, ◌==◌, ◌||◌, nat_lt, if◌then◌else◌, codes}
 use Rattle.std.specs.List.{flat_map}
 use Rattle.hex.specs.Hex.{encode_lower}
@@ -6,19 +6,19 @@ use Rattle.page.specs.Image.{Image}
 use Rattle.dump.specs.declared.style.Style.{Style}
 use Rattle.dump.specs.declared.style.Style.TheVariants.{Text, Json}
 
--- what stands in front of the two digits of a byte that is not printable
+-- what comes before the two digits of a byte that is not printable
 abbrev pub lead : Style → List ℕ
 lead Text = codes "\\x"
 lead Json = codes "\\u00"
 
--- a byte between quotes: `"` and `\` behind a `\`, others that are not printable ASCII by their digits
+-- a byte between quotes: `"` and `\` after a `\`, others that are not printable ASCII by their digits
 abbrev pub escaped : Style → ℕ → List ℕ
 escaped style byte =
     if byte == 34 || byte == 92 then 92 ∷ byte ∷ []
     else if nat_lt byte 32 || nat_lt 126 byte then lead style ++ encode_lower (byte ∷ [])
     else byte ∷ []
 
--- a byte that stands for itself there
+-- a byte that is written as itself there
 abbrev pub IsPlain : ℕ → Type 0
 IsPlain byte = ((byte == 34 || byte == 92) ≡ false) × ((nat_lt byte 32 || nat_lt 126 byte) ≡ false)
 

@@ -6,7 +6,7 @@ ghost use Rattle.dump.specs.Choice.{meets, is_asked_for};
 
 use wal::RecordView;
 
-/// Which records are asked for. What is None, asks nothing.
+/// Which records are asked for. A field that is `None` asks for nothing.
 #[derive(Clone, Copy, Debug)]
 pub struct Choice {
     /// The smallest LSN.

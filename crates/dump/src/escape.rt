@@ -11,7 +11,8 @@ pub const ESCAPE_BYTES: usize = 8;
 /// How many bytes a table of escapes has.
 const TABLE_BYTES: usize = 2048;
 
-/// What each byte is between quotes in a line of text: its text, dots, and how many bytes the text has.
+/// What each byte is between quotes in a line of text: its text, dots, and how many bytes the text
+/// has.
 const TEXT: &[u8; TABLE_BYTES] = b"\
     \\x00...4\\x01...4\\x02...4\\x03...4\\x04...4\\x05...4\\x06...4\\x07...4\
     \\x08...4\\x09...4\\x0a...4\\x0b...4\\x0c...4\\x0d...4\\x0e...4\\x0f...4\
@@ -83,7 +84,7 @@ const JSON: &[u8; TABLE_BYTES] = b"\
     \\u00f8.6\\u00f9.6\\u00fa.6\\u00fb.6\\u00fc.6\\u00fd.6\\u00fe.6\\u00ff.6\
     ";
 
-/// Whether a byte stands after a backslash between quotes.
+/// Whether a byte is written after a backslash between quotes.
 #[inline(always)]
 fn is_quote_or_backslash(byte: u8) -> bool
     ensures { result ≡ (byte == 34 || byte == 92) }
@@ -99,7 +100,7 @@ fn is_unprintable(byte: u8) -> bool
     byte < b' ' || b'~' < byte
 }
 
-/// Whether a byte stands for itself between quotes.
+/// Whether a byte is written as itself between quotes.
 #[inline(always)]
 pub fn is_plain(byte: u8) -> bool
     ensures { result ≡ true ↔ IsPlain byte }
@@ -107,9 +108,9 @@ pub fn is_plain(byte: u8) -> bool
     !is_quote_or_backslash(byte) && !is_unprintable(byte)
 }
 
-/// What a byte is between quotes: its text, and after it bytes that do not count, the last of which is the digit
-/// for how many do. It is looked up, so that a byte that is escaped takes as long as one that is not, and no
-/// branch waits for the byte.
+/// What a byte is between quotes: its text, followed by bytes that do not count; the last of these
+/// is a digit for the length of the text. It is looked up, so that a byte that is escaped takes as
+/// long as one that is not, and no branch waits for the byte.
 #[inline(always)]
 pub fn escape_of(style: Style, byte: u8) -> &'static [u8]
     ensures { IsEscape style byte result.now }

@@ -1,8 +1,9 @@
-//! Laws of the lines. Each function is its law: what it ensures holds of the definitions alone.
+//! Laws of the lines. Each function is a law: what it ensures follows from the definitions only.
 
 ghost use Rattle.dump.specs.LogLines.{FramesStandThere};
 
-/// The offset in front of a record's line is where its frame stands in the bytes of the log.
+/// The offset at the beginning of a record's line is the offset of its frame in the bytes of the
+/// log.
 pub fn frames_stand_there()
     ensures { FramesStandThere }
 {}

@@ -1,7 +1,7 @@
 //! What a log and a store hold, in lines that people and programs read.
 //!
-//! `list_log` and `list_store` write the lines; what the line of each kind of record says has a
-//! definition in `specs/`.
+//! `list_log` and `list_store` write the lines; the line of each kind of record has a definition in
+//! `specs/`.
 #![tactic(auto)]
 
 mod choice;

@@ -1,7 +1,7 @@
-//! The parts of a line: where it lies and of what it tells, and named fields.
+//! The parts of a line: an offset and a kind, and named fields.
 //!
 //! A line is written into a buffer that has room for all that is put there. Each function returns
-//! where in the buffer that ends: so no part asks whether there is room for it.
+//! where in the buffer its text ends. So no part checks whether there is room for it.
 
 ghost use Rattle.std.specs.Prelude.{◌≡◌, ◌+◌, ◌≤◌, ◌++◌, IfSome, length, option_map, take, decimal};
 ghost use Rattle.page.specs.declared.sizes.TheConstants.{VALUE_BYTES};
@@ -48,8 +48,8 @@ fn digits_in(number: u64) -> usize
     }
 }
 
-/// Writes a number in decimal. Its digits are counted first, since they are written from the last to
-/// the first: where it ends is known then, and none is written twice.
+/// Writes a number in decimal. Its digits are counted first, since they are written from the last
+/// to the first. So its end is known, and no digit is written twice.
 #[inline]
 pub fn put_number(buffer: &mut [u8], at: usize, number: u64) -> usize
     requires { at + 20 ≤ length buffer.old }
@@ -61,7 +61,8 @@ pub fn put_number(buffer: &mut [u8], at: usize, number: u64) -> usize
     end
 }
 
-/// Writes the beginning of a line: where in the file it lies that the line tells of, and what it is.
+/// Writes the beginning of a line: the offset in the file of the thing that the line describes, and
+/// what it is.
 #[inline(always)]
 pub fn put_opening(buffer: &mut [u8], style: Style, offset: u64, kind: &str) -> usize
     requires { 40 + length kind.now ≤ length buffer.old }

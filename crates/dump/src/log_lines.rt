@@ -19,10 +19,10 @@ use std::alloc::{AllocError, Global};
 use std::io::Write;
 use wal::{Log, LogStart, RecordView, read_log};
 
-/// The most bytes that the line of a header takes, and more that are kept free.
+/// The most bytes that the line of a header takes, and some more that are kept free.
 const HEADER_ROOM: usize = 112;
 
-/// The most bytes that the line of a torn tail takes, and more that are kept free.
+/// The most bytes that the line of a torn tail takes, and some more that are kept free.
 const TORN_ROOM: usize = 80;
 
 /// Appends the line of a log's header.
@@ -41,8 +41,8 @@ fn put_start(line: &mut Vec<u8>, style: Style, start: LogStart) -> Result<(), Al
     line.extend_from_slice(&buffer[..at])
 }
 
-/// Prints the line of a record if it is asked for; its frame stands at this offset. What `room` holds counts
-/// for nothing.
+/// Prints the line of a record if it is asked for; its frame is at this offset. The content of
+/// `room` is not used.
 fn print_record<W: Write>(
     view: &RecordView,
     lsn: u64,
@@ -74,8 +74,8 @@ fn print_record<W: Write>(
     Ok(())
 }
 
-/// Prints the lines of a log's records, the first of whose frames stands after a header of so many
-/// bytes. Returns where the frame after them would stand.
+/// Prints the lines of a log's records. The first frame comes after a header of this many bytes.
+/// Returns the offset after the last frame.
 fn print_records<W: Write>(
     alloc: Global,
     log: &Log,
@@ -107,7 +107,7 @@ fn print_records<W: Write>(
     Ok(place)
 }
 
-/// Prints the line of a torn tail of so many bytes at this offset; none where it has no bytes.
+/// Prints the line of a torn tail of this many bytes at this offset; none if it has no bytes.
 fn print_torn_tail<W: Write>(
     torn: u64,
     offset: u64,
@@ -159,7 +159,7 @@ fn print_log<W: Write>(
     print_torn_tail(torn as u64, end, style, &mut line, out)
 }
 
-/// Where the frame stands that a fault of a log is of.
+/// The offset of the frame that a fault of a log is about.
 fn fault_at(fault: &Fault) -> Option<u64>
     ensures { result ≡ fault_at fault.now }
 {
@@ -171,7 +171,7 @@ fn fault_at(fault: &Fault) -> Option<u64>
     }
 }
 
-/// Prints the lines of what stands in front of the frame that a fault is of.
+/// Prints the lines of what comes before the frame that a fault is about.
 fn print_front<W: Write>(
     alloc: Global,
     bytes: &[u8],
@@ -197,16 +197,18 @@ fn print_front<W: Write>(
     }
 }
 
-/// Prints what a log holds: a line for its header, one for each of its records that is asked for, in
-/// the order of the log, and one for its torn tail, where it has one. Each line begins with the
-/// offset in bytes at which stands what it tells of, and with what that is. The line of a record
-/// says its LSN and all of its fields; values are shown as text and in hexadecimal, and tables entry
-/// by entry. What people read separates fields by commas; in [`Style::Json`] each line is an object.
+/// Prints what a log holds: a line for its header, one for each of its records that is asked for,
+/// in the order of the log, and one for its torn tail, if it has one. Each line begins with the
+/// offset in bytes of the thing that it describes, and with what that is. The line of a record has
+/// its LSN and all of its fields; values are shown as text and in hexadecimal, and tables entry by
+/// entry. In text for people, commas separate the fields; in [`Style::Json`] each line is an
+/// object.
 ///
-/// Errors: [`Stop::Fault`] with the fault of [`wal::read_log`] where the log is damaged, after all
-/// that stands in front of the damaged frame was listed; with `NoResource` where memory was refused,
-/// and [`Stop::Print`] where a line could not be printed. After these two a beginning of the lines
-/// is out, of whole lines where it was memory. Memory is what `read_log` takes, and that of one line.
+/// Errors: [`Stop::Fault`] with the fault of [`wal::read_log`] if the log is damaged, after all
+/// that comes before the damaged frame was listed; [`Stop::Fault`] with `NoResource` if memory was
+/// refused; and [`Stop::Print`] if a line could not be printed. After the last two the first of the
+/// lines are printed, and only whole lines if memory was refused. The call takes the memory that
+/// `read_log` takes, and that of one line.
 pub fn list_log<W: Write>(
     alloc: Global,
     bytes: &[u8],

@@ -13,26 +13,26 @@ use crate::value::IMAGE_ROOM;
 use std::alloc::AllocError;
 use wal::RecordView;
 
-/// The most bytes that the fields of a record take after its LSN, without tables. They are those of an
-/// update: two images, each after four marks, and 133 bytes more.
+/// The most bytes that the fields of a record take after its LSN, without tables. They are those of
+/// an update: two images, each after four marks, and 133 bytes more.
 const FIELDS_ROOM: usize = 2 * (IMAGE_ROOM + 4) + 133;
 
-/// The most bytes of a line before the tables of a record: 56 for the opening, 27 for the LSN, and the
-/// fields.
+/// The most bytes of a line before the tables of a record: 56 for the opening, 27 for the LSN, and
+/// the fields.
 pub const RECORD_ROOM: usize = FIELDS_ROOM + 83;
 
-/// What the lines of records are put together in.
+/// The buffers in which the lines of records are put together.
 #[derive(Drop)]
 pub struct LineRoom {
     /// How they are written.
     pub style: Style,
-    /// Where a line is put together up to the tables of its record.
+    /// The buffer in which a line is put together up to the tables of its record.
     pub buffer: [u8; RECORD_ROOM],
     /// The whole line.
     pub line: Vec<u8>,
 }
 
-/// What a record is, in the words of the formats.
+/// The kind of a record, in the words of the formats.
 fn kind_word(view: &RecordView) -> &'static str
     ensures word { result.now ≡ kind_word (shown view.now) }
     ensures short { length result.now ≤ 16 }
@@ -49,7 +49,7 @@ fn kind_word(view: &RecordView) -> &'static str
     }
 }
 
-/// Writes whose record it is, and where its transaction's chain goes on.
+/// Writes the transaction of a record and its PrevLSN.
 #[inline(always)]
 fn put_plain(buffer: &mut [u8], at: usize, style: Style, tx: u32, prev: u64) -> usize
     requires { at + 66 ≤ length buffer.old }
@@ -117,7 +117,7 @@ fn put_short_fields(buffer: &mut [u8], at: usize, style: Style, view: &RecordVie
     }
 }
 
-/// Appends the tables of a checkpoint end; of other records, nothing.
+/// Appends the tables of a checkpoint end; for other records, nothing.
 #[inline]
 fn put_tables(line: &mut Vec<u8>, style: Style, view: &RecordView) -> Result<(), AllocError>
     ensures { OnOk result (line.new.items
@@ -136,8 +136,8 @@ fn put_tables(line: &mut Vec<u8>, style: Style, view: &RecordView) -> Result<(),
     }
 }
 
-/// Appends the line of a record, whose frame stands at this offset in bytes. What `buffer` holds counts for
-/// nothing.
+/// Appends the line of a record, whose frame is at this offset in bytes. The content of `buffer` is
+/// not used.
 pub fn put_record(
     line: &mut Vec<u8>,
     buffer: &mut [u8; RECORD_ROOM],

@@ -17,11 +17,11 @@ use page::{Fault, PAGE_BYTES, Page, SLOTS, Store, Value, decode_page, decode_sto
 use std::alloc::{AllocError, Global};
 use std::io::Write;
 
-/// Where the image of the first page stands in a store, in bytes.
+/// The offset in bytes of the image of the first page in a store.
 const FIRST_IMAGE: u64 = 24;
 
-/// The most bytes that the line of a store's header takes, and that of a page before its slots; more are kept
-/// free.
+/// The most bytes that the line of a store's header takes, and that of a page before its slots;
+/// some more are kept free.
 const OPENING_ROOM: usize = 112;
 
 /// The most bytes that the name of a slot's field takes; more are kept free.
@@ -62,7 +62,7 @@ fn put_slot_name(buffer: &mut [u8], style: Style, slot: usize) -> usize
     }
 }
 
-/// Appends the field of a slot; of one that holds nothing, none.
+/// Appends the field of a slot; nothing for a slot that holds nothing.
 fn put_slot(
     line: &mut Vec<u8>,
     style: Style,
@@ -112,7 +112,7 @@ fn put_page(line: &mut Vec<u8>, style: Style, page: &Page) -> Result<(), AllocEr
     line.extend_from_slice(closing(style))
 }
 
-/// Prints the line of a page where it is asked for. What `line` holds counts for nothing.
+/// Prints the line of a page if it is asked for. The content of `line` is not used.
 fn print_page<W: Write>(
     page: &Page,
     style: Style,
@@ -157,8 +157,8 @@ fn print_store<W: Write>(
     Ok(())
 }
 
-/// Prints the line of the page of this number that an image spells, where it is asked for; nothing
-/// where the image spells none.
+/// Prints the line of the page of this number that an image encodes, if it is asked for; nothing if
+/// the image encodes no page.
 fn print_image<W: Write>(
     image: &[u8; PAGE_BYTES],
     number: u32,
@@ -191,7 +191,7 @@ fn image_at(images: &[u8], number: usize) -> &[u8; PAGE_BYTES]
     image
 }
 
-/// Prints the lines of those of these images that are whole.
+/// Prints the lines of the images that are whole.
 fn print_images<W: Write>(
     alloc: Global,
     images: &[u8],
@@ -216,8 +216,7 @@ fn print_images<W: Write>(
     Ok(())
 }
 
-/// Prints what is left of a store that is refused for this fault: its pages that are whole, where a
-/// page is to blame.
+/// Prints what is left of a store with this fault: its whole pages, if the fault is a page's.
 fn print_rest<W: Write>(
     alloc: Global,
     bytes: &[u8],
@@ -242,14 +241,16 @@ fn print_rest<W: Write>(
     }
 }
 
-/// Prints what a store holds: a line for its header, and one for each page, or for the page of the
-/// number that is asked for alone. A line begins as those of [`list_log`](crate::list_log) do; that
-/// of a page says its number, its PageLSN and what its slots hold, without those that hold nothing.
+/// Prints what a store holds: a line for its header, and one for each page, or only for the page of
+/// the number that is asked for. A line begins as those of [`list_log`](crate::list_log) do; the
+/// line of a page has its number, its PageLSN and what its slots hold, without those that hold
+/// nothing.
 ///
-/// Errors: [`Stop::Fault`] with the fault of [`page::decode_store`] where the store is damaged; where
-/// the fault is a page's, the lines of all pages that are whole are out, else nothing is. With
-/// `NoResource` where memory was refused, and [`Stop::Print`] where a line could not be printed; after
-/// these two a beginning of the lines is out, of whole lines where it was memory.
+/// Errors: [`Stop::Fault`] with the fault of [`page::decode_store`] if the store is damaged. If
+/// that fault is a page's, the lines of all whole pages are printed, otherwise nothing is.
+/// [`Stop::Fault`] with `NoResource` if memory was refused, and [`Stop::Print`] if a line could not
+/// be printed. After these two the first of the lines are printed, and only whole lines if memory
+/// was refused.
 pub fn list_store<W: Write>(
     alloc: Global,
     bytes: &[u8],

@@ -9,11 +9,11 @@ use crate::line::{put_name, put_number, put_number_field, put_text, put_word_fie
 use std::alloc::AllocError;
 use wal::{DirtyTable, Entry, State, TransactionTable};
 
-/// The most bytes that an entry takes. It is that of a transaction, as JSON.
+/// The most bytes that an entry takes. This is the entry of a transaction, as JSON.
 const ENTRY_ROOM: usize = 120;
 
-/// The most bytes that stand before the first entry of a table. They are those of the longer name, as JSON, and
-/// seven more are kept free.
+/// The most bytes before the first entry of a table. They are those of the longer name, as JSON,
+/// and seven more are kept free.
 const TABLE_NAME_ROOM: usize = 24;
 
 /// Writes the beginning of an entry: the number that it is found by.
@@ -48,7 +48,7 @@ fn entry_closing(style: Style) -> &'static [u8]
     }
 }
 
-/// Appends what stands in front of the entry at a place: nothing in front of the first.
+/// Appends what comes before the entry at a place: nothing before the first.
 fn put_between(line: &mut Vec<u8>, style: Style, place: usize) -> Result<(), AllocError>
     ensures { OnOk result (line.new.items ≡ line.old.items ++ between_at style place) }
 {
@@ -61,7 +61,7 @@ fn put_between(line: &mut Vec<u8>, style: Style, place: usize) -> Result<(), All
     }
 }
 
-/// How a transaction stands.
+/// The state of a transaction.
 fn state_word(state: State) -> &'static str
     ensures word { result.now ≡ state_word state }
     ensures short { length result.now ≤ 8 }

@@ -12,8 +12,8 @@ use crate::escape::{ESCAPE_BYTES, escape_of, is_plain};
 use crate::line::put_text;
 use page::VALUE_BYTES;
 
-/// The most bytes that are written for a slot. They are those of the longest value as JSON: for each
-/// byte up to six as text and two digits, and twenty more.
+/// The most bytes that are written for a slot. They are those of the longest value as JSON: for
+/// each byte up to six as text and two digits, and twenty more.
 pub const IMAGE_ROOM: usize = 8 * VALUE_BYTES + 20;
 
 /// Writes two hexadecimal digits for each byte.
@@ -30,7 +30,7 @@ fn put_hex(buffer: &mut [u8], at: usize, bytes: &[u8]) -> usize
     }
 }
 
-/// How many bytes in front stand for themselves between quotes.
+/// How many bytes at the front are written as themselves between quotes.
 #[inline(always)]
 fn plain_in_front(bytes: &[u8]) -> usize
     ensures end { result ≤ length bytes.now }
@@ -44,8 +44,8 @@ fn plain_in_front(bytes: &[u8]) -> usize
     bytes.len()
 }
 
-/// Writes what each byte is between quotes. Of each [`ESCAPE_BYTES`] bytes are written; those that do not count
-/// are then written over by what comes next.
+/// Writes what each byte is between quotes. For each, [`ESCAPE_BYTES`] bytes are written; what
+/// comes next overwrites those that do not count.
 #[inline(always)]
 fn put_escapes(buffer: &mut [u8], at: usize, style: Style, bytes: &[u8]) -> usize
     requires { at + 6 * length bytes.now + 2 ≤ length buffer.old }
@@ -62,8 +62,8 @@ fn put_escapes(buffer: &mut [u8], at: usize, style: Style, bytes: &[u8]) -> usiz
     end
 }
 
-/// Writes what stands between quotes. The bytes in front that stand for themselves, of most texts all, are
-/// copied at once.
+/// Writes what comes between quotes. The bytes at the front that are written as themselves, in most
+/// texts all, are copied at once.
 #[inline(always)]
 fn put_each(buffer: &mut [u8], at: usize, style: Style, bytes: &[u8]) -> usize
     requires { at + 6 * length bytes.now + 2 ≤ length buffer.old }
