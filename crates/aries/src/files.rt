@@ -74,14 +74,9 @@ fn group_of<F: OpenFile>(file: &F) -> Option<u32> {
     file.metadata().ok().map(|metadata| metadata.gid())
 }
 
-/// Makes a new file. Only those who may read or write `old` may read or write it, except for its
-/// owner, who makes it. It has the mode of `old` if it has its group, otherwise no rights for a
-/// group; if the mode is not known, only its owner has rights. `fault` if the file could not be
-/// made.
-///
-/// The file is made without rights for its group. Its mode is set after the group is known; this
-/// also restores the bits that the umask took away. On a file system that keeps no modes this
-/// fails, and changes nothing.
+/// Makes a new file. A user other than its owner may read or write it only if that user may read or
+/// write `old`. It has the mode of `old` if it has its group, otherwise no rights for a group; if
+/// the mode is not known, only its owner has rights. `fault` if the file could not be made.
 pub fn make<R: Files>(rt: &R, file: &Notes, old: &R::File, fault: Fault) -> Result<R::File, Fault> {
     let mode = match old.metadata() {
         Ok(metadata) => metadata.permissions().mode() & 0o777,
