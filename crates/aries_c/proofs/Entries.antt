@@ -1,4 +1,4 @@
--- An entry of a table is told in one way.
+-- C gets an entry of a table in only one form.
 use Rattle.std.proofs.Common.{◌≡◌, ℕ, ap, ap₂, ◌∙◌, refl, arith}
 use Rattle.wal.specs.declared.record.State.{State}
 use Rattle.wal.specs.declared.record.State.TheVariants.{Active, Aborting, Prepared}

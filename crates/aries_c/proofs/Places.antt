@@ -1,4 +1,4 @@
--- Two lists that agree place by place, of which one is filled a place after the other.
+-- Two lists that agree place by place, one of which is filled one place after the other.
 use Rattle.std.proofs.Common.{ℕ, zero, suc, ◌≡◌, ◌≢◌, refl, ap₂, ◌+◌, ◌<◌, List, [], ◌∷◌, ◌++◌, length, get_or, set, map, take, drop, sym, ap, ◌∙◌, subst, arith, inl, inr}
 use Rattle.std.proofs.lemmas.Bool.{cases_eq}
 use Rattle.std.proofs.lemmas.List.{get_or_default, get_or-set_same, get_or-set_other, get_or-map, length-map, map-append, take_all, take_more}
@@ -24,7 +24,7 @@ module _ {X Y : Type 0} (R : X → Y → Type 0) where
         | inr d ↦ subst (λ (b : Y). R (get_or xs k x) b) (sym (get_or-set_other ys i k w y d)) (below k x y (omega arith))
       ]
 
--- what holds of each place below i, and of what is put there
+-- what holds for each place below i, and for what is put there
 pub holds_more : {X : Type 0} (P : ℕ → X → Type 0) (xs : List X) (i : ℕ) (v : X) → i < length xs → ((k : ℕ) (d : X) → k < i → P k (get_or xs k d)) → P i v
     → (k : ℕ) (d : X) → k < i + 1 → P k (get_or (set xs i v) k d)
 holds_more P xs i v there below here = λ k d lt.
@@ -34,7 +34,7 @@ holds_more P xs i v there below here = λ k d lt.
     ]
 
 -- A BUFFER FILLED FROM ITS FRONT
--- one entry more is told
+-- one more entry is written
 pub filled_more : {E T : Type 0} (told : E → T) (entries : List E) (before : List T) (i : ℕ) (e : E) → i < length entries → i < length before → get_or entries i e ≡ e
     → set (map told (take i entries) ++ drop i before) i (told e) ≡ map told (take (suc i) entries) ++ drop (suc i) before
 filled_more told [] before i e lt room is = absurd (omega (arith, lt))
@@ -53,14 +53,14 @@ pub named_more : {E T : Type 0} (told : E → T) (xs new : List E) (x : E) (ts :
 named_more told xs new x ts i t lt is so_far one =
     ap (map told) is ∙ map-append told xs (x ∷ []) ∙ ap₂ (λ (a : List _) b. a ++ b ∷ []) so_far one ∙ sym (take_more ts i t lt)
 
--- none where one has none
+-- none if one has none
 pub none_named : {E T : Type 0} (told : E → T) (ts : List T) (i : ℕ) (t : T) → i < length ts → ((e : E) → told e ≢ get_or ts i t) → (xs : List E) → map told xs ≢ ts
 none_named told ts i t lt none [] = λ is. omega (arith, lt, ap length is)
 none_named told ts i t lt none (x ∷ xs) = λ is.
     let there : i < length (x ∷ xs) = omega (arith, lt, ap length is, length-map (x ∷ xs) told) in
     none (get_or (x ∷ xs) i x) (sym (get_or-map told (x ∷ xs) i x t there) ∙ ap (λ l. get_or l i t) is)
 
--- and no others
+-- and only these
 pub one_named : {E T : Type 0} (told : E → T) → ((a b : E) → told a ≡ told b → a ≡ b) → (xs ys : List E) → map told xs ≡ map told ys → xs ≡ ys
 one_named told one [] [] is = refl
 one_named told one [] (y ∷ ys) is = absurd (omega (arith, ap length is))

@@ -1,23 +1,23 @@
--- The records of a log as C is told them (own).
+-- The records of a log as C gets them (own).
 use Rattle.std.specs.Prelude.{◌≡◌, ℕ, ◌+◌, ◌-◌, ◌<◌, List, length, drop, max, min, Some, slice_index_or}
 use Rattle.wal.specs.Records.{LogRecord, LogContent, History, history, base_lsn, last_lsn, record_at}
 use Rattle.aries_c.specs.declared.record.Record.{Record as Told}
 use Rattle.aries_c.specs.declared.dump.Read.{Read}
 use Rattle.aries_c.specs.Record.{Names}
 
--- the record at this LSN is told
+-- the record at this LSN, for C
 pub record TellsRecord (log : History) (lsn : ℕ) (told : Told) : Type 0 where
   pub content : LogRecord
   pub there : record_at log lsn ≡ Some content
   pub lsn_is : told.lsn ≡ lsn
   pub names : Names told content
 
--- the LSN of the first record that is asked for: this one, or the log's first where it begins behind it
+-- the LSN of the first record that is asked for: this one, or the log's first if that is higher
 abbrev pub first_asked : History → ℕ → ℕ
 first_asked log first = max first (base_lsn log + 1)
 
--- the log's numbers are told, and at the front of the buffer its records from that LSN on, as many as there are and have room;
--- behind them the buffer is as before
+-- C gets the log's numbers, and at the front of the buffer its records from that LSN on, as many as there are and have room; the rest of
+-- the buffer is as before
 pub record Dumps (log : LogContent) (torn first : ℕ) (before after : List Told) (told : Read) : Type 0 where
   pub base_is : told.base_lsn ≡ base_lsn (history log)
   pub records_are : told.records ≡ length log.records

@@ -1,11 +1,11 @@
--- What C is told of a fault (own).
+-- What C gets of a fault (own).
 use Rattle.std.specs.Prelude.{◌≡◌, ◌<◌, ◌^◌, ◌⊎◌, ℕ, ⊤}
 use Rattle.page.specs.Fault.{number_of}
 use Rattle.page.specs.declared.fault.Fault.{Fault}
 use Rattle.page.specs.declared.fault.Fault.TheVariants.{NoResource, ReadLog, ReadStore, WriteLog, WriteStore, BadLogHeader, BadLength, BadRecord, BadLsn, BadStoreHeader, StoreSize, BadPage, BadMaster, NoSuchPage, PageAheadOfLog, BrokenChain, BadParting, BadWorkers, Chain, AfterFinish, WrongCompensation, BeforeImage, DirtyWrite, EndTooEarly, PageImage, TransactionTable, DirtyTable, BadBase}
 use Rattle.aries_c.specs.declared.fault.Fault.{Fault as Told}
 
--- the place that a fault carries, 0 where it carries none
+-- the place that a fault carries, 0 if it carries none
 abbrev pub place_of : Fault → ℕ
 place_of NoResource = 0
 place_of ReadLog = 0
@@ -36,16 +36,16 @@ place_of TransactionTable = 0
 place_of (DirtyTable number) = number
 place_of BadBase = 0
 
--- as C is told it
+-- the fault, for C
 abbrev pub told_of : Fault → Told
 told_of fault = record { number = number_of fault; place = place_of fault }
 
--- C is told of a fault of which this holds
+-- C gets a fault of which this holds
 abbrev pub Tells : (Fault → Type 0) → Told → Type 0
 Tells Holds told = (fault : Fault) × Holds fault × (told ≡ told_of fault)
 
--- WHAT IS NO FAULT OF THE LIBRARY
--- the call did what it was asked
+-- WHAT IS NOT A FAULT OF THE LIBRARY
+-- the call succeeded
 abbrev pub done : Told
 done = record { number = 0; place = 0 }
 
@@ -57,11 +57,11 @@ no_memory = record { number = 1; place = 0 }
 abbrev pub no_room : Told
 no_room = record { number = 64; place = 0 }
 
--- what is named has no spelling, or does not stand there
+-- what is named has no encoding, or is not there
 abbrev pub not_writable : Told
 not_writable = record { number = 65; place = 0 }
 
--- the call was not refused but for want of memory
+-- the call has no error except a lack of memory
 abbrev pub IsOnlyMemory : Told → Type 0
 IsOnlyMemory told = (told ≡ done) ⊎ (told ≡ no_memory)
 

@@ -1,9 +1,9 @@
--- Values as C is told them (own).
+-- Values as C reads and writes them (own).
 use Rattle.std.specs.Prelude.{◌≡◌, length, take, Some, None}
 use Rattle.page.specs.Image.{Image}
 use Rattle.aries_c.specs.declared.image.Image.{Image as Told}
 
--- an absent value by the length 255; one that is there by its length, and its bytes at the front
+-- an absent value is the length 255; a present one is its length, and its bytes at the front
 abbrev pub NamesImage : Told → Image → Type 0
 NamesImage told None = told.length ≡ 255
 NamesImage told (Some value) = (told.length ≡ length value) × (take (length value) told.bytes ≡ value)

@@ -9,6 +9,6 @@ abbrev pub NamesStart : (version base : ℕ) → LogStart → Type 0
 NamesStart version base Version1 = (version ≡ 1) × (base ≡ 0)
 NamesStart version base (Version2 b) = (version ≡ 2) × (base ≡ b)
 
--- the header of a log that begins so, with a base LSN in range
+-- the header of a log with this start, with a base LSN in range
 abbrev pub IsLogHeader : (version base : ℕ) → List ℕ → Type 0
 IsLogHeader version base text = (begins : LogStart) × NamesStart version base begins × FitsStart begins × (text ≡ header_of begins)

@@ -1,4 +1,4 @@
--- Pages as C is told them, and what is written of a store (own).
+-- Pages as C reads and writes them, and what is written of a store (own).
 use Rattle.std.specs.Prelude.{◌≡◌, ℕ, ◌<◌, ◌≤◌, List, slice_index_or}
 use Rattle.page.specs.declared.page.Page.{Page}
 use Rattle.page.specs.declared.sizes.TheConstants.{PAGES, SLOTS}
@@ -18,6 +18,6 @@ pub record NamesPage (told : Told) (page : Page) : Type 0 where
 abbrev pub IsStoreHeader : (pages master : ℕ) → List ℕ → Type 0
 IsStoreHeader pages master text = (0 < pages) × (pages ≤ PAGES) × (text ≡ store_header pages master)
 
--- the one image of the page that this names
+-- the only image of the page that C gives
 abbrev pub IsPageImage : Told → List ℕ → Type 0
 IsPageImage told text = (page : Page) × NamesPage told page × FitsPage page × (text ≡ page_text page)

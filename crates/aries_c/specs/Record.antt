@@ -1,4 +1,4 @@
--- Records as C is told them, and tells them (own).
+-- Records as C reads and writes them (own).
 use Rattle.std.specs.Prelude.{◌≡◌, ◌<◌, ℕ, List, ⊤}
 use Rattle.wal.specs.Records.{UpdateRecord, CompensationRecord, PlainRecord, LogRecord, Update, Compensation, Commit, Abort, End, Prepare, CheckpointBegin, CheckpointEnd}
 use Rattle.wal.specs.Spelling.{kind_of, frame, Fits}
@@ -13,7 +13,7 @@ pub record NamesUpdate (told : Told) (u : UpdateRecord) : Type 0 where
   pub before : NamesImage told.before u.before
   pub after : NamesImage told.after u.after
 
--- the image that it put into its cell is told as the one after it
+-- the image that it put into its cell is given as the one after it
 pub record NamesCompensation (told : Told) (c : CompensationRecord) : Type 0 where
   pub tx : told.tx ≡ c.tx
   pub prev : told.prev ≡ c.prev
@@ -37,23 +37,23 @@ NamesFields told (Prepare r) = NamesPlain told r
 NamesFields told CheckpointBegin = ⊤
 NamesFields told (CheckpointEnd begin transactions dirty) = told.next ≡ begin
 
--- the kind as frames have it, and the fields of the kind; the tables of a checkpoint end are told apart from it
+-- the kind as frames have it, and the fields of the kind; the tables of a checkpoint end are separate
 pub record Names (told : Told) (r : LogRecord) : Type 0 where
   pub kind : told.kind ≡ kind_of r
   pub fields : NamesFields told r
 
 -- WRITING
--- a record that is named as a whole: any but a checkpoint end
+-- a record that C gives as a whole: any but a checkpoint end
 abbrev pub IsWhole : LogRecord → Type 0
 IsWhole (CheckpointEnd begin transactions dirty) = ⊥
 IsWhole r = ⊤
 
--- the record is named and has a spelling
+-- C gives the record, and it has an encoding
 pub record IsWritable (told : Told) (r : LogRecord) : Type 0 where
   pub names : Names told r
   pub whole : IsWhole r
   pub fits : Fits r
 
--- the frame of the record that this names, at its LSN
+-- the frame of the record that C gives, at its LSN
 abbrev pub IsFrame : Told → List ℕ → Type 0
 IsFrame told text = (r : LogRecord) × IsWritable told r × (0 < told.lsn) × (text ≡ frame r told.lsn)

@@ -1,10 +1,10 @@
--- What C is told of a recovery (own).
+-- What C gets of a recovery (own).
 use Rattle.std.specs.Prelude.{◌≡◌, ℕ, ◌+◌, ◌-◌, ◌<◌, ◌⊎◌, List, ◌++◌, length, take}
 use Rattle.recovery.specs.Text.{ReportContent}
 use Rattle.recovery.specs.Recovery.{Recovers}
 use Rattle.aries_c.specs.declared.recovered.Recovered.{Recovered}
 
--- the new log: what stays of the log, and behind it the tail
+-- the new log: what is kept of the log, followed by the tail
 abbrev pub new_log : (log tail : List ℕ) → Recovered → List ℕ
 new_log log tail made = take (length log - made.torn) log ++ take made.tail_length tail
 
@@ -25,8 +25,7 @@ report_told made in_doubt = record {
   in_doubt = in_doubt;
 }
 
--- what is told is that of a recovery of these bytes: its report, and how long its tail, its store and its list of transactions
--- in doubt are
+-- C gets the numbers of a recovery of these bytes: its report, and how long its tail, its store and its list of transactions in doubt are
 pub record TellsLengths (log store : List ℕ) (made : Recovered) : Type 0 where
   pub log_made : List ℕ
   pub store_made : List ℕ

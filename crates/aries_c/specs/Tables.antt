@@ -1,4 +1,4 @@
--- The tables of a checkpoint end as C is told them, and tells them (own).
+-- The tables of a checkpoint end as C reads and writes them (own).
 use Rattle.std.specs.Prelude.{◌≡◌, ℕ, ◌<◌, List, ◌++◌, length, map, drop, Some}
 use Rattle.wal.specs.declared.record.State.{State}
 use Rattle.wal.specs.declared.record.State.TheVariants.{Active, Aborting, Prepared}
@@ -9,7 +9,7 @@ use Rattle.aries_c.specs.declared.checkpoint.Entry.{Entry as Told}
 use Rattle.aries_c.specs.declared.checkpoint.DirtyPage.{DirtyPage}
 use Rattle.aries_c.specs.declared.checkpoint.Tables.{Tables}
 
--- how a transaction stands, by its number
+-- the number of a state
 abbrev pub state_number : State → ℕ
 state_number Active = 0
 state_number Aborting = 1
@@ -31,18 +31,18 @@ pub record HasTables (bytes : List ℕ) (lsn begin : ℕ) (transactions : List T
   pub reads : Reads bytes read torn
   pub there : record_at (history read) lsn ≡ Some (CheckpointEnd begin transactions dirty)
 
--- its begin, and how many entries its tables have, are told
+-- C gets the LSN of its begin record, and how many entries its tables have
 pub record Counts (begin : ℕ) (transactions : List TableEntry) (dirty : List (ℕ × ℕ)) (told : Tables) : Type 0 where
   pub begin_is : told.begin ≡ begin
   pub transactions_are : told.transactions ≡ length transactions
   pub dirty_are : told.dirty ≡ length dirty
 
--- these entries stand at the front of the buffer, which is as before behind them
+-- these entries are at the front of the buffer, and the rest of it is as before
 abbrev pub Fills : {E T : Type 0} → (E → T) → List E → (before after : List T) → Type 0
 Fills told entries before after = after ≡ map told entries ++ drop (length entries) before
 
 -- WRITING
--- the frame of the checkpoint end with the tables that these entries name
+-- the frame of the checkpoint end with the tables that these entries give
 abbrev pub IsEndFrame : (lsn begin : ℕ) → List Told → List DirtyPage → List ℕ → Type 0
 IsEndFrame lsn begin entries pages text =
     (transactions : List TableEntry) × (dirty : List (ℕ × ℕ)) × (map told_entry transactions ≡ entries) × (map told_dirty dirty ≡ pages)

@@ -3,21 +3,21 @@ use Rattle.std.specs.Prelude.{◌≡◌, ℕ, ◌<◌, ◌⊎◌, List, ◌++◌
 use Rattle.aries_c.specs.declared.fault.Fault.{Fault as Told}
 use Rattle.aries_c.specs.Fault.{done, no_memory, no_room, not_writable}
 
--- a text of which this holds stands at the front of the buffer, which is as before behind it, and its length is told
+-- a text of which this holds is at the front of the buffer, the rest of the buffer is as before, and the length of the text is returned
 pub record Wrote (IsText : List ℕ → Type 0) (before after : List ℕ) (told : ℕ) : Type 0 where
   pub text : List ℕ
   pub is_text : IsText text
   pub stands : after ≡ text ++ drop (length text) before
   pub length_is : told ≡ length text
 
--- the buffer is too short for a text of which this holds, and its length is told
+-- the buffer is too short for a text of which this holds, and the length of the text is returned
 pub record LacksRoom (IsText : List ℕ → Type 0) (before : List ℕ) (told : ℕ) : Type 0 where
   pub text : List ℕ
   pub is_text : IsText text
   pub short : length before < length text
   pub length_is : told ≡ length text
 
--- what a writer may answer where it takes no memory, and where it does
+-- what a writer may return if it takes no memory, and if it does
 abbrev pub IsAnswer : Told → Type 0
 IsAnswer told = (told ≡ done) ⊎ ((told ≡ no_room) ⊎ (told ≡ not_writable))
 

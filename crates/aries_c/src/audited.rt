@@ -10,14 +10,14 @@ use crate::Fault;
 use recovery::{audit_texts, audit_texts_over};
 use std::alloc::Global;
 
-/// Whether the bytes of a log, with a torn tail or none, and of its store are lawful over empty
-/// pages. Number 0 exactly where they are, want of memory aside; else the number and the place of
-/// the fault of [`audit_texts`]: the first broken law.
+/// Whether the bytes of a log, with or without a torn tail, and of its store are lawful over empty
+/// pages. The number is 0 if and only if they are, a lack of memory aside. Otherwise the result is
+/// the number and the place of the fault of [`audit_texts`]: the first broken law.
 #[unsafe(no_mangle)]
 pub extern "C" fn aries_audit(alloc: Global, log: &[u8], store: &[u8]) -> Fault
     ensures ok { result.number ≡ 0 → AreLawful no_base log.now store.now }
     ensures fault { result.number ≢ 0 → Tells (AuditFault log.now store.now) result }
-    // Lawful bytes are refused for want of memory alone.
+    // For lawful bytes the only error is a lack of memory.
     ensures lawful { AreLawful no_base log.now store.now → IsOnlyMemory result }
 {
     match audit_texts(alloc, log, store) {
@@ -26,14 +26,14 @@ pub extern "C" fn aries_audit(alloc: Global, log: &[u8], store: &[u8]) -> Fault
     }
 }
 
-/// Whether the bytes of a log, with a torn tail or none, and of its store are lawful over the pages
-/// of a base store. Number 0 exactly where they are, want of memory aside; else the number and the
-/// place of the fault of [`audit_texts_over`].
+/// Whether the bytes of a log, with or without a torn tail, and of its store are lawful over the
+/// pages of a base store. The number is 0 if and only if they are, a lack of memory aside.
+/// Otherwise the result is the number and the place of the fault of [`audit_texts_over`].
 #[unsafe(no_mangle)]
 pub extern "C" fn aries_audit_from(alloc: Global, log: &[u8], store: &[u8], base: &[u8]) -> Fault
     ensures ok { result.number ≡ 0 → AreLawfulOver log.now store.now base.now }
     ensures fault { result.number ≢ 0 → Tells (AuditFaultOver log.now store.now base.now) result }
-    // Lawful bytes are refused for want of memory alone.
+    // For lawful bytes the only error is a lack of memory.
     ensures lawful { AreLawfulOver log.now store.now base.now → IsOnlyMemory result }
 {
     match audit_texts_over(alloc, log, store, base) {

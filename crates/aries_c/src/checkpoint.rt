@@ -1,4 +1,4 @@
-//! The tables of a checkpoint end as C is told them, and tells them.
+//! The tables of a checkpoint end as C reads and writes them.
 
 ghost use Rattle.std.specs.Prelude.{◌≡◌, ◌≢◌, ◌≤◌, ℕ, List, IfOk, IfErr, ◌⊎◌, length, map};
 ghost use Rattle.wal.specs.declared.record.State.{State as Content};
@@ -12,7 +12,7 @@ use std::alloc::Global;
 use wal::{DirtyTable, State, TransactionTable};
 
 /// An entry of a transaction table: LastLSN and UndoNxtLSN, 0 for none, the transaction from 1, and
-/// how it stands: 0 active, 1 aborting, 2 prepared.
+/// its state: 0 active, 1 aborting, 2 prepared.
 #[repr(C)]
 #[derive(Clone, Copy)]
 pub struct Entry {
@@ -30,7 +30,8 @@ pub struct DirtyPage {
     pub page: u32,
 }
 
-/// What a checkpoint end says: the LSN of its begin, and how many entries its tables have.
+/// The fields of a checkpoint end: the LSN of its begin record, and how many entries its tables
+/// have.
 #[repr(C)]
 #[derive(Clone, Copy)]
 pub struct Tables {
@@ -39,7 +40,7 @@ pub struct Tables {
     pub dirty: u64,
 }
 
-/// How a transaction stands, by its number.
+/// The number of a state.
 fn state_number(state: State) -> u8
     ensures { result ≡ state_number state }
 {
@@ -50,7 +51,7 @@ fn state_number(state: State) -> u8
     }
 }
 
-/// The state with this number; not writable where none has it.
+/// The state with this number; not writable if no state has it.
 fn state_of(number: u8) -> Result<State, Fault>
     ensures found { IfOk result (λ state. state_number state ≡ number) }
     ensures err { IfErr result (λ e. e ≡ not_writable) }
@@ -64,7 +65,7 @@ fn state_of(number: u8) -> Result<State, Fault>
     }
 }
 
-/// This entry of a transaction table.
+/// This entry of a transaction table, for C.
 fn entry_told(entry: (u32, wal::Entry)) -> Entry
     ensures { result ≡ told_entry (entry_of entry) }
 {
@@ -98,7 +99,7 @@ pub fn fill_dirty(table: &DirtyTable, out: &mut [DirtyPage])
     }
 }
 
-/// The entry that this names; not writable where its state has another number.
+/// The entry that C gives; not writable if its state has another number.
 fn entry_named(entry: &Entry) -> Result<(u32, wal::Entry), Fault>
     ensures found { IfOk result (λ x. told_entry (entry_of x) ≡ entry.now) }
     ensures err { IfErr result (λ e. e ≡ not_writable) }
@@ -115,7 +116,7 @@ fn entry_named(entry: &Entry) -> Result<(u32, wal::Entry), Fault>
     ))
 }
 
-/// The entries that these name.
+/// The entries that C gives.
 pub fn entries_named(alloc: Global, entries: &[Entry]) -> Result<Vec<(u32, wal::Entry)>, Fault>
     ensures found { IfOk result (λ x. map told_entry (map entry_of x.items) ≡ entries.now) }
     ensures err { IfErr result (λ e. (e ≡ no_memory) ⊎ ((e ≡ not_writable)
@@ -129,7 +130,7 @@ pub fn entries_named(alloc: Global, entries: &[Entry]) -> Result<Vec<(u32, wal::
     Ok(named)
 }
 
-/// The entries that these name.
+/// The entries that C gives.
 pub fn dirty_named(alloc: Global, entries: &[DirtyPage]) -> Result<Vec<(u32, u64)>, Fault>
     ensures found { IfOk result (λ x. map told_dirty x.items ≡ entries.now) }
     ensures err { IfErr result (λ e. e ≡ no_memory) }

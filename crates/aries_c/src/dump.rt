@@ -14,8 +14,8 @@ use crate::{DirtyPage, Entry, Fault, Record, Tables};
 use std::alloc::Global;
 use wal::{DirtyTable, Log, RecordView, TransactionTable, read_log};
 
-/// What of a log was read: its base LSN, how many records it has, how many bytes its torn tail has,
-/// and how many records were given.
+/// What was read of a log: its base LSN, how many records it has, how many bytes its torn tail has,
+/// and how many records were returned.
 #[repr(C)]
 #[derive(Clone, Copy)]
 pub struct Read {
@@ -26,7 +26,7 @@ pub struct Read {
 }
 
 /// Writes the records of a log from an LSN on to a buffer, as many as there are and have room, and
-/// answers how many these are.
+/// returns how many these are.
 fn fill(log: &Log, from: u64, out: &mut [Record]) -> usize
     requires { base_lsn (history log.now) < from }
     ensures given { result ≡ min (length out.old) ((last_lsn (history log.now) + 1) - from) }
@@ -43,10 +43,11 @@ fn fill(log: &Log, from: u64, out: &mut [Record]) -> usize
     given
 }
 
-/// The records of the log in these bytes, from the LSN `first` on or, where that is 0, from the
-/// first one, as many as there are and have room in `out`; and what was read of the log. A checkpoint
-/// end is told without its tables: [`aries_checkpoint`] tells these. A refusal is the first fault of
-/// [`read_log`], with its place, and leaves `out` and `read` as they are.
+/// Writes to `out` the records of the log in these bytes, as many as there are and have room: from
+/// the LSN `first` on, or from the first record if `first` is 0. Writes to `read` what was read of
+/// the log. A checkpoint end comes without its tables: [`aries_checkpoint`] returns these. The
+/// error is the first fault of [`read_log`], with its place, and leaves `out` and `read` as they
+/// are.
 #[unsafe(no_mangle)]
 pub extern "C" fn aries_records(
     alloc: Global,
@@ -75,7 +76,7 @@ pub extern "C" fn aries_records(
     }
 }
 
-/// The begin and the tables of the checkpoint end at an LSN.
+/// The LSN of the begin record, and the tables, of the checkpoint end at an LSN.
 fn tables_at<'a>(log: &Log<'a>, lsn: u64) -> Option<(u64, TransactionTable<'a>, DirtyTable<'a>)>
     ensures found { IfSome result (λ x. record_at (history log.now) lsn
         ≡ Some (CheckpointEnd x.0 x.1 x.2)) }
@@ -99,10 +100,10 @@ fn tables_at<'a>(log: &Log<'a>, lsn: u64) -> Option<(u64, TransactionTable<'a>, 
 }
 
 /// The tables of the checkpoint end at an LSN of the log in these bytes, each at the front of its
-/// buffer in rising order of number, and how many entries they have. 65: no checkpoint end stands
-/// there; 64: a buffer is too short, and `tables` tells how many entries there are; else the first
-/// fault of [`read_log`]. At any number but 0 the buffers, and at any but 0 and 64 `tables` too, are
-/// as before.
+/// buffer in ascending order of number, and how many entries they have. 65: there is no checkpoint
+/// end at this LSN; 64: a buffer is too short, and `tables` has how many entries there are;
+/// otherwise the first fault of [`read_log`]. Unless the number is 0 the buffers are as before;
+/// unless it is 0 or 64 `tables` is as before too.
 #[unsafe(no_mangle)]
 pub extern "C" fn aries_checkpoint(
     alloc: Global,

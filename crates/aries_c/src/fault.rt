@@ -1,19 +1,19 @@
-//! Why a call was refused, as C is told it.
+//! The error of a call, as C gets it.
 
 ghost use Rattle.std.specs.Prelude.{◌≡◌};
 ghost use Rattle.aries_c.specs.Fault.{place_of, told_of, done, no_memory, no_room, not_writable};
 
 use std::alloc::{AllocError, AllocFailed};
 
-/// The number of a refusal for a buffer that is too short.
+/// The number for a buffer that is too short.
 pub const NO_ROOM: u32 = 64;
 
-/// The number of a refusal of what has no spelling, or does not stand where it is asked for.
+/// The number for what has no encoding, or is not where it is asked for.
 pub const NOT_WRITABLE: u32 = 65;
 
-/// What a call answers: the number of a fault, 0 where there is none, and the place of its cause, 0
-/// where it has none: an offset in the log in bytes (7 to 9), an LSN (14, 16, 20 to 25) or a page
-/// (12, 15, 26, 28).
+/// What a call returns: the number of a fault, 0 if there is none, and the place of the fault, 0 if
+/// it has none: an offset in the log in bytes (7 to 9), an LSN (14, 16, 20 to 25) or a page (12,
+/// 15, 26, 28).
 #[repr(C)]
 #[derive(Clone, Copy)]
 pub struct Fault {
@@ -22,7 +22,7 @@ pub struct Fault {
 }
 
 impl Fault {
-    /// None: the call did what it was asked.
+    /// No fault: the call succeeded.
     pub fn none() -> Fault
         ensures { result ≡ done }
     {
@@ -42,7 +42,7 @@ impl Fault {
         }
     }
 
-    /// What is named has no spelling, or does not stand there.
+    /// What is named has no encoding, or is not there.
     pub fn not_writable() -> Fault
         ensures { result ≡ not_writable }
     {
@@ -95,7 +95,7 @@ impl<T: Drop> From<AllocFailed<T>> for Fault {
     }
 }
 
-/// The place that a fault carries, 0 where it carries none.
+/// The place that a fault carries, 0 if it carries none.
 fn place_of(fault: page::Fault) -> u64
     ensures { result ≡ place_of fault }
 {

@@ -1,4 +1,4 @@
-//! Values as C is told them, and tells them.
+//! Values as C reads and writes them.
 
 ghost use Rattle.std.specs.Prelude.{◌≡◌, ◌≤◌, length, option_map, IfOk, IfErr, IfSome, Some, None};
 ghost use Rattle.page.specs.Image.{Image as Content, FitsSlot};
@@ -9,11 +9,11 @@ ghost use Rattle.aries_c.specs.Image.{NamesImage};
 use crate::Fault;
 use page::{VALUE_BYTES, Value};
 
-/// The length that an absent value is told by.
+/// The length that means an absent value.
 const ABSENT: u8 = 255;
 
-/// What a slot holds: the length of a value, 0 to 48, and its bytes at the front; or the length 255,
-/// for an absent value. Bytes behind a value are not looked at.
+/// What a slot holds: the length of a value, 0 to 48, and its bytes at the front; or the length
+/// 255, for an absent value. Bytes after a value are not looked at.
 #[repr(C)]
 #[derive(Clone, Copy)]
 pub struct Image {
@@ -45,7 +45,7 @@ impl Image {
         }
     }
 
-    /// An image that a record lends.
+    /// An image that a record holds.
     pub fn lent(image: Option<&[u8]>) -> Image
         requires { IfSome image (λ bytes. length bytes.now ≤ VALUE_BYTES) }
         ensures { NamesImage result (option_map (λ bytes. bytes.now) image.entry) }
@@ -66,7 +66,7 @@ impl Image {
         }
     }
 
-    /// The value that it names; not writable where its length is 49 to 254.
+    /// The value that C gives; not writable if its length is 49 to 254.
     pub fn value(&self) -> Result<Option<Value>, Fault>
         ensures found { IfOk result (NamesImage self.now) }
         ensures fits { IfOk result FitsSlot }

@@ -1,5 +1,5 @@
-//! What programs in C, and in other languages by its interface, call: recovery, audit and a dump of
-//! bytes, and what an engine writes.
+//! The functions for programs in C, and in other languages by way of C: recovery, audit and a dump
+//! of bytes, and what an engine writes.
 #![tactic(auto)]
 
 mod audited;

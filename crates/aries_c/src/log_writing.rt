@@ -59,8 +59,8 @@ fn frame_of(alloc: Global, logged: &wal::Record, lsn: u64) -> Result<Vec<u8>, Fa
     Ok(frame)
 }
 
-/// Writes the frame of a record, at its LSN, to the front of a buffer: any but that of a checkpoint
-/// end. 65: it has no spelling; 64: the buffer is too short; 1: memory was refused.
+/// Writes the frame of a record, at its LSN, to the front of a buffer: any record but a checkpoint
+/// end. 65: it has no encoding; 64: the buffer is too short; 1: memory was refused.
 #[unsafe(no_mangle)]
 pub extern "C" fn aries_write_record(
     alloc: Global,
@@ -81,7 +81,7 @@ pub extern "C" fn aries_write_record(
     }
 }
 
-/// The frame of the record that this names.
+/// The frame of the record that C gives.
 fn record_frame(alloc: Global, named: &Record) -> Result<Vec<u8>, Fault>
     ensures found { IfOk result (λ text. IsFrame named.now text.items) }
     ensures err { IfErr result (λ e. (e ≡ no_memory)
@@ -91,7 +91,7 @@ fn record_frame(alloc: Global, named: &Record) -> Result<Vec<u8>, Fault>
     frame_of(alloc, &record, named.lsn)
 }
 
-/// The frame of the checkpoint end with the tables that these name.
+/// The frame of the checkpoint end with the tables that C gives.
 fn end_frame(
     alloc: Global,
     lsn: u64,
@@ -113,9 +113,9 @@ fn end_frame(
     frame_of(alloc, &end, lsn)
 }
 
-/// Writes the frame of a checkpoint end, at its LSN, to the front of a buffer: the LSN of its begin,
-/// and its tables, of at most 1,024 and 4,096 entries in rising order of transaction and of page. 65:
-/// it has no spelling; 64: the buffer is too short; 1: memory was refused.
+/// Writes the frame of a checkpoint end, at its LSN, to the front of a buffer: the LSN of its begin
+/// record, and its tables, of at most 1,024 and 4,096 entries in ascending order of transaction and
+/// of page. 65: it has no encoding; 64: the buffer is too short; 1: memory was refused.
 #[unsafe(no_mangle)]
 pub extern "C" fn aries_write_checkpoint_end(
     alloc: Global,

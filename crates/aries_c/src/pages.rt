@@ -13,7 +13,7 @@ use crate::room::put;
 use crate::{Fault, Image};
 use page::{PAGE_BYTES, PAGES, SLOTS, Value, decode_page, encode_page, store_header};
 
-/// A page: its number from 0, PageLSN, 0 for none, and what its 16 slots hold.
+/// A page: its number from 0, its PageLSN, 0 for none, and what its 16 slots hold.
 #[repr(C)]
 #[derive(Clone, Copy)]
 pub struct Page {
@@ -38,7 +38,7 @@ impl Page {
         }
     }
 
-    /// The page that it names; not writable where a slot names no value.
+    /// The page that C gives; not writable if the length of a slot is wrong.
     fn page(&self) -> Result<page::Page, Fault>
         ensures found { IfOk result (NamesPage self.now) }
         ensures err { IfErr result (λ e. e ≡ not_writable) }
@@ -82,8 +82,8 @@ pub extern "C" fn aries_write_store_header(
     put(&store_header(pages, master), out, told)
 }
 
-/// Writes the image of a page, 1,024 bytes, to the front of a buffer. 65: the length of a slot is 49
-/// to 254; 64: the buffer is too short.
+/// Writes the image of a page, 1,024 bytes, to the front of a buffer. 65: the length of a slot is
+/// 49 to 254; 64: the buffer is too short.
 #[unsafe(no_mangle)]
 pub extern "C" fn aries_write_page(page: &Page, out: &mut [u8], told: &mut usize) -> Fault
     ensures written { result.number ≡ 0 → Wrote (IsPageImage page.now) out.old out.new told.new }
@@ -100,8 +100,8 @@ pub extern "C" fn aries_write_page(page: &Page, out: &mut [u8], told: &mut usize
     }
 }
 
-/// The page of this number whose image the bytes are. Any other bytes are number 12 with the page
-/// number, and leave `page` as it is.
+/// The page of this number whose image the bytes are. For any other bytes the number is 12, with
+/// the page number, and `page` is left as it is.
 #[unsafe(no_mangle)]
 pub extern "C" fn aries_read_page(bytes: &[u8], number: u32, page: &mut Page) -> Fault
     ensures read { result.number ≡ 0 → (content : Content) × SpellsPage bytes.now content
@@ -119,7 +119,7 @@ pub extern "C" fn aries_read_page(bytes: &[u8], number: u32, page: &mut Page) ->
     }
 }
 
-/// The page of this number that the bytes spell.
+/// The page of this number that the bytes encode.
 fn page_in(bytes: &[u8], number: u32) -> Result<page::Page, page::Fault>
     ensures found { IfOk result (λ page. SpellsPage bytes.now page × (page.number ≡ number)) }
     ensures bad { IfErr result (λ e. (e ≡ BadPage number)

@@ -1,4 +1,4 @@
-//! Records as C is told them, and tells them.
+//! Records as C reads and writes them.
 
 ghost use Rattle.std.specs.Prelude.{◌≡◌, IfOk, IfErr, OnOk, OnErr};
 ghost use Rattle.wal.specs.Records.{LogRecord};
@@ -10,15 +10,15 @@ ghost use Rattle.aries_c.specs.Record.{Names, IsWhole, IsWritable};
 use crate::{Fault, Image};
 use wal::RecordView;
 
-/// A record of a log. What its kind has no use for is 0, and is not looked at.
+/// A record of a log. Fields that its kind does not use are 0, and are not looked at.
 #[repr(C)]
 #[derive(Clone, Copy)]
 pub struct Record {
     /// Its LSN, from 1.
     pub lsn: u64,
-    /// PrevLSN: the LSN of its transaction's record before it, 0 for none.
+    /// PrevLSN: the LSN of its transaction's record before it, 0 if there is none.
     pub prev: u64,
-    /// UndoNxtLSN of a CLR; of a checkpoint end the LSN of its begin.
+    /// UndoNxtLSN of a CLR; for a checkpoint end the LSN of its begin record.
     pub next: u64,
     /// Its transaction, from 1.
     pub tx: u32,
@@ -33,7 +33,7 @@ pub struct Record {
 }
 
 impl Record {
-    /// A record of this kind with no more than its LSN.
+    /// A record of this kind with only its LSN.
     fn of_kind(lsn: u64, kind: u8) -> Record
         ensures lsn { result.lsn ≡ lsn }
         ensures kind { result.kind ≡ kind }
@@ -51,7 +51,8 @@ impl Record {
         }
     }
 
-    /// A record of this kind that says no more than its transaction and that one's record before it.
+    /// A record of this kind with only its transaction and the LSN of that transaction's record
+    /// before it.
     fn plain(lsn: u64, kind: u8, tx: u32, prev: u64) -> Record
         ensures lsn { result.lsn ≡ lsn }
         ensures kind { result.kind ≡ kind }
@@ -65,7 +66,7 @@ impl Record {
         }
     }
 
-    /// This record of a log.
+    /// This record of a log, for C.
     pub fn of(lsn: u64, view: &RecordView) -> Record
         requires { Fits (shown view.now) }
         ensures lsn { result.lsn ≡ lsn }
@@ -112,8 +113,8 @@ impl Record {
         }
     }
 
-    /// The record that it names, with or without a spelling; not writable where an image is none, for
-    /// a checkpoint end, and for any other kind.
+    /// The record that C gives, with or without an encoding. It is not writable if an image is not
+    /// valid, for a checkpoint end, and for any other kind.
     fn named(&self) -> Result<wal::Record, Fault>
         ensures names { IfOk result (λ r. Names self.now (content r)) }
         ensures whole { IfOk result (λ r. IsWhole (content r)) }
@@ -148,7 +149,7 @@ impl Record {
         }
     }
 
-    /// The record that it names, where that has a spelling.
+    /// The record that C gives, if it has an encoding.
     pub fn writable(&self) -> Result<wal::Record, Fault>
         ensures found { IfOk result (λ r. IsWritable self.now (content r)) }
         ensures err { IfErr result (λ e. e ≡ not_writable) }
@@ -158,7 +159,7 @@ impl Record {
     }
 }
 
-/// This record, where it has a spelling.
+/// This record, if it has an encoding.
 pub fn with_spelling(logged: wal::Record) -> Result<wal::Record, Fault>
     ensures same { IfOk result (λ r. content r ≡ content logged) }
     ensures fits { OnOk result (Fits (content logged)) }

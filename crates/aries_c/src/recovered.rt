@@ -17,7 +17,7 @@ use crate::room::copy_to;
 use recovery::{Recovery, recovery_alone};
 use std::alloc::Global;
 
-/// What a recovery found and did, and how long what it makes is.
+/// What a recovery found and did, and the lengths of what it makes.
 #[repr(C)]
 #[derive(Clone, Copy)]
 pub struct Recovered {
@@ -25,7 +25,7 @@ pub struct Recovered {
     pub records: u64,
     /// Bytes of its torn tail, which is dropped.
     pub torn: u64,
-    /// The LSN from which redo looked at records, 0 where it looked at none.
+    /// The LSN from which redo looked at records, 0 if it looked at none.
     pub redo_from: u64,
     /// Records that redo applied.
     pub redone: u64,
@@ -76,7 +76,7 @@ fn copy_numbers(numbers: &[u32], out: &mut [u32])
     out[..numbers.len()].copy_from_slice(numbers);
 }
 
-/// What is made of a log and a store in these bytes, by the caller's thread.
+/// What is made of a log and a store in these bytes, in the caller's thread.
 fn recovery_in<'a>(alloc: Global, log: &'a [u8], store: &[u8]) -> Result<Recovery<'a>, page::Fault>
     ensures lawful { (base : BasePages) (bytes : AreLawful base log.now store.now)
         → MatchResult result (λ x. AreRecovered base bytes.decoded.read bytes.decoded.before
@@ -93,15 +93,15 @@ fn recovery_in<'a>(alloc: Global, log: &'a [u8], store: &[u8]) -> Result<Recover
     recovery_alone(alloc, log, store)
 }
 
-/// Recovers the store in these bytes by the log in these, in the caller's thread. The new log is the
-/// log without its last `made.torn` bytes, and behind it the first `made.tail_length` bytes of
-/// `tail`; the new store is the first `made.store_length` bytes of `out_store`, as many as the store
-/// has; the first `made.in_doubt` numbers of `in_doubt` are those of the transactions in doubt, rising.
-/// Behind these the buffers are as before.
+/// Recovers the store in these bytes from the log in these bytes, in the caller's thread. The new
+/// log is the log without its last `made.torn` bytes, followed by the first `made.tail_length`
+/// bytes of `tail`. The new store is the first `made.store_length` bytes of `out_store`, as many as
+/// the store has. The first `made.in_doubt` numbers of `in_doubt` are those of the transactions in
+/// doubt, in ascending order. The rest of the buffers is as before.
 ///
-/// 64: a buffer is too short, and `made` tells what a recovery makes and how long it is. Any other
-/// number but 0 is that of the fault of the log, of the store or of the restart, with its place. At
-/// any number but 0 the buffers, and at any but 0 and 64 `made` too, are as before.
+/// 64: a buffer is too short, and `made` has what a recovery makes and its lengths. Any other
+/// number but 0 is that of the fault of the log, of the store or of the restart, with its place.
+/// Unless the number is 0 the buffers are as before; unless it is 0 or 64 `made` is as before too.
 #[unsafe(no_mangle)]
 pub extern "C" fn aries_recover(
     alloc: Global,
@@ -112,12 +112,12 @@ pub extern "C" fn aries_recover(
     in_doubt: &mut [u32],
     made: &mut Recovered,
 ) -> Fault
-    // Wherever it answers.
+    // On success.
     ensures answer { result.number ≡ 0 → Recovers log.now store.now
         (new_log log.now tail.new made.new) (new_store out_store.new made.new)
         (report_told made.new (take made.new.in_doubt in_doubt.new)) }
 
-    // On the bytes of a log and its store that are lawful over any base pages.
+    // For the bytes of a log and its store that are lawful over any base pages.
     ensures lawful { (base : BasePages) (bytes : AreLawful base log.now store.now)
         → result.number ≡ 0 → AreRecovered base bytes.decoded.read bytes.decoded.before
         (new_log log.now tail.new made.new) (new_store out_store.new made.new)
@@ -128,7 +128,7 @@ pub extern "C" fn aries_recover(
     ensures lawful_tail { (base : BasePages) → AreLawful base log.now store.now
         → (result ≡ done) ⊎ (result ≡ no_room) → made.new.tail_length ≤ 2 * length log.now }
 
-    // On what a recovery of them may leave that was interrupted: what it would have made.
+    // For what an interrupted recovery of them may leave: what that recovery would have made.
     ensures interrupted_log { (base : BasePages) (bytes : AreCut base log.now store.now)
         → result.number ≡ 0 → new_log log.now tail.new made.new
         ≡ log_text (with_tail bytes.first.decoded.read) }
@@ -136,7 +136,7 @@ pub extern "C" fn aries_recover(
         → result.number ≡ 0 → new_store out_store.new made.new
         ≡ store_text (store_out base bytes.first.decoded.read bytes.first.decoded.before) }
 
-    // A refusal has its cause, or a buffer is shorter than what a recovery makes.
+    // An error has its condition, or a buffer is shorter than what a recovery makes.
     ensures cause { result.number ≢ 0 → result.number ≢ NO_ROOM
         → Tells (Cause log.now store.now (record { workers = 1; parts = 1 })) result }
     ensures lengths { result.number ≡ NO_ROOM → TellsLengths log.now store.now made.new }

@@ -6,8 +6,8 @@ ghost use Rattle.aries_c.specs.Writing.{IsAnswer};
 
 use crate::Fault;
 
-/// Writes a text to the front of a buffer, and tells its length in bytes. A buffer that is too short
-/// is left as it is: number 64.
+/// Writes a text to the front of a buffer, and returns its length in bytes in `told`. If the buffer
+/// is too short it is left as it is, and the number is 64.
 pub fn put(text: &[u8], out: &mut [u8], told: &mut usize) -> Fault
     ensures told { told.new ≡ length text.now }
     ensures written { result.number ≡ 0

@@ -11,7 +11,7 @@ use crate::Fault;
 use crate::room::put;
 use std::alloc::{AllocError, Global};
 
-/// The fault with this number, if it is one that carries no place.
+/// The fault with this number, if it is one without a place.
 fn bare_fault(number: u32) -> Option<page::Fault>
     ensures found { IfSome result (λ fault. (number_of fault ≡ number) × IsBare fault) }
     ensures none { IfNone result ((fault : Content) → IsBare fault → number_of fault ≢ number) }
@@ -34,7 +34,7 @@ fn bare_fault(number: u32) -> Option<page::Fault>
     }
 }
 
-/// The fault with this number at this offset or LSN, if it is one that carries such a place.
+/// The fault with this number at this offset or LSN, if it is one with such a place.
 fn fault_at(number: u32, place: u64) -> Option<page::Fault>
     ensures found { IfSome result (λ fault. (number_of fault ≡ number)
         × (place_of fault ≡ place)) }
@@ -71,7 +71,7 @@ fn fault_of_page(number: u32, page: u32) -> Option<page::Fault>
     }
 }
 
-/// The fault with this number, whatever its place; none where no fault has it.
+/// The fault with this number, whatever its place; `None` if no fault has it.
 fn fault_in(told: &Fault) -> Option<page::Fault>
     ensures found { IfSome result (λ fault. number_of fault ≡ told.now.number) }
     ensures place { IfSome result (λ fault. ¬ IsBare fault → place_of fault ≡ told.now.place) }
@@ -87,14 +87,14 @@ fn fault_in(told: &Fault) -> Option<page::Fault>
     fault_of_page(told.number, page)
 }
 
-/// The text of a fault, as the program prints it behind its number.
+/// The text of a fault, as the program prints it after its number.
 fn text_of(alloc: Global, fault: page::Fault) -> Result<String, AllocError> {
     format!(in alloc; "{fault}")
 }
 
-/// Writes the text of a fault, as `dirty write at LSN 7`, without an end mark, to the front of a
-/// buffer. 65: no fault has this number, or its page is none; 64: the buffer is too short; 1: memory
-/// was refused.
+/// Writes the text of a fault, such as `dirty write at LSN 7`, without an end mark, to the front of
+/// a buffer. 65: no fault has this number, or its page is not a page number; 64: the buffer is too
+/// short; 1: memory was refused.
 #[unsafe(no_mangle)]
 pub extern "C" fn aries_fault_text(
     alloc: Global,
