@@ -21,7 +21,7 @@ module _ (whole some : LogContent) (appended : List Appended) (alike : AreAlike 
   same_count : length some.records ≡ length whole.records
   same_count = omega (arith, alike.base, alike.last, size_of_log some, size_of_log whole, base_of_log some, base_of_log whole)
 
-  -- what is appended has a spelling, and the same one
+  -- what is appended has an encoding, and the same one
   pub alike_fit : AreFit some appended → All Fits (records_of (history whole) appended)
   alike_fit fit = subst (All Fits) alike.records (told_fit some appended fit)
 

@@ -1,4 +1,4 @@
--- A log that is read in pieces: what is read again of it, and why it is refused.
+-- A log that is read in pieces: what is read again of it, and its errors.
 use Rattle.std.proofs.Common.{ℕ, ◌≡◌, ◌≤◌, ◌<◌, ◌+◌, ◌-◌, ◌^◌, List, ◌++◌, length, take, drop, Option, Some, None, Result, Ok, Err, refl, sym, ap, subst, ◌∙◌, inl, inr, arith, length-take}
 use Rattle.std.proofs.lemmas.List.{drop-take, take-append-le}
 use Rattle.std.specs.Prelude.{IfSome}
@@ -26,7 +26,7 @@ use Rattle.recovery.proofs.Bytes.{input_cause}
 use Rattle.recovery.proofs.Delivered.{device_cause, is_resource}
 use Rattle.recovery.proofs.InPlace.{same_tail}
 
--- WHAT A DEVICE TELLS
+-- WHAT IS KNOWN OF A DEVICE
 pub at_some : {A : Type 0} (P : A → Type 0) (o : Option A) (x : A) → o ≡ Some x → IfSome o P → P x
 at_some P o x e h = subst (λ y. IfSome y P) e h
 
@@ -65,20 +65,20 @@ ok_is_no_fault x e is = absurd cc
 pub none_failed : {U : Type 0} (x : U) (a c : ℕ) → c ≡ a → Fails ReadLog (Ok x) a c
 none_failed x a c same = record { blamed = λ is. absurd (ok_is_no_fault x ReadLog is); innocent = λ _. same }
 
--- REFUSALS
--- want of memory, or the log's device
+-- ERRORS
+-- lack of memory, or the log's device
 pub resource_of_log : (e : PassFault) → IsResource e → IsFaultOf ReadLog (fault_of e)
 resource_of_log e (inl failed) = subst (λ x. IsFaultOf ReadLog (fault_of x)) (sym failed) (inr refl)
 resource_of_log e (inr none) = subst (λ x. IsFaultOf ReadLog (fault_of x)) (sym none) (inl refl)
 
--- the log's bytes are refused
+-- an error of the log's bytes
 pub log_cause : (log store : List ℕ) (options : Options) (e : Fault) → AreInRange options → LogFault log e → Cause log store options e
 log_cause log store options NoResource range h = tt
 log_cause log store options BadWorkers range h = absurd h.behind.fault
 log_cause log store options BadParting range h = absurd h.behind.fault
 log_cause log store options e range h = (range, inl h)
 
--- a restart in pieces is refused
+-- an error of a restart in pieces
 pub reading_cause : (log store : List ℕ) (options : Options) (before : StoreContent) (e : PassFault) → SpellsStore store before → AreInRange options → InPiecesCause log before e → ReadingCause log store options (fault_of e)
 reading_cause log store options before pass.Failed spells range h = inl refl
 reading_cause log store options before (pass.Fault ReadLog) spells range h = inr tt
@@ -125,7 +125,7 @@ module _ (store_left : Option (List ℕ)) (log store : List ℕ) (made : Made) (
       same_tail size (length log) kept (length log - made.remade.report.torn) end _ frames made.remade.frames.items (p ∙ measured.length_is) (q ∙ measured.kept_is)
       (r ∙ ap (λ n. sum_of (end_of (take n log))) measured.kept_is) h
 
--- a sink's fault is none of the log's device
+-- a sink's fault is not one of the log's device
 pub stays_other : {U : Type 0} (s : Result U Fault) (kept : ℕ) (frames new_store : List ℕ) (a b c d x y : Option (List ℕ)) (e : Fault) → s ≡ Err e → Stays kept frames new_store a b c d x y e → s ≡ Err ReadLog → ⊥
 stays_other s kept frames new_store a b c d x y e is stays blamed =
     subst (λ f. Stays kept frames new_store a b c d x y f) (let same : e ≡ ReadLog = cc in same) stays

@@ -1,4 +1,4 @@
--- A recovery of bytes: what was read, what is written, and why it is refused.
+-- A recovery of bytes: what was read, what is written, and its errors.
 use Rattle.std.proofs.Common.{ℕ, ◌≡◌, ◌+◌, ◌-◌, ◌≤◌, List, [], ◌∷◌, ◌++◌, length, take, Result, Ok, Err, refl, sym, subst, ap, ap₂, ◌∙◌, arith, inl, inr, append_assoc, append-nil, ◌%◌}
 use Rattle.std.proofs.lemmas.List.{take_at, length-append}
 use Rattle.std.proofs.lemmas.List.FromFn.{length-map-range_with_len}
@@ -43,7 +43,7 @@ torn_within bytes read torn reads = omega (arith, ap length reads.text, length-a
 pub is_lawful : {base : BasePages} {log store : List ℕ} (bytes : AreLawful base log store) (read : LogContent) (before : StoreContent) → read ≡ bytes.decoded.read → before ≡ bytes.decoded.before → Lawful base read before
 is_lawful {base} bytes read before e f = subst (λ l. Lawful base l before) (sym e) (subst (Lawful base bytes.decoded.read) (sym f) bytes.lawful)
 
--- what stands there is read, unless memory is refused
+-- what is there is read, unless memory is refused
 pub read_alone : {X Y : Type 0} (view : X → Y) (e : Fault) (y : Y) → Gives view (Err e) (Ok y) → e ≡ NoResource
 read_alone view NoResource y gives = refl
 read_alone view e y gives = absurd (cc)
@@ -51,7 +51,7 @@ read_alone view e y gives = absurd (cc)
 pub read_same : {X : Type 0} (x y : X) → Gives (λ (z : X). z) (Ok x) (Ok y) → x ≡ y
 read_same x y gives = cc
 
--- an answer of a reader of logs
+-- a result of a reader of logs
 pub none_read : (log : List ℕ) (answer : Result (LogContent × ℕ) Fault) (e : Fault) (read : LogContent) (torn : ℕ) → answer ≡ Err e → ReadsAs log answer → Reads log read torn → e ≡ NoResource
 none_read log answer e read torn was reads spelled =
     read_alone (λ x. x) e (read, torn) (subst (λ a. Gives (λ x. x) a (Ok (read, torn))) was (reads.only read torn spelled))
@@ -61,13 +61,13 @@ one_read log answer x read torn was reads spelled =
     read_same x (read, torn) (subst (λ a. Gives (λ x. x) a (Ok (read, torn))) was (reads.only read torn spelled))
 
 -- WHAT IS WRITTEN
--- one frame more
+-- one more frame
 pub spellings_push : (out new : List ℕ) (lsn next : ℕ) (xs : List LogRecord) (x : LogRecord) → next ≡ lsn + length xs → out ≡ spellings lsn xs → new ≡ out ++ frame x next → new ≡ spellings lsn (xs ++ x ∷ [])
 spellings_push out new lsn next xs x at before after =
     after ∙ ap₂ (λ (o : List ℕ) n. o ++ frame x n) before at
     ∙ sym (spellings-append lsn xs (x ∷ []) ∙ ap (λ (s : List ℕ). spellings lsn xs ++ s) (append-nil (frame x (lsn + length xs))))
 
--- the text of a log, and behind it the frames of more records
+-- the bytes of a log, followed by the frames of more records
 pub text_extended : (log : LogContent) (more : List LogRecord) (kept frames : List ℕ) (lsn : ℕ) → kept ≡ log_text log → lsn ≡ last_lsn (history log) + 1 → frames ≡ spellings lsn more → kept ++ frames ≡ log_text (log ⧺ more)
 text_extended log more kept frames lsn front at behind =
     let first = lsn_before log.begins + 1 in
@@ -75,26 +75,26 @@ text_extended log more kept frames lsn front at behind =
     ∙ append_assoc (header_of log.begins) (spellings first log.records) (spellings (first + length log.records) more)
     ∙ ap (λ (s : List ℕ). header_of log.begins ++ s) (sym (spellings-append first log.records more))
 
--- the pages of a parting by number
+-- the pages of a partition by number
 pub dealt_by_number : (pages parts : ℕ) (part_of : List ℕ) → part_of ≡ by_number pages parts → length part_of ≡ pages
 dealt_by_number pages parts part_of is = ap length is ∙ length-map-range_with_len (λ page. page % parts) 0 pages
 
--- a refusal of the store's bytes, where those of the log are read
+-- an error of the store's bytes, if those of the log are read
 pub store_cause : (log store : List ℕ) (options : Options) (e : Fault) → AreInRange options → (read : LogContent) (torn : ℕ) → Reads log read torn → StoreFault store e → Cause log store options e
 store_cause log store options NoResource range read torn reads h = tt
 store_cause log store options BadWorkers range read torn reads h = absurd h
 store_cause log store options BadParting range read torn reads h = absurd h
 store_cause log store options e range read torn reads h = (range, inr (inl (read, torn, reads, h)))
 
--- WHY IT IS REFUSED
--- where a restart is refused for its input, the recovery is
+-- THE ERRORS
+-- if a restart has an error of its input, the recovery has it
 pub input_cause : (log store : List ℕ) (options : Options) (e : Fault) → AreInRange options → (decoded : Decoded log store) → InputFault decoded.read decoded.before e → Cause log store options e
 input_cause log store options NoResource range decoded h = tt
 input_cause log store options BadWorkers range decoded h = absurd h.1.holds
 input_cause log store options BadParting range decoded h = absurd h.1.holds
 input_cause log store options e range decoded h = (range, inr (inr (decoded, h)))
 
--- a refusal of the restart is one of the recovery
+-- an error of the restart is an error of the recovery
 pub restart_cause : (log store : List ℕ) (options : Options) (parting : PartingContent) (e : Fault) → AreInRange options → (decoded : Decoded log store) → AreSettings (length decoded.before.pages) parting options.workers
     → RestartFault decoded.read decoded.before parting options.workers e → Cause log store options e
 restart_cause log store options parting e range decoded fit (inl h) = absurd (settings_hold (length decoded.before.pages) parting options.workers e fit h)

@@ -1,4 +1,4 @@
--- A log that is copied piece by piece: what is out of it, and what a fault leaves.
+-- A log that is copied piece by piece: what is written of it, and what a fault leaves.
 use Rattle.std.proofs.Common.{ℕ, ◌≡◌, ◌+◌, ◌≤◌, List, ◌++◌, take, drop, Option, Some, Err, ap, ap₂, sym, subst, ◌∙◌, inl, inr, arith, take-take, take-append-drop}
 use Rattle.std.proofs.KnownBytes.{Appends-trans, Keeps-refl}
 use Rattle.std.proofs.lemmas.List.{drop-take}
@@ -32,7 +32,7 @@ module _ (before between after : Option (List ℕ)) (offset n : ℕ) (text : Lis
   pub copied_more : Appends between after (take n (drop offset text)) → Appends before after (take (offset + n) text)
   copied_more more = subst (Appends before after) (piece_more offset n text) (Appends-trans before between after _ _ came more)
 
-  -- or, after a fault, a beginning of all that is to be copied
+  -- or, after a fault, a prefix of all that is to be copied
   pub copied_part : (kept : ℕ) → offset + n ≤ kept → TookBeginning between after (take n (drop offset text)) → TookBeginning before after (take kept text)
   copied_part kept le took =
       let upto = take (offset + n) text in
@@ -81,7 +81,7 @@ module _ (log_left store_left log_before log_after store_before store_after : Op
   copied_out made WriteStore h = (made, h)
   copied_out made e h = absurd h
 
--- one before it leaves nothing
+-- a fault before it leaves nothing
 pub nothing_copied : (log_left store_left log_taken store_taken : Option (List ℕ)) (e : Fault) → IsOfLog e → IsOutCopied log_left store_left log_taken log_taken store_taken store_taken e
 nothing_copied log_left store_left log_taken store_taken ReadLog h = inl (Keeps-refl log_taken, Keeps-refl store_taken)
 nothing_copied log_left store_left log_taken store_taken WriteLog h = absurd h

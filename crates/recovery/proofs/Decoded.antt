@@ -1,4 +1,4 @@
--- A store whose bytes come piece by piece: what the decoder of all of them answers.
+-- A store whose bytes come piece by piece: what the decoder of all of them returns.
 use Rattle.std.proofs.Common.{◌≡◌, ℕ, List, [], ◌++◌, Result, Ok, Option, Some, None, refl, sym, subst}
 use Rattle.std.specs.Prelude.{IfOk, OnOk, IfErr, MatchResult}
 use Rattle.std.proofs.lemmas.Result.{IfOk-at_ok}
@@ -13,11 +13,11 @@ use Rattle.recovery.specs.Recovery.{Decodes}
 use Rattle.recovery.specs.Devices.{Gave, AreRead}
 
 -- WHAT A SOURCE GAVE
--- all that it had left, where it is at its end
+-- all that it had left, if it is at its end
 pub gave_all : (a b : Option (List ℕ)) (bytes : List ℕ) → Consumes a b bytes → IsAtEnd b → Gave a bytes
 gave_all a b bytes read end = Consumes-all a b bytes [] bytes read end refl
 
--- the bytes that it has left, none where it does not tell them
+-- the bytes that it has left, none if they are not known
 abbrev pub rest_of : Option (List ℕ) → List ℕ
 rest_of None = []
 rest_of (Some xs) = xs
@@ -27,7 +27,7 @@ gave_rest None b bytes read = tt
 gave_rest (Some xs) None bytes read = absurd read
 gave_rest (Some xs) (Some ys) bytes read = sym read
 
--- the texts of which a log is one, and what was read of a store spells as the answer says
+-- the bytes of both sources: those of a log, and what was read of a store encodes what the result says
 pub both_read : {log_left left : Option (List ℕ)} {log : List ℕ} {answer : Result DecodedStore Fault} (found : DecodedStore) → Gave log_left log → answer ≡ Ok found
     → IfOk answer (λ d. (text : List ℕ) × Gave left text × Decodes text d.store) → (text : List ℕ) × AreRead log_left left log text × Decodes text found.store
 both_read {log_left} {left} {log} {answer} found gave was read =
@@ -38,7 +38,7 @@ both_read {log_left} {left} {log} {answer} found gave was read =
 pub at_end : {T : Type 0} (left : Option (List ℕ)) (answer : Result T Fault) (found : T) → answer ≡ Ok found → OnOk answer (IsAtEnd left) → IsAtEnd left
 at_end left answer found was end = subst (λ r. OnOk r (IsAtEnd left)) was end
 
--- THE ANSWER of a reader to which these bytes came
+-- THE RESULT of a reader to which these bytes came
 pub decodes_by : (came text : List ℕ) (answer : Result StoreContent Fault) → came ≡ text → IfOk answer (SpellsStore came) → ((store : StoreContent) → SpellsStore came store → MatchResult answer (λ read. read ≡ store) (λ e. e ≡ NoResource)) → IfErr answer (StoreFault came) → Decodes text answer
 decodes_by came text answer same found only fault =
     subst (λ t. Decodes t answer) same (record { found = found; only = only; fault = fault })

@@ -1,4 +1,4 @@
--- A recovery over devices: what was read, what is out, and why it is refused.
+-- A recovery over devices: what was read, what is written, and its errors.
 use Rattle.std.proofs.Common.{ℕ, ◌≡◌, ◌+◌, List, ◌++◌, length, take, Option, Some, None, sym, subst, ap, ◌∙◌, arith, inl, inr, length-append}
 use Rattle.std.proofs.Math.Seq.{take-append-add}
 use Rattle.std.proofs.KnownBytes.{Appends-trans, Keeps-refl}
@@ -17,7 +17,7 @@ use Rattle.recovery.specs.Recovery.{Recovers, AreLawful, AreCut, Cause}
 use Rattle.recovery.specs.Devices.{Gave, AreRead, Makes, Leaves, IsOut, DeviceCause, Delivers, Completes, IsResourceOrDevice}
 use Rattle.std.proofs.lemmas.Option.{same_Some}
 
--- where a source tells its bytes, they are what was read
+-- if the bytes of a source are known, they are what was read
 pub told : (left : Option (List ℕ)) (bytes known : List ℕ) → Gave left bytes → left ≡ Some known → bytes ≡ known
 told None bytes known gave e = absurd (cc)
 told (Some xs) bytes known gave e = gave ∙ same_Some _ _ e
@@ -34,7 +34,7 @@ makes {log_left} {store_left} log store new_log new_store report read recovers =
   recovers = recovers;
 }
 
--- and where the sources tell lawful bytes, it is lawful
+-- and if the sources are known to hold lawful bytes, it is lawful
 abbrev pub told_lawful : {base : BasePages} {log_left store_left : Option (List ℕ)} (log store log_text store_text : List ℕ) → AreRead log_left store_left log store
     → log_left ≡ Some log_text → store_left ≡ Some store_text → AreLawful base log_text store_text → AreLawful base log store
 told_lawful {base} {log_left} {store_left} log store log_text store_text read tells_log tells_store bytes = record {
@@ -48,7 +48,7 @@ told_lawful {base} {log_left} {store_left} log store log_text store_text read te
   lawful = bytes.lawful;
 }
 
--- a refusal of the texts is one over the devices
+-- an error of the bytes is an error over the devices
 pub device_cause : (log_left store_left : Option (List ℕ)) (options : Options) (log store : List ℕ) (e : Fault) → AreRead log_left store_left log store → Cause log store options e → DeviceCause log_left store_left options e
 device_cause log_left store_left options log store NoResource read h = tt
 device_cause log_left store_left options log store ReadLog read h = tt
@@ -59,7 +59,7 @@ device_cause log_left store_left options log store BadWorkers read h = h
 device_cause log_left store_left options log store BadParting read h = h
 device_cause log_left store_left options log store e read h = (log, store, read, h)
 
--- and none of a sink, so nothing is out
+-- and it is not a sink's, so nothing is written
 pub never_sink : (log store : List ℕ) (options : Options) → (Cause log store options WriteLog → ⊥) × (Cause log store options WriteStore → ⊥)
 never_sink log store options = (
   λ h.
@@ -83,7 +83,7 @@ nothing_out log_left store_left log_taken store_taken log store options e h = (K
 pub is_resource : (e : Fault) → e ≡ NoResource → IsResourceOrDevice e
 is_resource e alone = subst IsResourceOrDevice (sym alone) tt
 
--- what a fault of a sink leaves is out
+-- what a fault of a sink leaves is written
 pub left_out : (log_left store_left log_before log_after store_before store_after : Option (List ℕ)) (made : Makes log_left store_left) (e : Fault)
     → Leaves made.new_log made.new_store log_before log_after store_before store_after e → IsOut log_left store_left log_before log_after store_before store_after e
 left_out log_left store_left log_before log_after store_before store_after made WriteLog h = (made, h)
@@ -91,7 +91,7 @@ left_out log_left store_left log_before log_after store_before store_after made 
 left_out log_left store_left log_before log_after store_before store_after made e h = absurd h
 
 -- A LOG IN TWO PIECES
--- the first piece with a beginning of the second is a beginning of both
+-- the first piece with a prefix of the second is a prefix of both
 pub behind_front : (before between after : Option (List ℕ)) (front back : List ℕ) → Appends before between front → TookBeginning between after back → TookBeginning before after (front ++ back)
 behind_front before between after front back out (count, within, taken) =
     (length front + count, omega (arith, within, length-append front back), subst (Appends before after) (sym (take-append-add front back count)) (Appends-trans before between after front (take count back) out taken))
@@ -110,7 +110,7 @@ module _ {base : BasePages} {log store : List ℕ} (bytes : AreCut base log stor
     lawful = goes_on.lawful;
   }
 
-  -- and what a restart on it puts out is what the first would have
+  -- and what a restart on it writes is what the first would have written
   pub completed : (log_before log_after store_before store_after : Option (List ℕ)) (report : ReportContent) → Delivers base bytes.cut.whole bytes.left log_before log_after store_before store_after report
       → Completes base bytes.first.decoded.read bytes.first.decoded.before log_before log_after store_before store_after
   completed log_before log_after store_before store_after report out = record {

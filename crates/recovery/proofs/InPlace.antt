@@ -1,4 +1,4 @@
--- A log that is continued where it lies: what it holds, and what a fault leaves of it.
+-- A log that is continued in place: what it holds, and what a fault leaves of it.
 use Rattle.std.proofs.Common.{ℕ, ◌≡◌, ◌-◌, List, ◌++◌, length, take, drop, Option, Some, None, Ok, Err, refl, sym, ap, subst, ◌∙◌, inl, inr, arith, append_assoc, take-append-drop}
 use Rattle.std.specs.Prelude.{OnOk, OnErr, Result}
 use Rattle.std.specs.Io.KnownBytes.{Appends, Keeps}
@@ -53,7 +53,7 @@ pub on_err : {T E : Type 0} {P : Type 0} (r : Result T E) → P → OnErr r P
 on_err (Ok x) p = tt
 on_err (Err e) p = p
 
--- WHAT A DEVICE HOLDS that told what it held
+-- WHAT A DEVICE HOLDS if it was known what it held
 pub holds_on : (before after : Option (List ℕ)) (held : List ℕ) → before ≡ Some held → Keeps before after → after ≡ Some held
 holds_on None after held e same = absurd cc
 holds_on (Some x) None held e same = absurd same
@@ -69,7 +69,7 @@ kept_count n torn log kept count is = omega (arith, count, ap length is, length-
 -- A CUT
 module _ {base : BasePages} {log store : List ℕ} (bytes : AreLawful base log store) (kept : ℕ) (frames new_store : List ℕ) (report : ReportContent)
     (recovers : Recovers log store (take kept log ++ frames) new_store report) (kept_is : kept ≡ length log - report.torn) (reads : Reads (take kept log ++ frames) (with_tail bytes.decoded.read) 0) where
-  -- what is kept is the text of the records
+  -- what is kept is the encoding of the records
   kept_is_text : take kept log ≡ log_text bytes.decoded.read
   kept_is_text =
       let one = one_reading log recovers.decoded.read bytes.decoded.read recovers.decoded.torn bytes.decoded.torn recovers.decoded.reads bytes.decoded.reads in
@@ -95,7 +95,7 @@ module _ {base : BasePages} {log store : List ℕ} (bytes : AreLawful base log s
             })
       ]
 
-  -- so does all of it
+  -- so is all of it
   pub stays_cut : (before after flushed_before flushed_after store_before store_after : Option (List ℕ)) (e : Fault) → before ≡ Some log
       → Stays kept frames new_store before after flushed_before flushed_after store_before store_after e → HoldsCut base bytes.decoded.read bytes.decoded.before log store after
   stays_cut before after flushed_before flushed_after store_before store_after WriteLog e stays = left_cut before after flushed_before flushed_after e stays.0
@@ -122,7 +122,7 @@ nothing_left log_left store_left log_taken flushed store_taken log store options
 nothing_left log_left store_left log_taken flushed store_taken log store options WriteStore h = absurd ((never_sink log store options).1 h)
 nothing_left log_left store_left log_taken flushed store_taken log store options e h = (Keeps-refl log_taken, Keeps-refl store_taken)
 
--- THE FILE of the tail is out
+-- THE FILE of the tail is written
 pub has_tail : {log_left store_left : Option (List ℕ)} (made : Prepares log_left store_left) (before after flushed_before flushed_after : Option (List ℕ)) (text : List ℕ)
     → text ≡ tail_text (length made.log) made.kept (sum_of (end_of (take made.kept made.log))) made.frames → AreOut text before after flushed_before flushed_after
     → HasTail made before after flushed_before flushed_after

@@ -17,7 +17,7 @@ use Rattle.recovery.specs.Recovery.{ReadsAs}
 use Rattle.recovery.specs.Devices.{Gave}
 use Rattle.recovery.proofs.Decoded.{gave_all}
 
--- bytes that are no log are read as none
+-- bytes that are not a log are read as none
 pub no_log : (text : List ℕ) (e : Fault) → Cause text e → ReadsAs text (Err e)
 no_log text e cause = record {
   found = tt;
@@ -25,7 +25,7 @@ no_log text e cause = record {
   fault = cause;
 }
 
--- what was read behind the first bytes
+-- what was read after the first bytes
 pub behind_room : (a b : Option (List ℕ)) (n : ℕ) (old new : List ℕ) → n ≤ length old → ReadBehind a b (take n old) new → (take n new ≡ take n old) × CameBehind a b n new
 behind_room a b n old new within (rest, is, read) =
     let long : length (take n old) ≡ n = omega (arith, length-take n old, within) in (
@@ -40,7 +40,7 @@ behind_room a b n old new within (rest, is, read) =
 pub gave_both : (a b c : Option (List ℕ)) (first rest text : List ℕ) → Consumes a b first → Consumes b c rest → IsAtEnd c → text ≡ first ++ rest → Gave a text
 gave_both a b c first rest text one two end is = subst (Gave a) (sym is) (gave_all a c (first ++ rest) (Consumes-trans a b c first rest one two) end)
 
--- all bytes without the last, where they lie in two parts
+-- all bytes without the last, if they are in two parts
 pub kept_is : (front back : List ℕ) (torn n m k : ℕ) → n ≡ length front → m ≡ min n (torn - length back) → k ≡ length back - torn
     → take (n - m) front ++ take k back ≡ take (length (front ++ back) - torn) (front ++ back)
 kept_is front back torn n m k long less rest =
@@ -59,7 +59,7 @@ kept_is front back torn n m k long less rest =
           ∙ sym (take-append-le (length (front ++ back) - torn) front back (omega (arith, p.1, length-append front back))))
     ]
 
--- what holds of an answer
+-- what holds for a result
 pub at_ok : {A P : Type 0} {x : A} (r : Result A Fault) → r ≡ Ok x → OnOk r P → P
 at_ok (Ok y) e h = h
 at_ok (Err f) e h = absurd cc

@@ -1,4 +1,4 @@
--- The bytes of a log and of a store are refused for one cause, and for none where a recovery or an audit answers.
+-- The bytes of a log and of a store have at most one error, and none if a recovery or an audit succeeds.
 use Rattle.std.proofs.Common.{◌≡◌, ◌⊎◌, ℕ, List, refl, subst, inl, inr}
 use Rattle.page.specs.declared.fault.Fault.{Fault}
 use Rattle.page.specs.declared.fault.Fault.TheVariants.{NoResource, BadWorkers, BadParting}
@@ -20,7 +20,7 @@ use Rattle.recovery.specs.Audit.{TextFault, OverFault}
 use Rattle.audit.specs.FirstFault.{FirstFault, OneFirstFault, NoFaultOfTheLawful}
 use Rattle.recovery.specs.OneAnswer.{OneRecoveryFault, OneAuditFault, OneAuditFaultOver, NoFaultOfARecovery, NoFaultOfLawfulTexts, NoFaultOfLawfulTextsOver}
 
--- TEXTS
+-- BYTES
 options_first : (log store : List ℕ) (options : Options) (e : Fault) → (e ≡ NoResource → ⊥) → Cause log store options e
     → OptionsFault options e ⊎ (AreInRange options × TextFault InputFault log store e)
 options_first log store options NoResource some h = absurd (some refl)
@@ -35,7 +35,7 @@ module _ (log store : List ℕ) (no_log_fault : NoFaultOfALog) (reading : OneRea
   store_is_spelled : (decoded : Decoded log store) → (e : Fault) → (e ≡ NoResource → ⊥) → StoreFault store e → ⊥
   store_is_spelled decoded e some h = some (no_store_fault store decoded.before decoded.spells e h)
 
-  -- two texts are read as one log and one store
+  -- the same bytes are read as one log and one store
   as_read : (Holds : LogContent → StoreContent → Type 0) (a b : Decoded log store) → Holds a.read a.before → Holds b.read b.before
   as_read Holds a b h =
       let read : a.read ≡ b.read = (reading log a.read b.read a.torn b.torn a.reads b.reads).0 in

@@ -1,4 +1,4 @@
--- What a recovery leaves of its log, when a sink fails: a beginning of the new log is a log, and beside the old store a cut.
+-- What a recovery leaves of its log, if a sink fails: a prefix of the new log is a log, and with the old store a cut.
 use Rattle.std.proofs.Common.{ℕ, zero, suc, ◌≡◌, ◌+◌, ◌^◌, ◌<◌, ◌≤◌, List, [], ◌∷◌, ◌++◌, All, length, take, drop, Option, refl, sym, ap, ◌∙◌, subst, inl, inr, arith, append_assoc, append-nil, length-append, take-append-drop}
 use Rattle.std.specs.List.{AllByRecursion}
 use Rattle.std.specs.Int.{w32, from_be_bytes, to_be_bytes}
@@ -44,8 +44,8 @@ reads_extended bytes read appended text starts fits writable few =
       few = omega (arith, few, size_of_log all, size_of_log read, length-append read.records appended);
     }
 
--- A BEGINNING OF FRAMES
--- the bytes in front of which less than a frame stands are torn
+-- A PREFIX OF FRAMES
+-- the first bytes of a frame, fewer than the whole frame, are torn
 torn_frame : (y : LogRecord) (lsn : ℕ) (front missing more : List ℕ) → Fits y → front ++ missing ≡ frame y lsn ++ more → length front < length (frame y lsn) → IsTorn front
 torn_frame y lsn front missing more fits e lt =
     elim (cases_lt (length front) 4) [
@@ -60,7 +60,7 @@ torn_frame y lsn front missing more fits e lt =
           inr (some, omega (arith, told, bounds.0), omega (arith, told, bounds.1), omega (arith, told, whole, lt)))
     ]
 
--- of two ways in which a text goes on the longer has all of the shorter
+-- of two prefixes of the same bytes, the longer begins with the shorter
 in_front : (one more front missing : List ℕ) → one ++ more ≡ front ++ missing → length one ≤ length front → (front ≡ one ++ drop (length one) front) × (more ≡ drop (length one) front ++ missing)
 in_front one more front missing e le =
     let n = length one in
@@ -71,7 +71,7 @@ in_front one more front missing e le =
 one_more : (one front rest texts tail : List ℕ) → front ≡ one ++ rest → rest ≡ texts ++ tail → front ≡ (one ++ texts) ++ tail
 one_more one front rest texts tail e f = e ∙ ap (λ (l : List ℕ). one ++ l) f ∙ sym (append_assoc one texts tail)
 
--- a beginning of frames is some of the frames and a torn tail
+-- a prefix of frames is some of the frames and a torn tail
 record Cuts (lsn : ℕ) (ys : List LogRecord) (front : List ℕ) : Type 0 where
   count : ℕ
   tail : List ℕ
@@ -106,7 +106,7 @@ each_behind P [] ys h = h
 each_behind P (x ∷ xs) ys h = each_behind P xs ys h.1
 
 -- THE PAGE LAW
--- is kept when records come behind
+-- is kept if records follow
 page_law_more : (base : BasePages) (read : LogContent) (more : List LogRecord) (page : Page) → PageLaw base (history read) page → PageLaw base (history (read ⧺ more)) page
 page_law_more base read more page law =
     let split : history (read ⧺ more) ≡ history read ▸▸ more = after-append (start (lsn_before read.begins)) read.records more in
@@ -122,18 +122,18 @@ page_law_more base read more page law =
     })
 
 -- THE CUT
--- the text of a log, and behind it the frames of more records
+-- the bytes of a log, followed by the frames of more records
 text_more : (read : LogContent) (more : List LogRecord) → log_text read ++ spellings (last_lsn (history read) + 1) more ≡ log_text (read ⧺ more)
 text_more read more = text_extended read more (log_text read) (spellings (last_lsn (history read) + 1) more) (last_lsn (history read) + 1) refl refl refl
 
--- what is written behind the log is a beginning of the frames of its tail
+-- what is written after the log is a prefix of the frames of its tail
 written_behind : (read : LogContent) (tail : List LogRecord) (out written missing : List ℕ) → out ≡ log_text read ++ written → log_text (read ⧺ tail) ≡ out ++ missing
     → spellings (last_lsn (history read) + 1) tail ≡ written ++ missing
 written_behind read tail out written missing begins ends =
     append_cancel_left (log_text read) (spellings (last_lsn (history read) + 1) tail) (written ++ missing)
     (text_more read tail ∙ ends ∙ ap (λ (l : List ℕ). l ++ missing) begins ∙ append_assoc (log_text read) written missing)
 
--- the records of the log and of some frames behind it are read, and the rest is torn
+-- the records of the log and of some frames after it are read, and the rest is torn
 reads_cut : (read : LogContent) (tail : List LogRecord) (out written : List ℕ) → FitsStart read.begins → AllByRecursion Fits (read ⧺ tail).records → last_lsn (history (read ⧺ tail)) < 2 ^ 64 → out ≡ log_text read ++ written
     → (cut : Cuts (last_lsn (history read) + 1) tail written) → Reads out (read ⧺ take cut.count tail) (length cut.tail)
 reads_cut read tail out written starts fits few begins cut =
@@ -154,7 +154,7 @@ module _ (base : BasePages) (read : LogContent) (before : StoreContent) (lawful 
   new_log_is : new_log ≡ log_text (with_tail read)
   new_log_is = reads.text ∙ ap (λ (l : List ℕ). log_text (with_tail read) ++ l) (nil_from_length reads.tail reads.torn_count) ∙ append-nil (log_text (with_tail read))
 
-  -- a beginning of the new log that has all of the old one
+  -- a prefix of the new log that has all of the old one
   beside_old_store : (out written missing : List ℕ) → out ≡ log_text read ++ written → new_log ≡ out ++ missing → Cut base read before out before
   beside_old_store out written missing begins goes_on =
       let tail = tail_of read in

@@ -16,19 +16,19 @@ use Rattle.recovery.proofs.Taken.{begins_longer}
 use Rattle.recovery.specs.TailFile.{sum_on, sum_of, end_of, head_of, front_of, tail_text}
 
 -- THE SUM
--- goes on with the bytes after
+-- is continued with the bytes after
 pub sum_on-append : (sum : ℕ) (xs ys : List ℕ) → sum_on sum (xs ++ ys) ≡ sum_on (sum_on sum xs) ys
 sum_on-append sum [] ys = refl
 sum_on-append sum (x ∷ xs) ys = sum_on-append ((bit_xor sum x * 0x0000_0100_0000_01b3) % 2 ^ 64) xs ys
 
--- and with one byte more
+-- and with one more byte
 pub sum_more : (first sum next : ℕ) (bytes : List ℕ) (i : ℕ) → i < length bytes → sum ≡ sum_on first (take i bytes)
     → next ≡ (bit_xor sum (get_or bytes i 0) * 0x0000_0100_0000_01b3) % 2 ^ 64 → next ≡ sum_on first (take (i + 1) bytes)
 sum_more first sum next bytes i lt so_far is =
     is ∙ ap (λ s. (bit_xor s (get_or bytes i 0) * 0x0000_0100_0000_01b3) % 2 ^ 64) so_far
     ∙ sym (sum_on-append first (take i bytes) (get_or bytes i 0 ∷ [])) ∙ ap (sum_on first) (sym (take_more bytes i 0 lt))
 
--- THE END of bytes that lie in two parts
+-- THE END of bytes that are in two parts
 pub end_parts : (front back : List ℕ) (b m f : ℕ) → b ≡ length back - 4096 → m ≡ 4096 - length (drop b back) → f ≡ length front - m
     → drop f front ++ drop b back ≡ end_of (front ++ back)
 end_parts front back b m f b_is m_is f_is =
@@ -48,7 +48,7 @@ end_parts front back b m f b_is m_is f_is =
           ap (λ (t : List ℕ). t ++ drop b back) gone ∙ sym (drop-append-add front back b) ∙ ap (λ k. drop k (front ++ back)) (sym n))
     ]
 
--- THE PARTS of the text
+-- THE PARTS of the file
 pub tail_is : (log kept end : ℕ) (frames head sum : List ℕ) → head ≡ head_of log kept (length frames) end → sum ≡ to_be_bytes w64 (sum_of (front_of log kept end frames))
     → tail_text log kept end frames ≡ (head ++ frames) ++ sum
 unfolding tail_text front_of
@@ -62,7 +62,7 @@ pub head_length : (log kept tail end : ℕ) → length (head_of log kept tail en
 unfolding head_of
 head_length log kept tail end = refl
 
--- the numbers stand at their offsets
+-- the numbers are at their offsets
 pub head_numbers : (log kept tail end : ℕ) → log < 2 ^ 64 → kept < 2 ^ 64 → end < 2 ^ 64 → let head = head_of log kept tail end in
     (from_be_bytes w64 (take 8 (drop 8 head)) ≡ log) × (from_be_bytes w64 (take 8 (drop 16 head)) ≡ kept) × (from_be_bytes w64 (take 8 (drop 32 head)) ≡ end)
 unfolding head_of
@@ -82,7 +82,7 @@ module _ (head frames sum text : List ℕ) (is : text ≡ (head ++ frames) ++ su
   pub all_out : (a b c d : Option (List ℕ)) → Appends a b head → Appends b c frames → Appends c d sum → Appends a d text
   all_out a b c d h k m = subst (Appends a d) (sym is) (Appends-trans a c d (head ++ frames) sum (Appends-trans a b c head frames h k) m)
 
--- what was flushed is out
+-- what was flushed is written
 pub still_out : (a b c : Option (List ℕ)) (text : List ℕ) → Appends a b text → Keeps b c → Appends a c text
 still_out None b c text h k = tt
 still_out (Some x) None c text h k = absurd h
@@ -111,7 +111,7 @@ other_bytes xs ys e same =
     absurd cc
 
 -- READ AGAIN
--- the text is cut where its parts meet
+-- the file is cut where its parts meet
 pub record Parts (log kept end : ℕ) (frames text : List ℕ) : Type 0 where
   pub long : 48 ≤ length text
   pub front : take (length text - 8) text ≡ front_of log kept end frames

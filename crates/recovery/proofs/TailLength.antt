@@ -1,5 +1,5 @@
--- A log's tail has at most twice as many bytes as its records: a CLR and an end behind it take no more than twice the update that is
--- undone, and an end alone no more than any record of its transaction.
+-- A log's tail has at most twice as many bytes as its records: a CLR and an end after it take at most twice the bytes of the update that is
+-- undone, and an end by itself takes at most the bytes of any record of its transaction.
 use Rattle.std.proofs.Common.{ℕ, suc, zero, ◌≡◌, ◌≢◌, ◌+◌, ◌*◌, ◌≤◌, Bool, true, false, cond, ◌&&◌, ◌||◌, eqb, List, [], ◌∷◌, ◌++◌, Some, None, length, map, refl, sym, ap, ◌∙◌, inl, inr, arith, length-append, ne_eqb, eq-eqb}
 use Rattle.std.specs.Prelude.{filter, flat_map}
 use Rattle.std.specs.Int.{w64, to_be_bytes}
@@ -55,7 +55,7 @@ update_size u = omega (arith, length-append (image u.before) (image u.after))
 compensation_size : (c : CompensationRecord) → length (compensation c) ≡ 25 + length (image c.image)
 compensation_size c = omega arith
 
--- any record of a transaction takes as many bytes as an end at least
+-- any record of a transaction takes at least as many bytes as an end
 size_of_owned : (t : ℕ) (r : LogRecord) → is_of t r ≡ true → 25 ≤ size r
 unfolding size
 size_of_owned t (Update u) e = omega (arith, update_size u, some_image u.before, some_image u.after)
@@ -101,7 +101,7 @@ none_pass : (p : ℕ → Bool) (xs : List ℕ) → ((x : ℕ) → p x ≡ false)
 none_pass p [] h = refl
 none_pass p (x ∷ xs) h = rw (h x) (none_pass p xs h)
 
--- where one more may pass, they are one more at most
+-- if one more may pass, there is at most one more
 one_more : (p q : ℕ → Bool) (n k t : ℕ) → ((x : ℕ) → x ≢ t → q x ≡ p x) → length (filter q (numbers_from n k)) ≤ suc (length (filter p (numbers_from n k)))
 one_more p q n zero t h = omega arith
 one_more p q n (suc k) t h =
@@ -122,7 +122,7 @@ one_more p q n (suc k) t h =
           ])
     ]
 
--- of those that pass one test, those that pass another pass it and what the first asks for
+-- if all that pass the second test pass the third too, at most as many pass the first and second as the first and third
 both_pass : (e p r : ℕ → Bool) (xs : List ℕ) → ((t : ℕ) → p t ≡ true → r t ≡ true) → length (filter e (filter p xs)) ≤ length (filter (λ t. e t && r t) xs)
 both_pass e p r [] h = omega arith
 both_pass e p r (x ∷ xs) h =
@@ -147,7 +147,7 @@ module _ (stack : ℕ → List ℕ) (k : ℕ) where
   due : History → ℕ
   due log = works (flat_map (undo_of stack) (updates_where (is_stacked stack) log)) + 25 * length (filter (idles log) (numbers_from 0 k))
 
-  -- one record more of this transaction, or of none
+  -- one more record of this transaction, or of none
   idles_more : (log : History) (r : LogRecord) (t : ℕ) → ((x : ℕ) → x ≢ t → is_of x r ≡ false) → length (filter (idles (log ▸ r)) (numbers_from 0 k)) ≤ suc (length (filter (idles log) (numbers_from 0 k)))
   unfolding idles
   idles_more log r t others = one_more (idles log) (idles (log ▸ r)) 0 k t (λ x ne. ap (λ b. is_empty (stack x) && (b || has (is_of x) log)) (others x ne))
@@ -161,7 +161,7 @@ module _ (stack : ℕ → List ℕ) (k : ℕ) where
         | inr i ↦ rw i refl
       ]))
 
-  -- a record of t that is no update on its stack
+  -- a record of t that is not an update on its stack
   owned : (log : History) (r : LogRecord) (t : ℕ) → owner r ≡ Some t
       → works (flat_map (undo_of stack) (updates_where (is_stacked stack) (log ▸ r))) ≡ works (flat_map (undo_of stack) (updates_where (is_stacked stack) log)) → due (log ▸ r) ≤ due log + 2 * size r
   unfolding due

@@ -10,8 +10,8 @@ use Rattle.audit.specs.FirstFault.{FirstFault}
 use Rattle.audit.specs.Base.{LawfulOver, FirstFaultOver}
 use Rattle.recovery.specs.Recovery.{Decoded}
 
--- why bytes are not those of a log and its store of which no such fault stands, in the order in which causes are looked for,
--- memory aside
+-- the error of bytes that are not a log or not a store, or of a log and a store of which `Broken` holds, in the order in which the
+-- conditions are checked, memory aside
 abbrev pub TextFault : (LogContent → StoreContent → Fault → Type 0) → (log store : List ℕ) → Fault → Type 0
 TextFault Broken log store e =
     LogFault log e ⊎ ((read : LogContent) × (torn : ℕ) × Reads log read torn × StoreFault store e)
@@ -22,14 +22,14 @@ abbrev pub AuditFault : (log store : List ℕ) → Fault → Type 0
 AuditFault log store e = TextFault (FirstFault no_base) log store e
 
 -- OVER A BASE STORE
--- the bytes of a log and its store that are lawful over the store that these bytes are
+-- the bytes of a log and its store that are lawful over the store in these bytes
 pub record AreLawfulOver (log store base : List ℕ) : Type 0 where
   pub decoded : Decoded log store
   pub below : StoreContent
   pub spells : SpellsStore base below
   pub lawful : LawfulOver decoded.read decoded.before below
 
--- the bytes are no store, or they are one, and what stands over it is refused
+-- the bytes are not a store, or they are one, and the log and store are not lawful over it
 abbrev pub OverFault : (base : List ℕ) → LogContent → StoreContent → Fault → Type 0
 OverFault base read before e = StoreFault base e ⊎ ((below : StoreContent) × SpellsStore base below × FirstFaultOver read before below e)
 

@@ -1,4 +1,4 @@
--- What a recovery leaves that copies the log while it reads it once more (own).
+-- What a recovery leaves that copies the log while it reads the log once more (own).
 use Rattle.std.specs.Prelude.{ℕ, ◌⊎◌, List, Option, ⊤}
 use Rattle.std.specs.Io.KnownBytes.{Keeps}
 use Rattle.page.specs.declared.fault.Fault.{Fault}
@@ -15,15 +15,15 @@ IsOfCopying WriteLog = ⊤
 IsOfCopying (BadLsn offset) = ⊤
 IsOfCopying e = ⊥
 
--- what is out after a fault while the new log and the new store are written: a fault of the log's source leaves what one of its
--- sink leaves
+-- what is written after a fault during the writing of the new log and the new store: a fault of the log's source leaves what a fault of the
+-- log's sink leaves
 abbrev pub LeavesCopied : (new_log new_store : List ℕ) (log_before log_after store_before store_after : Option (List ℕ)) → Fault → Type 0
 LeavesCopied new_log new_store log_before log_after store_before store_after ReadLog =
     Leaves new_log new_store log_before log_after store_before store_after WriteLog
 LeavesCopied new_log new_store log_before log_after store_before store_after e =
     Leaves new_log new_store log_before log_after store_before store_after e
 
--- what is out after any fault: after one of the log's source nothing, or what one of its sink leaves
+-- what is written after any fault: after a fault of the log's source nothing, or what a fault of the log's sink leaves
 abbrev pub IsOutCopied : (log_left store_left log_before log_after store_before store_after : Option (List ℕ)) → Fault → Type 0
 IsOutCopied log_left store_left log_before log_after store_before store_after ReadLog =
     IsOut log_left store_left log_before log_after store_before store_after ReadLog
@@ -31,7 +31,7 @@ IsOutCopied log_left store_left log_before log_after store_before store_after Re
 IsOutCopied log_left store_left log_before log_after store_before store_after e =
     IsOut log_left store_left log_before log_after store_before store_after e
 
--- LAWFUL INPUT: what is out of the new log after a fault, as after one of a sink; after one of the log's source maybe nothing is
+-- LAWFUL INPUT: what is written of the new log after a fault, as after a fault of a sink; after one of the log's source perhaps nothing is
 abbrev pub LeavesCutCopied : BasePages → (read : LogContent) (before : StoreContent) (store : List ℕ) (log_before log_after : Option (List ℕ)) → Fault → Type 0
 LeavesCutCopied base read before store log_before log_after ReadLog =
     Keeps log_before log_after ⊎ LeavesCut base read before store log_before log_after WriteLog

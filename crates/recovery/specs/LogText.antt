@@ -11,7 +11,7 @@ use Rattle.recovery.specs.declared.log_text.Known.TheVariants.{Nothing, Front, F
 abbrev pub text_of : LogText → List ℕ
 text_of text = text.front.items ++ drop text.from text.back.items
 
--- all that a source had left came behind the first of these bytes
+-- all that a source had left came after the first of these bytes
 pub record CameBehind (old new : Option (List ℕ)) (first : ℕ) (bytes : List ℕ) : Type 0 where
   pub read : Consumes old new (drop first bytes)
   pub within : first ≤ length bytes

@@ -1,5 +1,5 @@
--- ONE ANSWER. The bytes of one log and store have one recovery, whoever meets the clauses on every input, or one cause of a
--- refusal, want of memory and devices aside (own).
+-- ONE RESULT. The bytes of one log and store have one recovery, if it meets the clauses on every input, or one error, a lack of memory and
+-- devices aside (own).
 use Rattle.std.specs.Prelude.{◌≡◌, ℕ, List}
 use Rattle.page.specs.declared.fault.Fault.{Fault}
 use Rattle.page.specs.Causes.{HasOneCause, HasNoCause}
@@ -21,7 +21,7 @@ abbrev pub OneRecovery : Type 0
 OneRecovery = (log store new_log other_log new_store other_store : List ℕ) (report other : ReportContent)
     → Recovers log store new_log new_store report → Recovers log store other_log other_store other → AreSameBytes new_log other_log new_store other_store report other
 
--- ONE CAUSE
+-- ONE ERROR
 abbrev pub OneRecoveryFault : Type 0
 OneRecoveryFault = (log store : List ℕ) (options : Options) → HasOneCause (Cause log store options)
 
@@ -31,7 +31,7 @@ OneAuditFault = (log store : List ℕ) → HasOneCause (AuditFault log store)
 abbrev pub OneAuditFaultOver : Type 0
 OneAuditFaultOver = (log store base : List ℕ) → HasOneCause (AuditFaultOver log store base)
 
--- NO CAUSE BESIDE AN ANSWER. Options are refused wherever they can be: where there is an answer, they are not.
+-- NO ERROR NEXT TO A RECOVERY. Options return an error whenever they can: if there is a recovery, they have none.
 abbrev pub NoFaultOfARecovery : Type 0
 NoFaultOfARecovery = (log store : List ℕ) (options : Options) (new_log new_store : List ℕ) (report : ReportContent)
     → ((e : Fault) → OptionsFault options e → ⊥) → Recovers log store new_log new_store report → HasNoCause (Cause log store options)

@@ -1,4 +1,4 @@
--- What a recovery makes of the bytes of a log and a store, and why it is refused (own).
+-- What a recovery makes of the bytes of a log and a store, and its errors (own).
 use Rattle.std.specs.Prelude.{◌≡◌, ℕ, ◌-◌, ◌⊎◌, List, ◌++◌, length, take, Result, Ok, IfOk, IfErr, MatchResult, ⊤}
 use Rattle.page.specs.declared.fault.Fault.{Fault}
 use Rattle.page.specs.declared.fault.Fault.TheVariants.{NoResource, BadWorkers, BadParting}
@@ -27,22 +27,22 @@ pub record Decoded (log store : List ℕ) : Type 0 where
   pub reads : Reads log read torn
   pub spells : SpellsStore store before
 
--- THE ANSWER
--- what stays of the log, and behind it the frames of what is appended
+-- THE RESULT
+-- what is kept of the log, followed by the frames of what is appended
 abbrev pub new_log : Recovery → List ℕ
 new_log x = x.kept.now ++ x.frames.items
 
--- the same of the bytes of a log: they stay without their torn tail
+-- the same for the bytes of a log: all but their torn tail are kept
 abbrev pub log_of : List ℕ → Remade → List ℕ
 log_of log x = take (length log - x.report.torn) log ++ x.frames.items
 
--- the answer of a decoder of store files to these bytes: the store that they spell, or why they spell none
+-- the result of a decoder of store files for these bytes: the store that they encode, or their error
 pub record Decodes (text : List ℕ) (answer : Result StoreContent Fault) : Type 0 where
   pub found : IfOk answer (SpellsStore text)
   pub only : (store : StoreContent) → SpellsStore text store → MatchResult answer (λ read. read ≡ store) (λ e. e ≡ NoResource)
   pub fault : IfErr answer (StoreFault text)
 
--- the answer of a reader of logs to these bytes: the records that they spell and how many bytes are torn, or why they spell none
+-- the result of a reader of logs for these bytes: the records that they encode and how many bytes are torn, or their error
 pub record ReadsAs (log : List ℕ) (answer : Result (LogContent × ℕ) Fault) : Type 0 where
   pub found : IfOk answer (λ x. Reads log x.0 x.1)
   pub only : (read : LogContent) (torn : ℕ) → Reads log read torn → Gives (λ x. x) answer (Ok (read, torn))
@@ -62,8 +62,8 @@ report_of read torn x = record {
   in_doubt = x.in_doubt;
 }
 
--- EVERY INPUT. The new log is the log without its torn tail and what a restart appends, and is read as such; the new store is
--- that of the restart.
+-- EVERY INPUT. The new log is the log without its torn tail and what a restart appends, and is read as such; the new store is that of the
+-- restart.
 pub record Recovers (log store new_log new_store : List ℕ) (report : ReportContent) : Type 0 where
   pub decoded : Decoded log store
   pub outcome : OutcomeContent
@@ -79,8 +79,8 @@ pub record AreLawful (base : BasePages) (log store : List ℕ) : Type 0 where
   pub decoded : Decoded log store
   pub lawful : Lawful base decoded.read decoded.before
 
--- the new log is the log and its tail, the new store what the winners leave; those in doubt are told, and stay so; a restart on
--- both appends nothing and leaves the store as it is
+-- the new log is the log and its tail, the new store what the winners leave; the transactions in doubt are reported, and stay so; a restart
+-- on both appends nothing and leaves the store as it is
 pub record Recovered (base : BasePages) (read : LogContent) (before : StoreContent) (new_log new_store : List ℕ) (report : ReportContent) : Type 0 where
   pub log_is : new_log ≡ log_text (with_tail read)
   pub reads : Reads new_log (with_tail read) 0
@@ -94,7 +94,7 @@ pub record Recovered (base : BasePages) (read : LogContent) (before : StoreConte
   pub compensated_are : report.compensated ≡ clrs_in (tail_of read)
 
 -- AFTER AN INTERRUPTION
--- bytes that a restart on the bytes of a lawful log and its store may have left, if it was interrupted
+-- bytes that an interrupted restart on the bytes of a lawful log and its store may have left
 pub record AreCut (base : BasePages) (log store : List ℕ) : Type 0 where
   pub first_log : List ℕ
   pub first_store : List ℕ
@@ -103,8 +103,8 @@ pub record AreCut (base : BasePages) (log store : List ℕ) : Type 0 where
   pub spells : SpellsStore store left
   pub cut : Cut base first.decoded.read first.decoded.before log left
 
--- REFUSALS
--- why bytes are refused, in the order in which causes are looked for, memory aside
+-- ERRORS
+-- the error of bytes, in the order in which the conditions are checked, memory aside
 abbrev pub Cause : List ℕ → List ℕ → Options → Fault → Type 0
 Cause log store options NoResource = ⊤
 Cause log store options BadWorkers = OptionsFault options BadWorkers

@@ -2,7 +2,7 @@
 use Rattle.std.specs.Prelude.{ℕ, ◌-◌, ◌*◌, ◌%◌, ◌^◌, List, [], ◌∷◌, ◌++◌, bit_xor, codes, drop, length}
 use Rattle.std.specs.Int.{w64, to_be_bytes}
 
--- FNV-1a of 64 bits (Fowler, Noll, Vo), gone on with over more bytes
+-- FNV-1a of 64 bits (Fowler, Noll, Vo), continued over more bytes
 abbrev pub sum_on : ℕ → List ℕ → ℕ
 sum_on sum [] = sum
 sum_on sum (byte ∷ rest) = sum_on ((bit_xor sum byte * 0x0000_0100_0000_01b3) % 2 ^ 64) rest
@@ -19,10 +19,10 @@ unfoldable pub head_of : (log kept tail end : ℕ) → List ℕ
 head_of log kept tail end =
     (((codes "ARIESTL1" ++ to_be_bytes w64 log) ++ to_be_bytes w64 kept) ++ to_be_bytes w64 tail) ++ to_be_bytes w64 end
 
--- then the tail's frames
+-- followed by the tail's frames
 unfoldable pub front_of : (log kept end : ℕ) (frames : List ℕ) → List ℕ
 front_of log kept end frames = head_of log kept (length frames) end ++ frames
 
--- and then the sum of all this
+-- followed by the sum of all this
 unfoldable pub tail_text : (log kept end : ℕ) (frames : List ℕ) → List ℕ
 tail_text log kept end frames = front_of log kept end frames ++ to_be_bytes w64 (sum_of (front_of log kept end frames))

@@ -1,5 +1,5 @@
--- The report (own), as contracts see it and as it is printed: eight lines, a name and a decimal number each, and behind them the
--- transactions in doubt, where there are some.
+-- The report (own), as contracts see it and as it is printed: eight lines, each a name and a decimal number, followed by the transactions
+-- in doubt, if there are any.
 use Rattle.std.specs.Prelude.{ℕ, List, [], ◌++◌, length, flat_map, ◌==◌, if◌then◌else◌, codes, decimal}
 
 -- what a restart found and did
@@ -18,7 +18,7 @@ pub record ReportContent : Type 0 where
 abbrev pub line : List ℕ → ℕ → List ℕ
 line name number = ((name ++ codes " ") ++ decimal number) ++ codes "\n"
 
--- how many are in doubt, and which; no line where none is
+-- how many are in doubt, and which; no line if there are none
 abbrev pub doubt_lines : List ℕ → List ℕ
 doubt_lines numbers =
     if length numbers == 0 then [] else line (codes "in-doubt") (length numbers) ++ flat_map (λ n. line (codes "transaction") n) numbers

@@ -38,8 +38,8 @@ pub struct Made {
     pub remade: Remade,
 }
 
-/// What is made of the log that a device holds and of a store that is given away. The faults of the log
-/// come first, then those of a restart.
+/// What is made of the log that a device holds and of a store that is given away. The faults of the
+/// log come first, then those of a restart.
 fn make_of<L: Reread>(
     alloc: Global,
     log: &mut L,
@@ -74,7 +74,7 @@ fn make_of<L: Reread>(
         Err(stopped) => return Err(fault_after(log, stopped, room)),
     };
     let Some(length) = kept.checked_add(torn as u64) else {
-        // No log has so many bytes.
+        // No log has this many bytes.
         return Err(Fault::NoResource);
     };
     let looked = Looked {
@@ -88,8 +88,8 @@ fn make_of<L: Reread>(
     })
 }
 
-/// What is made of the log that a device holds and of a store, if its own bytes spelled one; else the
-/// fault of the log, if it has one, and then that of the store.
+/// What is made of the log that a device holds and of a store, if the store's bytes encode one.
+/// Otherwise the error is the fault of the log, if it has one, and then that of the store.
 pub fn make_by_pieces<L: Reread>(
     alloc: Global,
     log: &mut L,
@@ -140,35 +140,35 @@ impl Made {
     }
 }
 
-/// Recovers as [`recover_in_place`](crate::recover_in_place) does, in the thread of the caller, and never
-/// has the log in memory as a whole: 256 KiB of it are there at once, and those records that undo needs.
-/// What is written does not depend on that, nor on the options.
+/// Recovers as [`recover_in_place`](crate::recover_in_place) does, but in the thread of the caller
+/// and without the whole log in memory: only 256 KiB of it are in memory at once, and the records
+/// that undo needs. What is written does not depend on that, nor on the options.
 ///
-/// `store` is read first, to its end. Then `log` is read at offsets, piece by piece, as often as it is
-/// needed. A failure of `log` comes before all faults of reading: before one of them is given, `log` is
-/// read to its end, and if it fails there, the fault is `ReadLog`.
+/// `store` is read first, to its end. Then `log` is read at offsets, piece by piece, as often as
+/// needed. A failure of `log` comes before all other faults of reading: before one of those is
+/// returned, `log` is read to its end, and if it fails there, the fault is `ReadLog`.
 ///
-/// `out_log` is the log that `log` reads, and holds the same bytes. It is cut after its last whole record
-/// and flushed; what the recovery appends is appended, and flushed; and only then the new store is
-/// written to `out_store`, and flushed. Before the log is touched, all that is appended is written to
-/// `tail` and flushed, with the lengths of the log and a sum: the file of a tail,
+/// `out_log` is the log that `log` reads, and holds the same bytes. It is cut after its last whole
+/// record and flushed; then what the recovery appends is appended and flushed; then the new store
+/// is written to `out_store` and flushed. Before the log is touched, all that is appended is
+/// written to `tail` and flushed, with the lengths of the log and a sum: the file of a tail,
 /// [`TailFile`](crate::TailFile).
 ///
-/// Nobody else may write the log meanwhile. If somebody does, a fault may be given that the log never
-/// had: `BadLsn` with an offset, for one, if bytes are gone that were there before.
+/// No one else may write the log during the call. Otherwise the fault may be one that the log never
+/// had, for example `BadLsn` with an offset, if bytes are gone that were there before.
 ///
-/// Refuses, in this order: [`Fault::BadWorkers`] and [`Fault::BadParting`], if the options are out of
-/// their ranges; [`Fault::ReadLog`], if `log` failed, which may also come later;
+/// The errors are, in this order: [`Fault::BadWorkers`] and [`Fault::BadParting`], if the options
+/// are out of their ranges; [`Fault::ReadLog`], if `log` failed, which may also come later;
 /// [`Fault::ReadStore`], if `store` failed; the faults of [`wal::read_log`] for the log; those of
 /// [`page::decode_store`] for the store; those of [`restart`](restart::restart) from
 /// [`Fault::PageAheadOfLog`] on; [`Fault::WriteLog`], if `tail` or `out_log` failed;
-/// [`Fault::WriteStore`], if `out_store` failed. [`Fault::NoResource`] may come in place of any answer:
-/// memory was refused, or an LSN of the log or an offset in it is above 2^63 - 1.
+/// [`Fault::WriteStore`], if `out_store` failed. [`Fault::NoResource`] may come instead of any
+/// other result: memory was refused, or an LSN of the log or an offset in it is above 2^63 - 1.
 ///
-/// After any fault but `WriteLog` and `WriteStore` the log is as it was. After `WriteLog` it is as it
-/// was, or cut and continued by a beginning of what is appended; after `WriteStore` it is whole. If
-/// the log and the store were lawful, a recovery of what the log holds and the old store then ends as
-/// this one would have.
+/// After any fault except `WriteLog` and `WriteStore` the log is as it was. After `WriteLog` it is
+/// as it was, or it is cut and continued by a prefix of what is appended. After `WriteStore` it is
+/// whole. If the log and the store were lawful, a recovery of what the log holds and the old store
+/// then ends as this one would have.
 pub fn recover_by_pieces<LR: Reread, SR: Source, T: Sink, LW: Continue, SW: Sink>(
     alloc: Global,
     log: &mut LR,
@@ -178,8 +178,9 @@ pub fn recover_by_pieces<LR: Reread, SR: Source, T: Sink, LW: Continue, SW: Sink
     out_store: &mut SW,
     options: &Options,
 ) -> Result<Report, Fault>
-    // On the bytes of a log and its store that are lawful over any base pages: the log is continued by
-    // its tail, the new store is out, and a fault is a refusal of memory or a device's.
+    // For the bytes of a log and its store that are lawful over any base pages: the log is
+    // continued by its tail, the new store is written, and a fault is a lack of memory or a
+    // device's.
     ensures lawful { (base : BasePages) (log_text store_text : List ℕ)
         → LR.text log.old ≡ Some log_text → SR.left store.old ≡ Some store_text
         → LW.taken out_log.old ≡ Some log_text → AreInRange options.now
@@ -188,7 +189,7 @@ pub fn recover_by_pieces<LR: Reread, SR: Source, T: Sink, LW: Continue, SW: Sink
         (LW.taken out_log.new) (SW.taken out_store.old) (SW.taken out_store.new))
         IsResourceOrDevice }
 
-    // On what a restart of them may leave that was interrupted: all is as it would have left it.
+    // For what an interrupted restart of them may leave: all is as that restart would have left it.
     ensures interrupted { (base : BasePages) (log_text store_text : List ℕ)
         → LR.text log.old ≡ Some log_text → SR.left store.old ≡ Some store_text
         → LW.taken out_log.old ≡ Some log_text → AreInRange options.now
@@ -205,14 +206,14 @@ pub fn recover_by_pieces<LR: Reread, SR: Source, T: Sink, LW: Continue, SW: Sink
         → OnErr result (HoldsCut base bytes.decoded.read bytes.decoded.before log_text store_text
         (LW.taken out_log.new)) }
 
-    // Wherever it returns a report.
+    // If it returns a report.
     ensures answer { IfOk result (λ report. (log_text : List ℕ)
         → LR.text log.old ≡ Some log_text
         → Completed (Some log_text) (SR.left store.old) (LW.taken out_log.old)
         (LW.taken out_log.new) (SW.taken out_store.old) (SW.taken out_store.new) report) }
     ensures options { (e : Fault) → OptionsFault options.now e → result ≡ Err e }
 
-    // A refusal has its cause, and what is left after it.
+    // An error has its condition, and this is what is left after it.
     ensures cause { IfErr result (λ e. (log_text : List ℕ) → LR.text log.old ≡ Some log_text
         → DeviceCause (Some log_text) (SR.left store.old) options.now e) }
     ensures left { IfErr result (λ e. (log_text : List ℕ) → LR.text log.old ≡ Some log_text
@@ -226,9 +227,9 @@ pub fn recover_by_pieces<LR: Reread, SR: Source, T: Sink, LW: Continue, SW: Sink
     ensures store_flushed { OnOk result
         (Flushes (SW.flushed out_store.old) (SW.flushed out_store.new) (SW.taken out_store.new)) }
 
-    // The store's source is read to its end before anything is written; the file of the tail is out
-    // and flushed before the log is touched, and the log is continued and flushed before the new store
-    // is.
+    // The store's source is read to its end before anything is written; the file of the tail is
+    // written and flushed before the log is touched, and the log is continued and flushed before
+    // the new store is.
     ensures read_first { ((tail.new ≡ tail.old) × (out_log.new ≡ out_log.old) × (out_store.new ≡ out_store.old))
         ⊎ IsAtEnd (SR.left store.new) }
     ensures tail_first { (log_text : List ℕ) → LR.text log.old ≡ Some log_text
@@ -245,7 +246,8 @@ pub fn recover_by_pieces<LR: Reread, SR: Source, T: Sink, LW: Continue, SW: Sink
     // A fault of what was read, or of writing, comes after the store's source was read to its end.
     ensures read_to_end { IfErr result (λ e. IsAfterReading e → IsAtEnd (SR.left store.new)) }
 
-    // A device is blamed where it failed, and nowhere else. If both sources failed, the log's is blamed.
+    // A fault names a device if that device failed, and only then. If both sources failed, it names
+    // the log's.
     ensures log_source { Fails ReadLog result (LR.failures log.old) (LR.failures log.new) }
     ensures store_source { StoreFails result (SR.failures store.old) (SR.failures store.new) }
     ensures log_sinks { Fails WriteLog result (T.failures tail.old + LW.failures out_log.old)

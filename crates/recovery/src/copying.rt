@@ -1,5 +1,5 @@
-//! Recovery of a log that is read in pieces and copied: the new log is written while the old one is read
-//! once more, so it is never in memory as a whole.
+//! Recovery of a log that is read in pieces and copied: the new log is written while the old one is
+//! read once more. So the log is never in memory as a whole.
 
 ghost use Rattle.std.specs.Prelude.{◌≡◌, ◌≤◌, ◌⊎◌, ◌+◌, ◌^◌, ℕ, List, ◌++◌, length, take, drop, Some, IfOk, IfErr, OnOk, OnErr, Err, MatchResult};
 ghost use Rattle.std.specs.Io.KnownBytes.{Appends, IsAtEnd, Keeps};
@@ -26,8 +26,9 @@ use page::Fault;
 use restart::{Options, check_options};
 use std::alloc::Global;
 
-/// Copies the bytes that a log's device holds from an offset on to a sink, behind those that it took
-/// before: as many as the room takes. `BadLsn` with the offset if the device no longer holds them all.
+/// Copies the bytes that a log's device holds from an offset on to a sink, after those that it took
+/// before: as many as the room takes. `BadLsn` with the offset if the device no longer holds them
+/// all.
 fn copy_piece<L: Reread, S: Sink>(
     log: &mut L,
     sink: &mut S,
@@ -59,9 +60,9 @@ fn copy_piece<L: Reread, S: Sink>(
     }
 }
 
-/// Copies the first `kept` bytes that a log's device holds to a sink, a piece at a time, behind those that
-/// the sink took before. The sink is not flushed. `BadLsn` with an offset if the device no longer holds
-/// the bytes after it.
+/// Copies the first `kept` bytes that a log's device holds to a sink, a piece at a time, after
+/// those that the sink took before. The sink is not flushed. `BadLsn` with an offset if the device
+/// no longer holds the bytes after it.
 fn copy_kept<L: Reread, S: Sink>(
     log: &mut L,
     sink: &mut S,
@@ -90,7 +91,7 @@ fn copy_kept<L: Reread, S: Sink>(
     Ok(())
 }
 
-/// Writes frames to a sink, behind the bytes that it took before, and flushes it.
+/// Writes frames to a sink, after the bytes that it took before, and flushes it.
 fn write_frames<S: Sink>(sink: &mut S, frames: &[u8]) -> Result<(), Failed>
     ensures all { OnOk result (AreOut frames.now (S.taken sink.old) (S.taken sink.new)
         (S.flushed sink.old) (S.flushed sink.new)) }
@@ -102,8 +103,8 @@ fn write_frames<S: Sink>(sink: &mut S, frames: &[u8]) -> Result<(), Failed>
     sink.flush()
 }
 
-/// Writes a new log and flushes it: the bytes that are kept of the log that a device holds, and after them
-/// the frames appended.
+/// Writes a new log and flushes it: the bytes that are kept of the log that a device holds,
+/// followed by the frames appended.
 fn write_copy<L: Reread, S: Sink>(
     log: &mut L,
     sink: &mut S,
@@ -133,8 +134,8 @@ fn write_copy<L: Reread, S: Sink>(
     }
 }
 
-/// Writes the new log, copied, and then the new store, each whole and flushed before the next thing is
-/// done.
+/// Writes the new log, copied, and then the new store. Each is whole and flushed before the next
+/// step.
 fn write_copied<L: Reread, LW: Sink, SW: Sink>(
     log: &mut L,
     out_log: &mut LW,
@@ -176,35 +177,36 @@ fn write_copied<L: Reread, LW: Sink, SW: Sink>(
     }
 }
 
-/// Recovers as [`recover`](crate::recover) does, in the thread of the caller, and never has the log in
-/// memory as a whole: 256 KiB of it are there at once, and those records that undo needs. What is written
-/// does not depend on that, nor on the options.
+/// Recovers as [`recover`](crate::recover) does, but in the thread of the caller and without the
+/// whole log in memory: only 256 KiB of it are in memory at once, and the records that undo needs.
+/// What is written does not depend on that, nor on the options.
 ///
-/// `store` is read first, to its end. Then `log` is read at offsets, piece by piece, as often as it is
-/// needed. A failure of `log` comes before all faults of reading: before one of them is given, `log` is
-/// read to its end, and if it fails there, the fault is `ReadLog`.
+/// `store` is read first, to its end. Then `log` is read at offsets, piece by piece, as often as
+/// needed. A failure of `log` comes before all other faults of reading: before one of those is
+/// returned, `log` is read to its end, and if it fails there, the fault is `ReadLog`.
 ///
-/// Then the new log is written to `out_log`: the log without its torn tail, which is read once more and
-/// copied piece by piece, and the records that the recovery appends. It is flushed, and only then the new
-/// store is written to `out_store`, and flushed.
+/// Then the new log is written to `out_log`: the log without its torn tail, which is read once more
+/// and copied piece by piece, and the records that the recovery appends. It is flushed; then the
+/// new store is written to `out_store` and flushed.
 ///
-/// Nobody else may write the log meanwhile. If somebody does, the copy may not be what was read, or a
-/// fault may be given that the log never had: `BadLsn` with an offset, for one, if bytes are gone that
-/// were there before.
+/// No one else may write the log during the call. Otherwise the copy may differ from what was read,
+/// or the fault may be one that the log never had, for example `BadLsn` with an offset, if bytes
+/// are gone that were there before.
 ///
-/// Refuses, in this order: [`Fault::BadWorkers`] and [`Fault::BadParting`], if the options are out of
-/// their ranges; [`Fault::ReadLog`], if `log` failed, which may also come later;
+/// The errors are, in this order: [`Fault::BadWorkers`] and [`Fault::BadParting`], if the options
+/// are out of their ranges; [`Fault::ReadLog`], if `log` failed, which may also come later;
 /// [`Fault::ReadStore`], if `store` failed; the faults of [`wal::read_log`] for the log; those of
 /// [`page::decode_store`] for the store; those of [`restart`](restart::restart) from
-/// [`Fault::PageAheadOfLog`] on; [`Fault::WriteLog`], if `out_log` failed; [`Fault::WriteStore`], if
-/// `out_store` failed. [`Fault::NoResource`] may come in place of any answer up to the first write:
-/// memory was refused, or an LSN of the log or an offset in it is above 2^63 - 1.
+/// [`Fault::PageAheadOfLog`] on; [`Fault::WriteLog`], if `out_log` failed; [`Fault::WriteStore`],
+/// if `out_store` failed. [`Fault::NoResource`] may come instead of any other result up to the
+/// first write: memory was refused, or an LSN of the log or an offset in it is above 2^63 - 1.
 ///
-/// After `WriteLog` a beginning of the new log is out and nothing of the store; after `WriteStore` the
-/// new log, flushed, and a beginning of the new store. After `ReadLog` nothing is out, or, if `log` failed
-/// while it was copied, what is out after `WriteLog`. After any other fault nothing is. If the log and
-/// the store were lawful, the log that is out can be recovered with the old store, to the same end, where
-/// it begins with all that was read but the torn tail.
+/// After `WriteLog` a prefix of the new log is written and nothing of the store. After `WriteStore`
+/// the new log is written and flushed, and a prefix of the new store is written. After `ReadLog`
+/// nothing is written, or, if `log` failed while it was copied, the same as after `WriteLog`. After
+/// any other fault nothing is written. If the log and the store were lawful, the log that was
+/// written can be recovered with the old store, to the same end, if it begins with all that was
+/// read except the torn tail.
 pub fn recover_copying<LR: Reread, SR: Source, LW: Sink, SW: Sink>(
     alloc: Global,
     log: &mut LR,
@@ -213,8 +215,8 @@ pub fn recover_copying<LR: Reread, SR: Source, LW: Sink, SW: Sink>(
     out_store: &mut SW,
     options: &Options,
 ) -> Result<Report, Fault>
-    // On the bytes of a log and its store that are lawful over any base pages: both are out, and a fault
-    // is want of memory or a device's.
+    // For the bytes of a log and its store that are lawful over any base pages: both are written,
+    // and a fault is a lack of memory or a device's.
     ensures lawful { (base : BasePages) (log_text store_text : List ℕ)
         → LR.text log.old ≡ Some log_text → SR.left store.old ≡ Some store_text
         → AreInRange options.now
@@ -223,7 +225,8 @@ pub fn recover_copying<LR: Reread, SR: Source, LW: Sink, SW: Sink>(
         (LW.taken out_log.old) (LW.taken out_log.new) (SW.taken out_store.old)
         (SW.taken out_store.new)) IsResourceOrDevice }
 
-    // On what a restart of them may leave that was interrupted: what it would have written is out.
+    // For what an interrupted restart of them may leave: what that restart would have written is
+    // written.
     ensures interrupted { (base : BasePages) (log_text store_text : List ℕ)
         → LR.text log.old ≡ Some log_text → SR.left store.old ≡ Some store_text
         → AreInRange options.now
@@ -233,8 +236,8 @@ pub fn recover_copying<LR: Reread, SR: Source, LW: Sink, SW: Sink>(
         (LW.taken out_log.old) (LW.taken out_log.new) (SW.taken out_store.old)
         (SW.taken out_store.new)) IsResourceOrDevice }
 
-    // After a fault while it is written what is out of the new log, beside the store that was read, is
-    // such bytes.
+    // After a fault during the writing, what is written of the new log, with the store that was
+    // read, is such bytes.
     ensures resumable { (base : BasePages) (log_text store_text : List ℕ)
         → LR.text log.old ≡ Some log_text → SR.left store.old ≡ Some store_text
         → AreInRange options.now
@@ -242,28 +245,28 @@ pub fn recover_copying<LR: Reread, SR: Source, LW: Sink, SW: Sink>(
         → IfErr result (LeavesCutCopied base bytes.decoded.read bytes.decoded.before store_text
         (LW.taken out_log.old) (LW.taken out_log.new)) }
 
-    // Wherever it answers.
+    // On success.
     ensures answer { IfOk result (λ report. (log_text : List ℕ)
         → LR.text log.old ≡ Some log_text
         → Writes (Some log_text) (SR.left store.old) (LW.taken out_log.old)
         (LW.taken out_log.new) (SW.taken out_store.old) (SW.taken out_store.new) report) }
     ensures options { (e : Fault) → OptionsFault options.now e → result ≡ Err e }
 
-    // A refusal has its cause, and what is out after it.
+    // An error has its condition, and this is what is written after it.
     ensures cause { IfErr result (λ e. (log_text : List ℕ) → LR.text log.old ≡ Some log_text
         → DeviceCause (Some log_text) (SR.left store.old) options.now e) }
     ensures out { IfErr result (λ e. (log_text : List ℕ) → LR.text log.old ≡ Some log_text
         → IsOutCopied (Some log_text) (SR.left store.old) (LW.taken out_log.old)
         (LW.taken out_log.new) (SW.taken out_store.old) (SW.taken out_store.new) e) }
 
-    // An answer means that both are flushed.
+    // On success both are flushed.
     ensures log_flushed { OnOk result
         (Flushes (LW.flushed out_log.old) (LW.flushed out_log.new) (LW.taken out_log.new)) }
     ensures store_flushed { OnOk result
         (Flushes (SW.flushed out_store.old) (SW.flushed out_store.new) (SW.taken out_store.new)) }
 
-    // The store's source is at its end before a sink is touched, and the new log is out and flushed before
-    // the store's sink is.
+    // The store's source is at its end before a sink is touched, and the new log is written and
+    // flushed before the store's sink is touched.
     ensures read_first { ((out_log.new ≡ out_log.old) × (out_store.new ≡ out_store.old))
         ⊎ IsAtEnd (SR.left store.new) }
     ensures log_out_first { (log_text : List ℕ) → LR.text log.old ≡ Some log_text
@@ -275,7 +278,8 @@ pub fn recover_copying<LR: Reread, SR: Source, LW: Sink, SW: Sink>(
     // A fault of what was read, or of writing, comes after the store's source was read to its end.
     ensures read_to_end { IfErr result (λ e. IsAfterReading e → IsAtEnd (SR.left store.new)) }
 
-    // A device is blamed where it failed, and nowhere else. If both sources failed, the log's is blamed.
+    // A fault names a device if that device failed, and only then. If both sources failed, it names
+    // the log's.
     ensures log_source { Fails ReadLog result (LR.failures log.old) (LR.failures log.new) }
     ensures store_source { StoreFails result (SR.failures store.old) (SR.failures store.new) }
     ensures log_sink { Fails WriteLog result (LW.failures out_log.old) (LW.failures out_log.new) }

@@ -1,4 +1,4 @@
-//! The bytes of a log decoded, and beside that those of a store read.
+//! The bytes of a log are decoded, and those of a store are read at the same time.
 
 ghost use Rattle.std.specs.Prelude.{◌≡◌, true, length, is_some, IfSome};
 ghost use Rattle.recovery.specs.LogText.{text_of, IsLogText};
@@ -14,8 +14,8 @@ use std::alloc::Global;
 use std::thread::{Threads, join_mut};
 use wal::Log;
 
-/// What the bytes of a log spell, found by as many threads as this, and in the thread of the caller
-/// meanwhile what the bytes that a store's source has left do.
+/// What the bytes of a log encode, found by this many threads. At the same time the thread of the
+/// caller finds what the bytes that a store's source has left encode.
 fn beside_each_other<'a, S: Source, R: Threads + Sync>(
     rt: &R,
     alloc: Global,
@@ -31,7 +31,7 @@ fn beside_each_other<'a, S: Source, R: Threads + Sync>(
     ensures store { ReadsStore (S.left store.old) (S.left store.new)
         (S.failures store.old) (S.failures store.new) result.1 }
 {
-    // The closures are lent, and what is known lies ready for the one call.
+    // The closures are borrowed, and what is known is ready for the one call.
     let mut given = Some(known);
     let mut decode_log = || -> Result<(Log, usize), Fault>
         requires known { IfSome given (IsLogText text.now) }
@@ -51,9 +51,10 @@ fn beside_each_other<'a, S: Source, R: Threads + Sync>(
     join_mut(rt, &mut decode_log, &mut read)
 }
 
-/// What the bytes of a log spell, and what the bytes that a store's source has left do, with the
-/// errors of [`read_log`](wal::read_log) and [`read_store`]. One worker reads the store, and then
-/// decodes the log; with more the store is read in the thread of the caller while others decode the log.
+/// What the bytes of a log encode, and what the bytes that a store's source has left encode, with
+/// the errors of [`read_log`](wal::read_log) and [`read_store`]. One worker reads the store, and
+/// then decodes the log. With more workers, the thread of the caller reads the store while others
+/// decode the log.
 pub fn decode_both<'a, S: Source, R: Threads + Sync>(
     rt: &R,
     alloc: Global,

@@ -1,5 +1,5 @@
-//! Recovery over devices: the log and the store are read to their ends, the new ones made in
-//! memory, and then written, the log first. The store goes in and out piece by piece.
+//! Recovery over devices: the log and the store are read to their ends, the new ones are made in
+//! memory, and then written, the log first. The store is read and written piece by piece.
 
 ghost use Rattle.std.specs.Prelude.{◌≡◌, ◌≢◌, ◌⊎◌, ℕ, List, ◌++◌, length, Some, IfOk, IfErr, IfSome, OnOk, OnErr, Err, MatchResult};
 ghost use Rattle.std.specs.Io.KnownBytes.{IsAtEnd};
@@ -27,7 +27,7 @@ use restart::{Options, check_options};
 use std::alloc::Global;
 use std::thread::Threads;
 
-/// All bytes that a source has left. Where it fails the fault is `failed`.
+/// All bytes that a source has left. If it fails the fault is `failed`.
 pub fn read_source<S: Source>(
     alloc: Global,
     source: &mut S,
@@ -46,7 +46,8 @@ pub fn read_source<S: Source>(
     }
 }
 
-/// Writes a log and flushes it: what is kept of the log read, and after it the frames appended.
+/// Writes a log and flushes it: what is kept of the log that was read, followed by the frames
+/// appended.
 fn write_log<S: Sink>(sink: &mut S, kept: &LogBytes, frames: &[u8]) -> Result<(), Failed>
     ensures all { OnOk result (AreOut (kept.now ++ frames.now) (S.taken sink.old) (S.taken sink.new)
         (S.flushed sink.old) (S.flushed sink.new)) }
@@ -59,8 +60,7 @@ fn write_log<S: Sink>(sink: &mut S, kept: &LogBytes, frames: &[u8]) -> Result<()
     sink.flush()
 }
 
-/// Writes the new log, and then the new store, each whole and flushed before the next thing is
-/// done.
+/// Writes the new log, and then the new store. Each is whole and flushed before the next step.
 fn write_both<L: Sink, S: Sink>(
     log: &mut L,
     store: &mut S,
@@ -91,30 +91,32 @@ fn write_both<L: Sink, S: Sink>(
     }
 }
 
-/// Recovers the store in a device by the log in another: both are read to their ends, what is to be
-/// written is made in memory by [`restart`](restart::restart) on what they spell, the pages parted
-/// by number; and then the new log is written and flushed, and only then the new store.
+/// Recovers a store from a log. Reads both devices to their ends, and makes the result in memory
+/// with [`restart`](restart::restart), with the pages divided by number. Then writes and flushes
+/// the new log, and then the new store. Returns the report.
 ///
-/// The new log is the log read without its torn tail, and behind it the records that the restart
-/// appends. What is written does not depend on the options or the gate. On a lawful log and its
-/// store the new log is the log and its tail, each page of the new store has what the committed and
-/// in-doubt transactions' updates and compensations, in LSN order, make of the base page, an empty
-/// one or what it held before the log's first record, and a recovery of these bytes writes them
-/// again. On what an interrupted recovery leaves, a beginning of the new log beside pages of which
-/// some are new, it writes what the first would have written. Answers the report.
+/// The new log is the log that was read without its torn tail, followed by the records that the
+/// restart appends. What is written does not depend on the options or the gate. For a lawful log
+/// and its store the new log is the log and its tail. Each page of the new store has what the
+/// updates and compensations of the committed and in-doubt transactions, in LSN order, make of the
+/// base page, which is empty or what the page held before the log's first record. A recovery of
+/// these bytes writes them again. An interrupted recovery leaves a prefix of the new log and pages
+/// of which some are new; from these a recovery writes what the first would have written.
 ///
-/// Refuses, in this order: [`Fault::BadWorkers`] and [`Fault::BadParting`] for options out of their
-/// ranges; [`Fault::ReadLog`] and [`Fault::ReadStore`] where a source failed; the faults of
+/// The errors are, in this order: [`Fault::BadWorkers`] and [`Fault::BadParting`] for options out
+/// of their ranges; [`Fault::ReadLog`] and [`Fault::ReadStore`] if a source failed; the faults of
 /// [`wal::read_log`] for the log, of [`page::decode_store`] for the store, and of
-/// [`restart`](restart::restart); [`Fault::WriteLog`] and [`Fault::WriteStore`] where a sink
-/// failed, at a write or its flush. [`Fault::NoResource`], where memory or a thread was refused,
-/// may come in place of any of these up to the first write. Both sources are read to their ends before
-/// anything is refused for its bytes; of a store that is refused already no more than a piece is kept.
+/// [`restart`](restart::restart); [`Fault::WriteLog`] and [`Fault::WriteStore`] if a sink failed,
+/// at a write or its flush. [`Fault::NoResource`], if memory or a thread was refused, may come
+/// instead of any of these up to the first write. Both sources are read to their ends before an
+/// error of their bytes is returned. After a store's first error only a piece of it is kept in
+/// memory.
 ///
-/// After `WriteLog` a beginning of the new log is out and nothing of the store; after `WriteStore`
-/// the new log, flushed, and a beginning of the new store; after any other fault nothing. Of a
-/// lawful log and its store the log that is out can be recovered with the old store, to the same
-/// end, where it begins with all that was read but the torn tail.
+/// After `WriteLog` a prefix of the new log is written and nothing of the store. After `WriteStore`
+/// the new log is written and flushed, and a prefix of the new store is written. After any other
+/// fault nothing is written. For a lawful log and its store, the log that was written can be
+/// recovered with the old store, to the same end, if it begins with all that was read except the
+/// torn tail.
 pub fn recover<LR: Source, SR: Source, LW: Sink, SW: Sink, G: Gate, R: Threads + Sync>(
     rt: &R,
     alloc: Global,
@@ -125,7 +127,8 @@ pub fn recover<LR: Source, SR: Source, LW: Sink, SW: Sink, G: Gate, R: Threads +
     options: &Options,
     gate: &G,
 ) -> Result<Report, Fault>
-    // On the bytes of a log and its store that are lawful over any base pages: both are out, and a fault is want of memory or a device's.
+    // For the bytes of a log and its store that are lawful over any base pages: both are written,
+    // and a fault is a lack of memory or a device's.
     ensures lawful { (base : BasePages) (log_text store_text : List ℕ)
         → LR.left log.old ≡ Some log_text → SR.left store.old ≡ Some store_text
         → AreInRange options.now
@@ -134,7 +137,8 @@ pub fn recover<LR: Source, SR: Source, LW: Sink, SW: Sink, G: Gate, R: Threads +
         (LW.taken out_log.old) (LW.taken out_log.new) (SW.taken out_store.old)
         (SW.taken out_store.new)) IsResourceOrDevice }
 
-    // On what a restart of them may leave that was interrupted: what it would have written is out.
+    // For what an interrupted restart of them may leave: what that restart would have written is
+    // written.
     ensures interrupted { (base : BasePages) (log_text store_text : List ℕ)
         → LR.left log.old ≡ Some log_text → SR.left store.old ≡ Some store_text
         → AreInRange options.now
@@ -144,7 +148,8 @@ pub fn recover<LR: Source, SR: Source, LW: Sink, SW: Sink, G: Gate, R: Threads +
         (LW.taken out_log.old) (LW.taken out_log.new) (SW.taken out_store.old)
         (SW.taken out_store.new)) IsResourceOrDevice }
 
-    // After a fault of a sink what is out of the new log, beside the store that was read, is such bytes.
+    // After a fault of a sink, what is written of the new log, with the store that was read, is
+    // such bytes.
     ensures resumable { (base : BasePages) (log_text store_text : List ℕ)
         → LR.left log.old ≡ Some log_text → SR.left store.old ≡ Some store_text
         → AreInRange options.now
@@ -152,25 +157,25 @@ pub fn recover<LR: Source, SR: Source, LW: Sink, SW: Sink, G: Gate, R: Threads +
         → IfErr result (LeavesCut base bytes.decoded.read bytes.decoded.before store_text
         (LW.taken out_log.old) (LW.taken out_log.new)) }
 
-    // Wherever it answers.
+    // On success.
     ensures answer { IfOk result (Writes (LR.left log.old) (SR.left store.old)
         (LW.taken out_log.old) (LW.taken out_log.new) (SW.taken out_store.old)
         (SW.taken out_store.new)) }
     ensures options { (e : Fault) → OptionsFault options.now e → result ≡ Err e }
 
-    // A refusal has its cause, and what is out after it.
+    // An error has its condition, and this is what is written after it.
     ensures cause { IfErr result (DeviceCause (LR.left log.old) (SR.left store.old) options.now) }
     ensures out { IfErr result (IsOut (LR.left log.old) (SR.left store.old) (LW.taken out_log.old)
         (LW.taken out_log.new) (SW.taken out_store.old) (SW.taken out_store.new)) }
 
-    // An answer means that both are flushed.
+    // On success both are flushed.
     ensures log_flushed { OnOk result
         (Flushes (LW.flushed out_log.old) (LW.flushed out_log.new) (LW.taken out_log.new)) }
     ensures store_flushed { OnOk result
         (Flushes (SW.flushed out_store.old) (SW.flushed out_store.new) (SW.taken out_store.new)) }
 
-    // The log is at its end before the store's source is touched, both are before a sink is, and the new
-    // log is out and flushed before the store's sink is.
+    // The log is at its end before the store's source is touched, both are before a sink is, and
+    // the new log is written and flushed before the store's sink is touched.
     ensures log_read_first { (store.new ≡ store.old) ⊎ IsAtEnd (LR.left log.new) }
     ensures log_unread { result ≡ Err ReadLog → store.new ≡ store.old }
     ensures read_first { ((out_log.new ≡ out_log.old) × (out_store.new ≡ out_store.old))
@@ -184,7 +189,7 @@ pub fn recover<LR: Source, SR: Source, LW: Sink, SW: Sink, G: Gate, R: Threads +
     ensures read_to_ends { IfErr result (λ e. IsAfterReading e
         → IsAtEnd (LR.left log.new) × IsAtEnd (SR.left store.new)) }
 
-    // A device is blamed where it failed, and nowhere else.
+    // A fault names a device if that device failed, and only then.
     ensures log_source { Fails ReadLog result (LR.failures log.old) (LR.failures log.new) }
     ensures store_source { Fails ReadStore result (SR.failures store.old) (SR.failures store.new) }
     ensures log_sink { Fails WriteLog result (LW.failures out_log.old) (LW.failures out_log.new) }

@@ -1,6 +1,6 @@
-//! Recovery in place: the log that is read is cut and continued where it lies, and only then the new
-//! store is written. Before the log is touched, the file of its tail is out, with which a continuation
-//! that the power cut is made again.
+//! Recovery in place: the log that is read is cut and continued in place, and then the new store is
+//! written. Before the log is touched, the file of its tail is written. With it, a continuation
+//! that a power failure ended can be made again.
 
 ghost use Rattle.std.specs.Prelude.{◌≡◌, ◌≤◌, ◌⊎◌, ◌+◌, ℕ, List, length, Some, IfOk, IfErr, OnOk, OnErr, Err, MatchResult};
 ghost use Rattle.std.specs.Io.KnownBytes.{IsAtEnd};
@@ -32,7 +32,8 @@ use restart::{Options, check_options};
 use std::alloc::Global;
 use std::thread::Threads;
 
-/// Cuts a log after the bytes that are kept, and flushes that; then appends frames, and flushes them.
+/// Cuts a log after the bytes that are kept, and flushes the cut; then appends frames, and flushes
+/// them.
 pub fn continue_log<L: Continue>(log: &mut L, kept: u64, frames: &[u8]) -> Result<(), Failed>
     ensures done { OnOk result (IsContinued kept frames.now (L.taken log.old) (L.taken log.new)
         (L.flushed log.old) (L.flushed log.new)) }
@@ -85,8 +86,8 @@ fn write_tail<T: Sink, L: Continue>(
     continue_log(log, file.kept, file.frames)
 }
 
-/// Writes the file of a tail, continues the log by the tail, and then writes the new store, each
-/// flushed before the next thing is done.
+/// Writes the file of a tail, continues the log by the tail, and then writes the new store. Each is
+/// flushed before the next step.
 pub fn write_in_place<T: Sink, L: Continue, S: Sink>(
     tail: &mut T,
     log: &mut L,
@@ -121,22 +122,23 @@ pub fn write_in_place<T: Sink, L: Continue, S: Sink>(
     }
 }
 
-/// Recovers as [`recover`](crate::recover) does, and continues the log where it lies: `out_log` is
-/// the log that `log` reads, and holds the same bytes. It is cut after its last whole record and
-/// flushed; what the recovery appends is appended, and flushed; and only then the new store is
-/// written to `out_store`, and flushed. Nothing of the log is copied.
+/// Recovers as [`recover`](crate::recover) does, but continues the log in place: `out_log` is the
+/// log that `log` reads, and holds the same bytes. It is cut after its last whole record and
+/// flushed; then what the recovery appends is appended and flushed; then the new store is written
+/// to `out_store` and flushed. Nothing of the log is copied.
 ///
-/// Before the log is touched, all that is appended is written to `tail` and flushed, with the lengths
-/// of the log and a sum: the file of a tail, [`TailFile`](crate::TailFile). If the power fails while
-/// the log is continued, its end may hold anything; with this file the continuation is made again.
+/// Before the log is touched, all that is appended is written to `tail` and flushed, with the
+/// lengths of the log and a sum: the file of a tail, [`TailFile`](crate::TailFile). If the power
+/// fails while the log is continued, its end may hold anything; with this file the continuation can
+/// be made again.
 ///
-/// Refuses as `recover` does, in the same order. [`Fault::WriteLog`] also stands for a failure of
-/// `tail`.
+/// The errors are those of `recover`, in the same order. [`Fault::WriteLog`] also means a failure
+/// of `tail`.
 ///
-/// After any fault but `WriteLog` and `WriteStore` the log is as it was. After `WriteLog` it is as it
-/// was, or cut and continued by a beginning of what is appended; after `WriteStore` it is whole. If
-/// the log and the store were lawful, a recovery of what the log holds and the old store then ends as
-/// this one would have.
+/// After any fault except `WriteLog` and `WriteStore` the log is as it was. After `WriteLog` it is
+/// as it was, or it is cut and continued by a prefix of what is appended. After `WriteStore` it is
+/// whole. If the log and the store were lawful, a recovery of what the log holds and the old store
+/// then ends as this one would have.
 pub fn recover_in_place<
     LR: Source,
     SR: Source,
@@ -156,8 +158,9 @@ pub fn recover_in_place<
     options: &Options,
     gate: &G,
 ) -> Result<Report, Fault>
-    // On the bytes of a log and its store that are lawful over any base pages: the log is continued by
-    // its tail, the new store is out, and a fault is a refusal of memory or a device's.
+    // For the bytes of a log and its store that are lawful over any base pages: the log is
+    // continued by its tail, the new store is written, and a fault is a lack of memory or a
+    // device's.
     ensures lawful { (base : BasePages) (log_text store_text : List ℕ)
         → LR.left log.old ≡ Some log_text → SR.left store.old ≡ Some store_text
         → LW.taken out_log.old ≡ Some log_text → AreInRange options.now
@@ -166,7 +169,7 @@ pub fn recover_in_place<
         (LW.taken out_log.new) (SW.taken out_store.old) (SW.taken out_store.new))
         IsResourceOrDevice }
 
-    // On what a restart of them may leave that was interrupted: all is as it would have left it.
+    // For what an interrupted restart of them may leave: all is as that restart would have left it.
     ensures interrupted { (base : BasePages) (log_text store_text : List ℕ)
         → LR.left log.old ≡ Some log_text → SR.left store.old ≡ Some store_text
         → LW.taken out_log.old ≡ Some log_text → AreInRange options.now
@@ -183,13 +186,13 @@ pub fn recover_in_place<
         → OnErr result (HoldsCut base bytes.decoded.read bytes.decoded.before log_text store_text
         (LW.taken out_log.new)) }
 
-    // Wherever it returns a report.
+    // If it returns a report.
     ensures answer { IfOk result (Completed (LR.left log.old) (SR.left store.old)
         (LW.taken out_log.old) (LW.taken out_log.new) (SW.taken out_store.old)
         (SW.taken out_store.new)) }
     ensures options { (e : Fault) → OptionsFault options.now e → result ≡ Err e }
 
-    // A refusal has its cause, and what is left after it.
+    // An error has its condition, and this is what is left after it.
     ensures cause { IfErr result (DeviceCause (LR.left log.old) (SR.left store.old) options.now) }
     ensures left { IfErr result (IsLeftIn (LR.left log.old) (SR.left store.old)
         (LW.taken out_log.old) (LW.taken out_log.new) (LW.flushed out_log.old)
@@ -201,9 +204,9 @@ pub fn recover_in_place<
     ensures store_flushed { OnOk result
         (Flushes (SW.flushed out_store.old) (SW.flushed out_store.new) (SW.taken out_store.new)) }
 
-    // The sources are read to their ends, the log first, before anything is written; the file of the
-    // tail is out and flushed before the log is touched, and the log is continued and flushed before
-    // the new store is.
+    // The sources are read to their ends, the log first, before anything is written; the file of
+    // the tail is written and flushed before the log is touched, and the log is continued and
+    // flushed before the new store is.
     ensures log_read_first { (store.new ≡ store.old) ⊎ IsAtEnd (LR.left log.new) }
     ensures log_unread { result ≡ Err ReadLog → store.new ≡ store.old }
     ensures read_first { ((tail.new ≡ tail.old) × (out_log.new ≡ out_log.old) × (out_store.new ≡ out_store.old))
@@ -221,7 +224,7 @@ pub fn recover_in_place<
     ensures read_to_ends { IfErr result (λ e. IsAfterReading e
         → IsAtEnd (LR.left log.new) × IsAtEnd (SR.left store.new)) }
 
-    // A device is blamed where it failed, and nowhere else.
+    // A fault names a device if that device failed, and only then.
     ensures log_source { Fails ReadLog result (LR.failures log.old) (LR.failures log.new) }
     ensures store_source { Fails ReadStore result (SR.failures store.old) (SR.failures store.new) }
     ensures log_sinks { Fails WriteLog result (T.failures tail.old + LW.failures out_log.old)

@@ -1,5 +1,5 @@
-//! Laws of recoveries and audits of bytes. Each function is its law: what it ensures holds of the
-//! definitions alone.
+//! Laws of recoveries and audits of bytes. Each function is a law: what it ensures follows from the
+//! definitions only.
 
 ghost use Rattle.recovery.specs.OneAnswer.{OneRecovery, OneRecoveryFault, OneAuditFault, OneAuditFaultOver, NoFaultOfARecovery, NoFaultOfLawfulTexts, NoFaultOfLawfulTextsOver};
 
@@ -12,7 +12,7 @@ use restart::one_outcome;
 use undo::{no_fault_of_undo, one_undo_fault};
 use wal::{no_fault_of_a_log, one_log_fault, one_reading};
 
-/// The bytes of a log and of a store have one recovery: two that meet the clause of
+/// The bytes of a log and of a store have one recovery. Two recoveries that meet the clause of
 /// [`recover`](crate::recover) on every input write the same bytes of both, and the same report.
 pub fn one_recovery()
     ensures { OneRecovery }
@@ -22,7 +22,8 @@ pub fn one_recovery()
     one_outcome();
 }
 
-/// No bytes of a log and of a store are refused for two causes, want of memory and devices aside.
+/// For the bytes of a log and of a store, a recovery has at most one error, besides a lack of
+/// memory or a failure of a device.
 pub fn one_recovery_fault()
     ensures { OneRecoveryFault }
 {
@@ -36,7 +37,7 @@ pub fn one_recovery_fault()
     one_undo_fault();
 }
 
-/// Where a recovery answers, no cause of a refusal stands.
+/// If a recovery succeeds, no error condition holds.
 pub fn no_fault_of_a_recovery()
     ensures { NoFaultOfARecovery }
 {
@@ -48,7 +49,7 @@ pub fn no_fault_of_a_recovery()
     no_fault_of_undo();
 }
 
-/// No bytes of a log and of a store are refused by an audit for two causes, want of memory aside.
+/// For the bytes of a log and of a store, an audit has at most one error, besides a lack of memory.
 pub fn one_audit_fault()
     ensures { OneAuditFault }
 {
@@ -61,7 +62,7 @@ pub fn one_audit_fault()
     one_first_fault();
 }
 
-/// No bytes of a lawful log and its store are refused by an audit, want of memory aside.
+/// For the bytes of a lawful log and its store, an audit has no error, besides a lack of memory.
 pub fn no_fault_of_lawful_texts()
     ensures { NoFaultOfLawfulTexts }
 {
@@ -72,8 +73,8 @@ pub fn no_fault_of_lawful_texts()
     no_fault_of_the_lawful();
 }
 
-/// No bytes of a log and of a store are refused over those of a base store for two causes, want of
-/// memory aside.
+/// For the bytes of a log and of a store over those of a base store, an audit has at most one
+/// error, besides a lack of memory.
 pub fn one_audit_fault_over()
     ensures { OneAuditFaultOver }
 {
@@ -86,8 +87,8 @@ pub fn one_audit_fault_over()
     one_first_fault_over();
 }
 
-/// No bytes of a log and its store that are lawful over those of a base store are refused over it,
-/// want of memory aside.
+/// For the bytes of a log and its store that are lawful over those of a base store, an audit has no
+/// error, besides a lack of memory.
 pub fn no_fault_of_lawful_texts_over()
     ensures { NoFaultOfLawfulTextsOver }
 {

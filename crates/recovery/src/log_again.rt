@@ -1,5 +1,5 @@
-//! A log's device that is read again: to its end, since a failure of it is the first fault of reading,
-//! and for the sum of its end.
+//! A log's device that is read again: to its end, since a failure of the device is the first fault
+//! of reading, and for the sum of the log's end.
 
 ghost use Rattle.std.specs.Prelude.{◌≡◌, ◌≢◌, ◌≤◌, ◌<◌, ◌+◌, ◌^◌, ◌⊎◌, ℕ, List, length, take, IfOk, IfErr, OnOk, IfSome, IsOkUnless, Some};
 ghost use Rattle.std.specs.Io.KnownBytes.{IsAtEnd, Keeps};
@@ -25,7 +25,7 @@ use std::alloc::Global;
 /// How many bytes of a log are in memory at once: 256 KiB of frames, and a header before them.
 pub const ROOM: usize = 262_160;
 
-/// A log that is read in pieces has fewer bytes than this and a room.
+/// A log that is read in pieces has fewer bytes than the sum of this and the length of the room.
 const LONGEST_LOG: u64 = 1 << 63;
 
 /// Room for the pieces of a log. The only error is `NoResource`.
@@ -36,8 +36,8 @@ pub fn room_for_log(alloc: Global) -> Result<Vec<u8>, Fault>
     Ok(vec![in alloc; 0; ROOM]?)
 }
 
-/// The fault that a pass over a log stopped with. A pass blames no device but that of the log, and that
-/// one by `Failed`.
+/// The fault with which a pass over a log stopped. A pass names only one device, that of the log,
+/// and it does so with `Failed`.
 pub fn fault_of(stopped: PassFault) -> Fault
     ensures { result ≡ fault_of stopped }
 {
@@ -51,8 +51,8 @@ pub fn fault_of(stopped: PassFault) -> Fault
     }
 }
 
-/// The bytes that a log's device holds from an offset on: as many as there is room for, fewer only at
-/// its end.
+/// The bytes that a log's device holds from an offset on: as many as there is room for, fewer only
+/// at its end.
 pub fn read_from<L: Reread>(log: &mut L, offset: u64, buffer: &mut [u8]) -> Result<usize, Fault>
     requires { offset + length buffer.old ≤ 2 ^ 64 }
     ensures within { IfOk result (λ count. count ≤ length buffer.new) }
@@ -69,8 +69,8 @@ pub fn read_from<L: Reread>(log: &mut L, offset: u64, buffer: &mut [u8]) -> Resu
     }
 }
 
-/// Reads a log's device from its beginning to its end, and looks at no byte: if it fails, that is found
-/// before anything else.
+/// Reads a log's device from its beginning to its end without looking at the bytes: if it fails,
+/// that is found before anything else.
 pub fn read_through<L: Reread>(log: &mut L, room: &mut [u8]) -> Result<(), Fault>
     requires { length room.old ≡ ROOM }
     ensures end { OnOk result (IfSome (L.text log.old) (λ held. length held < 2 ^ 64)) }
@@ -86,12 +86,12 @@ pub fn read_through<L: Reread>(log: &mut L, room: &mut [u8]) -> Result<(), Fault
         }
         offset += ROOM as u64;
     }
-    // No device holds so many bytes.
+    // No device holds this many bytes.
     Err(Fault::NoResource)
 }
 
-/// The fault to give in place of this one. A failure of a log's device comes before all other faults, so
-/// the device is read to its end: `ReadLog` if it fails there, else the fault as it was.
+/// The fault to return for this one. A failure of a log's device comes before all other faults, so
+/// the device is read to its end: `ReadLog` if it fails there, otherwise the fault as it was.
 fn first_fault<L: Reread>(log: &mut L, fault: Fault, room: &mut [u8]) -> Fault
     requires { length room.old ≡ ROOM }
     ensures fault { (result ≡ ReadLog) ⊎ (result ≡ fault) }
@@ -109,8 +109,8 @@ fn first_fault<L: Reread>(log: &mut L, fault: Fault, room: &mut [u8]) -> Fault
     }
 }
 
-/// The fault after a pass over a log that stopped: that of the log's device, if it fails while it is read
-/// to its end, else that of the pass.
+/// The fault after a pass over a log that stopped: that of the log's device, if it fails while it
+/// is read to its end, otherwise that of the pass.
 pub fn fault_after<L: Reread>(log: &mut L, stopped: PassFault, room: &mut [u8]) -> Fault
     requires { length room.old ≡ ROOM }
     ensures fault { (result ≡ ReadLog) ⊎ (result ≡ fault_of stopped) }
@@ -123,8 +123,8 @@ pub fn fault_after<L: Reread>(log: &mut L, stopped: PassFault, room: &mut [u8]) 
     first_fault(log, fault_of(stopped), room)
 }
 
-/// Reads a store that is read before its log: what all bytes of its source spell, or why they spell
-/// none. If the source failed, or memory was refused, a failure of the log's device comes first.
+/// Reads a store before its log. Returns what all bytes of its source encode, or the error of these
+/// bytes. If the source failed, or memory was refused, a failure of the log's device comes first.
 pub fn read_store_first<L: Reread, S: Source>(
     alloc: Global,
     log: &mut L,
@@ -165,8 +165,8 @@ pub fn check_log<L: Reread>(alloc: Global, log: &mut L, room: &mut [u8]) -> Resu
     Ok(())
 }
 
-/// The sum of the last 4,096 of the bytes of a log that are kept, or of all if there are fewer. They are
-/// read again: `BadLsn` with their offset if the device no longer holds them all.
+/// The sum of the last 4,096 of the bytes of a log that are kept, or of all if there are fewer.
+/// They are read again: `BadLsn` with their offset if the device no longer holds them all.
 pub fn sum_of_kept<L: Reread>(log: &mut L, kept: u64, room: &mut [u8]) -> Result<u64, Fault>
     requires { length room.old ≡ ROOM }
     ensures sum { IfOk result (λ sum. (text : List ℕ) → L.text log.old ≡ Some text

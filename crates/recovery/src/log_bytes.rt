@@ -1,4 +1,4 @@
-//! The bytes of a log that stay.
+//! The bytes of a log that are kept.
 
 ghost use Rattle.std.specs.Prelude.{◌≡◌, ◌≤◌, ◌++◌, ◌-◌, ℕ, List, length, take, OnOk, OnErr};
 ghost use Rattle.std.specs.Io.KnownBytes.{Appends, Keeps};
@@ -13,8 +13,8 @@ use crate::tail_file::sum_of_end;
 use device::{Failed, Sink, write_all};
 use std::marker::Model;
 
-/// The bytes of a log, or the first of them, lent in the two parts in which they lie. Contracts see
-/// them all, one part behind the other.
+/// The bytes of a log, or the first of them, borrowed in the two parts in which they are in memory.
+/// Contracts see all of them, one part after the other.
 #[derive(Drop)]
 pub struct LogBytes<'a> {
     front: &'a [u8],
@@ -28,7 +28,7 @@ impl<'a> Model for LogBytes<'a> {
 }
 
 impl<'a> LogBytes<'a> {
-    /// The bytes of a log without its torn tail, of which this was made.
+    /// The bytes without the torn tail of the log from which this was made.
     pub fn kept_of(text: &'a LogText, remade: &Remade) -> LogBytes<'a>
         requires { text.now.from ≤ length text.now.back.items }
         ensures { result
@@ -57,7 +57,7 @@ impl<'a> LogBytes<'a> {
         sum_of_end(self.front, self.back)
     }
 
-    /// Writes all of them to a sink, behind those that it took before. The sink is not flushed.
+    /// Writes all of them to a sink, after those that it took before. The sink is not flushed.
     pub fn write<S: Sink>(&self, sink: &mut S) -> Result<(), Failed>
         ensures all { OnOk result (Appends (S.taken sink.old) (S.taken sink.new) self.now) }
         ensures cause { Counts (S.failures sink.old) (S.failures sink.new) result }

@@ -1,5 +1,5 @@
-//! The bytes of a log, read from its source: where they are many and there are threads, in two parts,
-//! so that the first half is decoded while the second is read.
+//! The bytes of a log, read from its source. If they are many and there are threads, they are read
+//! in two parts, so that the first half is decoded while the second is read.
 
 ghost use Rattle.std.specs.Prelude.{◌≡◌, ◌≤◌, ◌<◌, ◌+◌, ◌-◌, ◌++◌, ℕ, List, length, take, drop, IfOk, IfErr, OnOk, IsOkUnless};
 ghost use Rattle.std.specs.Io.KnownBytes.{Consumes, IsAtEnd};
@@ -20,18 +20,19 @@ use wal::{
     BASED_HEADER_BYTES, LONGEST_FRAME, Log, Stretch, first_frames, read_log_behind, read_log_by,
 };
 
-/// A log of fewer bytes than this is read in one part: below, two parts bring no time that can be seen.
+/// A log of fewer bytes than this is read in one part: for a shorter log two parts save no
+/// measurable time.
 const LONG: usize = 1 << 25;
 
-/// So is one of which its source hints at more than this, since a hint may be far too large: room for
-/// half of it is made and touched before it is known to be needed.
+/// A log whose source hints at more bytes than this is read in one part too, since a hint may be
+/// far too large: room for half of it is made and touched before it is known to be needed.
 const LONGEST: usize = 1 << 31;
 
-/// Room for one read more.
+/// Room for one more read.
 const PIECE: usize = 1 << 16;
 
-/// All bytes of a log: the front, and from `from` on those of the back. In front of these is room,
-/// into which the beginning of a frame is put that the front ends with.
+/// All bytes of a log: those of the front, and those of the back from `from` on. Before `from` the
+/// back has room for the beginning of a frame with which the front may end.
 #[derive(Drop)]
 pub struct LogText {
     pub front: Vec<u8>,
@@ -57,11 +58,12 @@ pub enum Known {
     Nothing,
     /// The front is a header and these frames.
     Front(Stretch),
-    /// They are no log, for this reason.
+    /// They are not a log; this is the fault.
     Fault(Fault),
 }
 
-/// The next bytes that a log's source has, at least so many where there are, and up to 64 KiB more.
+/// The next bytes of a log's source: at least this many if there are so many, and up to 64 KiB
+/// more.
 fn read_next<S: Source>(alloc: Global, source: &mut S, count: usize) -> Result<Vec<u8>, Fault>
     ensures read { IfOk result (λ bytes. Consumes (S.left source.old)
         (S.left source.new) bytes.items) }
@@ -75,7 +77,7 @@ fn read_next<S: Source>(alloc: Global, source: &mut S, count: usize) -> Result<V
     }
 }
 
-/// All bytes that a log's source has left, behind the first `filled` of these.
+/// All bytes that a log's source has left, after the first `filled` of these.
 fn read_last<S: Source>(source: &mut S, bytes: &mut Vec<u8>, filled: usize) -> Result<(), Fault>
     requires { filled ≤ length bytes.old.items }
     ensures front { OnOk result (take filled bytes.new.items ≡ take filled bytes.old.items) }
@@ -92,7 +94,7 @@ fn read_last<S: Source>(source: &mut S, bytes: &mut Vec<u8>, filled: usize) -> R
     }
 }
 
-/// So many zeros, or none where there is no memory for them.
+/// This many zeros, or none if there is no memory for them.
 fn zeros(alloc: Global, count: usize) -> Vec<u8> {
     match vec![in alloc; 0; count] {
         Ok(room) => room,
@@ -100,8 +102,8 @@ fn zeros(alloc: Global, count: usize) -> Vec<u8> {
     }
 }
 
-/// The next bytes that a log's source has, at least `half` where there are, and so much room for the
-/// rest. The room is touched by another thread while the caller reads.
+/// The next bytes of a log's source, at least `half` if there are so many, and this much room for
+/// the rest. Another thread touches the room while the caller reads.
 fn read_half<S: Source, R: Threads + Sync>(
     rt: &R,
     alloc: Global,
@@ -126,7 +128,7 @@ fn read_half<S: Source, R: Threads + Sync>(
     join_mut(rt, &mut make, &mut read)
 }
 
-/// Room that has at least the beginning of a frame's. The only error is `NoResource`.
+/// Room for at least the beginning of a frame. The only error is `NoResource`.
 fn with_spare(mut room: Vec<u8>) -> Result<Vec<u8>, Fault>
     ensures room { IfOk result (λ room. LONGEST_FRAME ≤ length room.items) }
     ensures err { IsOkUnless result NoResource }
@@ -137,7 +139,7 @@ fn with_spare(mut room: Vec<u8>) -> Result<Vec<u8>, Fault>
     Ok(room)
 }
 
-/// Puts bytes to the front of room for at least as many.
+/// Puts bytes at the front of a room that is at least as long.
 fn put(room: &mut [u8], bytes: &[u8])
     requires { length bytes.now ≤ length room.old }
     ensures { room.new ≡ bytes.now ++ drop (length bytes.now) room.old }
@@ -145,7 +147,7 @@ fn put(room: &mut [u8], bytes: &[u8])
     room[..bytes.len()].copy_from_slice(bytes);
 }
 
-/// Puts bytes into room, in front of the offset `upto`.
+/// Puts bytes into a room, directly before the offset `upto`.
 fn put_before(room: &mut [u8], upto: usize, bytes: &[u8])
     requires upto { upto ≤ length room.old }
     requires room { length bytes.now ≤ upto }
@@ -156,8 +158,8 @@ fn put_before(room: &mut [u8], upto: usize, bytes: &[u8])
     put(rest, bytes);
 }
 
-/// Cuts a front behind its frames, which end at `end`, and puts what stood there in front of the
-/// back, whose bytes begin behind room for it. Gives where they begin then.
+/// Cuts a front after its frames, which end at `end`, and puts what followed them before the bytes
+/// of the back, which begin after room for it. Returns where the bytes of the back then begin.
 fn move_rest(front: &mut Vec<u8>, end: usize, back: &mut Vec<u8>) -> usize
     requires end { end ≤ length front.old.items }
     requires short { length front.old.items < end + LONGEST_FRAME }
@@ -174,8 +176,8 @@ fn move_rest(front: &mut Vec<u8>, end: usize, back: &mut Vec<u8>) -> usize
     from
 }
 
-/// The frames of a first half, found by others, while the caller reads the rest behind the room in
-/// front of the back.
+/// The frames of a first half, found by other threads, while the caller reads the rest into the
+/// back, after the room at its front.
 fn first_beside_rest<S: Source, R: Threads + Sync>(
     rt: &R,
     alloc: Global,
@@ -238,7 +240,7 @@ fn text_in_parts(
     }
 }
 
-/// All bytes of a log in one part, of which nothing is known.
+/// All bytes of a log in one part, with nothing known of them.
 fn text_in_one(alloc: Global, front: Vec<u8>) -> (LogText, Known)
     ensures text { text_of result.0 ≡ front.items }
     ensures is { IsLogText result.0 result.1 }
@@ -254,8 +256,8 @@ fn text_in_one(alloc: Global, front: Vec<u8>) -> (LogText, Known)
     )
 }
 
-/// All bytes that a log's source has left, which hints at so many, in two parts: the first half is
-/// decoded by one thread less than there are, while the caller reads the second.
+/// All bytes that a log's source has left, by its hint of how many there are, in two parts. One
+/// thread fewer than there are decodes the first half while the caller reads the second.
 fn read_parts<S: Source, R: Threads + Sync>(
     rt: &R,
     alloc: Global,
@@ -285,8 +287,9 @@ fn read_parts<S: Source, R: Threads + Sync>(
     Ok(text_in_parts(front, back, first))
 }
 
-/// All bytes that a log's source has left: in one part where the workers are one, or the source hints
-/// at less than 32 MiB or more than 2 GiB, else in two, with what was found of the first.
+/// All bytes that a log's source has left. They come in one part if there is one worker, or the
+/// source hints at less than 32 MiB or more than 2 GiB. Otherwise they come in two, with what was
+/// found of the first.
 pub fn read_log_text<S: Source, R: Threads + Sync>(
     rt: &R,
     alloc: Global,
@@ -307,7 +310,7 @@ pub fn read_log_text<S: Source, R: Threads + Sync>(
 }
 
 /// The log in these bytes, of which this is known, and how many bytes its torn tail has, with the
-/// errors of [`read_log`](wal::read_log); found by as many threads as this.
+/// errors of [`read_log`](wal::read_log); found by this many threads.
 pub fn decode<'a, R: Threads + Sync>(
     rt: &R,
     alloc: Global,

@@ -24,7 +24,8 @@ use std::thread::Threads;
 use undo::{Appended, Looked, Place, frame_bytes_of, record_of};
 use wal::{Log, write_frame};
 
-/// How many bytes the frames take of the records that are appended to a log; 2^64 - 1 if they take more.
+/// How many bytes the frames of the records take that are appended to a log; 2^64 - 1 if they take
+/// more.
 fn tail_bytes(log: &Looked, appended: &[Appended]) -> u64
     requires told { HaveUpdates log.now appended.now }
     requires writable { AreFit log.now appended.now }
@@ -38,8 +39,8 @@ fn tail_bytes(log: &Looked, appended: &[Appended]) -> u64
     bytes
 }
 
-/// The frames of the records that are appended to a log. Room for all of them is made at once, and one record
-/// at a time is made of what is told of it.
+/// The frames of the records that are appended to a log. Room for all of them is made at once, and
+/// the full records are made one at a time from the compact form.
 fn frames_of(alloc: Global, log: &Looked, appended: &[Appended]) -> Result<Vec<u8>, Fault>
     requires told { HaveUpdates log.now appended.now }
     requires writable { AreFit log.now appended.now }
@@ -59,7 +60,7 @@ fn frames_of(alloc: Global, log: &Looked, appended: &[Appended]) -> Result<Vec<u
     Ok(frames)
 }
 
-/// The report of a restart, and the store that it leaves. What it appends is let go.
+/// The report of a restart, and the store that it leaves. What it appends is dropped.
 fn report_of(log: &Looked, torn: usize, outcome: BriefOutcome) -> (Report, Store)
     ensures report { result.0 ≡ report_of log.now torn (outcome_in (history log.now) outcome) }
     ensures store { result.1 ≡ outcome.store }
@@ -90,7 +91,7 @@ pub struct Recovery<'a> {
     pub report: Report,
 }
 
-/// What is to be written behind what is kept of a log, and the new store as it is and not yet in
+/// What must be written after the bytes of a log that are kept, and the new store, not yet in
 /// bytes.
 #[derive(Drop)]
 pub struct Remade {
@@ -99,8 +100,8 @@ pub struct Remade {
     pub report: Report,
 }
 
-/// What is to be written of what a restart made of a log and a store. The records looked at are those
-/// of the log, or those of them that undo looked at. The only error is `NoResource`.
+/// What must be written after a restart of a log and a store. The records looked at are those of
+/// the log, or those that undo looked at. The only error is `NoResource`.
 pub fn remade_of(
     alloc: Global,
     records: &Looked,
@@ -111,8 +112,8 @@ pub fn remade_of(
     requires writable { AreFit records.now outcome.appended.items }
     requires few { length outcome.appended.items ≤ 2 * length records.now.records + 2 ^ 32 }
 
-    // Where the outcome is that of a restart of a whole log, which is like the records looked at, and of
-    // a store: for any bytes that spell them.
+    // If the outcome is that of a restart of a whole log, which is like the records looked at, and
+    // of a store: for any bytes that encode them.
     ensures answer { IfOk result (λ x. (whole : LogContent) (log text : List ℕ)
         (before : StoreContent) → AreAlike whole records.now outcome.appended.items
         → Reads log whole torn → SpellsStore text before
@@ -138,12 +139,13 @@ pub fn remade_of(
     })
 }
 
-/// Recovers a store by its log: [`restart`](restart::restart) on the records, if the bytes of the log
-/// spelled some, and on the store, if its own bytes spelled one, with the pages parted by number.
+/// Recovers a store from its log: [`restart`](restart::restart) on the records, if the bytes of the
+/// log encode some, and on the store, if its own bytes encode one, with the pages divided by
+/// number.
 ///
-/// Refuses, in this order: the faults of [`wal::read_log`] for the log; that of the store; those of
-/// [`restart`](restart::restart). [`Fault::NoResource`], where memory or a thread was refused, may
-/// come in place of any answer.
+/// The errors are, in this order: the faults of [`wal::read_log`] for the log; that of the store;
+/// those of [`restart`](restart::restart). [`Fault::NoResource`], if memory or a thread was
+/// refused, may come instead of any other result.
 pub fn remake<G: Gate, R: Threads + Sync>(
     rt: &R,
     alloc: Global,
@@ -154,18 +156,18 @@ pub fn remake<G: Gate, R: Threads + Sync>(
 ) -> Result<Remade, Fault>
     requires { AreInRange options.now }
 
-    // On the bytes of a log and its store that are lawful over any base pages.
+    // For the bytes of a log and its store that are lawful over any base pages.
     ensures lawful { (base : BasePages) (log text : List ℕ) → ReadsAs log records.entry
         → Decodes text decoded → (bytes : AreLawful base log text)
         → MatchResult result (λ x. Recovered base bytes.decoded.read bytes.decoded.before
         (log_of log x) (store_text x.store) x.report) (λ e. e ≡ NoResource) }
 
-    // Wherever it answers.
+    // On success.
     ensures answer { IfOk result (λ x. (log text : List ℕ) → ReadsAs log records.entry
         → Decodes text decoded
         → Recovers log text (log_of log x) (store_text x.store) x.report) }
 
-    // A refusal has its cause in the input, memory aside.
+    // An error has its condition in the input, memory aside.
     ensures cause { IfErr result (λ e. (log text : List ℕ) → ReadsAs log records.entry
         → Decodes text decoded → Cause log text options.now e) }
 {

@@ -16,12 +16,12 @@ pub struct Report {
     pub records: u64,
     /// Bytes of its torn tail, which is dropped.
     pub torn: u64,
-    /// The LSN from which redo looked at records, 0 where it looked at none.
+    /// The LSN from which redo looked at records, 0 if it looked at none.
     pub redo_from: u64,
     /// Records that redo applied.
     pub redone: u64,
-    /// Transactions that were rolled back: those that the log leaves unfinished, but for the ones
-    /// in doubt.
+    /// Transactions that were rolled back: those that the log leaves unfinished, except the ones in
+    /// doubt.
     pub losers: u64,
     /// Compensation records (CLRs) appended.
     pub compensated: u64,
@@ -29,7 +29,7 @@ pub struct Report {
     pub ended: u64,
     /// Pages of the store.
     pub pages: u64,
-    /// The transactions in doubt, in rising order of number.
+    /// The transactions in doubt, in ascending order of number.
     pub in_doubt: Vec<u32>,
 }
 
@@ -52,7 +52,8 @@ fn put_line(text: &mut Vec<u8>, name: &str, number: u64) -> Result<(), AllocErro
     Ok(())
 }
 
-/// Appends the transactions in doubt: how many, and a line for each. Where there are none, no line.
+/// Appends the transactions in doubt: how many, and a line for each. If there are none, it appends
+/// no line.
 fn put_in_doubt(text: &mut Vec<u8>, numbers: &[u32]) -> Result<(), AllocError>
     ensures { OnOk result (text.new.items ≡ text.old.items ++ doubt_lines numbers.now) }
 {
@@ -83,9 +84,9 @@ fn numbers_text(alloc: Global, report: &Report) -> Result<Vec<u8>, AllocError>
 }
 
 /// The eight lines `name number` of a report, each ended by a line feed: records, torn, redo-from,
-/// redone, losers, compensated, ended, pages. Where transactions are in doubt they are followed by
-/// a line `in-doubt` with their count and a line `transaction` with the number of each. The only
-/// error is [`Fault::NoResource`], where memory was refused.
+/// redone, losers, compensated, ended, pages. If there are transactions in doubt, a line `in-doubt`
+/// follows with their count, and a line `transaction` with the number of each. The only error is
+/// [`Fault::NoResource`], if memory was refused.
 pub fn report_text(alloc: Global, report: &Report) -> Result<Vec<u8>, Fault>
     ensures text { IfOk result (λ text. text.items ≡ report_lines report.now) }
     ensures err { IsOkUnless result NoResource }

@@ -1,4 +1,4 @@
-//! A store that goes over a device piece by piece: no more of its bytes is in memory than one piece.
+//! A store that is read and written piece by piece: only one piece of its bytes is in memory.
 
 ghost use Rattle.std.specs.Prelude.{◌≡◌, ◌≤◌, ◌<◌, ◌++◌, ℕ, List, length, take, IfOk, IfErr, OnOk, OnErr, IsOkUnless};
 ghost use Rattle.std.specs.List.{flat_map};
@@ -33,13 +33,14 @@ pub fn room_for_pieces(alloc: Global) -> Result<Vec<u8>, Fault>
     Ok(vec![in alloc; 0; PIECE]?)
 }
 
-/// What all bytes of a store spell, or why they spell none. They are judged behind those of the log.
+/// What all bytes of a store encode, or the error of these bytes. That error comes after those of
+/// the log.
 #[derive(Drop)]
 pub struct DecodedStore {
     pub store: Result<Store, Fault>,
 }
 
-/// The next bytes that a store's source has: as many as there is room for, fewer only at its end.
+/// The next bytes of a store's source: as many as there is room for, fewer only at its end.
 fn read_piece<S: Source>(source: &mut S, room: &mut [u8]) -> Result<usize, Fault>
     ensures within { IfOk result (λ count. count ≤ length room.new) }
     ensures read { IfOk result (λ count. Consumes (S.left source.old) (S.left source.new)
@@ -54,8 +55,8 @@ fn read_piece<S: Source>(source: &mut S, room: &mut [u8]) -> Result<usize, Fault
     }
 }
 
-/// What the bytes after a store's header spell with it. They are read to the source's end, also where
-/// they are refused already, and one piece of them is kept at a time.
+/// What a store's header and the bytes after it encode. They are read to the source's end even
+/// after an error was found, and one piece of them is kept at a time.
 fn read_images<S: Source>(
     mut reader: StoreReader,
     source: &mut S,
@@ -77,12 +78,12 @@ fn read_images<S: Source>(
             return Ok(DecodedStore { store });
         }
     }
-    // No source has so many bytes.
+    // No source has this many bytes.
     Err(Fault::NoResource)
 }
 
-/// The store that all bytes which a source has left spell, or why they spell none. The error is
-/// `ReadStore` where the source failed.
+/// The store that all bytes encode which a source has left, or the error of these bytes. The error
+/// is `ReadStore` if the source failed.
 pub fn read_store<S: Source>(
     alloc: Global,
     source: &mut S,

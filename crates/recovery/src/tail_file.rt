@@ -1,5 +1,5 @@
-//! The file of a tail: what a recovery in place keeps on the disk while it continues the log. With it a
-//! continuation that the power cut can be made again.
+//! The file of a tail: what a recovery in place keeps on the disk while it continues the log. With
+//! it, a continuation that a power failure ended can be made again.
 
 ghost use Rattle.std.specs.Prelude.{◌≡◌, ◌↔◌, ◌+◌, ◌-◌, ◌<◌, ◌≤◌, ◌^◌, ◌++◌, ℕ, List, drop, length, take, IfSome, IsTrue, OnOk, OnErr, is_some, true};
 ghost use Rattle.std.specs.Int.{w64, from_be_bytes};
@@ -10,22 +10,22 @@ ghost use Rattle.recovery.specs.TailFile.{sum_on, sum_of, end_of, head_of, front
 
 use device::{Failed, Sink, write_all};
 
-/// What the sum of no bytes is.
+/// The sum of no bytes.
 const SUM_OF_NONE: u64 = 0xcbf2_9ce4_8422_2325;
 
-/// What the sum is multiplied by after each byte.
+/// The factor by which the sum is multiplied after each byte.
 const PRIME: u64 = 0x0000_0100_0000_01b3;
 
-/// How many bytes stand before the frames.
+/// How many bytes come before the frames.
 const HEAD_BYTES: usize = 40;
 
 /// How many bytes a number takes.
 const NUMBER_BYTES: usize = 8;
 
-/// How many bytes of a log its end has, by which it is known again.
+/// How many bytes the end of a log has, by which the log is recognized.
 pub const END_BYTES: usize = 4096;
 
-/// The sum of some bytes and then of these (FNV-1a).
+/// The sum of some bytes followed by these (FNV-1a).
 fn sum_on(sum: u64, bytes: &[u8]) -> u64
     ensures { result ≡ sum_on sum bytes.now }
 {
@@ -36,7 +36,7 @@ fn sum_on(sum: u64, bytes: &[u8]) -> u64
     sum
 }
 
-/// The sum of the last 4,096 bytes of a log that lies in two parts, or of all if there are fewer.
+/// The sum of the last 4,096 bytes of a log that is in two parts, or of all if there are fewer.
 pub fn sum_of_end(front: &[u8], back: &[u8]) -> u64
     ensures { result ≡ sum_of (end_of (front.now ++ back.now)) }
 {
@@ -46,7 +46,7 @@ pub fn sum_of_end(front: &[u8], back: &[u8]) -> u64
     sum_on(sum_on(SUM_OF_NONE, front), back)
 }
 
-/// The number that stands at an offset in the head.
+/// The number at an offset in the head.
 fn number_at(head: &[u8], offset: usize) -> u64
     requires { offset + NUMBER_BYTES ≤ length head.now }
     ensures { result ≡ from_be_bytes w64 (take NUMBER_BYTES (drop offset head.now)) }
@@ -56,22 +56,22 @@ fn number_at(head: &[u8], offset: usize) -> u64
     u64::from_be_bytes(number)
 }
 
-/// What stands in the file of a tail.
+/// What the file of a tail holds.
 #[derive(Clone, Copy)]
 pub struct TailFile<'a> {
     /// How many bytes the log had when it was read.
     pub length: u64,
     /// How many of them are kept: all but those of the torn tail.
     pub kept: u64,
-    /// The sum of the last 4,096 bytes that are kept, or of all if there are fewer: the log to which the
-    /// tail belongs ends with them.
+    /// The sum of the last 4,096 bytes that are kept, or of all if there are fewer: the log to
+    /// which the tail belongs ends with them.
     pub end: u64,
     /// The frames that come after them.
     pub frames: &'a [u8],
 }
 
 impl<'a> TailFile<'a> {
-    /// What stands before the frames.
+    /// The bytes before the frames.
     #[tactic(auto, unfolding(crate::specs::TailFile::head_of))]
     fn head(&self) -> [u8; HEAD_BYTES]
         ensures { result ≡ head_of self.now.length self.now.kept (length self.now.frames.now) self.now.end }
@@ -85,7 +85,7 @@ impl<'a> TailFile<'a> {
         head
     }
 
-    /// The sum of what stands before it.
+    /// The sum of what comes before it.
     fn sum(&self) -> u64
         ensures { result ≡ sum_of
             (front_of self.now.length self.now.kept self.now.end self.now.frames.now) }
@@ -93,10 +93,10 @@ impl<'a> TailFile<'a> {
         sum_on(sum_on(SUM_OF_NONE, &self.head()), self.frames)
     }
 
-    /// Writes the file to a sink, after what that took before, and flushes it.
+    /// Writes the file to a sink, after what the sink took before, and flushes it.
     ///
-    /// `Failed` if the sink failed. Its count of failures has then risen by one, and it has taken a
-    /// beginning of the file.
+    /// `Failed` if the sink failed. Its count of failures then rises by one, and it has taken a
+    /// prefix of the file.
     pub fn write<S: Sink>(&self, sink: &mut S) -> Result<(), Failed>
         ensures all { OnOk result (AreOut (tail_text self.now.length self.now.kept self.now.end self.now.frames.now) (S.taken sink.old) (S.taken sink.new)
             (S.flushed sink.old) (S.flushed sink.new)) }
@@ -110,8 +110,8 @@ impl<'a> TailFile<'a> {
         sink.flush()
     }
 
-    /// What stands in these bytes; `None` if they are not the whole file of a tail, as after a crash
-    /// while it was written.
+    /// The file of a tail in these bytes; `None` if they are not a whole one, for example after a
+    /// crash while it was written.
     pub fn read(bytes: &'a [u8]) -> Option<TailFile<'a>>
         ensures found { IfSome result (λ file. bytes.entry.now
             ≡ tail_text file.length file.kept file.end file.frames.now) }
@@ -139,7 +139,7 @@ impl<'a> TailFile<'a> {
         Some(file)
     }
 
-    /// Where in the log its end begins, of which the file has the sum.
+    /// The offset in the log of the end that the file has the sum of.
     pub fn end_offset(&self) -> u64
         ensures { result ≡ self.now.kept - END_BYTES }
     {

@@ -11,17 +11,17 @@ use page::{Fault, decode_store};
 use std::alloc::Global;
 use wal::read_log;
 
-/// Whether bytes are those of a log, with a torn tail or none, and its store that are lawful over
-/// empty pages: what an ARIES system can leave behind that began with them. Ok exactly where they
-/// are, want of memory aside.
+/// Whether bytes are those of a log, with or without a torn tail, and its store that are lawful
+/// over empty pages: what an ARIES system can leave behind if it began with empty pages. Ok if and
+/// only if they are, a lack of memory aside.
 ///
-/// Refuses, in this order: the faults of [`wal::read_log`] for the log; those of
+/// The errors are, in this order: the faults of [`wal::read_log`] for the log; those of
 /// [`page::decode_store`] for the store; those of [`audit::audit`], the first broken law.
-/// [`Fault::NoResource`], where memory was refused, may come in place of any answer.
+/// [`Fault::NoResource`], if memory was refused, may come instead of any other result.
 pub fn audit_texts(alloc: Global, log: &[u8], store: &[u8]) -> Result<(), Fault>
     ensures ok { OnOk result (AreLawful no_base log.now store.now) }
     ensures fault { IfErr result (AuditFault log.now store.now) }
-    // Lawful bytes are refused for want of memory alone.
+    // For lawful bytes the only error is a lack of memory.
     ensures lawful { AreLawful no_base log.now store.now → IsOkUnless result NoResource }
 {
     let (records, _) = read_log(alloc, log)?;
@@ -29,18 +29,17 @@ pub fn audit_texts(alloc: Global, log: &[u8], store: &[u8]) -> Result<(), Fault>
     audit(alloc, &records, &store)
 }
 
-/// Whether bytes are those of a log, with a torn tail or none, and its store that are lawful over
-/// the pages of the base store that other bytes are. Ok exactly where they are, want of memory
-/// aside.
+/// Whether bytes are those of a log, with or without a torn tail, and its store that are lawful
+/// over the pages of the base store in `base`. Ok if and only if they are, a lack of memory aside.
 ///
-/// Refuses, in this order: the faults of [`wal::read_log`] for the log; those of
+/// The errors are, in this order: the faults of [`wal::read_log`] for the log; those of
 /// [`page::decode_store`] for the store, and then for the base store; those of
-/// [`audit::audit_from`]. [`Fault::NoResource`], where memory was refused, may come in place of any
-/// answer.
+/// [`audit::audit_from`]. [`Fault::NoResource`], if memory was refused, may come instead of any
+/// other result.
 pub fn audit_texts_over(alloc: Global, log: &[u8], store: &[u8], base: &[u8]) -> Result<(), Fault>
     ensures ok { OnOk result (AreLawfulOver log.now store.now base.now) }
     ensures fault { IfErr result (AuditFaultOver log.now store.now base.now) }
-    // Lawful bytes are refused for want of memory alone.
+    // For lawful bytes the only error is a lack of memory.
     ensures lawful { AreLawfulOver log.now store.now base.now → IsOkUnless result NoResource }
 {
     let (records, _) = read_log(alloc, log)?;

@@ -12,25 +12,25 @@ use std::alloc::Global;
 use undo::{Looked, Place};
 use wal::read_log;
 
-/// Recovers a store by its log, both read, in the thread of the caller: no thread is started, and what
-/// is made is what [`recover`](crate::recover) writes, for every number of workers and parts. The new
-/// store is made in the room of the bytes read.
+/// Recovers a store from its log, both already read, in the thread of the caller: it starts no
+/// thread. What it makes is what [`recover`](crate::recover) writes, for every number of workers
+/// and parts. The new store is made in the memory of the bytes that were read.
 ///
-/// Refuses, in this order: the faults of [`wal::read_log`] for the log; those of
+/// The errors are, in this order: the faults of [`wal::read_log`] for the log; those of
 /// [`page::decode_store`] for the store; those of [`restart`](restart::restart) from
-/// [`Fault::PageAheadOfLog`] on. [`Fault::NoResource`], where memory was refused, may come in place
-/// of any answer.
+/// [`Fault::PageAheadOfLog`] on. [`Fault::NoResource`], if memory was refused, may come instead of
+/// any other result.
 pub fn recovery_alone<'a>(
     alloc: Global,
     log: &'a [u8],
     mut store: Vec<u8>,
 ) -> Result<Recovery<'a>, Fault>
-    // On the bytes of a log and its store that are lawful over any base pages.
+    // For the bytes of a log and its store that are lawful over any base pages.
     ensures lawful { (base : BasePages) (bytes : AreLawful base log.now store.items)
         → MatchResult result (λ x. Recovered base bytes.decoded.read bytes.decoded.before
         (new_log x) x.store.items x.report) (λ e. e ≡ NoResource) }
 
-    // Wherever it answers.
+    // On success.
     ensures answer { IfOk result (λ x. Recovers log.now store.items
         (new_log x) x.store.items x.report) }
     ensures kept { IfOk result (λ x. x.kept.now
@@ -40,7 +40,7 @@ pub fn recovery_alone<'a>(
     ensures short { (base : BasePages) → AreLawful base log.now store.items
         → IfOk result (λ x. length x.frames.items ≤ 2 * length log.now) }
 
-    // A refusal has its cause in the input, memory aside; options that hold are none.
+    // An error has its condition in the input, memory aside; valid options cause none.
     ensures cause { IfErr result
         (Cause log.now store.items (record { workers = 1; parts = 1 })) }
 {

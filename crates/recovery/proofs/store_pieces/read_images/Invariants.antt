@@ -1,4 +1,4 @@
--- What came behind the header was read, whole pieces, and no failure came.
+-- What came after the header was read, whole pieces, and no failure came.
 use Rattle.std.proofs.Common.{◌≡◌, ℕ, List, ◌+◌, ◌*◌, ◌++◌, length}
 use Rattle.std.specs.Io.KnownBytes.{Consumes}
 use Rattle.recovery.proofs.store_pieces.read_images.Given as goal

@@ -1,4 +1,4 @@
--- The images of the pages that are gone from the rest were taken, none of them is flushed, and no failure came.
+-- The images of the pages that are no longer in the rest were taken, none of them is flushed, and no failure came.
 use Rattle.std.proofs.Common.{◌≡◌, List, ◌++◌, length}
 use Rattle.std.specs.List.{flat_map}
 use Rattle.std.specs.Io.KnownBytes.{Appends, Keeps}

@@ -9,7 +9,7 @@ use Rattle.recovery.proofs.Alike.{same_log}
 use Rattle.recovery.proofs.Bytes.{input_cause, is_lawful, read_alone, read_same}
 use Rattle.recovery.proofs.unthreaded.recovery_alone.Goals as goal
 
--- options that hold
+-- valid options
 alone : Options
 alone = record { workers = 1; parts = 1 }
 
