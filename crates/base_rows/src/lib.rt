@@ -1,5 +1,5 @@
-//! The tests of the crates that stand on no other one of these: pages and their faults, boards that hand out
-//! numbers, devices.
+//! The tests of the crates that depend on no other crate of these: pages and their faults, boards
+//! that hand out numbers, devices.
 #![tactic(auto)]
 
 #[cfg(test)]

@@ -1,4 +1,5 @@
-//! Pages, stores and fault texts; boards; devices over memory, that are slow or fail, and over files.
+//! Pages, stores and fault texts; boards; devices over memory, devices that are slow or fail, and
+//! devices over files.
 
 mod again;
 mod boards;
@@ -8,12 +9,12 @@ mod transfers;
 
 use std::test::Fail;
 
-/// Fails a test where this is not so.
+/// Fails a test if this is not so.
 fn check(is_so: bool, what: &str) -> Result<(), Fail> {
     if is_so { Ok(()) } else { Err(Fail::new(what)) }
 }
 
-/// Fails a test where one of these is not so.
+/// Fails a test if one of these is not so.
 fn check_all(rows: &[(bool, &str)]) -> Result<(), Fail> {
     for (is_so, what) in rows {
         check(*is_so, what)?;
@@ -21,7 +22,7 @@ fn check_all(rows: &[(bool, &str)]) -> Result<(), Fail> {
     Ok(())
 }
 
-/// Fails a test where this is not so at the row of this number.
+/// Fails a test if this is not so for the row of this number.
 fn check_at(row: usize, is_so: bool, what: &str) -> Result<(), Fail> {
     if is_so {
         Ok(())

@@ -24,7 +24,8 @@ fn gives_nothing<S: Reread>(source: &mut S) -> bool {
     read_full_at(source, 3, &mut []) == Ok(0) && source.read_at(3, &mut []) == Ok(0)
 }
 
-/// Whether a source gives what it holds from each offset, also after others and after a read.
+/// Whether a source gives what it holds from each offset, also after other reads at offsets and
+/// after a plain read.
 fn check_again<S: Reread>(source: &mut S) -> Result<(), Fail> {
     let is_read = source.read(&mut [0; 2]).is_ok();
     check_all(&[
@@ -63,7 +64,7 @@ fn a_slow_source_is_read_again() -> Result<(), Fail> {
     )
 }
 
-/// Four bytes take two calls at two bytes a call.
+/// At two bytes a call, four bytes take two calls.
 #[test]
 fn each_call_fails_in_turn() -> Result<(), Fail> {
     for call in 1..5u32 {
@@ -89,7 +90,7 @@ fn a_file_of_the_system_is_read_again(rt: HostRuntime) -> Result<(), Fail> {
     let path = "file-to-read-again";
     fs::write(&rt, path, HELD)?;
     let file = File::open(&rt, path)?;
-    // An open file is read as well without its name.
+    // An open file can be read without its name.
     fs::remove_file(&rt, path)?;
     check_again(&mut FileSource::new(file))
 }

@@ -10,7 +10,7 @@ use std::thread::join;
 
 const NONE: u32 = u32::MAX;
 
-// What N draws give, with NONE where there is no number.
+// What N draws return, with NONE if there is no number.
 fn drawn<const N: usize>(board: &Board, seat: &mut Seat, home: u32) -> [u32; N]
     requires board { seat.old.board ≡ board.now }
     requires home { home < board.now.ranges }
@@ -25,7 +25,7 @@ fn drawn<const N: usize>(board: &Board, seat: &mut Seat, home: u32) -> [u32; N]
     all
 }
 
-// Draws to the end. How often each number came, of ten.
+// Draws to the end. Returns how often each of ten numbers came.
 fn draw_all(board: &Board, mut seat: Seat, home: u32) -> (Seat, [u32; 10])
     requires board { seat.board ≡ board.now }
     requires home { home < board.now.ranges }
@@ -40,8 +40,8 @@ fn draw_all(board: &Board, mut seat: Seat, home: u32) -> (Seat, [u32; 10])
     (seat, counts)
 }
 
-// Fails a test where two seats, of two places of one range, do not draw these numbers and none, or
-// another word is told at the end.
+// Fails a test if two seats, of two places of one range, do not draw these numbers and then none,
+// or if the word at the end is another.
 fn check_halves<const N: usize>(
     board: Board,
     mut first: Seat,
@@ -87,7 +87,7 @@ fn halves_know_the_end(rt: HostRuntime) -> Result<(), Fail> {
     ])
 }
 
-// The words of at most four ranges, and 0 where there is none.
+// The words of at most four ranges, and 0 for a range that does not exist.
 fn words(tally: &Tally, ranges: u32) -> [u64; 4]
     requires { (ranges ≤ length tally.now.words) × (ranges ≤ 4) }
 {
@@ -98,8 +98,8 @@ fn words(tally: &Tally, ranges: u32) -> [u64; 4]
     words
 }
 
-// Fails a test where one seat does not draw these numbers of a board of at most four ranges, or
-// other words are told at the end.
+// Fails a test if one seat does not draw these numbers from a board of at most four ranges, or if
+// the words at the end are others.
 fn check_alone<const N: usize>(
     alloc: Global,
     parts: u32,
@@ -141,8 +141,8 @@ fn two_halves(rt: HostRuntime) -> Result<(), Fail> {
     check_halves(board, b, a, [0, NONE], 3)
 }
 
-// What two seats see of a stop by the second: what the first draws before, what each then draws or
-// is stopped at, and what the first draws behind it.
+// What two seats see of a stop by the second: what the first draws before it, what each then draws
+// or is stopped at, and what the first draws after it.
 fn drawn_round_a_stop(
     board: &Board,
     first: &mut Seat,

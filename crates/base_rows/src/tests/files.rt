@@ -21,12 +21,12 @@ enum Turn {
     Interrupted,
     /// It fails.
     Broken,
-    /// It fails, but for a sync.
+    /// It fails, except for a sync.
     Unflushed,
 }
 
-/// A file that has these turns before it, and then passes no byte. It is not synced where it is
-/// about to fail, and not before it was asked to flush what was written.
+/// A file that takes these turns, one a call, and then passes no byte. It is not synced if its next
+/// turn fails, and not before it was asked to flush what was written.
 #[derive(Drop)]
 struct Fake<'a> {
     turns: &'a [Turn],
@@ -34,7 +34,7 @@ struct Fake<'a> {
 }
 
 impl<'a> Fake<'a> {
-    /// The answer of one call for this number of bytes.
+    /// The result of one call for this number of bytes.
     fn turn(&mut self, bytes: usize) -> io::Result<usize>
         ensures { IfOk result (λ count. count ≤ bytes) }
     {
@@ -127,12 +127,12 @@ fn is_read(alloc: Global, turns: &[Turn], bytes: &[u8]) -> Result<bool, ReadFaul
     Ok(read.as_slice() == bytes)
 }
 
-/// What writing "abc" to a file with these turns answers.
+/// The result of writing "abc" to a file with these turns.
 fn written(turns: &[Turn]) -> Result<(), Failed> {
     write_all(&mut sink(turns), b"abc")
 }
 
-/// What a flush of a file with these turns answers.
+/// The result of a flush of a file with these turns.
 fn flushed(turns: &[Turn]) -> Result<(), Failed> {
     sink(turns).flush()
 }
@@ -156,7 +156,7 @@ fn reads_fail_in_mid_stream(rt: HostRuntime) -> Result<(), Fail> {
     check(matches!(read, Err(ReadFault::Failed)), "read")
 }
 
-/// What a read of a file with these turns answers from an offset. A seek takes the first turn.
+/// The result of a read of a file with these turns from an offset. A seek takes the first turn.
 fn read_again(turns: &[Turn]) -> Result<usize, Failed> {
     source(turns).read_at(7, &mut [0; 4])
 }

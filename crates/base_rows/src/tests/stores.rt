@@ -23,7 +23,7 @@ fn padded(alloc: Global, parts: &[&[u8]], len: usize) -> Result<Vec<u8>, AllocEr
     Ok(bytes)
 }
 
-/// Why these bytes are no store, if they are none.
+/// The error of these bytes, if they are not a store.
 fn refusal(alloc: Global, bytes: &[u8]) -> Option<Fault> {
     match decode_store(alloc, bytes) {
         Ok(_) => None,
@@ -36,7 +36,7 @@ fn is_image(page: &Page, image: &[u8]) -> bool {
     encode_page(page).as_slice() == image
 }
 
-/// Whether these bytes are a store of master 0, and its one spelling.
+/// Whether these bytes are a store of master 0, and its only encoding.
 fn is_spelled(alloc: Global, bytes: &[u8]) -> Result<bool, Fault> {
     let store = decode_store(alloc, bytes)?;
     let again = encode_store(alloc, &store)?;
@@ -97,7 +97,7 @@ fn pages_have_their_number() -> Result<(), Fail> {
     ])
 }
 
-/// Why these parts and zeros up to this length are no store, if they are none.
+/// The error of these parts and zeros up to this length, if they are not a store.
 fn refusal_of(alloc: Global, parts: &[&[u8]], len: usize) -> Option<Fault> {
     match padded(alloc, parts, len) {
         Ok(bytes) => refusal(alloc, &bytes),
@@ -105,7 +105,7 @@ fn refusal_of(alloc: Global, parts: &[&[u8]], len: usize) -> Option<Fault> {
     }
 }
 
-/// Images that are refused: their first two entries, and what lies in their cells.
+/// Images that are rejected: their first two entries, and what is in their cells.
 const REFUSED_IMAGES: [(&str, &[u8], &[u8]); 4] = [
     ("empty-value-wrong-place", &[0, 0x51, 0, 0, 0, 0, 0, 0], b""),
     ("cells-swapped", &[0, 0x51, 0, 1, 0, 0x50, 0, 1], b"xy"),
@@ -125,14 +125,14 @@ fn refused_images(rt: HostRuntime) -> Result<(), Fail> {
     check(fault == Some(Fault::BadPage(0)), "last-byte-set")
 }
 
-/// Why a store of two pages of number 1 is none.
+/// The error of a store with two pages of number 1.
 fn refusal_of_a_number_twice(alloc: Global) -> Option<Fault> {
     let one = encode_page(&Page::empty(1));
     let parts: [&[u8]; 4] = [b"ARIESPG1\0\0\0\x02", &[0; 12], &one, &one];
     refusal_of(alloc, &parts, 2072)
 }
 
-/// Stores that are refused: what is in front of their zeros, their length, and the fault.
+/// Stores that are rejected: what comes before their zeros, their length, and the fault.
 const REFUSED_STORES: [(&str, &[u8], usize, Fault); 9] = [
     (
         "short-store",
@@ -194,7 +194,7 @@ fn full() -> Page {
     page
 }
 
-/// The store file of this many pages, all but for their numbers like this one.
+/// The store file of this many pages, all like this one except for their numbers.
 fn file_of(alloc: Global, count: u32, like: &Page) -> Result<Vec<u8>, AllocError> {
     let mut bytes = padded(alloc, &[b"ARIESPG1", &count.to_be_bytes()], 24)?;
     for number in 0..count {
@@ -205,7 +205,7 @@ fn file_of(alloc: Global, count: u32, like: &Page) -> Result<Vec<u8>, AllocError
     Ok(bytes)
 }
 
-/// Whether the store of 4,096 pages like this one is its one spelling.
+/// Whether the store of 4,096 pages like this one is its only encoding.
 fn is_largest_spelled(alloc: Global, page: &Page) -> Result<bool, Fault> {
     let bytes = file_of(alloc, 4096, page)?;
     let store = decode_store(alloc, &bytes)?;
@@ -228,7 +228,7 @@ fn largest_store(rt: HostRuntime) -> Result<(), Fail> {
     ])
 }
 
-/// What is read of these bytes where they come by pieces of this many images.
+/// What is read of these bytes if they come in pieces of this many images.
 fn read_by(alloc: Global, bytes: &[u8], images: usize) -> Result<Store, Fault>
     requires some { 0 < images }
     requires few { images ≤ 4096 }
@@ -266,7 +266,7 @@ fn is_alike(
     }
 }
 
-/// Whether `decode_store` and a reader by pieces of any size tell the same of these bytes.
+/// Whether `decode_store` and a reader by pieces of any size return the same for these bytes.
 fn is_read_alike(alloc: Global, bytes: &[u8]) -> Result<bool, Fault> {
     let by_one = read_by(alloc, bytes, 1);
     let by_64 = read_by(alloc, bytes, 64);
@@ -289,8 +289,8 @@ fn pieces_make_a_store(rt: HostRuntime) -> Result<(), Fail> {
     Ok(())
 }
 
-/// Whether what is left of the file of 130 pages, once these bytes were damaged and it was cut or
-/// filled to this length, is refused by this fault, in pieces too.
+/// Whether the file of 130 pages, with these bytes damaged and cut or filled to this length, has
+/// this fault, in pieces too.
 fn is_refused_alike(
     alloc: Global,
     damaged: &[usize],
@@ -307,7 +307,7 @@ fn is_refused_alike(
     Ok(refusal(alloc, &bytes) == Some(fault) && is_read_alike(alloc, &bytes)?)
 }
 
-/// Files that are refused: the bytes of that of 130 pages that are damaged, its length, the fault.
+/// Files that are rejected: the damaged bytes of the file of 130 pages, its length, the fault.
 const REFUSED_PIECES: [(&str, &[usize], usize, Fault); 10] = [
     ("no bytes", &[], 0, Fault::BadStoreHeader),
     ("a short header", &[], 23, Fault::BadStoreHeader),
@@ -410,7 +410,7 @@ fn fault_texts(rt: HostRuntime) -> Result<(), Fail> {
     Ok(())
 }
 
-/// Whether of these faults this one alone is the one of this place.
+/// Whether this is the only one of these faults that is equal to the fault at this place.
 fn is_told_apart(faults: &[(Fault, &str)], fault: Fault, place: usize) -> bool {
     for (i, (other, _)) in faults.iter().enumerate() {
         if (fault == *other) != (i == place) {

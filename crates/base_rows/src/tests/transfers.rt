@@ -8,7 +8,7 @@ use device::{
 use std::alloc::{AllocError, Global};
 use std::test::Fail;
 
-/// Bytes that tell their places.
+/// Bytes whose values show their places.
 fn counted(alloc: Global, length: usize) -> Result<Vec<u8>, AllocError> {
     let mut bytes = Vec::with_capacity(alloc, length)?;
     for place in 0..length {
@@ -26,12 +26,12 @@ struct Written {
 }
 
 impl Written {
-    /// Whether all of that many bytes are out.
+    /// Whether all of this many bytes are taken and flushed.
     fn is_out(&self, length: usize) -> bool {
         self.is_beginning && self.taken == length && self.is_flushed
     }
 
-    /// Whether the sink failed behind that many bytes.
+    /// Whether the sink failed after this many bytes.
     fn has_failed(&self, taken: usize) -> bool {
         self.is_beginning && self.taken == taken && !self.is_flushed
     }
@@ -42,7 +42,7 @@ fn is_out<S: Sink>(sink: &mut S, bytes: &[u8]) -> bool {
     write_all(sink, bytes).is_ok() && sink.flush().is_ok()
 }
 
-/// Writes that many bytes to a sink of this pace, and flushes it.
+/// Writes this many bytes to a sink of this pace, and flushes it.
 fn write_out(alloc: Global, length: usize, pace: Pace) -> Result<Written, AllocError> {
     let bytes = counted(alloc, length)?;
     let mut sink = SlowSink::new(alloc, length, pace)?;
@@ -55,7 +55,7 @@ fn write_out(alloc: Global, length: usize, pace: Pace) -> Result<Written, AllocE
     })
 }
 
-/// Whether reading all of a source of that many bytes and this pace gives them.
+/// Whether reading all of a source of this many bytes and this pace gives them.
 fn is_read(alloc: Global, length: usize, pace: Pace) -> Result<bool, ReadFault> {
     match counted(alloc, length) {
         Ok(bytes) => {
@@ -66,12 +66,12 @@ fn is_read(alloc: Global, length: usize, pace: Pace) -> Result<bool, ReadFault> 
     }
 }
 
-/// Whether reading all of a source of that many bytes and this pace fails.
+/// Whether reading all of a source of this many bytes and this pace fails.
 fn fails_to_read(alloc: Global, length: usize, pace: Pace) -> bool {
     matches!(is_read(alloc, length, pace), Err(ReadFault::Failed))
 }
 
-/// Three bytes in front, and behind them this much room.
+/// Three bytes, followed by this much room.
 fn front_and_room(alloc: Global, room: u32) -> Result<Vec<u8>, AllocError> {
     let mut bytes = Vec::new(alloc);
     bytes.extend_from_slice(b"abc")?;
@@ -79,7 +79,7 @@ fn front_and_room(alloc: Global, room: u32) -> Result<Vec<u8>, AllocError> {
     Ok(bytes)
 }
 
-/// Whether reading the rest of a source of that many bytes behind three bytes, into this much room,
+/// Whether reading the rest of a source of this many bytes after three bytes, into this much room,
 /// gives the three and then all of the source.
 fn is_read_behind(alloc: Global, length: usize, room: u32) -> Result<bool, Fail> {
     let rest = counted(alloc, length)?;
@@ -100,7 +100,7 @@ fn memory_gives_all(rt: HostRuntime) -> Result<(), Fail> {
 
 #[test]
 fn a_hint_is_no_length(rt: HostRuntime) -> Result<(), Fail> {
-    // A slow source hints at what a call passes.
+    // A slow source hints at what one call passes.
     for hint in [1, 999, 1000, 1001, 199_999, usize::MAX] {
         let pace = Pace::of_step(hint);
         let is_read = is_read(rt.alloc(), 1000, pace)? && is_read(rt.alloc(), 200_000, pace)?;
@@ -221,7 +221,7 @@ fn flush_that_fails_reaches_nothing(rt: HostRuntime) -> Result<(), Fail> {
     check(has_failed && slow.flushed().is_empty(), "flushed")
 }
 
-/// Bytes that a sink holds are flushed; a cut leaves the first of them, and then more are taken.
+/// Bytes that a sink holds are flushed. A cut leaves the first of them, and then more are taken.
 #[test]
 fn what_is_held_is_cut_and_continued(rt: HostRuntime) -> Result<(), Fail> {
     let alloc = rt.alloc();
@@ -254,8 +254,8 @@ fn store_source_fails(rt: HostRuntime) -> Result<(), Fail> {
     )
 }
 
-/// A source of 105 bytes is called sixteen times at seven bytes a call, the last time at its end; a
-/// sink fifteen times, and once to be flushed.
+/// At seven bytes a call, a source of 105 bytes is called sixteen times, the last time at its end;
+/// a sink is called fifteen times, and once to be flushed.
 #[test]
 fn each_call_fails_in_turn(rt: HostRuntime) -> Result<(), Fail> {
     let alloc = rt.alloc();
