@@ -1,4 +1,4 @@
-//! The tests of the crates that read a log and change no page: how it is read and written, the
+//! The tests of the crates that read a log and change no page: reading and writing a log, the
 //! tables that analysis finds in it, and its audit.
 #![tactic(auto)]
 

@@ -8,12 +8,12 @@ mod verdicts;
 
 use std::test::Fail;
 
-/// Fails a test where this is not so.
+/// Fails a test if this is not so.
 fn check(is_so: bool, what: &str) -> Result<(), Fail> {
     if is_so { Ok(()) } else { Err(Fail::new(what)) }
 }
 
-/// Fails a test where one of these is not so.
+/// Fails a test if one of these is not so.
 fn check_all(rows: &[(bool, &str)]) -> Result<(), Fail> {
     for (is_so, what) in rows {
         check(*is_so, what)?;

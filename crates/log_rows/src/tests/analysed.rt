@@ -20,7 +20,7 @@ const COMMIT: &[u8] =
 const ROLLBACK: &[u8] =
     b"ARIESLG1\x00\x00\x00\x1d\x01\x00\x00\x00\x00\x00\x00\x00\x01\x00\x00\x00\x01\x00\x00\x00\x00\x00\x00\x00\x00\x00\x00\x00\x00\x00\xff\x01a\x00\x00\x00\x1e\x01\x00\x00\x00\x00\x00\x00\x00\x02\x00\x00\x00\x01\x00\x00\x00\x00\x00\x00\x00\x01\x00\x00\x00\x00\x00\x01a\x01b\x00\x00\x00\x15\x04\x00\x00\x00\x00\x00\x00\x00\x03\x00\x00\x00\x01\x00\x00\x00\x00\x00\x00\x00\x02\x00\x00\x00$\x02\x00\x00\x00\x00\x00\x00\x00\x04\x00\x00\x00\x01\x00\x00\x00\x00\x00\x00\x00\x03\x00\x00\x00\x00\x00\x00\x00\x00\x00\x00\x00\x00\x01\x01a";
 
-/// An abort alone.
+/// Only an abort.
 const ABORT: &[u8] =
     b"ARIESLG1\x00\x00\x00\x15\x04\x00\x00\x00\x00\x00\x00\x00\x01\x00\x00\x00\x03\x00\x00\x00\x00\x00\x00\x00\x00";
 
@@ -186,7 +186,7 @@ fn update(prev: u64) -> Record {
     }
 }
 
-/// The end of the checkpoint at `begin` that lists T1 in this state behind these LSNs, and page 0.
+/// The end of the checkpoint at `begin` that lists T1 in this state with these LSNs, and page 0.
 fn checkpoint_end(
     alloc: Global,
     begin: u64,
@@ -218,7 +218,7 @@ fn entry_of(alloc: Global, records: &[&Record], master: u64) -> Result<Option<En
     Ok(tables.transactions.get(&1).copied())
 }
 
-/// Whether analysis, from this master on, finds T1 in this state behind these LSNs.
+/// Whether analysis, from this master on, finds T1 in this state with these LSNs.
 fn has_entry(
     alloc: Global,
     records: &[&Record],
@@ -246,12 +246,12 @@ fn is_prepared(alloc: Global) -> bool {
     has_entry(alloc, &[&update(0), &prepare(1)], 0, State::Prepared, 2, 1)
 }
 
-/// Whether analysis of a prepare alone does.
+/// Whether analysis of only a prepare does.
 fn is_prepared_alone(alloc: Global) -> bool {
     has_entry(alloc, &[&prepare(0)], 0, State::Prepared, 1, 0)
 }
 
-/// Whether analysis of an update and these two records finds T1 in this state behind the third
+/// Whether analysis of an update and these two records finds T1 in this state after the third
 /// record, with this UndoNxtLSN.
 fn has_behind(alloc: Global, second: Record, third: Record, state: State, undo_next: u64) -> bool {
     has_entry(
@@ -298,14 +298,14 @@ fn finds_prepares_that_no_law_allows(rt: HostRuntime) -> Result<(), Fail> {
     ])
 }
 
-/// Whether analysis finds T1 prepared that a checkpoint lists as prepared.
+/// Whether analysis finds T1 prepared if a checkpoint lists it as prepared.
 fn is_prepared_at_checkpoint(alloc: Global) -> Result<bool, Fault> {
     let listed = checkpoint_end(alloc, 3, State::Prepared, 2, 1)?;
     let records = &[&update(0), &prepare(1), &Record::CheckpointBegin, &listed];
     Ok(has_entry(alloc, records, 3, State::Prepared, 2, 1))
 }
 
-/// Whether analysis finds it aborting behind an abort.
+/// Whether analysis finds it aborting after an abort.
 fn is_aborting_behind_checkpoint(alloc: Global) -> Result<bool, Fault> {
     let listed = checkpoint_end(alloc, 3, State::Prepared, 2, 1)?;
     let begin = Record::CheckpointBegin;
@@ -323,14 +323,14 @@ fn finds_what_a_checkpoint_has_as_prepared(rt: HostRuntime) -> Result<(), Fail> 
     ])
 }
 
-/// Whether analysis finds T1 prepared where it prepares in a checkpoint that lists it as active.
+/// Whether analysis finds T1 prepared if it prepares within a checkpoint that lists it as active.
 fn is_prepared_in_checkpoint(alloc: Global) -> Result<bool, Fault> {
     let listed = checkpoint_end(alloc, 2, State::Active, 1, 1)?;
     let records = &[&update(0), &Record::CheckpointBegin, &prepare(1), &listed];
     Ok(has_entry(alloc, records, 2, State::Prepared, 3, 1))
 }
 
-/// Whether analysis finds T1 aborting where it prepares behind a checkpoint that lists it so.
+/// Whether analysis finds T1 aborting if it prepares after a checkpoint that lists it as aborting.
 fn is_aborting_for_all_it_prepares(alloc: Global) -> Result<bool, Fault> {
     let listed = checkpoint_end(alloc, 2, State::Aborting, 1, 1)?;
     let records = &[&update(0), &Record::CheckpointBegin, &listed, &prepare(1)];
@@ -347,7 +347,7 @@ fn finds_prepares_beside_a_checkpoint(rt: HostRuntime) -> Result<(), Fail> {
     ])
 }
 
-/// Whether analysis of a log refuses this master.
+/// Whether analysis of a log returns `BadMaster` for this master.
 fn is_bad_master(alloc: Global, log: &Log, master: u64) -> bool {
     match analyse(alloc, log, master) {
         Ok(_) => false,
@@ -365,7 +365,7 @@ fn refuses_a_master_that_is_no_begin(rt: HostRuntime) -> Result<(), Fail> {
     ])
 }
 
-/// The text of a log of a million aborts, of a thousand transactions.
+/// The bytes of a log of a million aborts, of a thousand transactions.
 fn a_million_aborts(alloc: Global) -> Result<Vec<u8>, Fault> {
     let mut bytes = Vec::from_slice(alloc, b"ARIESLG1")?;
     for lsn in 1..1_000_001u64 {

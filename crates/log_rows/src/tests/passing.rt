@@ -1,4 +1,5 @@
-//! Analysis of a log that goes by in pieces: what it finds is what `analyse` finds in the whole log.
+//! Analysis of a log that is read in pieces: what it finds is what `analyse` finds in the whole
+//! log.
 
 use super::analysed::ROWS;
 use super::check;
@@ -13,7 +14,7 @@ use wal::{Entry, Log, Record, State, based_header, read_log};
 /// Both tables, as maps.
 type Maps = (BTreeMap<u32, Entry>, BTreeMap<u32, u64>);
 
-/// The text of the records of a log from behind one LSN up to another.
+/// The bytes of the records of a log from after one LSN up to another.
 fn piece_of(alloc: Global, log: &Log, from: u64, upto: u64) -> Result<Vec<u8>, Fault> {
     let mut bytes = Vec::from_slice(alloc, &based_header(from))?;
     for before in from..upto {
@@ -25,7 +26,7 @@ fn piece_of(alloc: Global, log: &Log, from: u64, upto: u64) -> Result<Vec<u8>, F
     Ok(bytes)
 }
 
-/// The tables of the checkpoint, of a log that goes by in these texts.
+/// The tables of the checkpoint, for a log that is read in these pieces.
 fn checkpoint_by(alloc: Global, pieces: &[Vec<u8>], master: u64) -> Result<Maps, Fault> {
     let mut scan = CheckpointScan::new(alloc, master);
     for bytes in pieces {
@@ -35,7 +36,7 @@ fn checkpoint_by(alloc: Global, pieces: &[Vec<u8>], master: u64) -> Result<Maps,
     scan.finish()
 }
 
-/// The tables behind a log that goes by in these texts.
+/// The tables after a log that is read in these pieces.
 fn tables_by(alloc: Global, pieces: &[Vec<u8>], master: u64) -> Result<Maps, Fault> {
     let (transactions, dirty) = checkpoint_by(alloc, pieces, master)?;
     let mut transactions = TransactionScan::begin(transactions);
@@ -83,7 +84,7 @@ fn is_same(alloc: Global, log: &Log, pieces: &[Vec<u8>], master: u64) -> bool {
     }
 }
 
-/// Whether it does so where the log is cut behind this LSN.
+/// Whether it does so if the log is cut after this LSN.
 fn is_same_cut(alloc: Global, log: &Log, cut: u64, master: u64) -> Result<bool, Fault> {
     let mut pieces = Vec::new(alloc);
     pieces.push(piece_of(alloc, log, log.base(), cut)?)?;
@@ -91,7 +92,7 @@ fn is_same_cut(alloc: Global, log: &Log, cut: u64, master: u64) -> Result<bool, 
     Ok(is_same(alloc, log, &pieces, master))
 }
 
-/// Whether it does so where each record is a piece by itself, and pieces without one stand between.
+/// Whether it does so if each record is a piece by itself, and pieces without one come between.
 fn is_same_by_record(alloc: Global, log: &Log, master: u64) -> Result<bool, Fault> {
     let mut pieces = Vec::new(alloc);
     for before in log.base()..log.last() {
@@ -131,7 +132,7 @@ fn update(tx: u32, prev: u64, page: u32) -> Record {
     }
 }
 
-/// The end of the checkpoint at `begin` that lists this transaction behind its record at `last`, and
+/// The end of the checkpoint at `begin` that lists this transaction with its record at `last`, and
 /// this page from there on.
 fn checkpoint_end(
     alloc: Global,
@@ -156,9 +157,9 @@ fn checkpoint_end(
     })
 }
 
-/// The text of a log of 14 records. Transactions 1, 257 and 513 are kept at one place; page 5000 is
-/// past all pages; two ends name the checkpoint at 4, with different tables, and one the begin at 10,
-/// which stands behind it.
+/// The bytes of a log of 14 records. Transactions 1, 257 and 513 are kept at one place; page 5000
+/// is past all pages. Two ends name the checkpoint at 4, with different tables, and one names the
+/// begin record at 10, which follows it.
 fn long_row(alloc: Global) -> Result<Vec<u8>, Fault> {
     let first = checkpoint_end(alloc, 4, 1, 7, 1)?;
     let second = checkpoint_end(alloc, 4, 257, 8, 2)?;
@@ -203,7 +204,7 @@ fn finds_the_tables_of_a_long_row_in_pieces(rt: HostRuntime) -> Result<(), Fail>
     Ok(())
 }
 
-/// Whether the base of the log that goes by in these texts, at master 4, is that of the first end.
+/// Whether the base of the log that is read in these pieces, at master 4, is that of the first end.
 fn is_first_end(alloc: Global, pieces: &[Vec<u8>]) -> Result<bool, Fault> {
     let (transactions, dirty) = checkpoint_by(alloc, pieces, 4)?;
     let entry = Entry {

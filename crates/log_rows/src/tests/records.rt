@@ -20,7 +20,7 @@ pub fn end(prev: u64) -> Record {
     Record::End { tx: 1, prev }
 }
 
-/// Appends the frame of a record that has a spelling.
+/// Appends the frame of a record that has an encoding.
 pub fn put(out: &mut Vec<u8>, lsn: u64, record: &Record) -> Result<(), Fault> {
     if lsn > 0 && record.is_writable() {
         write_frame(record, lsn, out)?;
@@ -28,7 +28,7 @@ pub fn put(out: &mut Vec<u8>, lsn: u64, record: &Record) -> Result<(), Fault> {
     Ok(())
 }
 
-/// The text of the log of these records.
+/// The bytes of the log of these records.
 pub fn log_of(alloc: Global, records: &[&Record]) -> Result<Vec<u8>, Fault> {
     let mut bytes = Vec::from_slice(alloc, b"ARIESLG1")?;
     for (place, record) in records.iter().enumerate() {

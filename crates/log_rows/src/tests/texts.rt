@@ -9,7 +9,7 @@ use page::Fault;
 use std::alloc::Global;
 use wal::read_log;
 
-// Whether each record of a log, written anew, makes the log again.
+// Whether writing each record of a log again makes the same log.
 fn is_rewritten(alloc: Global, bytes: &[u8]) -> Result<bool, Fault> {
     let (log, torn) = read_log(alloc, bytes)?;
     let mut out = Vec::from_slice(alloc, b"ARIESLG1")?;
@@ -39,7 +39,7 @@ fn push_pages(text: &mut Vec<u8>, count: u32) -> Result<(), Fault> {
     Ok(())
 }
 
-// The text of a checkpoint begin and of its end with 1,024 transactions and 4,096 pages.
+// The bytes of a checkpoint begin and of its end with 1,024 transactions and 4,096 pages.
 fn largest_checkpoint(alloc: Global) -> Result<Vec<u8>, Fault> {
     let mut text = Vec::from_slice(alloc, b"ARIESLG1\0\0\0\x09\x06\0\0\0\0\0\0\0\x01")?;
     let length: u32 = 25 + 21 * 1024 + 12 * 4096;

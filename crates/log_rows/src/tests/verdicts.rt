@@ -8,8 +8,7 @@ use std::alloc::Global;
 use std::test::Fail;
 use wal::{Entry, Record, State, read_log};
 
-/// The audit of a log's bytes and of a store of one page, in whose text only these bytes are not
-/// zero.
+/// The audit of a log's bytes and of a store of one page, in whose bytes only these are not zero.
 fn judge(alloc: Global, log: &[u8], bytes: &[(usize, u8)]) -> Result<(), Fault> {
     let mut store = Vec::from_slice(alloc, b"ARIESPG1\0\0\0\x01")?;
     store.resize(1048, 0)?;
@@ -57,7 +56,7 @@ fn judge_records(alloc: Global, records: &[&Record], master: u8) -> Result<(), F
     judge(alloc, &log, &[(23, master)])
 }
 
-/// Whether an audit of an update, a prepare of its transaction and this record says this.
+/// Whether an audit of an update, a prepare of its transaction and this record has this result.
 fn is_judged(alloc: Global, last: Record, expected: Result<(), Fault>) -> bool {
     let first = update(1, 0, b"", b"a");
     judge_records(alloc, &[&first, &prepare(1), &last], 0) == expected
@@ -110,12 +109,13 @@ fn laws_of_what_follows_a_prepare(rt: HostRuntime) -> Result<(), Fail> {
     ])
 }
 
-/// Whether an audit of these two records and a prepare says that it comes after the finish.
+/// Whether an audit of these two records and a prepare reports that the prepare comes after the
+/// finish.
 fn is_after_finish(alloc: Global, first: Record, second: Record) -> bool {
     judge_records(alloc, &[&first, &second, &prepare(2)], 0) == Err(Fault::AfterFinish(3))
 }
 
-/// Whether an audit finds a prepare alone lawful.
+/// Whether an audit finds a single prepare lawful.
 fn is_alone_lawful(alloc: Global) -> bool {
     judge_records(alloc, &[&prepare(0)], 0).is_ok()
 }
@@ -168,8 +168,8 @@ fn checkpoint_end(alloc: Global, begin: u64, state: State, last: u64) -> Result<
     })
 }
 
-/// What an audit of these records, and of a store with this master, is to say of a checkpoint that
-/// lists T1 in the right state, or in another one.
+/// Whether an audit of these records, and of a store with this master, accepts a checkpoint that
+/// lists T1 in the right state, and rejects one with another state.
 fn is_right(alloc: Global, records: &[&Record], master: u8, is_state: bool) -> bool {
     let expected = if is_state {
         Ok(())
@@ -179,7 +179,7 @@ fn is_right(alloc: Global, records: &[&Record], master: u8, is_state: bool) -> b
     judge_records(alloc, records, master) == expected
 }
 
-/// Whether a checkpoint that lists T1 in this state is right behind the prepare alone where it is
+/// Whether a checkpoint after only the prepare is right if it lists T1 in this state, and T1 is
 /// prepared.
 fn is_listed_prepared(alloc: Global, state: State) -> Result<bool, Fault> {
     let first = update(1, 0, b"", b"a");
@@ -188,7 +188,7 @@ fn is_listed_prepared(alloc: Global, state: State) -> Result<bool, Fault> {
     Ok(is_right(alloc, records, 3, state == State::Prepared))
 }
 
-/// The same behind an abort behind the prepare, where it is aborting.
+/// The same after a prepare and an abort, where T1 is aborting.
 fn is_listed_aborting(alloc: Global, state: State) -> Result<bool, Fault> {
     let first = update(1, 0, b"", b"a");
     let last = checkpoint_end(alloc, 4, state, 3)?;
@@ -197,7 +197,7 @@ fn is_listed_aborting(alloc: Global, state: State) -> Result<bool, Fault> {
     Ok(is_right(alloc, records, 4, state == State::Aborting))
 }
 
-/// The same where the prepare stands behind the begin, and it is active.
+/// The same if the prepare comes after the begin record, and T1 is active.
 fn is_listed_active(alloc: Global, state: State) -> Result<bool, Fault> {
     let first = update(1, 0, b"", b"a");
     let last = checkpoint_end(alloc, 2, state, 1)?;

@@ -1,4 +1,4 @@
-//! Logs that are read, and what is no log.
+//! Bytes that are read as logs, and bytes that are not a log.
 
 use super::super::{check, check_all};
 use super::vectors::{
@@ -40,7 +40,7 @@ fn lacks(log: &Log, lsn: u64) -> bool {
     log.get(lsn).is_none()
 }
 
-/// Whether a log's record 3 is the compensation of record 2, to "a".
+/// Whether record 3 of a log is the compensation of record 2, to "a".
 fn shows_compensation(log: &Log) -> bool {
     match log.get(3) {
         Some(
@@ -75,7 +75,7 @@ fn views_show_compensations(rt: HostRuntime) -> Result<(), Fail> {
     ])
 }
 
-/// Whether a log's record 2 is the prepare of transaction 1.
+/// Whether record 2 of a log is the prepare of transaction 1.
 fn shows_prepare(log: &Log) -> bool {
     match log.get(2) {
         Some(RecordView::Prepare { tx, prev }) => tx == 1 && prev == 1,
@@ -83,7 +83,7 @@ fn shows_prepare(log: &Log) -> bool {
     }
 }
 
-/// Whether it is one at a glance.
+/// Whether it is a prepare at a glance.
 fn glances_at_prepare(log: &Log) -> bool {
     if log.base() != 0 || log.last() <= 1 {
         return false;
@@ -105,7 +105,7 @@ fn views_show_prepares(rt: HostRuntime) -> Result<(), Fail> {
     ])
 }
 
-/// Whether a log's record 6 is the first update of transaction 1.
+/// Whether record 6 of a log is the first update of transaction 1.
 fn shows_update(log: &Log) -> bool {
     match log.get(6) {
         Some(RecordView::Update { tx, prev, .. }) => tx == 1 && prev == 0,
@@ -137,7 +137,7 @@ fn is_header(alloc: Global, bytes: &[u8], base: u64) -> Result<bool, Fault> {
     Ok(torn == 0 && has_lsns(&log, base, 0, base))
 }
 
-/// Whether these bytes are refused for their header.
+/// Whether these bytes have the error of a bad header.
 fn is_bad_header(alloc: Global, bytes: &[u8]) -> bool {
     match read_log(alloc, bytes) {
         Ok(_) => false,
@@ -173,7 +173,7 @@ fn tables_show_prepared_transactions(rt: HostRuntime) -> Result<(), Fail> {
     check_all(&[(is_whole, "141 bytes"), (is_shown, "a checkpoint end")])
 }
 
-/// Whether the record of a log at this LSN is an update of an empty cell that lends this value.
+/// Whether the record of a log at this LSN is an update of an empty cell that holds this value.
 fn lends(alloc: Global, lsn: u64, value: &[u8]) -> Result<bool, Fault> {
     let (log, _) = read_log(alloc, EMPTY_AND_FULL_VALUES)?;
     Ok(match log.get(lsn) {
@@ -197,7 +197,7 @@ fn values_are_slices_of_the_log(rt: HostRuntime) -> Result<(), Fail> {
     ])
 }
 
-/// Whether these bytes are a log of this many records and of this many bytes of a torn tail.
+/// Whether these bytes are a log of this many records, with this many bytes of a torn tail.
 fn is_torn(alloc: Global, bytes: &[u8], records: u64, torn_bytes: usize) -> Result<bool, Fault> {
     let (log, torn) = read_log(alloc, bytes)?;
     Ok(log.len() == records && torn == torn_bytes)

@@ -28,7 +28,7 @@ fn append(out: &mut Vec<u8>, lsn: u64, record: Record) -> Result<(), Fault> {
     put(out, lsn, &record)
 }
 
-/// The text of a log whose first record puts this value into slot 0.
+/// The bytes of a log whose first record puts this value into slot 0.
 fn first_update(alloc: Global, after: &[u8]) -> Result<Vec<u8>, Fault> {
     let mut out = Vec::from_slice(alloc, b"ARIESLG1")?;
     append(&mut out, 1, update(1, 0, 0, None, Value::new(after)))?;
@@ -108,7 +108,7 @@ fn writes_compensations_aborts_and_ends(rt: HostRuntime) -> Result<(), Fail> {
     ])
 }
 
-/// Appends a checkpoint that lists T1 by this entry, and page 0.
+/// Appends a checkpoint that lists T1 with this entry, and page 0.
 fn append_checkpoint(
     alloc: Global,
     out: &mut Vec<u8>,
@@ -202,14 +202,14 @@ fn refused_growth_leaves_the_vector(rt: HostRuntime) -> Result<(), Fail> {
     ])
 }
 
-/// The frame of a record under the largest LSN.
+/// The frame of a record at the largest LSN.
 fn frame_of(alloc: Global, record: Record) -> Result<Vec<u8>, Fault> {
     let mut out = Vec::new(alloc);
     append(&mut out, u64::MAX, record)?;
     Ok(out)
 }
 
-/// Whether the frame of a record under the largest LSN is these parts, one behind the other.
+/// Whether the frame of a record at the largest LSN is these parts, one after the other.
 fn is_frame(alloc: Global, record: Record, front: &[u8], numbers: &[u8], behind: &[u8]) -> bool {
     match frame_of(alloc, record) {
         Ok(frame) => are_parts(&frame, front, numbers, behind),
@@ -217,7 +217,7 @@ fn is_frame(alloc: Global, record: Record, front: &[u8], numbers: &[u8], behind:
     }
 }
 
-/// Whether bytes are these parts, one behind the other.
+/// Whether bytes are these parts, one after the other.
 fn are_parts(bytes: &[u8], front: &[u8], numbers: &[u8], behind: &[u8]) -> bool {
     match bytes.strip_prefix(front) {
         Some(rest) => rest.strip_prefix(numbers) == Some(behind),
