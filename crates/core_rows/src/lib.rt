@@ -1,4 +1,5 @@
-//! Worked rows for tests: logs written record by record, and ten pages whose workers a gate holds.
+//! Worked rows for tests: logs written record by record, and ten pages with a gate that holds the
+//! workers.
 #![tactic(auto)]
 
 pub mod ten_pages;

@@ -1,5 +1,5 @@
-//! Ten pages, each changed once, and a gate that holds those who redo them, so that who draws which
-//! part is known.
+//! Ten pages, each changed once, and a gate that holds the workers that redo them. So it is known
+//! which worker draws which part.
 
 use page::{Fault, Page, Value, encode_page};
 use redo::Gate;
@@ -53,13 +53,13 @@ pub fn are_all_changed(pages: &[Page]) -> bool {
 }
 
 /// Holds workers at ten parts: each at its first part until all have come, and then all but worker
-/// 1, so that worker 1 draws the others. Who is held too long is late.
+/// 1, so that worker 1 draws the others. A worker that is held too long is late.
 #[derive(Drop)]
 pub struct HeldGate {
     workers: u64,
     entered: AtomicU64,
     late: AtomicU64,
-    /// Of each entry, in the order in which they came, 100 times the worker, and the part.
+    /// For each entry, in the order in which they came: 100 times the worker, plus the part.
     told: Vec<AtomicU64>,
 }
 
@@ -83,12 +83,12 @@ impl HeldGate {
         self.entered.load(Ordering::SeqCst)
     }
 
-    /// 1 where somebody was held too long, else 0.
+    /// 1 if a worker was held too long, otherwise 0.
     pub fn late(&self) -> u64 {
         self.late.load(Ordering::SeqCst)
     }
 
-    /// The first ten entries, each as 100 times the worker, and the part.
+    /// The first ten entries, each as 100 times the worker, plus the part.
     pub fn all_told(&self) -> [u64; 10] {
         let mut all = [0; 10];
         for (turn, told) in self.told.iter().enumerate() {

@@ -15,7 +15,7 @@ pub fn value(letter: Letter) -> Option<Value> {
     }
 }
 
-/// The text of a log, written record by record.
+/// The bytes of a log, written record by record.
 #[derive(Drop)]
 pub struct Text {
     pub bytes: Vec<u8>,
@@ -36,7 +36,7 @@ impl Text {
         })
     }
 
-    /// Appends a record that has a spelling.
+    /// Appends a record that has an encoding.
     pub fn put(&mut self, logged: &Record) -> Result<(), Fault> {
         if self.lsn < u64::MAX && logged.is_writable() {
             self.lsn += 1;
@@ -123,7 +123,7 @@ impl Text {
         self.checkpoint_end(alloc, self.lsn, entry, dirty)
     }
 
-    /// Appends the end of such a checkpoint that began at an LSN.
+    /// Appends the end of such a checkpoint, which began at this LSN.
     pub fn checkpoint_end(
         &mut self,
         alloc: Global,
@@ -252,8 +252,8 @@ pub fn prepared_beside_loser(alloc: Global) -> Result<Row, Fault> {
     Ok(Row { given, made })
 }
 
-/// Its master is 2: active in the table of the checkpoint, and prepared between its begin and its
-/// end.
+/// The master is 2. The transaction is active in the table of the checkpoint, and prepared between
+/// its begin and its end.
 pub fn prepared_in_checkpoint(alloc: Global) -> Result<Text, Fault> {
     let mut text = Text::new(alloc)?;
     text.first_update(0)?;
@@ -263,7 +263,7 @@ pub fn prepared_in_checkpoint(alloc: Global) -> Result<Text, Fault> {
     Ok(text)
 }
 
-/// Transactions that prepared without updates; one of them turned back.
+/// Transactions that prepared without updates; one of them was aborted.
 pub fn prepared_idle(alloc: Global) -> Result<Row, Fault> {
     let mut given = Text::new(alloc)?;
     given.prepare(7, 0)?;
@@ -275,7 +275,7 @@ pub fn prepared_idle(alloc: Global) -> Result<Row, Fault> {
     Ok(Row { given, made })
 }
 
-/// Its master is 2.
+/// The master is 2.
 pub fn checkpoint_loser(alloc: Global) -> Result<Row, Fault> {
     let mut given = Text::new(alloc)?;
     given.first_update(0)?;
@@ -294,7 +294,7 @@ pub fn one_commit(alloc: Global, page: u32) -> Result<Text, Fault> {
     Ok(text)
 }
 
-/// Transaction 1 puts "a" and "b" into slot 0 of page 0 in turn, in so many updates, and commits.
+/// Transaction 1 puts "a" and "b" into slot 0 of page 0 in turn, in this many updates, and commits.
 pub fn long_commit(alloc: Global, updates: u64) -> Result<Text, Fault> {
     let mut text = Text::new(alloc)?;
     let mut before = None;
@@ -328,7 +328,7 @@ pub fn clr_points_past_zero(alloc: Global) -> Result<Text, Fault> {
     Ok(text)
 }
 
-/// Its master is 2.
+/// The master is 2.
 pub fn undo_of_missing_page(alloc: Global) -> Result<Text, Fault> {
     let mut text = Text::new(alloc)?;
     text.first_update(7)?;
