@@ -1,4 +1,4 @@
-//! Logs that lie in two parts: what they are is what they are in one.
+//! Logs in two parts: reading them has the same result as in one part.
 
 ghost use Rattle.std.specs.Prelude.{◌≤◌};
 
@@ -19,8 +19,8 @@ const fn offset_of(lsn: u64) -> usize
     8 + FRAME_BYTES * (lsn as usize - 1)
 }
 
-/// How many records the log has that comes in these two parts, and how many bytes its torn tail has,
-/// read by three threads: what the front ends with goes in front of the back.
+/// How many records the log in these two parts has, and how many bytes its torn tail has, read by
+/// three threads. The end of the front that is not a whole frame goes before the back.
 fn read_in_parts<R: Threads + Sync>(
     rt: &R,
     alloc: Global,
@@ -84,7 +84,8 @@ fn torn_tail_behind_two_parts(rt: HostRuntime) -> Result<(), Fail> {
     Ok(())
 }
 
-/// The fault of a log that comes in these two parts, if it is the same as that of both in one.
+/// The fault of a log that comes in these two parts, if it is the same as that of the log in one
+/// part.
 fn fault_of_parts<R: Threads + Sync>(
     rt: &R,
     alloc: Global,

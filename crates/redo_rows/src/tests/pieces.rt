@@ -1,4 +1,4 @@
-//! Redo of logs that go by in pieces: the rows of redo, cut behind each few records.
+//! Redo of logs that are read in pieces: the rows of redo, cut after each few records.
 
 use super::check;
 use analysis::analyse;
@@ -21,7 +21,7 @@ fn split_frame(frames: &[u8]) -> Option<(&[u8], &[u8])> {
     Some(frames.split_at(bytes))
 }
 
-/// The pieces of a log of version 1, each of so many records, which are behind a header of their own.
+/// The pieces of a log of version 1, each of this many records after a header of its own.
 fn cut(alloc: Global, log: &[u8], records: u64) -> Result<Vec<Vec<u8>>, Fault> {
     let mut pieces = Vec::new(alloc);
     let mut piece = Vec::from_slice(alloc, &based_header(0))?;
@@ -41,7 +41,7 @@ fn cut(alloc: Global, log: &[u8], records: u64) -> Result<Vec<Vec<u8>>, Fault> {
     Ok(pieces)
 }
 
-/// Passes the next piece. A piece that is not behind the others is a bad one.
+/// Passes the next piece. A piece that does not follow the others is a bad one.
 fn pass(scan: &mut TallyScan, piece: &Log) -> Result<(), Fault> {
     if scan.upto() != piece.base() {
         return Err(Fault::BadLogHeader);
@@ -49,7 +49,8 @@ fn pass(scan: &mut TallyScan, piece: &Log) -> Result<(), Fault> {
     scan.pass(piece)
 }
 
-/// Fetches from a piece what is wanted behind the first `taken` images; how many these are then.
+/// Fetches from a piece the images that are wanted after the first `taken`. Returns how many there
+/// are then.
 fn fetch(
     alloc: Global,
     scan: &TallyScan,
@@ -73,8 +74,8 @@ fn finished(scan: TallyScan, mut pages: Vec<Page>) -> Result<Vec<Page>, Fault> {
     Ok(pages)
 }
 
-/// Redo of a log that goes by twice in pieces of so many records: once for the tallies, and once for
-/// the images.
+/// Redo of a log that is read twice in pieces of this many records: once for the tallies, and once
+/// for the images.
 fn redone(alloc: Global, log: &[u8], store: Store, records: u64) -> Result<Redone, Fault> {
     let (whole, _) = read_log(alloc, log)?;
     let tables = analyse(alloc, &whole, store.master)?;
@@ -95,7 +96,7 @@ fn redone(alloc: Global, log: &[u8], store: Store, records: u64) -> Result<Redon
     Ok(Redone { pages, applied })
 }
 
-/// What is told of a page: how many records were applied, its PageLSN, the letter in slot 0.
+/// What is reported of a page: how many records were applied, its PageLSN, the letter in slot 0.
 fn told(alloc: Global, log: &[u8], page: Page, records: u64) -> Result<(u64, u64, u8), Fault> {
     let mut pages = Vec::new(alloc);
     pages.push(Page { number: 0, ..page })?;
@@ -110,12 +111,12 @@ fn told(alloc: Global, log: &[u8], page: Page, records: u64) -> Result<(u64, u64
     Ok((answer.applied, page.lsn, letter))
 }
 
-/// What redo in pieces of so many records makes of a page that has the first record.
+/// What redo in pieces of this many records makes of a page that has the first record.
 fn told_flushed(alloc: Global, log: &[u8], records: u64) -> Result<(u64, u64, u8), Fault> {
     told(alloc, log, page_with(1, Some(b'a'), None), records)
 }
 
-/// Whether redo in pieces of so many records makes of a page what it is to be.
+/// Whether redo in pieces of this many records makes of a page what it should.
 fn is_page_redone(alloc: Global, records: u64) -> Result<bool, Fault> {
     let rolled_back = partial_rollback_commit(alloc)?;
     let long = long_commit(alloc, 5)?;
@@ -135,7 +136,7 @@ fn a_page_is_redone_in_pieces(rt: HostRuntime) -> Result<(), Fail> {
     Ok(())
 }
 
-/// Whether redo in pieces of so many records changes all of the ten pages.
+/// Whether redo in pieces of this many records changes all of the ten pages.
 fn are_ten_redone(alloc: Global, records: u64) -> Result<bool, Fault> {
     let store = decode_store(alloc, &ten_pages(alloc)?)?;
     let answer = redone(alloc, &ten_updates(alloc)?, store, records)?;

@@ -38,7 +38,7 @@ struct Image {
     page: Page,
 }
 
-/// Redo of a store of this page alone.
+/// Redo of a store of only this page.
 fn image_of<R: Threads + Sync>(
     rt: &R,
     alloc: Global,
@@ -74,23 +74,23 @@ fn holds(page: &Page, slot: usize, letter: Letter) -> bool {
     }
 }
 
-/// Whether a parting by these entries is refused.
+/// Whether a partition by these entries is rejected.
 fn is_bad(alloc: Global, pages: u32, parts: u32, entries: &[u32]) -> bool {
     Parting::new(alloc, pages, parts, entries).err() == Some(Fault::BadParting)
 }
 
-/// Whether a parting by number is refused.
+/// Whether a partition by number is rejected.
 fn is_bad_by_number(alloc: Global, pages: u32, parts: u32) -> bool {
     Parting::by_number(alloc, pages, parts).err() == Some(Fault::BadParting)
 }
 
-/// Whether a parting of 4,097 pages is refused.
+/// Whether a partition of 4,097 pages is rejected.
 fn are_too_many_pages(alloc: Global) -> Result<bool, Fault> {
     let entries = vec![in alloc; 0u32; 4097]?;
     Ok(is_bad(alloc, 4097, 1, &entries))
 }
 
-/// Whether a parting tells of how many pages and parts it is.
+/// Whether a partition returns its numbers of pages and parts.
 fn is_told(alloc: Global) -> Result<bool, Fault> {
     let parting = Parting::new(alloc, 2, 2, &[1, 0])?;
     Ok(parting.pages() == 2 && parting.parts() == 2)
@@ -199,7 +199,7 @@ fn what_an_image_lacks_is_applied(rt: HostRuntime) -> Result<(), Fail> {
     check(holds(&image.page, 5, None), "slot 5 after 3 records")
 }
 
-/// Whether redo in so many parts changes all of the ten pages.
+/// Whether redo in this many parts changes all of the ten pages.
 fn are_ten_redone<R: Threads + Sync, G: Gate>(
     rt: &R,
     alloc: Global,

@@ -7,8 +7,8 @@ use std::test::Fail;
 use std::thread::Threads;
 use wal::{Log, Record, read_log_by, write_frame};
 
-/// How many records the log has, and how many bytes each takes: four threads read it, and where they
-/// begin to is in the middle of a frame.
+/// How many records the log has, and how many bytes each takes. Four threads read it, and all
+/// shares but the first begin in the middle of a frame.
 pub const RECORDS: u64 = 5_201;
 
 pub const FRAME_BYTES: usize = 53;
