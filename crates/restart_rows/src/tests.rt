@@ -12,12 +12,12 @@ use page::Fault;
 use std::test::Fail;
 use wal::Record;
 
-/// Fails a test where this is not so.
+/// Fails a test if this is not so.
 fn check(is_so: bool, what: &str) -> Result<(), Fail> {
     if is_so { Ok(()) } else { Err(Fail::new(what)) }
 }
 
-/// A log and these records behind it.
+/// A log followed by these records.
 fn with_appended(text: &Text, appended: &[Record]) -> Result<Vec<u8>, Fault> {
     let mut whole = text.copied()?;
     for entry in appended {

@@ -1,4 +1,4 @@
-//! Restarts of a row on values, with the log in memory and in pieces: both make the same of it.
+//! Restarts of a row on values, with the log in memory and in pieces: both have the same result.
 
 use super::with_appended;
 use core_rows::written::{Row, Text, page_with, store_of};
@@ -12,7 +12,7 @@ use std::thread::Threads;
 use undo::{Looked, Place, records_of};
 use wal::{BASED_HEADER_BYTES, LONGEST_FRAME, read_log};
 
-/// What a restart tells in numbers.
+/// The numbers that a restart reports.
 #[derive(Clone, Copy, PartialEq, Eq)]
 pub struct Numbers {
     pub redo_from: u64,
@@ -32,7 +32,7 @@ struct Answer {
     in_doubt: Vec<u32>,
 }
 
-/// What a restart is to make of a row and an empty page.
+/// What a restart must make of a row and an empty page.
 #[derive(Clone, Copy)]
 pub struct Expected<'a> {
     /// The page, under the same master.
@@ -48,7 +48,7 @@ pub struct Manner {
     pub workers: u32,
 }
 
-/// How a restart is run that is answered.
+/// How a restart is run that succeeds.
 pub const GOOD: Manner = Manner {
     pages: 1,
     workers: 2,
@@ -80,7 +80,7 @@ fn restarted<R: Threads + Sync>(
     answer_of(alloc, text, outcome)
 }
 
-/// What an outcome makes of a log and its store.
+/// The result of an outcome, with the log and the store that it makes.
 fn answer_of(alloc: Global, text: &Text, outcome: Outcome) -> Result<Answer, Fault> {
     Ok(Answer {
         log: with_appended(text, &outcome.appended)?,
@@ -133,7 +133,7 @@ fn restarted_by_pieces(alloc: Global, text: &Text, store: &[u8]) -> Result<Answe
     answer_of(alloc, text, outcome)
 }
 
-/// Whether an answer is the row's new log, and what is expected.
+/// Whether a result is the row's new log, and what is expected.
 fn is_expected(answer: &Answer, row: &Row, after: &[u8], expected: &Expected) -> bool {
     answer.log.as_slice() == row.made.bytes.as_slice()
         && answer.store.as_slice() == after
@@ -141,8 +141,8 @@ fn is_expected(answer: &Answer, row: &Row, after: &[u8], expected: &Expected) ->
         && answer.in_doubt.as_slice() == expected.in_doubt
 }
 
-/// Whether a restart of a row on this page makes the row's new log, and what is expected, with the log in
-/// memory and in pieces.
+/// Whether a restart of a row on this page makes the row's new log, and what is expected, with the
+/// log in memory and in pieces.
 pub fn is_restarted_on<R: Threads + Sync>(
     rt: &R,
     alloc: Global,
@@ -172,8 +172,8 @@ pub fn is_restarted<R: Threads + Sync>(
     is_restarted_on(rt, alloc, row, master, &Page::empty(0), expected)
 }
 
-/// What a restart is to make of a row whose transactions are all losers: the page with this PageLSN and
-/// nothing in slots 0 and 1.
+/// What a restart must make of a row whose transactions are all losers: the page with this PageLSN
+/// and nothing in slots 0 and 1.
 pub fn rolled_back(lsn: u64, [redone, losers, compensated, ended]: [u64; 4]) -> Expected<'static> {
     Expected {
         page: page_with(lsn, None, None),
@@ -188,8 +188,8 @@ pub fn rolled_back(lsn: u64, [redone, losers, compensated, ended]: [u64; 4]) -> 
     }
 }
 
-/// The fault of a restart on an empty page with this PageLSN. None if a log that is read in pieces has
-/// another; that way knows of no settings.
+/// The fault of a restart on an empty page with this PageLSN. `None` if a log that is read in
+/// pieces has another; that way has no settings.
 pub fn refused<R: Threads + Sync>(
     rt: &R,
     alloc: Global,

@@ -1,5 +1,5 @@
-//! Rows worked by hand: what undo appends if the records that it looks at were gathered from pieces of
-//! the log.
+//! Rows worked by hand: what undo appends if the records that it looks at were gathered from pieces
+//! of the log.
 
 use super::in_pieces::gathered_of;
 use super::rollbacks::alone;
@@ -45,8 +45,8 @@ fn rolled_back(alloc: Global, bytes: &[u8], master: u64, page: Page) -> Result<R
     undone(alloc, &gathered, &tables, page)
 }
 
-/// Whether undo makes the row's new log of what was gathered, and of the page an empty one with this
-/// PageLSN.
+/// Whether undo makes the row's new log of what was gathered, and makes the page an empty one with
+/// this PageLSN.
 fn is_undone(alloc: Global, row: &Row, master: u64, before: Page, lsn: u64) -> Result<bool, Fault> {
     let rollback = rolled_back(alloc, &row.given.bytes, master, before)?;
     let log = with_appended(&row.given, &rollback.appended)?;
@@ -91,7 +91,7 @@ fn undoes_a_gathered_rollback(rt: HostRuntime) -> Result<(), Fail> {
     )
 }
 
-/// The fault of what was gathered of a log on a page; none where it is undone.
+/// The fault of what was gathered of a log on a page; `None` if it is undone.
 fn refused(alloc: Global, bytes: &[u8]) -> Option<Fault> {
     match rolled_back(alloc, bytes, 0, page_with(1, Some(b'a'), None)) {
         Ok(_) => None,

@@ -1,4 +1,5 @@
-//! Rows worked by hand: logs that are read in pieces, from the beginning, and once more from the end.
+//! Rows worked by hand: logs that are read in pieces, from the beginning, and once more from the
+//! end.
 
 use super::gathered::undone;
 use super::{check, with_appended};
@@ -14,19 +15,19 @@ use tables::Tables;
 use undo::{Gathered, Gathering};
 use wal::{LARGEST_BASE, Log, based_header, read_log};
 
-/// How many bytes a piece takes at most, with its header: one of the frames of these logs, of which the
-/// longest has 62 bytes and two have more than 64.
+/// How many bytes a piece takes at most, with its header. It has room for each frame of these logs,
+/// of which the longest has 62 bytes.
 const ROOM: usize = 16 + 64;
 
-/// Reads the piece after a mark into the room, and returns it as a log, and how many bytes its frames
-/// have. None if the log ends there.
+/// Reads the piece after a mark into the room, and returns it as a log, and how many bytes its
+/// frames have. `None` if the log ends there.
 fn piece_after<'a>(
     alloc: Global,
     bytes: &[u8],
     mark: Mark,
     room: &'a mut [u8; ROOM],
 ) -> Result<Option<(Log<'a>, u64)>, Fault> {
-    // No log of these rows comes near these.
+    // No log of these rows comes near these limits.
     if mark.lsn > LARGEST_BASE || mark.offset > 1_000_000 {
         return Ok(None);
     }
@@ -38,7 +39,7 @@ fn piece_after<'a>(
     Ok((log.len() > 0).then_some((log, whole)))
 }
 
-/// The mark after the piece that follows this one; None if no record does.
+/// The mark after the piece that follows this one; `None` if no record does.
 fn next_mark(alloc: Global, bytes: &[u8], mark: Mark) -> Result<Option<Mark>, Fault> {
     let mut room = [0; ROOM];
     let Some((log, whole)) = piece_after(alloc, bytes, mark, &mut room)? else {
@@ -78,7 +79,7 @@ fn take_piece(
     }
 }
 
-/// What undo looks at of a log that is read in pieces, the last one first.
+/// What undo looks at in a log that is read in pieces, the last one first.
 pub fn gathered_of(
     alloc: Global,
     bytes: &[u8],
@@ -117,7 +118,7 @@ fn begins_behind_a_header(rt: HostRuntime) -> Result<(), Fail> {
     check(fault == Some(Fault::BadLogHeader), "base-bad-header-15")
 }
 
-/// The fault of the log of `two-losers` that has another byte here, read in pieces.
+/// The fault of the log of `two-losers` with another byte at this place, read in pieces.
 fn fault_with(alloc: Global, place: usize, byte: u8) -> Result<Option<Fault>, Fault> {
     let mut bytes = two_losers(alloc)?.given.bytes;
     if let Some(changed) = bytes.get_mut(place) {
@@ -137,7 +138,7 @@ fn tells_faults_by_their_places_in_the_log(rt: HostRuntime) -> Result<(), Fail> 
     check(kind_11 == Some(Fault::BadRecord(74)), "a kind that is none")
 }
 
-/// What undo looks at of a source that holds these bytes, read between the marks of a whole log.
+/// What undo looks at in a source that holds these bytes, read between the marks of a whole log.
 fn gathered_by_marks(
     alloc: Global,
     whole: &[u8],

@@ -61,7 +61,8 @@ fn rolls_back_losers(rt: HostRuntime) -> Result<(), Fail> {
     Ok(())
 }
 
-/// What losers did is undone beside those in doubt, which are listed in rising number.
+/// What losers did is undone in the same log as transactions in doubt, which are listed in
+/// ascending order of number.
 #[test]
 fn rolls_back_losers_beside_those_in_doubt(rt: HostRuntime) -> Result<(), Fail> {
     let alloc = rt.alloc();
@@ -118,29 +119,30 @@ fn broken_in_doubt(alloc: Global) -> Result<Text, Fault> {
     Ok(text)
 }
 
-/// One update on a page that there is not, and a prepare. Its master is 2.
+/// One update on a page that does not exist, and a prepare. The master is 2.
 fn missing_in_doubt(alloc: Global) -> Result<Text, Fault> {
     let mut text = undo_of_missing_page(alloc)?;
     text.prepare(1, 1)?;
     Ok(text)
 }
 
-/// A commit, and a prepare behind it.
+/// A commit, followed by a prepare.
 fn prepared_after_commit(alloc: Global) -> Result<Text, Fault> {
     let mut text = one_commit(alloc, 0)?;
     text.prepare(1, 2)?;
     Ok(text)
 }
 
-/// A prepare, and an end behind it.
+/// A prepare, followed by an end.
 fn ended_in_doubt(alloc: Global) -> Result<Text, Fault> {
     let mut text = prepared(alloc)?;
     text.end(1, 2)?;
     Ok(text)
 }
 
-/// Whether a restart appends nothing to a log, tells of this many records redone, the first of them
-/// at LSN 1, of no loser and of these in doubt, and makes a page that has "a" where one was redone.
+/// Whether a restart appends nothing to a log, reports this many records redone, the first of them
+/// at LSN 1, no loser and these transactions in doubt, and makes a page that has "a" if one was
+/// redone.
 fn leaves<R: Threads + Sync>(
     rt: &R,
     alloc: Global,
@@ -168,7 +170,7 @@ fn leaves<R: Threads + Sync>(
     is_restarted(rt, alloc, &row, master, &expected)
 }
 
-/// Of those in doubt nothing is undone or looked at for it.
+/// For transactions in doubt nothing is undone, and nothing is looked at.
 #[test]
 fn leaves_those_in_doubt(rt: HostRuntime) -> Result<(), Fail> {
     let alloc = rt.alloc();
@@ -184,7 +186,7 @@ fn leaves_those_in_doubt(rt: HostRuntime) -> Result<(), Fail> {
     check(leaves(&rt, alloc, &text, 2, 0, &[1])?, "no such page")
 }
 
-/// On logs that no law allows the tables say who is in doubt.
+/// On logs that no law allows, the tables determine which transactions are in doubt.
 #[test]
 fn leaves_those_that_the_tables_have_in_doubt(rt: HostRuntime) -> Result<(), Fail> {
     let alloc = rt.alloc();
@@ -194,7 +196,7 @@ fn leaves_those_that_the_tables_have_in_doubt(rt: HostRuntime) -> Result<(), Fai
     check(leaves(&rt, alloc, &text, 0, 1, &[])?, "behind an end")
 }
 
-/// An abort behind a prepare makes its transaction a loser.
+/// An abort after a prepare makes its transaction a loser.
 #[test]
 fn rolls_back_what_turned_back(rt: HostRuntime) -> Result<(), Fail> {
     let alloc = rt.alloc();
@@ -208,7 +210,7 @@ fn rolls_back_what_turned_back(rt: HostRuntime) -> Result<(), Fail> {
     check(refusal == Some(Fault::NoSuchPage(1)), "no such page")
 }
 
-/// Each fault stands before the next ones: what causes these is there too.
+/// Each fault comes before the next ones, whose causes are there too.
 #[test]
 fn refuses_in_order(rt: HostRuntime) -> Result<(), Fail> {
     let alloc = rt.alloc();
@@ -230,7 +232,7 @@ fn refuses_in_order(rt: HostRuntime) -> Result<(), Fail> {
     Ok(())
 }
 
-/// Page 0 changed, and behind it a page that a store of one page lacks.
+/// An update of page 0, followed by one of a page that a store of one page lacks.
 fn missing_behind(alloc: Global) -> Result<Text, Fault> {
     let mut text = Text::new(alloc)?;
     text.update(1, 0, 0, None, Some(b'a'))?;
@@ -238,7 +240,7 @@ fn missing_behind(alloc: Global) -> Result<Text, Fault> {
     Ok(text)
 }
 
-/// The same behind a checkpoint that lists page 0 as dirty from past the log's end on. Its master is
+/// The same after a checkpoint that lists page 0 as dirty from past the log's end on. The master is
 /// 1.
 fn missing_behind_checkpoint(alloc: Global) -> Result<Text, Fault> {
     let mut text = Text::new(alloc)?;
@@ -248,8 +250,8 @@ fn missing_behind_checkpoint(alloc: Global) -> Result<Text, Fault> {
     Ok(text)
 }
 
-/// A page that the store lacks is met where each page that it has is listed before it, by any number
-/// of workers.
+/// A page that the store lacks is found even if each page of the store is listed before it, with
+/// any number of workers.
 #[test]
 fn refuses_a_page_behind_all(rt: HostRuntime) -> Result<(), Fail> {
     let alloc = rt.alloc();

@@ -37,7 +37,7 @@ fn rolled_back(alloc: Global, log: &[u8], master: u64, page: Page) -> Result<Rol
     Ok(Rollback { pages, appended })
 }
 
-/// Whether there is one page, and it is empty but for this PageLSN.
+/// Whether there is one page, and it is empty except for this PageLSN.
 fn is_emptied(pages: &[Page], lsn: u64) -> bool {
     match pages {
         [page] => encode_page(page) == encode_page(&page_with(lsn, None, None)),
@@ -45,7 +45,7 @@ fn is_emptied(pages: &[Page], lsn: u64) -> bool {
     }
 }
 
-/// Whether undo makes of the row's log, with this master and page, the row's new log, and of the
+/// Whether undo of the row's log, with this master and page, makes the row's new log, and makes the
 /// page an empty one with this PageLSN.
 fn is_undone(alloc: Global, row: &Row, master: u64, before: Page, lsn: u64) -> Result<bool, Fault> {
     let rollback = rolled_back(alloc, &row.given.bytes, master, before)?;
@@ -107,14 +107,14 @@ fn missing(text: &mut Text, tx: u32, prev: u64) -> Result<(), Fault> {
     })
 }
 
-/// An update's page comes before the walk goes on from it.
+/// An update's page comes before the walk from that update.
 fn page_before_hop(alloc: Global) -> Result<Text, Fault> {
     let mut text = Text::new(alloc)?;
     missing(&mut text, 1, 9)?;
     Ok(text)
 }
 
-/// The walk goes on from the newest update before the older one is looked at.
+/// The walk continues from the newest update before the older one is looked at.
 fn hop_before_older_page(alloc: Global) -> Result<Text, Fault> {
     let mut text = Text::new(alloc)?;
     missing(&mut text, 1, 0)?;
@@ -130,8 +130,8 @@ fn newest_page_first(alloc: Global) -> Result<Text, Fault> {
     Ok(text)
 }
 
-/// All losers are sent on their way before an update is looked at: a CLR sends transaction 3 to
-/// nowhere.
+/// All losers begin their walks before an update is looked at: a CLR sends transaction 3 to an LSN
+/// with no record.
 fn sent_before_page(alloc: Global) -> Result<Text, Fault> {
     let mut text = Text::new(alloc)?;
     text.clr(3, 0, 9, 0, None)?;
@@ -139,7 +139,8 @@ fn sent_before_page(alloc: Global) -> Result<Text, Fault> {
     Ok(text)
 }
 
-/// Of those that are sent to nowhere the smallest number comes first, wherever its records stand.
+/// If several losers are sent to an LSN with no record, the one with the smallest number comes
+/// first, wherever its records are.
 fn smallest_number_first(alloc: Global) -> Result<Text, Fault> {
     let mut text = Text::new(alloc)?;
     text.clr(3, 0, 9, 0, None)?;
@@ -148,7 +149,7 @@ fn smallest_number_first(alloc: Global) -> Result<Text, Fault> {
     Ok(text)
 }
 
-/// Bad hops and missing pages in one log: the first that is met is told.
+/// Bad hops and missing pages in one log: the first that is met is returned.
 #[test]
 fn first_fault_met(rt: HostRuntime) -> Result<(), Fail> {
     let alloc = rt.alloc();
@@ -170,7 +171,7 @@ fn first_fault_met(rt: HostRuntime) -> Result<(), Fail> {
     )
 }
 
-/// An update each by 10,000 transactions, in turn.
+/// One update by each of 10,000 transactions, in turn.
 fn update_in_turn(text: &mut Text) -> Result<(), Fault> {
     for tx in 1..10_001u32 {
         let prev = text.lsn.saturating_sub(9_999);
@@ -179,7 +180,7 @@ fn update_in_turn(text: &mut Text) -> Result<(), Fault> {
     Ok(())
 }
 
-/// The begins of 900,000 checkpoints.
+/// The begin records of 900,000 checkpoints.
 fn begin_checkpoints(text: &mut Text) -> Result<(), Fault> {
     for _ in 0..900_000 {
         text.put(&Record::CheckpointBegin)?;

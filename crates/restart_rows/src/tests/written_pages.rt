@@ -1,5 +1,5 @@
-//! Rows worked by hand: restarts that append nothing, restarts on pages that were written before the
-//! crash, and restarts that are cut short and begun again.
+//! Rows worked by hand: restarts that append nothing, restarts on pages that were written before
+//! the crash, and restarts that are interrupted and begun again.
 
 use super::both_ways::{
     Expected, GOOD, Manner, Numbers, is_restarted, is_restarted_on, outcome_by_pieces, outcome_of,
@@ -23,7 +23,8 @@ fn unchanged(given: Text) -> Result<Row, Fault> {
     Ok(Row { given, made })
 }
 
-/// What a restart is to make of a row without losers: the page with this PageLSN, and this in slot 0.
+/// What a restart must make of a row without losers: the page with this PageLSN, and this in slot
+/// 0.
 fn finished(lsn: u64, letter: Letter, redone: u64) -> Expected<'static> {
     Expected {
         page: page_with(lsn, letter, None),
@@ -67,7 +68,7 @@ fn redoes_nothing_on_a_page_that_was_written(rt: HostRuntime) -> Result<(), Fail
     check(is_right, "checkpoint-loser-flushed")
 }
 
-/// What a restart was to make when it was cut short: the new log, and the page at each PageLSN that it can
+/// What an interrupted restart was to make: the new log, and the page at each PageLSN that it can
 /// have, the last one at the end.
 #[derive(Clone, Copy)]
 struct Crash<'a> {
@@ -76,15 +77,15 @@ struct Crash<'a> {
     images: &'a [Page],
 }
 
-/// A beginning of a new log: how many records it has, its bytes, and the losers, CLRs and ends of the
-/// restart that goes on with it.
+/// A prefix of a new log: how many records it has, its bytes, and the losers, CLRs and ends of the
+/// restart that continues from it.
 struct Cut {
     records: u64,
     bytes: usize,
     numbers: [u64; 3],
 }
 
-/// The beginnings of the new log of `two-losers`.
+/// The prefixes of the new log of `two-losers`.
 const OF_TWO_LOSERS: [Cut; 6] = [
     Cut {
         records: 3,
@@ -118,7 +119,7 @@ const OF_TWO_LOSERS: [Cut; 6] = [
     },
 ];
 
-/// The beginnings of the new log of `checkpoint-loser`.
+/// The prefixes of the new log of `checkpoint-loser`.
 const OF_CHECKPOINT_LOSER: [Cut; 3] = [
     Cut {
         records: 3,
@@ -137,7 +138,7 @@ const OF_CHECKPOINT_LOSER: [Cut; 3] = [
     },
 ];
 
-/// How many records change the page between this PageLSN and the end of a log of so many records.
+/// How many records change the page between this PageLSN and the end of a log of this many records.
 fn redone_of(images: &[Page], records: u64, lsn: u64) -> u64 {
     let mut count = 0_u64;
     for image in images {
@@ -148,7 +149,7 @@ fn redone_of(images: &[Page], records: u64, lsn: u64) -> u64 {
     count
 }
 
-/// The new log, cut, and what a restart is to make of it again.
+/// The new log, cut, and what a restart must make of it again.
 fn cut_row(alloc: Global, made: &Text, cut: &Cut) -> Result<Row, Fault> {
     let end = cut.bytes.min(made.bytes.len());
     let given = Text {
@@ -161,7 +162,8 @@ fn cut_row(alloc: Global, made: &Text, cut: &Cut) -> Result<Row, Fault> {
     })
 }
 
-/// Whether a restart on a cut log makes the whole one of it, over each image that the page can have.
+/// Whether a restart on a cut log makes the whole one of it, over each image that the page can
+/// have.
 fn is_completed<R: Threads + Sync>(
     rt: &R,
     alloc: Global,
@@ -182,7 +184,7 @@ fn is_completed<R: Threads + Sync>(
     Ok(true)
 }
 
-/// Whether that is so of each of these beginnings.
+/// Whether that is so for each of these prefixes.
 fn are_completed<R: Threads + Sync>(
     rt: &R,
     alloc: Global,
