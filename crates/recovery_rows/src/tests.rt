@@ -7,12 +7,12 @@ mod recoveries;
 
 use std::test::Fail;
 
-/// Fails a test where this is not so.
+/// Fails a test if this is not so.
 fn check(is_so: bool, what: &str) -> Result<(), Fail> {
     if is_so { Ok(()) } else { Err(Fail::new(what)) }
 }
 
-/// Fails a test where one of these is not so.
+/// Fails a test if one of these is not so.
 fn check_all(rows: &[(bool, &str)]) -> Result<(), Fail> {
     for (is_so, what) in rows {
         check(*is_so, what)?;
@@ -20,7 +20,7 @@ fn check_all(rows: &[(bool, &str)]) -> Result<(), Fail> {
     Ok(())
 }
 
-/// Fails a test where this is not so at this call.
+/// Fails a test if this is not so at this call.
 fn check_at(call: u32, is_so: bool, what: &str) -> Result<(), Fail> {
     if is_so {
         Ok(())

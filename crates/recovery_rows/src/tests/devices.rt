@@ -21,7 +21,7 @@ const OPTIONS: Options = Options {
     parts: 3,
 };
 
-/// How the four devices of a recovery go.
+/// The paces of the four devices of a recovery.
 #[derive(Clone, Copy, Debug)]
 struct Paces {
     log_source: Pace,
@@ -41,7 +41,7 @@ impl Paces {
         }
     }
 
-    /// These devices, one of which goes at this pace.
+    /// These devices, one of which has this pace.
     fn with(self, device: Device, pace: Pace) -> Paces {
         match device {
             Device::LogSource => Paces {
@@ -99,7 +99,7 @@ struct Worked {
     after: Vec<u8>,
 }
 
-/// A row on an empty page, of which this page is to come.
+/// A row on an empty page, which must become this page.
 fn on_empty_page(alloc: Global, row: Row, after: &Page) -> Result<Worked, Fault> {
     let after = store_of(alloc, 0, after)?;
     let before = store_of(alloc, 0, &Page::empty(0))?;
@@ -122,10 +122,10 @@ fn worked_one_commit(alloc: Global) -> Result<Worked, Fault> {
     on_empty_page(alloc, row, &page_with(1, Some(b'a'), None))
 }
 
-/// What a recovery answers, and how many bytes its sinks have taken.
+/// The result of a recovery, and how many bytes its sinks have taken.
 type Seen = (Result<(), Fault>, usize, usize);
 
-/// What a recovery over devices of these paces answers.
+/// The result of a recovery over devices of these paces.
 fn recovered<R: Threads + Sync>(
     rt: &R,
     alloc: Global,
@@ -147,8 +147,8 @@ fn recovered<R: Threads + Sync>(
     Ok(())
 }
 
-/// The sinks must have taken beginnings of the row's new log and store; the log must be flushed
-/// before any of the store is taken, and both where the recovery answers.
+/// The sinks must have taken prefixes of the row's new log and store. The log must be flushed
+/// before any of the store is taken, and both must be flushed if the recovery succeeds.
 fn check_order(
     worked: &Worked,
     is_answered: bool,

@@ -44,10 +44,10 @@ fn is_first(told: &[u64; 10], entry: u64) -> bool {
     told[0] == entry || told[1] == entry
 }
 
-/// The parts that worker 1 draws behind its first one.
+/// The parts that worker 1 draws after its first one.
 const OTHERS: [u64; 8] = [106, 107, 108, 109, 101, 102, 103, 104];
 
-/// Whether the others are told behind the first two entries, in their order.
+/// Whether the others follow the first two entries, in their order.
 fn are_others_behind(told: &[u64; 10]) -> bool {
     told[2..] == OTHERS[..]
 }
@@ -68,7 +68,7 @@ fn the_gate_hears_who_draws_what(rt: HostRuntime) -> Result<(), Fail> {
     ])
 }
 
-/// Counts who enters.
+/// Counts the workers that enter.
 #[derive(Drop)]
 struct CountingGate {
     entered: AtomicU64,
@@ -115,7 +115,8 @@ impl NotingGate {
         }
     }
 
-    /// Whether worker 0 entered these parts, a bit each, and each once, and nobody entered another.
+    /// Whether worker 0 entered these parts, a bit each, and each once, and no other part was
+    /// entered.
     fn has_noted(&self, parts: u64) -> bool {
         self.parts.load(Ordering::SeqCst) == parts
             && self.entered.load(Ordering::SeqCst) == parts.count_ones() as u64
@@ -158,7 +159,7 @@ fn nine_pages(alloc: Global) -> Result<Vec<u8>, Fault> {
     Ok(store)
 }
 
-/// The fault of a recovery of ten updates beside nine pages.
+/// The fault of a recovery of ten updates with nine pages.
 fn fault_of_nine<G: Gate, R: Threads + Sync>(
     rt: &R,
     alloc: Global,

@@ -12,11 +12,11 @@ use std::alloc::Global;
 use std::test::Fail;
 use std::thread::Threads;
 
-/// How many updates the log has. The first takes 33 bytes, each other one 34, and the commit 25: more
-/// than 32 MiB in all.
+/// How many updates the log has. The first takes 33 bytes, each other one 34, and the commit 25:
+/// more than 32 MiB in all.
 const UPDATES: u64 = 990_000;
 
-/// Where the frame of an update begins which is not the first.
+/// Where the frame of an update begins that is not the first.
 const fn offset_of(lsn: u64) -> usize
     requires second { 2 ≤ lsn }
     requires last { lsn ≤ 990000 }
@@ -25,7 +25,7 @@ const fn offset_of(lsn: u64) -> usize
     8 + 33 + 34 * (lsn as usize - 2)
 }
 
-/// Recovers a store of one empty page by a log, with so many workers.
+/// Recovers a store of one empty page from a log, with this many workers.
 fn recovered<R: Threads + Sync>(
     rt: &R,
     alloc: Global,
@@ -37,7 +37,7 @@ fn recovered<R: Threads + Sync>(
     recover_in_memory(rt, alloc, log, &store, &options, &OpenGate)
 }
 
-/// Fails a test where so many workers do not keep all of the log but as many torn bytes.
+/// Fails a test if this many workers do not keep all of the log except this many torn bytes.
 fn check_recovered<R: Threads + Sync>(
     rt: &R,
     alloc: Global,
@@ -78,7 +78,7 @@ fn torn_tails_of_long_logs_are_not(rt: HostRuntime) -> Result<(), Fail> {
     Ok(())
 }
 
-/// Why so many workers refuse a log, if they do.
+/// The error of a log with this many workers, if it has one.
 fn refusal<R: Threads + Sync>(rt: &R, alloc: Global, log: &[u8], workers: u32) -> Option<Fault> {
     recovered(rt, alloc, log, workers).err()
 }

@@ -54,7 +54,7 @@ const TWO: Options = Options {
     parts: 2,
 };
 
-/// What a recovery gives, beside the log and the store that are expected of it.
+/// The result of a recovery, besides the log and the store that are expected of it.
 #[derive(Clone, Copy)]
 struct Given {
     is_log: bool,
@@ -64,7 +64,7 @@ struct Given {
     in_doubt: Option<u32>,
 }
 
-/// Recovers a log and a store, of which these are to come.
+/// Recovers a log and a store, which must become these.
 fn recovered<R: Threads + Sync>(
     rt: &R,
     alloc: Global,
@@ -84,7 +84,7 @@ fn recovered<R: Threads + Sync>(
     })
 }
 
-/// Restarts a row on an empty page, of which a page with this letter by this record is to come, and
+/// Restarts a row on an empty page, which must become a page with this letter by this record, and
 /// once more on what was made.
 fn restart_twice<R: Threads + Sync>(
     rt: &R,
@@ -102,8 +102,8 @@ fn restart_twice<R: Threads + Sync>(
     Ok((first, second))
 }
 
-/// Fails a test where a restart did not make what it is to, or one on that does not find this many
-/// records, this one in doubt, and nothing to do.
+/// Fails a test if a restart did not make what it should, or if one on that does not find this many
+/// records, this transaction in doubt, and nothing to do.
 fn check_restarts(given: (Given, Given), records: u64, in_doubt: Option<u32>) -> Result<(), Fail> {
     let (first, second) = given;
     check_all(&[
@@ -129,7 +129,7 @@ fn restarts_what_a_restart_wrote(rt: HostRuntime) -> Result<(), Fail> {
     check_restarts(given, 5, Some(1))
 }
 
-/// Why a recovery refuses these options, if it does.
+/// The error of a recovery with these options, if it has one.
 fn refusal<R: Threads + Sync>(
     rt: &R,
     alloc: Global,

@@ -27,8 +27,8 @@ impl Device {
     }
 }
 
-/// How many calls of this device, of seven bytes each, fail before one comes at which the recovery
-/// goes through. Each of them must be blamed on it.
+/// How many calls of this device, of seven bytes each, fail before one at which the recovery
+/// succeeds. The fault of each of them must name the device.
 fn failing_calls<R: Threads + Sync>(
     rt: &R,
     alloc: Global,
@@ -78,8 +78,8 @@ fn check_calls<R: Threads + Sync>(
     Ok(())
 }
 
-/// A source is called once more at its end; a sink to be flushed, and the log's is handed its new
-/// records apart. The header of a store goes by itself, in both.
+/// A source is called once more at its end. A sink is called once more to be flushed; the log's
+/// gets its new records in a separate call. The header of a store is read and written by itself.
 #[test]
 fn each_device_fails_at_each_call(rt: HostRuntime) -> Result<(), Fail> {
     let alloc = rt.alloc();
@@ -87,7 +87,7 @@ fn each_device_fails_at_each_call(rt: HostRuntime) -> Result<(), Fail> {
     check_calls(&rt, alloc, &worked_two_losers(alloc)?, &TWO_LOSERS_CALLS)
 }
 
-/// What a recovery leaves of the new log where its sink fails at this call, of seven bytes each.
+/// What a recovery leaves of the new log if its sink fails at this call, of seven bytes each.
 fn log_left_at<R: Threads + Sync>(
     rt: &R,
     alloc: Global,
@@ -120,8 +120,7 @@ fn is_gone_on_from<R: Threads + Sync>(
     Ok(new_log == worked.row.made.bytes && new_store == worked.after)
 }
 
-/// The log of two losers is taken by 16 calls; the records appended by 24, and then comes the
-/// flush.
+/// The log of two losers takes 16 calls, the records appended take 24, and then comes the flush.
 #[test]
 fn a_failed_recovery_is_gone_on_from(rt: HostRuntime) -> Result<(), Fail> {
     let alloc = rt.alloc();
@@ -136,8 +135,9 @@ fn a_failed_recovery_is_gone_on_from(rt: HostRuntime) -> Result<(), Fail> {
     Ok(())
 }
 
-/// The header of a store is read by one call, then 64 KiB by each, and the end is met by one more. A
-/// store that is refused for its bytes is read to its end too: a failure of each of these calls is told.
+/// The header of a store is read by one call, then 64 KiB by each, and one more finds the end. A
+/// store whose bytes have an error is read to its end too: a failure of each of these calls is
+/// reported.
 #[test]
 fn a_refused_store_is_read_to_its_end(rt: HostRuntime) -> Result<(), Fail> {
     let alloc = rt.alloc();

@@ -16,7 +16,7 @@ const ROOM: usize = 4096;
 /// The beginning of a frame, which a crash left.
 const TORN: [u8; 5] = [0, 0, 0, 40, 1];
 
-/// How the three sinks of a recovery in place go.
+/// The paces of the three sinks of a recovery in place.
 #[derive(Clone, Copy)]
 struct Sinks {
     tail: Pace,
@@ -45,7 +45,8 @@ enum Sink {
 }
 
 impl Sink {
-    /// This sink fails at a call, each of which passes seven bytes; the others take all they are given.
+    /// This sink fails at a call, each of which passes seven bytes; the others take all they are
+    /// given.
     fn fails_at(self, call: u32) -> Sinks {
         let fast = Sinks::fast();
         let pace = Pace::failing(7, call);
@@ -69,7 +70,7 @@ struct Left {
     store: SlowSink,
 }
 
-/// Recovers a row's store in place, by a log of these bytes.
+/// Recovers a row's store in place, from a log of these bytes.
 fn left_of<R: Threads + Sync>(
     rt: &R,
     alloc: Global,
@@ -152,7 +153,7 @@ fn rows_in_place(rt: HostRuntime) -> Result<(), Fail> {
     check_row(&rt, alloc, &worked_two_losers(alloc)?)
 }
 
-/// A file of a tail that was not written to its end is none.
+/// The file of a tail that was not written to its end is not accepted.
 #[test]
 fn a_torn_tail_file_is_none(rt: HostRuntime) -> Result<(), Fail> {
     let alloc = rt.alloc();
@@ -166,8 +167,8 @@ fn a_torn_tail_file_is_none(rt: HostRuntime) -> Result<(), Fail> {
     Ok(())
 }
 
-/// After a fault of a sink the log is as it was, or continued by a beginning of its tail, and a recovery
-/// in place of that ends as the first would have.
+/// After a fault of a sink the log is as it was, or continued by a prefix of its tail, and a
+/// recovery in place of that ends as the first would have.
 fn check_left<R: Threads + Sync>(
     rt: &R,
     alloc: Global,
@@ -189,7 +190,7 @@ fn check_left<R: Threads + Sync>(
     check_at(call, is_whole(worked, &again), "gone on from call")
 }
 
-/// How many calls fail, each by this fault, before one comes at which the recovery goes through.
+/// How many calls fail, each with this fault, before one at which the recovery succeeds.
 fn failing_calls<R: Threads + Sync>(
     rt: &R,
     alloc: Global,
@@ -210,8 +211,8 @@ fn failing_calls<R: Threads + Sync>(
     Err(Fail::new("no end"))
 }
 
-/// The head of the tail's file takes 6 calls, its 164 bytes of frames 24, its sum 2. The log is cut and
-/// flushed before the same frames. Each sink is flushed at last.
+/// The head of the tail's file takes 6 calls, its 164 bytes of frames take 24, its sum 2. The log
+/// is cut and flushed before it takes the same frames. Each sink is flushed at the end.
 #[test]
 fn each_sink_in_place_fails_at_each_call(rt: HostRuntime) -> Result<(), Fail> {
     let alloc = rt.alloc();
