@@ -1,5 +1,5 @@
-//! Restarts that were interrupted: the log that a restart makes, cut short at each byte, and a page
-//! that was written out on the way.
+//! Restarts that were interrupted: the log that a restart makes, cut at each byte, and a page that
+//! was written out on the way.
 
 use crate::program::{Printed, audit, audit_over, recover, remove_new_files};
 use crate::verdict::{Verdict, of_new_files};
@@ -8,7 +8,7 @@ use std::fs;
 use std::rt::{Clock, Files};
 use std::thread::Threads;
 
-/// Where a log that was cut short lies.
+/// The file of a log that was cut.
 const CUT_LOG: &str = "cut-log";
 
 /// The cuts of a row.
@@ -16,13 +16,13 @@ const CUT_LOG: &str = "cut-log";
 pub struct Cuts<'a> {
     /// The folder of the row.
     pub row: &'a str,
-    /// The PageLSN of the page in the store: the store lies in `store-` and this number.
+    /// The PageLSN of the page in the store: the store is in `store-` and this number.
     pub page: &'a str,
     /// The size of the shortest log.
     pub first: usize,
     /// The size of the longest log.
     pub last: usize,
-    /// Whether the row began over a base store, which lies in `base`.
+    /// Whether the row began over a base store, which is in `base`.
     pub over_base: bool,
 }
 
@@ -31,7 +31,7 @@ pub struct Cuts<'a> {
 struct Whole {
     /// The row's new log.
     log: Vec<u8>,
-    /// The lines that each report ends with: the pages, and what is in doubt.
+    /// The lines with which each report ends: the pages, and what is in doubt.
     last_lines: Vec<u8>,
     /// The file of the base store, if the row began over one.
     base: Option<String>,
@@ -71,8 +71,8 @@ fn of_cut<R: Files + Clock + AllocGlobal + Threads + Sync>(
     Ok(verdict)
 }
 
-/// Whether the log, cut to each of the sizes, leads with this store to the row's files; else the
-/// verdict on the shortest cut that does not.
+/// Whether the log, cut to each of the sizes, leads with this store to the row's files; otherwise
+/// the verdict on the shortest cut that does not.
 fn of_sizes<R: Files + Clock + AllocGlobal + Threads + Sync>(
     rt: &R,
     cuts: &Cuts,

@@ -7,8 +7,8 @@ use aries::Fault;
 use std::rt::Files;
 use wal::{Log, read_log};
 
-/// How many bytes the frames of a log's records take, each record looked up by its LSN; `None` if there is
-/// no record at one of these LSNs.
+/// How many bytes the frames of a log's records take, each record looked up by its LSN; `None` if
+/// one of these LSNs has no record.
 fn frames_of(log: &Log) -> Option<u64> {
     let mut bytes = 0_u64;
     for lsn in log.base()..log.last() {

@@ -1,5 +1,5 @@
 //! The worked rows as files: runs `aries` on each row that `data/index` names, and compares what it
-//! prints and the files it makes with those of the row; restarts are run over devices in memory,
+//! prints and the files it makes with those of the row. Restarts are run over devices in memory,
 //! too.
 #![tactic(auto)]
 
@@ -81,7 +81,7 @@ fn run_each<R: Files + Print + AllocGlobal>(rt: &R, row: &str) -> Result<()> {
     Ok(())
 }
 
-/// Prints whether the restarts of a row whose log was cut short are as the row says.
+/// Prints whether the restarts of a row whose log was cut are as the row says.
 fn run_cuts<R: Files + Clock + Print + AllocGlobal + Threads + Sync>(
     rt: &R,
     row: &str,
@@ -104,8 +104,9 @@ fn run_cuts<R: Files + Clock + Print + AllocGlobal + Threads + Sync>(
 }
 
 /// Runs what a line says of a row: the folder, and then `audit`; or `audit-over`; or `slow`; or
-/// `each`, its records by their LSNs; or `cuts`, the PageLSN of the page and the sizes of the shortest and the longest log; or `cuts-over`
-/// and the same; or the workers and the parts of a restart.
+/// `each`, its records by their LSNs; or `cuts`, the PageLSN of the page and the sizes of the
+/// shortest and the longest log; or `cuts-over` and the same; or the workers and the parts of a
+/// restart.
 fn run_line<R: Files + Clock + Print + AllocGlobal + Threads + Sync>(
     rt: &R,
     line: &str,

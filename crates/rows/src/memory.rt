@@ -12,7 +12,7 @@ use std::io::Write;
 use std::rt::Files;
 use std::thread::Threads;
 
-/// A row: what is read, and what comes of it.
+/// A row: what is read, and what is made of it.
 #[derive(Drop)]
 struct Row {
     log: Vec<u8>,
@@ -49,7 +49,7 @@ impl Row {
         })
     }
 
-    /// Whether an answer, and what the sinks took, are the row's.
+    /// Whether a result, and what the sinks took, are the row's.
     fn verdict_on<R: AllocGlobal>(
         &self,
         rt: &R,
@@ -73,7 +73,7 @@ impl Row {
     }
 }
 
-/// What the program prints of an answer.
+/// What the program prints for a result.
 fn printed_of<R: AllocGlobal>(rt: &R, answer: Result<Report, Fault>) -> Result<Vec<u8>> {
     match answer {
         Ok(report) => Ok(report_text(rt.alloc(), &report)?),
@@ -98,7 +98,7 @@ fn of_recovery_alone<R: AllocGlobal>(rt: &R, row: &Row) -> Result<Verdict> {
     }
 }
 
-/// What a recovery over devices answers.
+/// The result of a recovery over devices.
 fn recovered<LR: Source, SR: Source, LW: Sink, SW: Sink, R: AllocGlobal + Threads + Sync>(
     rt: &R,
     log: &mut LR,

@@ -11,7 +11,7 @@ pub const NEW_LOG: &str = "new-log";
 /// Where a restart writes the new store.
 pub const NEW_STORE: &str = "new-store";
 
-/// What a run of the program leaves behind, beside files.
+/// What a run of the program leaves behind, besides files.
 #[derive(Drop)]
 pub struct Printed {
     pub status: u8,

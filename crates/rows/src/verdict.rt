@@ -6,18 +6,18 @@ use std::rt::{Clock, Files};
 use std::thread::Threads;
 use std::{fmt, fs};
 
-/// How a run and its row agree.
+/// How far a run and its row agree.
 #[derive(Clone, Copy, Debug, PartialEq, Eq)]
 pub enum Verdict {
     /// The run does what the row says.
     Same,
-    /// What it printed, or its status, is another.
+    /// The output or the status differs from the row.
     AnotherAnswer,
     /// It made another log.
     AnotherLog,
     /// It made another store.
     AnotherStore,
-    /// Memory or a thread was refused, and nothing is out.
+    /// Memory or a thread was refused, and nothing is written.
     NoResource,
 }
 
@@ -40,8 +40,8 @@ fn are_same<R: Files + AllocGlobal>(rt: &R, one: &str, other: &str) -> Result<bo
     Ok(first.as_slice() == second.as_slice())
 }
 
-/// Whether a run printed this and nothing else: to standard output where it answers by status 0, to
-/// standard error where it refuses by status 1.
+/// Whether a run printed this and nothing else: to standard output with status 0 if it succeeds, to
+/// standard error with status 1 if it fails.
 fn has_printed(printed: &Printed, expected: &[u8]) -> bool {
     match printed.status {
         0 => printed.out.as_slice() == expected && printed.err.is_empty(),
@@ -75,8 +75,8 @@ fn of_printed<R: Files + AllocGlobal>(rt: &R, row: &str, printed: &Printed) -> R
     of_new_files(rt, row)
 }
 
-/// Whether a restart on the row's log and store prints what the row says and, where it answers,
-/// makes the row's files. The new files are gone afterwards.
+/// Whether a restart on the row's log and store prints what the row says and, if it succeeds, makes
+/// the row's files. The new files are removed afterwards.
 pub fn of_restart<R: Files + Clock + AllocGlobal + Threads + Sync>(
     rt: &R,
     row: &str,
