@@ -253,7 +253,7 @@ pub fn prepared_beside_loser(alloc: Global) -> Result<Row, Fault> {
 }
 
 /// The master is 2. The transaction is active in the table of the checkpoint, and prepared between
-/// its begin and its end.
+/// the two checkpoint records.
 pub fn prepared_in_checkpoint(alloc: Global) -> Result<Text, Fault> {
     let mut text = Text::new(alloc)?;
     text.first_update(0)?;
