@@ -17,8 +17,8 @@ fn frames_of(log: &Log) -> Option<u64> {
     Some(bytes)
 }
 
-/// Whether the header, the records that are looked up and the torn tail are the whole log, and no record is
-/// found before the first one or after the last.
+/// Whether the header, the records that are looked up and the torn tail are the whole log, and no
+/// record is found before the first one or after the last.
 fn is_whole(log: &Log, torn: usize, bytes: usize) -> bool {
     let Some(frames) = frames_of(log) else {
         return false;
