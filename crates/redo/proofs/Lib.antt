@@ -19,4 +19,5 @@ pub mod OnePass
 pub mod Passing
 pub mod OneMore
 pub mod LastRecords
+pub mod LsnOrder
 pub mod Fetching

@@ -12,6 +12,7 @@ mod laws;
 mod lists;
 mod note;
 mod one_pass;
+mod ordered;
 mod part;
 mod parting;
 mod redone;

@@ -22,6 +22,7 @@ ghost use Rattle.page.specs.declared.page.Page.{Page};
 use crate::fetch::set_page_lsns;
 use crate::input::skipped_below;
 use crate::one_pass::{begin_each, begin_each_listed, count_seen};
+use crate::ordered::by_lsn;
 use crate::tally::Tally;
 use crate::wanted::{Wanted, want_slots};
 use page::{Fault, Page, Store};
@@ -214,8 +215,7 @@ impl TallyScan {
         for tally in &self.tallies {
             want_slots(tally.number, &tally.lasts, &mut wanted)?;
         }
-        wanted.sort_unstable_by_key(|entry| entry.lsn);
-        Ok(wanted)
+        by_lsn(alloc, wanted)
     }
 
     /// Sets the number and the PageLSN of each page, whose slots hold what was fetched.

@@ -1,8 +1,7 @@
-use Rattle.std.proofs.Common.{sym, ap, ◌∙◌, subst, arith, rules}
-use Rattle.std.proofs.lemmas.List.Sorted.{Contains-permutation, IsPermutation-sym, IsNonDecreasingBy-from_sort_by_key}
+use Rattle.std.proofs.Common.{sym, ap, ◌∙◌, subst, arith}
 use Rattle.std.proofs.lemmas.List.Elements.{Contains-get_or}
+use Rattle.std.proofs.lemmas.Result.{IfOk-weaker}
 use Rattle.std.proofs.lemmas.Option.{slice_get-get_or, slice_get_within}
-use Rattle.redo.specs.declared.wanted.Wanted.{Wanted}
 use Rattle.redo.specs.Passing.{TalliesSoFar, StandAtNumbers}
 use Rattle.redo.specs.Wanted.{IsWanted}
 use Rattle.redo.proofs.LastRecords.{page_more, all_pages}
@@ -18,26 +17,23 @@ loop-tally-preserved c =
     (slice_get-get_or tallies k _ (omega (arith, c.loop-tally-test.true, c.loop-tally.auto.tally-index-end))) c.in_ok-want_slots.ensures.each c.loop-tally.invariant
 
 pub returns-clause-each : goal.returns-clause-each
-returns-clause-each c = λ w.
+returns-clause-each c =
     let items = c.loop-tally.wanted.items in
-    let sorted = c.sort_unstable_by_key.new.self.items in
     let tallies = c.deref-tally-items.result.now in
     let same = c.deref-tally-items.ensures.value ∙ ap (λ (s : TalliesSoFar). s.tallies) c.self.view_is in
-    let found = all_pages tallies c.loop-tally.tally-index items (omega (arith, c.loop-tally-test.false, c.loop-tally.auto.tally-index-end)) c.loop-tally.invariant w in (
-      λ has. subst (λ ts. IsWanted ts w) same (found.0 (Contains-permutation sorted items w (IsPermutation-sym items sorted c.sort_unstable_by_key.ensures.permutation) has)),
-      λ one. Contains-permutation items sorted w c.sort_unstable_by_key.ensures.permutation (found.1 (subst (λ ts. IsWanted ts w) (sym same) one)),
-    )
+    let found = all_pages tallies c.loop-tally.tally-index items (omega (arith, c.loop-tally-test.false, c.loop-tally.auto.tally-index-end)) c.loop-tally.invariant in
+    IfOk-weaker c.by_lsn.result _ _ (λ sorted are w. (
+      λ has. subst (λ ts. IsWanted ts w) same ((found w).0 ((are w).0 has)),
+      λ one. (are w).1 ((found w).1 (subst (λ ts. IsWanted ts w) (sym same) one)),
+    )) c.by_lsn.ensures.each
 
 pub returns-clause-pages : goal.returns-clause-pages
-returns-clause-pages c = λ k d lt.
-    let found = (returns-clause-each c _).0 (Contains-get_or c.sort_unstable_by_key.new.self.items k d lt) in
-    slice_get_within c.args.self.now.tallies _ found.tally found.there
+returns-clause-pages c = IfOk-weaker c.by_lsn.result _ _ (λ sorted each k d lt.
+    let found = (each _).0 (Contains-get_or sorted.items k d lt) in
+    slice_get_within c.args.self.now.tallies _ found.tally found.there) (returns-clause-each c)
 
 pub returns-clause-slots : goal.returns-clause-slots
-returns-clause-slots c = λ k d lt. ((returns-clause-each c _).0 (Contains-get_or c.sort_unstable_by_key.new.self.items k d lt)).last.small
+returns-clause-slots c = IfOk-weaker c.by_lsn.result _ _ (λ sorted each k d lt. ((each _).0 (Contains-get_or sorted.items k d lt)).last.small) (returns-clause-each c)
 
 pub returns-clause-begun : goal.returns-clause-begun
-returns-clause-begun c = λ whole images. none_fetched whole c.args.self.now.tallies c.sort_unstable_by_key.new.self.items images (λ w. (returns-clause-each c w).1)
-
-pub returns-clause-rising : goal.returns-clause-rising
-returns-clause-rising c = IsNonDecreasingBy-from_sort_by_key (λ (w : Wanted). w.lsn) _ c.sort_unstable_by_key.ensures.sorted (λ a r q k. search rules)
+returns-clause-begun c = IfOk-weaker c.by_lsn.result _ _ (λ sorted each whole images. none_fetched whole c.args.self.now.tallies sorted.items images (λ w. (each w).1)) (returns-clause-each c)
