@@ -11,7 +11,7 @@ use Rattle.tables.specs.Lawful.{unfinished_entry}
 use Rattle.analysis.proofs.Scanned.{state_by-state}
 use Rattle.wal.specs.Undo.{is_prepared}
 
--- the last of the work, else the base's
+-- the last of the work, otherwise the base's
 abbrev last_in_work : List (ℕ × LogRecord) → Option TableEntry → ℕ
 last_in_work [] None = 0
 last_in_work [] (Some e) = e.last

@@ -100,7 +100,7 @@ fn recovery_in<'a>(alloc: Global, log: &'a [u8], store: &[u8]) -> Result<Recover
 /// doubt, in ascending order. The rest of the buffers is as before.
 ///
 /// 64: a buffer is too short, and `made` has what a recovery makes and its lengths. Any other
-/// number but 0 is that of the fault of the log, of the store or of the restart, with its place.
+/// number except 0 is that of the fault of the log, of the store or of the restart, with its place.
 /// Unless the number is 0 the buffers are as before; unless it is 0 or 64 `made` is as before too.
 #[unsafe(no_mangle)]
 pub extern "C" fn aries_recover(
@@ -136,7 +136,7 @@ pub extern "C" fn aries_recover(
         → result.number ≡ 0 → new_store out_store.new made.new
         ≡ store_text (store_out base bytes.first.decoded.read bytes.first.decoded.before) }
 
-    // An error has its condition, or a buffer is shorter than what a recovery makes.
+    // On an error, its condition holds, or a buffer is shorter than what a recovery makes.
     ensures cause { result.number ≢ 0 → result.number ≢ NO_ROOM
         → Tells (Cause log.now store.now (record { workers = 1; parts = 1 })) result }
     ensures lengths { result.number ≡ NO_ROOM → TellsLengths log.now store.now made.new }

@@ -50,7 +50,7 @@ read_stays images more count pages bad all r =
 pub just_these : (images : List ℕ) (count : ℕ) (pages : List Page) → length images % 1024 ≡ 0 → length pages < count → AreRead images count pages false → length images ≡ 1024 * length pages
 just_these images count pages whole lt r = omega (arith, whole, lt, r.going refl)
 
--- ---- a page more, or a bad one
+-- ---- one more page, or a bad one
 
 -- the images that are left, while pages are read of these
 pub record IsLeft (images : List ℕ) (count : ℕ) (pages : List Page) (rest : List ℕ) : Type 0 where

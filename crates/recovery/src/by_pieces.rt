@@ -213,7 +213,7 @@ pub fn recover_by_pieces<LR: Reread, SR: Source, T: Sink, LW: Continue, SW: Sink
         (LW.taken out_log.new) (SW.taken out_store.old) (SW.taken out_store.new) report) }
     ensures options { (e : Fault) → OptionsFault options.now e → result ≡ Err e }
 
-    // An error has its condition, and this is what is left after it.
+    // On an error, its condition holds, and this is what is left after it.
     ensures cause { IfErr result (λ e. (log_text : List ℕ) → LR.text log.old ≡ Some log_text
         → DeviceCause (Some log_text) (SR.left store.old) options.now e) }
     ensures left { IfErr result (λ e. (log_text : List ℕ) → LR.text log.old ≡ Some log_text

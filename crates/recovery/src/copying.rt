@@ -252,7 +252,7 @@ pub fn recover_copying<LR: Reread, SR: Source, LW: Sink, SW: Sink>(
         (LW.taken out_log.new) (SW.taken out_store.old) (SW.taken out_store.new) report) }
     ensures options { (e : Fault) → OptionsFault options.now e → result ≡ Err e }
 
-    // An error has its condition, and this is what is written after it.
+    // On an error, its condition holds, and this is what is written after it.
     ensures cause { IfErr result (λ e. (log_text : List ℕ) → LR.text log.old ≡ Some log_text
         → DeviceCause (Some log_text) (SR.left store.old) options.now e) }
     ensures out { IfErr result (λ e. (log_text : List ℕ) → LR.text log.old ≡ Some log_text

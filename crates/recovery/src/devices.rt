@@ -163,7 +163,7 @@ pub fn recover<LR: Source, SR: Source, LW: Sink, SW: Sink, G: Gate, R: Threads +
         (SW.taken out_store.new)) }
     ensures options { (e : Fault) → OptionsFault options.now e → result ≡ Err e }
 
-    // An error has its condition, and this is what is written after it.
+    // On an error, its condition holds, and this is what is written after it.
     ensures cause { IfErr result (DeviceCause (LR.left log.old) (SR.left store.old) options.now) }
     ensures out { IfErr result (IsOut (LR.left log.old) (SR.left store.old) (LW.taken out_log.old)
         (LW.taken out_log.new) (SW.taken out_store.old) (SW.taken out_store.new)) }

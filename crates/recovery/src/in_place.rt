@@ -192,7 +192,7 @@ pub fn recover_in_place<
         (SW.taken out_store.new)) }
     ensures options { (e : Fault) → OptionsFault options.now e → result ≡ Err e }
 
-    // An error has its condition, and this is what is left after it.
+    // On an error, its condition holds, and this is what is left after it.
     ensures cause { IfErr result (DeviceCause (LR.left log.old) (SR.left store.old) options.now) }
     ensures left { IfErr result (IsLeftIn (LR.left log.old) (SR.left store.old)
         (LW.taken out_log.old) (LW.taken out_log.new) (LW.flushed out_log.old)

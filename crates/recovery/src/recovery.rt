@@ -167,7 +167,7 @@ pub fn remake<G: Gate, R: Threads + Sync>(
         → Decodes text decoded
         → Recovers log text (log_of log x) (store_text x.store) x.report) }
 
-    // An error has its condition in the input, memory aside.
+    // On an error, its condition holds for the input, memory aside.
     ensures cause { IfErr result (λ e. (log text : List ℕ) → ReadsAs log records.entry
         → Decodes text decoded → Cause log text options.now e) }
 {

@@ -40,7 +40,7 @@ pub fn recovery_alone<'a>(
     ensures short { (base : BasePages) → AreLawful base log.now store.items
         → IfOk result (λ x. length x.frames.items ≤ 2 * length log.now) }
 
-    // An error has its condition in the input, memory aside; valid options cause none.
+    // On an error, its condition holds for the input, memory aside; valid options cause none.
     ensures cause { IfErr result
         (Cause log.now store.items (record { workers = 1; parts = 1 })) }
 {

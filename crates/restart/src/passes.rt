@@ -123,7 +123,7 @@ pub fn roll_back(
     ensures writable { IfOk result (λ x. AreFit log.now x.appended.items) }
     ensures few { IfOk result (λ x. length x.appended.items ≤ 2 * length log.now.records + 2 ^ 32) }
 
-    // An error has its condition in the whole log and the store, memory aside.
+    // On an error, its condition holds for the whole log and the store, memory aside.
     ensures fault { (whole : LogContent) (before : StoreContent)
         → AreGathered (history whole) (history log.now) (losers_in tables.now)
         → IsRedone whole before tables.now redone → IfErr result (InputFault whole before) }
@@ -175,7 +175,7 @@ pub fn restart_in_place<G: Gate, R: Threads + Sync>(
     ensures writable { IfOk result (λ x. AreFit log.now x.appended.items) }
     ensures few { IfOk result (λ x. length x.appended.items ≤ 2 * length log.now.records + 2 ^ 32) }
 
-    // An error has its condition in the settings or the input, memory aside.
+    // On an error, its condition holds for the settings or the input, memory aside.
     ensures fault { IfErr result (RestartFault log.now store parting.now workers) }
 {
     check_settings(&store, parting, workers)?;
@@ -233,7 +233,7 @@ pub fn restart<G: Gate, R: Threads + Sync>(
     ensures writable { IfOk result (λ x. AreWritable x.appended.items) }
     ensures few { IfOk result (λ x. length x.appended.items ≤ 2 * length log.now.records + 2 ^ 32) }
 
-    // An error has its condition in the settings or the input, memory aside.
+    // On an error, its condition holds for the settings or the input, memory aside.
     ensures fault { IfErr result (RestartFault log.now store.now parting.now workers) }
 {
     check_settings(store, parting, workers)?;

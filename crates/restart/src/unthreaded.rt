@@ -37,7 +37,7 @@ pub fn restart_alone(alloc: Global, log: &Log, store: Store) -> Result<BriefOutc
     ensures writable { IfOk result (λ x. AreFit log.now x.appended.items) }
     ensures few { IfOk result (λ x. length x.appended.items ≤ 2 * length log.now.records + 2 ^ 32) }
 
-    // An error has its condition in the input, memory aside.
+    // On an error, its condition holds for the input, memory aside.
     ensures fault { IfErr result (InputFault log.now store) }
 {
     check_lsns(log.last(), &store.pages)?;

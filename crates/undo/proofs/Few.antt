@@ -13,7 +13,7 @@ use Rattle.undo.proofs.Begun.{meets_nothing, end_of}
 use Rattle.undo.proofs.Placed.{height, height_least}
 use Rattle.undo.proofs.Rolling.{update_within}
 
--- a list and one item more
+-- a list and one more item
 pub one_more : {X : Type 0} (old new : List X) (x : X) → new ≡ old ++ x ∷ [] → length new ≡ length old + 1
 one_more old new x e = omega (arith, ap length e, length-append old (x ∷ []))
 

@@ -136,7 +136,8 @@ pub fn undo_in_brief(
         (losers_in tables.now)) }
     ensures numbers { OnOk result (length (losers_in tables.now) ≤ 2 ^ 32) }
 
-    // An error has its condition: a bad hop or a missing page, whichever comes first, memory aside.
+    // On an error, its condition holds: a bad hop or a missing page, whichever comes first, memory
+    // aside.
     ensures fault { IfErr result (UndoFault (history log.now) (losers_in tables.now)
         (length pages.items)) }
 
@@ -170,7 +171,8 @@ fn undo_looked(
         (losers_in tables.now)) }
     ensures numbers { OnOk result (length (losers_in tables.now) ≤ 2 ^ 32) }
 
-    // An error has its condition: a bad hop or a missing page, whichever comes first, memory aside.
+    // On an error, its condition holds: a bad hop or a missing page, whichever comes first, memory
+    // aside.
     ensures fault { IfErr result (UndoFault (history log.now) (losers_in tables.now)
         (length pages.items)) }
 
@@ -223,7 +225,8 @@ pub fn undo(
         (losers_in tables.now)) }
     ensures numbers { OnOk result (length (losers_in tables.now) ≤ 2 ^ 32) }
 
-    // An error has its condition: a bad hop or a missing page, whichever comes first, memory aside.
+    // On an error, its condition holds: a bad hop or a missing page, whichever comes first, memory
+    // aside.
     ensures fault { IfErr result (UndoFault (history log.now) (losers_in tables.now)
         (length pages.items)) }
 

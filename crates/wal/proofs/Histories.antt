@@ -6,7 +6,7 @@ use Rattle.std.proofs.lemmas.List.{length-map, get_or-map}
 use Rattle.std.specs.Prelude.{All}
 use Rattle.wal.specs.Records.{LogRecord, History, start, ◌▸◌, ◌▸▸◌, lsn_before, LogContent, history, ◌⧺◌, up_to, last_lsn, base_lsn, record_at, first}
 
--- ---- one record more
+-- ---- one more record
 
 pub record_last : (log : History) (r : LogRecord) → record_at (log ▸ r) (suc (last_lsn log)) ≡ Some r
 record_last log r = rw (eq-eqb (suc (last_lsn log)) (suc (last_lsn log)) refl)
@@ -64,7 +64,7 @@ pub after-append : (log : History) (xs ys : List LogRecord) → log ▸▸ (xs +
 after-append log [] ys = refl
 after-append log (x ∷ xs) ys = after-append (log ▸ x) xs ys
 
--- a log with one record more
+-- a log with one more record
 pub history_push : (log : LogContent) (r : LogRecord) → history (log ⧺ r ∷ []) ≡ history log ▸ r
 history_push log r = after-append (start (lsn_before log.begins)) log.records (r ∷ [])
 

@@ -23,7 +23,7 @@ use Rattle.wal.proofs.NextFrame.{no_frame_none, no_frame_fault}
 use Rattle.wal.proofs.Whole.{found_frame, frame_next, Begins, lsn_behind, offset_behind}
 use Rattle.wal.proofs.CutBytes.{spellings-append}
 
--- one frame more at the end
+-- one more frame at the end
 pub frames_more : (bytes : List ℕ) (lsn from : ℕ) (offsets : List ℕ) (to : ℕ) (r : LogRecord) (size : ℕ) → AreFrames bytes lsn from offsets to
     → next_at (lsn + length offsets) to (drop to bytes) ≡ Ok (Some (r, size)) → AreFrames bytes lsn from (offsets ++ to ∷ []) (to + size)
 frames_more bytes lsn from [] to r size frames e =

@@ -190,7 +190,7 @@ item_past f a zero i le = refl
 item_past f a (suc n) zero le = absurd (omega arith)
 item_past f a (suc n) (suc i) le = item_past f (a + 1) n i (omega arith)
 
--- one item more
+-- one more item
 pub taken_more : {X : Type 0} (xs : List X) (i : ℕ) (x : X) → i < length xs → get_or xs i x ≡ x → take (i + 1) xs ≡ take i xs ++ x ∷ []
 taken_more xs i x lt is = take_more xs i x lt ∙ ap (λ y. take i xs ++ y ∷ []) is
 

@@ -244,7 +244,7 @@ pub fn read_log<'a>(alloc: Global, bytes: &'a [u8]) -> Result<(Log<'a>, usize), 
     // What the bytes encode is returned, unless memory runs out.
     ensures only { (log : LogContent) (torn : ℕ) → Reads bytes.now log torn
         → Gives (λ x. x) result (Ok (log, torn)) }
-    // An error is in the bytes, a lack of memory aside.
+    // On an error, its condition holds for the bytes, a lack of memory aside.
     ensures fault { IfErr result (Cause bytes.now) }
 {
     let (begins, header, none, behind) = split_header(alloc, bytes)?;

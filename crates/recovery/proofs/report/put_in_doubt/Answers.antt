@@ -5,7 +5,7 @@ use Rattle.std.proofs.lemmas.List.{take_more}
 use Rattle.recovery.specs.Text.{line}
 use Rattle.recovery.proofs.report.put_in_doubt.Goals as goal
 
--- the text for the numbers up to a place, and for one number more
+-- the text for the numbers up to a place, and for one more number
 one_more : (f : ℕ → List ℕ) (old front text new numbers : List ℕ) (i : ℕ) → i < length numbers
     → text ≡ old ++ (front ++ flat_map f (take i numbers)) → new ≡ text ++ f (get_or numbers i 0) → new ≡ old ++ (front ++ flat_map f (take (i + 1) numbers))
 one_more f old front text new numbers i lt before more =
