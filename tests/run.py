@@ -19,6 +19,7 @@ import tempfile
 
 sys.dont_write_bytecode = True  # no folder of it beside the tests
 from borrow import check_borrow
+from contracts import check_contracts
 from dump import check_dump
 from edits import check_edits
 from in_place import check_in_place
@@ -379,6 +380,7 @@ def main():
             sys.exit(f"{program} is missing: `rt ci` builds it")
     tally = Tally()
     check_documents(tally)
+    check_contracts(tally)
     check_pages(tally)
     check_edits(tally)
     ways = run([sys.executable, os.path.join(TOP, "bench/way.py")])
