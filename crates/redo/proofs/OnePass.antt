@@ -98,7 +98,7 @@ module _ (input : InputContent) (numbered : AreNumbered input.images) (lsn : ℕ
       let counted : (get_or tallies k t).applied ≡ applied (rec_lsn_of image.number input.dirty) input.redo_lsn image (first lsn (history input.log)) = ap (λ (p : RedoPage). p.applied) (up.each k t (omega (arith, lt, up.count))) in
       omega (arith, counted, applied_within (rec_lsn_of image.number input.dirty) input.redo_lsn image (first lsn (history input.log)), size_of_first lsn (history input.log) from to)
 
-  -- what one record makes of each page is what the log with it makes
+  -- each page after one record is the page after the log with that record
   pub one_more : (new : List Tally) → base_lsn (history input.log) ≤ lsn → lsn < last_lsn (history input.log) → length new ≡ length tallies
       → ((r : LogRecord) (k : ℕ) (t : Tally) → record_at (history input.log) (lsn + 1) ≡ Some r → k < length tallies
       → resolved input (get_or new k t) ≡ advance input.redo_lsn (lsn + 1) r (resolved input (get_or tallies k t)))
@@ -135,7 +135,7 @@ module _ (input : InputContent) (numbered : AreNumbered input.images) (lsn : ℕ
             redone = up.each number _ lt ∙ ap (λ h. redo_page_in input h image) (first_all lsn (history input.log) whole);
           }
 
--- WHAT IS REFUSED
+-- THE ERRORS
 pub alone_fault : (input : InputContent) (to workers : ℕ) (e : Fault) → AreWorkers workers → RouteFault input (skipped_in input) to e → RedoFault input.log (length input.images) input.redo_lsn workers e
 alone_fault input to workers NoResource fit cause = tt
 alone_fault input to workers (NoSuchPage lsn) fit cause = round_fault input workers (NoSuchPage lsn) fit cause.1
