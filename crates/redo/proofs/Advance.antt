@@ -1,4 +1,4 @@
--- One record more, applied to a page that is being redone.
+-- One more record, applied to a page that is being redone.
 use Rattle.std.proofs.Common.{◌≡◌, ◌≢◌, ℕ, suc, ◌<◌, ◌≤◌, ◌⊎◌, true, false, cond, ◌&&◌, not, eqb, ltb, leb, Option, Some, None, set, refl, sym, ap, ap₂, ◌∙◌, inl, inr, arith, ne_eqb, eq-eqb}
 use Rattle.std.specs.Prelude.{option_map}
 use Rattle.std.specs.List.{range_with_len}

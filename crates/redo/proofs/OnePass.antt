@@ -1,4 +1,4 @@
--- One pass over the records: before the first, one record more, and at the end.
+-- One pass over the records: before the first, with one more record, and at the end.
 use Rattle.std.proofs.Common.{◌≡◌, ℕ, ◌+◌, ◌<◌, ◌≤◌, List, [], ◌∷◌, ◌++◌, All, Some, None, length, get_or, set, sym, ap, subst, ◌∙◌, inl, inr, arith}
 use Rattle.std.proofs.lemmas.Bool.{cases_eq, cases_lt}
 use Rattle.std.proofs.lemmas.List.{get_or_append_left, get_or_default, get_or-set_same, get_or-set_other}
@@ -39,7 +39,7 @@ begun input tallies count each = record {
       ∙ sym (skips_none input (image_at input.images number) (skipped_in input) (omega arith) (skipped_within (base_lsn (history input.log)) input.redo_lsn (last_lsn (history input.log)) (base_within (history input.log))));
 }
 
--- one page more is begun
+-- one more page is begun
 pub begun_more : (images : List Page) (tables : TablesContent) (number : ℕ) (tallies : List Tally) (tally : Tally) → length tallies ≡ number
     → ((k : ℕ) (t : Tally) → k < number → IsBegunIn images tables k (get_or tallies k t)) → IsBegunIn images tables number tally
     → (k : ℕ) (t : Tally) → k < number + 1 → IsBegunIn images tables k (get_or (tallies ++ tally ∷ []) k t)
@@ -52,7 +52,7 @@ begun_more images tables number tallies tally count each one k t lt =
           (subst (IsBegunIn images tables (length tallies)) (sym (get_or-append_seam tallies tally [] t)) (subst (λ i. IsBegunIn images tables i tally) (sym count) one)))
     ]
 
--- A RECORD MORE
+-- ONE MORE RECORD
 -- a record in no cell changes no page
 pub idle : (redo_lsn lsn : ℕ) (r : LogRecord) (p : RedoPage) → None ≡ cell_of r → p ≡ advance redo_lsn lsn r p
 idle redo_lsn lsn r p none = sym (advance_elsewhere redo_lsn lsn r p (λ page named _. unnamed page (sym (no_page r none) ∙ named)))
