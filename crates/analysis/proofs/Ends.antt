@@ -70,7 +70,7 @@ pub record Met (m : ℕ) (log : History) (piece : LogContent) (begins : Bool) : 
 some_master : (m : ℕ) (log : History) → base_of m log ≡ None → m ≡ 0 → ⊥
 some_master m log none z = (let f : ◌≡◌ {A = Option Both} (Some ([], [])) None = sym (ap (λ n. base_of n log) z) ∙ none in cc)
 
--- without a base there is no end in front of what comes, if a begin record is
+-- if a log has no base, and it or the piece after it has the begin record, the log has no end
 no_end : (m : ℕ) (log : History) (piece : History) → last_lsn log ≡ base_lsn piece → base_of m log ≡ None → (is_begin (record_at log m) || is_begin (record_at piece m)) ≡ true → first_end m log ≡ None
 no_end m log piece at none met = by_front (is_begin (record_at log m)) refl
   where

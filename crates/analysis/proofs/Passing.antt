@@ -30,7 +30,7 @@ entries_after t m base other a b (r ∷ records) at same = entries_after t m bas
 pub entries_go_on : EntriesGoOn
 entries_go_on t m base log records = entries_after t m base (analysed_entry t m base log) log (start (last_lsn log)) records refl refl
 
--- so does a piece that continues a log
+-- the same for a piece that continues a log
 pub entry_on : (t m : ℕ) (base old new : Option TableEntry) (log : History) (piece : LogContent) → last_lsn log ≡ base_lsn (history piece)
     → old ≡ analysed_entry t m base log → new ≡ analysed_entry t m old (history piece) → new ≡ analysed_entry t m base (log ▸▸ piece.records)
 entry_on t m base old new log piece at before after =

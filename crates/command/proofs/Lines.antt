@@ -43,7 +43,7 @@ words_without_fault : IsFaultless (map codes ("aries" ∷ "audit" ∷ "--log" �
 unfolding clap_on_literals aries_line recover_line audit_line
 words_without_fault = refl
 
--- so are the words of a recovery in place
+-- the words of a recovery in place
 words_in_place : List Text
 words_in_place = map codes ("aries" ∷ "recover" ∷ "--in-place" ∷ "--log" ∷ "a" ∷ "--store" ∷ "b" ∷ "--replace" ∷ [])
 

@@ -40,7 +40,7 @@ escape_is style byte entry e =
     let (short, own) = and_parts (leb last 54) text others in
     record { size = eqb-true (length entry) 8 size; digit = leb-true 48 last digit; text = same_is _ _ own; short = leb-true last 54 short }
 
--- so is each of n entries, the first of which is for this byte
+-- each of n entries is an escape, and the first of them is for this byte
 are_escapes : Style → (byte n : ℕ) → List ℕ → Bool
 are_escapes style byte zero table = true
 are_escapes style byte (suc n) table = is_escape style byte (take 8 table) && are_escapes style (suc byte) n (drop 8 table)

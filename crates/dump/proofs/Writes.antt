@@ -8,7 +8,7 @@ use Rattle.dump.specs.declared.style.Style.{Style}
 use Rattle.dump.specs.Values.{escaped, IsEscape}
 use Rattle.dump.proofs.Texts.{flat_map_more}
 
--- a text is written in front of an end, and nothing before it
+-- a text is written before an end, and nothing before it changes
 pub written_before : (old new text rest : List ℕ) (at start n : ℕ) → start ≡ at → length text ≡ n → take start new ≡ take start old → drop start new ≡ text ++ rest → take (at + n) new ≡ take at old ++ text
 written_before old new text rest at start n same size before after =
     ap (λ m. take (m + n) new) (sym same) ∙ take-add start n new

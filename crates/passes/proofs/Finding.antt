@@ -14,7 +14,7 @@ use Rattle.passes.specs.Marks.{AreInReach, AreFound}
 use Rattle.passes.proofs.Reached.{told}
 
 -- THE FIRST BYTES
--- fewer than 16 were read only if the text has no more
+-- fewer than 16 were read only if there are no more
 pub first_bytes : (held : Option (List ℕ)) (text buffer : List ℕ) (count : ℕ) → held ≡ Some text → ReadsFrom held 0 count buffer → (count < 16 → EndsBy held (0 + count)) → count ≤ 16 → take count buffer ≡ take 16 text
 first_bytes held text buffer count is reads ends le =
     let same : take count buffer ≡ take count text = told held text (λ t. take count buffer ≡ take count (drop 0 t)) is reads in

@@ -1,4 +1,4 @@
--- A restart in pieces: the faults of its parts, in its own words.
+-- A restart in pieces: the faults of its parts are its faults.
 use Rattle.std.proofs.Common.{◌≡◌, ◌≤◌, ◌<◌, ◌-◌, ◌++◌, ℕ, List, All, length, take, get_or, refl, sym, ap, ◌∙◌, subst, inl, inr, arith, length-append, length-take}
 use Rattle.std.proofs.lemmas.List.{append-nil, nil_from_length}
 use Rattle.wal.specs.Reads.{Reads, log_text}
@@ -71,11 +71,11 @@ pub is_redone : (whole : LogContent) (before : StoreContent) (tables : TablesCon
     → IsRedone whole before tables redone
 is_redone whole before tables redone none are repeats = record { are = are; none_ahead = none; exist = repeats.exist; redone_pages = repeats.pages; applied = repeats.applied }
 
--- THE MARKS are those of each log that the text reads as, since there is one
+-- THE MARKS are those of each log that the bytes read as, since there is only one
 pub same_marks : (text : List ℕ) (room torn left : ℕ) (marks : List Mark) (whole : LogContent) → AreFound text room marks left → Reads text whole torn → AreMarks text whole marks
 same_marks text room torn left marks whole found reads = subst (λ w. AreMarks text w marks) (one_reading text found.whole whole left torn found.reads reads).0 found.are
 
--- the last of them stands where the log's text ends
+-- the last mark is where the log's bytes end
 pub found_read : (text : List ℕ) (room torn : ℕ) (marks : List Mark) (end : Mark) → 0 < length marks → ((d : Mark) → end ≡ get_or marks (length marks - 1) d) → AreFound text room marks torn → AreRead text end.offset torn
 found_read text room torn marks end some at found =
     let own = marked_last text marks end some at found.are.each in
@@ -99,7 +99,7 @@ found_read text room torn marks end some at found =
       );
     }
 
--- WHAT REFUSES a restart of the log that the text reads as
+-- THE ERRORS of a restart on the log that the bytes read as
 pub in_pieces_fault : (text : List ℕ) (whole : LogContent) (torn : ℕ) (before : StoreContent) → Reads text whole torn → (e : PassFault) → RestartCause whole before e → InPiecesCause text before e
 in_pieces_fault text whole torn before reads fault.Failed cause = tt
 in_pieces_fault text whole torn before reads (fault.Fault e) cause = inr (whole, torn, reads, cause)

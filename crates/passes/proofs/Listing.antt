@@ -21,7 +21,7 @@ use Rattle.redo.specs.Redone.{redone_page, applied_to, IsLookedAt, AllExist, IsF
 use Rattle.redo.specs.declared.redone.Redone.{Redone}
 use Rattle.redo.specs.Passing.{ListEach}
 
--- ---- what redo makes of a page by either of two tests that say the same of each record on it
+-- ---- a page after redo is the same by two tests that say the same of each record on it
 module _ (one other : ℕ → Bool) (page : ℕ) where
   abbrev Agree : History → Type 0
   Agree log = (lsn : ℕ) (r : LogRecord) → record_at log lsn ≡ Some r → is_on page r ≡ true → one lsn ≡ other lsn

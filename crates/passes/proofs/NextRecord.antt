@@ -1,4 +1,4 @@
--- The tallies with one record more of a piece.
+-- The tallies with one more record of a piece.
 use Rattle.std.proofs.Common.{◌≡◌, ℕ, ◌+◌, ◌-◌, List, length, sym, ◌∙◌, subst, arith}
 use Rattle.page.specs.declared.fault.Fault.{Fault}
 use Rattle.page.specs.declared.fault.Fault.TheVariants.{NoSuchPage}

@@ -1,4 +1,4 @@
--- What comes after a mark: no record, or one that the room takes.
+-- What comes after a mark: no record, or one that fits in the room.
 use Rattle.std.proofs.Common.{◌≡◌, ℕ, ◌+◌, ◌-◌, ◌<◌, ◌≤◌, List, [], length, take, drop, refl, sym, ap, ◌∙◌, subst, inl, inr, arith, length-append, length-take, length-drop}
 use Rattle.std.proofs.lemmas.List.{append-nil, nil_from_length}
 use Rattle.wal.specs.Records.{LogRecord, lsn_before, LogContent, history, last_lsn, ◌⧺◌}
@@ -25,7 +25,7 @@ none_in text before mark count torn piece goes same =
     let none : piece.records ≡ [] = nil_from_length piece.records (omega (arith, same, size_of_log piece, ap lsn_before goes.begins)) in
     ap (λ (rs : List LogRecord). before ⧺ rs) none ∙ ap (λ (rs : List LogRecord). record { begins = before.begins; records = rs }) (append-nil before.records)
 
--- if it was read to the text's end, the log ends at its mark
+-- if it was read to the end of the bytes, the log ends at its mark
 pub no_more : (text : List ℕ) (before : LogContent) (mark : Mark) (count torn : ℕ) (piece : LogContent) → GoesOn text before mark count piece torn → last_lsn (history piece) ≡ mark.lsn → length text ≤ mark.offset + count
     → Reads text before torn
 no_more text before mark count torn piece goes same all = subst (λ b. Reads text b torn) (none_in text before mark count torn piece goes same) (goes.end all)
@@ -77,13 +77,13 @@ pub room_takes : (text room : List ℕ) (before : LogContent) (mark : Mark) (all
 room_takes text room before mark all torn piece long within is piece_is goes same =
     some_record text before mark (all - 16) torn piece (omega (arith, long)) (read_within text room mark all (omega (arith, long)) within is.within piece_is) is goes same
 
--- where the log has more records than those before the mark, more come
+-- if the log has more records than those before the mark, more come
 pub one_more : (text : List ℕ) (whole before : LogContent) (mark : Mark) (end torn : ℕ) → IsBefore text whole before mark end → Reads text before torn → ⊥
 one_more text whole before mark end torn is reads =
     let same : whole ≡ before = (one_reading text whole before is.torn torn is.reads reads).0 in
     omega (arith, is.is_end, is.is_before, is.is_mark.lsn, ap (λ l. last_lsn (history l)) same)
 
--- no fault of a log but want of memory, and none but a device's beside it
+-- the bytes of a log have no fault except a lack of memory and a device's
 pub log_alone : (text : List ℕ) (whole : LogContent) (torn : ℕ) → Reads text whole torn → (e : PassFault) → LogCause text e → IsResource e
 log_alone text whole torn reads fault.Failed cause = inl refl
 log_alone text whole torn reads (fault.Fault e) cause = inr (ap (λ x. fault.Fault x) (no_fault_of_a_log text whole torn reads e cause))
@@ -97,7 +97,7 @@ pub next_within : (text : List ℕ) (whole before : LogContent) (torn : ℕ) (ma
     → next.lsn ≤ last_lsn (history whole)
 next_within text whole before torn mark next piece reads last comes = omega (arith, (comes.is_piece whole torn reads).high, last)
 
--- want of a device or of memory refuses any analysis
+-- a failed device or a lack of memory is an error of any analysis
 pub tables_resource : (master : ℕ) (whole : LogContent) (e : PassFault) → IsResource e → TablesCause master whole e
 tables_resource master whole e (inl failed) = subst (TablesCause master whole) (sym failed) tt
 tables_resource master whole e (inr none) = subst (TablesCause master whole) (sym none) tt

@@ -46,7 +46,7 @@ pub none_missing : (whole : LogContent) (images : List Page) (lsn : ℕ) (missin
 none_missing whole images lsn None scan none before = before
 none_missing whole images lsn (Some e) scan none before = absurd cc
 
--- THE FIRST MARK of a log, before which there is no record, stands at its base LSN
+-- THE FIRST MARK of a log, before which there is no record, is at its base LSN
 pub starts_at : (text : List ℕ) (whole before : LogContent) (torn : ℕ) (mark : Mark) → Reads text whole torn → before.records ≡ [] → IsMark text before mark → base_lsn (history whole) ≡ mark.lsn
 starts_at text whole before torn mark reads none is =
     let starts = same_start text whole torn reads before mark.offset is.reads in
@@ -57,11 +57,11 @@ starts_at text whole before torn mark reads none is =
 abbrev pub AnalysedSoFar : List ℕ → List Mark → SeenTables → Type 0
 AnalysedSoFar text marks tables = (d : Mark) → (before : LogContent) × IsMark text before (get_or marks (length marks - 1) d) × ((whole : History) → HasAnalysed 0 whole (history before) tables)
 
--- and what redo has
+-- what redo has found up to the last mark
 abbrev pub TalliedSoFar : List ℕ → List Page → List Mark → Option Fault → TalliesSoFar → Type 0
 TalliedSoFar text images marks missing scan = (whole : LogContent) (torn : ℕ) (d : Mark) → Reads text whole torn → TalliedOrRefused whole images (get_or marks (length marks - 1) d).lsn missing scan
 
--- with a mark more
+-- with one more mark
 pub last_pushed : (marks : List Mark) (next d : Mark) → get_or (marks ++ next ∷ []) (length (marks ++ next ∷ []) - 1) d ≡ next
 last_pushed marks next d =
     ap (λ n. get_or (marks ++ next ∷ []) n d) (omega (arith, length-append marks (next ∷ []))) ∙ get_or-append_seam marks next [] d
@@ -74,7 +74,7 @@ at_end text whole before after torn left mark next reads is all is_after same =
     let last : next.lsn ≡ last_lsn (history whole) = same ∙ is.lsn ∙ ap (λ l. last_lsn (history l)) own in
     (is_whole text whole after torn next reads is_after (omega (arith, last)), last)
 
--- WHAT IS LEFT: the tallies if no page was missing, else the fault
+-- WHAT IS LEFT: the tallies if no page was missing, otherwise the fault
 module _ (whole : LogContent) (images : List Page) (lsn : ℕ) (missing : Option Fault) (scan : TalliesSoFar) (tallied : TalliedOrRefused whole images lsn missing scan) where
   pub tallied_if_ok : (left : Result TalliesSoFar Fault) → IfOk left (λ t. (missing ≡ None) × (t ≡ scan)) → IfOk left (AreTalliedByAll whole images lsn)
   tallied_if_ok (Ok t) own = subst (AreTalliedByAll whole images lsn) (sym own.1) (subst (λ m. TalliedOrRefused whole images lsn m scan) own.0 tallied)

@@ -13,11 +13,11 @@ use Rattle.pieces.specs.Pieces.{IsMark, piece_text, GoesOn}
 use Rattle.passes.specs.Marks.{Reaches, AreMarks, AreInReach}
 use Rattle.pieces.proofs.Beginnings.{records_begin, same_start}
 
--- what a device tells of its bytes
+-- what holds for the bytes of a device
 pub told : (held : Option (List ℕ)) (text : List ℕ) (P : List ℕ → Type 0) → held ≡ Some text → IfSome held P → P text
 told held text P is some = subst (λ o. IfSome o P) is some
 
--- a mark of the text is one of a front of it
+-- a mark of the bytes is a mark of the first of them, up to a number of bytes
 pub in_front : (text : List ℕ) (before : LogContent) (mark : Mark) (n : ℕ) → mark.offset ≤ n → IsMark text before mark → IsMark (take n text) before mark
 in_front text before mark n le is = record {
   reads = subst (λ t. Reads t before 0) (sym (take-take mark.offset n text le)) is.reads;
@@ -25,7 +25,7 @@ in_front text before mark n le is = record {
   within = omega (arith, length-take n text, is.within, le);
 }
 
--- and so is the piece after it
+-- the piece after a mark is the same by the first bytes up to its end
 pub piece_in_front : (text : List ℕ) (mark : Mark) (count : ℕ) → piece_text text mark count ≡ piece_text (take (mark.offset + count) text) mark count
 piece_in_front text mark count =
     ap (λ (t : List ℕ). header_of (Version2 mark.lsn) ++ t)
@@ -35,7 +35,7 @@ piece_in_front text mark count =
 pub base_is : (text : List ℕ) (before : LogContent) (mark : Mark) (count torn : ℕ) (piece : LogContent) → GoesOn text before mark count piece torn → base_lsn (history piece) ≡ mark.lsn
 base_is text before mark count torn piece goes = base_of_log piece ∙ ap lsn_before goes.begins
 
--- a piece has all records up to each mark that stands within its bytes
+-- a piece has all records up to each mark within its bytes
 pub reached : (text : List ℕ) (before : LogContent) (mark : Mark) (count torn : ℕ) (piece : LogContent) → GoesOn (take (mark.offset + count) text) before mark count piece torn
     → (until : LogContent) (later : Mark) → IsMark text until later → later.offset ≤ mark.offset + count → later.lsn ≤ last_lsn (history piece)
 reached text before mark count torn piece goes until later is le =
@@ -56,7 +56,7 @@ reached text before mark count torn piece goes until later is le =
       goes.next.lsn,
     )
 
--- what a device told it still tells
+-- a device still holds the bytes that it held
 pub still_told : (old new : Option (List ℕ)) (text : List ℕ) → Keeps old new → old ≡ Some text → new ≡ Some text
 still_told None new text keeps is = absurd cc
 still_told (Some xs) None text keeps is = absurd keeps
@@ -72,7 +72,7 @@ keeps_on (Some xs) None new a b = absurd a
 keeps_on (Some xs) (Some ys) None a b = absurd b
 keeps_on (Some xs) (Some ys) (Some zs) a b = b ∙ a
 
--- a room in reach takes the records up to the next mark
+-- the records up to the next mark fit in a room in reach
 pub reaches : (text : List ℕ) (whole : LogContent) (marks : List Mark) (asked room k : ℕ) (d : Mark) → room ≡ asked → AreMarks text whole marks → AreInReach asked marks → 0 < k → k < length marks
     → Reaches text ((get_or marks (k - 1) d).offset + room - 16) (get_or marks k d).lsn
 reaches text whole marks asked room k d same are reach some lt =
@@ -85,13 +85,13 @@ reaches text whole marks asked room k d same are reach some lt =
       omega arith,
     )
 
--- a mark of the list is one of the text
+-- a mark of the list is one of the bytes
 pub marked : (text : List ℕ) (whole : LogContent) (marks : List Mark) (k : ℕ) (mark : Mark) → ((d : Mark) → mark ≡ get_or marks k d) → k < length marks → AreMarks text whole marks → (before : LogContent) × IsMark text before mark
 marked text whole marks k mark is lt are =
     let own = are.each k mark lt in
     (own.0, subst (IsMark text own.0) (sym (is mark)) own.1)
 
--- so is the last one
+-- the same for the last mark
 pub marked_last : (text : List ℕ) (marks : List Mark) (mark : Mark) → 0 < length marks → ((d : Mark) → mark ≡ get_or marks (length marks - 1) d)
     → ((k : ℕ) (d : Mark) → k < length marks → (before : LogContent) × IsMark text before (get_or marks k d)) → (before : LogContent) × IsMark text before mark
 marked_last text marks mark some is each =

@@ -80,7 +80,7 @@ tallied_first whole images tables base lsn scan numbered from upto at within bef
       exist = exist_before whole (length images) tables.redo_lsn lsn before;
     }
 
--- A PIECE MORE
+-- ONE MORE PIECE
 -- a mark below the last one of a log is before its end
 pub is_before_end : (text : List ℕ) (whole before : LogContent) (torn : ℕ) (marks : List Mark) (mark end : Mark) → Reads text whole torn → IsMark text before mark → AreMarks text whole marks
     → ((d : Mark) → end ≡ get_or marks (length marks - 1) d) → mark.lsn < end.lsn → IsBefore text whole before mark end.lsn
@@ -113,7 +113,7 @@ tallied_more whole piece images tables mark next old new own base last same upto
 pub exist_all : (whole : LogContent) (count redo_lsn : ℕ) → ExistBelow whole count redo_lsn (last_lsn (history whole) + 1) → AllExist whole count redo_lsn
 exist_all whole count redo_lsn below lsn r looked found = below lsn r looked (omega (arith, record_within (history whole) lsn r found)) found
 
--- WHAT IS REFUSED
+-- THE ERRORS
 pub resource_cause : (whole : LogContent) (count redo_lsn : ℕ) (e : PassFault) → IsResource e → RedoCause whole count redo_lsn e
 resource_cause whole count redo_lsn e (inl failed) = subst (RedoCause whole count redo_lsn) (sym failed) tt
 resource_cause whole count redo_lsn e (inr refused) = subst (RedoCause whole count redo_lsn) (sym refused) tt
@@ -124,7 +124,7 @@ pass_cause whole piece count redo_lsn (NoSuchPage lsn) own before cause = ((omeg
 pass_cause whole piece count redo_lsn e own before cause = absurd cause
 
 -- FETCHING
--- the piece after the last mark before a record reaches the record, with a room in reach
+-- the piece after the last mark before a record reaches the record, if the room is in reach
 pub reaches_next : (text : List ℕ) (whole : LogContent) (marks : List Mark) (asked room place : ℕ) (mark : Mark) (lsn : ℕ) → room ≡ asked → 16 ≤ asked → AreMarks text whole marks → AreInReach asked marks
     → ((d : Mark) → mark ≡ get_or marks place d) → place < length marks → ((d : Mark) → place + 1 < length marks → lsn ≤ (get_or marks (place + 1) d).lsn) → lsn ≤ last_lsn (history whole)
     → Reaches text (mark.offset + room - 16) lsn

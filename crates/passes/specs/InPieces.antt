@@ -1,4 +1,4 @@
--- What a restart makes of a log that is read in pieces, and why it is refused (own).
+-- The result and the errors of a restart on a log that is read in pieces (own).
 use Rattle.std.specs.Prelude.{◌≡◌, ◌⊎◌, ⊤, ℕ, ◌+◌, List, length, take}
 use Rattle.page.specs.Store.{StoreContent}
 use Rattle.wal.specs.Records.{LogContent, history, base_lsn, last_lsn}
@@ -9,25 +9,25 @@ use Rattle.restart.specs.Restart.{InputFault}
 use Rattle.passes.specs.declared.fault.PassFault.{PassFault}
 use Rattle.passes.specs.declared.fault.PassFault.TheVariants as fault
 
--- what was gathered of a log has its LSNs, and the records that are appended are the same by it as by the log
+-- what was gathered from a log has its LSNs, and the appended records are the same by it as by the log
 pub record AreAlike (whole some : LogContent) (appended : List Appended) : Type 0 where
   pub base : base_lsn (history some) ≡ base_lsn (history whole)
   pub last : last_lsn (history some) ≡ last_lsn (history whole)
   pub records : records_of (history some) appended ≡ records_of (history whole) appended
 
--- a device failed, or a restart of the whole log and the store is refused for this cause
+-- a device failed, or a restart on the whole log and the store has this error
 abbrev pub RestartCause : LogContent → StoreContent → PassFault → Type 0
 RestartCause whole before fault.Failed = ⊤
 RestartCause whole before (fault.Fault e) = InputFault whole before e
 
--- a text reads as some log, with this many bytes before its torn tail and this many in it
+-- bytes read as some log, with this many bytes before its torn tail and this many in it
 pub record AreRead (text : List ℕ) (kept torn : ℕ) : Type 0 where
   pub whole : LogContent
   pub reads : Reads text whole torn
   pub kept_is : take kept text ≡ log_text whole
   pub size : kept + torn ≡ length text
 
--- THE CAUSES, in the order in which they are looked for: a device, a fault of the text, and that of a restart of the log and the store
+-- THE CAUSES, in the order in which they are looked for: a device, a fault of the bytes, and that of a restart on the log and the store
 abbrev pub InPiecesCause : List ℕ → StoreContent → PassFault → Type 0
 InPiecesCause text before fault.Failed = ⊤
 InPiecesCause text before (fault.Fault e) = Cause text e ⊎ ((whole : LogContent) × (torn : ℕ) × Reads text whole torn × InputFault whole before e)

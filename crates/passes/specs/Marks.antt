@@ -9,47 +9,47 @@ use Rattle.pieces.specs.Pieces.{IsMark}
 use Rattle.passes.specs.declared.fault.PassFault.{PassFault}
 use Rattle.passes.specs.declared.fault.PassFault.TheVariants as fault
 
--- some record at this LSN, or one after it, stands whole before this offset
+-- all records up to this LSN, or to a higher one, are whole before this offset
 abbrev pub Reaches : (text : List ℕ) → (offset upto : ℕ) → Type 0
 Reaches text offset upto = (before : LogContent) × (mark : Mark) × IsMark text before mark × (mark.offset ≤ offset) × (upto ≤ mark.lsn)
 
--- the marks of a log: the first stands where it begins, the last after its last record
+-- the marks of a log: the first is where it begins, the last after its last record
 pub record AreMarks (text : List ℕ) (whole : LogContent) (marks : List Mark) : Type 0 where
   pub each : (k : ℕ) (d : Mark) → k < length marks → (before : LogContent) × IsMark text before (slice_index_or marks k d)
   pub first : (d : Mark) → (slice_index_or marks 0 d).lsn ≡ base_lsn (history whole)
   pub last : (d : Mark) → (slice_index_or marks (length marks - 1) d).lsn ≡ last_lsn (history whole)
 
--- a room of this many bytes, a header among them, takes all frames from each mark to the next
+-- all frames from each mark to the next fit in a room of this many bytes, with a header
 abbrev pub AreInReach : (room : ℕ) → List Mark → Type 0
 AreInReach room marks = (k : ℕ) (d : Mark) → k + 1 < length marks → (slice_index_or marks (k + 1) d).offset ≤ (slice_index_or marks k d).offset + room - BASED_HEADER_BYTES
 
--- a mark is low enough to be read after
+-- a mark is low enough to read the log after it
 pub record IsLow (mark : Mark) : Type 0 where
   pub lsn : mark.lsn ≤ LARGEST_BASE
   pub offset : mark.offset ≤ LARGEST_BASE
 
--- there are marks, low enough each, and there are not too many records between the first and the last
+-- there are marks, each low enough, and there are not too many records between the first and the last
 pub record AreWithin (marks : List Mark) : Type 0 where
   pub some : 0 < length marks
   pub low : All IsLow marks
   pub rising : (d : Mark) → (slice_index_or marks 0 d).lsn ≤ (slice_index_or marks (length marks - 1) d).lsn
   pub few : (d : Mark) → HEADER_BYTES + SMALLEST_FRAME * ((slice_index_or marks (length marks - 1) d).lsn - (slice_index_or marks 0 d).lsn) < 2 ^ 63
 
--- by how much a count of failures has risen
+-- by how much the count of failures grows
 abbrev pub failures_of : PassFault → ℕ
 failures_of fault.Failed = 1
 failures_of (fault.Fault e) = 0
 
--- a device or memory was refused
+-- a device failed or memory was refused
 abbrev pub IsResource : PassFault → Type 0
 IsResource e = (e ≡ fault.Failed) ⊎ (e ≡ fault.Fault NoResource)
 
--- why a text is not read to its end: a device, memory, or a fault of the text
+-- why bytes are not read to their end: a device, memory, or a fault of the bytes
 abbrev pub LogCause : List ℕ → PassFault → Type 0
 LogCause text fault.Failed = ⊤
 LogCause text (fault.Fault e) = Cause text e
 
--- WHAT IS FOUND. A text reads as a log, and these are its marks, each within such a room of the one before it.
+-- WHAT IS FOUND. The bytes read as a log, and these are its marks, each within such a room of the one before it.
 pub record AreFound (text : List ℕ) (room : ℕ) (marks : List Mark) (torn : ℕ) : Type 0 where
   pub whole : LogContent
   pub reads : Reads text whole torn

@@ -11,12 +11,12 @@ use Rattle.redo.specs.Redone.{ExistBelow, RedoFault}
 use Rattle.passes.specs.declared.fault.PassFault.{PassFault}
 use Rattle.passes.specs.declared.fault.PassFault.TheVariants as fault
 
--- why redo by the log of a device is refused: the device failed, or redo with one worker by the whole log is refused so
+-- the error of redo by the log of a device: the device failed, or it is the error of redo with one worker by the whole log
 abbrev pub RedoCause : LogContent → (count redo_lsn : ℕ) → PassFault → Type 0
 RedoCause whole count redo_lsn fault.Failed = ⊤
 RedoCause whole count redo_lsn (fault.Fault e) = RedoFault whole count redo_lsn 1 e
 
--- TALLIED. The tallies tell of the pages of a store, each at its number, as the records of the whole log up to an LSN leave them.
+-- TALLIED. The tallies describe the pages of a store, each at its number, as the records of the whole log up to an LSN leave them.
 -- Each of these records that redo looks at is on a page of the store.
 pub record AreTalliedUpTo (whole : LogContent) (images : List Page) (tables : TablesContent) (lsn : ℕ) (scan : TalliesSoFar) : Type 0 where
   pub numbered : AreNumbered images

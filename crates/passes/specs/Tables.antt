@@ -1,4 +1,4 @@
--- Why analysis of a log in pieces is refused (own).
+-- The errors of analysis of a log in pieces (own).
 use Rattle.std.specs.Prelude.{ℕ, ⊤}
 use Rattle.wal.specs.Records.{LogContent, history}
 use Rattle.analysis.specs.Tables.{BaseFault}

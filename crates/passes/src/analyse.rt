@@ -27,8 +27,8 @@ use std::collections::BTreeMap;
 use tables::Tables;
 use wal::Entry;
 
-/// Looks for the checkpoint in the piece after a mark, and returns the mark after the piece. Errors are
-/// those of [`piece_before`], and `NoResource` if memory was refused.
+/// Looks for the checkpoint in the piece after a mark, and returns the mark after the piece. Errors
+/// are those of [`piece_before`], and `NoResource` if memory was refused.
 fn look_in_piece<S: Reread>(
     alloc: Global,
     source: &mut S,
@@ -61,7 +61,7 @@ fn look_in_piece<S: Reread>(
     Ok(next)
 }
 
-/// Looks for the checkpoint in the pieces after a mark until it is found, or up to the log's last LSN.
+/// Looks for the checkpoint in the pieces after a mark until it is found, up to the log's last LSN.
 /// Errors are those of [`look_in_piece`].
 fn look_from<S: Reread>(
     alloc: Global,
@@ -95,8 +95,8 @@ fn look_from<S: Reread>(
     Ok(())
 }
 
-/// Looks at the piece after a mark for what its records do to both tables, and returns the mark after
-/// the piece. Errors are those of [`piece_before`], and `NoResource` if memory was refused.
+/// Looks at the piece after a mark for what its records do to both tables, and returns the mark
+/// after the piece. Errors are those of [`piece_before`], and `NoResource` if memory was refused.
 fn analyse_piece<S: Reread>(
     alloc: Global,
     source: &mut S,
@@ -133,8 +133,8 @@ fn analyse_piece<S: Reread>(
     Ok(next)
 }
 
-/// Looks at all pieces after a mark for what their records do to both tables, up to the log's last LSN.
-/// Errors are those of [`analyse_piece`].
+/// Looks at all pieces after a mark for what their records do to both tables, up to the log's last
+/// LSN. Errors are those of [`analyse_piece`].
 fn analyse_from<S: Reread>(
     alloc: Global,
     source: &mut S,
@@ -170,11 +170,11 @@ fn analyse_from<S: Reread>(
     Ok(())
 }
 
-/// The tables of the checkpoint that the master names, empty ones if the master is 0. They are looked for
-/// after the mark `from`, before which the checkpoint's begin record does not stand.
+/// The tables of the checkpoint that the master names, empty ones if the master is 0. They are
+/// looked for after the mark `from`. The checkpoint's begin record is not before that mark.
 ///
-/// Errors: `BadMaster` if no checkpoint begin stands at the master or no later checkpoint end names it;
-/// those of [`look_in_piece`].
+/// Errors: `BadMaster` if there is no checkpoint begin record at the master, or no later checkpoint
+/// end record names it; those of [`look_in_piece`].
 fn checkpoint_tables<S: Reread>(
     alloc: Global,
     source: &mut S,
@@ -207,13 +207,14 @@ fn checkpoint_tables<S: Reread>(
     Ok(tables)
 }
 
-/// The tables of a crash (ARIES, section 6.1), found in the log that a source holds, which is read from
-/// the last mark before the checkpoint on. The marks are those of the log.
+/// The tables of a crash (ARIES, section 6.1), found in the log that a source holds. The log is
+/// read from the last mark before the checkpoint on. `marks` are the marks of the log.
 ///
-/// Errors: `Failed` if the source failed; `NoResource` if memory was refused, or if an offset of the log
-/// is above 2^63 - 1; `BadMaster` if `master` is not 0 and no checkpoint begin stands at it or no later
-/// checkpoint end names it; `BadLength` with the offset of a frame that the room does not take. Another
-/// fault only if the source no longer holds what it held when the marks were made.
+/// Errors: `Failed` if the source failed; `NoResource` if memory was refused, or if an offset of
+/// the log is above 2^63 - 1; `BadMaster` if `master` is not 0, and there is no checkpoint begin
+/// record at it or no later checkpoint end record names it; `BadLength` with the offset of a frame
+/// that does not fit in the room. Any other fault is returned only if the source no longer holds
+/// what it held when the marks were made.
 pub fn tables_in_pieces<S: Reread>(
     alloc: Global,
     source: &mut S,

@@ -10,7 +10,8 @@ use page::Fault;
 pub enum PassFault {
     /// The source failed.
     Failed,
-    /// Memory was refused, or the source no longer holds what it held when its marks were made.
+    /// Memory was refused; the log or the store has this fault; a frame does not fit in the room;
+    /// or the source no longer holds what it held when its marks were made.
     Fault(Fault),
 }
 

@@ -17,8 +17,8 @@ use wal::BASED_HEADER_BYTES;
 
 /// The mark before the first record of the log that a source holds.
 ///
-/// Errors: `Failed` if the source failed; those of [`read_log`](wal::read_log) for the log, if its first
-/// 16 bytes show one.
+/// Errors: `Failed` if the source failed; those of [`read_log`](wal::read_log) for the log, if its
+/// first 16 bytes show one.
 pub fn mark_at_start<S: Reread>(
     alloc: Global,
     source: &mut S,
@@ -39,8 +39,8 @@ pub fn mark_at_start<S: Reread>(
     Ok(mark)
 }
 
-/// The mark after the piece after a mark, and how many bytes of the room are left after that: the torn
-/// tail of the log if the LSNs of both marks are the same. Errors are those of [`next_piece`].
+/// The mark after the piece after a mark, and how many bytes of the room are left after that: the
+/// torn tail of the log if the LSNs of both marks are the same. Errors are those of [`next_piece`].
 fn mark_after<S: Reread>(
     alloc: Global,
     source: &mut S,
@@ -70,13 +70,13 @@ fn mark_after<S: Reread>(
     Ok((next, torn))
 }
 
-/// Reads the log that a source holds from its beginning to its end, each piece into the room: its marks,
-/// and how many bytes are torn at its end.
+/// Reads the log that a source holds from its beginning to its end, each piece into the room: its
+/// marks, and how many bytes are torn at its end.
 ///
-/// Errors: `Failed` if the source failed; those of [`read_log`](wal::read_log) for the log, of which the
-/// first is given; `NoResource` if memory was refused, or if a mark's LSN or its offset is above
-/// 2^63 - 1; `BadLength` with the offset of a frame that the room does not take, which a room of
-/// `BASED_HEADER_BYTES + LONGEST_FRAME` bytes does.
+/// Errors: `Failed` if the source failed; the first error of [`read_log`](wal::read_log) for the
+/// log; `NoResource` if memory was refused, or if a mark's LSN or its offset is above 2^63 - 1;
+/// `BadLength` with the offset of a frame that does not fit in the room. All frames fit in a room
+/// of `BASED_HEADER_BYTES + LONGEST_FRAME` bytes.
 pub fn find_marks<S: Reread>(
     alloc: Global,
     source: &mut S,

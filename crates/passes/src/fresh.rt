@@ -1,4 +1,5 @@
-//! One forward reading of a log without a checkpoint: its marks, the tables of analysis and the tallies of redo.
+//! One forward reading of a log without a checkpoint: its marks, the tables of analysis and the
+//! tallies of redo.
 
 ghost use Rattle.std.specs.Prelude.{◌≡◌, ◌+◌, ◌-◌, ◌≤◌, ◌<◌, ◌^◌, ℕ, List, length, IfOk, IfErr, OnOk, Option, Some, None, IsOkUnless};
 ghost use Rattle.std.specs.Io.KnownBytes.{Keeps};
@@ -57,9 +58,9 @@ fn begin_scan(alloc: Global, store: &Store, base: u64) -> Result<ForwardScan, Fa
     ensures no_transaction_0 { IfOk result (λ scan. entry_at 0 scan.tables.entries ≡ None) }
     ensures err { IsOkUnless result NoResource }
 {
-    // Opens the store: its pages stand at their numbers.
+    // Opens the store: its pages are at their numbers.
     let _ = &store.pages;
-    // Analysis has not found the tables of the crash yet, so redo takes each page for dirty.
+    // Analysis has not found the tables of the crash yet, so redo treats each page as dirty.
     let tallies = TallyScan::begin_listed(alloc, store, base + 1, base)?;
     let tables = TableScan::begin(BTreeMap::new(alloc), BTreeMap::new(alloc));
     Ok(ForwardScan {
@@ -69,8 +70,8 @@ fn begin_scan(alloc: Global, store: &Store, base: u64) -> Result<ForwardScan, Fa
     })
 }
 
-/// Counts the record after an LSN for redo, of which this is seen at a glance, unless a page was missing
-/// before. Returns the fault of the first record on a page that the store lacks.
+/// Counts the record after an LSN for redo, unless a page was missing before. The record is given
+/// at a glance. Returns the fault of the first record on a page that the store lacks.
 #[inline(always)]
 fn tally_next(
     tallies: &mut TallyScan,
@@ -99,7 +100,7 @@ fn tally_next(
 
 /// Looks at the records of the next piece for analysis and for redo. Each is decoded once for both.
 ///
-/// The only error is `NoResource`, which says that memory was refused.
+/// The only error is `NoResource`, if memory was refused.
 fn scan_piece(piece: &Log, scan: &mut ForwardScan) -> Result<(), Fault>
     requires { scan.old.tallies.upto ≤ base_lsn (history piece.now) }
     ensures analysed { OnOk result ((whole log : History)
@@ -126,8 +127,9 @@ fn scan_piece(piece: &Log, scan: &mut ForwardScan) -> Result<(), Fault>
     Ok(())
 }
 
-/// Reads the piece after a mark for analysis and redo. Returns the mark after it, and how many bytes of
-/// the room are left after that: the torn tail of the log if the LSNs of both marks are the same.
+/// Reads the piece after a mark for analysis and redo. Returns the mark after it, and how many
+/// bytes of the room are left after that: the torn tail of the log if the LSNs of both marks are
+/// the same.
 ///
 /// Errors are those of [`next_piece`], and `NoResource` if memory was refused.
 fn take_piece<S: Reread>(
@@ -174,7 +176,7 @@ fn take_piece<S: Reread>(
     Ok((next, torn))
 }
 
-/// The tables at the log's end, of which this is the base LSN, and the tallies, or the fault of the first
+/// The tables at the end of a log with this base LSN; and the tallies, or the fault of the first
 /// record on a page that the store lacks. The only error is `NoResource`.
 fn finish_scan(scan: ForwardScan, base: u64) -> Result<(Tables, Result<TallyScan, Fault>), Fault>
     requires { base ≤ LARGEST_BASE }
@@ -203,22 +205,22 @@ fn finish_scan(scan: ForwardScan, base: u64) -> Result<(Tables, Result<TallyScan
     }
 }
 
-/// What one forward reading makes of a log without a checkpoint.
+/// The result of one forward reading of a log without a checkpoint.
 #[derive(Drop)]
 pub struct ForwardReading {
     /// The marks of the log.
     pub marks: Marks,
-    /// How many bytes are torn at its end.
+    /// How many bytes are torn at the log's end.
     pub torn: usize,
     /// The tables of the crash.
     pub tables: Tables,
-    /// The tallies of redo at the log's end, or the fault of the first record on a page that the store
-    /// lacks.
+    /// The tallies of redo at the log's end, or the fault of the first record on a page that the
+    /// store lacks.
     pub tallies: Result<TallyScan, Fault>,
 }
 
-/// Reads the log that a source holds from its beginning to its end, each piece into the room and each
-/// once, for its marks, for analysis without a checkpoint, and for redo of a store.
+/// Reads the log that a source holds from its beginning to its end, each piece into the room and
+/// each once, for its marks, for analysis without a checkpoint, and for redo of a store.
 ///
 /// Errors are those of [`find_marks`](crate::find_marks).
 pub fn read_forward<S: Reread>(

@@ -1,4 +1,4 @@
-//! What undo looks at of a log, gathered by one reading from its end to its beginning.
+//! The records of a log that undo looks at, gathered in one reading from its end to its beginning.
 
 ghost use Rattle.std.specs.Prelude.{◌≡◌, ◌+◌, ◌-◌, ◌*◌, ◌≤◌, ◌<◌, ◌^◌, ℕ, List, length, IfOk, IfErr, OnOk, Some};
 ghost use Rattle.std.specs.Io.KnownBytes.{Keeps};
@@ -20,8 +20,8 @@ use std::alloc::Global;
 use tables::Tables;
 use undo::{Gathered, Gathering};
 
-/// Gathers what undo looks at in the piece after a mark, which is to reach up to this LSN at least.
-/// Errors are those of [`piece_up_to`], and `NoResource` if memory was refused.
+/// Gathers what undo looks at in the piece after a mark. The piece must reach at least the LSN
+/// `upto`. Errors are those of [`piece_up_to`], and `NoResource` if memory was refused.
 fn gather_piece<S: Reread>(
     alloc: Global,
     source: &mut S,
@@ -52,12 +52,12 @@ fn gather_piece<S: Reread>(
     Ok(())
 }
 
-/// Gathers what undo looks at of the log that a source holds. The marks are those before the pieces of
-/// the log, and at last the one at its end. The pieces are read into the room, the last one first, and
-/// those alone that have a record which undo looks at.
+/// Gathers the records that undo looks at from the log that a source holds. The marks are those
+/// before the pieces of the log and, last, the one at its end. The pieces are read into the room,
+/// the last one first. Only those that have a record which undo looks at are read.
 ///
-/// Errors: `Failed` if the source failed; `NoResource` if memory was refused; another fault only if the
-/// source no longer holds what it held when the marks were made.
+/// Errors: `Failed` if the source failed; `NoResource` if memory was refused; any other fault only
+/// if the source no longer holds what it held when the marks were made.
 pub fn gather_for_undo<S: Reread>(
     alloc: Global,
     source: &mut S,

@@ -27,25 +27,25 @@ use std::alloc::Global;
 use tables::Tables;
 use undo::{Gathered, Looked, Place};
 
-/// What a restart in pieces makes of a log and a store.
+/// The result of a restart in pieces on a log and a store.
 #[derive(Drop)]
 pub struct Restarted {
-    /// How many bytes of the log stand before its torn tail.
+    /// How many bytes of the log are before its torn tail.
     pub kept: u64,
-    /// How many bytes are torn at its end.
+    /// How many bytes are torn at the log's end.
     pub torn: usize,
-    /// The records of the log that undo looked at. What is appended is made of them.
+    /// The records of the log that undo looked at. The records to append are made from them.
     pub gathered: Gathered,
-    /// The outcome, with what is appended in brief.
+    /// The outcome, with the records to append in compact form.
     pub outcome: BriefOutcome,
 }
 
-/// What analysis and redo make of a log and a store.
+/// The result of analysis and redo on a log and a store.
 #[derive(Drop)]
 struct Forward {
     /// The marks of the log.
     marks: Marks,
-    /// How many bytes are torn at its end.
+    /// How many bytes are torn at the log's end.
     torn: usize,
     /// The tables of the crash.
     tables: Tables,
@@ -53,8 +53,8 @@ struct Forward {
     redone: Redone,
 }
 
-/// Analysis and redo of a store whose master is 0: the pieces of the log are read once, and again where
-/// redo needs the image of a record. Errors are those of [`go_forward`].
+/// Analysis and redo of a store whose master is 0: the pieces of the log are read once, and again
+/// if redo needs the image of a record in them. Errors are those of [`go_forward`].
 fn go_at_once<S: Reread>(
     alloc: Global,
     source: &mut S,
@@ -74,7 +74,7 @@ fn go_at_once<S: Reread>(
         → Lawful base whole store → AreTrue whole store x.tables) }
     ensures no_transaction_0 { IfOk result (λ x. entry_for 0 x.tables.transactions ≡ None) }
     ensures numbered { IfOk result (λ x. AreNumbered x.redone.pages.items) }
-    // A lawful log and its store are refused only if a device fails or memory is refused.
+    // On a lawful log and its store, the only errors are a failed device and a lack of memory.
     ensures lawful { IfErr result (λ e. (text : List ℕ) (whole : LogContent) (torn : ℕ)
         (base : BasePages) → S.text source.old ≡ Some text → Reads text whole torn
         → Lawful base whole store → IsResource e) }
@@ -102,8 +102,8 @@ fn go_at_once<S: Reread>(
     })
 }
 
-/// Analysis and redo, one after the other: the log is read for its marks, then from the checkpoint on,
-/// then from `redo_lsn` on. Errors are those of [`go_forward`].
+/// Analysis and redo, one after the other: the log is read for its marks, then from the checkpoint
+/// on, then from `redo_lsn` on. Errors are those of [`go_forward`].
 fn go_by_passes<S: Reread>(
     alloc: Global,
     source: &mut S,
@@ -122,7 +122,7 @@ fn go_by_passes<S: Reread>(
         → Lawful base whole store → AreTrue whole store x.tables) }
     ensures no_transaction_0 { IfOk result (λ x. entry_for 0 x.tables.transactions ≡ None) }
     ensures numbered { IfOk result (λ x. AreNumbered x.redone.pages.items) }
-    // A lawful log and its store are refused only if a device fails or memory is refused.
+    // On a lawful log and its store, the only errors are a failed device and a lack of memory.
     ensures lawful { IfErr result (λ e. (text : List ℕ) (whole : LogContent) (torn : ℕ)
         (base : BasePages) → S.text source.old ≡ Some text → Reads text whole torn
         → Lawful base whole store → IsResource e) }
@@ -145,13 +145,13 @@ fn go_by_passes<S: Reread>(
     })
 }
 
-/// Analysis and redo of a log and a store, which is given away. The log is read once if the store has no
-/// checkpoint.
+/// Analysis and redo of a log and a store, which is given away. The log is read once if the store
+/// has no checkpoint.
 ///
 /// Errors: `Failed` if the source failed; those of [`read_log`](wal::read_log) for the log;
-/// `PageAheadOfLog`; `BadMaster`; `NoSuchPage` of redo; `NoResource` if memory was refused, or if an LSN
-/// of the log or an offset in it is above 2^63 - 1. Another fault only if the source did not hold the
-/// same bytes all the time. With an error the pages are gone.
+/// `PageAheadOfLog`; `BadMaster`; `NoSuchPage` of redo; `NoResource` if memory was refused, or if
+/// an LSN of the log or an offset in it is above 2^63 - 1. Any other fault is returned only if the
+/// source did not hold the same bytes all the time. After an error the pages are gone.
 fn go_forward<S: Reread>(
     alloc: Global,
     source: &mut S,
@@ -170,7 +170,7 @@ fn go_forward<S: Reread>(
         → Lawful base whole store → AreTrue whole store x.tables) }
     ensures no_transaction_0 { IfOk result (λ x. entry_for 0 x.tables.transactions ≡ None) }
     ensures numbered { IfOk result (λ x. AreNumbered x.redone.pages.items) }
-    // A lawful log and its store are refused only if a device fails or memory is refused.
+    // On a lawful log and its store, the only errors are a failed device and a lack of memory.
     ensures lawful { IfErr result (λ e. (text : List ℕ) (whole : LogContent) (torn : ℕ)
         (base : BasePages) → S.text source.old ≡ Some text → Reads text whole torn
         → Lawful base whole store → IsResource e) }
@@ -189,13 +189,13 @@ fn go_forward<S: Reread>(
 }
 
 /// Restarts on the log that a source holds and on a store that is given away, as
-/// [`restart_in_place`](restart::restart_in_place) does in memory. The log is read in pieces, each into
-/// the room: from its beginning to its end, and then again those pieces that are needed again.
+/// [`restart_in_place`](restart::restart_in_place) does in memory. The log is read in pieces, each
+/// into the room: from its beginning to its end, and then only those pieces that are needed again.
 ///
-/// Errors: `Failed` if the source failed; those of [`read_log`](wal::read_log) for the log; then those of
-/// [`restart_alone`](restart::restart_alone); `NoResource` if memory was refused, or if an LSN of the log
-/// or an offset in it is above 2^63 - 1. Another fault only if the source did not hold the same bytes all
-/// the time. With an error the pages are gone.
+/// Errors: `Failed` if the source failed; those of [`read_log`](wal::read_log) for the log; then
+/// those of [`restart_alone`](restart::restart_alone); `NoResource` if memory was refused, or if an
+/// LSN of the log or an offset in it is above 2^63 - 1. Any other fault is returned only if the
+/// source did not hold the same bytes all the time. After an error the pages are gone.
 pub fn restart_in_pieces<S: Reread>(
     alloc: Global,
     source: &mut S,
@@ -204,13 +204,14 @@ pub fn restart_in_pieces<S: Reread>(
 ) -> Result<Restarted, PassFault>
     requires room { BASED_HEADER_BYTES + LONGEST_FRAME ≤ length room.old }
     requires reach { length room.old < 2 ^ 63 }
-    // On a lawful log and its store, over any base pages: the log's tail and the store that the winners leave.
+    // On a lawful log and its store, over any base pages: the log's tail and the store that the
+    // winners leave.
     ensures lawful { (text : List ℕ) (whole : LogContent) (torn : ℕ) (base : BasePages)
         → S.text source.old ≡ Some text → Reads text whole torn → Lawful base whole store
         → MatchResult result (λ x. Restores base whole store (outcome_in (history whole) x.outcome))
         IsResource }
 
-    // Wherever it answers: what analysis, redo and undo make of the log and the store.
+    // On success: the result of analysis, redo and undo on the log and the store.
     ensures reads { IfOk result (λ x. (text : List ℕ) → S.text source.old ≡ Some text
         → AreRead text x.kept x.torn) }
     ensures restarts { IfOk result (λ x. (text : List ℕ) (whole : LogContent) (torn : ℕ)
@@ -220,14 +221,14 @@ pub fn restart_in_pieces<S: Reread>(
         → S.text source.old ≡ Some text → Reads text whole torn
         → AreAlike whole x.gathered x.outcome.appended.items) }
 
-    // Each update that is named was gathered; each appended record has a spelling, and they are so few
-    // that there are LSNs for them after the log.
+    // Each update that is named was gathered. Each appended record has an encoding, and they are so
+    // few that there are LSNs for them after the log.
     ensures told { IfOk result (λ x. HaveUpdates x.gathered x.outcome.appended.items) }
     ensures writable { IfOk result (λ x. AreFit x.gathered x.outcome.appended.items) }
     ensures few { IfOk result (λ x. length x.outcome.appended.items
         ≤ 2 * length x.gathered.records + 2 ^ 32) }
 
-    // A refusal has its cause in the input, a device and memory aside.
+    // On an error, its condition holds for the input, a device and memory aside.
     ensures fault { IfErr result (λ e. (text : List ℕ) → S.text source.old ≡ Some text
         → InPiecesCause text store e) }
     ensures same { Keeps (S.text source.old) (S.text source.new) }

@@ -15,15 +15,15 @@ use wal::LARGEST_BASE;
 /// How many records there are at most between the first mark of a log and its last.
 const MOST_RECORDS: u64 = 1 << 59;
 
-/// Whether a mark is low enough to be read after.
+/// Whether a mark is low enough to read the log after it.
 fn is_low(mark: Mark) -> bool
     ensures { IsTrue result → IsLow mark }
 {
     mark.lsn <= LARGEST_BASE && mark.offset <= LARGEST_BASE
 }
 
-/// The marks of a log, by rising LSN. The first stands before the first record, the last after the
-/// last one. Contracts see the list.
+/// The marks of a log, in ascending order of LSN. The first mark is before the first record, the
+/// last mark after the last record. Contracts see the list.
 #[derive(Drop)]
 pub struct Marks {
     list: Vec<Mark>,
@@ -42,7 +42,7 @@ impl Model for Marks {
 }
 
 impl Marks {
-    /// The first mark alone.
+    /// The list of the first mark only.
     ///
     /// The only error is `NoResource`: memory was refused, or the mark's LSN or its offset is above
     /// 2^63 - 1.
@@ -78,7 +78,8 @@ impl Marks {
     /// Adds a mark after the last one.
     ///
     /// The only error is `NoResource`: memory was refused, or the mark's LSN or its offset is above
-    /// 2^63 - 1, or its LSN is below that of the last mark, or more than 2^59 above that of the first.
+    /// 2^63 - 1, or its LSN is below that of the last mark, or more than 2^59 above that of the
+    /// first.
     pub fn push(&mut self, mark: Mark) -> Result<(), Fault>
         ensures pushed { OnOk result (self.new ≡ self.old ++ mark ∷ []) }
         ensures low { OnOk result (IsLow mark) }
@@ -92,7 +93,7 @@ impl Marks {
         Ok(())
     }
 
-    /// How many records stand between the first mark and the last.
+    /// How many records are between the first mark and the last.
     pub fn count(&self) -> u64
         ensures count { (d : Mark) → (slice_index_or self.now 0 d).lsn + result
             ≡ (slice_index_or self.now (length self.now - 1) d).lsn }
@@ -118,8 +119,8 @@ impl Marks {
         self.list[place]
     }
 
-    /// The place of the last mark before the record at an LSN; 0 if there is none before it. The marks
-    /// are searched by halves.
+    /// The place of the last mark before the record at an LSN; 0 if there is none before it. This
+    /// is a binary search.
     pub fn place_before(&self, lsn: u64) -> usize
         ensures within { result < length self.now }
         ensures before { (d : Mark) → (result ≡ 0) ⊎ ((slice_index_or self.now result d).lsn < lsn) }

@@ -17,14 +17,14 @@ use pieces::{Mark, piece_log, read_piece};
 use std::alloc::Global;
 use wal::{BASED_HEADER_BYTES, LARGEST_BASE, Log};
 
-/// Reads the piece after a mark into the room: the piece, the mark after its last record, and how many
-/// bytes of the room are left after that. No record comes only if the log ends at the mark; then these
-/// bytes are its torn tail.
+/// Reads the piece after a mark into the room. Returns the piece, the mark after its last record,
+/// and how many bytes of the room are left after that. The piece has no record only if the log ends
+/// at the mark; these bytes are then the log's torn tail.
 ///
-/// Errors: `Failed` if the source failed; those of [`read_log`](wal::read_log) for the log, if the piece
-/// shows one; `BadLength` with the mark's offset if the room does not take the next frame, which a room
-/// of `BASED_HEADER_BYTES + LONGEST_FRAME` bytes does; `BadLsn` with the mark's offset if the room did not
-/// keep what was written to it.
+/// Errors: `Failed` if the source failed; those of [`read_log`](wal::read_log) for the log, if the
+/// piece shows one; `BadLength` with the mark's offset if the next frame does not fit in the room,
+/// as it does in one of `BASED_HEADER_BYTES + LONGEST_FRAME` bytes; `BadLsn` with the mark's offset
+/// if the room did not keep what was written to it.
 pub fn next_piece<'a, S: Reread>(
     alloc: Global,
     source: &mut S,
@@ -69,13 +69,13 @@ pub fn next_piece<'a, S: Reread>(
     Ok((log, next, torn))
 }
 
-/// Reads the piece after a mark of a log that is known to go on to the LSN `end`: the piece, and the mark
-/// after its last record.
+/// Reads the piece after a mark of a log that is known to continue to the LSN `end`. Returns the
+/// piece, and the mark after its last record.
 ///
-/// Errors: `Failed` if the source failed; `NoResource` if memory was refused, or if the offset of the
-/// mark after the piece is above 2^63 - 1; `BadLength` with the mark's offset if the room does not take
-/// the next frame. Another fault only if the source no longer holds what it held: `BadLsn` with the
-/// mark's offset if no record comes, or one after `end`.
+/// Errors: `Failed` if the source failed; `NoResource` if memory was refused, or if the offset of
+/// the mark after the piece is above 2^63 - 1; `BadLength` with the mark's offset if the next frame
+/// does not fit in the room. Any other fault is returned only if the source no longer holds what it
+/// held: `BadLsn` with the mark's offset if no record comes, or one after `end`.
 pub fn piece_before<'a, S: Reread>(
     alloc: Global,
     source: &mut S,

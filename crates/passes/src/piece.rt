@@ -16,11 +16,11 @@ use pieces::{Mark, piece_log, read_piece};
 use std::alloc::Global;
 use wal::Log;
 
-/// Reads the piece after a mark into the room, which is to reach up to this LSN at least.
+/// Reads the piece after a mark into the room. The piece must reach at least the LSN `upto`.
 ///
-/// Errors: `Failed` if the source failed; `NoResource` if memory was refused; another fault only if the
-/// source no longer holds what it held when the mark was made: `BadLsn` with the mark's offset, if the
-/// piece ends before that LSN.
+/// Errors: `Failed` if the source failed; `NoResource` if memory was refused; any other fault only
+/// if the source no longer holds what it held when the mark was made: `BadLsn` with the mark's
+/// offset if the piece ends before that LSN.
 pub fn piece_up_to<'a, S: Reread>(
     alloc: Global,
     source: &mut S,

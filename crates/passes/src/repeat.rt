@@ -47,11 +47,11 @@ fn mark_to_begin(marks: &Marks, redo_lsn: u64) -> Mark
     marks.at(marks.place_before(redo_lsn))
 }
 
-/// Counts the records of the piece after a mark, in a log that is known to go on to the LSN `end`, for
-/// the pages that lack them. Returns the mark after the piece.
+/// Counts the records of the piece after a mark for the pages that lack them. The log is known to
+/// continue to the LSN `end`. Returns the mark after the piece.
 ///
-/// Errors are those of [`piece_before`], and `NoSuchPage` with the LSN of the first record from `redo_lsn`
-/// on that is on a page which the store lacks.
+/// Errors are those of [`piece_before`], and `NoSuchPage` with the LSN of the first record from
+/// `redo_lsn` on that is on a page which the store lacks.
 fn tally_piece<S: Reread>(
     alloc: Global,
     source: &mut S,
@@ -93,8 +93,8 @@ fn tally_piece<S: Reread>(
     Ok(next)
 }
 
-/// The tallies of all pages of a store at the end of the log, which is read from `redo_lsn` on, and not
-/// at all if `redo_lsn` is 0. Errors are those of [`redo_in_pieces`].
+/// The tallies of all pages of a store at the end of the log. The log is read from `redo_lsn` on,
+/// and not at all if `redo_lsn` is 0. Errors are those of [`redo_in_pieces`].
 fn tally_in_pieces<S: Reread>(
     alloc: Global,
     source: &mut S,
@@ -118,11 +118,11 @@ fn tally_in_pieces<S: Reread>(
     ensures cause { IfErr result (λ e. S.failures source.new
         ≡ S.failures source.old + failures_of e) }
 {
-    // Opens the store: its pages stand at their numbers.
+    // Opens the store: its pages are at their numbers.
     let _ = &store.pages;
     let end = marks.end().lsn;
     let mut mark = mark_to_begin(marks, tables.redo_lsn);
-    // There is a first mark, and none is before it: its LSN is the log's base LSN.
+    // There is a first mark, and no mark is before it: its LSN is the log's base LSN.
     let _count = marks.len();
     let base = marks.at(0).lsn.min(mark.lsn);
     let mut scan = TallyScan::begin(alloc, store, tables, base)?;
@@ -132,9 +132,9 @@ fn tally_in_pieces<S: Reread>(
     Ok(scan)
 }
 
-/// Fetches the images of the wanted records in the piece after a mark, which is to reach the first of
-/// them at least. The list is by rising LSN, so they stand at its front; returns how many they are.
-/// Errors are those of [`piece_up_to`].
+/// Fetches the images of the wanted records in the piece after a mark. The piece must reach at
+/// least the first of them. The list is in ascending order of LSN, so they are at its front.
+/// Returns how many there are. Errors are those of [`piece_up_to`].
 fn fetch_piece<S: Reread>(
     alloc: Global,
     source: &mut S,
@@ -173,9 +173,9 @@ fn fetch_piece<S: Reread>(
     Ok(fetch_from(&piece, wanted, pages))
 }
 
-/// Fetches the images of the wanted records up to an LSN. Each piece that is read begins at the last mark
-/// before the first of those that are left. The list is by rising LSN, so they stand at its front;
-/// returns how many they are. Errors are those of [`piece_up_to`].
+/// Fetches the images of the wanted records up to an LSN. Each piece that is read begins at the
+/// last mark before the first of those that are left. The list is in ascending order of LSN, so
+/// they are at its front. Returns how many there are. Errors are those of [`piece_up_to`].
 fn fetch_in_pieces<S: Reread>(
     alloc: Global,
     source: &mut S,
@@ -214,8 +214,8 @@ fn fetch_in_pieces<S: Reread>(
     Ok(taken)
 }
 
-/// Makes of the pages of a store those that their tallies tell of, by images that are read once more.
-/// Errors are those of [`piece_up_to`], and `NoResource` if memory was refused.
+/// Changes the pages of a store to those that their tallies describe, with images that are read
+/// once more. Errors are those of [`piece_up_to`], and `NoResource` if memory was refused.
 fn finish_in_pieces<S: Reread>(
     alloc: Global,
     source: &mut S,
@@ -250,12 +250,12 @@ fn finish_in_pieces<S: Reread>(
     Ok(())
 }
 
-/// Ends redo of a store, which is given away, by its tallies at the end of the log that a source holds:
-/// its pages are changed in place. The marks are those of the log.
+/// Ends redo of a store by its tallies at the end of the log that a source holds. The store is
+/// given away: its pages are changed in place. `marks` are the marks of the log.
 ///
-/// Errors: `Failed` if the source failed; `NoResource` if memory was refused. Another fault only if the
-/// source no longer holds what it held when the marks were made, or if the room does not take all frames
-/// from a mark to the next. With an error the pages are gone.
+/// Errors: `Failed` if the source failed; `NoResource` if memory was refused. Any other fault is
+/// returned only if the source no longer holds what it held when the marks were made, or if the
+/// frames from some mark to the next do not fit in the room. After an error the pages are gone.
 pub fn end_redo<S: Reread>(
     alloc: Global,
     source: &mut S,
@@ -267,7 +267,7 @@ pub fn end_redo<S: Reread>(
     requires room { BASED_HEADER_BYTES ≤ length room.old }
     requires reach { length room.old < 2 ^ 63 }
     requires count { length scan.tallies ≡ length store.pages }
-    // By whichever tables the tallies were counted.
+    // For any tables by which the tallies were counted.
     ensures redone { IfOk result (λ redone. (text : List ℕ) (whole : LogContent) (torn : ℕ)
         (tables : TablesContent) → S.text source.old ≡ Some text → Reads text whole torn
         → AreMarks text whole marks.now
@@ -284,24 +284,26 @@ pub fn end_redo<S: Reread>(
         ≡ S.failures source.old + failures_of e) }
 {
     let applied = scan.applied();
-    // The log's last LSN fits, and no record counts twice: so the count fits.
+    // The log's last LSN fits, and no record counts twice, so the count fits.
     let _end = marks.end();
     let mut pages = store.pages;
     finish_in_pieces(alloc, source, marks, room, scan, &mut pages)?;
     Ok(Redone { pages, applied })
 }
 
-/// Repeats history on the pages of a store by the log that a source holds, in the thread of the caller.
-/// The store is given away: its pages are changed in place and not copied. With an error they are gone.
+/// Repeats history on the pages of a store by the log that a source holds, in the thread of the
+/// caller. The store is given away: its pages are changed in place and not copied. After an error
+/// they are gone.
 ///
-/// The marks are those before the pieces of the log, and at last the one at its end; each piece is read
-/// into the room. The records from `redo_lsn` on are read to find which of them each page lacks, and then
-/// once more where a slot needs the image of one.
+/// The marks are those before the pieces of the log and, last, the one at its end. Each piece is
+/// read into the room. The records from `redo_lsn` on are read to find which of them each page
+/// lacks, and once more if a slot needs the image of one.
 ///
-/// Errors: `Failed` if the source failed; `NoSuchPage` with the LSN of the first record from `redo_lsn` on
-/// that is on a page which the store lacks; `NoResource` if memory was refused. Another fault only if the
-/// source no longer holds what it held when the marks were made, or if the room has fewer than
-/// `BASED_HEADER_BYTES + LONGEST_FRAME` bytes or does not take all frames from a mark to the next.
+/// Errors: `Failed` if the source failed; `NoSuchPage` with the LSN of the first record from
+/// `redo_lsn` on that is on a page which the store lacks; `NoResource` if memory was refused. Any
+/// other fault is returned only in these cases: the source no longer holds what it held when the
+/// marks were made; the room has fewer than `BASED_HEADER_BYTES + LONGEST_FRAME` bytes; the frames
+/// from some mark to the next do not fit in the room.
 pub fn redo_in_pieces<S: Reread>(
     alloc: Global,
     source: &mut S,

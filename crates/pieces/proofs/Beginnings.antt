@@ -14,7 +14,7 @@ use Rattle.wal.proofs.Histories.{after-append, record_in_front, record_none, siz
 use Rattle.pieces.specs.Pieces.{PiecesBelong}
 use Rattle.pieces.proofs.Pieces.{frames_long}
 
--- if records are read in front of others, the others come after them
+-- if records are read before others, the others come after them
 in_front : (front : List LogRecord) (read : Result (List LogRecord × ℕ) Fault) (records : List LogRecord) (torn : ℕ) → with_front front read ≡ Ok (records, torn) → (more : List LogRecord) × (records ≡ front ++ more)
 in_front front (Ok x) records torn e = (x.0, sym (ap (λ (p : List LogRecord × ℕ). p.0) (ok_is (front ++ x.0, x.1) (records, torn) e)))
 in_front front (Err f) records torn e = absurd cc

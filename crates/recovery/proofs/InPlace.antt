@@ -95,7 +95,7 @@ module _ {base : BasePages} {log store : List ℕ} (bytes : AreLawful base log s
             })
       ]
 
-  -- so is all of it
+  -- the same for all of it
   pub stays_cut : (before after flushed_before flushed_after store_before store_after : Option (List ℕ)) (e : Fault) → before ≡ Some log
       → Stays kept frames new_store before after flushed_before flushed_after store_before store_after e → HoldsCut base bytes.decoded.read bytes.decoded.before log store after
   stays_cut before after flushed_before flushed_after store_before store_after WriteLog e stays = left_cut before after flushed_before flushed_after e stays.0

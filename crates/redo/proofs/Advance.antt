@@ -1,4 +1,4 @@
--- One record more, applied to a page that is being redone.
+-- One more record, applied to a page that is being redone.
 use Rattle.std.proofs.Common.{◌≡◌, ◌≢◌, ℕ, suc, ◌<◌, ◌≤◌, ◌⊎◌, true, false, cond, ◌&&◌, not, eqb, ltb, leb, Option, Some, None, set, refl, sym, ap, ap₂, ◌∙◌, inl, inr, arith, ne_eqb, eq-eqb}
 use Rattle.std.specs.Prelude.{option_map}
 use Rattle.std.specs.List.{range_with_len}
@@ -16,17 +16,17 @@ use Rattle.wal.specs.Redo.{is_redone, slots_in, held_by, last_where, applied}
 use Rattle.redo.specs.Changes.{RedoPage, page_named, redo_page_at, put, changed_by, advance}
 use Rattle.redo.proofs.Slots.{set-tabulated, map-same, same_below}
 
--- what is redone has an LSN above the image's
+-- a record that is redone has an LSN above the image's
 pub redone_above : (rec_lsn : Option ℕ) (redo_lsn k n : ℕ) → is_redone rec_lsn redo_lsn k n ≡ true → k < n
 redone_above None redo_lsn k n e = absurd (cc)
 redone_above (Some x) redo_lsn k n e = ltb-true k n (and_parts (leb redo_lsn n) (ltb k n) (and_parts (not (eqb redo_lsn 0)) (leb redo_lsn n && ltb k n) (and_parts (leb x n) (not (eqb redo_lsn 0) && (leb redo_lsn n && ltb k n)) e).1).1).1
 
--- whether a record is redone hangs on no more than that
+-- whether a record is redone depends on no more than that
 redone_same : (rec_lsn : Option ℕ) (redo_lsn k l n : ℕ) → ltb k n ≡ ltb l n → is_redone rec_lsn redo_lsn k n ≡ is_redone rec_lsn redo_lsn l n
 redone_same None redo_lsn k l n e = refl
 redone_same (Some x) redo_lsn k l n e = ap (λ b. leb x n && (not (eqb redo_lsn 0) && (leb redo_lsn n && b))) e
 
--- the PageLSN on the way is the image's, or that of a record which was redone
+-- the PageLSN during redo is the image's, or that of a record which was redone
 last_between : (rec_lsn : Option ℕ) (redo_lsn page k : ℕ) (log : History) → let l = last_where (is_redone rec_lsn redo_lsn k) page k log in (l ≡ k) ⊎ ((k < l) × (l ≤ last_lsn log))
 last_between rec_lsn redo_lsn page k (start _) = inl refl
 last_between rec_lsn redo_lsn page k (log ▸ r) =
@@ -41,7 +41,7 @@ pub record Puts (r : LogRecord) (page slot : ℕ) (image : Image) : Type 0 where
   pub image_is : image_of r ≡ image
 
 module _ (rec_lsn : Option ℕ) (redo_lsn : ℕ) (log : History) (r : LogRecord) (image : Page) where
-  -- the page on the way lacks just what its image lacks
+  -- the page during redo lacks a record if and only if its image does
   lacks_same : is_redone rec_lsn redo_lsn (last_where (is_redone rec_lsn redo_lsn image.lsn) image.number image.lsn log) (suc (last_lsn log)) ≡ is_redone rec_lsn redo_lsn image.lsn (suc (last_lsn log))
   lacks_same =
       elim (last_between rec_lsn redo_lsn image.number image.lsn log) [
@@ -103,7 +103,7 @@ module _ (rec_lsn : Option ℕ) (redo_lsn : ℕ) (log : History) (r : LogRecord)
         ap₂ (λ n xs. record { page = record { number = image.number; lsn = n; slots = xs }; rec_lsn = rec_lsn; applied = applied rec_lsn redo_lsn image (log ▸ r) }) new_lsn (sym new_slots)
         ∙ ap (λ a. record { page = record { number = image.number; lsn = suc (last_lsn log); slots = set (slots_in (effects (λ n _. is_redone rec_lsn redo_lsn image.lsn n) (held_by image) log) image.number) slot value }; rec_lsn = rec_lsn; applied = a }) one_more
 
-    -- so it does what the record says
+    -- the page then has what the record says
     pub put_more : redo_page_at rec_lsn redo_lsn (log ▸ r) image
         ≡ cond (eqb page image.number) (put redo_lsn (suc (last_lsn log)) slot value (redo_page_at rec_lsn redo_lsn log image)) (redo_page_at rec_lsn redo_lsn log image)
     put_more =
@@ -120,7 +120,7 @@ module _ (rec_lsn : Option ℕ) (redo_lsn : ℕ) (log : History) (r : LogRecord)
   pub idle : ((p s : ℕ) → writes p s r ≡ false) → ((p : ℕ) → is_on p r ≡ false) → redo_page_at rec_lsn redo_lsn (log ▸ r) image ≡ redo_page_at rec_lsn redo_lsn log image
   idle none off = unchanged (λ s. rw (none image.number s) refl) (rw (off image.number) refl)
 
--- A page redone up to the end of a longer log is what the record makes of it.
+-- A page redone up to the end of a log that is one record longer is the page after that record.
 pub advanced : (rec_lsn : Option ℕ) (redo_lsn : ℕ) (log : History) (r : LogRecord) (image : Page)
     → redo_page_at rec_lsn redo_lsn (log ▸ r) image ≡ advance redo_lsn (suc (last_lsn log)) r (redo_page_at rec_lsn redo_lsn log image)
 advanced rec_lsn redo_lsn log (Update u) image =
@@ -129,7 +129,7 @@ advanced rec_lsn redo_lsn log (Compensation c) image =
     put_more rec_lsn redo_lsn log (Compensation c) image c.page c.slot c.image (record { writes_is = λ p s. refl; on_is = λ p. refl; image_is = refl })
 advanced rec_lsn redo_lsn log r image = idle rec_lsn redo_lsn log r image (λ p t. refl) (λ p. refl)
 
--- WHERE NOTHING IS DONE
+-- IF NOTHING IS DONE
 put_idle : (redo_lsn lsn slot : ℕ) (value : Image) (p : RedoPage) → is_redone p.rec_lsn redo_lsn p.page.lsn lsn ≡ false → put redo_lsn lsn slot value p ≡ p
 put_idle redo_lsn lsn slot value p over = rw over refl
 
@@ -158,7 +158,7 @@ put_count : (redo_lsn lsn slot : ℕ) (value : Image) (p : RedoPage) → (put re
 put_count redo_lsn lsn slot value p =
     elim (cases_Bool (is_redone p.rec_lsn redo_lsn p.page.lsn lsn)) [ inl lacking ↦ rw lacking (omega arith) | inr over ↦ omega (arith, ap (λ (q : RedoPage). q.applied) (put_idle redo_lsn lsn slot value p over)) ]
 
--- its number
+-- the page's number
 pub advance_number : (redo_lsn lsn : ℕ) (r : LogRecord) (p : RedoPage) → (advance redo_lsn lsn r p).page.number ≡ p.page.number
 advance_number redo_lsn lsn r p = by (change_of r)
   where
@@ -166,7 +166,7 @@ advance_number redo_lsn lsn r p = by (change_of r)
     by None = refl
     by (Some c) = cond_both (eqb c.page p.page.number) (put redo_lsn lsn c.slot c.image p) p (λ q. q.page.number ≡ p.page.number) (λ _. put_number redo_lsn lsn c.slot c.image p) (λ _. refl)
 
--- and the count, but for one
+-- the count, which grows by at most one
 pub advance_count : (redo_lsn lsn : ℕ) (r : LogRecord) (p : RedoPage) → (advance redo_lsn lsn r p).applied ≤ suc p.applied
 advance_count redo_lsn lsn r p = by (change_of r)
   where

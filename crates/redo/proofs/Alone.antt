@@ -12,7 +12,7 @@ use Rattle.redo.specs.Parts.{numbers_of}
 use Rattle.redo.proofs.Reading.{get_same}
 use Rattle.redo.proofs.Advance.{advance_elsewhere}
 
--- its place is one of theirs
+-- the place is that of one of the pages
 pub alone_within : (place_of : List ℕ) (ps : List RedoPage) (page : ℕ) (alone : StandsAlone place_of (numbers_of ps) page) → alone.place < length ps
 alone_within place_of ps page alone = omega (arith, slice_get_within (numbers_of ps) alone.place page alone.there, length-map ps (λ (p : RedoPage). p.page.number))
 
@@ -34,7 +34,7 @@ set_alone f place_of ps page alone place new d others at is =
           get_or-set_other ps place k new d ne ∙ (sym (others (get_or ps k d) other) ∙ sym (get_or-map f ps k d d below)))
     ])
 
--- so is the update or CLR of a page that stands alone
+-- the same for the update or CLR of a page that is at no other place
 pub put_alone : (redo_lsn lsn slot : ℕ) (value : Image) (r : LogRecord) (place_of : List ℕ) (ps new : List RedoPage) (page place : ℕ) (alone : StandsAlone place_of (numbers_of ps) page)
     → slice_get place_of page ≡ Some place → page_named r ≡ Some page → ((p : RedoPage) → page ≡ p.page.number → advance redo_lsn lsn r p ≡ put redo_lsn lsn slot value p)
     → ((d : RedoPage) → new ≡ set ps place (put redo_lsn lsn slot value (get_or ps place d))) → new ≡ map (advance redo_lsn lsn r) ps

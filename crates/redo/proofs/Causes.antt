@@ -25,7 +25,7 @@ not_skipped base (suc n) len lsn h above within = let from = h.1 in let e = skip
 in_log : (log : LogContent) (lsn : ℕ) (r : LogRecord) → record_at (history log) lsn ≡ Some r → lsn ≤ last_lsn (history log)
 in_log log lsn r e = record_within (history log) lsn r e
 
--- where all exist that are not skipped, all exist that are looked at
+-- if all exist that are not skipped, all exist that are looked at
 pub exist_from : (log : LogContent) (count redo_lsn : ℕ) → ExistWithin log count (skipped (base_lsn (history log)) redo_lsn (last_lsn (history log))) (last_lsn (history log)) → AllExist log count redo_lsn
 exist_from log count redo_lsn exist lsn r looked found =
     let within = in_log log lsn r found in

@@ -79,7 +79,7 @@ module _ (pages new : List Page) (page slot : ℕ) (image : Image) (below : page
         | inr other ↦ ap (λ (p : Page). get_or p.slots i None) (page_kept k _ other)
       ]
 
--- what is among the rest and one more
+-- what is among one more and the rest
 among : (w x : Wanted) (rest : List Wanted) → Contains (w ∷ rest) x → (w ≡ x) ⊎ Contains rest x
 among w x rest has = elim (Contains-append_cases (w ∷ []) rest x has) [ inl one ↦ inl (contains_one w x one) | inr more ↦ inr more ]
 

@@ -1,4 +1,4 @@
--- Tallies put to the numbers of their pages, and pages made by them.
+-- Tallies put at the numbers of their pages, and the pages that they describe.
 use Rattle.std.proofs.Common.{◌≡◌, ◌≢◌, ℕ, suc, ◌+◌, ◌<◌, ◌⊎◌, false, List, [], ◌∷◌, ◌++◌, All, Contains, Some, map, sum, take, drop, length, get_or, set, refl, sym, ap, ap₂, ◌∙◌, subst, inl, inr, arith, length-append}
 use Rattle.std.specs.List.{slice_get, sum_by}
 use Rattle.std.proofs.lemmas.List.Sums.{sum-map}
@@ -45,7 +45,7 @@ module _ (input : InputContent) (tallies : List Tally) (t : Tally) (done : IsDon
       ]
 
 -- MANY
--- the page of a number among one more
+-- the page of a number, among these and one more
 pub has_more : (ps : List RedoPage) (p : RedoPage) (number : ℕ) → HasPage (ps ++ p ∷ []) number → (HasPage ps number) ⊎ (p.page.number ≡ number)
 has_more ps p number has =
     elim (get_split ps p has.place has.redo_page has.there) [
@@ -56,7 +56,7 @@ has_more ps p number has =
 pub has_none : (number : ℕ) → HasPage [] number → ⊥
 has_none number has = let lt = slice_get_within {A = RedoPage} [] has.place has.redo_page has.there in omega arith
 
--- a page among some is among more
+-- a page that is among some is among more
 pub has_left : (ps qs : List RedoPage) (number : ℕ) → HasPage ps number → HasPage (ps ++ qs) number
 has_left ps qs number has = record { place = has.place; redo_page = has.redo_page; there = get_more ps qs has.place has.redo_page has.there; number = has.number }
 
@@ -71,8 +71,7 @@ has_right ps qs number has =
       number = has.number;
     }
 
--- WHAT WORKERS BRING BACK
--- where all pages of a share are tallied, those of its parts are
+-- WHAT WORKERS RETURN if all pages of a share are tallied, those of its parts are
 pub share_tallied : (parted : PartedContent) (board : BoardId) (share : Share) (tallies : List Tally) → IsBack parted board share → share.seat.stopped ≡ false → share.seat.told ≡ false
     → ((number : ℕ) → HasPage (map (resolved parted.input) share.tallies.items) number → IsTallied parted.input tallies number) → AreTallied parted tallies share.seat.drawn
 share_tallied parted board share tallies back stopped told tallied number part given drawn = tallied number (back.drawn stopped told part drawn number given)
@@ -85,7 +84,7 @@ both_tallied parted tallies xs ys drawn is first second number part given has =
       | inr h ↦ second number part given h
     ]
 
--- where all parts are drawn, all pages are tallied
+-- if all parts are drawn, all pages are tallied
 pub all_tallied : (parted : PartedContent) (tallies : List Tally) (drawn : List ℕ) → length parted.parting.part_of ≡ length parted.input.images → All (λ part. part < parted.parting.parts) parted.parting.part_of
     → ((part : ℕ) → part < parted.parting.parts → Contains drawn part) → AreTallied parted tallies drawn → (number : ℕ) → number < length parted.input.images → IsTallied parted.input tallies number
 all_tallied parted tallies drawn dealt below all tallied number lt =
@@ -93,7 +92,7 @@ all_tallied parted tallies drawn dealt below all tallied number lt =
     let within : number < length part_of = omega (arith, lt, dealt) in
     tallied number (get_or part_of number 0) (slice_get-get_or part_of number 0 within) (all (get_or part_of number 0) (below number 0 within))
 
--- a page that stands in the store has a place
+-- a page that is in the store has a place
 pub done_below : (input : InputContent) (ts : List Tally) (n : ℕ) → n ≡ length input.images → All (IsDone input) (map (resolved input) ts) → All (λ t. t.number < n) ts
 done_below input ts n count done k d lt =
     let t = get_or ts k d in
@@ -102,7 +101,7 @@ done_below input ts n count done k d lt =
     omega (arith, count, slice_get_within input.images t.number at.image at.there)
 
 -- AT THE END
--- a list that has at each place what a function makes of the image there
+-- a list that has at each place the result of a function for the image there
 map_of : {X : Type 0} (h : Page → X) (images : List Page) (xs : List X) → length xs ≡ length images → ((k : ℕ) (image : Page) → slice_get images k ≡ Some image → slice_get xs k ≡ Some (h image)) → xs ≡ map h images
 map_of h [] [] e at = refl
 map_of h [] (x ∷ xs) e at = absurd (omega arith)
@@ -110,7 +109,7 @@ map_of h (image ∷ images) [] e at = absurd (omega arith)
 map_of h (image ∷ images) (x ∷ xs) e at = ap₂ (λ y ys. y ∷ ys) (same_Some _ _ (at 0 image refl)) (map_of h images xs (omega arith) (λ k i f. at (suc k) i f))
 
 module _ (input : InputContent) (tallies : List Tally) (all : AreAllTallied input tallies) where
-  -- a page that is made of its image by its tally is redone
+  -- a page that is finished by its tally is redone
   pages_are : (pages : List Page) → length pages ≡ length input.images
       → ((number : ℕ) (t : Tally) (image : Page) → number < length input.images → get_or pages number image ≡ finished (history input.log) (get_or tallies number t) (get_or input.images number image))
       → pages ≡ map (λ image. (redo_page_in input (history input.log) image).page) input.images
@@ -135,7 +134,7 @@ module _ (input : InputContent) (tallies : List Tally) (all : AreAllTallied inpu
       ∙ ap (λ p. p.applied) is.redone
       ∙ ap (λ i. (redo_page_in input (history input.log) i).applied) (get_same input.images k is.image image is.there e)))
 
-  -- so are all of them, where they were lent and written back
+  -- all pages are redone after they were borrowed and written back
   pub pages_back : (n : ℕ) (items lent pages : List Page) (told : List Tally) → items ≡ input.images → length items ≡ n → lent ≡ items → told ≡ tallies → length pages ≡ length lent
       → ((number : ℕ) (t : Tally) (image : Page) → number < length lent → get_or pages number image ≡ finished (history input.log) (get_or told number t) (get_or lent number image))
       → take n (pages ++ drop (length pages) items) ≡ map (λ image. (redo_page_in input (history input.log) image).page) input.images
@@ -147,6 +146,6 @@ module _ (input : InputContent) (tallies : List Tally) (all : AreAllTallied inpu
       each number t image (omega (arith, less, ap (λ (xs : List Page). length xs) same))
       ∙ (ap (λ (ts : List Tally). finished (history input.log) (get_or ts number t) (get_or lent number image)) is ∙ ap (λ (xs : List Page). finished (history input.log) (get_or tallies number t) (get_or xs number image)) same))
 
-  -- and their counts, added up
+  -- the sum of their counts
   pub total_is : (told : List Tally) → told ≡ tallies → sum_by (λ t. t.applied) told ≡ sum (map (λ image. (redo_page_in input (history input.log) image).applied) input.images)
   total_is told is = ap (sum_by (λ (t : Tally). t.applied)) is ∙ (sym (sum-map (λ (t : Tally). t.applied) tallies) ∙ ap sum counts_are)

@@ -1,4 +1,4 @@
--- The pages of each part while pages are dealt.
+-- The pages of each part while the pages are divided.
 use Rattle.std.proofs.Common.{◌≡◌, ◌≢◌, ℕ, ◌+◌, ◌<◌, ◌≤◌, true, false, List, [], ◌∷◌, ◌++◌, Some, Vec, Result, Ok, Err, IfErr, ◌%◌, cond, eqb, get_or, length, sym, ap, ◌∙◌, subst, inl, inr, arith, length-append, eq-eqb, ne_eqb}
 use Rattle.std.specs.declared.alloc.Global.{Global}
 use Rattle.std.specs.List.{slice_get}
@@ -68,7 +68,7 @@ module _ (part_of place_of : List ℕ) (x page place : ℕ) (count : length plac
             subst (AreMembers part_of (place_of ++ place ∷ []) part) (sym here) (stays part ne (list_at old part) (lists part)))
       ]
 
--- no page is dealt at first
+-- no page has a part at first
 pub none_dealt : (part_of : List ℕ) (lists : List (Vec ℕ Global)) → ((k : ℕ) → list_at lists k ≡ []) → AreLists part_of [] lists
 none_dealt part_of lists empty part = record {
   found = λ page lt h. absurd (omega arith);
@@ -78,7 +78,7 @@ none_dealt part_of lists empty part = record {
     none : (place page : ℕ) → slice_get {X = ℕ} [] place ≡ Some page → ⊥
     none place page e = let lt = slice_get_within [] place page e in omega arith
 
--- no part has more pages than were dealt
+-- no part has more pages than were given a part
 pub low_next : (page part k : ℕ) (old new : List ℕ) → new ≡ cond (eqb k part) (old ++ page ∷ []) old → length old ≤ page → length new ≤ page + 1
 low_next page part k old new is low =
     subst (λ (xs : List ℕ). length xs ≤ page + 1) (sym is) (cond_both (eqb k part) (old ++ page ∷ []) old (λ xs. length xs ≤ page + 1) (λ _. omega (arith, low, length-append old (page ∷ []))) (λ _. omega (arith, low)))

@@ -1,4 +1,4 @@
--- Redo is refused for one cause, and for none where it answers.
+-- Redo has at most one error, and none if it succeeds.
 use Rattle.std.proofs.Common.{◌≡◌, ◌<◌, ℕ, refl, ap, arith}
 use Rattle.page.specs.declared.fault.Fault.TheVariants.{NoResource, BadWorkers, NoSuchPage}
 use Rattle.wal.specs.Records.{LogContent}

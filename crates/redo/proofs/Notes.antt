@@ -41,7 +41,7 @@ noted old new part note lt is k =
       | inr ne ↦ get_or-set_other old part k (notes_at old part ++ note ∷ []) [] ne ∙ sym (ap (λ b. cond b more (notes_at old k)) (ne_eqb k part ne))
     ]
 
--- one part more without notes
+-- one more part without notes
 pub none_more : (lists : List (List Note)) → ((k : ℕ) → notes_at lists k ≡ []) → (k : ℕ) → notes_at (lists ++ [] ∷ []) k ≡ []
 none_more [] none zero = refl
 none_more [] none (suc k) = refl

@@ -1,4 +1,4 @@
--- One record more of a stretch, noted for its part.
+-- One more record of a stretch, noted for its part.
 use Rattle.std.proofs.Common.{◌≡◌, ℕ, suc, ◌+◌, ◌<◌, ◌≤◌, List, [], ◌∷◌, ◌++◌, All, Bool, Some, None, true, false, refl, map, inl, inr, eq-eqb, ne_eqb, cond, eqb, length, get_or, sym, ap, ◌∙◌, subst, arith}
 use mathlib.Core.Logic.{dite}
 use native.Mathlib.Decide.{dec_lt}
@@ -25,7 +25,7 @@ use Rattle.redo.proofs.Replay.{lsns_more, page_of_cell}
 pub none_noted : (input : InputContent) (part_of : List ℕ) (from part : ℕ) → base_lsn (history input.log) ≤ from → lsns_where (on_part part_of part) from (first from (history input.log)) ≡ []
 none_noted input part_of from part le = lsns_none (on_part part_of part) from (first from (history input.log)) (size_of_first_le from (history input.log) le)
 
--- one record more on a page that there is
+-- one more record, on a page that the store has
 pub exist_on : (log : LogContent) (count from seen : ℕ) (r : LogRecord) → record_at (history log) (seen + 1) ≡ Some r → NamesBelow count r → ExistWithin log count from seen → ExistWithin log count from (seen + 1)
 exist_on log count from seen r at below old lsn x past within found =
     dite (dec_lt lsn (seen + 1))
@@ -80,7 +80,7 @@ no_page r e = sym (ap (option_map (λ (x : ℕ × ℕ). x.0)) e)
 pub no_cell : (part_of : List ℕ) (part : ℕ) (r : LogRecord) → None ≡ cell_of r → on_part part_of part r ≡ false
 no_cell part_of part r e = ap (λ o. is_part part (part_of_page part_of o)) (no_page r e)
 
--- one note more
+-- one more note
 pub notes_more : (log : History) (place_of : List ℕ) (note : Note) (k part : ℕ) (old new : List Note) → new ≡ cond (eqb k part) (old ++ note ∷ []) old → IsNote log place_of note → All (IsNote log place_of) old → All (IsNote log place_of) new
 notes_more log place_of note k part old new is one all =
     subst (All (IsNote log place_of)) (sym is) (cond_both (eqb k part) (old ++ note ∷ []) old (All (IsNote log place_of)) (λ _. All-push (IsNote log place_of) old note all one) (λ _. all))

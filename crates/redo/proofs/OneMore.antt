@@ -46,7 +46,7 @@ module _ (input : InputContent) (redo_lsn lsn : ℕ) (glance : Glance) (piece : 
     seen_of = seen.seen_of;
   }
 
-  -- the tallies of the records up to an LSN, with the record behind it
+  -- the tallies of the records up to an LSN, with the record after it
   pub counted_behind : (tallies new : List Tally) → ((any : InputContent) → IsRecordFor any redo_lsn (lsn + 1) glance → AreUpTo any (lsn + 1 - 1) tallies → AreUpTo any (lsn + 1) new)
       → AreUpTo input lsn tallies → AreUpTo input (lsn + 1) new
   counted_behind tallies new goes_on up =
@@ -55,7 +55,7 @@ module _ (input : InputContent) (redo_lsn lsn : ℕ) (glance : Glance) (piece : 
 
 -- THE RECORDS
 module _ (whole : LogContent) (count redo_lsn lsn : ℕ) (r : LogRecord) (there : record_at (history whole) lsn ≡ Some r) (before : ExistBelow whole count redo_lsn lsn) where
-  -- where all exist below an LSN, and the record at it is on a page below the count, all exist with it
+  -- if all exist below an LSN, and the record at it is on a page below the count, all exist with it
   pub exist_with : NamesBelow count r → ExistBelow whole count redo_lsn (lsn + 1)
   exist_with below k x looked less found =
       elim (cases_eq k lsn) [
@@ -63,10 +63,10 @@ module _ (whole : LogContent) (count redo_lsn lsn : ℕ) (r : LogRecord) (there 
         | inr other ↦ before k x looked (omega (arith, less, other)) found
       ]
 
-  -- else it is the first that is missing
+  -- otherwise it is the first that is missing
   pub missing_at : IsLookedAt redo_lsn lsn → (NamesBelow count r → ⊥) → IsFirstMissing whole count redo_lsn lsn
   missing_at looked beyond = record { entry = r; looked_at = looked; there = there; beyond = beyond; before = before }
 
-  -- and redo is refused for it
+  -- and redo returns its error
   pub refused_at : (e : Fault) → IsLookedAt redo_lsn lsn → (NamesBelow count r → ⊥) → e ≡ NoSuchPage lsn → RedoFault whole count redo_lsn 1 e
   refused_at e looked beyond is = subst (RedoFault whole count redo_lsn 1) (sym is) ((omega arith, omega arith), missing_at looked beyond)

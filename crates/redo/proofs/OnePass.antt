@@ -1,4 +1,4 @@
--- One pass over the records: before the first, one record more, and at the end.
+-- One pass over the records: before the first, with one more record, and at the end.
 use Rattle.std.proofs.Common.{◌≡◌, ℕ, ◌+◌, ◌<◌, ◌≤◌, List, [], ◌∷◌, ◌++◌, All, Some, None, length, get_or, set, sym, ap, subst, ◌∙◌, inl, inr, arith}
 use Rattle.std.proofs.lemmas.Bool.{cases_eq, cases_lt}
 use Rattle.std.proofs.lemmas.List.{get_or_append_left, get_or_default, get_or-set_same, get_or-set_other}
@@ -39,7 +39,7 @@ begun input tallies count each = record {
       ∙ sym (skips_none input (image_at input.images number) (skipped_in input) (omega arith) (skipped_within (base_lsn (history input.log)) input.redo_lsn (last_lsn (history input.log)) (base_within (history input.log))));
 }
 
--- one page more is begun
+-- one more page is begun
 pub begun_more : (images : List Page) (tables : TablesContent) (number : ℕ) (tallies : List Tally) (tally : Tally) → length tallies ≡ number
     → ((k : ℕ) (t : Tally) → k < number → IsBegunIn images tables k (get_or tallies k t)) → IsBegunIn images tables number tally
     → (k : ℕ) (t : Tally) → k < number + 1 → IsBegunIn images tables k (get_or (tallies ++ tally ∷ []) k t)
@@ -52,7 +52,7 @@ begun_more images tables number tallies tally count each one k t lt =
           (subst (IsBegunIn images tables (length tallies)) (sym (get_or-append_seam tallies tally [] t)) (subst (λ i. IsBegunIn images tables i tally) (sym count) one)))
     ]
 
--- A RECORD MORE
+-- ONE MORE RECORD
 -- a record in no cell changes no page
 pub idle : (redo_lsn lsn : ℕ) (r : LogRecord) (p : RedoPage) → None ≡ cell_of r → p ≡ advance redo_lsn lsn r p
 idle redo_lsn lsn r p none = sym (advance_elsewhere redo_lsn lsn r p (λ page named _. unnamed page (sym (no_page r none) ∙ named)))
@@ -98,7 +98,7 @@ module _ (input : InputContent) (numbered : AreNumbered input.images) (lsn : ℕ
       let counted : (get_or tallies k t).applied ≡ applied (rec_lsn_of image.number input.dirty) input.redo_lsn image (first lsn (history input.log)) = ap (λ (p : RedoPage). p.applied) (up.each k t (omega (arith, lt, up.count))) in
       omega (arith, counted, applied_within (rec_lsn_of image.number input.dirty) input.redo_lsn image (first lsn (history input.log)), size_of_first lsn (history input.log) from to)
 
-  -- what one record makes of each page is what the log with it makes
+  -- each page after one record is the page after the log with that record
   pub one_more : (new : List Tally) → base_lsn (history input.log) ≤ lsn → lsn < last_lsn (history input.log) → length new ≡ length tallies
       → ((r : LogRecord) (k : ℕ) (t : Tally) → record_at (history input.log) (lsn + 1) ≡ Some r → k < length tallies
       → resolved input (get_or new k t) ≡ advance input.redo_lsn (lsn + 1) r (resolved input (get_or tallies k t)))
@@ -135,7 +135,7 @@ module _ (input : InputContent) (numbered : AreNumbered input.images) (lsn : ℕ
             redone = up.each number _ lt ∙ ap (λ h. redo_page_in input h image) (first_all lsn (history input.log) whole);
           }
 
--- WHAT IS REFUSED
+-- THE ERRORS
 pub alone_fault : (input : InputContent) (to workers : ℕ) (e : Fault) → AreWorkers workers → RouteFault input (skipped_in input) to e → RedoFault input.log (length input.images) input.redo_lsn workers e
 alone_fault input to workers NoResource fit cause = tt
 alone_fault input to workers (NoSuchPage lsn) fit cause = round_fault input workers (NoSuchPage lsn) fit cause.1

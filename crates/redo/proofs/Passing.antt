@@ -1,4 +1,4 @@
--- The tallies while a log goes by in pieces: one record more, and what is passed over.
+-- The tallies while a log is read in pieces: one more record, and the records that are passed over.
 use Rattle.std.proofs.Common.{◌≡◌, ◌≢◌, ℕ, zero, suc, replicate, ◌+◌, ◌<◌, ◌≤◌, true, eqb, eq-eqb, List, [], ◌∷◌, All, Some, length, get_or, set, refl, sym, ap, ◌∙◌, subst, inl, inr, arith}
 use Rattle.std.proofs.lemmas.Bool.{cases_Bool, cases_eq, cases_lt, cond_both}
 use Rattle.std.proofs.lemmas.List.{get_or-set_same, get_or-set_other, length-set, set_past}
@@ -45,7 +45,7 @@ set_within xs slot lsn each i =
 counted_lasts : (redo_lsn lsn slot : ℕ) (t : Tally) → ((i : ℕ) → get_or t.lasts i 0 ≤ lsn) → (i : ℕ) → get_or (counted redo_lsn lsn slot t).lasts i 0 ≤ lsn
 counted_lasts redo_lsn lsn slot t each i = cond_both (is_redone t.rec_lsn redo_lsn t.lsn lsn) _ t (λ (x : Tally). get_or x.lasts i 0 ≤ lsn) (λ _. set_within t.lasts slot lsn each i) (λ _. each i)
 
--- what is so of all but one, and of that one
+-- what holds for all except one, and for that one
 one_set : (P Q : ℕ → Tally → Type 0) (tallies new : List Tally) (number : ℕ) (f : Tally → Tally) → number < length tallies
     → ((d : Tally) → new ≡ set tallies number (f (get_or tallies number d)))
     → ((k : ℕ) (t : Tally) → P k t → Q k t) → ((t : Tally) → P number t → Q number (f t))
@@ -168,7 +168,7 @@ passed_over old piece kept upto = record {
   exist = λ lsn r past within found. absurd (omega (arith, past, within));
 }
 
--- one record more
+-- one more record
 pub passed_more : (old : TalliesSoFar) (piece : LogContent) (lsn : ℕ) (r : LogRecord) (lent new : List Tally) → base_lsn (history piece) ≤ lsn → lsn < last_lsn (history piece) → record_at (history piece) (lsn + 1) ≡ Some r
     → AreKept (lsn + 1) new → length new ≡ length lent → NamesBelow (length lent) r
     → ((input : InputContent) (k : ℕ) (t : Tally) → input.redo_lsn ≡ old.redo_lsn → record_at (history input.log) (lsn + 1) ≡ Some r → k < length lent
@@ -187,7 +187,7 @@ passed_more old piece lsn r lent new from lt there kept count below each before 
 }
 
 -- A PIECE AND THE WHOLE LOG
--- where all exist in front of a piece and in it, all do up to its last
+-- if all exist before a piece and in it, all exist up to its last
 pub exist_gone : (whole piece : LogContent) (count redo_lsn : ℕ) → IsPieceOf (history whole) (history piece) → ExistBelow whole count redo_lsn (base_lsn (history piece) + 1) → AllExist piece count redo_lsn
     → ExistBelow whole count redo_lsn (last_lsn (history piece) + 1)
 exist_gone whole piece count redo_lsn own before exist lsn r looked below found =

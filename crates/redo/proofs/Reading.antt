@@ -10,7 +10,7 @@ use mathlib.Core.Logic.{dite}
 use native.Mathlib.Decide.{dec_lt}
 use Rattle.redo.specs.Lists.{items_of, list_at}
 
--- what stands in a list stands in a longer one
+-- what is in a list is in a longer one
 pub get_more : {X : Type 0} (xs ys : List X) (i : ℕ) (x : X) → slice_get xs i ≡ Some x → slice_get (xs ++ ys) i ≡ Some x
 get_more xs ys i x e =
     let lt = slice_get_within xs i x e in
@@ -21,7 +21,7 @@ get_more xs ys i x e =
 pub get_last : {X : Type 0} (xs : List X) (x : X) → slice_get (xs ++ x ∷ []) (length xs) ≡ Some x
 get_last xs x = slice_get-get_or (xs ++ x ∷ []) (length xs) x (omega (arith, length-append xs (x ∷ []))) ∙ ap Some (get_or-append_seam xs x [] x)
 
--- what stands in a list with one more is that one or stands in the list
+-- what is in a list with one more is that one or is in the list
 pub get_split : {X : Type 0} (xs : List X) (x : X) (i : ℕ) (y : X) → slice_get (xs ++ x ∷ []) i ≡ Some y → (slice_get xs i ≡ Some y) ⊎ ((i ≡ length xs) × (y ≡ x))
 get_split xs x i y e =
     let within = slice_get_within (xs ++ x ∷ []) i y e in
@@ -36,7 +36,7 @@ get_split xs x i y e =
 pub get_same : {X : Type 0} (xs : List X) (i : ℕ) (x y : X) → slice_get xs i ≡ Some x → slice_get xs i ≡ Some y → x ≡ y
 get_same xs i x y e f = sym (get_or_from_slice_get xs i x x e) ∙ get_or_from_slice_get xs i y x f
 
--- one empty list more
+-- one more empty list
 pub empty_push : {X : Type 0} (lists : List (Vec X Global)) (v : Vec X Global) → v.items ≡ [] → ((k : ℕ) → list_at lists k ≡ []) → (k : ℕ) → list_at (lists ++ v ∷ []) k ≡ []
 empty_push lists v e h k =
     dite (dec_lt k (length lists))
@@ -49,12 +49,12 @@ empty_push lists v e h k =
     let at : k ≡ length lists = omega arith in
     ap (λ i. list_at (lists ++ v ∷ []) i) at ∙ ap items_of (get_last lists v) ∙ e))
 
--- what is empty together is empty
+-- if two lists are empty together, both are empty
 pub both_empty : {X : Type 0} (xs ys : List X) → xs ++ ys ≡ [] → (xs ≡ []) × (ys ≡ [])
 both_empty [] ys e = (refl, e)
 both_empty (x ∷ xs) ys e = absurd (cc)
 
--- what a vector holds whose elements were lent and written
+-- what a vector holds after its elements were borrowed and written
 pub written_back : {X : Type 0} (n : ℕ) (items ws : List X) → length ws ≡ n → take n (ws ++ drop (length ws) items) ≡ ws
 written_back n items ws e = take_at ws (drop (length ws) items) n e
 
@@ -64,12 +64,12 @@ contains_one x y has =
     let first : has.0 ≡ 0 = omega (arith, has.1) in
     sym (ap (λ i. get_or (x ∷ []) i y) first) ∙ has.2
 
--- what holds where a call answered
+-- what holds if a call succeeded
 pub on_ok : {X E : Type 0} {P : Type 0} (r : Result X E) → is_err r ≡ false → OnOk r P → P
 on_ok (Ok x) e h = h
 on_ok (Err x) e h = absurd (cc)
 
--- what is so of each element is so of the one that was popped
+-- what holds for each element holds for the one that was popped
 pub popped : {X : Type 0} (P : X → Type 0) (xs : List X) (n : ℕ) (x : X) → All P xs → n ≡ length xs → 0 < n → ((d : X) → 0 < n → Some x ≡ Some (get_or xs (n - 1) d)) → P x
 popped P xs n x all count any last =
     let at : x ≡ get_or xs (n - 1) x = same_Some _ _ (last x any) in

@@ -31,7 +31,7 @@ use Rattle.redo.proofs.Advance.{advanced, advance_had, advance_elsewhere, advanc
 pub page_of_cell : (r : LogRecord) (page slot : ℕ) → cell_of r ≡ Some (page, slot) → page_named r ≡ Some page
 page_of_cell r page slot e = ap (option_map (λ (x : ℕ × ℕ). x.0)) e
 
--- ONE RECORD MORE OF A STRETCH
+-- ONE MORE RECORD OF A STRETCH
 pub lsns_more : (test : LogRecord → Bool) (from : ℕ) (log : History) (r : LogRecord) → from ≤ last_lsn log → lsns_where test from (log ▸ r) ≡ cond (test r) (lsns_where test from log ++ suc (last_lsn log) ∷ []) (lsns_where test from log)
 lsns_more test from log r le = ap (λ b. cond (b && test r) (lsns_where test from log ++ suc (last_lsn log) ∷ []) (lsns_where test from log)) (le-leb from (last_lsn log) le)
 
@@ -157,7 +157,7 @@ lsns_few test from (log ▸ r) =
     (λ _. omega (arith, lsns_few test from log))
 
 -- THE PAGES OF A PART
--- what the LSNs of a part name, in a log that goes on
+-- what the LSNs of a part name, in a log that continues
 pub lsns_found : (test : LogRecord → Bool) (from : ℕ) (log whole : History) → ((n : ℕ) (r : LogRecord) → record_at log n ≡ Some r → record_at whole n ≡ Some r)
     → All (λ lsn. IsFound test whole lsn) (lsns_where test from log)
 lsns_found test from (start _) whole on = λ k d lt. absurd (omega arith)
@@ -167,7 +167,7 @@ lsns_found test from (log ▸ r) whole on =
     (λ e. All-push (λ lsn. IsFound test whole lsn) (lsns_where test from log) (suc (last_lsn log)) rest (record { entry = r; there = on (suc (last_lsn log)) r (record_last log r); passes = (and_parts (leb from (last_lsn log)) (test r) e).1 }))
     (λ _. rest)
 
--- what stands in the log up to an LSN stands in the log
+-- what is in the log up to an LSN is in the log
 found_first : (lsn : ℕ) (log : History) → base_lsn log ≤ lsn → lsn ≤ last_lsn log → (k : ℕ) (r : LogRecord) → record_at (first lsn log) k ≡ Some r → record_at log k ≡ Some r
 found_first lsn log from le k r e = sym (record_in_first lsn log k (omega (arith, record_within (first lsn log) k r e, size_of_first lsn log from le))) ∙ e
 
@@ -197,7 +197,7 @@ module _ (parted : PartedContent) (part : ℕ) (numbered : AreNumbered parted.in
       get_or-map (λ (p : RedoPage). p.page.number) (map at members) k (at 0) 0 (omega (arith, length-map members at))
       ∙ (ap (λ (p : RedoPage). p.page.number) (get_or-map at members k 0 (at 0) below) ∙ image_number parted.input.images (get_or members k 0) numbered (member_image members are k 0 below).0))
 
-  -- the page of each noted record of the part stands among them
+  -- the page of each noted record of the part is among them
   pub all_stand : (m n : ℕ) (ps : List RedoPage) (notes : List Note) → base_lsn (history parted.input.log) ≤ n → n ≤ last_lsn (history parted.input.log) → IsUpTo parted part m ps
       → map lsn_in notes ≡ lsns_where (on_part parted.parting.part_of part) m (first n (history parted.input.log)) → All (IsNote (history parted.input.log) parted.parting.place_of) notes
       → All (Stands (history parted.input.log) parted.parting.place_of (numbers_of ps)) notes
@@ -233,7 +233,7 @@ module _ (parted : PartedContent) (part : ℕ) (numbered : AreNumbered parted.in
       part_is None e = absurd (cc)
       part_is (Some x) e = ap Some (eqb-true x part e)
 
-  -- no count of theirs can overflow
+  -- none of their counts can overflow
   pub all_room : (m n : ℕ) (ps : List RedoPage) → base_lsn (history parted.input.log) ≤ m → m ≤ n → n ≤ last_lsn (history parted.input.log) → IsUpTo parted part m ps
       → All (λ p. p.applied + length (lsns_where (on_part parted.parting.part_of part) m (first n (history parted.input.log))) < 2 ^ 64) ps
   all_room m n ps from less le up k d lt =
@@ -253,7 +253,7 @@ module _ (parted : PartedContent) (part : ℕ) (numbered : AreNumbered parted.in
         fits,
       )
 
-  -- one stretch further
+  -- one more stretch
   pub further : (m n : ℕ) (old new : List RedoPage) → base_lsn (history parted.input.log) ≤ m → m ≤ n → n ≤ last_lsn (history parted.input.log) → IsUpTo parted part m old
       → new ≡ map (λ p. fold (step (history parted.input.log) parted.input.redo_lsn) p (lsns_where (on_part parted.parting.part_of part) m (first n (history parted.input.log)))) old → IsUpTo parted part n new
   further m n old new from less le up is =

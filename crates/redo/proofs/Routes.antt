@@ -16,11 +16,11 @@ use Rattle.redo.specs.declared.route.Route.{Route}
 use Rattle.redo.specs.Routes.{ExistWithin, RouteFault, IsRoute, IfRoute, IfEach, RoundFault, AreRoutes, boundary_in, skipped_in}
 use Rattle.redo.proofs.Stretches.{boundary_first}
 
--- what a worker answers that has its route
+-- what a worker returns that has its route
 abbrev pub answered : Route → Result Route Fault
 answered route = Ok route
 
--- nothing stands above the end of a log
+-- nothing is above the end of a log
 pub lsns_none : (test : LogRecord → Bool) (from : ℕ) (log : History) → last_lsn log ≤ from → lsns_where test from log ≡ []
 lsns_none test from (start _) le = refl
 lsns_none test from (log ▸ r) le =
@@ -50,7 +50,7 @@ all_exist parted [] are = absurd (let some = are.some in omega arith)
 all_exist parted (r ∷ rs) are = exist_first parted.input (length (r ∷ rs)) (length (r ∷ rs)) (λ j lt. (are.each j r lt).exist)
 
 module _ (parted : PartedContent) (results : List (Result Route Fault)) (each : IfEach parted results) where
-  -- the route of a worker that answered
+  -- the route of a worker that returned one
   route_at : (routes : List Route) (more : List (Result Route Fault)) → results ≡ map answered routes ++ more → (k : ℕ) (d : Route) → k < length routes → IsRoute parted (boundary_in parted.input (length results) k) (boundary_in parted.input (length results) (k + 1)) (get_or routes k d)
   route_at routes more are k d lt =
       let within : k < length results = omega (arith, ap (λ (xs : List (Result Route Fault)). length xs) are, length-append (map answered routes) more, length-map routes answered) in
@@ -68,7 +68,7 @@ module _ (parted : PartedContent) (results : List (Result Route Fault)) (each : 
         each = λ k d lt. subst (λ n. IsRoute parted (boundary_in parted.input n k) (boundary_in parted.input n (k + 1)) (get_or routes k d)) count (route_at routes [] (are ∙ sym (append-nil (map answered routes))) k d lt);
       }
 
-  -- the first that gave no route
+  -- the first worker that returned no route
   pub first_refused : (routes : List Route) (fault : Fault) (more : List (Result Route Fault)) → results ≡ map answered routes ++ Err fault ∷ more → RoundFault parted.input fault
   first_refused routes fault more are =
       let n = length results in

@@ -17,11 +17,11 @@ set-tabulated f g n j y lt others here =
           | inr d ↦ get_or-set_other (map f (range_with_len 0 n)) j k y y d ∙ get_or-map-range_with_len f 0 n k k y below (omega arith) ∙ sym (others k d)
         ]
 
--- the function outside that place alone
+-- equal functions make the same list
 pub map-same : {X : Type 0} (f g : ℕ → X) (xs : List ℕ) → f ≡ g → map f xs ≡ map g xs
 map-same f g xs e = ap (λ h. map h xs) e
 
--- the slots of a page hang on its 16 cells alone
+-- the slots of a page depend only on its 16 cells
 pub same_below : {X : Type 0} (f g : ℕ → ℕ → X) (page : ℕ) → ((slot : ℕ) → slot < 16 → f page slot ≡ g page slot) → map (λ slot. f page slot) (range_with_len 0 16) ≡ map (λ slot. g page slot) (range_with_len 0 16)
 same_below f g page h = from 0 16 (λ slot lt. h slot (omega (arith, lt)))
   where

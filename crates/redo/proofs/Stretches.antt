@@ -16,7 +16,7 @@ boundary_last from len workers le some =
 pub boundary_next : (from len workers k : ℕ) → boundary from len workers k ≤ boundary from len workers (k + 1)
 boundary_next from len workers k = let more = mul-add ((len - from) / workers) k 1 in omega arith
 
--- none ends behind the log
+-- none ends after the log
 pub boundary_within : (from len workers k : ℕ) → from ≤ len → 0 < workers → k ≤ workers → boundary from len workers k ≤ len
 boundary_within from len workers k le some few =
     let last = boundary_last from len workers le some in
@@ -33,7 +33,7 @@ skipped_from base redo_lsn len le = cond_both (eqb redo_lsn 0) len (max base (mi
 pub skipped_some : (base n len : ℕ) → skipped base (suc n) len ≡ max base (min len n)
 skipped_some base n len = ap (λ b. cond b len (max base (min len (suc n - 1)))) (ne_eqb (suc n) 0 (λ e. omega arith)) ∙ omega arith
 
--- of a piece, behind whose base something is skipped, no more than of the whole log
+-- if a piece has skipped records after its base, it skips no records that the whole log does not skip
 pub skipped_of_piece : (low base redo_lsn last high : ℕ) → low ≤ base → base ≤ last → last ≤ high → (skipped base redo_lsn last ≡ base) ⊎ (skipped base redo_lsn last ≤ skipped low redo_lsn high)
 skipped_of_piece low base zero last high a b c = inr (let e : skipped base 0 last ≡ last = refl in let f : skipped low 0 high ≡ high = refl in omega (arith, e, f, c))
 skipped_of_piece low base (suc n) last high a b c =

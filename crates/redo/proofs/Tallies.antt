@@ -1,4 +1,4 @@
--- Pages by LSNs alone: what a tally tells of a page.
+-- Pages by LSNs only: the page that a tally describes.
 use Rattle.std.proofs.Common.{◌≡◌, ℕ, zero, suc, ◌<◌, false, cond, eqb, List, [], ◌∷◌, Option, Some, None, map, replicate, length, get_or, set, refl, sym, ap, ◌∙◌, inl, inr, arith, ne_eqb, eq-eqb}
 use Rattle.std.specs.Prelude.{option_map}
 use Rattle.std.specs.List.{slice_get}
@@ -19,7 +19,7 @@ use Rattle.redo.specs.Parts.{numbers_of, redo_page_in, image_at, resolved}
 use Rattle.redo.proofs.Alone.{alone_within, put_alone}
 use Rattle.redo.proofs.Replay.{image_begun, page_of_cell}
 
--- a record stands at no LSN but a positive one
+-- no record is at the LSN 0
 pub positive : (log : History) (lsn : ℕ) (r : LogRecord) → record_at log lsn ≡ Some r → eqb lsn 0 ≡ false
 positive log zero r there = absurd (none (sym (record_none log zero (inl (omega arith))) ∙ there))
   where
@@ -70,7 +70,7 @@ slots_count log ls [] e = refl
 slots_count log [] (x ∷ xs) e = absurd (omega (arith, e))
 slots_count log (l ∷ ls) (x ∷ xs) e = ap suc (slots_count log ls xs (omega (arith, e)))
 
--- A RECORD MORE
+-- ONE MORE RECORD
 pub counted_put : (input : InputContent) (redo_lsn lsn slot : ℕ) (r : LogRecord) (t : Tally) → record_at (history input.log) lsn ≡ Some r
     → resolved input (counted redo_lsn lsn slot t) ≡ put redo_lsn lsn slot (image_of r) (resolved input t)
 counted_put input redo_lsn lsn slot r t there =

@@ -15,7 +15,7 @@ on_one (Update u) p q e f = sym (eqb-true u.page p e) ∙ eqb-true u.page q f
 on_one (Compensation c) p q e f = sym (eqb-true c.page p e) ∙ eqb-true c.page q f
 on_one r p q e f = absurd (false≢true e)
 
--- what pages have, added up
+-- the sum of what the pages have
 abbrev total : (Page → ℕ) → List Page → ℕ
 total f [] = 0
 total f (image ∷ images) = f image + total f images
@@ -70,7 +70,7 @@ module _ (dirty : List (ℕ × ℕ)) (redo_lsn : ℕ) where
   within (start base) images from = omega (arith, none_yet base images)
   within (log ▸ r) images from = omega (arith, within log images from, one_more log r 0 images from)
 
--- so all pages together have at most as many as the log
+-- all pages together have at most as many records as the log
 pub applied_once : (dirty : List (ℕ × ℕ)) (redo_lsn : ℕ) (log : History) (images : List Page) → AreNumbered images → sum (map (λ image. applied (rec_lsn_of image.number dirty) redo_lsn image log) images) ≤ last_lsn log
 unfolding count AreFrom
 applied_once dirty redo_lsn log images numbered =

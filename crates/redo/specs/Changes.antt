@@ -31,7 +31,7 @@ is_part part (Some x) = x == part
 abbrev pub on_part : List ℕ → ℕ → LogRecord → Bool
 on_part part_of part r = is_part part (part_of_page part_of (page_named r))
 
--- the LSNs above `from` of the records that pass a test, in rising order
+-- the LSNs above `from` of the records that pass a test, in ascending order
 abbrev pub lsns_where : (LogRecord → Bool) → (from : ℕ) → History → List ℕ
 lsns_where test from (start _) = []
 lsns_where test from (log ▸ r) =
@@ -50,24 +50,24 @@ pub record IsNote (log : History) (place_of : List ℕ) (n : Note) : Type 0 wher
   pub small : n.slot < SLOTS
   pub place : slice_get place_of page ≡ Some n.place
 
--- a page on its way through redo, with its RecLSN, None where it is not listed as dirty, and how many records were applied to it
+-- a page during redo, with its RecLSN, None if it is not listed as dirty, and how many records were applied to it
 pub record RedoPage : Type 0 where
   pub page : Page
   pub rec_lsn : Option ℕ
   pub applied : ℕ
 
--- a page as redo has it when it has come to the end of a log
+-- a page as redo has it at the end of a log
 abbrev pub redo_page_at : (rec_lsn : Option ℕ) (redo_lsn : ℕ) → History → Page → RedoPage
 redo_page_at rec_lsn redo_lsn log image = record { page = redo_of rec_lsn redo_lsn log image; rec_lsn = rec_lsn; applied = applied rec_lsn redo_lsn image log }
 
--- a value put into a slot, where the page lacks the record at this LSN
+-- a value put into a slot, if the page lacks the record at this LSN
 abbrev pub put : (redo_lsn lsn slot : ℕ) → Image → RedoPage → RedoPage
 put redo_lsn lsn slot image p =
     if is_redone p.rec_lsn redo_lsn p.page.lsn lsn
     then record { page = record { number = p.page.number; lsn = lsn; slots = slice_set p.page.slots slot image }; rec_lsn = p.rec_lsn; applied = suc p.applied }
     else p
 
--- what a change by the record at an LSN makes of a page, if there is one
+-- the page after the change by the record at an LSN, if there is one
 abbrev pub changed_by : (redo_lsn lsn : ℕ) → Option Change → RedoPage → RedoPage
 changed_by redo_lsn lsn None p = p
 changed_by redo_lsn lsn (Some c) p = if c.page == p.page.number then put redo_lsn lsn c.slot c.image p else p
@@ -80,28 +80,27 @@ abbrev pub advance_by : (redo_lsn lsn : ℕ) → Option LogRecord → RedoPage �
 advance_by redo_lsn lsn None p = p
 advance_by redo_lsn lsn (Some r) p = advance redo_lsn lsn r p
 
--- the same by its LSN in a log
+-- the same, by the LSN of a record in a log
 abbrev pub step : History → (redo_lsn : ℕ) → RedoPage → (lsn : ℕ) → RedoPage
 step log redo_lsn p lsn = advance_by redo_lsn lsn (record_at log lsn) p
 
--- BY LSNS ALONE
--- a record at this LSN counted for a slot, where the page lacks it
+-- BY LSNS ONLY a record at this LSN counted for a slot, if the page lacks the record
 abbrev pub counted : (redo_lsn lsn slot : ℕ) → Tally → Tally
 counted redo_lsn lsn slot t =
     if is_redone t.rec_lsn redo_lsn t.lsn lsn
     then record { number = t.number; lsn = lsn; rec_lsn = t.rec_lsn; applied = suc t.applied; lasts = slice_set t.lasts slot lsn }
     else t
 
--- what a slot holds by the LSN of its last record, where 0 says that there is none
+-- what a slot holds, by the LSN of its last record; 0 says that there is none
 abbrev pub held_after : History → (lsn : ℕ) → Image → Image
 held_after log lsn image = if lsn == 0 then image else image_in (record_at log lsn)
 
--- so do all of them
+-- what all slots hold
 abbrev pub slots_after : History → (lasts : List ℕ) → List Image → List Image
 slots_after log lasts [] = []
 slots_after log [] (x ∷ xs) = []
 slots_after log (l ∷ ls) (x ∷ xs) = held_after log l x ∷ slots_after log ls xs
 
--- the page that a tally tells of, by its image in the store
+-- the page that a tally describes, by its image in the store
 abbrev pub finished : History → Tally → Page → Page
 finished log t image = record { number = t.number; lsn = t.lsn; slots = slots_after log t.lasts image.slots }

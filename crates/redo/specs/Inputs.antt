@@ -13,7 +13,7 @@ pub record InputContent : Type 0 where
   pub dirty : List (ℕ × ℕ)
   pub redo_lsn : ℕ
 
--- these, taken from a log, pages and tables
+-- the input of a log, pages and tables
 abbrev pub input_over : LogContent → List Page → TablesContent → InputContent
 input_over log images tables = record { log = log; images = images; dirty = tables.dirty; redo_lsn = tables.redo_lsn }
 
@@ -21,6 +21,6 @@ input_over log images tables = record { log = log; images = images; dirty = tabl
 abbrev pub input_of : Inside → InputContent
 input_of p = input_over p.log.now p.store.now.pages p.tables.now
 
--- the pages stand at their numbers
+-- the pages are at their numbers
 abbrev pub IsInput : Inside → Type 0
 IsInput p = AreNumbered p.store.now.pages

@@ -3,7 +3,7 @@ use Rattle.std.specs.Prelude.{ℕ, List, [], Option, Some, None, Vec}
 use Rattle.std.specs.declared.alloc.Global.{Global}
 use Rattle.std.specs.List.{slice_get}
 
--- the items of a vector, none where there is none
+-- the items of a vector, none if there is no vector
 abbrev pub items_of : {X : Type 0} → Option (Vec X Global) → List X
 items_of None = []
 items_of (Some v) = v.items

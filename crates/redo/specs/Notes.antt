@@ -4,11 +4,11 @@ use Rattle.redo.specs.declared.note.Note.{Note}
 use Rattle.redo.specs.declared.note.NoteList.TheInside.{Inside}
 use Rattle.page.specs.declared.sizes.TheConstants.{SLOTS}
 
--- the cell of a number is the place and the slot, where the number is SLOTS times the place and the slot
+-- the note of a cell that is given as one number: SLOTS times the place, plus the slot
 abbrev pub note_of : (lsn cell : ℕ) → Note
 note_of lsn cell = record { lsn = lsn; place = cell / SLOTS; slot = cell % SLOTS }
 
--- each LSN with the cell that stands beside it
+-- each LSN with the cell at the same place
 abbrev pub notes_of : (lsns cells : List ℕ) → List Note
 notes_of [] cells = []
 notes_of (lsn ∷ lsns) [] = []
@@ -22,6 +22,6 @@ notes_in s = notes_of s.lsns.items s.cells.items
 abbrev pub AreNotes : Inside → Type 0
 AreNotes s = length s.cells.items ≡ length s.lsns.items
 
--- the notes for a part, none where there is no such part
+-- the notes for a part, none if there is no such part
 abbrev pub notes_at : List (List Note) → ℕ → List Note
 notes_at lists part = slice_index_or lists part []

@@ -1,10 +1,10 @@
--- What the rounds of workers look at: that, and a parting of the pages (own).
+-- What the rounds of workers look at: what redo looks at, and a partition of the pages (own).
 use Rattle.std.specs.Prelude.{◌≡◌, length}
 use Rattle.redo.specs.declared.input.PartedInput.TheInside.{Inside}
 use Rattle.redo.specs.Inputs.{InputContent}
 use Rattle.redo.specs.Parting.{PartingContent}
 
--- what redo looks at, and the parting
+-- what redo looks at, and the partition
 pub record PartedContent : Type 0 where
   pub input : InputContent
   pub parting : PartingContent

@@ -1,4 +1,4 @@
--- A parting of pages, as contracts see it (own).
+-- A partition of pages, as contracts see it (own).
 use Rattle.std.specs.Prelude.{◌≡◌, ℕ, ◌%◌, ◌<◌, ◌≤◌, List, All, Some, Vec, length, vec_len, map, ⊤}
 use Rattle.std.specs.declared.alloc.Global.{Global}
 use Rattle.std.specs.List.{slice_get, range_with_len}
@@ -14,7 +14,7 @@ pub record PartingContent : Type 0 where
   pub part_of : List ℕ
   pub place_of : List ℕ
 
--- the numbers of pages, and of parts, that a parting may have
+-- the numbers of pages, and of parts, that a partition may have
 abbrev pub IsSize : ℕ → Type 0
 IsSize n = (1 ≤ n) × (n ≤ PAGES)
 
@@ -25,7 +25,7 @@ pub record IsDealt (pages parts : ℕ) (part_of : List ℕ) : Type 0 where
   pub count : length part_of ≡ pages
   pub below : All (λ part. part < parts) part_of
 
--- why a parting is refused, memory aside
+-- the error of a partition, memory aside
 abbrev pub PartingFault : ℕ → ℕ → List ℕ → Fault → Type 0
 PartingFault pages parts part_of NoResource = ⊤
 PartingFault pages parts part_of BadParting = IsDealt pages parts part_of → ⊥
@@ -42,7 +42,7 @@ pub record AreMembers (part_of place_of : List ℕ) (part : ℕ) (members : List
   pub found : (page : ℕ) → page < length place_of → slice_get part_of page ≡ Some part → IsMember place_of members page
   pub only : (place page : ℕ) → slice_get members place ≡ Some page → (slice_get part_of page ≡ Some part) × (slice_get place_of page ≡ Some place)
 
--- so are the lists of all parts
+-- the lists of all parts have their pages
 abbrev pub AreLists : List ℕ → List ℕ → List (Vec ℕ Global) → Type 0
 AreLists part_of place_of lists = (part : ℕ) → AreMembers part_of place_of part (list_at lists part)
 
@@ -62,7 +62,7 @@ pub record IsParting (s : Inside) : Type 0 where
 abbrev pub by_number : (pages parts : ℕ) → List ℕ
 by_number pages parts = map (λ page. page % parts) (range_with_len 0 pages)
 
--- why such a parting is refused, memory aside
+-- the error of such a partition, memory aside
 abbrev pub NumberFault : ℕ → ℕ → Fault → Type 0
 NumberFault pages parts NoResource = ⊤
 NumberFault pages parts BadParting = (IsSize pages × IsSize parts) → ⊥

@@ -22,7 +22,7 @@ numbers_of ps = map (λ p. p.page.number) ps
 abbrev pub redo_page_in : InputContent → History → Page → RedoPage
 redo_page_in input log image = redo_page_at (rec_lsn_of image.number input.dirty) input.redo_lsn log image
 
--- the image of a page in the store; an empty page where it has none
+-- the image of a page in the store; an empty page if the store has none
 abbrev pub image_at : List Page → ℕ → Page
 image_at images number = slice_index_or images number (record { number = number; lsn = 0; slots = replicate SLOTS None })
 
@@ -33,7 +33,7 @@ pub record IsUpTo (parted : PartedContent) (part lsn : ℕ) (ps : List RedoPage)
   pub all : length parted.parting.place_of ≡ length parted.parting.part_of
   pub redone : ps ≡ map (λ number. redo_page_in parted.input (first lsn (history parted.input.log)) (image_at parted.input.images number)) members
 
--- what a tally tells of a page: its image in the store, and the values of the records that are the last in their slots
+-- the page that a tally describes: its image in the store, with the values of the records that are the last in their slots
 abbrev pub resolved : InputContent → Tally → RedoPage
 resolved input t = record { page = finished (history input.log) t (image_at input.images t.number); rec_lsn = t.rec_lsn; applied = t.applied }
 
@@ -50,11 +50,11 @@ pub record HasPage (ps : List RedoPage) (page : ℕ) : Type 0 where
   pub there : slice_get ps place ≡ Some redo_page
   pub number : redo_page.page.number ≡ page
 
--- all pages of a part are
+-- all pages of a part are among these
 abbrev pub HasPart : PartingContent → (part : ℕ) → List RedoPage → Type 0
 HasPart parting part ps = (page : ℕ) → slice_get parting.part_of page ≡ Some part → HasPage ps page
 
--- at its number stands the tally of a page, which tells of it redone
+-- the tally of a page is at the number of the page, and describes the page redone
 pub record IsTallied (input : InputContent) (tallies : List Tally) (number : ℕ) : Type 0 where
   pub image : Page
   pub there : slice_get input.images number ≡ Some image
@@ -63,11 +63,11 @@ pub record IsTallied (input : InputContent) (tallies : List Tally) (number : ℕ
   pub own : tally.number ≡ number
   pub redone : resolved input tally ≡ redo_page_in input (history input.log) image
 
--- so do those of all pages of these parts
+-- the same for all pages of these parts
 abbrev pub AreTallied : PartedContent → List Tally → (drawn : List ℕ) → Type 0
 AreTallied parted tallies drawn = (number part : ℕ) → slice_get parted.parting.part_of number ≡ Some part → Contains drawn part → IsTallied parted.input tallies number
 
--- and those of all pages of the store
+-- the same for all pages of the store
 pub record AreAllTallied (input : InputContent) (tallies : List Tally) : Type 0 where
   pub count : length tallies ≡ length input.images
   pub each : (number : ℕ) → number < length input.images → IsTallied input tallies number
@@ -79,8 +79,8 @@ pub record IsReady (board : BoardId) (worker : Worker) : Type 0 where
   pub none_drawn : worker.seat.drawn ≡ []
   pub home : worker.home < board.ranges
 
--- and ends: its tallies tell of pages redone, and where no seat has stopped the board, of all pages of the parts that it drew, and all
--- ranges have ended
+-- a worker ends: its tallies describe pages redone. If no seat has stopped the board, they describe all pages of the parts that the worker
+-- drew, and all ranges have ended
 pub record IsBack (parted : PartedContent) (board : BoardId) (share : Share) : Type 0 where
   pub at_board : share.seat.board ≡ board
   pub one_place : share.seat.places ≡ 1

@@ -1,4 +1,5 @@
--- PASSING. The tallies of redo while a log is read in pieces: each piece is a log, and begins after the last LSN of what came before it (own).
+-- PASSING. The tallies of redo while a log is read in pieces: each piece is a log, and begins after the last LSN of the one before it
+-- (own).
 use Rattle.std.specs.Prelude.{◌≡◌, ℕ, ◌<◌, ◌≤◌, List, Some, length, slice_index_or, replicate, All}
 use Rattle.page.specs.declared.fault.Fault.{Fault}
 use Rattle.page.specs.declared.fault.Fault.TheVariants.{NoSuchPage}
@@ -22,7 +23,7 @@ pub record TalliesSoFar : Type 0 where
   pub redo_lsn : ℕ
   pub upto : ℕ
 
--- each tally stands at the number of its page
+-- each tally is at the number of its page
 abbrev pub StandAtNumbers : List Tally → Type 0
 StandAtNumbers tallies = (k : ℕ) (t : Tally) → k < length tallies → (slice_index_or tallies k t).number ≡ k
 
@@ -30,7 +31,7 @@ StandAtNumbers tallies = (k : ℕ) (t : Tally) → k < length tallies → (slice
 abbrev pub LastsAreWithin : (lsn : ℕ) → List Tally → Type 0
 LastsAreWithin lsn tallies = (k slot : ℕ) (t : Tally) → k < length tallies → slice_index_or (slice_index_or tallies k t).lasts slot 0 ≤ lsn
 
--- what each scan keeps of its tallies, where the log was read up to an LSN
+-- what holds for the tallies of each scan, if the log was read up to an LSN
 pub record AreKept (upto : ℕ) (tallies : List Tally) : Type 0 where
   pub numbered : StandAtNumbers tallies
   pub few : All (λ (t : Tally). t.applied ≤ upto) tallies
@@ -41,28 +42,28 @@ pub record ListEach (count first : ℕ) (tables : TablesContent) : Type 0 where
   pub begins : tables.redo_lsn ≡ first
   pub pages : (page : ℕ) → page < count → rec_lsn_of page tables.dirty ≡ Some first
 
--- a page of the store to which no record was applied, whatever the log is
+-- the tally of a page of the store before a record is applied to it, for any log
 pub record IsBegunIn (images : List Page) (tables : TablesContent) (number : ℕ) (tally : Tally) : Type 0 where
   pub none : tally.lasts ≡ replicate SLOTS 0
   pub begun : (log : LogContent) → resolved (input_over log images tables) tally ≡ redo_page_in (input_over log images tables) (start (base_lsn (history log))) (image_at images number)
 
--- so are all of them, each at its number
+-- the same for all pages of the store, each at its number
 pub record AreBegunIn (images : List Page) (tables : TablesContent) (tallies : List Tally) : Type 0 where
   pub count : length tallies ≡ length images
   pub each : (k : ℕ) (t : Tally) → k < length images → IsBegunIn images tables k (slice_index_or tallies k t)
 
--- a piece of the log that redo looks at, from this LSN on, with pages that stand at their numbers
+-- a piece of the log that redo looks at, from this LSN on, with pages that are at their numbers
 pub record IsPieceFor (input : InputContent) (redo_lsn : ℕ) (piece : LogContent) : Type 0 where
   pub numbered : AreNumbered input.images
   pub from : input.redo_lsn ≡ redo_lsn
   pub piece_of : IsPieceOf (history input.log) (history piece)
 
--- why a piece is refused: the record at this LSN is the first of the piece that redo looks at on a page past the count
+-- the error of a piece: the record at this LSN is the first one on a page past the count, of those in the piece that redo looks at
 abbrev pub PassFault : LogContent → (count redo_lsn : ℕ) → Fault → Type 0
 PassFault piece count redo_lsn (NoSuchPage lsn) = IsFirstMissing piece count redo_lsn lsn
 PassFault piece count redo_lsn e = ⊥
 
--- the record at an LSN of the log that redo looks at, from redo_lsn on, as it is seen at a glance, with pages that stand at their numbers
+-- the record at an LSN of the log that redo looks at, from redo_lsn on, as it is seen at a glance, with pages that are at their numbers
 pub record IsRecordFor (input : InputContent) (redo_lsn lsn : ℕ) (glance : Glance) : Type 0 where
   pub numbered : AreNumbered input.images
   pub from : input.redo_lsn ≡ redo_lsn

@@ -1,4 +1,4 @@
--- REDO. What redo answers. ARIES, section 6.2 (redo pass).
+-- REDO. What redo returns. ARIES, section 6.2 (redo pass).
 use Rattle.std.specs.Prelude.{◌≡◌, ◌≢◌, ℕ, ◌<◌, ◌≤◌, List, Some, length, map, sum, ⊤}
 use Rattle.page.specs.declared.fault.Fault.{Fault}
 use Rattle.page.specs.declared.fault.Fault.TheVariants.{NoResource, BadWorkers, NoSuchPage}
@@ -11,11 +11,11 @@ use Rattle.redo.specs.Changes.{NamesBelow}
 use Rattle.redo.specs.declared.redone.Redone.{Redone}
 use Rattle.redo.specs.declared.rounds.TheConstants.{WORKERS}
 
--- what redo by these tables makes of a page's image
+-- a page's image after redo by these tables
 abbrev pub redone_page : LogContent → TablesContent → Page → Page
 redone_page log tables image = redo_of (rec_lsn_of image.number tables.dirty) tables.redo_lsn (history log) image
 
--- and how many records it applies to it
+-- how many records redo applies to the page
 abbrev pub applied_to : LogContent → TablesContent → Page → ℕ
 applied_to log tables image = applied (rec_lsn_of image.number tables.dirty) tables.redo_lsn image (history log)
 
@@ -23,7 +23,7 @@ applied_to log tables image = applied (rec_lsn_of image.number tables.dirty) tab
 abbrev pub AreWorkers : ℕ → Type 0
 AreWorkers workers = (1 ≤ workers) × (workers ≤ WORKERS)
 
--- redo looks at the records from redo_lsn on; where it is 0, at none
+-- redo looks at the records from redo_lsn on, and at none if it is 0
 abbrev pub IsLookedAt : (redo_lsn lsn : ℕ) → Type 0
 IsLookedAt redo_lsn lsn = (redo_lsn ≢ 0) × (redo_lsn ≤ lsn)
 
@@ -31,7 +31,7 @@ IsLookedAt redo_lsn lsn = (redo_lsn ≢ 0) × (redo_lsn ≤ lsn)
 abbrev pub ExistBelow : LogContent → (count redo_lsn bound : ℕ) → Type 0
 ExistBelow log count redo_lsn bound = (lsn : ℕ) (r : LogRecord) → IsLookedAt redo_lsn lsn → lsn < bound → record_at (history log) lsn ≡ Some r → NamesBelow count r
 
--- so is each of the log
+-- each record of the log that it looks at is on a page below the count
 abbrev pub AllExist : LogContent → (count redo_lsn : ℕ) → Type 0
 AllExist log count redo_lsn = (lsn : ℕ) (r : LogRecord) → IsLookedAt redo_lsn lsn → record_at (history log) lsn ≡ Some r → NamesBelow count r
 
@@ -49,17 +49,17 @@ pub record IsFirstMissing (log : LogContent) (count redo_lsn lsn : ℕ) : Type 0
   pub beyond : NamesBelow count entry → ⊥
   pub before : ExistBelow log count redo_lsn lsn
 
--- why redo refuses, memory and threads aside
+-- the error of redo, memory and threads aside
 abbrev pub RedoFault : LogContent → (count redo_lsn workers : ℕ) → Fault → Type 0
 RedoFault log count redo_lsn workers NoResource = ⊤
 RedoFault log count redo_lsn workers BadWorkers = AreWorkers workers → ⊥
 RedoFault log count redo_lsn workers (NoSuchPage lsn) = AreWorkers workers × IsFirstMissing log count redo_lsn lsn
 RedoFault log count redo_lsn workers e = ⊥
 
--- redo is refused for one cause
+-- redo has at most one error
 abbrev pub OneRedoFault : Type 0
 OneRedoFault = (log : LogContent) (count redo_lsn workers : ℕ) → HasOneCause (RedoFault log count redo_lsn workers)
 
--- and for none where it may have this number of workers and finds all pages
+-- redo has no error if it may have this number of workers and finds all pages
 abbrev pub NoFaultOfRedo : Type 0
 NoFaultOfRedo = (log : LogContent) (count redo_lsn workers : ℕ) → AreWorkers workers → AllExist log count redo_lsn → HasNoCause (RedoFault log count redo_lsn workers)

@@ -24,7 +24,7 @@ skipped base redo_lsn last = if redo_lsn == 0 then last else max base (min last 
 abbrev pub skipped_in : InputContent → ℕ
 skipped_in input = skipped (base_lsn (history input.log)) input.redo_lsn (last_lsn (history input.log))
 
--- the LSN below the stretch of a worker, where the LSNs above `from` up to the last are cut into as many stretches as workers
+-- the LSN below the stretch of a worker; the LSNs above `from` up to the last are cut into as many stretches as there are workers
 abbrev pub boundary : (from last workers worker : ℕ) → ℕ
 boundary from last workers worker = from + (last - from) / workers * worker + min worker ((last - from) % workers)
 
@@ -43,13 +43,13 @@ pub record IsMissing (log : LogContent) (count from lsn : ℕ) : Type 0 where
   pub beyond : NamesBelow count entry → ⊥
   pub before : ExistWithin log count from (lsn - 1)
 
--- why a worker gives no lists
+-- why a worker returns no lists
 abbrev pub RouteFault : InputContent → (from to : ℕ) → Fault → Type 0
 RouteFault input from to NoResource = ⊤
 RouteFault input from to (NoSuchPage lsn) = (lsn ≤ to) × IsMissing input.log (length input.images) from lsn
 RouteFault input from to e = ⊥
 
--- what is seen at a glance is seen of a record that has a spelling
+-- what is seen at a glance is seen of a record that has an encoding
 pub record IsSeen (glance : Glance) : Type 0 where
   pub entry : LogRecord
   pub seen : glance ≡ glance_of entry
@@ -68,22 +68,22 @@ pub record IsRoute (parted : PartedContent) (from to : ℕ) (route : Route) : Ty
   pub notes : (part : ℕ) → part < parted.parting.parts → All (IsNote (history parted.input.log) parted.parting.place_of) (notes_at route.lists.items part)
   pub exist : ExistWithin parted.input.log (length parted.input.images) from to
 
--- what this worker answers, of a number of workers
+-- what this worker returns, of a number of workers
 abbrev pub IfRoute : PartedContent → (workers worker : ℕ) → Result Route Fault → Type 0
 IfRoute parted workers worker result =
     MatchResult result (IsRoute parted (boundary_in parted.input workers worker) (boundary_in parted.input workers (worker + 1))) (RouteFault parted.input (boundary_in parted.input workers worker) (boundary_in parted.input workers (worker + 1)))
 
--- and what all of them do
+-- what all workers return
 abbrev pub IfEach : PartedContent → List (Result Route Fault) → Type 0
 IfEach parted results = (k : ℕ) (d : Result Route Fault) → k < length results → IfRoute parted (length results) k (slice_index_or results k d)
 
--- why the first round gives no routes
+-- why the first round returns no routes
 abbrev pub RoundFault : InputContent → Fault → Type 0
 RoundFault input NoResource = ⊤
 RoundFault input (NoSuchPage lsn) = IsMissing input.log (length input.images) (skipped_in input) lsn
 RoundFault input e = ⊥
 
--- so have all workers done
+-- the routes of all workers
 pub record AreRoutes (parted : PartedContent) (routes : List Route) : Type 0 where
   pub some : 0 < length routes
   pub each : (k : ℕ) (d : Route) → k < length routes → IsRoute parted (boundary_in parted.input (length routes) k) (boundary_in parted.input (length routes) (k + 1)) (slice_index_or routes k d)
@@ -96,7 +96,7 @@ pub record StandsAlone (place_of numbers : List ℕ) (page : ℕ) : Type 0 where
   pub there : slice_get numbers place ≡ Some page
   pub only : (k : ℕ) → slice_get numbers k ≡ Some page → k ≡ place
 
--- so is the page of a noted record, and the place is the one noted
+-- the page of a noted record is one of these, at the place in the note and at no other
 pub record Stands (log : History) (place_of numbers : List ℕ) (n : Note) : Type 0 where
   pub entry : LogRecord
   pub there : record_at log n.lsn ≡ Some entry

@@ -1,4 +1,4 @@
-//! The second round: workers draw parts and redo them, by LSNs alone.
+//! The second round: workers draw parts and redo them, by LSNs only.
 
 ghost use Rattle.std.specs.Prelude.{◌≡◌, ◌+◌, ◌<◌, ◌≤◌, [], vec_len, All, IfOk, IsOkUnless};
 ghost use Rattle.page.specs.declared.fault.Fault.TheVariants.{NoResource};
@@ -16,14 +16,14 @@ use std::alloc::Global;
 use std::thread;
 use std::thread::Threads;
 
-/// A worker before it begins: its number, which is its home range, and a seat.
+/// A worker before it begins: its seat, and its number, which is also its home range.
 #[derive(Drop)]
 pub struct Worker {
     pub home: u32,
     pub seat: Seat,
 }
 
-/// What a worker brings back: its seat, and the tallies of the pages of the parts that it drew.
+/// What a worker returns: its seat, and the tallies of the pages of the parts that it drew.
 #[derive(Drop)]
 pub struct Share {
     pub seat: Seat,

@@ -16,7 +16,7 @@ use crate::wanted::Wanted;
 use page::{Page, SLOTS};
 use wal::Log;
 
-/// Puts the image of a wanted record into its slot; none, where the piece has no record at its LSN.
+/// Puts the image of a wanted record into its slot: none if the piece has no record at its LSN.
 fn put_image(piece: &Log, wanted: &Wanted, page: &mut Page)
     requires { wanted.now.slot < SLOTS }
     ensures is { page.new ≡ record page.old {
@@ -29,9 +29,9 @@ fn put_image(piece: &Log, wanted: &Wanted, page: &mut Page)
     page.slots[wanted.slot as usize] = piece.image(wanted.lsn);
 }
 
-/// Puts the images of the wanted records up to the last LSN of a piece into their slots. These stand
-/// at the front of the list, which is by rising LSN. Returns how many they are. Pass the rest of the
-/// list with the next piece.
+/// Puts the images of the wanted records up to the last LSN of a piece into their slots. These
+/// records are at the front of the list, which is in ascending order of LSN. Returns how many there
+/// are. Pass the rest of the list with the next piece.
 pub fn fetch_from(piece: &Log, wanted: &[Wanted], pages: &mut [Page]) -> usize
     requires pages { All (λ w. w.page < length pages.old) wanted.now }
     requires slots { All (λ w. w.slot < SLOTS) wanted.now }
@@ -40,7 +40,7 @@ pub fn fetch_from(piece: &Log, wanted: &[Wanted], pages: &mut [Page]) -> usize
     ensures taken { All (λ w. w.lsn ≤ last_lsn (history piece.now)) (take result wanted.now) }
     ensures rest { IsNonDecreasingBy (λ w. w.lsn) wanted.now
         → All (λ w. last_lsn (history piece.now) < w.lsn) (drop result wanted.now) }
-    // Whatever log the piece is of: what is left is still to be fetched.
+    // For each log that the piece can be of: what is left is still to be fetched.
     ensures fetched { (whole : History) (tallies : List Tally) (images : List Page)
         → IsPieceOf whole (history piece.now) → All (IsWanted tallies) wanted.now
         → AreAhead whole (history piece.now) wanted.now

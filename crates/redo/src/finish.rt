@@ -14,8 +14,8 @@ use std::thread::Threads;
 use std::{array, thread};
 use wal::{Body, Log};
 
-/// The bodies of the records at these LSNs, none for 0. All are found before the first is looked at:
-/// they lie anywhere in the log, and so the processor waits for all of them together.
+/// The bodies of the records at these LSNs, none for an LSN of 0. All are found before the first is
+/// looked at. They can be anywhere in the log, so the processor waits for all of them together.
 fn bodies<'a>(log: &Log<'a>, lasts: &[u64; SLOTS]) -> [Body<'a>; SLOTS]
     ensures count { length result ≡ SLOTS }
     ensures each { (slot : ℕ) → slot < SLOTS → slice_index_or result slot None
@@ -28,7 +28,8 @@ fn bodies<'a>(log: &Log<'a>, lasts: &[u64; SLOTS]) -> [Body<'a>; SLOTS]
     bodies
 }
 
-/// Puts the values of the last records into their slots; a slot that has none, which 0 says, is left.
+/// Puts the values of the last records into their slots. An LSN of 0 says that a slot has no such
+/// record; the slot stays as it is.
 fn fill(log: &Log, lasts: &[u64; SLOTS], slots: &mut [Option<Value>; SLOTS])
     ensures { slots.new ≡ slots_after (history log.now) lasts.now slots.old }
 {
@@ -40,8 +41,8 @@ fn fill(log: &Log, lasts: &[u64; SLOTS], slots: &mut [Option<Value>; SLOTS])
     }
 }
 
-/// Makes of a page's image in the store the page that a tally tells of. Of all records in one slot
-/// the value of the last alone is fetched.
+/// Changes a page's image in the store to the page that a tally describes. For each slot, only the
+/// value of the last record is fetched.
 fn finish_page(log: &Log, tally: &Tally, page: &mut Page)
     ensures { page.new ≡ finished (history log.now) tally.now page.old }
 {
@@ -50,7 +51,8 @@ fn finish_page(log: &Log, tally: &Tally, page: &mut Page)
     fill(log, &tally.lasts, &mut page.slots);
 }
 
-/// Makes of the pages of the store those that their tallies tell of, in the thread of the caller.
+/// Changes the pages of the store to those that their tallies describe, in the thread of the
+/// caller.
 pub fn finish_alone(log: &Log, tallies: &[Tally], pages: &mut [Page])
     requires count { length tallies.now ≡ length pages.old }
     ensures count { length pages.new ≡ length pages.old }
@@ -63,7 +65,7 @@ pub fn finish_alone(log: &Log, tallies: &[Tally], pages: &mut [Page])
     }
 }
 
-/// Makes of the pages of the store those that their tallies tell of, in as many threads as this.
+/// Changes the pages of the store to those that their tallies describe, in this number of threads.
 pub fn finish_pages<R: Threads + Sync>(
     rt: &R,
     log: &Log,
@@ -86,7 +88,7 @@ pub fn finish_pages<R: Threads + Sync>(
     thread::for_each_mut(rt, pages, threads, &finish);
 }
 
-/// How many records were applied to all pages.
+/// How many records were applied to all pages together.
 pub fn total(tallies: &[Tally]) -> u64
     requires { sum_by (λ t. t.applied) tallies.now < 2 ^ 64 }
     ensures { result ≡ sum_by (λ t. t.applied) tallies.now }

@@ -1,9 +1,9 @@
-//! What a caller is told of each part before its work.
+//! The gate, which is called for each part before the work on it.
 
 ghost use Rattle.std.specs.Prelude.{◌≡◌};
 
-/// Called once for each part, by the worker that drew it, before its work. The worker's number
-/// counts from 0. What a gate does changes no page.
+/// Called once for each part, by the worker that drew it, before the work on the part. Workers are
+/// numbered from 0. What a gate does changes no page.
 pub trait Gate: Sync {
     fn enter(&self, worker: u32, part: u32);
 }
@@ -15,8 +15,8 @@ impl Gate for OpenGate {
     fn enter(&self, _worker: u32, _part: u32) {}
 }
 
-/// That the gate was told of a part. Nothing else makes one than the call that tells it, and the
-/// work on the part takes it: so it comes after the gate.
+/// Shows that the gate was called for a part. Only that call makes one, and the work on the part
+/// takes it. So the work comes after the call.
 #[derive(Drop)]
 pub(crate) struct Entered {
     part: u32,
@@ -30,7 +30,7 @@ impl Entered {
     }
 }
 
-/// Tells the gate of a part that a worker drew.
+/// Calls the gate for a part that a worker drew.
 pub(crate) fn pass_gate<G: Gate>(gate: &G, worker: u32, part: u32) -> Entered
     ensures { result.part ≡ part }
 {

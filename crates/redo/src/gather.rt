@@ -13,7 +13,7 @@ use board::{Board, Seat};
 use page::Fault;
 use std::alloc::Global;
 
-/// Puts tallies to the numbers of their pages.
+/// Puts each tally at the number of its page.
 fn put_tallies(done: &[Tally], tallies: &mut [Tally])
     requires below { All (λ t. t.number < length tallies.old) done.now }
     ensures count { length tallies.new ≡ length tallies.old }
@@ -27,7 +27,8 @@ fn put_tallies(done: &[Tally], tallies: &mut [Tally])
     }
 }
 
-/// Takes in what the workers bring back: one seat with all places, and the tallies.
+/// Puts the tallies of all workers at the numbers of their pages. Joins the workers' seats and
+/// returns the one seat with all places.
 fn gather(
     parted: &PartedInput,
     board: &Board,
@@ -58,8 +59,8 @@ fn gather(
     seat
 }
 
-/// The tallies of all pages by what the workers bring back, if none was refused memory. The only
-/// error is `NoResource`.
+/// The tallies of all pages, from what the workers return. The only error is `NoResource`, if
+/// memory was refused here or to a worker.
 pub fn tallies_of(
     alloc: Global,
     parted: &PartedInput,
@@ -73,7 +74,7 @@ pub fn tallies_of(
     ensures tallied { IfOk result (λ tallies. AreAllTallied parted.now.input tallies.items) }
     ensures err { IsOkUnless result NoResource }
 {
-    // The part of each page is one that the board has dealt.
+    // The part of each page is one that the board has.
     let _parts = parted.parting.parts();
     let store = parted.input.store;
     let mut tallies = vec![in alloc; Tally::begin(0, 0, None); store.pages.len()]?;

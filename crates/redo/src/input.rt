@@ -1,5 +1,5 @@
-//! What redo looks at: a log, a store and what analysis found; for the rounds of workers a parting
-//! beside them.
+//! What redo looks at: a log, a store and the tables of analysis. The rounds of workers look at a
+//! partition too.
 
 ghost use Rattle.std.specs.Prelude.{◌≡◌, length};
 ghost use Rattle.wal.specs.Records.{history, base_lsn, last_lsn};
@@ -11,7 +11,7 @@ use std::marker::Model;
 use tables::Tables;
 use wal::Log;
 
-/// A log, a store and what analysis found, lent to whoever counts the records that each page lacks.
+/// A log, a store and the tables of analysis, borrowed to count the records that each page lacks.
 /// Contracts see the log, the pages, and the dirty page table with redo_lsn.
 #[derive(Drop)]
 pub struct RedoInput<'a> {
@@ -30,7 +30,7 @@ impl<'a> Model for RedoInput<'a> {
     ghost invariant = { IsInput };
 }
 
-/// What redo looks at with a parting of the store's pages, lent to all workers.
+/// What redo looks at, with a partition of the store's pages, borrowed by all workers.
 #[derive(Drop)]
 pub struct PartedInput<'a> {
     pub input: RedoInput<'a>,
@@ -48,7 +48,7 @@ impl<'a> Model for PartedInput<'a> {
 }
 
 /// The LSN up to which redo does not look at records: the one below `redo_lsn`; the log's base LSN
-/// where `redo_lsn` is not above that; the log's last where `redo_lsn` is 0 or behind it.
+/// if `redo_lsn` is not above it; the log's last LSN if `redo_lsn` is 0 or above it.
 pub fn skipped_below(log: &Log, redo_lsn: u64) -> u64
     ensures { result ≡ skipped (base_lsn (history log.now)) redo_lsn (last_lsn (history log.now)) }
 {
@@ -61,7 +61,7 @@ pub fn skipped_below(log: &Log, redo_lsn: u64) -> u64
 }
 
 impl<'a> RedoInput<'a> {
-    /// The LSN from which redo looks at records, 0 where it looks at none.
+    /// The LSN from which redo looks at records, 0 if it looks at none.
     pub fn redo_lsn(&self) -> u64
         ensures { result ≡ self.now.redo_lsn }
     {

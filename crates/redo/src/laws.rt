@@ -1,14 +1,14 @@
-//! Laws of redo. Each function is its law: what it ensures holds of the definitions alone.
+//! Laws of redo. Each function is a law: what it ensures follows from the definitions only.
 
 ghost use Rattle.redo.specs.Redone.{OneRedoFault, NoFaultOfRedo};
 
-/// Redo is not refused for two causes, want of memory and threads aside.
+/// Redo has at most one error, besides a lack of memory or threads.
 pub fn one_redo_fault()
     ensures { OneRedoFault }
 {}
 
-/// Redo that may have this number of workers, and finds all pages, is not refused, want of memory
-/// and threads aside.
+/// If redo may have this number of workers and finds all pages, it has no error, besides a lack of
+/// memory or threads.
 pub fn no_fault_of_redo()
     ensures { NoFaultOfRedo }
 {}

@@ -28,7 +28,7 @@ pub fn len_at<T>(lists: &[Vec<T>], index: usize) -> usize
     lists[index].len()
 }
 
-/// Puts an item behind the list at an index. The only error is `NoResource`.
+/// Adds an item at the end of the list at an index. The only error is `NoResource`.
 pub fn push_to<T: Drop>(lists: &mut [Vec<T>], index: usize, item: T) -> Result<(), Fault>
     requires { index < length lists.old }
     ensures count { length lists.new ≡ length lists.old }

@@ -8,8 +8,8 @@ use page::{Fault, SLOTS};
 use std::alloc::Global;
 use std::marker::Model;
 
-/// What is noted of an update or a compensation: its LSN, the place of its page among those of the
-/// part, and its slot.
+/// The note of an update or a compensation: its LSN, the place of its page among those of the part,
+/// and its slot.
 #[derive(Clone, Copy)]
 pub struct Note {
     pub lsn: u64,
@@ -17,8 +17,8 @@ pub struct Note {
     pub slot: u8,
 }
 
-/// Notes in 10 bytes each: beside the LSNs there is a number for each cell, `SLOTS` times the place
-/// and the slot. Contracts see the list of the notes.
+/// Notes in 10 bytes each. Besides its LSN each has a number for its cell: `SLOTS` times the place,
+/// plus the slot. Contracts see the list of the notes.
 #[derive(Drop)]
 pub struct NoteList {
     lsns: Vec<u64>,
@@ -39,7 +39,7 @@ impl Model for NoteList {
 }
 
 impl NoteList {
-    /// No note, with room for this many. The only error is `NoResource`.
+    /// An empty list, with room for this many notes. The only error is `NoResource`.
     pub fn with_capacity(alloc: Global, count: usize) -> Result<NoteList, Fault>
         ensures empty { IfOk result (λ notes. notes ≡ []) }
         ensures err { IsOkUnless result NoResource }
@@ -70,7 +70,7 @@ impl NoteList {
         }
     }
 
-    /// Puts a note behind the others. The only error is `NoResource`.
+    /// Adds a note after the others. The only error is `NoResource`.
     pub fn push(&mut self, note: Note) -> Result<(), Fault>
         requires place { note.place < PAGES }
         requires slot { note.slot < SLOTS }

@@ -1,4 +1,4 @@
-//! Which records each page lacks, found in one pass over the records by one thread, the caller's.
+//! Which records each page lacks, found in one pass over the records in the caller's thread.
 
 ghost use Rattle.std.specs.Prelude.{◌≡◌, ℕ, ◌+◌, ◌<◌, ◌≤◌, All, Some, length, slice_index_or, IfOk, OnOk, IfErr, OnErr, IsOkUnless};
 ghost use Rattle.page.specs.declared.fault.Fault.TheVariants.{NoResource, NoSuchPage};
@@ -22,8 +22,8 @@ use std::alloc::Global;
 use tables::Tables;
 use wal::{Glance, Log};
 
-/// The tallies of all pages of the store, to which no record was applied, whatever the log is. The
-/// only error is `NoResource`.
+/// The tallies of all pages of the store before a record is applied to them, for any log. The only
+/// error is `NoResource`.
 pub fn begin_each(alloc: Global, store: &Store, tables: &Tables) -> Result<Vec<Tally>, Fault>
     ensures begun { IfOk result (λ tallies. AreBegunIn store.now.pages tables.now tallies.items) }
     ensures err { IsOkUnless result NoResource }
@@ -36,8 +36,8 @@ pub fn begin_each(alloc: Global, store: &Store, tables: &Tables) -> Result<Vec<T
     Ok(tallies)
 }
 
-/// The tallies of all pages of the store, to which no record was applied, whatever the log is, by
-/// tables that list each page from the LSN `first` on. The only error is `NoResource`.
+/// The tallies of all pages of the store before a record is applied to them, for any log and tables
+/// that list each page from the LSN `first` on. The only error is `NoResource`.
 pub fn begin_each_listed(alloc: Global, store: &Store, first: u64) -> Result<Vec<Tally>, Fault>
     ensures begun { IfOk result (λ tallies. (tables : TablesContent)
         → ListEach (length store.now.pages) first tables
@@ -51,7 +51,7 @@ pub fn begin_each_listed(alloc: Global, store: &Store, first: u64) -> Result<Vec
     Ok(tallies)
 }
 
-/// The tallies of all pages, to which no record was applied. The only error is `NoResource`.
+/// The tallies of all pages before a record is applied to them. The only error is `NoResource`.
 fn begin_all(alloc: Global, input: &RedoInput) -> Result<Vec<Tally>, Fault>
     ensures begun { IfOk result (λ tallies. AreUpTo input.now
         (skipped_in input.now) tallies.items) }
@@ -60,8 +60,9 @@ fn begin_all(alloc: Global, input: &RedoInput) -> Result<Vec<Tally>, Fault>
     begin_each(alloc, input.store, input.tables)
 }
 
-/// Counts the record at an LSN, of which this is seen at a glance, for its page, if it has one and
-/// the page lacks it. Refuses a page that there is not by `NoSuchPage`, and leaves the tallies.
+/// Counts the record at an LSN for its page, if it has one and the page lacks the record. The
+/// record is given at a glance. Returns `NoSuchPage` if the store lacks the page; the tallies then
+/// stay as they were.
 #[inline(always)]
 pub fn count_seen(
     tallies: &mut [Tally],
@@ -99,8 +100,8 @@ pub fn count_seen(
     Ok(())
 }
 
-/// Counts the record behind an LSN for its page, if it has one and the page lacks it. Refuses a
-/// page that there is not by `NoSuchPage`.
+/// Counts the record after an LSN for its page, if it has one and the page lacks the record.
+/// Returns `NoSuchPage` if the store lacks the page.
 fn count_next(input: &RedoInput, lsn: u64, tallies: &mut [Tally]) -> Result<(), Fault>
     requires from { base_lsn (history input.now.log) ≤ lsn }
     requires to { lsn < last_lsn (history input.now.log) }
@@ -126,8 +127,9 @@ fn count_next(input: &RedoInput, lsn: u64, tallies: &mut [Tally]) -> Result<(), 
     count_seen(tallies, input.redo_lsn(), lsn + 1, glance)
 }
 
-/// The tallies of all pages by one pass over the records that redo does not skip, which leaves the
-/// store as it is. Refuses the first of them on a page that there is not by `NoSuchPage`.
+/// The tallies of all pages, found in one pass over the records that redo does not skip. The store
+/// stays as it is. Returns `NoSuchPage` with the LSN of the first of these records that is on a
+/// page which the store lacks.
 pub fn tallied_alone(
     alloc: Global,
     log: &Log,
@@ -140,7 +142,7 @@ pub fn tallied_alone(
     ensures fault { IfErr result (RedoFault
         log.now (length store.now.pages) tables.now.redo_lsn 1) }
 {
-    // Opens the store: its pages stand at their numbers.
+    // Opens the store: its pages are at their numbers.
     let _ = &store.pages;
     let input = RedoInput { log, store, tables };
     let mut tallies = begin_all(alloc, &input)?;

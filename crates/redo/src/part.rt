@@ -1,4 +1,4 @@
-//! The work on one part: for each of its pages which records it lacks, by LSNs alone.
+//! The work on one part: which records each of its pages lacks, by LSNs only.
 
 ghost use Rattle.std.specs.Prelude.{◌≡◌, ℕ, ◌+◌, ◌<◌, ◌^◌, All, length, map, slice_set, slice_index_or, IfOk, OnOk, Some, IsOkUnless};
 ghost use Rattle.std.specs.List.{fold};
@@ -21,14 +21,15 @@ use crate::tally::Tally;
 use page::{Fault, SLOTS, Store, Value};
 use std::alloc::Global;
 
-/// How many slots a page has. A function of its own, since an array's length is known of an argument.
+/// How many slots a page has. It is a separate function, since the length of an array is known of
+/// an argument.
 pub fn count_slots(slots: &[Option<Value>; SLOTS]) -> usize
     ensures { length slots.now ≡ SLOTS }
 {
     slots.len()
 }
 
-/// The PageLSN that a page has in the store; 0 where the store has none of this number.
+/// The PageLSN of a page in the store, 0 if the store has no page of this number.
 fn page_lsn(store: &Store, number: u32) -> u64
     ensures lsn { result ≡ (image_at store.now.pages number).lsn }
     ensures number { (image_at store.now.pages number).number ≡ number }
@@ -43,8 +44,8 @@ fn page_lsn(store: &Store, number: u32) -> u64
     }
 }
 
-/// A page of the store to which no record was applied, by tables that have this RecLSN for it,
-/// whatever the log is.
+/// The tally of a page of the store before a record is applied to it, for any log and tables that
+/// have this RecLSN for the page.
 pub fn begin_in(store: &Store, number: u32, rec_lsn: Option<u64>) -> Tally
     ensures { (tables : TablesContent) → rec_lsn_of number tables.dirty ≡ rec_lsn
         → IsBegunIn store.now.pages tables number result }
@@ -52,7 +53,7 @@ pub fn begin_in(store: &Store, number: u32, rec_lsn: Option<u64>) -> Tally
     Tally::begin(number, page_lsn(store, number), rec_lsn)
 }
 
-/// A page to which no record was applied.
+/// The tally of a page before a record is applied to it.
 fn begin_page(input: &RedoInput, number: u32) -> Tally
     ensures { resolved input.now result
         ≡ redo_page_in input.now (start (base_lsn (history input.now.log)))
@@ -61,7 +62,8 @@ fn begin_page(input: &RedoInput, number: u32) -> Tally
     begin_in(input.store, number, input.tables.rec_lsn(number))
 }
 
-/// The pages of a part, to which no record was applied. The only error is `NoResource`.
+/// The tallies of the pages of a part before a record is applied to them. The only error is
+/// `NoResource`.
 fn begin_part(alloc: Global, parted: &PartedInput, part: u32) -> Result<Vec<Tally>, Fault>
     requires { part < parted.now.parting.parts }
     ensures begun { IfOk result (λ tallies. IsUpTo parted.now part 0
@@ -88,7 +90,7 @@ pub fn count_at(tallies: &mut [Tally], index: usize, redo_lsn: u64, lsn: u64, sl
     tallies[index].count(redo_lsn, lsn, slot);
 }
 
-/// Counts a noted record of the log for its page, one of these.
+/// Counts a noted record of the log for its page, which is one of these.
 fn redo_noted(parted: &PartedInput, note: Note, tallies: &mut [Tally])
     requires stands { Stands (history parted.now.input.log) parted.now.parting.place_of
         (numbers_of (map (resolved parted.now.input) tallies.old)) note }
@@ -146,8 +148,8 @@ fn count_part(
     Ok(tallies)
 }
 
-/// Redoes, by LSNs, the pages of a part that the gate was told of, by the routes in their order, and
-/// puts their tallies behind others. The only error is `NoResource`.
+/// Redoes by LSNs the pages of a part for which the gate was called, by the routes in their order,
+/// and adds their tallies after others. The only error is `NoResource`.
 pub(crate) fn redo_part(
     alloc: Global,
     parted: &PartedInput,

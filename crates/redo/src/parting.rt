@@ -1,4 +1,4 @@
-//! How the pages are dealt into parts.
+//! How the pages are divided into parts.
 
 ghost use Rattle.std.specs.Prelude.{◌≡◌, ℕ, ◌+◌, ◌%◌, ◌<◌, ◌≤◌, List, [], ◌∷◌, All, length, vec_len, slice_index, IfOk, IfErr, IfSome, OnOk, Some, IsTrue, ◌↔◌, IsOkUnless};
 ghost use Rattle.std.specs.List.{slice_get, range_with_len};
@@ -61,18 +61,18 @@ fn index(alloc: Global, parts: u32, part_of: &[u32]) -> Result<(Vec<u16>, Vec<Ve
 }
 
 impl Parting {
-    /// Whether a parting can have this number of pages, or of parts: 1 to `page::PAGES`.
+    /// Whether a partition can have this number of pages, or of parts: 1 to `page::PAGES`.
     pub fn can_have(count: u32) -> bool
         ensures { IsTrue result ↔ IsSize count }
     {
         (1..=PAGES as u32).contains(&count)
     }
 
-    /// The parting of `pages` pages into `parts` parts that gives page p the part `part_of[p]`.
+    /// The partition of `pages` pages into `parts` parts that gives page p the part `part_of[p]`.
     ///
-    /// Answers [`Fault::BadParting`] where pages or parts are outside 1 to 4,096, there is not one
-    /// entry a page, or an entry is not below `parts`; [`Fault::NoResource`] where memory was
-    /// refused.
+    /// Errors: [`Fault::BadParting`] if `pages` or `parts` is outside 1 to 4,096, if there is not
+    /// one entry for each page, or if an entry is not below `parts`; [`Fault::NoResource`] if
+    /// memory was refused.
     pub fn new(alloc: Global, pages: u32, parts: u32, part_of: &[u32]) -> Result<Parting, Fault>
         ensures ok { IfOk result (λ p. (p.parts ≡ parts) × (p.part_of ≡ part_of.now)) }
         ensures dealt { OnOk result (IsDealt pages parts part_of.now) }
@@ -93,10 +93,10 @@ impl Parting {
         })
     }
 
-    /// The parting that gives page p the part p modulo `parts`.
+    /// The partition that gives page p the part p modulo `parts`.
     ///
-    /// Answers [`Fault::BadParting`] where pages or parts are outside 1 to 4,096;
-    /// [`Fault::NoResource`] where memory was refused.
+    /// Errors: [`Fault::BadParting`] if `pages` or `parts` is outside 1 to 4,096;
+    /// [`Fault::NoResource`] if memory was refused.
     pub fn by_number(alloc: Global, pages: u32, parts: u32) -> Result<Parting, Fault>
         ensures ok { IfOk result (λ p. (p.parts ≡ parts) × (p.part_of ≡ by_number pages parts)) }
         ensures sizes { OnOk result (IsSize pages × IsSize parts) }
@@ -128,7 +128,7 @@ impl Parting {
         self.parts
     }
 
-    /// The part of a page, None where there is no such page.
+    /// The part of a page, None if there is no such page.
     pub(crate) fn part_at(&self, page: u32) -> Option<u32>
         ensures part { result ≡ slice_get self.now.part_of page }
         ensures below { IfSome result (λ part. part < self.now.parts) }

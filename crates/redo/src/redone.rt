@@ -1,4 +1,4 @@
-//! What redo answers.
+//! What redo returns.
 
 use page::Page;
 
@@ -7,6 +7,6 @@ use page::Page;
 pub struct Redone {
     /// The pages 0, 1, .., each with the records that it lacked.
     pub pages: Vec<Page>,
-    /// How many records were applied to all of them.
+    /// How many records were applied to all of them together.
     pub applied: u64,
 }

@@ -33,9 +33,9 @@ pub fn are_workers(workers: u32) -> bool
     (1..=WORKERS).contains(&workers)
 }
 
-/// The tallies of the pages of a store, which is left as it is, by two rounds of workers: in the
-/// first each makes the route of its stretch of the log, in the second each draws parts from a board
-/// and redoes them.
+/// The tallies of the pages of a store, found in two rounds of workers. In the first round each
+/// worker makes the route of its stretch of the log. In the second each draws parts from a board
+/// and redoes them. The store stays as it is.
 fn tallied_in_rounds<G: Gate, R: Threads + Sync>(
     rt: &R,
     alloc: Global,
@@ -54,7 +54,7 @@ fn tallied_in_rounds<G: Gate, R: Threads + Sync>(
     ensures fault { IfErr result (RedoFault
         log.now (length store.now.pages) tables.now.redo_lsn workers) }
 {
-    // Opens the store: its pages stand at their numbers.
+    // Opens the store: its pages are at their numbers.
     let _ = &store.pages;
     let input = RedoInput { log, store, tables };
     let parted = PartedInput { input, parting };
@@ -83,7 +83,7 @@ fn redo_in_rounds<G: Gate, R: Threads + Sync>(
         (length store.pages) tables.now.redo_lsn workers) }
 {
     let tallies = tallied_in_rounds(rt, alloc, log, &store, tables, parting, workers, gate)?;
-    // Its LSNs fit, and no record counts twice: so the count fits.
+    // The log's LSNs fit, and no record counts twice, so the count fits.
     let _last = log.last();
     let applied = total(&tallies);
     let mut pages = store.pages;
@@ -91,9 +91,9 @@ fn redo_in_rounds<G: Gate, R: Threads + Sync>(
     Ok(Redone { pages, applied })
 }
 
-/// [`redo`] of a store that is given away: its pages are changed in place and not copied. With an
-/// error they are gone. One worker goes the way of [`redo_alone`](crate::redo_alone), and draws the
-/// parts beside it.
+/// [`redo`] of a store that is given away: its pages are changed in place and not copied. After an
+/// error they are gone. One worker does what [`redo_alone`](crate::redo_alone) does, and also draws
+/// the parts.
 pub fn redo_in_place<G: Gate, R: Threads + Sync>(
     rt: &R,
     alloc: Global,
@@ -108,7 +108,7 @@ pub fn redo_in_place<G: Gate, R: Threads + Sync>(
     ensures redone { IfOk result (RepeatsHistory log.now tables.now store.pages) }
     ensures workers { OnOk result (AreWorkers workers) }
 
-    // A refusal has its cause, memory aside.
+    // On an error, its condition holds for the input, memory aside.
     ensures fault { IfErr result (RedoFault log.now
         (length store.pages) tables.now.redo_lsn workers) }
     ensures bad_workers { (AreWorkers workers → ⊥) → result ≡ Err BadWorkers }
@@ -122,23 +122,22 @@ pub fn redo_in_place<G: Gate, R: Threads + Sync>(
     redo_in_rounds(rt, alloc, log, store, tables, parting, workers, gate)
 }
 
-/// Repeats history on the pages of a store (ARIES, section 6.2): to each page that is listed in the
-/// dirty page table, the updates and compensations on it, of all transactions, are applied in LSN
-/// order, where their LSN is at least its RecLSN, at least `redo_lsn`, and above its PageLSN; a
-/// `redo_lsn` of 0 applies none. The pages are given back, the store stays as it is.
+/// Repeats history on the pages of a store (ARIES, section 6.2): the updates and compensations on
+/// each page, of all transactions, are applied to it in LSN order. One is applied if the dirty page
+/// table lists the page, and its LSN is at least the page's RecLSN, at least `redo_lsn`, and above
+/// the PageLSN. If `redo_lsn` is 0, none is applied. Returns the pages; the store stays as it is.
 ///
-/// The work is done by `workers` threads at most, in three rounds. In the first each goes through
-/// its stretch of the log and notes, for each part of the parting, the LSNs of the records on that
-/// part's pages. In the second each draws parts from a board, calls the gate once for each, and finds
-/// which of the records noted for it each page lacks. In the third each puts the values of the last
-/// of these into a share of the pages. One worker starts no thread, calls the gate for each part, and
-/// finds in one pass over the log what the first two rounds find. Whatever the workers, the parting
-/// and the gate, the outcome is the same.
+/// At most `workers` threads do the work, in three rounds. In the first each goes through its
+/// stretch of the log and notes, for each part of the partition, the LSNs of the records on that
+/// part's pages. In the second each draws parts from a board, calls the gate once for each, and
+/// finds which of the records noted for the part each page lacks. In the third each puts the values
+/// of the last of these into a share of the pages. One worker starts no thread, calls the gate for
+/// each part, and finds in one pass over the log what the first two rounds find. The outcome does
+/// not depend on the workers, the partition or the gate.
 ///
-/// Refuses by [`Fault::BadWorkers`] where `workers` is outside 1 to 64; then by
-/// [`Fault::NoSuchPage`] with the LSN of the first record from `redo_lsn` on that is on a page
-/// which the store lacks. [`Fault::NoResource`], where memory was refused, may come in place of any
-/// other answer.
+/// Errors: [`Fault::BadWorkers`] if `workers` is outside 1 to 64; then [`Fault::NoSuchPage`] with
+/// the LSN of the first record from `redo_lsn` on that is on a page which the store lacks.
+/// [`Fault::NoResource`], if memory was refused, can come instead of any other result.
 pub fn redo<G: Gate, R: Threads + Sync>(
     rt: &R,
     alloc: Global,
@@ -153,7 +152,7 @@ pub fn redo<G: Gate, R: Threads + Sync>(
     ensures redone { IfOk result (RepeatsHistory log.now tables.now store.now.pages) }
     ensures workers { OnOk result (AreWorkers workers) }
 
-    // A refusal has its cause, memory aside.
+    // On an error, its condition holds for the input, memory aside.
     ensures fault { IfErr result (RedoFault log.now
         (length store.now.pages) tables.now.redo_lsn workers) }
     ensures bad_workers { (AreWorkers workers → ⊥) → result ≡ Err BadWorkers }

@@ -18,8 +18,8 @@ use std::thread;
 use std::thread::Threads;
 use wal::Glance;
 
-/// For each part the LSNs of one stretch of the log that are on its pages, in rising order, each
-/// with the cell that its record is in.
+/// For each part the LSNs of the records on its pages in one stretch of the log, in ascending
+/// order, each with the cell that its record is in.
 #[derive(Drop)]
 pub struct Route {
     pub lists: Vec<NoteList>,
@@ -36,13 +36,13 @@ impl Route {
 }
 
 /// For how many notes a part is given room: its share of the records of a stretch, and a quarter
-/// more. So a list seldom grows, which costs most where several threads do it.
+/// more. So a list seldom grows; growing costs most when several threads do it.
 fn room_of(records: u64, parts: u32) -> usize {
     let share = records / parts.max(1) as u64;
     share.saturating_add(share / 4) as usize
 }
 
-/// No notes for any part, with room for this many. The only error is `NoResource`.
+/// An empty list for each part, with room for this many notes. The only error is `NoResource`.
 fn empty_notes(alloc: Global, parts: u32, room: usize) -> Result<Vec<NoteList>, Fault>
     ensures count { IfOk result (λ lists. length lists.items ≡ parts) }
     ensures empty { IfOk result (λ lists. (part : ℕ) → notes_at lists.items part ≡ []) }
@@ -55,7 +55,7 @@ fn empty_notes(alloc: Global, parts: u32, room: usize) -> Result<Vec<NoteList>, 
     Ok(lists)
 }
 
-/// Puts a note behind those for a part. The only error is `NoResource`.
+/// Adds a note after those for a part. The only error is `NoResource`.
 fn note_for(lists: &mut [NoteList], part: usize, note: Note) -> Result<(), Fault>
     requires part { part < length lists.old }
     requires place { note.place < PAGES }
@@ -104,7 +104,7 @@ fn put_note(
 }
 
 /// The route through the records with LSNs above `from`, up to `to`. Refuses the first of them on a
-/// page that there is not by `NoSuchPage`.
+/// page that the store lacks: the error is `NoSuchPage` with its LSN.
 fn route_through(alloc: Global, parted: &PartedInput, from: u64, to: u64) -> Result<Route, Fault>
     requires begun { base_lsn (history parted.now.input.log) ≤ from }
     requires stretch { from ≤ to }
@@ -143,7 +143,7 @@ fn route_of(alloc: Global, parted: &PartedInput, workers: u32, worker: u64) -> R
     route_through(alloc, parted, from, to)
 }
 
-/// The routes, if there are all.
+/// The routes, if every worker returned one.
 fn all_of(
     alloc: Global,
     parted: &PartedInput,

@@ -1,4 +1,4 @@
-//! A page on its way through redo, by LSNs alone: which record is the last in each of its slots.
+//! A page during redo, by LSNs only: which record is the last in each of its slots.
 
 ghost use Rattle.std.specs.Prelude.{◌≡◌, ◌+◌, ◌<◌, ◌^◌, length, replicate};
 ghost use Rattle.wal.specs.Redo.{is_redone};
@@ -7,19 +7,19 @@ ghost use Rattle.page.specs.declared.sizes.TheConstants.{SLOTS};
 
 use page::SLOTS;
 
-/// What redo knows of a page before it fetches a value: of all the records that it applies to a
-/// slot the last alone counts.
+/// What redo knows of a page before it fetches a value. Of all the records that it applies to a
+/// slot, only the last counts.
 #[derive(Clone, Copy)]
 pub struct Tally {
     /// The page's number.
     pub number: u32,
     /// The page's PageLSN, as far as redo has come.
     pub lsn: u64,
-    /// The page's RecLSN, None where it is not listed as dirty.
+    /// The page's RecLSN, None if the page is not listed as dirty.
     pub rec_lsn: Option<u64>,
-    /// How many records were applied to it.
+    /// How many records were applied to the page.
     pub applied: u64,
-    /// Of each slot the LSN of the record that was applied last, 0 for none.
+    /// For each slot the LSN of the record that was applied last, 0 for none.
     pub lasts: [u64; SLOTS],
 }
 
@@ -34,7 +34,7 @@ pub fn is_redone(rec_lsn: Option<u64>, redo_lsn: u64, page_lsn: u64, lsn: u64) -
 }
 
 impl Tally {
-    /// A page to which no record was applied.
+    /// The tally of a page before a record is applied to it.
     pub fn begin(number: u32, lsn: u64, rec_lsn: Option<u64>) -> Tally
         ensures { result
             ≡ record { number = number; lsn = lsn; rec_lsn = rec_lsn; applied = 0; lasts = replicate SLOTS 0 } }

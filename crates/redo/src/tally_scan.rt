@@ -31,11 +31,11 @@ use std::marker::Model;
 use tables::Tables;
 use wal::{Glance, Log};
 
-/// The tallies of all pages of a store while a log is read: which record is the last in each slot of
-/// those that the pages lack. The log comes in pieces, from its first record to its last: each piece
-/// is a log whose base LSN is the last LSN of the one before it. The records of a piece can be given one
-/// by one too. Contracts see the tallies, the LSN from which records are looked at, and the LSN up to
-/// which the log was read.
+/// The tallies of all pages of a store while a log is read: for each slot, which is the last of the
+/// records that its page lacks. The log comes in pieces, from its first record to its last: each
+/// piece is a log whose base LSN is the last LSN of the one before it. The records of a piece can
+/// be given one by one too. Contracts see the tallies, the LSN from which records are looked at,
+/// and the LSN up to which the log was read.
 #[derive(Drop)]
 pub struct TallyScan {
     tallies: Vec<Tally>,
@@ -54,7 +54,7 @@ impl Model for TallyScan {
 }
 
 impl TallyScan {
-    /// The scan of a log with this base LSN of which nothing was read yet. No record is applied to the
+    /// The scan before the first record of a log with this base LSN. No record is applied to the
     /// pages. The only error is `NoResource`.
     pub fn begin(
         alloc: Global,
@@ -69,7 +69,7 @@ impl TallyScan {
         ensures upto { IfOk result (λ scan. scan.upto ≡ base) }
         ensures err { IsOkUnless result NoResource }
     {
-        // Opens the store: its pages stand at their numbers.
+        // Opens the store: its pages are at their numbers.
         let _ = &store.pages;
         let tallies = begin_each(alloc, store, tables)?;
         Ok(TallyScan {
@@ -79,8 +79,8 @@ impl TallyScan {
         })
     }
 
-    /// The scan of a log with this base LSN of which nothing was read yet, where each page of the store
-    /// is listed as dirty from the LSN `first` on, and redo begins there too. It needs no tables. No
+    /// The scan before the first record of a log with this base LSN, with each page of the store
+    /// listed as dirty from the LSN `first` on. Redo begins there too, and no tables are needed. No
     /// record is applied to the pages. The only error is `NoResource`.
     pub fn begin_listed(
         alloc: Global,
@@ -96,7 +96,7 @@ impl TallyScan {
         ensures upto { IfOk result (λ scan. scan.upto ≡ base) }
         ensures err { IsOkUnless result NoResource }
     {
-        // Opens the store: its pages stand at their numbers.
+        // Opens the store: its pages are at their numbers.
         let _ = &store.pages;
         let tallies = begin_each_listed(alloc, store, first)?;
         Ok(TallyScan {
@@ -106,15 +106,16 @@ impl TallyScan {
         })
     }
 
-    /// Counts the records of the next piece from `redo_lsn` on, none where `redo_lsn` is 0, each for
-    /// its page, if the page lacks it. Takes no memory.
+    /// Counts each record of the next piece from `redo_lsn` on for its page, if the page lacks the
+    /// record. If `redo_lsn` is 0, none is counted. Takes no memory.
     ///
     /// The only error is `NoSuchPage` with the LSN of the first of these records that is on a page
-    /// which the store lacks. The records before it are counted then, so the scan cannot be gone on
-    /// with.
+    /// which the store lacks. The records before it are counted then, so the scan cannot be
+    /// continued.
     pub fn pass(&mut self, piece: &Log) -> Result<(), Fault>
         requires { self.old.upto ≤ base_lsn (history piece.now) }
-        // Whatever log the piece is of, the tallies tell of its records up to the piece's last.
+        // For each log that the piece can be of, the tallies have its records up to the piece's
+        // last.
         ensures goes_on { OnOk result ((input : InputContent)
             → IsPieceFor input self.old.redo_lsn piece.now
             → AreUpTo input (base_lsn (history piece.now)) self.old.tallies
@@ -139,20 +140,21 @@ impl TallyScan {
         Ok(())
     }
 
-    /// Counts the record at an LSN, of which this is seen at a glance, for its page, if it is on one and
-    /// the page lacks it. Takes no memory. The log is then read up to this LSN, which is above the one
-    /// up to which it was read before.
+    /// Counts the record at an LSN for its page, if it is on one and the page lacks the record. The
+    /// record is given at a glance. Takes no memory. The log is then read up to this LSN, which is
+    /// above the one up to which it was read before.
     ///
-    /// Give it the records from `redo_lsn` on, and none if `redo_lsn` is 0: another record is not
-    /// counted, but it is refused if the store lacks its page.
+    /// Give it the records from `redo_lsn` on, and none if `redo_lsn` is 0: any other record is not
+    /// counted, but is an error if the store lacks its page.
     ///
-    /// The only error is `NoSuchPage` with this LSN: the record is on a page which the store lacks. It
-    /// leaves the scan as it was.
+    /// The only error is `NoSuchPage` with this LSN: the record is on a page which the store lacks.
+    /// The scan then stays as it was.
     #[inline(always)]
     pub fn note(&mut self, glance: Glance, lsn: u64) -> Result<(), Fault>
         requires seen { IsSeen glance }
         requires upto { self.old.upto < lsn }
-        // Whatever log the record is of, if the tallies tell of all records before it, they then tell of it.
+        // For each log that the record can be of: if the tallies have all records before it, they
+        // then have it too.
         ensures goes_on { OnOk result ((input : InputContent)
             → IsRecordFor input self.old.redo_lsn lsn glance
             → AreUpTo input (lsn - 1) self.old.tallies → AreUpTo input lsn self.new.tallies) }
@@ -186,7 +188,7 @@ impl TallyScan {
         self.tallies.len()
     }
 
-    /// How many records were applied to all pages; 2^64 - 1 where they are more.
+    /// How many records were applied to all pages together; 2^64 - 1 if they are more.
     pub fn applied(&self) -> u64
         ensures { result ≡ min u64.MAX (sum_by (λ t. t.applied) self.now.tallies) }
     {
@@ -197,15 +199,15 @@ impl TallyScan {
         applied
     }
 
-    /// The records whose images the slots of the pages want, by rising LSN: of each slot to which a
-    /// record was applied the last. The only error is `NoResource`.
+    /// The records whose images the slots of the pages want, in ascending order of LSN: for each
+    /// slot to which a record was applied, the last one. The only error is `NoResource`.
     pub fn wanted(&self, alloc: Global) -> Result<Vec<Wanted>, Fault>
         ensures each { IfOk result (λ wanted. (w : Wanted) → Contains wanted.items w
             ↔ IsWanted self.now.tallies w) }
         ensures pages { IfOk result (λ wanted. All (λ w. w.page < length self.now.tallies)
             wanted.items) }
         ensures slots { IfOk result (λ wanted. All (λ w. w.slot < SLOTS) wanted.items) }
-        // Before the first is fetched, the pages hold all but these.
+        // Before the first is fetched, the pages hold everything except these.
         ensures begun { IfOk result (λ wanted. (whole : History) (images : List Page)
             → HoldAllBut whole self.now.tallies wanted.items images images) }
         ensures rising { IfOk result (λ wanted. IsNonDecreasingBy (λ w. w.lsn) wanted.items) }
@@ -218,7 +220,7 @@ impl TallyScan {
         by_lsn(alloc, wanted)
     }
 
-    /// Sets the number and the PageLSN of each page, whose slots hold what was fetched.
+    /// Sets the number and the PageLSN of each page. Its slots hold what was fetched.
     pub fn finish(self, pages: &mut [Page])
         requires { length pages.old ≡ length self.tallies }
         ensures count { length pages.new ≡ length pages.old }

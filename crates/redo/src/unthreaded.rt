@@ -14,13 +14,13 @@ use tables::Tables;
 use wal::Log;
 
 /// [`redo`](crate::redo) in the thread of the caller, of a store that is given away: its pages are
-/// changed in place and not copied. With an error they are gone. It starts no thread and asks for no
-/// parting, and goes through the records from `redo_lsn` on once. The watch is told of the parts
-/// before a page is changed.
+/// changed in place and not copied. After an error they are gone. It starts no thread, needs no
+/// partition, and goes once through the records from `redo_lsn` on. If the watch has a gate, it is
+/// called for all parts before a page is changed.
 ///
-/// Refuses by [`Fault::NoSuchPage`] with the LSN of the first record from `redo_lsn` on that is on a
-/// page which the store lacks; the watch is told nothing then. [`Fault::NoResource`], where memory was
-/// refused, may come in place of any other answer.
+/// Errors: [`Fault::NoSuchPage`] with the LSN of the first record from `redo_lsn` on that is on a
+/// page which the store lacks; no gate is called then. [`Fault::NoResource`], if memory was
+/// refused, can come instead of any other result.
 pub fn redo_watched<G: Gate>(
     alloc: Global,
     log: &Log,
@@ -30,12 +30,12 @@ pub fn redo_watched<G: Gate>(
 ) -> Result<Redone, Fault>
     ensures redone { IfOk result (RepeatsHistory log.now tables.now store.pages) }
 
-    // A refusal has its cause, memory aside.
+    // On an error, its condition holds for the input, memory aside.
     ensures fault { IfErr result (RedoFault log.now (length store.pages) tables.now.redo_lsn 1) }
 {
     let tallies = tallied_alone(alloc, log, &store, tables)?;
     tell(alloc, watch)?;
-    // Its LSNs fit, and no record counts twice: so the count fits.
+    // The log's LSNs fit, and no record counts twice, so the count fits.
     let _last = log.last();
     let applied = total(&tallies);
     let mut pages = store.pages;
@@ -43,11 +43,11 @@ pub fn redo_watched<G: Gate>(
     Ok(Redone { pages, applied })
 }
 
-/// [`redo_watched`] with nobody watching: no gate is called.
+/// [`redo_watched`] without a gate.
 pub fn redo_alone(alloc: Global, log: &Log, store: Store, tables: &Tables) -> Result<Redone, Fault>
     ensures redone { IfOk result (RepeatsHistory log.now tables.now store.pages) }
 
-    // A refusal has its cause, memory aside.
+    // On an error, its condition holds for the input, memory aside.
     ensures fault { IfErr result (RedoFault log.now (length store.pages) tables.now.redo_lsn 1) }
 {
     let nobody: Watch<OpenGate> = Watch::Nobody;

@@ -1,4 +1,4 @@
-//! The records whose images redo fetches when all records are counted.
+//! The records whose images redo fetches after all records are counted.
 
 ghost use Rattle.std.specs.Prelude.{◌↔◌, ◌⊎◌, OnOk, Contains, IsOkUnless};
 ghost use Rattle.page.specs.declared.fault.Fault.TheVariants.{NoResource};
@@ -6,7 +6,7 @@ ghost use Rattle.redo.specs.Wanted.{IsLastIn};
 
 use page::{Fault, SLOTS};
 
-/// A record whose image redo puts into a slot of a page: the last one there that was applied.
+/// A record whose image redo puts into a slot of a page: the last one that was applied there.
 #[derive(Clone, Copy, PartialEq, Eq)]
 pub struct Wanted {
     /// The record's LSN, which is not 0.
@@ -17,8 +17,8 @@ pub struct Wanted {
     pub slot: u8,
 }
 
-/// Puts the records that are the last in the slots of a page after others, by the LSNs of its slots,
-/// of which 0 says that there is none. The only error is `NoResource`.
+/// Adds, after others, the records that are the last in the slots of a page. `lasts` has their LSNs
+/// by slot, 0 for none. The only error is `NoResource`.
 pub fn want_slots(page: u32, lasts: &[u64; SLOTS], wanted: &mut Vec<Wanted>) -> Result<(), Fault>
     ensures each { OnOk result ((w : Wanted) → Contains wanted.new.items w
         ↔ (Contains wanted.old.items w ⊎ IsLastIn page lasts.now w)) }

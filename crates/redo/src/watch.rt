@@ -1,4 +1,5 @@
-//! Who is told of the parts where one worker does the work on all of them.
+//! The gate, if there is one, that is called for the parts when one worker does the work on all of
+//! them.
 
 ghost use Rattle.std.specs.Prelude.{IsOkUnless};
 ghost use Rattle.page.specs.declared.fault.Fault.TheVariants.{NoResource};
@@ -9,17 +10,17 @@ use board::{Board, Draw};
 use page::Fault;
 use std::alloc::Global;
 
-/// Who watches one worker.
+/// What watches one worker.
 #[derive(Drop)]
 pub enum Watch<'a, G: Gate> {
     /// Nobody: there are no parts.
     Nobody,
-    /// A gate, which is told of each part of a parting.
+    /// A gate, which is called for each part of a partition.
     Gate { parting: &'a Parting, gate: &'a G },
 }
 
-/// Tells who watches of all parts, each drawn from a board of one range and one seat. The only error
-/// is `NoResource`.
+/// Calls the gate of a watch for each part, drawn from a board of one range and one seat. The only
+/// error is `NoResource`.
 pub fn tell<G: Gate>(alloc: Global, watch: &Watch<G>) -> Result<(), Fault>
     ensures { IsOkUnless result NoResource }
 {

@@ -10,7 +10,7 @@ use Rattle.undo.specs.declared.appended.Appended.TheVariants as brief
 use Rattle.undo.specs.Appended.{IsUpdate, HasUpdate, HaveUpdates, clr_of, record_of, records_of}
 use Rattle.restart.specs.Restart.{clrs_in, ends_in}
 
--- of these records and one more
+-- for these records and one more
 count_more : (kind : LogRecord → Bool) (xs : List LogRecord) (x : LogRecord) → length (filter kind (xs ++ x ∷ [])) ≡ length (filter kind xs) + length (filter kind (x ∷ []))
 count_more kind [] x = omega arith
 count_more kind (y ∷ ys) x =

@@ -14,7 +14,7 @@ use Rattle.undo.specs.Appended.{record_of, records_of, AreFit}
 pub told_fit : (log : LogContent) (told : List Appended) → AreFit log told → All Fits (records_of (history log) told)
 told_fit log told fit = All-map Fits (record_of (history log)) told fit
 
--- so have the full records
+-- the full records have encodings
 pub told_writable : (log : LogContent) (told : List Appended) (records : List Record) → map content records ≡ records_of (history log) told → AreFit log told → AreWritable records
 told_writable log told records is fit = λ k d lt.
     let all : All Fits (map content records) = subst (All Fits) (sym is) (told_fit log told fit) in

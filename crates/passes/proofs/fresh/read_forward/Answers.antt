@@ -71,7 +71,7 @@ ended g c text whole torn is reads =
     let end = at_end text whole so_far.0 next.0 torn c.in_ok-next.torn mark c.in_ok-next.next reads own (c.in_ok-next.ensures.ends text so_far.0 still own c.if-next-mark.true) next.1 c.if-next-mark.true in
     (subst (λ (l : LogContent). HasAnalysed 0 (history whole) (history l) c.take_piece.new.scan.tables) end.0 (next.2 (history whole) (so_far.2 (history whole))), end.1)
 
--- and what redo has
+-- what redo has found then
 tallied : (g : Over) (c : goal.In_ok-tables g) (text : List ℕ) (whole : LogContent) (torn : ℕ) → g.S.Reread.text c.args.source.now ≡ Some text → Reads text whole torn
     → TalliedOrRefused whole c.args.store.now.pages (last_lsn (history whole)) c.take_piece.new.scan.missing c.take_piece.new.scan.tallies
 tallied g c text whole torn is reads =

@@ -5,7 +5,7 @@ use Rattle.redo.specs.Parts.{HasPage, resolved}
 use Rattle.redo.proofs.Gathered.{has_left, has_right}
 use Rattle.redo.proofs.part.redo_part.Goals as goal
 
--- the pages of the part, behind those that were there
+-- the pages of the part, after those that were there
 behind : (c : goal.After-drop-counted-2) → map (resolved c.args.parted.now.input) c.append.new.self.items ≡ map (resolved c.args.parted.now.input) c.args.tallies.now.items ++ map (resolved c.args.parted.now.input) c.in_ok-counted.counted.items
 behind c = ap (map (resolved c.args.parted.now.input)) c.in_ok-append.ensures.items ∙ map-append (resolved c.args.parted.now.input) c.args.tallies.now.items c.in_ok-counted.counted.items
 
