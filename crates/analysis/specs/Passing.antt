@@ -34,8 +34,8 @@ pub record CheckpointSoFar : Type 0 where
   pub found : Option (List (ℕ × Entry) × List (ℕ × ℕ))
 
 -- the transaction table that was found, if there is one, has no transaction 0
-abbrev pub HasNoTransaction0 : Option (List (ℕ × Entry)) → Type 0
-HasNoTransaction0 found = IfSome found (λ entries. entry_at 0 entries ≡ None)
+abbrev pub FoundNoTransaction0 : Option (List (ℕ × Entry)) → Type 0
+FoundNoTransaction0 found = IfSome found (λ entries. entry_at 0 entries ≡ None)
 
 -- what the scan for the master m has found in the log that was read: the base, which has no transaction 0; or no base, and then it knows
 -- whether a begin record is at m

@@ -29,14 +29,14 @@ pub struct CheckpointScan {
 
 impl Model for CheckpointScan {
     ghost use Rattle.std.specs.Prelude.{option_map};
-    ghost use Rattle.analysis.specs.Passing.{CheckpointSoFar, HasNoTransaction0};
+    ghost use Rattle.analysis.specs.Passing.{CheckpointSoFar, FoundNoTransaction0};
 
     ghost Value = { CheckpointSoFar };
 
     ghost view = { λ s. record { master = s.master; begins = s.begins; found = option_map (λ x. (x.0.entries, x.1.entries)) s.found } };
 
     // The grammar of logs forbids transaction 0 in a checkpoint.
-    ghost invariant = { λ s. HasNoTransaction0 (option_map (λ x. x.0.entries) s.found) };
+    ghost invariant = { λ s. FoundNoTransaction0 (option_map (λ x. x.0.entries) s.found) };
 }
 
 impl CheckpointScan {

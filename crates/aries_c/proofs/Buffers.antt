@@ -5,7 +5,7 @@ use Rattle.recovery.specs.declared.recovery.Recovery.{Recovery}
 use Rattle.recovery.specs.Text.{ReportContent}
 use Rattle.recovery.specs.Recovery.{new_log as log_made}
 use Rattle.aries_c.specs.declared.recovered.Recovered.{Recovered}
-use Rattle.aries_c.specs.Recovered.{new_log, report_told}
+use Rattle.aries_c.specs.Recovered.{log_in_buffers, report_told}
 
 pub taken_front : (text before after : List ℕ) (n : ℕ) → n ≡ length text → after ≡ text ++ drop (length text) before → take n after ≡ text
 taken_front text before after n long is = ap (λ m. take m after) long ∙ ap (take (length text)) is ∙ take_at text (drop (length text) before) (length text) refl
@@ -14,5 +14,5 @@ module _ (log : List ℕ) (x : Recovery) (made : Recovered) (kept : x.kept.now �
   kept_told : take (length log - made.torn) log ≡ x.kept.now
   kept_told = ap (λ (r : ReportContent). take (length log - r.torn) log) (sym report) ∙ sym kept
 
-  pub log_told : (tail : List ℕ) → take made.tail_length tail ≡ x.frames.items → new_log log tail made ≡ log_made x
+  pub log_told : (tail : List ℕ) → take made.tail_length tail ≡ x.frames.items → log_in_buffers log tail made ≡ log_made x
   log_told tail is = ap₂ (λ (a b : List ℕ). a ++ b) kept_told is

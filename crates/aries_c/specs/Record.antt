@@ -44,14 +44,14 @@ pub record Names (told : Told) (r : LogRecord) : Type 0 where
 
 -- WRITING
 -- a record that C gives as a whole: any but a checkpoint end
-abbrev pub IsWhole : LogRecord → Type 0
-IsWhole (CheckpointEnd begin transactions dirty) = ⊥
-IsWhole r = ⊤
+abbrev pub IsGivenWhole : LogRecord → Type 0
+IsGivenWhole (CheckpointEnd begin transactions dirty) = ⊥
+IsGivenWhole r = ⊤
 
 -- C gives the record, and it has an encoding
 pub record IsWritable (told : Told) (r : LogRecord) : Type 0 where
   pub names : Names told r
-  pub whole : IsWhole r
+  pub whole : IsGivenWhole r
   pub fits : Fits r
 
 -- the frame of the record that C gives, at its LSN

@@ -5,8 +5,8 @@ use Rattle.recovery.specs.Recovery.{Recovers}
 use Rattle.aries_c.specs.declared.recovered.Recovered.{Recovered}
 
 -- the new log: what is kept of the log, followed by the tail
-abbrev pub new_log : (log tail : List ℕ) → Recovered → List ℕ
-new_log log tail made = take (length log - made.torn) log ++ take made.tail_length tail
+abbrev pub log_in_buffers : (log tail : List ℕ) → Recovered → List ℕ
+log_in_buffers log tail made = take (length log - made.torn) log ++ take made.tail_length tail
 
 abbrev pub new_store : (out_store : List ℕ) → Recovered → List ℕ
 new_store out_store made = take made.store_length out_store

@@ -32,7 +32,7 @@ pub record HasTables (bytes : List ℕ) (lsn begin : ℕ) (transactions : List T
   pub there : record_at (history read) lsn ≡ Some (CheckpointEnd begin transactions dirty)
 
 -- C gets the LSN of its begin record, and how many entries its tables have
-pub record Counts (begin : ℕ) (transactions : List TableEntry) (dirty : List (ℕ × ℕ)) (told : Tables) : Type 0 where
+pub record NamesCounts (begin : ℕ) (transactions : List TableEntry) (dirty : List (ℕ × ℕ)) (told : Tables) : Type 0 where
   pub begin_is : told.begin ≡ begin
   pub transactions_are : told.transactions ≡ length transactions
   pub dirty_are : told.dirty ≡ length dirty

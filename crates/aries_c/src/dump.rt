@@ -6,7 +6,7 @@ ghost use Rattle.wal.specs.Reads.{Reads, Cause};
 ghost use Rattle.aries_c.specs.declared.fault.TheConstants.{NO_ROOM, NOT_WRITABLE};
 ghost use Rattle.aries_c.specs.declared.record.Record.{Record as Told};
 ghost use Rattle.aries_c.specs.Fault.{Tells, no_room, not_writable};
-ghost use Rattle.aries_c.specs.Tables.{HasTables, Counts, Fills, told_entry, told_dirty};
+ghost use Rattle.aries_c.specs.Tables.{HasTables, NamesCounts, Fills, told_entry, told_dirty};
 ghost use Rattle.aries_c.specs.Dump.{TellsRecord, first_asked, Dumps};
 
 use crate::checkpoint::{fill_dirty, fill_entries};
@@ -115,12 +115,12 @@ pub extern "C" fn aries_checkpoint(
 ) -> Fault
     ensures tables { result.number ≡ 0 → (begin : ℕ) × (entries : List TableEntry)
         × (pages : List (ℕ × ℕ)) × HasTables log.now lsn begin entries pages
-        × Counts begin entries pages tables.new
+        × NamesCounts begin entries pages tables.new
         × Fills told_entry entries transactions.old transactions.new
         × Fills told_dirty pages dirty.old dirty.new }
     ensures no_room { result.number ≡ NO_ROOM → (begin : ℕ) × (entries : List TableEntry)
         × (pages : List (ℕ × ℕ)) × HasTables log.now lsn begin entries pages
-        × Counts begin entries pages tables.new
+        × NamesCounts begin entries pages tables.new
         × ((length transactions.old < length entries) ⊎ (length dirty.old < length pages)) }
     ensures none { result.number ≡ NOT_WRITABLE → (begin : ℕ) (entries : List TableEntry)
         (pages : List (ℕ × ℕ)) → ¬ HasTables log.now lsn begin entries pages }

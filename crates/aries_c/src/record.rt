@@ -5,7 +5,7 @@ ghost use Rattle.wal.specs.Records.{LogRecord};
 ghost use Rattle.wal.specs.Spelling.{Fits};
 ghost use Rattle.wal.specs.Content.{content, shown};
 ghost use Rattle.aries_c.specs.Fault.{not_writable};
-ghost use Rattle.aries_c.specs.Record.{Names, IsWhole, IsWritable};
+ghost use Rattle.aries_c.specs.Record.{Names, IsGivenWhole, IsWritable};
 
 use crate::{Fault, Image};
 use wal::RecordView;
@@ -117,7 +117,7 @@ impl Record {
     /// valid, for a checkpoint end, and for any other kind.
     fn named(&self) -> Result<wal::Record, Fault>
         ensures names { IfOk result (λ r. Names self.now (content r)) }
-        ensures whole { IfOk result (λ r. IsWhole (content r)) }
+        ensures whole { IfOk result (λ r. IsGivenWhole (content r)) }
         ensures err { IfErr result (λ e. e ≡ not_writable) }
         ensures only { IfErr result (λ _. (r : LogRecord) → IsWritable self.now r → ⊥) }
     {

@@ -7,10 +7,10 @@ ghost use Rattle.wal.specs.Meaning.{BasePages};
 ghost use Rattle.wal.specs.Reads.{log_text};
 ghost use Rattle.wal.specs.Store.{store_out};
 ghost use Rattle.wal.specs.Tail.{with_tail};
-ghost use Rattle.recovery.specs.Recovery.{Recovers, Recovered as AreRecovered, AreLawful, AreCut, Cause, new_log as log_made};
+ghost use Rattle.recovery.specs.Recovery.{Recovers, Recovered as AreRecovered, AreLawful, AreCut, RecoveryCause, new_log as log_made};
 ghost use Rattle.aries_c.specs.declared.fault.TheConstants.{NO_ROOM};
 ghost use Rattle.aries_c.specs.Fault.{Tells, done, no_memory, no_room};
-ghost use Rattle.aries_c.specs.Recovered.{new_log, new_store, report_told, TellsLengths, IsShort};
+ghost use Rattle.aries_c.specs.Recovered.{log_in_buffers, new_store, report_told, TellsLengths, IsShort};
 
 use crate::Fault;
 use crate::room::copy_to;
@@ -83,7 +83,7 @@ fn recovery_in<'a>(alloc: Global, log: &'a [u8], store: &[u8]) -> Result<Recover
         (log_made x) x.store.items x.report) (λ e. e ≡ NoResource) }
     ensures answer { IfOk result (λ x. Recovers log.now store.now
         (log_made x) x.store.items x.report) }
-    ensures cause { IfErr result (Cause log.now store.now (record { workers = 1; parts = 1 })) }
+    ensures cause { IfErr result (RecoveryCause log.now store.now (record { workers = 1; parts = 1 })) }
     ensures kept { IfOk result (λ x. x.kept.now
         ≡ take (length log.now - x.report.torn) log.now) }
     ensures short { (base : BasePages) → AreLawful base log.now store.now
@@ -114,13 +114,13 @@ pub extern "C" fn aries_recover(
 ) -> Fault
     // On success.
     ensures answer { result.number ≡ 0 → Recovers log.now store.now
-        (new_log log.now tail.new made.new) (new_store out_store.new made.new)
+        (log_in_buffers log.now tail.new made.new) (new_store out_store.new made.new)
         (report_told made.new (take made.new.in_doubt in_doubt.new)) }
 
     // For the bytes of a log and its store that are lawful over any base pages.
     ensures lawful { (base : BasePages) (bytes : AreLawful base log.now store.now)
         → result.number ≡ 0 → AreRecovered base bytes.decoded.read bytes.decoded.before
-        (new_log log.now tail.new made.new) (new_store out_store.new made.new)
+        (log_in_buffers log.now tail.new made.new) (new_store out_store.new made.new)
         (report_told made.new (take made.new.in_doubt in_doubt.new)) }
     ensures lawful_refused { (base : BasePages) → AreLawful base log.now store.now
         → (result ≡ done) ⊎ ((result ≡ no_memory) ⊎ (result ≡ no_room)) }
@@ -130,7 +130,7 @@ pub extern "C" fn aries_recover(
 
     // For what an interrupted recovery of them may leave: what that recovery would have made.
     ensures interrupted_log { (base : BasePages) (bytes : AreCut base log.now store.now)
-        → result.number ≡ 0 → new_log log.now tail.new made.new
+        → result.number ≡ 0 → log_in_buffers log.now tail.new made.new
         ≡ log_text (with_tail bytes.first.decoded.read) }
     ensures interrupted_store { (base : BasePages) (bytes : AreCut base log.now store.now)
         → result.number ≡ 0 → new_store out_store.new made.new
@@ -138,7 +138,7 @@ pub extern "C" fn aries_recover(
 
     // On an error, its condition holds, or a buffer is shorter than what a recovery makes.
     ensures cause { result.number ≢ 0 → result.number ≢ NO_ROOM
-        → Tells (Cause log.now store.now (record { workers = 1; parts = 1 })) result }
+        → Tells (RecoveryCause log.now store.now (record { workers = 1; parts = 1 })) result }
     ensures lengths { result.number ≡ NO_ROOM → TellsLengths log.now store.now made.new }
     ensures short { result.number ≡ NO_ROOM
         → IsShort made.new tail.old out_store.old in_doubt.old }

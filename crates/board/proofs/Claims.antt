@@ -8,12 +8,12 @@ use lib.ListN.{get_elem?}
 use Rattle.atomic_table.specs.Table.{step, keeps, stepped, Allows}
 use Rattle.board.specs.declared.view.Plan.{Plan}
 use Rattle.board.specs.declared.view.View.{View}
-use Rattle.board.specs.Claims.{times, total, places, draws, if_any, places_past, stops, start, size, Knows, IsLawful, with_drawn, with_ended, claimed}
+use Rattle.board.specs.Claims.{times, total, places, draws, if_any, places_past, stops, start, size, Knows, KeepsRule, with_drawn, with_ended, claimed}
 use Rattle.board.proofs.Times.{times_push_same, times_push_other, total_set, total_at}
 use Rattle.board.proofs.Ranges.{apart}
 use Rattle.board.proofs.Law.{S, M, size-le, past-le, word_here, word_there, knows_more, Live, Spent, Told, all_set}
 
-module _ (p : Plan) (s : S) (kept : IsLawful p s) (id : ℕ) (v : View) (at : get_elem? s.views id ≡ some v) (r : ℕ) (in' : r < p.ranges) (lives : 0 < v.places) where
+module _ (p : Plan) (s : S) (kept : KeepsRule p s) (id : ℕ) (v : View) (at : get_elem? s.views id ≡ some v) (r : ℕ) (in' : r < p.ranges) (lives : 0 < v.places) where
   abbrev n : ℕ
   n = slice_index s.words r
 
@@ -72,7 +72,7 @@ module _ (p : Plan) (s : S) (kept : IsLawful p s) (id : ℕ) (v : View) (at : ge
     other : (q k : ℕ) → q < p.ranges → k < size p q → q ≢ r → start p q + k ≢ x
     other q k _ small ne = apart p.parts p.ranges r q n k any less small ne
 
-    pub hit : (c : List (ℕ × Unit {0})) → IsLawful p (stepped s r (n + 1) id c w keeps)
+    pub hit : (c : List (ℕ × Unit {0})) → KeepsRule p (stepped s r (n + 1) id c w keeps)
     hit c = record {
       sized = kept.sized;
       rows = rows';
@@ -115,7 +115,7 @@ module _ (p : Plan) (s : S) (kept : IsLawful p s) (id : ℕ) (v : View) (at : ge
         (λ e. let a = word_here s.words r q (n + 1) long e in let d : size p q ≡ size p r = ap (size p) e in omega arith)
         (λ ne. let a = times_push_other q r v.ended (λ h. ne (sym h)) in knows_more p s.words v.ended r (n + 1) long (omega arith) mine.1 q within (omega arith))
 
-    pub miss : (c : List (ℕ × Unit {0})) → IsLawful p (stepped s r (n + 1) id c w' keeps)
+    pub miss : (c : List (ℕ × Unit {0})) → KeepsRule p (stepped s r (n + 1) id c w' keeps)
     miss c = record {
       sized = kept.sized;
       rows = rows';
@@ -147,12 +147,12 @@ module _ (p : Plan) (s : S) (kept : IsLawful p s) (id : ℕ) (v : View) (at : ge
       told = told' w' refl refl;
     }
 
-few : (p : Plan) (s : S) → IsLawful p s → (r : ℕ) → r < p.ranges → slice_index s.words r ≤ 4160
+few : (p : Plan) (s : S) → KeepsRule p s → (r : ℕ) → r < p.ranges → slice_index s.words r ≤ 4160
 few p s kept r in' = let a = size-le p r kept.sized.1 in' in let b = past-le p s kept r in let c = kept.bounded r in' in let d = kept.sized in omega arith
 
 -- a step that adds 1 to the word of a range which the seat does not know as ended
 pub claims : (p : Plan) (slots id : ℕ) (me : M) (r : ℕ) → r < p.ranges → 0 < me.0.places → times r me.0.ended ≡ 0
-    → Allows (IsLawful p) slots id me r (λ n. (n + 1) % 2 ^ 64) (claimed (step slots r 1 0 none) me)
+    → Allows (KeepsRule p) slots id me r (λ n. (n + 1) % 2 ^ 64) (claimed (step slots r 1 0 none) me)
 claims p slots id me r in' lives open' s kept _ at _ =
     let n : ℕ = slice_index s.words r in
     let f = few p s kept r in' in
@@ -165,7 +165,7 @@ claims p slots id me r in' lives open' s kept _ at _ =
       with_drawn me.0 (start p r + n),
       keeps,
       tt,
-      subst (λ (z : ℕ). IsLawful p (stepped s r z id me.1 (with_drawn me.0 (start p r + n)) keeps)) fits (hit p s kept id me.0 at r in' lives less me.1),
+      subst (λ (z : ℕ). KeepsRule p (stepped s r z id me.1 (with_drawn me.0 (start p r + n)) keeps)) fits (hit p s kept id me.0 at r in' lives less me.1),
       (
         refl,
         (λ _. (ap (with_drawn me.0) started, subst (λ (y : ℕ). times y me.0.drawn ≡ 0) started (new p s kept id me.0 at r in' lives less))),
@@ -176,6 +176,6 @@ claims p slots id me r in' lives open' s kept _ at _ =
       with_ended me.0 r,
       keeps,
       tt,
-      subst (λ (z : ℕ). IsLawful p (stepped s r z id me.1 (with_ended me.0 r) keeps)) fits (miss p s kept id me.0 at r in' lives (omega arith) open' me.1),
+      subst (λ (z : ℕ). KeepsRule p (stepped s r z id me.1 (with_ended me.0 r) keeps)) fits (miss p s kept id me.0 at r in' lives (omega arith) open' me.1),
       (refl, (λ less. absurd (no (omega arith))), (λ _. refl)),
     ))

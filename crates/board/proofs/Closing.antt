@@ -11,7 +11,7 @@ use Rattle.atomic_table.specs.Table.{State, Final, Seen}
 use Rattle.board.specs.declared.view.Plan.{Plan}
 use Rattle.board.specs.declared.view.View.{View}
 use Rattle.board.specs.Drawn.{AreDistinct, AllEnded}
-use Rattle.board.specs.Claims.{times, total, places, draws, if_any, places_past, stops, start, size, IsLawful, IsDrawn}
+use Rattle.board.specs.Claims.{times, total, places, draws, if_any, places_past, stops, start, size, KeepsRule, IsDrawn}
 use Rattle.board.proofs.Times.{times_contained, contains_from_times, distinct_from_times, total_alone, others_none}
 use Rattle.board.proofs.Times.{times_from_contains}
 use Rattle.board.proofs.Counts.{among, among_cut, among_few, among_all}
@@ -30,7 +30,7 @@ pub record Closing (p : Plan) (v : View) (ws : List ℕ) : Type 0 where
   pub stop : slice_index ws p.ranges ≡ cond v.stopped 1 0
   pub told : v.told ≡ true → v.stopped ≡ true
 
-module _ (p : Plan) (s : State (Unit {0}) View) (kept : IsLawful p s) (id : ℕ) (v : View) (at : get_elem? s.views id ≡ some v) (whole : v.places ≡ p.seats) (lives : 0 < v.places) where
+module _ (p : Plan) (s : State (Unit {0}) View) (kept : KeepsRule p s) (id : ℕ) (v : View) (at : get_elem? s.views id ≡ some v) (whole : v.places ≡ p.seats) (lives : 0 < v.places) where
   idle : (j : ℕ) (u : View) → j ≢ id → get_elem? s.views j ≡ some u → u.places ≡ 0
   idle = others_none places s.views id v at (kept.all_places ∙ sym whole)
 
@@ -129,5 +129,5 @@ module _ (p : Plan) (s : State (Unit {0}) View) (kept : IsLawful p s) (id : ℕ)
     told = λ h. flag_on v.stopped (let a = kept.told id v at h in let b = stops_alone in omega arith);
   }
 
-pub closes : (p : Plan) (id : ℕ) (v : View) (ws : List ℕ) (xs : List (Unit {0})) → v.places ≡ p.seats → 0 < v.places → Final (Seen (IsLawful p) id v) ws xs → Closing p v ws
+pub closes : (p : Plan) (id : ℕ) (v : View) (ws : List ℕ) (xs : List (Unit {0})) → v.places ≡ p.seats → 0 < v.places → Final (Seen (KeepsRule p) id v) ws xs → Closing p v ws
 closes p id v ws xs whole lives f = subst (Closing p v) f.2 (ends p f.0 f.1.0 id v f.1.1 whole lives)

@@ -10,7 +10,7 @@ use Rattle.atomic_table.specs.Table.{State, Me, keeps, stepped}
 use Rattle.atomic_table.proofs.Lists.{at_set, set_again}
 use Rattle.board.specs.declared.view.Plan.{Plan}
 use Rattle.board.specs.declared.view.View.{View}
-use Rattle.board.specs.Claims.{times, total, places, draws, if_any, places_past, start, size, Knows, IsLawful}
+use Rattle.board.specs.Claims.{times, total, places, draws, if_any, places_past, start, size, Knows, KeepsRule}
 use Rattle.board.proofs.Times.{total_le}
 use Rattle.board.proofs.Ranges.{start_below, start_end, size_ends, find_range}
 use Rattle.board.specs.Claims.{IsDrawn}
@@ -41,11 +41,11 @@ if_any_both (suc k) l m n = let e : if_any (suc k + l) (m + n) ≡ m + n = if_an
 pub size-le : (p : Plan) (r : ℕ) → 0 < p.ranges → r < p.ranges → start p r + size p r ≤ p.parts
 size-le p r any in' = let a = start_below p.parts p.ranges (r + 1) any (omega arith) in let b = size_ends p.parts p.ranges r any in omega arith
 
-pub past-le : (p : Plan) (s : S) → IsLawful p s → (r : ℕ) → total (places_past r) s.views ≤ p.seats
+pub past-le : (p : Plan) (s : S) → KeepsRule p s → (r : ℕ) → total (places_past r) s.views ≤ p.seats
 past-le p s kept r = let a = total_le (places_past r) places (λ v. if_any-le (times r v.ended) v.places) s.views in let b = kept.all_places in omega arith
 
 -- each number is at most once among all that were drawn
-pub once : (p : Plan) (s : S) → IsLawful p s → (x : ℕ) → total (draws x) s.views ≤ 1
+pub once : (p : Plan) (s : S) → KeepsRule p s → (x : ℕ) → total (draws x) s.views ≤ 1
 once p s kept x = dite (dec_le p.parts x)
     (λ le. let a = kept.beyond x le in omega arith)
     (λ no.
@@ -87,7 +87,7 @@ pub all_set : (F G : View → Type 0) (vs : List View) (id : ℕ) (w : View) →
 all_set F G vs id w was more new j u e = ⊎_elim (λ (t : (j ≡ id) × (w ≡ u)). subst G t.1 new) (λ (t : (j ≢ id) × (get_elem? vs j ≡ some u)). more u (was j u t.1)) (at_set vs id j w u e)
 
 -- the rule keeps the law
-pub law : (p : Plan) (s : State (Unit {0}) View) → IsLawful p s → IsDrawn p.parts p.ranges s.views
+pub law : (p : Plan) (s : State (Unit {0}) View) → KeepsRule p s → IsDrawn p.parts p.ranges s.views
 law p s kept = record {
   below = λ x h. dite (dec_lt x p.parts) (λ less. less) (λ over. let a = kept.beyond x (omega arith) in absurd (omega arith));
   distinct = once p s kept;
@@ -106,8 +106,8 @@ law p s kept = record {
 }
 
 -- nothing changes
-pub unchanged : (p : Plan) (s : S) (id : ℕ) (v : View) (i : ℕ) → IsLawful p s → get_elem? s.views id ≡ some v → (c : List (ℕ × Unit {0})) → IsLawful p (stepped s i (slice_index s.words i) id c v keeps)
-unchanged p s id v i kept at c = subst (λ (z : List ℕ × List View). IsLawful p (record { words = z.0; homes = s.homes; views = z.1 })) (λ j. (sym (set-get_or s.words i 0) j, sym (set_again s.views id v at) j)) kept
+pub unchanged : (p : Plan) (s : S) (id : ℕ) (v : View) (i : ℕ) → KeepsRule p s → get_elem? s.views id ≡ some v → (c : List (ℕ × Unit {0})) → KeepsRule p (stepped s i (slice_index s.words i) id c v keeps)
+unchanged p s id v i kept at c = subst (λ (z : List ℕ × List View). KeepsRule p (record { words = z.0; homes = s.homes; views = z.1 })) (λ j. (sym (set-get_or s.words i 0) j, sym (set_again s.views id v at) j)) kept
 
 -- a note counts at most one
 pub flag-le : (b : Bool) → cond b 1 0 ≤ 1

@@ -9,13 +9,13 @@ use Rattle.atomic_table.specs.Table.{step, keeps, Allows, Splits, Joins, opening
 use Rattle.atomic_table.proofs.Lists.{at_snoc, set_else}
 use Rattle.board.specs.declared.view.Plan.{Plan}
 use Rattle.board.specs.declared.view.View.{View}
-use Rattle.board.specs.Claims.{times, total, places, draws, if_any, places_past, stops, start, Knows, IsLawful, opened, one_place, other_places, united, nobody, looked}
+use Rattle.board.specs.Claims.{times, total, places, draws, if_any, places_past, stops, start, Knows, KeepsRule, opened, one_place, other_places, united, nobody, looked}
 use Rattle.board.proofs.Times.{times-append, total_set, total_snoc, total_at, total_two}
 use Rattle.std.proofs.lemmas.Bool.{or_cases}
 use Rattle.board.proofs.Law.{S, M, if_any_cut, if_any_both, once, Live, Spent, Told, all_set, unchanged, flag-le}
 
 -- a load of the stop word that notes nothing changes nothing
-pub looks : (p : Plan) (slots id : ℕ) (me : M) → Allows (IsLawful p) slots id me p.ranges (λ n. n) (looked (step slots p.ranges 0 0 none) me)
+pub looks : (p : Plan) (slots id : ℕ) (me : M) → Allows (KeepsRule p) slots id me p.ranges (λ n. n) (looked (step slots p.ranges 0 0 none) me)
 looks p slots id me s kept _ at _ = (
   me.0,
   keeps,
@@ -29,7 +29,7 @@ looks p slots id me s kept _ at _ = (
 )
 
 -- a view is cut in two whose numbers and places add up
-module _ (p : Plan) (s : S) (kept : IsLawful p s) (id : ℕ) (v : View) (at : get_elem? s.views id ≡ some v) (two : 2 ≤ v.places) where
+module _ (p : Plan) (s : S) (kept : KeepsRule p s) (id : ℕ) (v : View) (at : get_elem? s.views id ≡ some v) (two : 2 ≤ v.places) where
   abbrev cut : List View
   cut = set s.views id (one_place v) ++ other_places v ∷ []
 
@@ -48,7 +48,7 @@ module _ (p : Plan) (s : S) (kept : IsLawful p s) (id : ℕ) (v : View) (at : ge
   cut_told : (u : View) → Told (total stops s.views) u → Told (total stops cut) u
   cut_told u f h = let a = cut_stops in let b = f h in omega arith
 
-  pub halves : IsLawful p (record { words = s.words; homes = s.homes; views = cut })
+  pub halves : KeepsRule p (record { words = s.words; homes = s.homes; views = cut })
   halves = let mine = kept.live id v at (omega arith) in record {
     sized = kept.sized;
     rows = kept.rows;
@@ -65,7 +65,7 @@ module _ (p : Plan) (s : S) (kept : IsLawful p s) (id : ℕ) (v : View) (at : ge
     told = cut_all (Told (total stops cut)) (λ j u e. cut_told u (kept.told j u e)) (cut_told v (kept.told id v at)) (cut_told v (kept.told id v at));
   }
 
-pub splits : (p : Plan) (id : ℕ) (v : View) → 2 ≤ v.places → Splits (IsLawful p) id v (one_place v) (other_places v)
+pub splits : (p : Plan) (id : ℕ) (v : View) → 2 ≤ v.places → Splits (KeepsRule p) id v (one_place v) (other_places v)
 splits p id v two s kept at = halves p s kept id v at two
 
 both_flags : (a b : Bool) → (cond a 1 0 ≤ cond (a || b) 1 0) × (cond b 1 0 ≤ cond (a || b) 1 0) × (cond (a || b) 1 0 ≤ cond a 1 0 + cond b 1 0) × (cond (a || b) 1 0 ≤ 1)
@@ -74,7 +74,7 @@ both_flags false true = (omega arith, omega arith, omega arith, omega arith)
 both_flags false false = (omega arith, omega arith, omega arith, omega arith)
 
 -- two views become one, and no seat is left over
-module _ (p : Plan) (s : S) (kept : IsLawful p s) (id : ℕ) (v : View) (at : get_elem? s.views id ≡ some v) (by : ℕ) (w : View) (apart' : by ≢ id) (that : get_elem? (set s.views id (united v w)) by ≡ some w) (lives : 0 < v.places) (lives' : 0 < w.places) where
+module _ (p : Plan) (s : S) (kept : KeepsRule p s) (id : ℕ) (v : View) (at : get_elem? s.views id ≡ some v) (by : ℕ) (w : View) (apart' : by ≢ id) (that : get_elem? (set s.views id (united v w)) by ≡ some w) (lives : 0 < v.places) (lives' : 0 < w.places) where
   abbrev one : List View
   one = set (set s.views id (united v w)) by nobody
 
@@ -108,7 +108,7 @@ module _ (p : Plan) (s : S) (kept : IsLawful p s) (id : ℕ) (v : View) (at : ge
   told_both : Told (total stops one) (united v w)
   told_both h = ⊎_elim (λ (e : v.told ≡ true). told_one v (kept.told id v at) e) (λ (e : w.told ≡ true). told_one w (kept.told by w there) e) (or_cases v.told w.told h)
 
-  pub whole : IsLawful p (record { words = s.words; homes = s.homes; views = one })
+  pub whole : KeepsRule p (record { words = s.words; homes = s.homes; views = one })
   whole = record {
     sized = kept.sized;
     rows = kept.rows;
@@ -128,12 +128,12 @@ module _ (p : Plan) (s : S) (kept : IsLawful p s) (id : ℕ) (v : View) (at : ge
     told = one_all (Told (total stops one)) (λ j u e. told_one u (kept.told j u e)) told_both (λ e. absurd (cc));
   }
 
-pub joins : (p : Plan) (id : ℕ) (v : View) (by : ℕ) (w : View) → 0 < v.places → 0 < w.places → Joins (IsLawful p) id v by w (united v w) nobody
+pub joins : (p : Plan) (id : ℕ) (v : View) (by : ℕ) (w : View) → 0 < v.places → 0 < w.places → Joins (KeepsRule p) id v by w (united v w) nobody
 joins p id v by w lives lives' s kept at apart' that = whole p s kept id v at by w apart' that lives lives'
 
 -- the words at the start are 0
 pub opens : (p : Plan) (ws : List ℕ) → (p.parts ≤ 4096) × (0 < p.ranges) × (p.ranges ≤ 64) × (p.seats ≤ 64) → length ws ≡ p.ranges + 1 → ((r : ℕ) → slice_index ws r ≡ 0)
-    → IsLawful p (opening ws [] (opened p))
+    → KeepsRule p (opening ws [] (opened p))
 opens p ws sized rows none_yet = record {
   sized = sized;
   rows = rows;

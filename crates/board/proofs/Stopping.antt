@@ -9,12 +9,12 @@ use lib.ListN.{get_elem?}
 use Rattle.atomic_table.specs.Table.{step, keeps, stepped, Allows}
 use Rattle.board.specs.declared.view.Plan.{Plan}
 use Rattle.board.specs.declared.view.View.{View}
-use Rattle.board.specs.Claims.{total, places, draws, places_past, stops, start, Knows, IsLawful, with_stop, with_told, stop_set, stop_seen}
+use Rattle.board.specs.Claims.{total, places, draws, places_past, stops, start, Knows, KeepsRule, with_stop, with_told, stop_set, stop_seen}
 use Rattle.board.proofs.Times.{total_set, total_at}
 use Rattle.board.proofs.Law.{S, M, word_here, word_there, Live, Spent, Told, all_set, unchanged, flag-le}
 
 -- a view gains a note, and no claim word changes
-module _ (p : Plan) (s : S) (kept : IsLawful p s) (id : ℕ) (v : View) (at : get_elem? s.views id ≡ some v) (lives : 0 < v.places) (ws : List ℕ) (rows' : length ws ≡ p.ranges + 1) (same : (q : ℕ) → q < p.ranges → slice_index ws q ≡ slice_index s.words q) (stopped' told' : Bool) where
+module _ (p : Plan) (s : S) (kept : KeepsRule p s) (id : ℕ) (v : View) (at : get_elem? s.views id ≡ some v) (lives : 0 < v.places) (ws : List ℕ) (rows' : length ws ≡ p.ranges + 1) (same : (q : ℕ) → q < p.ranges → slice_index ws q ≡ slice_index s.words q) (stopped' told' : Bool) where
   abbrev noted : View
   noted = record v { stopped = stopped'; told = told' }
 
@@ -27,7 +27,7 @@ module _ (p : Plan) (s : S) (kept : IsLawful p s) (id : ℕ) (v : View) (at : ge
   known' : (u : View) → Knows p s.words u.ended → Knows p ws u.ended
   known' u knows q within any = let a = knows q within any in let b = same q within in omega arith
 
-  pub notes : slice_index ws p.ranges ≡ min 1 (total stops views') → total stops s.views ≤ total stops views' → Told (total stops views') noted → IsLawful p (record { words = ws; homes = s.homes; views = views' })
+  pub notes : slice_index ws p.ranges ≡ min 1 (total stops views') → total stops s.views ≤ total stops views' → Told (total stops views') noted → KeepsRule p (record { words = ws; homes = s.homes; views = views' })
   notes is more new_told = record {
     sized = kept.sized;
     rows = rows';
@@ -48,7 +48,7 @@ or_one (suc zero) h = refl
 or_one (suc (suc n)) h = absurd (omega arith)
 
 -- the stop word becomes 1
-pub sets_stop : (p : Plan) (slots id : ℕ) (me : M) → 0 < me.0.places → Allows (IsLawful p) slots id me p.ranges (λ n. bit_or n 1) (stop_set (step slots p.ranges 1 0 none) me)
+pub sets_stop : (p : Plan) (slots id : ℕ) (me : M) → 0 < me.0.places → Allows (KeepsRule p) slots id me p.ranges (λ n. bit_or n 1) (stop_set (step slots p.ranges 1 0 none) me)
 sets_stop p slots id me lives s kept _ at _ =
     let n : ℕ = slice_index s.words p.ranges in
     let is = kept.stop in
@@ -62,7 +62,7 @@ sets_stop p slots id me lives s kept _ at _ =
       w,
       keeps,
       tt,
-      subst (λ (z : ℕ). IsLawful p (stepped s p.ranges z id me.1 w keeps)) (sym one)
+      subst (λ (z : ℕ). KeepsRule p (stepped s p.ranges z id me.1 w keeps)) (sym one)
           (notes p s kept id me.0 at lives ws (length-set s.words p.ranges 1 ∙ kept.rows) (λ q within. word_there s.words p.ranges q 1 (λ h. omega arith)) true me.0.told
           (word_here s.words p.ranges p.ranges 1 long refl ∙ omega arith) (let c = flag-le me.0.stopped in omega arith) (λ _. some_stop)),
       refl,
@@ -77,7 +77,7 @@ clear_from_not true h = absurd (h refl)
 clear_from_not false h = refl
 
 -- a load of the stop word
-pub sees_stop : (p : Plan) (slots id : ℕ) (me : M) → 0 < me.0.places → Allows (IsLawful p) slots id me p.ranges (λ n. n) (stop_seen (step slots p.ranges 0 0 none) me)
+pub sees_stop : (p : Plan) (slots id : ℕ) (me : M) → 0 < me.0.places → Allows (KeepsRule p) slots id me p.ranges (λ n. n) (stop_seen (step slots p.ranges 0 0 none) me)
 sees_stop p slots id me lives s kept _ at _ =
     let n : ℕ = slice_index s.words p.ranges in
     let is = kept.stop in

@@ -55,7 +55,7 @@ Knows p words ended = (r : ℕ) → r < p.ranges → 0 < times r ended → size 
 -- The rule of the words and of what all seats know.
 -- Each number of a range whose step was made is once in the list of one seat, and each other number is in none; a word passes its range's
 -- size by at most the places of the seats that found its end; if a seat has seen a stop, some seat has stopped the board.
-pub record IsLawful (p : Plan) (s : State ⊤ View) : Type 0 where
+pub record KeepsRule (p : Plan) (s : State ⊤ View) : Type 0 where
   pub sized : (p.parts ≤ 4096) × (0 < p.ranges) × (p.ranges ≤ 64) × (p.seats ≤ 64)
   pub rows : length s.words ≡ p.ranges + 1
   pub all_places : total places s.views ≡ p.seats
@@ -76,7 +76,7 @@ pub record IsDrawn (n ranges : ℕ) (views : List View) : Type 0 where
 
 -- The drawn law: this holds whenever the rule holds
 abbrev pub DrawnLaw : Type 0
-DrawnLaw = (p : Plan) (s : State ⊤ View) → IsLawful p s → IsDrawn p.parts p.ranges s.views
+DrawnLaw = (p : Plan) (s : State ⊤ View) → KeepsRule p s → IsDrawn p.parts p.ranges s.views
 
 -- the first seat: all places, and nothing drawn, ended or noted
 abbrev pub opened : Plan → View

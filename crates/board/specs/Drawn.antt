@@ -87,5 +87,5 @@ pub record IsNext (board : BoardId) (home : ℕ) (ended : List ℕ) (x : ℕ) : 
   pub number : IsInRange board range x
 
 -- exactly the first numbers of each range were drawn: number k of range r if and only if its word counts more than k steps
-abbrev pub AreFirst : BoardId → (words drawn : List ℕ) → Type 0
-AreFirst board words drawn = (r k : ℕ) → r < board.ranges → k < range_size board.parts board.ranges r → Contains drawn (range_start board.parts board.ranges r + k) ↔ (k < slice_index words r)
+abbrev pub AreFirstDrawn : BoardId → (words drawn : List ℕ) → Type 0
+AreFirstDrawn board words drawn = (r k : ℕ) → r < board.ranges → k < range_size board.parts board.ranges r → Contains drawn (range_start board.parts board.ranges r + k) ↔ (k < slice_index words r)

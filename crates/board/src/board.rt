@@ -1,7 +1,7 @@
 //! The board, as threads share it.
 
 ghost use Rattle.std.specs.Prelude.{◌≡◌, ℕ, ◌+◌, ◌*◌, ◌<◌, ◌≤◌, [], ◌++◌, All, Contains, length, sum, IfOk, IfErr, true, false, ◌||◌, replicate};
-ghost use Rattle.board.specs.Drawn.{AreDistinct, AllEnded, AreFirst};
+ghost use Rattle.board.specs.Drawn.{AreDistinct, AllEnded, AreFirstDrawn};
 ghost use Rattle.page.specs.declared.fault.Fault.TheVariants.{NoResource};
 
 use crate::ended::{either_of, no_ends};
@@ -155,7 +155,7 @@ impl Board {
         ensures all { AllEnded self.ranges seat.ended → (x : ℕ) → x < self.parts
             → Contains seat.drawn x }
         ensures words { length result.words ≡ self.ranges }
-        ensures claims { AreFirst self result.words seat.drawn }
+        ensures claims { AreFirstDrawn self result.words seat.drawn }
         ensures drawn { length seat.drawn ≤ sum result.words }
         ensures bound { sum result.words ≤ self.parts + self.seats * self.ranges }
         ensures stopped { result.stopped ≡ seat.stopped }

@@ -7,9 +7,9 @@ use atomic_table::{Join, Play, Split, TableRule};
 pub struct ClaimRule;
 
 impl TableRule<(), View, Plan> for ClaimRule {
-    ghost use Rattle.board.specs.Claims.{IsLawful, opened};
+    ghost use Rattle.board.specs.Claims.{KeepsRule, opened};
 
-    ghost holds = { IsLawful };
+    ghost holds = { KeepsRule };
 
     ghost first = { opened };
 }

@@ -8,7 +8,7 @@ use Rattle.page.specs.Image.{Image}
 use Rattle.dump.specs.declared.style.Style.{Style}
 use Rattle.wal.specs.Records.{LogRecord, Update, Compensation, Commit, Abort, End, Prepare, CheckpointBegin, CheckpointEnd}
 use Rattle.dump.specs.Line.{opening, closing, number_field}
-use Rattle.dump.specs.Record.{kind_word, record_line, fields, short_fields, table_fields}
+use Rattle.dump.specs.Record.{kind_word, record_line, record_fields, short_fields, table_fields}
 use Rattle.dump.specs.Tables.{listed}
 use Rattle.dump.specs.Values.{IsPlain, escaped}
 use Rattle.dump.specs.StoreLines.{slot_field, slot_fields}
@@ -49,7 +49,7 @@ put_behind old front between entry text mid new text_is mid_is new_is =
     new_is ∙ ap (λ xs. xs ++ entry) (mid_is ∙ ap (λ xs. xs ++ between) text_is) ∙ append_assoc (old ++ front) between entry ∙ append_assoc old front (between ++ entry)
 
 -- the fields of a record: those of a bounded length, and its tables
-pub fields_parts : (style : Style) (r : LogRecord) → fields style r ≡ short_fields style r ++ table_fields style r
+pub fields_parts : (style : Style) (r : LogRecord) → record_fields style r ≡ short_fields style r ++ table_fields style r
 fields_parts style (CheckpointEnd begin transactions dirty) = append_assoc (number_field style (codes "BeginLSN") begin) _ _
 fields_parts style (Update u) = sym (append-nil _)
 fields_parts style (Compensation k) = sym (append-nil _)
@@ -59,8 +59,8 @@ fields_parts style (End p) = sym (append-nil _)
 fields_parts style (Prepare p) = sym (append-nil _)
 fields_parts style CheckpointBegin = refl
 
-parts : (old opened numbered short tables fields ending : List ℕ) → fields ≡ short ++ tables → ((old ++ ((opened ++ numbered) ++ short)) ++ tables) ++ ending ≡ old ++ (((opened ++ numbered) ++ fields) ++ ending)
-parts old opened numbered short tables fields ending is = rw is (simp append_assoc)
+parts : (old opened numbered short tables record_fields ending : List ℕ) → record_fields ≡ short ++ tables → ((old ++ ((opened ++ numbered) ++ short)) ++ tables) ++ ending ≡ old ++ (((opened ++ numbered) ++ record_fields) ++ ending)
+parts old opened numbered short tables record_fields ending is = rw is (simp append_assoc)
 
 -- the line of a record, put together part by part
 pub record_written : (style : Style) (offset lsn : ℕ) (r : LogRecord) (old kind opened numbered short tables front ending new : List ℕ) → kind ≡ kind_word r → opened ≡ opening style offset kind
@@ -72,7 +72,7 @@ record_written style offset lsn r old kind opened numbered short tables front en
     let short_all = short_is ∙ ap (λ l. l ++ short_fields style r) numbered_all in
     let tables_all = tables_is ∙ ap (λ l. l ++ table_fields style r) (front_is ∙ ap (λ l. old ++ l) short_all) in
     new_is ∙ ap (λ l. tables ++ l) ending_is ∙ ap (λ l. l ++ closing style) tables_all
-    ∙ parts old (opening style offset (kind_word r)) number (short_fields style r) (table_fields style r) (fields style r) (closing style) (fields_parts style r)
+    ∙ parts old (opening style offset (kind_word r)) number (short_fields style r) (table_fields style r) (record_fields style r) (closing style) (fields_parts style r)
 
 -- bytes of which the first are written as themselves between quotes
 pub plain_stay : (style : Style) (bytes : List ℕ) (n : ℕ) → ((k : ℕ) → k < n → IsPlain (get_or bytes k 0)) → flat_map (escaped style) bytes ≡ take n bytes ++ flat_map (escaped style) (drop n bytes)

@@ -93,8 +93,8 @@ PrintsUpToLsn style choice log old new =
     (lsn : ℕ) × Appends old new (log_line style log.begins ++ record_lines style choice (header_bytes log.begins) (first lsn (history log)))
 
 -- nothing was printed, or these lines
-abbrev pub BeginsLog : Style → Choice → LogContent → (old new : Option (List ℕ)) → Type 0
-BeginsLog style choice log old new = Keeps old new ⊎ PrintsUpToLsn style choice log old new
+abbrev pub PrintsBeginning : Style → Choice → LogContent → (old new : Option (List ℕ)) → Type 0
+PrintsBeginning style choice log old new = Keeps old new ⊎ PrintsUpToLsn style choice log old new
 
 -- What is printed if memory is refused: nothing, or the first lines of a log that some prefix of the bytes encodes.
 abbrev pub PrintsFirstLines : Style → Choice → (bytes : List ℕ) → (old new : Option (List ℕ)) → Type 0

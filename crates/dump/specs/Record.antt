@@ -23,23 +23,23 @@ plain_fields style tx prev = number_field style (codes "transaction") tx ++ numb
 abbrev pub cell_fields : Style → (page slot : ℕ) → List ℕ
 cell_fields style page slot = number_field style (codes "page") page ++ number_field style (codes "slot") slot
 
-abbrev pub fields : Style → LogRecord → List ℕ
-fields style (Update u) =
+abbrev pub record_fields : Style → LogRecord → List ℕ
+record_fields style (Update u) =
     plain_fields style u.tx u.prev
     ++ cell_fields style u.page u.slot
     ++ image_field style (codes "before") u.before
     ++ image_field style (codes "after") u.after
-fields style (Compensation c) =
+record_fields style (Compensation c) =
     plain_fields style c.tx c.prev
     ++ cell_fields style c.page c.slot
     ++ number_field style (codes "UndoNxtLSN") c.undo_next
     ++ image_field style (codes "image") c.image
-fields style (Commit r) = plain_fields style r.tx r.prev
-fields style (Abort r) = plain_fields style r.tx r.prev
-fields style (End r) = plain_fields style r.tx r.prev
-fields style (Prepare r) = plain_fields style r.tx r.prev
-fields style CheckpointBegin = []
-fields style (CheckpointEnd begin transactions dirty) =
+record_fields style (Commit r) = plain_fields style r.tx r.prev
+record_fields style (Abort r) = plain_fields style r.tx r.prev
+record_fields style (End r) = plain_fields style r.tx r.prev
+record_fields style (Prepare r) = plain_fields style r.tx r.prev
+record_fields style CheckpointBegin = []
+record_fields style (CheckpointEnd begin transactions dirty) =
     number_field style (codes "BeginLSN") begin
     ++ table_field style (codes "transactions") transaction_entry transactions
     ++ table_field style (codes "dirty") dirty_entry dirty
@@ -47,7 +47,7 @@ fields style (CheckpointEnd begin transactions dirty) =
 -- the fields of a record without the tables of a checkpoint end, which may have any length
 abbrev pub short_fields : Style → LogRecord → List ℕ
 short_fields style (CheckpointEnd begin transactions dirty) = number_field style (codes "BeginLSN") begin
-short_fields style r = fields style r
+short_fields style r = record_fields style r
 
 -- and those tables
 abbrev pub table_fields : Style → LogRecord → List ℕ
@@ -58,4 +58,4 @@ table_fields style r = []
 
 -- a record with this LSN, whose frame is at this offset
 abbrev pub record_line : Style → (offset lsn : ℕ) → LogRecord → List ℕ
-record_line style offset lsn r = opening style offset (kind_word r) ++ number_field style (codes "LSN") lsn ++ fields style r ++ closing style
+record_line style offset lsn r = opening style offset (kind_word r) ++ number_field style (codes "LSN") lsn ++ record_fields style r ++ closing style

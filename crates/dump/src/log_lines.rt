@@ -9,7 +9,7 @@ ghost use Rattle.wal.specs.Headers.{header_bytes};
 ghost use Rattle.wal.specs.Reads.{Reads, Cause};
 ghost use Rattle.wal.specs.Records.{LogContent, history, first};
 ghost use Rattle.wal.specs.Spelling.{Fits};
-ghost use Rattle.dump.specs.LogLines.{log_line, place_behind, line_if_asked, record_lines, torn_line, log_lines, ListsLog, ListsFront, ListsToFault, BeginsLog, PrintsFirstLines, IfMemory, fault_at, IsNoFault};
+ghost use Rattle.dump.specs.LogLines.{log_line, place_behind, line_if_asked, record_lines, torn_line, log_lines, ListsLog, ListsFront, ListsToFault, PrintsBeginning, PrintsFirstLines, IfMemory, fault_at, IsNoFault};
 
 use crate::line::{closing, put_number_field, put_opening, put_text};
 use crate::record::{LineRoom, RECORD_ROOM, put_record};
@@ -147,7 +147,7 @@ fn print_log<W: Write>(
     ensures printed { OnOk result (Appends (W.contents out.old) (W.contents out.new)
         (log_lines style choice.now log.now torn)) }
     ensures err { IfErr result IsNoFault }
-    ensures so_far { IfErr result (λ e. IfMemory e (BeginsLog style choice.now log.now
+    ensures so_far { IfErr result (λ e. IfMemory e (PrintsBeginning style choice.now log.now
         (W.contents out.old) (W.contents out.new))) }
 {
     let start = log.start();

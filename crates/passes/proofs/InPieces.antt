@@ -26,7 +26,7 @@ use Rattle.passes.specs.declared.fault.PassFault.TheVariants as fault
 use Rattle.passes.specs.Marks.{IsResource}
 use Rattle.passes.specs.Tables.{TablesCause}
 use Rattle.passes.specs.Redoing.{RedoCause}
-use Rattle.passes.specs.InPieces.{AreRead, InPiecesCause, RestartCause}
+use Rattle.passes.specs.InPieces.{ReadsAsLog, InPiecesCause, RestartCause}
 
 -- one worker is a number that redo may have
 one : AreWorkers 1
@@ -76,7 +76,7 @@ pub same_marks : (text : List ℕ) (room torn left : ℕ) (marks : List Mark) (w
 same_marks text room torn left marks whole found reads = subst (λ w. AreMarks text w marks) (one_reading text found.whole whole left torn found.reads reads).0 found.are
 
 -- the last mark is where the log's bytes end
-pub found_read : (text : List ℕ) (room torn : ℕ) (marks : List Mark) (end : Mark) → 0 < length marks → ((d : Mark) → end ≡ get_or marks (length marks - 1) d) → AreFound text room marks torn → AreRead text end.offset torn
+pub found_read : (text : List ℕ) (room torn : ℕ) (marks : List Mark) (end : Mark) → 0 < length marks → ((d : Mark) → end ≡ get_or marks (length marks - 1) d) → AreFound text room marks torn → ReadsAsLog text end.offset torn
 found_read text room torn marks end some at found =
     let own = marked_last text marks end some at found.are.each in
     let last : last_lsn (history found.whole) ≤ end.lsn = omega (arith, found.are.last end, ap (λ (m : Mark). m.lsn) (at end)) in

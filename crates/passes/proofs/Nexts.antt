@@ -9,7 +9,7 @@ use Rattle.wal.specs.declared.sizes.TheConstants.{LONGEST_FRAME}
 use Rattle.wal.proofs.Headers.{header_length}
 use Rattle.wal.proofs.Histories.{size_of_log}
 use Rattle.pieces.specs.declared.mark.Mark.{Mark}
-use Rattle.pieces.specs.Pieces.{IsMark, piece_text, GoesOn}
+use Rattle.pieces.specs.Pieces.{IsMark, piece_text, ContinuesLog}
 use Rattle.wal.proofs.Whole.{one_reading}
 use Rattle.wal.proofs.Causes.{no_fault_of_a_log}
 use Rattle.passes.specs.declared.fault.PassFault.{PassFault}
@@ -20,13 +20,13 @@ use Rattle.passes.specs.Tables.{TablesCause}
 use Rattle.passes.proofs.Reached.{in_front}
 
 -- a piece whose last LSN is that of its mark has no record
-none_in : (text : List ℕ) (before : LogContent) (mark : Mark) (count torn : ℕ) (piece : LogContent) → GoesOn text before mark count piece torn → last_lsn (history piece) ≡ mark.lsn → before ⧺ piece.records ≡ before
+none_in : (text : List ℕ) (before : LogContent) (mark : Mark) (count torn : ℕ) (piece : LogContent) → ContinuesLog text before mark count piece torn → last_lsn (history piece) ≡ mark.lsn → before ⧺ piece.records ≡ before
 none_in text before mark count torn piece goes same =
     let none : piece.records ≡ [] = nil_from_length piece.records (omega (arith, same, size_of_log piece, ap lsn_before goes.begins)) in
     ap (λ (rs : List LogRecord). before ⧺ rs) none ∙ ap (λ (rs : List LogRecord). record { begins = before.begins; records = rs }) (append-nil before.records)
 
 -- if it was read to the end of the bytes, the log ends at its mark
-pub no_more : (text : List ℕ) (before : LogContent) (mark : Mark) (count torn : ℕ) (piece : LogContent) → GoesOn text before mark count piece torn → last_lsn (history piece) ≡ mark.lsn → length text ≤ mark.offset + count
+pub no_more : (text : List ℕ) (before : LogContent) (mark : Mark) (count torn : ℕ) (piece : LogContent) → ContinuesLog text before mark count piece torn → last_lsn (history piece) ≡ mark.lsn → length text ≤ mark.offset + count
     → Reads text before torn
 no_more text before mark count torn piece goes same all = subst (λ b. Reads text b torn) (none_in text before mark count torn piece goes same) (goes.end all)
 
@@ -53,7 +53,7 @@ read_within text room mark all some within low is =
 
 -- so a piece that is that long has a record
 pub some_record : (text : List ℕ) (before : LogContent) (mark : Mark) (count torn : ℕ) (piece : LogContent) → LONGEST_FRAME ≤ count → mark.offset + count ≤ length text → IsMark text before mark
-    → GoesOn (take (mark.offset + count) text) before mark count piece torn → last_lsn (history piece) ≡ mark.lsn → ⊥
+    → ContinuesLog (take (mark.offset + count) text) before mark count piece torn → last_lsn (history piece) ≡ mark.lsn → ⊥
 some_record text before mark count torn piece long within is goes same =
     let front = take (mark.offset + count) text in
     let size : length front ≡ mark.offset + count = omega (arith, length-take (mark.offset + count) text, within) in
@@ -73,7 +73,7 @@ some_record text before mark count torn piece long within is goes same =
     )
 
 pub room_takes : (text room : List ℕ) (before : LogContent) (mark : Mark) (all torn : ℕ) (piece : LogContent) → 16 + LONGEST_FRAME ≤ all → all ≤ length room → IsMark text before mark → take all room ≡ piece_text text mark (all - 16)
-    → GoesOn (take (mark.offset + (all - 16)) text) before mark (all - 16) piece torn → last_lsn (history piece) ≡ mark.lsn → ⊥
+    → ContinuesLog (take (mark.offset + (all - 16)) text) before mark (all - 16) piece torn → last_lsn (history piece) ≡ mark.lsn → ⊥
 room_takes text room before mark all torn piece long within is piece_is goes same =
     some_record text before mark (all - 16) torn piece (omega (arith, long)) (read_within text room mark all (omega (arith, long)) within is.within piece_is) is goes same
 

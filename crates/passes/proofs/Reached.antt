@@ -9,7 +9,7 @@ use Rattle.wal.specs.declared.header.LogStart.TheVariants.{Version2}
 use Rattle.wal.specs.Reads.{Reads}
 use Rattle.wal.proofs.Histories.{base_of_log, size_of_log}
 use Rattle.pieces.specs.declared.mark.Mark.{Mark}
-use Rattle.pieces.specs.Pieces.{IsMark, piece_text, GoesOn}
+use Rattle.pieces.specs.Pieces.{IsMark, piece_text, ContinuesLog}
 use Rattle.passes.specs.Marks.{Reaches, AreMarks, AreInReach}
 use Rattle.pieces.proofs.Beginnings.{records_begin, same_start}
 
@@ -32,11 +32,11 @@ piece_in_front text mark count =
     (sym (take-take count count (drop mark.offset text) (omega arith)) ∙ ap (take count) (sym (drop-take mark.offset count text)))
 
 -- the base LSN of a piece is that of its mark
-pub base_is : (text : List ℕ) (before : LogContent) (mark : Mark) (count torn : ℕ) (piece : LogContent) → GoesOn text before mark count piece torn → base_lsn (history piece) ≡ mark.lsn
+pub base_is : (text : List ℕ) (before : LogContent) (mark : Mark) (count torn : ℕ) (piece : LogContent) → ContinuesLog text before mark count piece torn → base_lsn (history piece) ≡ mark.lsn
 base_is text before mark count torn piece goes = base_of_log piece ∙ ap lsn_before goes.begins
 
 -- a piece has all records up to each mark within its bytes
-pub reached : (text : List ℕ) (before : LogContent) (mark : Mark) (count torn : ℕ) (piece : LogContent) → GoesOn (take (mark.offset + count) text) before mark count piece torn
+pub reached : (text : List ℕ) (before : LogContent) (mark : Mark) (count torn : ℕ) (piece : LogContent) → ContinuesLog (take (mark.offset + count) text) before mark count piece torn
     → (until : LogContent) (later : Mark) → IsMark text until later → later.offset ≤ mark.offset + count → later.lsn ≤ last_lsn (history piece)
 reached text before mark count torn piece goes until later is le =
     let front = take (mark.offset + count) text in

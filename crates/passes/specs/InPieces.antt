@@ -4,7 +4,7 @@ use Rattle.page.specs.Store.{StoreContent}
 use Rattle.wal.specs.Records.{LogContent, history, base_lsn, last_lsn}
 use Rattle.wal.specs.Reads.{Reads, Cause, log_text}
 use Rattle.undo.specs.declared.appended.Appended.{Appended}
-use Rattle.undo.specs.Appended.{records_of}
+use Rattle.undo.specs.Appended.{appended_records}
 use Rattle.restart.specs.Restart.{InputFault}
 use Rattle.passes.specs.declared.fault.PassFault.{PassFault}
 use Rattle.passes.specs.declared.fault.PassFault.TheVariants as fault
@@ -13,7 +13,7 @@ use Rattle.passes.specs.declared.fault.PassFault.TheVariants as fault
 pub record AreAlike (whole some : LogContent) (appended : List Appended) : Type 0 where
   pub base : base_lsn (history some) ≡ base_lsn (history whole)
   pub last : last_lsn (history some) ≡ last_lsn (history whole)
-  pub records : records_of (history some) appended ≡ records_of (history whole) appended
+  pub records : appended_records (history some) appended ≡ appended_records (history whole) appended
 
 -- a device failed, or a restart on the whole log and the store has this error
 abbrev pub RestartCause : LogContent → StoreContent → PassFault → Type 0
@@ -21,7 +21,7 @@ RestartCause whole before fault.Failed = ⊤
 RestartCause whole before (fault.Fault e) = InputFault whole before e
 
 -- bytes read as some log, with this many bytes before its torn tail and this many in it
-pub record AreRead (text : List ℕ) (kept torn : ℕ) : Type 0 where
+pub record ReadsAsLog (text : List ℕ) (kept torn : ℕ) : Type 0 where
   pub whole : LogContent
   pub reads : Reads text whole torn
   pub kept_is : take kept text ≡ log_text whole

@@ -36,9 +36,9 @@ pub record AreWithin (marks : List Mark) : Type 0 where
   pub few : (d : Mark) → HEADER_BYTES + SMALLEST_FRAME * ((slice_index_or marks (length marks - 1) d).lsn - (slice_index_or marks 0 d).lsn) < 2 ^ 63
 
 -- by how much the count of failures grows
-abbrev pub failures_of : PassFault → ℕ
-failures_of fault.Failed = 1
-failures_of (fault.Fault e) = 0
+abbrev pub failures_of_pass : PassFault → ℕ
+failures_of_pass fault.Failed = 1
+failures_of_pass (fault.Fault e) = 0
 
 -- a device failed or memory was refused
 abbrev pub IsResource : PassFault → Type 0

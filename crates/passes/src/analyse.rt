@@ -14,7 +14,7 @@ ghost use Rattle.analysis.specs.Passing.{HasSeen, HasAnalysed};
 ghost use Rattle.analysis.specs.Tables.{AreTablesOf, IsBase, entry_at};
 ghost use Rattle.pieces.specs.declared.mark.Mark.{Mark};
 ghost use Rattle.pieces.specs.Pieces.{IsMark};
-ghost use Rattle.passes.specs.Marks.{AreMarks, IsLow, IsResource, failures_of};
+ghost use Rattle.passes.specs.Marks.{AreMarks, IsLow, IsResource, failures_of_pass};
 ghost use Rattle.passes.specs.Next.{IsBefore};
 ghost use Rattle.passes.specs.Tables.{TablesCause};
 
@@ -54,7 +54,7 @@ fn look_in_piece<S: Reread>(
     ensures same { Keeps (S.text source.old) (S.text source.new) }
     ensures no_failure { OnOk result (S.failures source.new ≡ S.failures source.old) }
     ensures cause { IfErr result (λ e. S.failures source.new
-        ≡ S.failures source.old + failures_of e) }
+        ≡ S.failures source.old + failures_of_pass e) }
 {
     let (piece, next) = piece_before(alloc, source, mark, end, room)?;
     scan.pass(&piece)?;
@@ -86,7 +86,7 @@ fn look_from<S: Reread>(
     ensures same { Keeps (S.text source.old) (S.text source.new) }
     ensures no_failure { OnOk result (S.failures source.new ≡ S.failures source.old) }
     ensures cause { IfErr result (λ e. S.failures source.new
-        ≡ S.failures source.old + failures_of e) }
+        ≡ S.failures source.old + failures_of_pass e) }
 {
     let mut mark = from;
     while mark.lsn < end && !scan.is_found() {
@@ -126,7 +126,7 @@ fn analyse_piece<S: Reread>(
     ensures same { Keeps (S.text source.old) (S.text source.new) }
     ensures no_failure { OnOk result (S.failures source.new ≡ S.failures source.old) }
     ensures cause { IfErr result (λ e. S.failures source.new
-        ≡ S.failures source.old + failures_of e) }
+        ≡ S.failures source.old + failures_of_pass e) }
 {
     let (piece, next) = piece_before(alloc, source, mark, end, room)?;
     scan.pass(&piece, master)?;
@@ -161,7 +161,7 @@ fn analyse_from<S: Reread>(
     ensures same { Keeps (S.text source.old) (S.text source.new) }
     ensures no_failure { OnOk result (S.failures source.new ≡ S.failures source.old) }
     ensures cause { IfErr result (λ e. S.failures source.new
-        ≡ S.failures source.old + failures_of e) }
+        ≡ S.failures source.old + failures_of_pass e) }
 {
     let mut mark = from;
     while mark.lsn < end {
@@ -199,7 +199,7 @@ fn checkpoint_tables<S: Reread>(
     ensures same { Keeps (S.text source.old) (S.text source.new) }
     ensures no_failure { OnOk result (S.failures source.new ≡ S.failures source.old) }
     ensures cause { IfErr result (λ e. S.failures source.new
-        ≡ S.failures source.old + failures_of e) }
+        ≡ S.failures source.old + failures_of_pass e) }
 {
     let mut scan = CheckpointScan::new(alloc, master);
     look_from(alloc, source, from, end, room, &mut scan)?;
@@ -238,7 +238,7 @@ pub fn tables_in_pieces<S: Reread>(
     ensures same { Keeps (S.text source.old) (S.text source.new) }
     ensures no_failure { OnOk result (S.failures source.new ≡ S.failures source.old) }
     ensures cause { IfErr result (λ e. S.failures source.new
-        ≡ S.failures source.old + failures_of e) }
+        ≡ S.failures source.old + failures_of_pass e) }
 {
     let base = marks.first().lsn;
     let end = marks.end().lsn;

@@ -6,7 +6,7 @@ ghost use Rattle.wal.specs.Records.{LogContent};
 ghost use Rattle.wal.specs.Reads.{Reads};
 ghost use Rattle.wal.specs.declared.sizes.TheConstants.{BASED_HEADER_BYTES, LARGEST_BASE, LONGEST_FRAME};
 ghost use Rattle.pieces.specs.Pieces.{IsMark};
-ghost use Rattle.passes.specs.Marks.{failures_of, LogCause, AreFound};
+ghost use Rattle.passes.specs.Marks.{failures_of_pass, LogCause, AreFound};
 
 use crate::{Marks, PassFault, next_piece};
 use device::{Reread, read_full_at};
@@ -32,7 +32,7 @@ pub fn mark_at_start<S: Reread>(
     ensures same { Keeps (S.text source.old) (S.text source.new) }
     ensures no_failure { OnOk result (S.failures source.new ≡ S.failures source.old) }
     ensures cause { IfErr result (λ e. S.failures source.new
-        ≡ S.failures source.old + failures_of e) }
+        ≡ S.failures source.old + failures_of_pass e) }
 {
     let count = read_full_at(source, 0, &mut room[..BASED_HEADER_BYTES])?;
     let mark = first_mark(alloc, &room[..count])?;
@@ -64,7 +64,7 @@ fn mark_after<S: Reread>(
     ensures same { Keeps (S.text source.old) (S.text source.new) }
     ensures no_failure { OnOk result (S.failures source.new ≡ S.failures source.old) }
     ensures cause { IfErr result (λ e. S.failures source.new
-        ≡ S.failures source.old + failures_of e) }
+        ≡ S.failures source.old + failures_of_pass e) }
 {
     let (_, next, torn) = next_piece(alloc, source, mark, room)?;
     Ok((next, torn))
@@ -91,7 +91,7 @@ pub fn find_marks<S: Reread>(
     ensures same { Keeps (S.text source.old) (S.text source.new) }
     ensures no_failure { OnOk result (S.failures source.new ≡ S.failures source.old) }
     ensures cause { IfErr result (λ e. S.failures source.new
-        ≡ S.failures source.old + failures_of e) }
+        ≡ S.failures source.old + failures_of_pass e) }
 {
     let first = mark_at_start(alloc, source, room)?;
     let mut marks = Marks::begin(alloc, first)?;

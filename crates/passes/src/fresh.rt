@@ -21,7 +21,7 @@ ghost use Rattle.redo.specs.Redone.{RedoFault};
 ghost use Rattle.redo.specs.Routes.{IsSeen};
 ghost use Rattle.pieces.specs.Pieces.{IsMark};
 ghost use Rattle.passes.specs.Listing.{AreTalliedByAll, TalliedOrRefused};
-ghost use Rattle.passes.specs.Marks.{failures_of, LogCause, AreFound};
+ghost use Rattle.passes.specs.Marks.{failures_of_pass, LogCause, AreFound};
 
 use crate::find::mark_at_start;
 use crate::{Marks, PassFault, next_piece};
@@ -169,7 +169,7 @@ fn take_piece<S: Reread>(
     ensures same { Keeps (S.text source.old) (S.text source.new) }
     ensures no_failure { OnOk result (S.failures source.new ≡ S.failures source.old) }
     ensures cause { IfErr result (λ e. S.failures source.new
-        ≡ S.failures source.old + failures_of e) }
+        ≡ S.failures source.old + failures_of_pass e) }
 {
     let (piece, next, torn) = next_piece(alloc, source, mark, room)?;
     scan_piece(&piece, scan)?;
@@ -253,7 +253,7 @@ pub fn read_forward<S: Reread>(
     ensures same { Keeps (S.text source.old) (S.text source.new) }
     ensures no_failure { OnOk result (S.failures source.new ≡ S.failures source.old) }
     ensures cause { IfErr result (λ e. S.failures source.new
-        ≡ S.failures source.old + failures_of e) }
+        ≡ S.failures source.old + failures_of_pass e) }
 {
     let first = mark_at_start(alloc, source, room)?;
     let mut marks = Marks::begin(alloc, first)?;

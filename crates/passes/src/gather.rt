@@ -8,9 +8,9 @@ ghost use Rattle.wal.specs.declared.sizes.TheConstants.{BASED_HEADER_BYTES, LARG
 ghost use Rattle.tables.specs.Tables.{losers_in};
 ghost use Rattle.undo.specs.Enough.{AreGathered};
 ghost use Rattle.undo.specs.Gathering.{IsGathering};
-ghost use Rattle.undo.specs.Wants.{AreUpTo, wants_in};
+ghost use Rattle.undo.specs.Wants.{WantUpTo, wants_in};
 ghost use Rattle.pieces.specs.Pieces.{IsMark};
-ghost use Rattle.passes.specs.Marks.{AreMarks, AreInReach, Reaches, failures_of, IsResource};
+ghost use Rattle.passes.specs.Marks.{AreMarks, AreInReach, Reaches, failures_of_pass, IsResource};
 
 use crate::piece::piece_up_to;
 use crate::{Marks, PassFault};
@@ -35,17 +35,17 @@ fn gather_piece<S: Reread>(
     requires low { mark.lsn ≤ LARGEST_BASE }
     ensures gathered { OnOk result ((text : List ℕ) (whole before : LogContent) (torn : ℕ)
         (losers : List TableEntry) → S.text source.old ≡ Some text → Reads text whole torn
-        → IsMark text before mark → AreUpTo upto (wants_in gathering.old.wants)
+        → IsMark text before mark → WantUpTo upto (wants_in gathering.old.wants)
         → IsGathering (history whole) losers gathering.old
         → IsGathering (history whole) losers gathering.new) }
-    ensures before { OnOk result (AreUpTo mark.lsn (wants_in gathering.new.wants)) }
+    ensures before { OnOk result (WantUpTo mark.lsn (wants_in gathering.new.wants)) }
     ensures fault { IfErr result (λ e. (text : List ℕ) (whole before : LogContent) (torn : ℕ)
         → S.text source.old ≡ Some text → Reads text whole torn → IsMark text before mark
         → Reaches text (mark.offset + length room.old - BASED_HEADER_BYTES) upto → IsResource e) }
     ensures same { Keeps (S.text source.old) (S.text source.new) }
     ensures no_failure { OnOk result (S.failures source.new ≡ S.failures source.old) }
     ensures cause { IfErr result (λ e. S.failures source.new
-        ≡ S.failures source.old + failures_of e) }
+        ≡ S.failures source.old + failures_of_pass e) }
 {
     let piece = piece_up_to(alloc, source, mark, upto, room)?;
     gathering.take(alloc, &piece)?;
@@ -76,7 +76,7 @@ pub fn gather_for_undo<S: Reread>(
     ensures same { Keeps (S.text source.old) (S.text source.new) }
     ensures no_failure { OnOk result (S.failures source.new ≡ S.failures source.old) }
     ensures cause { IfErr result (λ e. S.failures source.new
-        ≡ S.failures source.old + failures_of e) }
+        ≡ S.failures source.old + failures_of_pass e) }
 {
     let base = marks.first().lsn;
     let count = marks.count();

@@ -13,8 +13,8 @@ ghost use Rattle.tables.specs.Lawful.{AreTrue};
 ghost use Rattle.undo.specs.Appended.{HaveUpdates, AreFit};
 ghost use Rattle.restart.specs.Outcome.{outcome_in};
 ghost use Rattle.restart.specs.Restart.{IsRedone, Restarts, Restores};
-ghost use Rattle.passes.specs.Marks.{AreFound, failures_of, IsResource};
-ghost use Rattle.passes.specs.InPieces.{AreAlike, AreRead, InPiecesCause};
+ghost use Rattle.passes.specs.Marks.{AreFound, failures_of_pass, IsResource};
+ghost use Rattle.passes.specs.InPieces.{AreAlike, ReadsAsLog, InPiecesCause};
 
 use crate::fresh::{ForwardReading, read_forward};
 use crate::repeat::end_redo;
@@ -83,7 +83,7 @@ fn go_at_once<S: Reread>(
     ensures same { Keeps (S.text source.old) (S.text source.new) }
     ensures no_failure { OnOk result (S.failures source.new ≡ S.failures source.old) }
     ensures cause { IfErr result (λ e. S.failures source.new
-        ≡ S.failures source.old + failures_of e) }
+        ≡ S.failures source.old + failures_of_pass e) }
 {
     let read = read_forward(alloc, source, room, &store)?;
     check_lsns(read.marks.end().lsn, &store.pages)?;
@@ -131,7 +131,7 @@ fn go_by_passes<S: Reread>(
     ensures same { Keeps (S.text source.old) (S.text source.new) }
     ensures no_failure { OnOk result (S.failures source.new ≡ S.failures source.old) }
     ensures cause { IfErr result (λ e. S.failures source.new
-        ≡ S.failures source.old + failures_of e) }
+        ≡ S.failures source.old + failures_of_pass e) }
 {
     let (marks, torn) = find_marks(alloc, source, room)?;
     check_lsns(marks.end().lsn, &store.pages)?;
@@ -179,7 +179,7 @@ fn go_forward<S: Reread>(
     ensures same { Keeps (S.text source.old) (S.text source.new) }
     ensures no_failure { OnOk result (S.failures source.new ≡ S.failures source.old) }
     ensures cause { IfErr result (λ e. S.failures source.new
-        ≡ S.failures source.old + failures_of e) }
+        ≡ S.failures source.old + failures_of_pass e) }
 {
     if store.master == 0 {
         go_at_once(alloc, source, room, store)
@@ -213,7 +213,7 @@ pub fn restart_in_pieces<S: Reread>(
 
     // On success: the result of analysis, redo and undo on the log and the store.
     ensures reads { IfOk result (λ x. (text : List ℕ) → S.text source.old ≡ Some text
-        → AreRead text x.kept x.torn) }
+        → ReadsAsLog text x.kept x.torn) }
     ensures restarts { IfOk result (λ x. (text : List ℕ) (whole : LogContent) (torn : ℕ)
         → S.text source.old ≡ Some text → Reads text whole torn
         → Restarts whole store (outcome_in (history whole) x.outcome)) }
@@ -234,7 +234,7 @@ pub fn restart_in_pieces<S: Reread>(
     ensures same { Keeps (S.text source.old) (S.text source.new) }
     ensures no_failure { OnOk result (S.failures source.new ≡ S.failures source.old) }
     ensures cause { IfErr result (λ e. S.failures source.new
-        ≡ S.failures source.old + failures_of e) }
+        ≡ S.failures source.old + failures_of_pass e) }
 {
     let master = store.master;
     let forward = go_forward(alloc, source, room, store)?;

@@ -7,7 +7,7 @@ ghost use Rattle.wal.specs.Reads.{Reads};
 ghost use Rattle.wal.specs.declared.sizes.TheConstants.{BASED_HEADER_BYTES, LARGEST_BASE, LONGEST_FRAME};
 ghost use Rattle.pieces.specs.declared.mark.Mark.{Mark};
 ghost use Rattle.pieces.specs.Pieces.{IsMark};
-ghost use Rattle.passes.specs.Marks.{failures_of, IsResource, LogCause};
+ghost use Rattle.passes.specs.Marks.{failures_of_pass, IsResource, LogCause};
 ghost use Rattle.passes.specs.Next.{ComesNext, IsBefore};
 
 use crate::PassFault;
@@ -50,7 +50,7 @@ pub fn next_piece<'a, S: Reread>(
     ensures same { Keeps (S.text source.old) (S.text source.new) }
     ensures no_failure { OnOk result (S.failures source.new ≡ S.failures source.old) }
     ensures cause { IfErr result (λ e. S.failures source.new
-        ≡ S.failures source.old + failures_of e) }
+        ≡ S.failures source.old + failures_of_pass e) }
 {
     let full = room.len();
     let count = read_piece(source, mark, room)?;
@@ -101,7 +101,7 @@ pub fn piece_before<'a, S: Reread>(
     ensures same { Keeps (S.text source.old) (S.text source.new) }
     ensures no_failure { OnOk result (S.failures source.new ≡ S.failures source.old) }
     ensures cause { IfErr result (λ e. S.failures source.new
-        ≡ S.failures source.old + failures_of e) }
+        ≡ S.failures source.old + failures_of_pass e) }
 {
     let (log, next, _) = next_piece(alloc, source, mark, room)?;
     if next.lsn <= mark.lsn || end < next.lsn {

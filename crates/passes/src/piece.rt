@@ -7,7 +7,7 @@ ghost use Rattle.wal.specs.Reads.{Reads};
 ghost use Rattle.wal.specs.declared.sizes.TheConstants.{BASED_HEADER_BYTES, LARGEST_BASE};
 ghost use Rattle.tables.specs.Pieces.{IsPieceOf};
 ghost use Rattle.pieces.specs.Pieces.{IsMark};
-ghost use Rattle.passes.specs.Marks.{failures_of, IsResource, Reaches};
+ghost use Rattle.passes.specs.Marks.{failures_of_pass, IsResource, Reaches};
 
 use crate::PassFault;
 use device::Reread;
@@ -42,7 +42,7 @@ pub fn piece_up_to<'a, S: Reread>(
     ensures same { Keeps (S.text source.old) (S.text source.new) }
     ensures no_failure { OnOk result (S.failures source.new ≡ S.failures source.old) }
     ensures cause { IfErr result (λ e. S.failures source.new
-        ≡ S.failures source.old + failures_of e) }
+        ≡ S.failures source.old + failures_of_pass e) }
 {
     let count = read_piece(source, mark, room)?;
     let (log, _) = piece_log(alloc, mark, &room[..count])?;

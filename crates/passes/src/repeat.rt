@@ -12,12 +12,12 @@ ghost use Rattle.wal.specs.declared.sizes.TheConstants.{BASED_HEADER_BYTES, LARG
 ghost use Rattle.tables.specs.Tables.{TablesContent};
 ghost use Rattle.redo.specs.declared.tally.Tally.{Tally};
 ghost use Rattle.redo.specs.declared.wanted.Wanted.{Wanted};
-ghost use Rattle.redo.specs.Changes.{finished};
+ghost use Rattle.redo.specs.Changes.{finished_page};
 ghost use Rattle.redo.specs.Routes.{skipped};
 ghost use Rattle.redo.specs.Redone.{RepeatsHistory};
 ghost use Rattle.redo.specs.Wanted.{IsWanted, HoldAllBut};
 ghost use Rattle.pieces.specs.Pieces.{IsMark};
-ghost use Rattle.passes.specs.Marks.{AreMarks, AreInReach, IsLow, Reaches, failures_of, IsResource};
+ghost use Rattle.passes.specs.Marks.{AreMarks, AreInReach, IsLow, Reaches, failures_of_pass, IsResource};
 ghost use Rattle.passes.specs.Next.{IsBefore};
 ghost use Rattle.passes.specs.Redoing.{AreTalliedUpTo, RedoCause};
 
@@ -86,7 +86,7 @@ fn tally_piece<S: Reread>(
     ensures same { Keeps (S.text source.old) (S.text source.new) }
     ensures no_failure { OnOk result (S.failures source.new ≡ S.failures source.old) }
     ensures cause { IfErr result (λ e. S.failures source.new
-        ≡ S.failures source.old + failures_of e) }
+        ≡ S.failures source.old + failures_of_pass e) }
 {
     let (piece, next) = piece_before(alloc, source, mark, end, room)?;
     scan.pass(&piece)?;
@@ -116,7 +116,7 @@ fn tally_in_pieces<S: Reread>(
     ensures same { Keeps (S.text source.old) (S.text source.new) }
     ensures no_failure { OnOk result (S.failures source.new ≡ S.failures source.old) }
     ensures cause { IfErr result (λ e. S.failures source.new
-        ≡ S.failures source.old + failures_of e) }
+        ≡ S.failures source.old + failures_of_pass e) }
 {
     // Opens the store: its pages are at their numbers.
     let _ = &store.pages;
@@ -167,7 +167,7 @@ fn fetch_piece<S: Reread>(
     ensures same { Keeps (S.text source.old) (S.text source.new) }
     ensures no_failure { OnOk result (S.failures source.new ≡ S.failures source.old) }
     ensures cause { IfErr result (λ e. S.failures source.new
-        ≡ S.failures source.old + failures_of e) }
+        ≡ S.failures source.old + failures_of_pass e) }
 {
     let piece = piece_up_to(alloc, source, mark, wanted[0].lsn, room)?;
     Ok(fetch_from(&piece, wanted, pages))
@@ -204,7 +204,7 @@ fn fetch_in_pieces<S: Reread>(
     ensures same { Keeps (S.text source.old) (S.text source.new) }
     ensures no_failure { OnOk result (S.failures source.new ≡ S.failures source.old) }
     ensures cause { IfErr result (λ e. S.failures source.new
-        ≡ S.failures source.old + failures_of e) }
+        ≡ S.failures source.old + failures_of_pass e) }
 {
     let mut taken = 0;
     while taken < wanted.len() && wanted[taken].lsn <= upto {
@@ -233,7 +233,7 @@ fn finish_in_pieces<S: Reread>(
     ensures each { OnOk result ((text : List ℕ) (whole : LogContent) (torn : ℕ)
         → S.text source.old ≡ Some text → Reads text whole torn → AreMarks text whole marks.now
         → (number : ℕ) (t : Tally) (image : Page) → number < length pages.old
-        → slice_index_or pages.new number image ≡ finished (history whole)
+        → slice_index_or pages.new number image ≡ finished_page (history whole)
         (slice_index_or scan.tallies number t) (slice_index_or pages.old number image)) }
     ensures fault { IfErr result (λ e. (text : List ℕ) (whole : LogContent) (torn : ℕ)
         → S.text source.old ≡ Some text → Reads text whole torn → AreMarks text whole marks.now
@@ -242,7 +242,7 @@ fn finish_in_pieces<S: Reread>(
     ensures same { Keeps (S.text source.old) (S.text source.new) }
     ensures no_failure { OnOk result (S.failures source.new ≡ S.failures source.old) }
     ensures cause { IfErr result (λ e. S.failures source.new
-        ≡ S.failures source.old + failures_of e) }
+        ≡ S.failures source.old + failures_of_pass e) }
 {
     let wanted = scan.wanted(alloc)?;
     fetch_in_pieces(alloc, source, marks, room, scan.upto(), &wanted, pages)?;
@@ -281,7 +281,7 @@ pub fn end_redo<S: Reread>(
     ensures same { Keeps (S.text source.old) (S.text source.new) }
     ensures no_failure { OnOk result (S.failures source.new ≡ S.failures source.old) }
     ensures cause { IfErr result (λ e. S.failures source.new
-        ≡ S.failures source.old + failures_of e) }
+        ≡ S.failures source.old + failures_of_pass e) }
 {
     let applied = scan.applied();
     // The log's last LSN fits, and no record counts twice, so the count fits.
@@ -326,7 +326,7 @@ pub fn redo_in_pieces<S: Reread>(
     ensures same { Keeps (S.text source.old) (S.text source.new) }
     ensures no_failure { OnOk result (S.failures source.new ≡ S.failures source.old) }
     ensures cause { IfErr result (λ e. S.failures source.new
-        ≡ S.failures source.old + failures_of e) }
+        ≡ S.failures source.old + failures_of_pass e) }
 {
     let scan = tally_in_pieces(alloc, source, marks, room, &store, tables)?;
     end_redo(alloc, source, marks, room, store, scan)

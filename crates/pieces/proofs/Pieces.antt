@@ -21,7 +21,7 @@ use Rattle.wal.proofs.Histories.{base_of_log, size_of_log}
 use Rattle.wal.proofs.Whole.{body_size}
 use Rattle.wal.proofs.CutBytes.{spellings-append}
 use Rattle.pieces.specs.declared.mark.Mark.{Mark}
-use Rattle.pieces.specs.Pieces.{IsMark, piece_text, GoesOn, moved, OffsetFits}
+use Rattle.pieces.specs.Pieces.{IsMark, piece_text, ContinuesLog, moved, OffsetFits}
 
 -- WHAT STAYS when more bytes follow
 length_stays : (bytes more : List ℕ) → 4 ≤ length bytes → length_of (bytes ++ more) ≡ length_of bytes
@@ -231,7 +231,7 @@ module _ (text : List ℕ) (before : LogContent) (mark : Mark) (is : IsMark text
           (next_bytes ((length bytes - 16) - torn) (omega (arith, rest_length)) ∙ ap (take ((length bytes - 16) - torn)) rest_is ∙ take_at frames reads.tail ((length bytes - 16) - torn) frames_length)
           ∙ text_more piece.records
 
-      pub goes_on : GoesOn text before mark (length bytes - 16) piece torn
+      pub goes_on : ContinuesLog text before mark (length bytes - 16) piece torn
       goes_on = record {
         begins = begins_is;
         next = record {

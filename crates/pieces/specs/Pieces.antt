@@ -27,7 +27,7 @@ mark_after mark last count torn = record { lsn = last; offset = mark.offset + (c
 
 -- CONTINUED. The records of the piece come after those before it; the next mark comes after them. At the end of the log the bytes that are
 -- left are the torn tail of the whole log.
-pub record GoesOn (text : List ℕ) (before : LogContent) (mark : Mark) (count : ℕ) (piece : LogContent) (torn : ℕ) : Type 0 where
+pub record ContinuesLog (text : List ℕ) (before : LogContent) (mark : Mark) (count : ℕ) (piece : LogContent) (torn : ℕ) : Type 0 where
   pub begins : piece.begins ≡ Version2 mark.lsn
   pub next : IsMark text (before ⧺ piece.records) (mark_after mark (last_lsn (history piece)) count torn)
   pub end : length text ≤ mark.offset + count → Reads text (before ⧺ piece.records) torn
@@ -49,4 +49,4 @@ OffsetFits before e = ⊤
 -- The piece after a mark is one of the whole log.
 abbrev pub PiecesBelong : Type 0
 PiecesBelong = (text : List ℕ) (log : LogContent) (torn : ℕ) (before : LogContent) (mark : Mark) (count : ℕ) (piece : LogContent) (left : ℕ)
-    → Reads text log torn → IsMark text before mark → GoesOn text before mark count piece left → IsPieceOf (history log) (history piece)
+    → Reads text log torn → IsMark text before mark → ContinuesLog text before mark count piece left → IsPieceOf (history log) (history piece)

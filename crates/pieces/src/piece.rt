@@ -5,7 +5,7 @@ ghost use Rattle.page.specs.declared.fault.Fault.{Fault};
 ghost use Rattle.wal.specs.Records.{LogContent};
 ghost use Rattle.wal.specs.Reads.{Cause};
 ghost use Rattle.wal.specs.declared.sizes.TheConstants.{BASED_HEADER_BYTES, LARGEST_BASE};
-ghost use Rattle.pieces.specs.Pieces.{IsMark, piece_text, GoesOn, moved, OffsetFits};
+ghost use Rattle.pieces.specs.Pieces.{IsMark, piece_text, ContinuesLog, moved, OffsetFits};
 
 use crate::mark::Mark;
 use page::Fault;
@@ -42,7 +42,7 @@ pub fn piece_log<'a>(alloc: Global, mark: Mark, bytes: &'a [u8]) -> Result<(Log<
     requires room { mark.offset + length bytes.now < 2 ^ 64 }
     ensures goes_on { IfOk result (λ x. (text : List ℕ) (before : LogContent) (count : ℕ)
         → IsMark text before mark → bytes.now ≡ piece_text text mark count
-        → GoesOn text before mark (length bytes.now - BASED_HEADER_BYTES) x.0 x.1) }
+        → ContinuesLog text before mark (length bytes.now - BASED_HEADER_BYTES) x.0 x.1) }
     ensures fault { IfErr result (λ e. (text : List ℕ) (before : LogContent) (count : ℕ)
         → IsMark text before mark → bytes.now ≡ piece_text text mark count → Cause text e) }
 {

@@ -5,7 +5,7 @@ use Rattle.wal.specs.Reads.{spellings}
 use Rattle.wal.specs.Spelling.{Fits}
 use Rattle.wal.proofs.Histories.{size_of_log, base_of_log}
 use Rattle.undo.specs.declared.appended.Appended.{Appended}
-use Rattle.undo.specs.Appended.{records_of, AreFit}
+use Rattle.undo.specs.Appended.{appended_records, AreFit}
 use Rattle.undo.proofs.Told.{told_fit}
 use Rattle.restart.specs.Outcome.{outcome_in}
 use Rattle.restart.specs.declared.outcome.Outcome.{Outcome}
@@ -22,11 +22,11 @@ module _ (whole some : LogContent) (appended : List Appended) (alike : AreAlike 
   same_count = omega (arith, alike.base, alike.last, size_of_log some, size_of_log whole, base_of_log some, base_of_log whole)
 
   -- what is appended has an encoding, and the same one
-  pub alike_fit : AreFit some appended → All Fits (records_of (history whole) appended)
+  pub alike_fit : AreFit some appended → All Fits (appended_records (history whole) appended)
   alike_fit fit = subst (All Fits) alike.records (told_fit some appended fit)
 
-  pub alike_frames : spellings (last_lsn (history some) + 1) (records_of (history some) appended) ≡ spellings (last_lsn (history whole) + 1) (records_of (history whole) appended)
-  alike_frames = ap (λ n. spellings (n + 1) (records_of (history some) appended)) alike.last ∙ ap (spellings (last_lsn (history whole) + 1)) alike.records
+  pub alike_frames : spellings (last_lsn (history some) + 1) (appended_records (history some) appended) ≡ spellings (last_lsn (history whole) + 1) (appended_records (history whole) appended)
+  alike_frames = ap (λ n. spellings (n + 1) (appended_records (history some) appended)) alike.last ∙ ap (spellings (last_lsn (history whole) + 1)) alike.records
 
   -- and the report is the same
   pub alike_report : (torn : ℕ) (x : Outcome Appended) → report_of some torn (outcome_in (history some) x) ≡ report_of whole torn (outcome_in (history whole) x)

@@ -17,10 +17,10 @@ use Rattle.passes.specs.InPieces.{InPiecesCause}
 use Rattle.restart.specs.declared.options.Options.{Options}
 use Rattle.restart.specs.Options.{AreInRange}
 use Rattle.recovery.specs.declared.by_pieces.Made.{Made}
-use Rattle.recovery.specs.Recovery.{Recovers, Cause, log_of}
-use Rattle.recovery.specs.Devices.{Fails, IsFaultOf, AreRead, DeviceCause, IsResourceOrDevice}
+use Rattle.recovery.specs.Recovery.{Recovers, RecoveryCause, log_of}
+use Rattle.recovery.specs.Devices.{FailsOnlyWith, IsFaultOf, SourcesGave, DeviceCause, IsResourceOrDevice}
 use Rattle.recovery.specs.TailFile.{tail_text, sum_of, end_of}
-use Rattle.recovery.specs.InPlace.{IsLeftIn, Prepares, Stays}
+use Rattle.recovery.specs.InPlace.{IsLeftIn, Prepares, LeavesInPlace}
 use Rattle.recovery.specs.ByPieces.{IsOfLog, fault_of, ReadingCause, IsMeasured}
 use Rattle.recovery.proofs.Bytes.{input_cause}
 use Rattle.recovery.proofs.Delivered.{device_cause, is_resource}
@@ -53,16 +53,16 @@ end_again kept offset count text buffer rest at within some few room same =
     ∙ sym (ap (λ n. drop n (take kept text)) long)
 
 -- FAILURES of a log's device
-pub failed : {U : Type 0} (s : Result U Fault) (a b c : ℕ) → s ≡ Err ReadLog → b ≡ a → c ≡ b + 1 → Fails ReadLog s a c
+pub failed : {U : Type 0} (s : Result U Fault) (a b c : ℕ) → s ≡ Err ReadLog → b ≡ a → c ≡ b + 1 → FailsOnlyWith ReadLog s a c
 failed s a b c is before after = record { blamed = λ _. omega (arith, before, after); innocent = λ other. absurd (other is) }
 
-pub memory_fails : {U : Type 0} (s : Result U Fault) (a c : ℕ) → s ≡ Err NoResource → c ≡ a → Fails ReadLog s a c
+pub memory_fails : {U : Type 0} (s : Result U Fault) (a c : ℕ) → s ≡ Err NoResource → c ≡ a → FailsOnlyWith ReadLog s a c
 memory_fails s a c is same = record { blamed = λ blamed. absurd (let other : s ≡ Err ReadLog = blamed in cc); innocent = λ _. same }
 
 pub ok_is_no_fault : {U : Type 0} (x : U) (e : Fault) → Ok x ≡ Err e → ⊥
 ok_is_no_fault x e is = absurd cc
 
-pub none_failed : {U : Type 0} (x : U) (a c : ℕ) → c ≡ a → Fails ReadLog (Ok x) a c
+pub none_failed : {U : Type 0} (x : U) (a c : ℕ) → c ≡ a → FailsOnlyWith ReadLog (Ok x) a c
 none_failed x a c same = record { blamed = λ is. absurd (ok_is_no_fault x ReadLog is); innocent = λ _. same }
 
 -- ERRORS
@@ -72,7 +72,7 @@ resource_of_log e (inl failed) = subst (λ x. IsFaultOf ReadLog (fault_of x)) (s
 resource_of_log e (inr none) = subst (λ x. IsFaultOf ReadLog (fault_of x)) (sym none) (inl refl)
 
 -- an error of the log's bytes
-pub log_cause : (log store : List ℕ) (options : Options) (e : Fault) → AreInRange options → LogFault log e → Cause log store options e
+pub log_cause : (log store : List ℕ) (options : Options) (e : Fault) → AreInRange options → LogFault log e → RecoveryCause log store options e
 log_cause log store options NoResource range h = tt
 log_cause log store options BadWorkers range h = absurd h.behind.fault
 log_cause log store options BadParting range h = absurd h.behind.fault
@@ -93,7 +93,7 @@ pub of_log : (e : Fault) → IsFaultOf ReadLog e → IsResourceOrDevice e
 of_log e (inl none) = is_resource e none
 of_log e (inr failed) = subst IsResourceOrDevice (sym failed) tt
 
-pub by_device : (store_left : Option (List ℕ)) (options : Options) (log store : List ℕ) (e : Fault) → AreRead (Some log) store_left log store → ReadingCause log store options e → DeviceCause (Some log) store_left options e
+pub by_device : (store_left : Option (List ℕ)) (options : Options) (log store : List ℕ) (e : Fault) → SourcesGave (Some log) store_left log store → ReadingCause log store options e → DeviceCause (Some log) store_left options e
 by_device store_left options log store e read (inl failed) = subst (DeviceCause (Some log) store_left options) (sym failed) tt
 by_device store_left options log store e read (inr cause) = device_cause (Some log) store_left options log store e read cause
 
@@ -104,7 +104,7 @@ untouched log_left store_left log_taken flushed store_taken WriteStore h = absur
 untouched log_left store_left log_taken flushed store_taken e h = (Keeps-refl log_taken, Keeps-refl store_taken)
 
 -- WHAT IS MADE, and the file of its tail
-module _ (store_left : Option (List ℕ)) (log store : List ℕ) (made : Made) (read : AreRead (Some log) store_left log store) (measured : IsMeasured log made)
+module _ (store_left : Option (List ℕ)) (log store : List ℕ) (made : Made) (read : SourcesGave (Some log) store_left log store) (measured : IsMeasured log made)
     (recovers : Recovers log store (log_of log made.remade) (store_text made.remade.store) made.remade.report) where
   abbrev pub prepares : Prepares (Some log) store_left
   prepares = record {
@@ -126,9 +126,9 @@ module _ (store_left : Option (List ℕ)) (log store : List ℕ) (made : Made) (
       (r ∙ ap (λ n. sum_of (end_of (take n log))) measured.kept_is) h
 
 -- a sink's fault is not one of the log's device
-pub stays_other : {U : Type 0} (s : Result U Fault) (kept : ℕ) (frames new_store : List ℕ) (a b c d x y : Option (List ℕ)) (e : Fault) → s ≡ Err e → Stays kept frames new_store a b c d x y e → s ≡ Err ReadLog → ⊥
+pub stays_other : {U : Type 0} (s : Result U Fault) (kept : ℕ) (frames new_store : List ℕ) (a b c d x y : Option (List ℕ)) (e : Fault) → s ≡ Err e → LeavesInPlace kept frames new_store a b c d x y e → s ≡ Err ReadLog → ⊥
 stays_other s kept frames new_store a b c d x y e is stays blamed =
-    subst (λ f. Stays kept frames new_store a b c d x y f) (let same : e ≡ ReadLog = cc in same) stays
+    subst (λ f. LeavesInPlace kept frames new_store a b c d x y f) (let same : e ≡ ReadLog = cc in same) stays
 
-pub other_failed : {U : Type 0} (s : Result U Fault) (a b c : ℕ) → (s ≡ Err ReadLog → ⊥) → b ≡ a → c ≡ b → Fails ReadLog s a c
+pub other_failed : {U : Type 0} (s : Result U Fault) (a b c : ℕ) → (s ≡ Err ReadLog → ⊥) → b ≡ a → c ≡ b → FailsOnlyWith ReadLog s a c
 other_failed s a b c other before after = record { blamed = λ is. absurd (other is); innocent = λ _. after ∙ before }

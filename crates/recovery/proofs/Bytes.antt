@@ -17,13 +17,13 @@ use Rattle.wal.proofs.CutBytes.{spellings-append}
 use Rattle.redo.specs.Parting.{PartingContent, by_number}
 use Rattle.restart.specs.declared.options.Options.{Options}
 use Rattle.restart.specs.Restart.{AreSettings, InputFault, RestartFault}
-use Rattle.recovery.specs.Recovery.{Decoded, ReadsAs, AreLawful, Cause}
+use Rattle.recovery.specs.Recovery.{Decoded, ReadsAs, AreLawful, RecoveryCause}
 use Rattle.restart.specs.Options.{AreInRange, OptionsFault}
 use Rattle.restart.proofs.Causes.{settings_hold}
 use Rattle.wal.specs.Headers.{header_of}
 
 -- OPTIONS
-pub options_cause : (log store : List ℕ) (options : Options) (e : Fault) → OptionsFault options e → Cause log store options e
+pub options_cause : (log store : List ℕ) (options : Options) (e : Fault) → OptionsFault options e → RecoveryCause log store options e
 options_cause log store options BadWorkers h = h
 options_cause log store options BadParting h = h
 options_cause log store options e h = absurd h
@@ -80,7 +80,7 @@ pub dealt_by_number : (pages parts : ℕ) (part_of : List ℕ) → part_of ≡ b
 dealt_by_number pages parts part_of is = ap length is ∙ length-map-range_with_len (λ page. page % parts) 0 pages
 
 -- an error of the store's bytes, if those of the log are read
-pub store_cause : (log store : List ℕ) (options : Options) (e : Fault) → AreInRange options → (read : LogContent) (torn : ℕ) → Reads log read torn → StoreFault store e → Cause log store options e
+pub store_cause : (log store : List ℕ) (options : Options) (e : Fault) → AreInRange options → (read : LogContent) (torn : ℕ) → Reads log read torn → StoreFault store e → RecoveryCause log store options e
 store_cause log store options NoResource range read torn reads h = tt
 store_cause log store options BadWorkers range read torn reads h = absurd h
 store_cause log store options BadParting range read torn reads h = absurd h
@@ -88,7 +88,7 @@ store_cause log store options e range read torn reads h = (range, inr (inl (read
 
 -- THE ERRORS
 -- if a restart has an error of its input, the recovery has it
-pub input_cause : (log store : List ℕ) (options : Options) (e : Fault) → AreInRange options → (decoded : Decoded log store) → InputFault decoded.read decoded.before e → Cause log store options e
+pub input_cause : (log store : List ℕ) (options : Options) (e : Fault) → AreInRange options → (decoded : Decoded log store) → InputFault decoded.read decoded.before e → RecoveryCause log store options e
 input_cause log store options NoResource range decoded h = tt
 input_cause log store options BadWorkers range decoded h = absurd h.1.holds
 input_cause log store options BadParting range decoded h = absurd h.1.holds
@@ -96,6 +96,6 @@ input_cause log store options e range decoded h = (range, inr (inr (decoded, h))
 
 -- an error of the restart is an error of the recovery
 pub restart_cause : (log store : List ℕ) (options : Options) (parting : PartingContent) (e : Fault) → AreInRange options → (decoded : Decoded log store) → AreSettings (length decoded.before.pages) parting options.workers
-    → RestartFault decoded.read decoded.before parting options.workers e → Cause log store options e
+    → RestartFault decoded.read decoded.before parting options.workers e → RecoveryCause log store options e
 restart_cause log store options parting e range decoded fit (inl h) = absurd (settings_hold (length decoded.before.pages) parting options.workers e fit h)
 restart_cause log store options parting e range decoded fit (inr h) = input_cause log store options e range decoded h.1

@@ -13,7 +13,7 @@ use Rattle.device.specs.Transfer.{TookBeginning}
 use Rattle.restart.specs.declared.options.Options.{Options}
 use Rattle.recovery.specs.declared.by_pieces.Made.{Made}
 use Rattle.recovery.specs.Recovery.{Recovers, AreLawful, log_of}
-use Rattle.recovery.specs.Devices.{Fails, AreRead, Makes, DeviceCause, IsResourceOrDevice}
+use Rattle.recovery.specs.Devices.{FailsOnlyWith, SourcesGave, Makes, DeviceCause, IsResourceOrDevice}
 use Rattle.recovery.specs.ByPieces.{IsOfLog, IsMeasured}
 use Rattle.recovery.specs.Copying.{LeavesCopied, IsOutCopied, LeavesCutCopied}
 use Rattle.recovery.proofs.Delivered.{behind_front, makes}
@@ -42,7 +42,7 @@ module _ (before between after : Option (List ℕ)) (offset n : ℕ) (text : Lis
       subst (TookBeginning before after) all (begins_longer before after upto (drop (offset + n) (take kept text)) some)
 
 -- WHAT IS MADE in memory, if its log is written as a copy
-module _ (store_left : Option (List ℕ)) (log store : List ℕ) (made : Made) (read : AreRead (Some log) store_left log store) (measured : IsMeasured log made)
+module _ (store_left : Option (List ℕ)) (log store : List ℕ) (made : Made) (read : SourcesGave (Some log) store_left log store) (measured : IsMeasured log made)
     (recovers : Recovers log store (log_of log made.remade) (store_text made.remade.store) made.remade.report) where
   pub copy_is : log_of log made.remade ≡ take made.kept log ++ made.remade.frames.items
   copy_is = ap (λ n. take n log ++ made.remade.frames.items) (sym measured.kept_is)
@@ -89,7 +89,7 @@ nothing_copied log_left store_left log_taken store_taken WriteStore h = absurd h
 nothing_copied log_left store_left log_taken store_taken e h = (Keeps-refl log_taken, Keeps-refl store_taken)
 
 -- FAILURES of the log's device are those while it is copied, if it had none before
-pub failed_since : {T U : Type 0} (e : Fault) (a b c : ℕ) → b ≡ a → Fails {T = T} ReadLog (Err e) b c → Fails {T = U} ReadLog (Err e) a c
+pub failed_since : {T U : Type 0} (e : Fault) (a b c : ℕ) → b ≡ a → FailsOnlyWith {T = T} ReadLog (Err e) b c → FailsOnlyWith {T = U} ReadLog (Err e) a c
 failed_since {T} {U} e a b c same fails = record {
   blamed = λ is. let own : e ≡ ReadLog = cc in fails.blamed (ap (λ f. Err f) own) ∙ ap (λ n. n + 1) same;
   innocent = λ other. fails.innocent (λ is. let own : e ≡ ReadLog = cc in other (ap (λ f. Err f) own)) ∙ same;

@@ -10,7 +10,7 @@ use Rattle.page.specs.Store.{StoreContent}
 use Rattle.page.specs.File.{SpellsStore, StoreFault}
 use Rattle.recovery.specs.declared.store_pieces.DecodedStore.{DecodedStore}
 use Rattle.recovery.specs.Recovery.{Decodes}
-use Rattle.recovery.specs.Devices.{Gave, AreRead}
+use Rattle.recovery.specs.Devices.{Gave, SourcesGave}
 
 -- WHAT A SOURCE GAVE
 -- all that it had left, if it is at its end
@@ -29,7 +29,7 @@ gave_rest (Some xs) (Some ys) bytes read = sym read
 
 -- the bytes of both sources: those of a log, and what was read of a store encodes what the result says
 pub both_read : {log_left left : Option (List ℕ)} {log : List ℕ} {answer : Result DecodedStore Fault} (found : DecodedStore) → Gave log_left log → answer ≡ Ok found
-    → IfOk answer (λ d. (text : List ℕ) × Gave left text × Decodes text d.store) → (text : List ℕ) × AreRead log_left left log text × Decodes text found.store
+    → IfOk answer (λ d. (text : List ℕ) × Gave left text × Decodes text d.store) → (text : List ℕ) × SourcesGave log_left left log text × Decodes text found.store
 both_read {log_left} {left} {log} {answer} found gave was read =
     let (text, store_gave, decodes) = IfOk-at_ok (λ d. (text : List ℕ) × Gave left text × Decodes text d.store) was read in
     (text, record { log_read = gave; store_read = store_gave }, decodes)

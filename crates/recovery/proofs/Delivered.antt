@@ -13,8 +13,8 @@ use Rattle.wal.proofs.CutBytes.{cuts_settle}
 use Rattle.device.specs.Transfer.{TookBeginning}
 use Rattle.restart.specs.declared.options.Options.{Options}
 use Rattle.recovery.specs.Text.{ReportContent}
-use Rattle.recovery.specs.Recovery.{Recovers, AreLawful, AreCut, Cause}
-use Rattle.recovery.specs.Devices.{Gave, AreRead, Makes, Leaves, IsOut, DeviceCause, Delivers, Completes, IsResourceOrDevice}
+use Rattle.recovery.specs.Recovery.{Recovers, AreLawful, AreCut, RecoveryCause}
+use Rattle.recovery.specs.Devices.{Gave, SourcesGave, Makes, Leaves, IsOut, DeviceCause, Delivers, Completes, IsResourceOrDevice}
 use Rattle.std.proofs.lemmas.Option.{same_Some}
 
 -- if the bytes of a source are known, they are what was read
@@ -23,7 +23,7 @@ told None bytes known gave e = absurd (cc)
 told (Some xs) bytes known gave e = gave ∙ same_Some _ _ e
 
 -- what is made of what was read
-abbrev pub makes : {log_left store_left : Option (List ℕ)} (log store new_log new_store : List ℕ) (report : ReportContent) → AreRead log_left store_left log store → Recovers log store new_log new_store report → Makes log_left store_left
+abbrev pub makes : {log_left store_left : Option (List ℕ)} (log store new_log new_store : List ℕ) (report : ReportContent) → SourcesGave log_left store_left log store → Recovers log store new_log new_store report → Makes log_left store_left
 makes {log_left} {store_left} log store new_log new_store report read recovers = record {
   log = log;
   store = store;
@@ -35,7 +35,7 @@ makes {log_left} {store_left} log store new_log new_store report read recovers =
 }
 
 -- and if the sources are known to hold lawful bytes, it is lawful
-abbrev pub told_lawful : {base : BasePages} {log_left store_left : Option (List ℕ)} (log store log_text store_text : List ℕ) → AreRead log_left store_left log store
+abbrev pub told_lawful : {base : BasePages} {log_left store_left : Option (List ℕ)} (log store log_text store_text : List ℕ) → SourcesGave log_left store_left log store
     → log_left ≡ Some log_text → store_left ≡ Some store_text → AreLawful base log_text store_text → AreLawful base log store
 told_lawful {base} {log_left} {store_left} log store log_text store_text read tells_log tells_store bytes = record {
   decoded = record {
@@ -49,7 +49,7 @@ told_lawful {base} {log_left} {store_left} log store log_text store_text read te
 }
 
 -- an error of the bytes is an error over the devices
-pub device_cause : (log_left store_left : Option (List ℕ)) (options : Options) (log store : List ℕ) (e : Fault) → AreRead log_left store_left log store → Cause log store options e → DeviceCause log_left store_left options e
+pub device_cause : (log_left store_left : Option (List ℕ)) (options : Options) (log store : List ℕ) (e : Fault) → SourcesGave log_left store_left log store → RecoveryCause log store options e → DeviceCause log_left store_left options e
 device_cause log_left store_left options log store NoResource read h = tt
 device_cause log_left store_left options log store ReadLog read h = tt
 device_cause log_left store_left options log store ReadStore read h = tt
@@ -60,7 +60,7 @@ device_cause log_left store_left options log store BadParting read h = h
 device_cause log_left store_left options log store e read h = (log, store, read, h)
 
 -- and it is not a sink's, so nothing is written
-pub never_sink : (log store : List ℕ) (options : Options) → (Cause log store options WriteLog → ⊥) × (Cause log store options WriteStore → ⊥)
+pub never_sink : (log store : List ℕ) (options : Options) → (RecoveryCause log store options WriteLog → ⊥) × (RecoveryCause log store options WriteStore → ⊥)
 never_sink log store options = (
   λ h.
       elim h.1 [
@@ -74,7 +74,7 @@ never_sink log store options = (
       ],
 )
 
-pub nothing_out : (log_left store_left log_taken store_taken : Option (List ℕ)) (log store : List ℕ) (options : Options) (e : Fault) → Cause log store options e
+pub nothing_out : (log_left store_left log_taken store_taken : Option (List ℕ)) (log store : List ℕ) (options : Options) (e : Fault) → RecoveryCause log store options e
     → IsOut log_left store_left log_taken log_taken store_taken store_taken e
 nothing_out log_left store_left log_taken store_taken log store options WriteLog h = absurd ((never_sink log store options).0 h)
 nothing_out log_left store_left log_taken store_taken log store options WriteStore h = absurd ((never_sink log store options).1 h)

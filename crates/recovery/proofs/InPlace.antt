@@ -16,10 +16,10 @@ use Rattle.device.specs.Continued.{Cuts, Shortens}
 use Rattle.device.specs.Transfer.{Flushes}
 use Rattle.restart.specs.declared.options.Options.{Options}
 use Rattle.recovery.specs.Text.{ReportContent}
-use Rattle.recovery.specs.Recovery.{Recovers, AreLawful, AreCut, Cause}
+use Rattle.recovery.specs.Recovery.{Recovers, AreLawful, AreCut, RecoveryCause}
 use Rattle.recovery.specs.Devices.{AreOut}
 use Rattle.recovery.specs.TailFile.{tail_text, sum_of, end_of}
-use Rattle.recovery.specs.InPlace.{Continues, IsContinued, IsFlushed, IsLeft, IsLeftIn, Prepares, Stays, HasTail, HoldsCut, DeliversInPlace, CompletesInPlace}
+use Rattle.recovery.specs.InPlace.{Continues, IsContinued, IsFlushed, IsLeft, IsLeftIn, Prepares, LeavesInPlace, HasTail, HoldsCut, DeliversInPlace, CompletesInPlace}
 use Rattle.recovery.proofs.Bytes.{kept_text}
 use Rattle.recovery.proofs.Delivered.{never_sink, goes_on}
 use Rattle.recovery.proofs.Resuming.{cut_of}
@@ -97,7 +97,7 @@ module _ {base : BasePages} {log store : List ℕ} (bytes : AreLawful base log s
 
   -- the same for all of it
   pub stays_cut : (before after flushed_before flushed_after store_before store_after : Option (List ℕ)) (e : Fault) → before ≡ Some log
-      → Stays kept frames new_store before after flushed_before flushed_after store_before store_after e → HoldsCut base bytes.decoded.read bytes.decoded.before log store after
+      → LeavesInPlace kept frames new_store before after flushed_before flushed_after store_before store_after e → HoldsCut base bytes.decoded.read bytes.decoded.before log store after
   stays_cut before after flushed_before flushed_after store_before store_after WriteLog e stays = left_cut before after flushed_before flushed_after e stays.0
   stays_cut before after flushed_before flushed_after store_before store_after WriteStore e stays =
       left_cut before after flushed_before flushed_after e (inr (record {
@@ -110,13 +110,13 @@ module _ {base : BasePages} {log store : List ℕ} (bytes : AreLawful base log s
 
 -- A FAULT
 pub left_in : (log_left store_left before after flushed_before flushed_after store_before store_after : Option (List ℕ)) (made : Prepares log_left store_left) (e : Fault)
-    → Stays made.kept made.frames made.new_store before after flushed_before flushed_after store_before store_after e
+    → LeavesInPlace made.kept made.frames made.new_store before after flushed_before flushed_after store_before store_after e
     → IsLeftIn log_left store_left before after flushed_before flushed_after store_before store_after e
 left_in log_left store_left before after flushed_before flushed_after store_before store_after made WriteLog h = (made, h)
 left_in log_left store_left before after flushed_before flushed_after store_before store_after made WriteStore h = (made, h)
 left_in log_left store_left before after flushed_before flushed_after store_before store_after made e h = absurd h
 
-pub nothing_left : (log_left store_left log_taken flushed store_taken : Option (List ℕ)) (log store : List ℕ) (options : Options) (e : Fault) → Cause log store options e
+pub nothing_left : (log_left store_left log_taken flushed store_taken : Option (List ℕ)) (log store : List ℕ) (options : Options) (e : Fault) → RecoveryCause log store options e
     → IsLeftIn log_left store_left log_taken log_taken flushed flushed store_taken store_taken e
 nothing_left log_left store_left log_taken flushed store_taken log store options WriteLog h = absurd ((never_sink log store options).0 h)
 nothing_left log_left store_left log_taken flushed store_taken log store options WriteStore h = absurd ((never_sink log store options).1 h)
@@ -148,6 +148,6 @@ pub continued_as : (k l : ℕ) (f g : List ℕ) (before after flushed_before flu
 continued_as k l f g before after flushed_before flushed_after p q done =
     subst (λ n. IsContinued n g before after flushed_before flushed_after) p (subst (λ t. IsContinued k t before after flushed_before flushed_after) q done)
 
-pub stays_as : (k l : ℕ) (f g new_store : List ℕ) (a b c d x y : Option (List ℕ)) (e : Fault) → k ≡ l → f ≡ g → Stays k f new_store a b c d x y e → Stays l g new_store a b c d x y e
+pub stays_as : (k l : ℕ) (f g new_store : List ℕ) (a b c d x y : Option (List ℕ)) (e : Fault) → k ≡ l → f ≡ g → LeavesInPlace k f new_store a b c d x y e → LeavesInPlace l g new_store a b c d x y e
 stays_as k l f g new_store a b c d x y e p q stays =
-    subst (λ n. Stays n g new_store a b c d x y e) p (subst (λ t. Stays k t new_store a b c d x y e) q stays)
+    subst (λ n. LeavesInPlace n g new_store a b c d x y e) p (subst (λ t. LeavesInPlace k t new_store a b c d x y e) q stays)

@@ -13,7 +13,7 @@ use Rattle.restart.specs.declared.options.Options.{Options}
 use Rattle.restart.specs.Restart.{Restarts, InputFault}
 use Rattle.restart.specs.Options.{AreInRange, OptionsFault}
 use Rattle.restart.proofs.OptionFaults.{options_hold, one_options_fault}
-use Rattle.recovery.specs.Recovery.{Decoded, Cause}
+use Rattle.recovery.specs.Recovery.{Decoded, RecoveryCause}
 use Rattle.wal.specs.Meaning.{no_base}
 use Rattle.audit.specs.Base.{FirstFaultOver, OneFirstFaultOver, NoFaultOfTheLawfulOver}
 use Rattle.recovery.specs.Audit.{TextFault, OverFault}
@@ -21,7 +21,7 @@ use Rattle.audit.specs.FirstFault.{FirstFault, OneFirstFault, NoFaultOfTheLawful
 use Rattle.recovery.specs.OneAnswer.{OneRecoveryFault, OneAuditFault, OneAuditFaultOver, NoFaultOfARecovery, NoFaultOfLawfulTexts, NoFaultOfLawfulTextsOver}
 
 -- BYTES
-options_first : (log store : List ℕ) (options : Options) (e : Fault) → (e ≡ NoResource → ⊥) → Cause log store options e
+options_first : (log store : List ℕ) (options : Options) (e : Fault) → (e ≡ NoResource → ⊥) → RecoveryCause log store options e
     → OptionsFault options e ⊎ (AreInRange options × TextFault InputFault log store e)
 options_first log store options NoResource some h = absurd (some refl)
 options_first log store options BadWorkers some h = inl h

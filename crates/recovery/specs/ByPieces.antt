@@ -6,7 +6,7 @@ use Rattle.passes.specs.declared.fault.PassFault.{PassFault}
 use Rattle.passes.specs.declared.fault.PassFault.TheVariants as pass
 use Rattle.restart.specs.declared.options.Options.{Options}
 use Rattle.recovery.specs.declared.by_pieces.Made.{Made}
-use Rattle.recovery.specs.Recovery.{Cause}
+use Rattle.recovery.specs.Recovery.{RecoveryCause}
 
 -- the fault of a log's device, of its bytes or of a restart by it, or a lack of memory: that of no other device
 abbrev pub IsOfLog : Fault → Type 0
@@ -26,7 +26,7 @@ fault_of (pass.Fault e) = e
 
 -- the log's device failed, or this is the error of the bytes of a log and a store
 abbrev pub ReadingCause : (log store : List ℕ) → Options → Fault → Type 0
-ReadingCause log store options e = (e ≡ ReadLog) ⊎ Cause log store options e
+ReadingCause log store options e = (e ≡ ReadLog) ⊎ RecoveryCause log store options e
 
 -- THE STORE'S DEVICE is read before the log, and a fault of the log's device comes before its own: it has failed once if the result is its
 -- fault, once or not at all if the result is the fault of the log's device, and otherwise not at all

@@ -14,11 +14,11 @@ use Rattle.device.specs.Transfer.{TookBeginning, Flushes}
 use Rattle.restart.specs.declared.options.Options.{Options}
 use Rattle.recovery.specs.declared.store_pieces.DecodedStore.{DecodedStore}
 use Rattle.recovery.specs.Text.{ReportContent}
-use Rattle.recovery.specs.Recovery.{Recovers, Recovered, AreCut, Cause, Decodes}
+use Rattle.recovery.specs.Recovery.{Recovers, Recovered, AreCut, RecoveryCause, Decodes}
 use Rattle.restart.specs.Options.{OptionsFault}
 
 -- the device of this fault has failed once if the fault is the result, otherwise not at all
-pub record Fails {T : Type 0} (own : Fault) (answer : Result T Fault) (before after : ℕ) : Type 0 where
+pub record FailsOnlyWith {T : Type 0} (own : Fault) (answer : Result T Fault) (before after : ℕ) : Type 0 where
   pub blamed : answer ≡ Err own → after ≡ before + 1
   pub innocent : (answer ≡ Err own → ⊥) → after ≡ before
 
@@ -35,10 +35,10 @@ pub record ReadsStore (left_before left_after : Option (List ℕ)) (failures_bef
   pub read : IfOk answer (λ found. (text : List ℕ) × Gave left_before text × Decodes text found.store)
   pub end : OnOk answer (IsAtEnd left_after)
   pub fault : IfErr answer (IsFaultOf ReadStore)
-  pub cause : Fails ReadStore answer failures_before failures_after
+  pub cause : FailsOnlyWith ReadStore answer failures_before failures_after
 
 -- the bytes that the sources gave
-pub record AreRead (log_left store_left : Option (List ℕ)) (log store : List ℕ) : Type 0 where
+pub record SourcesGave (log_left store_left : Option (List ℕ)) (log store : List ℕ) : Type 0 where
   pub log_read : Gave log_left log
   pub store_read : Gave store_left store
 
@@ -49,7 +49,7 @@ pub record Makes (log_left store_left : Option (List ℕ)) : Type 0 where
   pub new_log : List ℕ
   pub new_store : List ℕ
   pub report : ReportContent
-  pub are_read : AreRead log_left store_left log store
+  pub are_read : SourcesGave log_left store_left log store
   pub recovers : Recovers log store new_log new_store report
 
 -- on success: the new log and the new store are written
@@ -91,7 +91,7 @@ DeviceCause log_left store_left options WriteLog = ⊤
 DeviceCause log_left store_left options WriteStore = ⊤
 DeviceCause log_left store_left options BadWorkers = OptionsFault options BadWorkers
 DeviceCause log_left store_left options BadParting = OptionsFault options BadParting
-DeviceCause log_left store_left options e = (log : List ℕ) × (store : List ℕ) × AreRead log_left store_left log store × Cause log store options e
+DeviceCause log_left store_left options e = (log : List ℕ) × (store : List ℕ) × SourcesGave log_left store_left log store × RecoveryCause log store options e
 
 -- a fault of what the sources gave, or of writing: any but a lack of memory, those of the sources and those of the options
 abbrev pub IsAfterReading : Fault → Type 0

@@ -13,7 +13,7 @@ use Rattle.wal.specs.Store.{store_out}
 use Rattle.device.specs.Transfer.{TookBeginning, Flushes}
 use Rattle.recovery.specs.Text.{ReportContent}
 use Rattle.recovery.specs.Recovery.{Recovers, Recovered}
-use Rattle.recovery.specs.Devices.{AreRead, AreCutOf}
+use Rattle.recovery.specs.Devices.{SourcesGave, AreCutOf}
 use Rattle.recovery.specs.TailFile.{tail_text, end_of, sum_of}
 
 -- THE LOG CONTINUED
@@ -49,7 +49,7 @@ pub record Prepares (log_left store_left : Option (List ℕ)) : Type 0 where
   pub frames : List ℕ
   pub new_store : List ℕ
   pub report : ReportContent
-  pub are_read : AreRead log_left store_left log store
+  pub are_read : SourcesGave log_left store_left log store
   pub kept_is : kept ≡ length log - report.torn
   pub recovers : Recovers log store (take kept log ++ frames) new_store report
 
@@ -66,19 +66,19 @@ pub record Completed (log_left store_left log_before log_after store_before stor
   pub store_out : Appends store_before store_after made.new_store
 
 -- A FAULT of a sink: what it leaves of the log and of the new store
-abbrev pub Stays : (kept : ℕ) (frames new_store : List ℕ) (log_before log_after log_flushed_before log_flushed_after store_before store_after : Option (List ℕ)) → Fault → Type 0
-Stays kept frames new_store log_before log_after log_flushed_before log_flushed_after store_before store_after WriteLog =
+abbrev pub LeavesInPlace : (kept : ℕ) (frames new_store : List ℕ) (log_before log_after log_flushed_before log_flushed_after store_before store_after : Option (List ℕ)) → Fault → Type 0
+LeavesInPlace kept frames new_store log_before log_after log_flushed_before log_flushed_after store_before store_after WriteLog =
     IsLeft kept frames log_before log_after log_flushed_before log_flushed_after × Keeps store_before store_after
-Stays kept frames new_store log_before log_after log_flushed_before log_flushed_after store_before store_after WriteStore =
+LeavesInPlace kept frames new_store log_before log_after log_flushed_before log_flushed_after store_before store_after WriteStore =
     Continues kept frames log_before log_after × TookBeginning store_before store_after new_store
-Stays kept frames new_store log_before log_after log_flushed_before log_flushed_after store_before store_after e = ⊥
+LeavesInPlace kept frames new_store log_before log_after log_flushed_before log_flushed_after store_before store_after e = ⊥
 
 -- any fault: a fault of another device or of the input leaves all as it was
 abbrev pub IsLeftIn : (log_left store_left log_before log_after log_flushed_before log_flushed_after store_before store_after : Option (List ℕ)) → Fault → Type 0
 IsLeftIn log_left store_left log_before log_after log_flushed_before log_flushed_after store_before store_after WriteLog =
-    (made : Prepares log_left store_left) × Stays made.kept made.frames made.new_store log_before log_after log_flushed_before log_flushed_after store_before store_after WriteLog
+    (made : Prepares log_left store_left) × LeavesInPlace made.kept made.frames made.new_store log_before log_after log_flushed_before log_flushed_after store_before store_after WriteLog
 IsLeftIn log_left store_left log_before log_after log_flushed_before log_flushed_after store_before store_after WriteStore =
-    (made : Prepares log_left store_left) × Stays made.kept made.frames made.new_store log_before log_after log_flushed_before log_flushed_after store_before store_after WriteStore
+    (made : Prepares log_left store_left) × LeavesInPlace made.kept made.frames made.new_store log_before log_after log_flushed_before log_flushed_after store_before store_after WriteStore
 IsLeftIn log_left store_left log_before log_after log_flushed_before log_flushed_after store_before store_after e =
     Keeps log_before log_after × Keeps store_before store_after
 

@@ -6,7 +6,7 @@ use Rattle.page.specs.Causes.{HasOneCause, HasNoCause}
 use Rattle.wal.specs.Meaning.{no_base}
 use Rattle.recovery.specs.Text.{ReportContent}
 use Rattle.restart.specs.declared.options.Options.{Options}
-use Rattle.recovery.specs.Recovery.{Recovers, AreLawful, Cause}
+use Rattle.recovery.specs.Recovery.{Recovers, AreLawful, RecoveryCause}
 use Rattle.recovery.specs.Audit.{AuditFault, AreLawfulOver, AuditFaultOver}
 use Rattle.restart.specs.Options.{OptionsFault}
 
@@ -23,7 +23,7 @@ OneRecovery = (log store new_log other_log new_store other_store : List ℕ) (re
 
 -- ONE ERROR
 abbrev pub OneRecoveryFault : Type 0
-OneRecoveryFault = (log store : List ℕ) (options : Options) → HasOneCause (Cause log store options)
+OneRecoveryFault = (log store : List ℕ) (options : Options) → HasOneCause (RecoveryCause log store options)
 
 abbrev pub OneAuditFault : Type 0
 OneAuditFault = (log store : List ℕ) → HasOneCause (AuditFault log store)
@@ -34,7 +34,7 @@ OneAuditFaultOver = (log store base : List ℕ) → HasOneCause (AuditFaultOver 
 -- NO ERROR NEXT TO A RECOVERY. Options return an error whenever they can: if there is a recovery, they have none.
 abbrev pub NoFaultOfARecovery : Type 0
 NoFaultOfARecovery = (log store : List ℕ) (options : Options) (new_log new_store : List ℕ) (report : ReportContent)
-    → ((e : Fault) → OptionsFault options e → ⊥) → Recovers log store new_log new_store report → HasNoCause (Cause log store options)
+    → ((e : Fault) → OptionsFault options e → ⊥) → Recovers log store new_log new_store report → HasNoCause (RecoveryCause log store options)
 
 abbrev pub NoFaultOfLawfulTexts : Type 0
 NoFaultOfLawfulTexts = (log store : List ℕ) → AreLawful no_base log store → HasNoCause (AuditFault log store)

@@ -105,11 +105,11 @@ pub record AreCut (base : BasePages) (log store : List ℕ) : Type 0 where
 
 -- ERRORS
 -- the error of bytes, in the order in which the conditions are checked, memory aside
-abbrev pub Cause : List ℕ → List ℕ → Options → Fault → Type 0
-Cause log store options NoResource = ⊤
-Cause log store options BadWorkers = OptionsFault options BadWorkers
-Cause log store options BadParting = OptionsFault options BadParting
-Cause log store options e =
+abbrev pub RecoveryCause : List ℕ → List ℕ → Options → Fault → Type 0
+RecoveryCause log store options NoResource = ⊤
+RecoveryCause log store options BadWorkers = OptionsFault options BadWorkers
+RecoveryCause log store options BadParting = OptionsFault options BadParting
+RecoveryCause log store options e =
     AreInRange options
     × (LogFault log e ⊎ ((read : LogContent) × (torn : ℕ) × Reads log read torn × StoreFault store e)
     ⊎ ((decoded : Decoded log store) × InputFault decoded.read decoded.before e))

@@ -10,7 +10,7 @@ ghost use Rattle.wal.specs.Meaning.{BasePages};
 ghost use Rattle.restart.specs.declared.options.Options.{Options};
 ghost use Rattle.restart.specs.Options.{AreInRange, OptionsFault};
 ghost use Rattle.recovery.specs.Recovery.{log_of, Decodes, Recovers, Recovered, AreLawful, AreCut};
-ghost use Rattle.recovery.specs.Devices.{Fails, IsFaultOf, DeviceCause, IsResourceOrDevice, IsAfterReading};
+ghost use Rattle.recovery.specs.Devices.{FailsOnlyWith, IsFaultOf, DeviceCause, IsResourceOrDevice, IsAfterReading};
 ghost use Rattle.recovery.specs.InPlace.{IsContinued, IsLeftIn, Prepares, HasTail, Completed, DeliversInPlace, CompletesInPlace, HoldsCut, IsFlushed};
 ghost use Rattle.recovery.specs.ByPieces.{IsOfLog, IsMeasured, ReadingCause, StoreFails};
 ghost use Rattle.recovery.specs.declared.log_again.TheConstants.{ROOM};
@@ -62,7 +62,7 @@ fn make_of<L: Reread>(
         → ReadingCause text store options e) }
     ensures same { OnOk result (Keeps (L.text log.old) (L.text log.new)) }
     ensures named { IfErr result IsOfLog }
-    ensures cause { Fails ReadLog result (L.failures log.old) (L.failures log.new) }
+    ensures cause { FailsOnlyWith ReadLog result (L.failures log.old) (L.failures log.new) }
 {
     let Restarted {
         kept,
@@ -112,7 +112,7 @@ pub fn make_by_pieces<L: Reread>(
     ensures same { OnOk result (Keeps (L.text log.old) (L.text log.new)) }
     ensures named { IfErr result (λ e. (store : List ℕ) → Decodes store decoded → IsOfLog e) }
     ensures cause { (store : List ℕ) → Decodes store decoded
-        → Fails ReadLog result (L.failures log.old) (L.failures log.new) }
+        → FailsOnlyWith ReadLog result (L.failures log.old) (L.failures log.new) }
 {
     match decoded {
         Ok(before) => make_of(alloc, log, before, room),
@@ -248,11 +248,11 @@ pub fn recover_by_pieces<LR: Reread, SR: Source, T: Sink, LW: Continue, SW: Sink
 
     // A fault names a device if that device failed, and only then. If both sources failed, it names
     // the log's.
-    ensures log_source { Fails ReadLog result (LR.failures log.old) (LR.failures log.new) }
+    ensures log_source { FailsOnlyWith ReadLog result (LR.failures log.old) (LR.failures log.new) }
     ensures store_source { StoreFails result (SR.failures store.old) (SR.failures store.new) }
-    ensures log_sinks { Fails WriteLog result (T.failures tail.old + LW.failures out_log.old)
+    ensures log_sinks { FailsOnlyWith WriteLog result (T.failures tail.old + LW.failures out_log.old)
         (T.failures tail.new + LW.failures out_log.new) }
-    ensures store_sink { Fails WriteStore result (SW.failures out_store.old)
+    ensures store_sink { FailsOnlyWith WriteStore result (SW.failures out_store.old)
         (SW.failures out_store.new) }
 {
     check_options(options)?;

@@ -11,7 +11,7 @@ ghost use Rattle.device.specs.Transfer.{TookBeginning, Flushes};
 ghost use Rattle.wal.specs.Meaning.{BasePages};
 ghost use Rattle.restart.specs.Options.{AreInRange, OptionsFault};
 ghost use Rattle.recovery.specs.Recovery.{AreLawful, AreCut};
-ghost use Rattle.recovery.specs.Devices.{Fails, Makes, Writes, AreOut, DeviceCause, Delivers, Completes, IsResourceOrDevice, IsAfterReading};
+ghost use Rattle.recovery.specs.Devices.{FailsOnlyWith, Makes, Writes, AreOut, DeviceCause, Delivers, Completes, IsResourceOrDevice, IsAfterReading};
 ghost use Rattle.recovery.specs.ByPieces.{StoreFails};
 ghost use Rattle.recovery.specs.Copying.{IsOfCopying, LeavesCopied, IsOutCopied, LeavesCutCopied};
 ghost use Rattle.recovery.specs.declared.log_again.TheConstants.{ROOM};
@@ -47,8 +47,8 @@ fn copy_piece<L: Reread, S: Sink>(
     ensures named { IfErr result IsOfCopying }
     ensures same { Keeps (L.text log.old) (L.text log.new) }
     ensures unflushed { Keeps (S.flushed sink.old) (S.flushed sink.new) }
-    ensures log_source { Fails ReadLog result (L.failures log.old) (L.failures log.new) }
-    ensures log_sink { Fails WriteLog result (S.failures sink.old) (S.failures sink.new) }
+    ensures log_source { FailsOnlyWith ReadLog result (L.failures log.old) (L.failures log.new) }
+    ensures log_sink { FailsOnlyWith WriteLog result (S.failures sink.old) (S.failures sink.new) }
 {
     let count = read_from(log, offset, room)?;
     if count < room.len() {
@@ -79,8 +79,8 @@ fn copy_kept<L: Reread, S: Sink>(
         → kept ≤ length text → (e ≡ ReadLog) ⊎ (e ≡ WriteLog)) }
     ensures named { IfErr result IsOfCopying }
     ensures unflushed { Keeps (S.flushed sink.old) (S.flushed sink.new) }
-    ensures log_source { Fails ReadLog result (L.failures log.old) (L.failures log.new) }
-    ensures log_sink { Fails WriteLog result (S.failures sink.old) (S.failures sink.new) }
+    ensures log_source { FailsOnlyWith ReadLog result (L.failures log.old) (L.failures log.new) }
+    ensures log_sink { FailsOnlyWith WriteLog result (S.failures sink.old) (S.failures sink.new) }
 {
     let mut offset: u64 = 0;
     while offset < kept {
@@ -124,8 +124,8 @@ fn write_copy<L: Reread, S: Sink>(
     ensures fault { IfErr result (λ e. (text : List ℕ) → L.text log.old ≡ Some text
         → kept ≤ length text → (e ≡ ReadLog) ⊎ (e ≡ WriteLog)) }
     ensures named { IfErr result IsOfCopying }
-    ensures log_source { Fails ReadLog result (L.failures log.old) (L.failures log.new) }
-    ensures log_sink { Fails WriteLog result (S.failures sink.old) (S.failures sink.new) }
+    ensures log_source { FailsOnlyWith ReadLog result (L.failures log.old) (L.failures log.new) }
+    ensures log_sink { FailsOnlyWith WriteLog result (S.failures sink.old) (S.failures sink.new) }
 {
     copy_kept(log, sink, kept, room)?;
     match write_frames(sink, frames) {
@@ -165,9 +165,9 @@ fn write_copied<L: Reread, LW: Sink, SW: Sink>(
         (store_text made.now.remade.store) (LW.taken out_log.old) (LW.taken out_log.new)
         (SW.taken out_store.old) (SW.taken out_store.new) e) }
     ensures named { IfErr result (λ e. IsOfCopying e ⊎ (e ≡ WriteStore)) }
-    ensures log_source { Fails ReadLog result (L.failures log.old) (L.failures log.new) }
-    ensures log_sink { Fails WriteLog result (LW.failures out_log.old) (LW.failures out_log.new) }
-    ensures store_sink { Fails WriteStore result (SW.failures out_store.old)
+    ensures log_source { FailsOnlyWith ReadLog result (L.failures log.old) (L.failures log.new) }
+    ensures log_sink { FailsOnlyWith WriteLog result (LW.failures out_log.old) (LW.failures out_log.new) }
+    ensures store_sink { FailsOnlyWith WriteStore result (SW.failures out_store.old)
         (SW.failures out_store.new) }
 {
     write_copy(log, out_log, made.kept, &made.remade.frames, room)?;
@@ -280,10 +280,10 @@ pub fn recover_copying<LR: Reread, SR: Source, LW: Sink, SW: Sink>(
 
     // A fault names a device if that device failed, and only then. If both sources failed, it names
     // the log's.
-    ensures log_source { Fails ReadLog result (LR.failures log.old) (LR.failures log.new) }
+    ensures log_source { FailsOnlyWith ReadLog result (LR.failures log.old) (LR.failures log.new) }
     ensures store_source { StoreFails result (SR.failures store.old) (SR.failures store.new) }
-    ensures log_sink { Fails WriteLog result (LW.failures out_log.old) (LW.failures out_log.new) }
-    ensures store_sink { Fails WriteStore result (SW.failures out_store.old)
+    ensures log_sink { FailsOnlyWith WriteLog result (LW.failures out_log.old) (LW.failures out_log.new) }
+    ensures store_sink { FailsOnlyWith WriteStore result (SW.failures out_store.old)
         (SW.failures out_store.new) }
 {
     check_options(options)?;

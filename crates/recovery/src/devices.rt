@@ -12,7 +12,7 @@ ghost use Rattle.page.specs.File.{store_text};
 ghost use Rattle.recovery.specs.Recovery.{AreLawful, AreCut};
 ghost use Rattle.recovery.specs.declared.store_pieces.TheConstants.{PIECE};
 ghost use Rattle.restart.specs.Options.{AreInRange, OptionsFault};
-ghost use Rattle.recovery.specs.Devices.{Fails, Gave, IsFaultOf, Makes, Writes, AreOut, Leaves, IsOut, DeviceCause, Delivers, Completes, LeavesCut, IsResourceOrDevice, IsAfterReading};
+ghost use Rattle.recovery.specs.Devices.{FailsOnlyWith, Gave, IsFaultOf, Makes, Writes, AreOut, Leaves, IsOut, DeviceCause, Delivers, Completes, LeavesCut, IsResourceOrDevice, IsAfterReading};
 
 use crate::Report;
 use crate::decoding::decode_both;
@@ -37,7 +37,7 @@ pub fn read_source<S: Source>(
     ensures gave { IfOk result (λ bytes. Gave (S.left source.old) bytes.items) }
     ensures end { OnOk result (IsAtEnd (S.left source.new)) }
     ensures fault { IfErr result (IsFaultOf failed) }
-    ensures cause { Fails failed result (S.failures source.old) (S.failures source.new) }
+    ensures cause { FailsOnlyWith failed result (S.failures source.old) (S.failures source.new) }
 {
     match read_all(alloc, source) {
         Ok(bytes) => Ok(bytes),
@@ -79,8 +79,8 @@ fn write_both<L: Sink, S: Sink>(
     ensures fault { IfErr result (Leaves (kept.now ++ remade.now.frames.items)
         (store_text remade.now.store) (L.taken log.old) (L.taken log.new) (S.taken store.old)
         (S.taken store.new)) }
-    ensures log_sink { Fails WriteLog result (L.failures log.old) (L.failures log.new) }
-    ensures store_sink { Fails WriteStore result (S.failures store.old) (S.failures store.new) }
+    ensures log_sink { FailsOnlyWith WriteLog result (L.failures log.old) (L.failures log.new) }
+    ensures store_sink { FailsOnlyWith WriteStore result (S.failures store.old) (S.failures store.new) }
 {
     match write_log(log, kept, &remade.frames) {
         Ok(()) => match write_store(store, &remade.store, room) {
@@ -190,10 +190,10 @@ pub fn recover<LR: Source, SR: Source, LW: Sink, SW: Sink, G: Gate, R: Threads +
         → IsAtEnd (LR.left log.new) × IsAtEnd (SR.left store.new)) }
 
     // A fault names a device if that device failed, and only then.
-    ensures log_source { Fails ReadLog result (LR.failures log.old) (LR.failures log.new) }
-    ensures store_source { Fails ReadStore result (SR.failures store.old) (SR.failures store.new) }
-    ensures log_sink { Fails WriteLog result (LW.failures out_log.old) (LW.failures out_log.new) }
-    ensures store_sink { Fails WriteStore result (SW.failures out_store.old)
+    ensures log_source { FailsOnlyWith ReadLog result (LR.failures log.old) (LR.failures log.new) }
+    ensures store_source { FailsOnlyWith ReadStore result (SR.failures store.old) (SR.failures store.new) }
+    ensures log_sink { FailsOnlyWith WriteLog result (LW.failures out_log.old) (LW.failures out_log.new) }
+    ensures store_sink { FailsOnlyWith WriteStore result (SW.failures out_store.old)
         (SW.failures out_store.new) }
 {
     check_options(options)?;

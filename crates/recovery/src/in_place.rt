@@ -12,10 +12,10 @@ ghost use Rattle.device.specs.Transfer.{Flushes};
 ghost use Rattle.wal.specs.Meaning.{BasePages};
 ghost use Rattle.restart.specs.Options.{AreInRange, OptionsFault};
 ghost use Rattle.recovery.specs.Recovery.{AreLawful, AreCut};
-ghost use Rattle.recovery.specs.Devices.{Fails, AreOut, DeviceCause, IsResourceOrDevice, IsAfterReading};
+ghost use Rattle.recovery.specs.Devices.{FailsOnlyWith, AreOut, DeviceCause, IsResourceOrDevice, IsAfterReading};
 ghost use Rattle.recovery.specs.LogText.{text_of};
 ghost use Rattle.recovery.specs.TailFile.{tail_text, sum_of, end_of};
-ghost use Rattle.recovery.specs.InPlace.{IsContinued, IsLeft, IsLeftIn, Prepares, HasTail, Completed, DeliversInPlace, CompletesInPlace, HoldsCut, IsFlushed, Stays};
+ghost use Rattle.recovery.specs.InPlace.{IsContinued, IsLeft, IsLeftIn, Prepares, HasTail, Completed, DeliversInPlace, CompletesInPlace, HoldsCut, IsFlushed, LeavesInPlace};
 ghost use Rattle.recovery.specs.declared.store_pieces.TheConstants.{PIECE};
 
 use crate::Report;
@@ -106,12 +106,12 @@ pub fn write_in_place<T: Sink, L: Continue, S: Sink>(
         (L.taken log.old) (L.taken log.new) (L.flushed log.old) (L.flushed log.new)) }
     ensures store_out { OnOk result (AreOut (store_text made.now) (S.taken store.old)
         (S.taken store.new) (S.flushed store.old) (S.flushed store.new)) }
-    ensures fault { IfErr result (Stays file.now.kept file.now.frames.now (store_text made.now)
+    ensures fault { IfErr result (LeavesInPlace file.now.kept file.now.frames.now (store_text made.now)
         (L.taken log.old) (L.taken log.new) (L.flushed log.old) (L.flushed log.new)
         (S.taken store.old) (S.taken store.new)) }
-    ensures log_sinks { Fails WriteLog result (T.failures tail.old + L.failures log.old)
+    ensures log_sinks { FailsOnlyWith WriteLog result (T.failures tail.old + L.failures log.old)
         (T.failures tail.new + L.failures log.new) }
-    ensures store_sink { Fails WriteStore result (S.failures store.old) (S.failures store.new) }
+    ensures store_sink { FailsOnlyWith WriteStore result (S.failures store.old) (S.failures store.new) }
 {
     match write_tail(tail, log, file) {
         Ok(()) => match write_store(store, made, room) {
@@ -225,11 +225,11 @@ pub fn recover_in_place<
         → IsAtEnd (LR.left log.new) × IsAtEnd (SR.left store.new)) }
 
     // A fault names a device if that device failed, and only then.
-    ensures log_source { Fails ReadLog result (LR.failures log.old) (LR.failures log.new) }
-    ensures store_source { Fails ReadStore result (SR.failures store.old) (SR.failures store.new) }
-    ensures log_sinks { Fails WriteLog result (T.failures tail.old + LW.failures out_log.old)
+    ensures log_source { FailsOnlyWith ReadLog result (LR.failures log.old) (LR.failures log.new) }
+    ensures store_source { FailsOnlyWith ReadStore result (SR.failures store.old) (SR.failures store.new) }
+    ensures log_sinks { FailsOnlyWith WriteLog result (T.failures tail.old + LW.failures out_log.old)
         (T.failures tail.new + LW.failures out_log.new) }
-    ensures store_sink { Fails WriteStore result (SW.failures out_store.old)
+    ensures store_sink { FailsOnlyWith WriteStore result (SW.failures out_store.old)
         (SW.failures out_store.new) }
 {
     check_options(options)?;

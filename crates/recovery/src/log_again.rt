@@ -7,9 +7,9 @@ ghost use Rattle.device.specs.Reread.{EndsBy, ReadsFrom};
 ghost use Rattle.page.specs.declared.fault.Fault.TheVariants.{NoResource, ReadLog, ReadStore};
 ghost use Rattle.wal.specs.Records.{LogContent};
 ghost use Rattle.wal.specs.Reads.{Reads, Cause};
-ghost use Rattle.passes.specs.Marks.{failures_of};
+ghost use Rattle.passes.specs.Marks.{failures_of_pass};
 ghost use Rattle.recovery.specs.Recovery.{Decodes};
-ghost use Rattle.recovery.specs.Devices.{Fails, Gave, IsFaultOf};
+ghost use Rattle.recovery.specs.Devices.{FailsOnlyWith, Gave, IsFaultOf};
 ghost use Rattle.recovery.specs.TailFile.{sum_of, end_of};
 ghost use Rattle.recovery.specs.ByPieces.{IsOfLog, fault_of, StoreFails};
 ghost use Rattle.recovery.specs.declared.log_again.TheConstants.{ROOM};
@@ -61,7 +61,7 @@ pub fn read_from<L: Reread>(log: &mut L, offset: u64, buffer: &mut [u8]) -> Resu
         → EndsBy (L.text log.old) (offset + count)) }
     ensures same { Keeps (L.text log.old) (L.text log.new) }
     ensures fault { IfErr result (λ e. e ≡ ReadLog) }
-    ensures cause { Fails ReadLog result (L.failures log.old) (L.failures log.new) }
+    ensures cause { FailsOnlyWith ReadLog result (L.failures log.old) (L.failures log.new) }
 {
     match read_full_at(log, offset, buffer) {
         Ok(count) => Ok(count),
@@ -76,7 +76,7 @@ pub fn read_through<L: Reread>(log: &mut L, room: &mut [u8]) -> Result<(), Fault
     ensures end { OnOk result (IfSome (L.text log.old) (λ held. length held < 2 ^ 64)) }
     ensures same { Keeps (L.text log.old) (L.text log.new) }
     ensures fault { IfErr result (IsFaultOf ReadLog) }
-    ensures cause { Fails ReadLog result (L.failures log.old) (L.failures log.new) }
+    ensures cause { FailsOnlyWith ReadLog result (L.failures log.old) (L.failures log.new) }
 {
     let mut offset: u64 = 0;
     while offset < LONGEST_LOG {
@@ -116,9 +116,9 @@ pub fn fault_after<L: Reread>(log: &mut L, stopped: PassFault, room: &mut [u8]) 
     ensures fault { (result ≡ ReadLog) ⊎ (result ≡ fault_of stopped) }
     // The pass may have counted a failure already.
     ensures blamed { result ≡ ReadLog
-        → L.failures log.new + failures_of stopped ≡ L.failures log.old + 1 }
+        → L.failures log.new + failures_of_pass stopped ≡ L.failures log.old + 1 }
     ensures innocent { result ≢ ReadLog
-        → L.failures log.new + failures_of stopped ≡ L.failures log.old }
+        → L.failures log.new + failures_of_pass stopped ≡ L.failures log.old }
 {
     first_fault(log, fault_of(stopped), room)
 }
@@ -139,7 +139,7 @@ pub fn read_store_first<L: Reread, S: Source>(
     ensures end { OnOk result (IsAtEnd (S.left store.new)) }
     ensures log_unread { OnOk result (log.new ≡ log.old) }
     ensures fault { IfErr result (λ e. (e ≡ ReadLog) ⊎ IsFaultOf ReadStore e) }
-    ensures log_source { Fails ReadLog result (L.failures log.old) (L.failures log.new) }
+    ensures log_source { FailsOnlyWith ReadLog result (L.failures log.old) (L.failures log.new) }
     ensures store_source { StoreFails result (S.failures store.old) (S.failures store.new) }
 {
     match read_store(alloc, store, pieces) {
@@ -156,7 +156,7 @@ pub fn check_log<L: Reread>(alloc: Global, log: &mut L, room: &mut [u8]) -> Resu
     ensures fault { IfErr result (λ e. (text : List ℕ) → L.text log.old ≡ Some text
         → (e ≡ ReadLog) ⊎ Cause text e) }
     ensures named { IfErr result IsOfLog }
-    ensures cause { Fails ReadLog result (L.failures log.old) (L.failures log.new) }
+    ensures cause { FailsOnlyWith ReadLog result (L.failures log.old) (L.failures log.new) }
 {
     let _found = match find_marks(alloc, log, room) {
         Ok(found) => found,
@@ -174,7 +174,7 @@ pub fn sum_of_kept<L: Reread>(log: &mut L, kept: u64, room: &mut [u8]) -> Result
     ensures fault { IfErr result (λ e. (text : List ℕ) → L.text log.old ≡ Some text
         → kept ≤ length text → e ≡ ReadLog) }
     ensures named { IfErr result IsOfLog }
-    ensures cause { Fails ReadLog result (L.failures log.old) (L.failures log.new) }
+    ensures cause { FailsOnlyWith ReadLog result (L.failures log.old) (L.failures log.new) }
 {
     let offset = kept.saturating_sub(END_BYTES as u64);
     let wanted = (kept - offset) as usize;

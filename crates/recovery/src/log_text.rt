@@ -9,7 +9,7 @@ ghost use Rattle.wal.specs.Stretches.{BeginsCut};
 ghost use Rattle.wal.specs.declared.sizes.TheConstants.{BASED_HEADER_BYTES, LONGEST_FRAME};
 ghost use Rattle.recovery.specs.LogText.{text_of, CameBehind, IsLogText};
 ghost use Rattle.recovery.specs.Recovery.{ReadsAs};
-ghost use Rattle.recovery.specs.Devices.{Fails, Gave, IsFaultOf};
+ghost use Rattle.recovery.specs.Devices.{FailsOnlyWith, Gave, IsFaultOf};
 
 use crate::devices::read_source;
 use device::{ReadFault, Source, read_front, read_rest};
@@ -68,7 +68,7 @@ fn read_next<S: Source>(alloc: Global, source: &mut S, count: usize) -> Result<V
     ensures read { IfOk result (λ bytes. Consumes (S.left source.old)
         (S.left source.new) bytes.items) }
     ensures fault { IfErr result (IsFaultOf ReadLog) }
-    ensures cause { Fails ReadLog result (S.failures source.old) (S.failures source.new) }
+    ensures cause { FailsOnlyWith ReadLog result (S.failures source.old) (S.failures source.new) }
 {
     match read_front(alloc, source, count) {
         Ok(bytes) => Ok(bytes),
@@ -85,7 +85,7 @@ fn read_last<S: Source>(source: &mut S, bytes: &mut Vec<u8>, filled: usize) -> R
         filled bytes.new.items) }
     ensures end { OnOk result (IsAtEnd (S.left source.new)) }
     ensures fault { IfErr result (IsFaultOf ReadLog) }
-    ensures cause { Fails ReadLog result (S.failures source.old) (S.failures source.new) }
+    ensures cause { FailsOnlyWith ReadLog result (S.failures source.old) (S.failures source.new) }
 {
     match read_rest(source, bytes, filled) {
         Ok(()) => Ok(()),
@@ -114,7 +114,7 @@ fn read_half<S: Source, R: Threads + Sync>(
     ensures read { IfOk result.1 (λ bytes. Consumes (S.left source.old)
         (S.left source.new) bytes.items) }
     ensures fault { IfErr result.1 (IsFaultOf ReadLog) }
-    ensures cause { Fails ReadLog result.1 (S.failures source.old) (S.failures source.new) }
+    ensures cause { FailsOnlyWith ReadLog result.1 (S.failures source.old) (S.failures source.new) }
 {
     let other = alloc;
     let mut make = || -> Vec<u8> { zeros(other, room) };
@@ -122,7 +122,7 @@ fn read_half<S: Source, R: Threads + Sync>(
         ensures read { IfOk result (λ bytes. Consumes (S.left source.entry.now)
             (S.left source.exit.now) bytes.items) }
         ensures fault { IfErr result (IsFaultOf ReadLog) }
-        ensures cause { Fails ReadLog result (S.failures source.entry.now)
+        ensures cause { FailsOnlyWith ReadLog result (S.failures source.entry.now)
             (S.failures source.exit.now) }
     { read_next(alloc, source, half) };
     join_mut(rt, &mut make, &mut read)
@@ -195,7 +195,7 @@ fn first_beside_rest<S: Source, R: Threads + Sync>(
         LONGEST_FRAME back.new.items) }
     ensures end { OnOk result.1 (IsAtEnd (S.left source.new)) }
     ensures fault { IfErr result.1 (IsFaultOf ReadLog) }
-    ensures cause { Fails ReadLog result.1 (S.failures source.old) (S.failures source.new) }
+    ensures cause { FailsOnlyWith ReadLog result.1 (S.failures source.old) (S.failures source.new) }
 {
     let mut decode = || -> Result<Stretch, Fault>
         requires { BASED_HEADER_BYTES ≤ length front.now }
@@ -209,7 +209,7 @@ fn first_beside_rest<S: Source, R: Threads + Sync>(
             (S.left source.exit.now) LONGEST_FRAME back.exit.now.items) }
         ensures end { OnOk result (IsAtEnd (S.left source.exit.now)) }
         ensures fault { IfErr result (IsFaultOf ReadLog) }
-        ensures cause { Fails ReadLog result (S.failures source.entry.now)
+        ensures cause { FailsOnlyWith ReadLog result (S.failures source.entry.now)
             (S.failures source.exit.now) }
     { read_last(source, back, LONGEST_FRAME) };
     join_mut(rt, &mut decode, &mut read)
@@ -269,7 +269,7 @@ fn read_parts<S: Source, R: Threads + Sync>(
     ensures is { IfOk result (λ x. IsLogText x.0 x.1) }
     ensures end { OnOk result (IsAtEnd (S.left source.new)) }
     ensures fault { IfErr result (IsFaultOf ReadLog) }
-    ensures cause { Fails ReadLog result (S.failures source.old) (S.failures source.new) }
+    ensures cause { FailsOnlyWith ReadLog result (S.failures source.old) (S.failures source.new) }
 {
     let half = hint / 2;
     let room = (hint - half).saturating_add(LONGEST_FRAME + PIECE);
@@ -300,7 +300,7 @@ pub fn read_log_text<S: Source, R: Threads + Sync>(
     ensures is { IfOk result (λ x. IsLogText x.0 x.1) }
     ensures end { OnOk result (IsAtEnd (S.left source.new)) }
     ensures fault { IfErr result (IsFaultOf ReadLog) }
-    ensures cause { Fails ReadLog result (S.failures source.old) (S.failures source.new) }
+    ensures cause { FailsOnlyWith ReadLog result (S.failures source.old) (S.failures source.new) }
 {
     let hint = source.hint();
     if workers > 1 && (LONG..=LONGEST).contains(&hint) {

@@ -7,10 +7,10 @@ ghost use Rattle.wal.specs.Records.{LogContent, history, last_lsn};
 ghost use Rattle.wal.specs.Reads.{Reads, spellings};
 ghost use Rattle.page.specs.Store.{StoreContent};
 ghost use Rattle.page.specs.File.{store_text, SpellsStore};
-ghost use Rattle.undo.specs.Appended.{records_of, HaveUpdates, AreFit};
+ghost use Rattle.undo.specs.Appended.{appended_records, HaveUpdates, AreFit};
 ghost use Rattle.wal.specs.Meaning.{BasePages};
 ghost use Rattle.passes.specs.InPieces.{AreAlike};
-ghost use Rattle.recovery.specs.Recovery.{report_of, log_of, Decodes, ReadsAs, Recovers, AreLawful, Recovered, Cause};
+ghost use Rattle.recovery.specs.Recovery.{report_of, log_of, Decodes, ReadsAs, Recovers, AreLawful, Recovered, RecoveryCause};
 ghost use Rattle.restart.specs.Options.{AreInRange};
 ghost use Rattle.restart.specs.Outcome.{outcome_in};
 ghost use Rattle.restart.specs.Restart.{Restarts, Restores};
@@ -30,7 +30,7 @@ fn tail_bytes(log: &Looked, appended: &[Appended]) -> u64
     requires told { HaveUpdates log.now appended.now }
     requires writable { AreFit log.now appended.now }
     ensures { (lsn : ℕ) → result
-        ≡ min u64.MAX (length (spellings lsn (records_of (history log.now) appended.now))) }
+        ≡ min u64.MAX (length (spellings lsn (appended_records (history log.now) appended.now))) }
 {
     let mut bytes: u64 = 0;
     for entry in appended {
@@ -46,7 +46,7 @@ fn frames_of(alloc: Global, log: &Looked, appended: &[Appended]) -> Result<Vec<u
     requires writable { AreFit log.now appended.now }
     requires few { length appended.now ≤ 2 * length log.now.records + 2 ^ 32 }
     ensures frames { IfOk result (λ x. x.items ≡ spellings (last_lsn (history log.now) + 1)
-        (records_of (history log.now) appended.now)) }
+        (appended_records (history log.now) appended.now)) }
     ensures room { OnOk result (last_lsn (history log.now) + length appended.now < 2 ^ 64) }
     ensures err { IsOkUnless result NoResource }
 {
@@ -169,7 +169,7 @@ pub fn remake<G: Gate, R: Threads + Sync>(
 
     // On an error, its condition holds for the input, memory aside.
     ensures cause { IfErr result (λ e. (log text : List ℕ) → ReadsAs log records.entry
-        → Decodes text decoded → Cause log text options.now e) }
+        → Decodes text decoded → RecoveryCause log text options.now e) }
 {
     let (records, torn) = records?;
     let before = decoded?;

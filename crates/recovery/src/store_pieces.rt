@@ -9,7 +9,7 @@ ghost use Rattle.page.specs.Image.{page_text};
 ghost use Rattle.device.specs.Failures.{Counts};
 ghost use Rattle.device.specs.Transfer.{TookBeginning};
 ghost use Rattle.recovery.specs.Recovery.{Decodes};
-ghost use Rattle.recovery.specs.Devices.{Fails, Gave, IsFaultOf, ReadsStore, AreOut};
+ghost use Rattle.recovery.specs.Devices.{FailsOnlyWith, Gave, IsFaultOf, ReadsStore, AreOut};
 ghost use Rattle.recovery.specs.declared.store_pieces.TheConstants.{PIECE};
 
 use device::{Failed, Sink, Source, read_full, write_all};
@@ -47,7 +47,7 @@ fn read_piece<S: Source>(source: &mut S, room: &mut [u8]) -> Result<usize, Fault
         (take count room.new)) }
     ensures end { IfOk result (λ count. count < length room.new → IsAtEnd (S.left source.new)) }
     ensures fault { IfErr result (λ e. e ≡ ReadStore) }
-    ensures cause { Fails ReadStore result (S.failures source.old) (S.failures source.new) }
+    ensures cause { FailsOnlyWith ReadStore result (S.failures source.old) (S.failures source.new) }
 {
     match read_full(source, room) {
         Ok(count) => Ok(count),
@@ -68,7 +68,7 @@ fn read_images<S: Source>(
         × Gave (S.left source.old) behind × Decodes (reader ++ behind) found.store) }
     ensures end { OnOk result (IsAtEnd (S.left source.new)) }
     ensures fault { IfErr result (IsFaultOf ReadStore) }
-    ensures cause { Fails ReadStore result (S.failures source.old) (S.failures source.new) }
+    ensures cause { FailsOnlyWith ReadStore result (S.failures source.old) (S.failures source.new) }
 {
     for _ in 0..u64::MAX {
         let count = read_piece(source, room)?;

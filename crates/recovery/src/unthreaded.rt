@@ -3,7 +3,7 @@
 ghost use Rattle.std.specs.Prelude.{◌≡◌, ◌-◌, ◌*◌, ◌≤◌, length, take, IfOk, IfErr, MatchResult};
 ghost use Rattle.page.specs.declared.fault.Fault.TheVariants.{NoResource};
 ghost use Rattle.wal.specs.Meaning.{BasePages};
-ghost use Rattle.recovery.specs.Recovery.{new_log, Recovers, AreLawful, Recovered, Cause};
+ghost use Rattle.recovery.specs.Recovery.{new_log, Recovers, AreLawful, Recovered, RecoveryCause};
 
 use crate::recovery::{Recovery, Remade, remade_of};
 use page::{Fault, decode_store, encode_store_into};
@@ -42,7 +42,7 @@ pub fn recovery_alone<'a>(
 
     // On an error, its condition holds for the input, memory aside; valid options cause none.
     ensures cause { IfErr result
-        (Cause log.now store.items (record { workers = 1; parts = 1 })) }
+        (RecoveryCause log.now store.items (record { workers = 1; parts = 1 })) }
 {
     let (records, torn) = read_log(alloc, log)?;
     let before = decode_store(alloc, &store)?;

@@ -13,7 +13,7 @@ use Rattle.wal.proofs.Histories.{record_none}
 use Rattle.tables.specs.Pieces.{IsPieceOf}
 use Rattle.redo.specs.declared.tally.Tally.{Tally}
 use Rattle.redo.specs.declared.wanted.Wanted.{Wanted}
-use Rattle.redo.specs.Changes.{held_after, slots_after, finished}
+use Rattle.redo.specs.Changes.{held_after, slots_after, finished_page}
 use Rattle.redo.specs.Parts.{image_at}
 use Rattle.redo.specs.Passing.{LastsAreWithin}
 use Rattle.redo.specs.Wanted.{IsWanted, slot_in, HoldAllBut}
@@ -121,7 +121,7 @@ fetched_one whole piece tallies w rest images pages new own one le ahead below s
 -- AT THE END
 pub finished_all : (whole : History) (tallies : List Tally) (rest : List Wanted) (images pages : List Page) (upto k : ℕ) (t : Tally) (d : Page) → LastsAreWithin upto tallies → HoldAllBut whole tallies rest images pages
     → All (λ (w : Wanted). upto < w.lsn) rest → length pages ≡ length tallies → k < length pages → length (get_or pages k d).slots ≡ 16 → length (get_or tallies k t).lasts ≡ 16
-    → record { number = (get_or tallies k t).number; lsn = (get_or tallies k t).lsn; slots = (get_or pages k d).slots } ≡ finished whole (get_or tallies k t) (get_or images k d)
+    → record { number = (get_or tallies k t).number; lsn = (get_or tallies k t).lsn; slots = (get_or pages k d).slots } ≡ finished_page whole (get_or tallies k t) (get_or images k d)
 finished_all whole tallies rest images pages upto k t d lasts all behind count lt slots_are lasts_are =
     let tally = get_or tallies k t in
     let within : k < length tallies = omega (arith, count, lt) in

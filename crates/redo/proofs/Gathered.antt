@@ -13,9 +13,9 @@ use Rattle.redo.specs.Inputs.{InputContent}
 use Rattle.redo.specs.Parted.{PartedContent}
 use Rattle.redo.specs.declared.crew.Share.{Share}
 use Rattle.redo.specs.declared.tally.Tally.{Tally}
-use Rattle.redo.specs.Parts.{redo_page_in, image_at, resolved, IsDone, HasPage, IsTallied, AreTallied, AreAllTallied, IsBack}
+use Rattle.redo.specs.Parts.{redo_page_in, image_at, resolved, IsWhollyRedone, HasRedoPage, IsTallied, AreTallied, AreAllTallied, IsBack}
 use Rattle.redo.proofs.Reading.{get_more, get_split, get_same, written_back}
-use Rattle.redo.specs.Changes.{RedoPage, finished}
+use Rattle.redo.specs.Changes.{RedoPage, finished_page}
 
 -- PLACES OF A LIST THAT IS WRITTEN
 get_set_same : {X : Type 0} (xs : List X) (i : ℕ) (x : X) → i < length xs → slice_get (set xs i x) i ≡ Some x
@@ -27,7 +27,7 @@ get_set_other xs i j x y ne e =
     slice_get-get_or (set xs i x) j y (omega (arith, length-set xs i x, lt)) ∙ ap Some (get_or-set_other xs i j x y ne ∙ get_or_from_slice_get xs j y y e)
 
 -- ONE TALLY
-module _ (input : InputContent) (tallies : List Tally) (t : Tally) (done : IsDone input (resolved input t)) (below : t.number < length tallies) where
+module _ (input : InputContent) (tallies : List Tally) (t : Tally) (done : IsWhollyRedone input (resolved input t)) (below : t.number < length tallies) where
   -- it is put
   tallied_here : IsTallied input (set tallies t.number t) t.number
   tallied_here = record { image = done.image; there = done.there; tally = t; at = get_set_same tallies t.number t below; own = refl; redone = done.redone }
@@ -46,21 +46,21 @@ module _ (input : InputContent) (tallies : List Tally) (t : Tally) (done : IsDon
 
 -- MANY
 -- the page of a number, among these and one more
-pub has_more : (ps : List RedoPage) (p : RedoPage) (number : ℕ) → HasPage (ps ++ p ∷ []) number → (HasPage ps number) ⊎ (p.page.number ≡ number)
+pub has_more : (ps : List RedoPage) (p : RedoPage) (number : ℕ) → HasRedoPage (ps ++ p ∷ []) number → (HasRedoPage ps number) ⊎ (p.page.number ≡ number)
 has_more ps p number has =
     elim (get_split ps p has.place has.redo_page has.there) [
       | inl e ↦ inl (record { place = has.place; redo_page = has.redo_page; there = e; number = has.number })
       | inr e ↦ inr (sym (ap (λ (q : RedoPage). q.page.number) e.1) ∙ has.number)
     ]
 
-pub has_none : (number : ℕ) → HasPage [] number → ⊥
+pub has_none : (number : ℕ) → HasRedoPage [] number → ⊥
 has_none number has = let lt = slice_get_within {A = RedoPage} [] has.place has.redo_page has.there in omega arith
 
 -- a page that is among some is among more
-pub has_left : (ps qs : List RedoPage) (number : ℕ) → HasPage ps number → HasPage (ps ++ qs) number
+pub has_left : (ps qs : List RedoPage) (number : ℕ) → HasRedoPage ps number → HasRedoPage (ps ++ qs) number
 has_left ps qs number has = record { place = has.place; redo_page = has.redo_page; there = get_more ps qs has.place has.redo_page has.there; number = has.number }
 
-pub has_right : (ps qs : List RedoPage) (number : ℕ) → HasPage qs number → HasPage (ps ++ qs) number
+pub has_right : (ps qs : List RedoPage) (number : ℕ) → HasRedoPage qs number → HasRedoPage (ps ++ qs) number
 has_right ps qs number has =
     let lt = slice_get_within qs has.place has.redo_page has.there in
     record {
@@ -73,7 +73,7 @@ has_right ps qs number has =
 
 -- WHAT WORKERS RETURN if all pages of a share are tallied, those of its parts are
 pub share_tallied : (parted : PartedContent) (board : BoardId) (share : Share) (tallies : List Tally) → IsBack parted board share → share.seat.stopped ≡ false → share.seat.told ≡ false
-    → ((number : ℕ) → HasPage (map (resolved parted.input) share.tallies.items) number → IsTallied parted.input tallies number) → AreTallied parted tallies share.seat.drawn
+    → ((number : ℕ) → HasRedoPage (map (resolved parted.input) share.tallies.items) number → IsTallied parted.input tallies number) → AreTallied parted tallies share.seat.drawn
 share_tallied parted board share tallies back stopped told tallied number part given drawn = tallied number (back.drawn stopped told part drawn number given)
 
 -- what is drawn together was drawn by one of the two
@@ -93,11 +93,11 @@ all_tallied parted tallies drawn dealt below all tallied number lt =
     tallied number (get_or part_of number 0) (slice_get-get_or part_of number 0 within) (all (get_or part_of number 0) (below number 0 within))
 
 -- a page that is in the store has a place
-pub done_below : (input : InputContent) (ts : List Tally) (n : ℕ) → n ≡ length input.images → All (IsDone input) (map (resolved input) ts) → All (λ t. t.number < n) ts
+pub done_below : (input : InputContent) (ts : List Tally) (n : ℕ) → n ≡ length input.images → All (IsWhollyRedone input) (map (resolved input) ts) → All (λ t. t.number < n) ts
 done_below input ts n count done k d lt =
     let t = get_or ts k d in
     let is : get_or (map (resolved input) ts) k (resolved input d) ≡ resolved input t = get_or-map (resolved input) ts k d (resolved input d) lt in
-    let at = subst (IsDone input) is (done k (resolved input d) (omega (arith, lt, length-map ts (resolved input)))) in
+    let at = subst (IsWhollyRedone input) is (done k (resolved input d) (omega (arith, lt, length-map ts (resolved input)))) in
     omega (arith, count, slice_get_within input.images t.number at.image at.there)
 
 -- AT THE END
@@ -111,7 +111,7 @@ map_of h (image ∷ images) (x ∷ xs) e at = ap₂ (λ y ys. y ∷ ys) (same_So
 module _ (input : InputContent) (tallies : List Tally) (all : AreAllTallied input tallies) where
   -- a page that is finished by its tally is redone
   pages_are : (pages : List Page) → length pages ≡ length input.images
-      → ((number : ℕ) (t : Tally) (image : Page) → number < length input.images → get_or pages number image ≡ finished (history input.log) (get_or tallies number t) (get_or input.images number image))
+      → ((number : ℕ) (t : Tally) (image : Page) → number < length input.images → get_or pages number image ≡ finished_page (history input.log) (get_or tallies number t) (get_or input.images number image))
       → pages ≡ map (λ image. (redo_page_in input (history input.log) image).page) input.images
   pages_are pages same each = map_of (λ image. (redo_page_in input (history input.log) image).page) input.images pages same
       (λ k image e.
@@ -120,7 +120,7 @@ module _ (input : InputContent) (tallies : List Tally) (all : AreAllTallied inpu
       let own : image_at input.images is.tally.number ≡ is.image = ap (image_at input.images) is.own ∙ get_or_from_slice_get input.images k is.image _ is.there in
       slice_get-get_or pages k image (omega (arith, lt, same))
       ∙ ap Some (each k is.tally image lt
-      ∙ ap₂ (finished (history input.log)) (get_or_from_slice_get tallies k is.tally is.tally is.at) (get_or_from_slice_get input.images k is.image image is.there ∙ sym own)
+      ∙ ap₂ (finished_page (history input.log)) (get_or_from_slice_get tallies k is.tally is.tally is.at) (get_or_from_slice_get input.images k is.image image is.there ∙ sym own)
       ∙ ap (λ p. p.page) is.redone
       ∙ ap (λ i. (redo_page_in input (history input.log) i).page) (get_same input.images k is.image image is.there e)))
 
@@ -136,7 +136,7 @@ module _ (input : InputContent) (tallies : List Tally) (all : AreAllTallied inpu
 
   -- all pages are redone after they were borrowed and written back
   pub pages_back : (n : ℕ) (items lent pages : List Page) (told : List Tally) → items ≡ input.images → length items ≡ n → lent ≡ items → told ≡ tallies → length pages ≡ length lent
-      → ((number : ℕ) (t : Tally) (image : Page) → number < length lent → get_or pages number image ≡ finished (history input.log) (get_or told number t) (get_or lent number image))
+      → ((number : ℕ) (t : Tally) (image : Page) → number < length lent → get_or pages number image ≡ finished_page (history input.log) (get_or told number t) (get_or lent number image))
       → take n (pages ++ drop (length pages) items) ≡ map (λ image. (redo_page_in input (history input.log) image).page) input.images
   pages_back n items lent pages told stored size written is count each =
       let same : lent ≡ input.images = written ∙ stored in
@@ -144,7 +144,7 @@ module _ (input : InputContent) (tallies : List Tally) (all : AreAllTallied inpu
       ∙ pages_are pages (count ∙ ap (λ (xs : List Page). length xs) same)
       (λ number t image less.
       each number t image (omega (arith, less, ap (λ (xs : List Page). length xs) same))
-      ∙ (ap (λ (ts : List Tally). finished (history input.log) (get_or ts number t) (get_or lent number image)) is ∙ ap (λ (xs : List Page). finished (history input.log) (get_or tallies number t) (get_or xs number image)) same))
+      ∙ (ap (λ (ts : List Tally). finished_page (history input.log) (get_or ts number t) (get_or lent number image)) is ∙ ap (λ (xs : List Page). finished_page (history input.log) (get_or tallies number t) (get_or xs number image)) same))
 
   -- the sum of their counts
   pub total_is : (told : List Tally) → told ≡ tallies → sum_by (λ t. t.applied) told ≡ sum (map (λ image. (redo_page_in input (history input.log) image).applied) input.images)

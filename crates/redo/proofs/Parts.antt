@@ -12,7 +12,7 @@ use Rattle.wal.specs.Records.{LogRecord, History, history, record_at, last_lsn, 
 use Rattle.wal.proofs.Histories.{first_all}
 use Rattle.redo.specs.Changes.{RedoPage, advance_by, step}
 use Rattle.redo.specs.Parted.{PartedContent}
-use Rattle.redo.specs.Parts.{redo_page_in, image_at, numbers_of, IsUpTo, IsDone, HasPart}
+use Rattle.redo.specs.Parts.{redo_page_in, image_at, numbers_of, IsUpTo, IsWhollyRedone, HasPart}
 use Rattle.redo.proofs.Advance.{advance_number, advance_count}
 use Rattle.redo.proofs.Replay.{image_number, member_image}
 
@@ -60,7 +60,7 @@ fold_next log redo_lsn lsns i lsn old ps new lt at before is =
 
 -- AT THE END
 module _ (parted : PartedContent) (part : ℕ) (numbered : AreNumbered parted.input.images) (dealt : length parted.parting.part_of ≡ length parted.input.images) (fits : last_lsn (history parted.input.log) < 2 ^ 64) where
-  pub all_done : (ps : List RedoPage) → IsUpTo parted part (last_lsn (history parted.input.log)) ps → All (IsDone parted.input) ps
+  pub all_done : (ps : List RedoPage) → IsUpTo parted part (last_lsn (history parted.input.log)) ps → All (IsWhollyRedone parted.input) ps
   all_done ps up k d lt =
       let at : ℕ → RedoPage = λ number. redo_page_in parted.input (first (last_lsn (history parted.input.log)) (history parted.input.log)) (image_at parted.input.images number) in
       let below : k < length up.members = omega (arith, lt, ap length up.redone, length-map up.members at) in

@@ -18,7 +18,7 @@ use Rattle.tables.specs.Pieces.{IsPieceOf}
 use Rattle.redo.specs.Redone.{ExistBelow, AllExist, IsFirstMissing}
 use Rattle.redo.specs.Parts.{redo_page_in, image_at, resolved}
 use Rattle.redo.specs.OnePass.{AreUpTo}
-use Rattle.redo.specs.Passing.{TalliesSoFar, StandAtNumbers, LastsAreWithin, AreKept, ListEach, AreBegunIn, IsPieceFor}
+use Rattle.redo.specs.Passing.{TalliesSoFar, StandAtNumbers, LastsAreWithin, AreScanned, ListEach, AreBegunIn, IsPieceFor}
 use Rattle.redo.proofs.Stretches.{skipped_within, skipped_from, skipped_of_piece}
 use Rattle.redo.proofs.Replay.{skips_none}
 use Rattle.redo.proofs.Noting.{exist_on}
@@ -106,7 +106,7 @@ module _ (images : List Page) (tables : TablesContent) (tallies : List Tally) (a
     each = λ k t lt. (are.each k t lt).begun log ∙ ap (λ h. redo_page_in (input_over log images tables) h (image_at images k)) (ap start at ∙ sym (first_at_base (history log) base (sym at)));
   }
 
-  pub begun_kept : (base : ℕ) → AreNumbered images → AreKept base tallies
+  pub begun_kept : (base : ℕ) → AreNumbered images → AreScanned base tallies
   begun_kept base numbered =
       let log : LogContent = record { begins = Version2 base; records = [] } in
       let up = begun_up base log refl in
@@ -123,7 +123,7 @@ skipped_at old piece = skipped (base_lsn (history piece)) old.redo_lsn (last_lsn
 
 -- what is known when the records of a piece up to an LSN are counted
 pub record HasPassed (old : TalliesSoFar) (piece : LogContent) (lsn : ℕ) (tallies : List Tally) : Type 0 where
-  pub kept : AreKept lsn tallies
+  pub kept : AreScanned lsn tallies
   pub count : length tallies ≡ length old.tallies
   pub goes_on : (input : InputContent) → IsPieceFor input old.redo_lsn piece → AreUpTo input (base_lsn (history piece)) old.tallies → AreUpTo input lsn tallies
   pub exist : ExistWithin piece (length old.tallies) (skipped_at old piece) lsn
@@ -152,14 +152,14 @@ over input old piece own up =
           })
     ]
 
-pub kept_on : (upto lsn : ℕ) (tallies : List Tally) → upto ≤ lsn → AreKept upto tallies → AreKept lsn tallies
+pub kept_on : (upto lsn : ℕ) (tallies : List Tally) → upto ≤ lsn → AreScanned upto tallies → AreScanned lsn tallies
 kept_on upto lsn tallies le kept = record {
   numbered = kept.numbered;
   few = λ k t lt. omega (arith, kept.few k t lt, le);
   lasts = λ k slot t lt. omega (arith, kept.lasts k slot t lt, le);
 }
 
-pub passed_over : (old : TalliesSoFar) (piece : LogContent) → AreKept old.upto old.tallies → old.upto ≤ base_lsn (history piece)
+pub passed_over : (old : TalliesSoFar) (piece : LogContent) → AreScanned old.upto old.tallies → old.upto ≤ base_lsn (history piece)
     → HasPassed old piece (skipped_at old piece) old.tallies
 passed_over old piece kept upto = record {
   kept = kept_on old.upto (skipped_at old piece) old.tallies (omega (arith, upto, skipped_from (base_lsn (history piece)) old.redo_lsn (last_lsn (history piece)) (base_within (history piece)))) kept;
@@ -170,7 +170,7 @@ passed_over old piece kept upto = record {
 
 -- one more record
 pub passed_more : (old : TalliesSoFar) (piece : LogContent) (lsn : ℕ) (r : LogRecord) (lent new : List Tally) → base_lsn (history piece) ≤ lsn → lsn < last_lsn (history piece) → record_at (history piece) (lsn + 1) ≡ Some r
-    → AreKept (lsn + 1) new → length new ≡ length lent → NamesBelow (length lent) r
+    → AreScanned (lsn + 1) new → length new ≡ length lent → NamesBelow (length lent) r
     → ((input : InputContent) (k : ℕ) (t : Tally) → input.redo_lsn ≡ old.redo_lsn → record_at (history input.log) (lsn + 1) ≡ Some r → k < length lent
     → resolved input (get_or new k t) ≡ advance input.redo_lsn (lsn + 1) r (resolved input (get_or lent k t)))
     → HasPassed old piece lsn lent → HasPassed old piece (lsn + 1) new

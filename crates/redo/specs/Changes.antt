@@ -102,5 +102,5 @@ slots_after log [] (x ∷ xs) = []
 slots_after log (l ∷ ls) (x ∷ xs) = held_after log l x ∷ slots_after log ls xs
 
 -- the page that a tally describes, by its image in the store
-abbrev pub finished : History → Tally → Page → Page
-finished log t image = record { number = t.number; lsn = t.lsn; slots = slots_after log t.lasts image.slots }
+abbrev pub finished_page : History → Tally → Page → Page
+finished_page log t image = record { number = t.number; lsn = t.lsn; slots = slots_after log t.lasts image.slots }

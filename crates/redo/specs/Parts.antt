@@ -9,7 +9,7 @@ use Rattle.redo.specs.declared.tally.Tally.{Tally}
 use Rattle.redo.specs.declared.crew.Worker.{Worker}
 use Rattle.redo.specs.declared.crew.Share.{Share}
 use Rattle.redo.specs.Parting.{PartingContent, AreMembers}
-use Rattle.redo.specs.Changes.{RedoPage, redo_page_at, finished}
+use Rattle.redo.specs.Changes.{RedoPage, redo_page_at, finished_page}
 use Rattle.redo.specs.Inputs.{InputContent}
 use Rattle.redo.specs.Parted.{PartedContent}
 use Rattle.page.specs.declared.sizes.TheConstants.{SLOTS}
@@ -35,16 +35,16 @@ pub record IsUpTo (parted : PartedContent) (part lsn : ℕ) (ps : List RedoPage)
 
 -- the page that a tally describes: its image in the store, with the values of the records that are the last in their slots
 abbrev pub resolved : InputContent → Tally → RedoPage
-resolved input t = record { page = finished (history input.log) t (image_at input.images t.number); rec_lsn = t.rec_lsn; applied = t.applied }
+resolved input t = record { page = finished_page (history input.log) t (image_at input.images t.number); rec_lsn = t.rec_lsn; applied = t.applied }
 
 -- a page that is redone as a whole
-pub record IsDone (input : InputContent) (p : RedoPage) : Type 0 where
+pub record IsWhollyRedone (input : InputContent) (p : RedoPage) : Type 0 where
   pub image : Page
   pub there : slice_get input.images p.page.number ≡ Some image
   pub redone : p ≡ redo_page_in input (history input.log) image
 
 -- the page of a number is among these
-pub record HasPage (ps : List RedoPage) (page : ℕ) : Type 0 where
+pub record HasRedoPage (ps : List RedoPage) (page : ℕ) : Type 0 where
   pub place : ℕ
   pub redo_page : RedoPage
   pub there : slice_get ps place ≡ Some redo_page
@@ -52,7 +52,7 @@ pub record HasPage (ps : List RedoPage) (page : ℕ) : Type 0 where
 
 -- all pages of a part are among these
 abbrev pub HasPart : PartingContent → (part : ℕ) → List RedoPage → Type 0
-HasPart parting part ps = (page : ℕ) → slice_get parting.part_of page ≡ Some part → HasPage ps page
+HasPart parting part ps = (page : ℕ) → slice_get parting.part_of page ≡ Some part → HasRedoPage ps page
 
 -- the tally of a page is at the number of the page, and describes the page redone
 pub record IsTallied (input : InputContent) (tallies : List Tally) (number : ℕ) : Type 0 where
@@ -84,6 +84,6 @@ pub record IsReady (board : BoardId) (worker : Worker) : Type 0 where
 pub record IsBack (parted : PartedContent) (board : BoardId) (share : Share) : Type 0 where
   pub at_board : share.seat.board ≡ board
   pub one_place : share.seat.places ≡ 1
-  pub done : All (IsDone parted.input) (map (resolved parted.input) share.tallies.items)
+  pub done : All (IsWhollyRedone parted.input) (map (resolved parted.input) share.tallies.items)
   pub drawn : share.seat.stopped ≡ false → share.seat.told ≡ false → (part : ℕ) → Contains share.seat.drawn part → HasPart parted.parting part (map (resolved parted.input) share.tallies.items)
   pub ended : share.seat.stopped ≡ false → share.seat.told ≡ false → AllEnded board.ranges share.seat.ended

@@ -32,7 +32,7 @@ abbrev pub LastsAreWithin : (lsn : ℕ) → List Tally → Type 0
 LastsAreWithin lsn tallies = (k slot : ℕ) (t : Tally) → k < length tallies → slice_index_or (slice_index_or tallies k t).lasts slot 0 ≤ lsn
 
 -- what holds for the tallies of each scan, if the log was read up to an LSN
-pub record AreKept (upto : ℕ) (tallies : List Tally) : Type 0 where
+pub record AreScanned (upto : ℕ) (tallies : List Tally) : Type 0 where
   pub numbered : StandAtNumbers tallies
   pub few : All (λ (t : Tally). t.applied ≤ upto) tallies
   pub lasts : LastsAreWithin upto tallies
@@ -59,9 +59,9 @@ pub record IsPieceFor (input : InputContent) (redo_lsn : ℕ) (piece : LogConten
   pub piece_of : IsPieceOf (history input.log) (history piece)
 
 -- the error of a piece: the record at this LSN is the first one on a page past the count, of those in the piece that redo looks at
-abbrev pub PassFault : LogContent → (count redo_lsn : ℕ) → Fault → Type 0
-PassFault piece count redo_lsn (NoSuchPage lsn) = IsFirstMissing piece count redo_lsn lsn
-PassFault piece count redo_lsn e = ⊥
+abbrev pub PieceFault : LogContent → (count redo_lsn : ℕ) → Fault → Type 0
+PieceFault piece count redo_lsn (NoSuchPage lsn) = IsFirstMissing piece count redo_lsn lsn
+PieceFault piece count redo_lsn e = ⊥
 
 -- the record at an LSN of the log that redo looks at, from redo_lsn on, as it is seen at a glance, with pages that are at their numbers
 pub record IsRecordFor (input : InputContent) (redo_lsn lsn : ℕ) (glance : Glance) : Type 0 where

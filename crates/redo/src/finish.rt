@@ -4,7 +4,7 @@ ghost use Rattle.std.specs.Prelude.{◌≡◌, ℕ, None, ◌<◌, ◌^◌, leng
 ghost use Rattle.std.specs.List.{sum_by};
 ghost use Rattle.page.specs.declared.page.Page.{Page};
 ghost use Rattle.wal.specs.Records.{history, record_at};
-ghost use Rattle.redo.specs.Changes.{slots_after, finished};
+ghost use Rattle.redo.specs.Changes.{slots_after, finished_page};
 ghost use Rattle.redo.specs.declared.tally.Tally.{Tally};
 ghost use Rattle.page.specs.declared.sizes.TheConstants.{SLOTS};
 
@@ -44,7 +44,7 @@ fn fill(log: &Log, lasts: &[u64; SLOTS], slots: &mut [Option<Value>; SLOTS])
 /// Changes a page's image in the store to the page that a tally describes. For each slot, only the
 /// value of the last record is fetched.
 fn finish_page(log: &Log, tally: &Tally, page: &mut Page)
-    ensures { page.new ≡ finished (history log.now) tally.now page.old }
+    ensures { page.new ≡ finished_page (history log.now) tally.now page.old }
 {
     page.number = tally.number;
     page.lsn = tally.lsn;
@@ -57,7 +57,7 @@ pub fn finish_alone(log: &Log, tallies: &[Tally], pages: &mut [Page])
     requires count { length tallies.now ≡ length pages.old }
     ensures count { length pages.new ≡ length pages.old }
     ensures each { (number : ℕ) (t : Tally) (image : Page) → number < length pages.old
-        → slice_index_or pages.new number image ≡ finished
+        → slice_index_or pages.new number image ≡ finished_page
         (history log.now) (slice_index_or tallies.now number t) (slice_index_or pages.old number image) }
 {
     for number in 0..pages.len() {
@@ -77,12 +77,12 @@ pub fn finish_pages<R: Threads + Sync>(
     requires threads { 0 < threads }
     ensures count { length pages.new ≡ length pages.old }
     ensures each { (number : ℕ) (t : Tally) (image : Page) → number < length pages.old
-        → slice_index_or pages.new number image ≡ finished
+        → slice_index_or pages.new number image ≡ finished_page
         (history log.now) (slice_index_or tallies.now number t) (slice_index_or pages.old number image) }
 {
     let finish = |number: usize, page: &mut Page|
         requires { number < length tallies.now }
-        ensures { (t : Tally) → page.exit.now ≡ finished (history log.entry.now)
+        ensures { (t : Tally) → page.exit.now ≡ finished_page (history log.entry.now)
             (slice_index_or tallies.entry.now number t) page.entry.now }
     { finish_page(log, &tallies[number], page) };
     thread::for_each_mut(rt, pages, threads, &finish);

@@ -4,7 +4,7 @@ ghost use Rattle.std.specs.Prelude.{◌≡◌, ℕ, ◌<◌, ◌⊎◌, false, l
 ghost use Rattle.page.specs.declared.fault.Fault.TheVariants.{NoResource};
 ghost use Rattle.board.specs.Drawn.{AllEnded};
 ghost use Rattle.redo.specs.Inputs.{InputContent};
-ghost use Rattle.redo.specs.Parts.{IsBack, IsDone, HasPage, IsTallied, AreTallied, AreAllTallied, resolved};
+ghost use Rattle.redo.specs.Parts.{IsBack, IsWhollyRedone, HasRedoPage, IsTallied, AreTallied, AreAllTallied, resolved};
 
 use crate::crew::Share;
 use crate::input::PartedInput;
@@ -18,8 +18,8 @@ fn put_tallies(done: &[Tally], tallies: &mut [Tally])
     requires below { All (λ t. t.number < length tallies.old) done.now }
     ensures count { length tallies.new ≡ length tallies.old }
     ensures put { (input : InputContent)
-        → All (IsDone input) (map (resolved input) done.now) → (number : ℕ)
-        → (IsTallied input tallies.old number) ⊎ (HasPage (map (resolved input) done.now) number)
+        → All (IsWhollyRedone input) (map (resolved input) done.now) → (number : ℕ)
+        → (IsTallied input tallies.old number) ⊎ (HasRedoPage (map (resolved input) done.now) number)
         → IsTallied input tallies.new number }
 {
     for tally in done {

@@ -8,7 +8,7 @@ ghost use Rattle.wal.specs.Redo.{rec_lsn_of};
 ghost use Rattle.tables.specs.Tables.{TablesContent};
 ghost use Rattle.redo.specs.Changes.{counted, step, lsn_in};
 ghost use Rattle.redo.specs.Routes.{AreRoutes, Stands};
-ghost use Rattle.redo.specs.Parts.{IsUpTo, IsDone, HasPart, numbers_of, redo_page_in, image_at, resolved};
+ghost use Rattle.redo.specs.Parts.{IsUpTo, IsWhollyRedone, HasPart, numbers_of, redo_page_in, image_at, resolved};
 ghost use Rattle.redo.specs.Passing.{IsBegunIn};
 ghost use Rattle.redo.specs.declared.tally.Tally.{Tally};
 ghost use Rattle.page.specs.declared.sizes.TheConstants.{SLOTS};
@@ -134,7 +134,7 @@ fn count_part(
 ) -> Result<Vec<Tally>, Fault>
     requires part { part < parted.now.parting.parts }
     requires routes { AreRoutes parted.now routes.now }
-    ensures done { IfOk result (λ tallies. All (IsDone parted.now.input)
+    ensures done { IfOk result (λ tallies. All (IsWhollyRedone parted.now.input)
         (map (resolved parted.now.input) tallies.items)) }
     ensures all { IfOk result (λ tallies. HasPart parted.now.parting part
         (map (resolved parted.now.input) tallies.items)) }
@@ -159,8 +159,8 @@ pub(crate) fn redo_part(
 ) -> Result<(), Fault>
     requires part { entered.part < parted.now.parting.parts }
     requires routes { AreRoutes parted.now routes.now }
-    requires done { All (IsDone parted.now.input) (map (resolved parted.now.input) tallies.old.items) }
-    ensures done { All (IsDone parted.now.input) (map (resolved parted.now.input) tallies.new.items) }
+    requires done { All (IsWhollyRedone parted.now.input) (map (resolved parted.now.input) tallies.old.items) }
+    ensures done { All (IsWhollyRedone parted.now.input) (map (resolved parted.now.input) tallies.new.items) }
     ensures kept { OnOk result ((other : ℕ)
         → HasPart parted.now.parting other (map (resolved parted.now.input) tallies.old.items)
         → HasPart parted.now.parting other (map (resolved parted.now.input) tallies.new.items)) }

@@ -11,11 +11,11 @@ ghost use Rattle.redo.specs.Inputs.{InputContent, input_over};
 ghost use Rattle.redo.specs.OnePass.{AreUpTo};
 ghost use Rattle.redo.specs.Redone.{AllExist};
 ghost use Rattle.redo.specs.Routes.{IsSeen};
-ghost use Rattle.redo.specs.Passing.{ListEach, IsPieceFor, IsRecordFor, PassFault};
+ghost use Rattle.redo.specs.Passing.{ListEach, IsPieceFor, IsRecordFor, PieceFault};
 ghost use Rattle.redo.specs.Wanted.{IsWanted, HoldAllBut};
 ghost use Rattle.redo.specs.declared.tally.Tally.{Tally};
 ghost use Rattle.redo.specs.declared.wanted.Wanted.{Wanted};
-ghost use Rattle.redo.specs.Changes.{NamesBelow, finished};
+ghost use Rattle.redo.specs.Changes.{NamesBelow, finished_page};
 ghost use Rattle.page.specs.declared.sizes.TheConstants.{SLOTS};
 ghost use Rattle.page.specs.declared.page.Page.{Page};
 
@@ -44,13 +44,13 @@ pub struct TallyScan {
 }
 
 impl Model for TallyScan {
-    ghost use Rattle.redo.specs.Passing.{TalliesSoFar, AreKept};
+    ghost use Rattle.redo.specs.Passing.{TalliesSoFar, AreScanned};
 
     ghost Value = { TalliesSoFar };
 
     ghost view = { λ s. record { tallies = s.tallies.items; redo_lsn = s.redo_lsn; upto = s.upto } };
 
-    ghost invariant = { λ s. AreKept s.upto s.tallies.items };
+    ghost invariant = { λ s. AreScanned s.upto s.tallies.items };
 }
 
 impl TallyScan {
@@ -123,7 +123,7 @@ impl TallyScan {
         ensures exist { OnOk result
             (AllExist piece.now (length self.old.tallies) self.old.redo_lsn) }
         ensures fault { IfErr result
-            (PassFault piece.now (length self.old.tallies) self.old.redo_lsn) }
+            (PieceFault piece.now (length self.old.tallies) self.old.redo_lsn) }
 
         ensures count { length self.new.tallies ≡ length self.old.tallies }
         ensures redo_lsn { self.new.redo_lsn ≡ self.old.redo_lsn }
@@ -231,7 +231,7 @@ impl TallyScan {
             → HoldAllBut whole self.tallies rest images pages.old
             → All (λ w. self.upto < w.lsn) rest
             → (number : ℕ) (t : Tally) (image : Page) → number < length pages.old
-            → slice_index_or pages.new number image ≡ finished whole
+            → slice_index_or pages.new number image ≡ finished_page whole
             (slice_index_or self.tallies number t) (slice_index_or images number image) }
     {
         let TallyScan {

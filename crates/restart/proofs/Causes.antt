@@ -10,7 +10,7 @@ use Rattle.analysis.proofs.Halves.{both_halves}
 use Rattle.redo.specs.Parting.{PartingContent}
 use Rattle.redo.specs.Redone.{AreWorkers, AllExist, RedoFault}
 use Rattle.undo.specs.Undone.{UndoFault}
-use Rattle.restart.specs.Restart.{AreSettings, SettingsFault, NoneAhead, PagesFault, InputFault}
+use Rattle.restart.specs.Restart.{AreSettings, SettingsFault, NoneAhead, ForwardFault, InputFault}
 
 -- settings that are valid have no error
 pub settings_hold : (pages : ℕ) (parting : PartingContent) (workers : ℕ) (e : Fault) → AreSettings pages parting workers → SettingsFault pages parting workers e → ⊥
@@ -38,7 +38,7 @@ module _ (read : LogContent) (before : StoreContent) (none_ahead : NoneAhead rea
     undo_fault e exist h = absurd h
 
   -- if the transactions are known, an error of redo by only the dirty pages is an error of redo by the tables
-  pub pages_fault : (transactions : List TableEntry) → AreTransactionsOf read before.master transactions → (workers : ℕ) (e : Fault) → AreWorkers workers → PagesFault read before workers e → InputFault read before e
+  pub pages_fault : (transactions : List TableEntry) → AreTransactionsOf read before.master transactions → (workers : ℕ) (e : Fault) → AreWorkers workers → ForwardFault read before workers e → InputFault read before e
   pages_fault transactions some workers e fit (inl h) = base_fault e h
   pages_fault transactions some workers e fit (inr (pages, other, h)) =
       redo_fault (tables_with transactions pages) (both_halves read before.master transactions pages some other) workers e fit h

@@ -33,7 +33,7 @@ use Rattle.redo.specs.Redone.{redone_page, IsFirstMissing, AreWorkers, RedoFault
 use Rattle.restart.specs.Outcome.{OutcomeContent}
 use Rattle.undo.specs.Undone.{undone_page}
 use Rattle.undo.proofs.UndonePages.{no_effects, no_last}
-use Rattle.restart.specs.Restart.{IsFirstAhead, AheadFault, PagesFault, clrs_in, ends_in, IsRedone, RollsBack, IsSettled, Restores}
+use Rattle.restart.specs.Restart.{IsFirstAhead, AheadFault, ForwardFault, clrs_in, ends_in, IsRedone, RollsBack, IsSettled, Restores}
 
 some_none : {X : Type 0} {x : X} → Some x ≡ None → ⊥
 some_none e = cc
@@ -174,7 +174,7 @@ module _ (base : BasePages) (read : LogContent) (before : StoreContent) (lawful 
   redo_alone redo_lsn workers (NoSuchPage lsn) fit cause = absurd (none_missing redo_lsn lsn cause.1)
   redo_alone redo_lsn workers e fit cause = absurd cause
 
-  pub pages_alone : (workers : ℕ) (e : Fault) → AreWorkers workers → PagesFault read before workers e → e ≡ NoResource
+  pub pages_alone : (workers : ℕ) (e : Fault) → AreWorkers workers → ForwardFault read before workers e → e ≡ NoResource
   pages_alone workers e fit (inl cause) = base_alone e cause
   pages_alone workers e fit (inr (pages, are, cause)) = redo_alone pages.redo_lsn workers e fit cause
 

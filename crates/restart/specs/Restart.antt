@@ -88,8 +88,8 @@ pub record ArePagesRedone (log : LogContent) (before : StoreContent) (pages : Ta
   pub applied : redone.applied ≡ sum (map (applied_to log pages) before.pages)
 
 -- the error if it has made nothing, memory aside
-abbrev pub PagesFault : LogContent → StoreContent → (workers : ℕ) → Fault → Type 0
-PagesFault log before workers e =
+abbrev pub ForwardFault : LogContent → StoreContent → (workers : ℕ) → Fault → Type 0
+ForwardFault log before workers e =
     BaseFault before.master (history log) e
     ⊎ ((pages : TablesContent) × AreDirtyPagesOf log before.master pages.dirty pages.redo_lsn × RedoFault log (length before.pages) pages.redo_lsn workers e)
 

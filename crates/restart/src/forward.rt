@@ -12,7 +12,7 @@ ghost use Rattle.wal.specs.Store.{Lawful};
 ghost use Rattle.wal.specs.Undo.{entry_for};
 ghost use Rattle.tables.specs.Lawful.{AreTrue};
 ghost use Rattle.analysis.specs.Tables.{AreTransactionsOf, BaseFault, entry_at};
-ghost use Rattle.restart.specs.Restart.{AreSettings, NoneAhead, IsRedone, ArePagesRedone, PagesFault, InputFault};
+ghost use Rattle.restart.specs.Restart.{AreSettings, NoneAhead, IsRedone, ArePagesRedone, ForwardFault, InputFault};
 
 use analysis::{analyse_pages, analyse_transactions, join_tables};
 use page::{Fault, Store};
@@ -63,7 +63,7 @@ fn side_by_side<G: Gate, R: Threads + Sync>(
     ensures no_transaction_0 { IfOk result.0 (λ found. entry_at 0 found.entries ≡ None) }
     ensures no_base { IfErr result.0 (BaseFault store.master (history log.now)) }
     ensures redone { IfOk result.1 (λ x. ArePagesRedone log.now store x.0 x.1) }
-    ensures fault { IfErr result.1 (PagesFault log.now store workers) }
+    ensures fault { IfErr result.1 (ForwardFault log.now store workers) }
 {
     let master = store.master;
     let mut find = || -> Result<BTreeMap<u32, Entry>, Fault>
@@ -81,7 +81,7 @@ fn side_by_side<G: Gate, R: Threads + Sync>(
         ensures redone { (before : StoreContent) → given.entry ≡ Some before
             → IfOk result (λ x. ArePagesRedone log.entry.now before x.0 x.1) }
         ensures fault { (before : StoreContent) → given.entry ≡ Some before
-            → IfErr result (PagesFault log.entry.now before workers) }
+            → IfErr result (ForwardFault log.entry.now before workers) }
     {
         match given.take() {
             Some(store) => {

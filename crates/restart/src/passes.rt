@@ -9,7 +9,7 @@ ghost use Rattle.wal.specs.Meaning.{BasePages};
 ghost use Rattle.wal.specs.Store.{Lawful};
 ghost use Rattle.tables.specs.Lawful.{AreTrue};
 ghost use Rattle.tables.specs.Tables.{losers_in};
-ghost use Rattle.undo.specs.Appended.{records_of, HaveUpdates, AreFit};
+ghost use Rattle.undo.specs.Appended.{appended_records, HaveUpdates, AreFit};
 ghost use Rattle.undo.specs.Enough.{AreGathered};
 ghost use Rattle.undo.specs.Undone.{HasNoTransaction0, AreWritable};
 ghost use Rattle.restart.specs.Outcome.{outcome_of, outcome_in};
@@ -61,9 +61,9 @@ pub fn check_lsns(last: u64, pages: &[Page]) -> Result<(), Fault>
 /// How many CLRs there are among records, and how many ends.
 fn count_kinds(appended: &[Appended]) -> (u64, u64)
     ensures clrs { (log : LogContent) → HaveUpdates log appended.now
-        → result.0 ≡ clrs_in (records_of (history log) appended.now) }
+        → result.0 ≡ clrs_in (appended_records (history log) appended.now) }
     ensures ends { (log : LogContent) → HaveUpdates log appended.now
-        → result.1 ≡ ends_in (records_of (history log) appended.now) }
+        → result.1 ≡ ends_in (appended_records (history log) appended.now) }
 {
     let mut clrs = 0;
     let mut ends = 0;
@@ -114,8 +114,8 @@ pub fn roll_back(
     // What is appended is the same by what was gathered and by the whole log.
     ensures alike { IfOk result (λ x. (whole : LogContent)
         → AreGathered (history whole) (history log.now) (losers_in tables.now)
-        → records_of (history log.now) x.appended.items
-        ≡ records_of (history whole) x.appended.items) }
+        → appended_records (history log.now) x.appended.items
+        ≡ appended_records (history whole) x.appended.items) }
 
     // Each update that is named is in the log; each appended record has an encoding, and they are
     // so few that there are LSNs for them after the log.

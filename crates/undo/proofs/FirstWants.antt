@@ -13,11 +13,11 @@ use Rattle.undo.specs.declared.want.Want.{Want}
 use Rattle.undo.specs.Rollback.{hop_of}
 use Rattle.undo.specs.Gathered.{IsPassedOver}
 use Rattle.undo.specs.Enough.{IsFound, sends}
-use Rattle.undo.specs.Gathering.{IsWanted, MayWant, AreGatheredSoFar}
+use Rattle.undo.specs.Gathering.{ContinuesAt, MayWant, AreGatheredSoFar}
 
 -- it continues, or the log, which ends at this LSN, has nothing there
 abbrev pub Waits : (last : ℕ) → List Want → TableEntry → Type 0
-Waits last wants e = IsWanted wants e.tx e.undo_next ⊎ ((e.undo_next ≡ 0) ⊎ (last < e.undo_next))
+Waits last wants e = ContinuesAt wants e.tx e.undo_next ⊎ ((e.undo_next ≡ 0) ⊎ (last < e.undo_next))
 
 -- a transaction that continued still does
 still_waits : (last t from lsn : ℕ) (old new : List Want) (e : TableEntry) → MayWant t from lsn old new → Waits last old e → Waits last new e
@@ -69,7 +69,7 @@ begun whole some losers wants base last none waits = record {
   go_on = λ t lsn next e own sent lt. absurd (let f : None ≡ Some next = sym (sends_none t (record_at some lsn) (none lsn)) ∙ sent in cc);
 }
   where
-    begins : (t : ℕ) (e : TableEntry) → e.tx ≡ t → Waits (last_lsn whole) wants e → IsFound whole some t e.undo_next ⊎ IsWanted wants t e.undo_next
-    begins t e is (inl wanted) = inr (subst (λ x. IsWanted wants x e.undo_next) is wanted)
+    begins : (t : ℕ) (e : TableEntry) → e.tx ≡ t → Waits (last_lsn whole) wants e → IsFound whole some t e.undo_next ⊎ ContinuesAt wants t e.undo_next
+    begins t e is (inl wanted) = inr (subst (λ x. ContinuesAt wants x e.undo_next) is wanted)
     begins t e is (inr (inl is_0)) = inl (inr (ap (hop_of t) (record_none whole e.undo_next (inl (omega (arith, is_0))))))
     begins t e is (inr (inr past)) = inl (inr (ap (hop_of t) (record_none whole e.undo_next (inr past))))

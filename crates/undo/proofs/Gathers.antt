@@ -12,23 +12,23 @@ use Rattle.undo.specs.declared.walk.Hop.TheVariants as hop
 use Rattle.undo.specs.Rollback.{hop_of}
 use Rattle.undo.specs.Gathered.{link_in, IsPassedOver}
 use Rattle.undo.specs.Enough.{AreGathered, IsFound, sends}
-use Rattle.undo.specs.Wants.{AreUpTo}
-use Rattle.undo.specs.Gathering.{IsWanted, MayWant, AreGatheredSoFar}
+use Rattle.undo.specs.Wants.{WantUpTo}
+use Rattle.undo.specs.Gathering.{ContinuesAt, MayWant, AreGatheredSoFar}
 
 -- one of some wants is the first or another
-wanted_cases : (want : Want) (wants : List Want) (t lsn : ℕ) → IsWanted (want ∷ wants) t lsn → ((want.tx ≡ t) × (want.lsn ≡ lsn)) ⊎ IsWanted wants t lsn
+wanted_cases : (want : Want) (wants : List Want) (t lsn : ℕ) → ContinuesAt (want ∷ wants) t lsn → ((want.tx ≡ t) × (want.lsn ≡ lsn)) ⊎ ContinuesAt wants t lsn
 wanted_cases want wants t lsn (zero, lt, is) = inl (ap (λ (w : Want). w.tx) is, ap (λ (w : Want). w.lsn) is)
 wanted_cases want wants t lsn (suc k, lt, is) = inr (k, omega (arith, lt), is)
 
 -- all still continue at most at an LSN, if one more continues below it, and if one is taken
-pub up_to_put : (n : ℕ) (want : Want) (old new : List Want) → IsPermutation (want ∷ old) new → want.lsn ≤ n → AreUpTo n old → AreUpTo n new
+pub up_to_put : (n : ℕ) (want : Want) (old new : List Want) → IsPermutation (want ∷ old) new → want.lsn ≤ n → WantUpTo n old → WantUpTo n new
 up_to_put n want old new moved le up =
     All-permutation (λ w. w.lsn ≤ n) (want ∷ old) new moved (All-cons (λ w. w.lsn ≤ n) want old le up)
 
-pub up_to_first : (n : ℕ) (want : Want) (old new : List Want) → IsPermutation old (want ∷ new) → AreUpTo n old → want.lsn ≤ n
+pub up_to_first : (n : ℕ) (want : Want) (old new : List Want) → IsPermutation old (want ∷ new) → WantUpTo n old → want.lsn ≤ n
 up_to_first n want old new moved up = All-permutation (λ w. w.lsn ≤ n) old (want ∷ new) moved up 0 want (omega arith)
 
-pub up_to_rest : (n : ℕ) (want : Want) (old new : List Want) → IsPermutation old (want ∷ new) → AreUpTo n old → AreUpTo n new
+pub up_to_rest : (n : ℕ) (want : Want) (old new : List Want) → IsPermutation old (want ∷ new) → WantUpTo n old → WantUpTo n new
 up_to_rest n want old new moved up = λ k d lt. All-permutation (λ w. w.lsn ≤ n) old (want ∷ new) moved up (suc k) d (omega (arith, lt))
 
 -- in another order
@@ -41,7 +41,7 @@ reordered whole some losers old new moved far = record {
   go_on = λ t lsn next e own sent lt. same t next (far.go_on t lsn next e own sent lt);
 }
   where
-    same : (t lsn : ℕ) → IsFound whole some t lsn ⊎ IsWanted old t lsn → IsFound whole some t lsn ⊎ IsWanted new t lsn
+    same : (t lsn : ℕ) → IsFound whole some t lsn ⊎ ContinuesAt old t lsn → IsFound whole some t lsn ⊎ ContinuesAt new t lsn
     same t lsn (inl found) = inl found
     same t lsn (inr wanted) = inr (Contains-permutation old new (record { lsn = lsn; tx = t }) moved wanted)
 
@@ -95,7 +95,7 @@ module _ (whole some : History) (losers : List TableEntry) (want : Want) (wants 
     go_on = λ t lsn next e own sent lt. still t next (far.go_on t lsn next e own sent lt);
   }
     where
-      still : (t lsn : ℕ) → IsFound whole some t lsn ⊎ IsWanted (want ∷ wants) t lsn → IsFound whole some t lsn ⊎ IsWanted wants t lsn
+      still : (t lsn : ℕ) → IsFound whole some t lsn ⊎ ContinuesAt (want ∷ wants) t lsn → IsFound whole some t lsn ⊎ ContinuesAt wants t lsn
       still t lsn (inl found) = inl found
       still t lsn (inr wanted) =
           elim (wanted_cases want wants t lsn wanted) [
@@ -121,14 +121,14 @@ module _ (whole some : History) (losers : List TableEntry) (want : Want) (wants 
           | inr d ↦ inl (elsewhere lsn d ∙ same)
         ]
 
-    still_wanted : (t lsn : ℕ) → IsWanted wants t lsn → IsWanted more t lsn
+    still_wanted : (t lsn : ℕ) → ContinuesAt wants t lsn → ContinuesAt more t lsn
     still_wanted t lsn h =
         elim goes_on [
-          | inl none ↦ subst (λ (ws : List Want). IsWanted ws t lsn) (sym none.0) h
+          | inl none ↦ subst (λ (ws : List Want). ContinuesAt ws t lsn) (sym none.0) h
           | inr moved ↦ Contains-permutation (record { lsn = next; tx = want.tx } ∷ wants) more (record { lsn = lsn; tx = t }) moved (suc h.0, omega (arith, h.1), h.2)
         ]
 
-    goes : (t lsn : ℕ) → IsFound whole some t lsn ⊎ IsWanted (want ∷ wants) t lsn → IsFound whole new t lsn ⊎ IsWanted more t lsn
+    goes : (t lsn : ℕ) → IsFound whole some t lsn ⊎ ContinuesAt (want ∷ wants) t lsn → IsFound whole new t lsn ⊎ ContinuesAt more t lsn
     goes t lsn (inl found) = inl (still_found t lsn found)
     goes t lsn (inr wanted) =
         elim (wanted_cases want wants t lsn wanted) [
@@ -137,7 +137,7 @@ module _ (whole some : History) (losers : List TableEntry) (want : Want) (wants 
         ]
 
     -- the transaction continues where its record sends it
-    next_wanted : next < want.lsn → IsFound whole new want.tx next ⊎ IsWanted more want.tx next
+    next_wanted : next < want.lsn → IsFound whole new want.tx next ⊎ ContinuesAt more want.tx next
     next_wanted below =
         elim goes_on [
           | inl kept_out ↦
@@ -166,13 +166,13 @@ module _ (whole some : History) (losers : List TableEntry) (want : Want) (wants 
           elim (cases_eq want.lsn lsn) [
             | inl is ↦
                 (let both = one_owner want.tx t next n r sent (ap (sends t) (sym (subst (λ m. record_at new m ≡ record_at whole m) is here ∙ ap (record_at whole) (sym is) ∙ there)) ∙ sent_to) in
-                subst (λ m. IsFound whole new t m ⊎ IsWanted more t m) both.1 (subst (λ x. IsFound whole new x next ⊎ IsWanted more x next) both.0 (next_wanted (omega (arith, lt, is, both.1)))))
+                subst (λ m. IsFound whole new t m ⊎ ContinuesAt more t m) both.1 (subst (λ x. IsFound whole new x next ⊎ ContinuesAt more x next) both.0 (next_wanted (omega (arith, lt, is, both.1)))))
             | inr d ↦ goes t n (far.go_on t lsn n e own (ap (sends t) (sym (elsewhere lsn d)) ∙ sent_to) lt)
           ];
     }
 
 -- if the walks continue before the log, enough is gathered
-pub all_gathered : (whole some : History) (losers : List TableEntry) (wants : List Want) → AreUpTo (base_lsn whole) wants → AreGatheredSoFar whole some losers wants → AreGathered whole some losers
+pub all_gathered : (whole some : History) (losers : List TableEntry) (wants : List Want) → WantUpTo (base_lsn whole) wants → AreGatheredSoFar whole some losers wants → AreGathered whole some losers
 all_gathered whole some losers wants up far = record {
   base = far.base;
   last = far.last;
@@ -181,6 +181,6 @@ all_gathered whole some losers wants up far = record {
   go_on = λ t lsn next e own sent lt. found t next (far.go_on t lsn next e own sent lt);
 }
   where
-    found : (t lsn : ℕ) → IsFound whole some t lsn ⊎ IsWanted wants t lsn → IsFound whole some t lsn
+    found : (t lsn : ℕ) → IsFound whole some t lsn ⊎ ContinuesAt wants t lsn → IsFound whole some t lsn
     found t lsn (inl h) = h
     found t lsn (inr wanted) = inr (ap (hop_of t) (record_none whole lsn (inl (All-contains (λ w. w.lsn ≤ base_lsn whole) wants (record { lsn = lsn; tx = t }) up wanted))))

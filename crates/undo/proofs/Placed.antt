@@ -7,7 +7,7 @@ use Rattle.wal.specs.Records.{TableEntry, LogRecord, LogContent, Update, History
 use Rattle.undo.specs.declared.losers.Loser.{Loser}
 use Rattle.undo.specs.declared.losers.Rollback.{Rollback}
 use Rattle.undo.specs.Turns.{Waiting, Taken}
-use Rattle.undo.specs.Rollback.{walk_from, IsUpdateAt, loser_at, AreBelow, AreOthers, WaitOnce, Resolved, AreUpdates, RollbackInvariant}
+use Rattle.undo.specs.Rollback.{walk_from, IsUpdateAt, loser_at, WaitBelow, AreOthers, WaitOnce, Resolved, AreUpdates, RollbackInvariant}
 
 -- one above the largest LSN at which a loser waits, 0 if no loser waits
 abbrev pub height : List (ℕ × Loser) → ℕ
@@ -38,7 +38,7 @@ height_above n l (e ∷ entries) f =
 
 -- ONE IS TAKEN
 -- those that are left are below it
-pub left_below : (update_lsn : ℕ) (l : Loser) (old new : Waiting) → Taken update_lsn l old new → AreBelow update_lsn new
+pub left_below : (update_lsn : ℕ) (l : Loser) (old new : Waiting) → Taken update_lsn l old new → WaitBelow update_lsn new
 left_below update_lsn l old new taken n m e =
     let apart : n ≢ update_lsn = λ i. (let f : None ≡ Some m = sym taken.gone ∙ ap new (sym i) ∙ e in cc) in
     omega (arith, apart, taken.newest n m (sym (taken.others n apart) ∙ e))

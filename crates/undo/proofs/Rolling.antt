@@ -17,7 +17,7 @@ use Rattle.wal.proofs.Rollback.{AreStacks, on_top, taken_off}
 use Rattle.undo.specs.declared.losers.Loser.{Loser}
 use Rattle.undo.specs.Undone.{NoBadHop, undone_page, MetExist, EndsBadly, last_met, UndoFault}
 use Rattle.undo.specs.Turns.{Waiting, Taken}
-use Rattle.undo.specs.Rollback.{walk_from, WalkFault, IsUpdateAt, Ends, Stays, Resolved, AreBelow, Waits, IsDone, IsWaiting, undos, IsPassed, RollbackInvariant, CompensationFault}
+use Rattle.undo.specs.Rollback.{walk_from, WalkFault, IsUpdateAt, Ends, Stays, Resolved, WaitBelow, Waits, IsDone, IsWaiting, undos, IsPassed, RollbackInvariant, CompensationFault}
 use Rattle.undo.proofs.Lowest.{lowest_among, lowest_least}
 use Rattle.undo.proofs.Meeting.{walk_falls, walk_found}
 use Rattle.undo.proofs.Placed.{left_below}
@@ -185,7 +185,7 @@ module _ (log : History) (losers : List TableEntry) (count : ℕ) (at rest : Wai
       ∙ p.there
 
   -- what was met is left, or passed now
-  still_met : (new : Waiting) → AreBelow update_lsn new → (t n : ℕ) → is_among n (walk_of log (entry_for t losers)).met ≡ true → (is_among n (left' t) ≡ true) ⊎ IsPassed log count new n
+  still_met : (new : Waiting) → WaitBelow update_lsn new → (t n : ℕ) → is_among n (walk_of log (entry_for t losers)).met ≡ true → (is_among n (left' t) ≡ true) ⊎ IsPassed log count new n
   still_met new low t n h =
       elim (r.met t n h) [
         | inl i ↦
@@ -257,7 +257,7 @@ module _ (log : History) (losers : List TableEntry) (count : ℕ) (at rest : Wai
           (ap (is_among k) (sym (ap r.left own) ∙ top) ∙ or_right (eqb k update_lsn) (is_among k below) (ap (is_among k) (sym loser_left) ∙ i));
     }
 
-    stays_below : AreBelow update_lsn new
+    stays_below : WaitBelow update_lsn new
     stays_below n m e =
         elim (cases_eq n s.update_lsn) [
           | inl i ↦ omega (arith, s.meets.below, i)

@@ -26,7 +26,7 @@ use Rattle.undo.specs.declared.walk.Hop.TheVariants as hop
 use Rattle.undo.specs.Rollback.{hop_of, walk_from, IsUpdateAt}
 use Rattle.undo.specs.Gathered.{IsPassedOver}
 use Rattle.undo.specs.Enough.{AreGathered, IsFound, sends, Suffices, GatheredSuffices}
-use Rattle.undo.specs.Appended.{clr_of, records_of, IsUpdate, HaveUpdates, RolledBackInBrief}
+use Rattle.undo.specs.Appended.{clr_of, appended_records, IsUpdate, HaveUpdates, RolledBackInBrief}
 use Rattle.undo.specs.declared.appended.Appended.TheVariants as brief
 use Rattle.undo.specs.Undone.{IsMet, MetExist, EndsBadly, last_met, lowest, UndoFault}
 use Rattle.tables.specs.Tables.{TablesContent, losers_in}
@@ -318,7 +318,7 @@ module _ (whole some : History) (losers : List TableEntry) (are : AreGathered wh
 
 -- ENOUGH
 module _ (whole some : LogContent) (tables : TablesContent) (are : AreGathered (history whole) (history some) (losers_in tables)) where
-  told : (appended : List Appended) → HaveUpdates some appended → records_of (history some) appended ≡ records_of (history whole) appended
+  told : (appended : List Appended) → HaveUpdates some appended → appended_records (history some) appended ≡ appended_records (history whole) appended
   told appended have =
       map-same-at (record_of (history some)) (record_of (history whole)) appended (brief.End 0 0)
       (λ k lt. sym (one_told (history whole) (history some) (losers_in tables) are (get_or appended k (brief.End 0 0)) (have k (brief.End 0 0) lt)))
@@ -334,7 +334,7 @@ module _ (whole some : LogContent) (tables : TablesContent) (are : AreGathered (
           pages_are =
               back.pages_are
               ∙ ap (λ (f : Page → Page). map f given)
-              (fun_ext (λ image. same_page (history some) (history whole) (records_of (history some) appended) image are.last ∙ ap (λ (rs : List LogRecord). undone_page (history whole) rs image) same));
+              (fun_ext (λ image. same_page (history some) (history whole) (appended_records (history some) appended) image are.last ∙ ap (λ (rs : List LogRecord). undone_page (history whole) rs image) same));
           no_bad_hop = λ t. ap (λ (w : Walk). w.ends) (sym (all t)) ∙ back.no_bad_hop t;
           met_exist = exist_there (history whole) (history some) (losers_in tables) are (length given) 0 back.met_exist;
           exist = subst (λ (rs : List LogRecord). All (NamesPages (length given)) rs) same back.exist;

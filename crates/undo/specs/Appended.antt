@@ -24,8 +24,8 @@ abbrev pub record_of : History → Appended → LogRecord
 record_of log (brief.Compensation update prev) = clr_of prev (record_at log update)
 record_of log (brief.End tx prev) = End (record { tx = tx; prev = prev })
 
-abbrev pub records_of : History → List Appended → List LogRecord
-records_of log appended = map (record_of log) appended
+abbrev pub appended_records : History → List Appended → List LogRecord
+appended_records log appended = map (record_of log) appended
 
 -- the update that is compensated is in the log
 abbrev pub HasUpdate : LogContent → Appended → Type 0
@@ -41,14 +41,14 @@ AreFit log appended = All (λ a. Fits (record_of (history log) a)) appended
 
 -- they are the log's tail
 abbrev pub TellTail : LogContent → List Appended → Type 0
-TellTail log appended = records_of (history log) appended ≡ tail_of log
+TellTail log appended = appended_records (history log) appended ≡ tail_of log
 
 -- the pages have their effects
 abbrev pub AreUndone : LogContent → (given : List Page) → List Appended → (pages : List Page) → Type 0
-AreUndone log given appended pages = pages ≡ map (undone_page (history log) (records_of (history log) appended)) given
+AreUndone log given appended pages = pages ≡ map (undone_page (history log) (appended_records (history log) appended)) given
 
 -- THE LOSERS ARE ROLLED BACK, and these are the appended records in compact form
 pub record RolledBackInBrief (log : LogContent) (tables : TablesContent) (given pages : List Page) (appended : List Appended) : Type 0 where
-  pub rolled_back : RolledBack log tables given pages (records_of (history log) appended)
+  pub rolled_back : RolledBack log tables given pages (appended_records (history log) appended)
   pub updates : HaveUpdates log appended
   pub writable : HasNoTransaction0 tables → AreFit log appended

@@ -9,7 +9,7 @@ use Rattle.tables.specs.Tables.{TablesContent, losers_in}
 use Rattle.undo.specs.Rollback.{hop_of}
 use Rattle.undo.specs.Undone.{UndoFault}
 use Rattle.undo.specs.declared.appended.Appended.{Appended}
-use Rattle.undo.specs.Appended.{records_of, HaveUpdates, RolledBackInBrief}
+use Rattle.undo.specs.Appended.{appended_records, HaveUpdates, RolledBackInBrief}
 use Rattle.undo.specs.Gathered.{IsPassedOver}
 
 -- the LSN to which a record sends the walk of t: an update to its PrevLSN, a CLR to its UndoNxtLSN
@@ -33,7 +33,7 @@ pub record AreGathered (whole some : History) (losers : List TableEntry) : Type 
 -- ENOUGH. What undo makes of what is gathered it makes of the whole log, and an error with the one is an error with the other.
 pub record Suffices (whole some : LogContent) (tables : TablesContent) : Type 0 where
   pub rolled_back : (given pages : List Page) (appended : List Appended) → RolledBackInBrief some tables given pages appended → RolledBackInBrief whole tables given pages appended
-  pub told : (appended : List Appended) → HaveUpdates some appended → records_of (history some) appended ≡ records_of (history whole) appended
+  pub told : (appended : List Appended) → HaveUpdates some appended → appended_records (history some) appended ≡ appended_records (history whole) appended
   pub fault : (count : ℕ) (e : Fault) → UndoFault (history some) (losers_in tables) count e → UndoFault (history whole) (losers_in tables) count e
 
 abbrev pub GatheredSuffices : Type 0

@@ -9,8 +9,8 @@ use Rattle.undo.specs.Wants.{wants_in}
 use Rattle.undo.specs.declared.gathering.Gathering.{Gathering}
 
 -- the walk of a transaction continues at this LSN
-abbrev pub IsWanted : List Want → (t lsn : ℕ) → Type 0
-IsWanted waiting t lsn = Contains waiting (record { lsn = lsn; tx = t })
+abbrev pub ContinuesAt : List Want → (t lsn : ℕ) → Type 0
+ContinuesAt waiting t lsn = Contains waiting (record { lsn = lsn; tx = t })
 
 -- one more continues at an LSN, if that is below the record that sends it there
 abbrev pub MayWant : (t from lsn : ℕ) → (old new : List Want) → Type 0
@@ -21,9 +21,9 @@ pub record AreGatheredSoFar (whole some : History) (losers : List TableEntry) (w
   pub base : base_lsn some ≡ base_lsn whole
   pub last : last_lsn some ≡ last_lsn whole
   pub each : (lsn : ℕ) → (record_at some lsn ≡ record_at whole lsn) ⊎ IsPassedOver (record_at some lsn)
-  pub begin : (t : ℕ) (e : TableEntry) → entry_for t losers ≡ Some e → IsFound whole some t e.undo_next ⊎ IsWanted waiting t e.undo_next
+  pub begin : (t : ℕ) (e : TableEntry) → entry_for t losers ≡ Some e → IsFound whole some t e.undo_next ⊎ ContinuesAt waiting t e.undo_next
   pub go_on : (t lsn next : ℕ) (e : TableEntry) → entry_for t losers ≡ Some e → sends t (record_at some lsn) ≡ Some next → next < lsn
-      → IsFound whole some t next ⊎ IsWanted waiting t next
+      → IsFound whole some t next ⊎ ContinuesAt waiting t next
 
 -- The same for a gathering in progress.
 abbrev pub IsGathering : History → List TableEntry → Gathering → Type 0

@@ -11,7 +11,7 @@ use Rattle.wal.specs.Store.{NamesPages}
 use Rattle.wal.specs.Undo.{entry_for, walk_of, undone_by}
 use Rattle.tables.specs.Tables.{TablesContent, losers_in}
 use Rattle.undo.specs.Undone.{UndoFault, HasNoTransaction0}
-use Rattle.undo.specs.Appended.{records_of, HaveUpdates, AreFit, AreUndone, RolledBackInBrief}
+use Rattle.undo.specs.Appended.{appended_records, HaveUpdates, AreFit, AreUndone, RolledBackInBrief}
 use Rattle.undo.specs.declared.appended.Appended.{Appended}
 use Rattle.undo.specs.declared.walk.Hop.{Hop}
 use Rattle.undo.specs.declared.walk.Hop.TheVariants as hop
@@ -81,8 +81,8 @@ AreOthers t at = (n : ℕ) (l : Loser) → at n ≡ Some l → l.tx ≢ t
 abbrev pub WaitOnce : Waiting → Type 0
 WaitOnce at = (n m : ℕ) (l k : Loser) → at n ≡ Some l → at m ≡ Some k → l.tx ≡ k.tx → n ≡ m
 
-abbrev pub AreBelow : ℕ → Waiting → Type 0
-AreBelow most at = (n : ℕ) (l : Loser) → at n ≡ Some l → n < most
+abbrev pub WaitBelow : ℕ → Waiting → Type 0
+WaitBelow most at = (n : ℕ) (l : Loser) → at n ≡ Some l → n < most
 
 -- WHAT IS LEFT
 -- `left` gives the updates that each transaction still has to undo, `last` gives its last record
@@ -112,7 +112,7 @@ undos left log = flat_map (undo_of left) (updates_where (is_stacked left) log)
 
 -- all that wait are below this LSN, and the update there is on a page below the count
 pub record IsPassed (log : History) (count : ℕ) (at : Waiting) (lsn : ℕ) : Type 0 where
-  pub above : AreBelow lsn at
+  pub above : WaitBelow lsn at
   pub exists : (u : UpdateRecord) → record_at log lsn ≡ Some (Update u) → u.page < count
 
 -- what has been appended and what is left are together what undo appends; what is met is left or passed
@@ -135,7 +135,7 @@ pub record Compensated (u : UpdateRecord) (last count prev : ℕ) (before after 
 abbrev pub Undoes : LogContent → (update_lsn last : ℕ) → (pages : List Page) → (before after : List Appended) → (prev : ℕ) → Type 0
 Undoes log update_lsn last pages before after prev =
     (u : UpdateRecord) → record_at (history log) update_lsn ≡ Some (Update u)
-    → Compensated u last (length pages) prev (records_of (history log) before) (records_of (history log) after)
+    → Compensated u last (length pages) prev (appended_records (history log) before) (appended_records (history log) after)
 
 -- the error if it is not undone, memory aside: its page is missing
 abbrev pub CompensationFault : History → ℕ → ℕ → Fault → Type 0
@@ -158,7 +158,7 @@ AreUpdates log r = (n : ℕ) (l : Loser) → loser_at r n ≡ Some l → IsUpdat
 
 -- a loser is resolved; what is appended still has its updates, and an encoding
 pub record Resolves (log : LogContent) (l : Loser) (from lsn : ℕ) (old new : Rollback) : Type 0 where
-  pub resolved : Resolved (history log) l from lsn (loser_at old) (loser_at new) (records_of (history log) old.appended.items) (records_of (history log) new.appended.items)
+  pub resolved : Resolved (history log) l from lsn (loser_at old) (loser_at new) (appended_records (history log) old.appended.items) (appended_records (history log) new.appended.items)
   pub updates : HaveUpdates log old.appended.items → HaveUpdates log new.appended.items
   pub writable : 0 < l.tx → AreFit log old.appended.items → AreFit log new.appended.items
 
@@ -166,9 +166,9 @@ pub record Resolves (log : LogContent) (l : Loser) (from lsn : ℕ) (old new : R
 -- what is appended
 pub record IsRolling (log : LogContent) (tables : TablesContent) (given : List Page) (r : Rollback) (pages : List Page) : Type 0 where
   pub numbered : AreNumbered given
-  pub left : RollbackInvariant (history log) (losers_in tables) (length given) (loser_at r) (records_of (history log) r.appended.items)
+  pub left : RollbackInvariant (history log) (losers_in tables) (length given) (loser_at r) (appended_records (history log) r.appended.items)
   pub updates : HaveUpdates log r.appended.items
-  pub exist : All (NamesPages (length given)) (records_of (history log) r.appended.items)
+  pub exist : All (NamesPages (length given)) (appended_records (history log) r.appended.items)
   pub pages_are : AreUndone log given r.appended.items pages
   pub writable : HasNoTransaction0 tables → AreFit log r.appended.items
 
@@ -188,8 +188,8 @@ UndoesNewest log update_lsn l old before new after =
     (tables : TablesContent) (given : List Page) → IsTaken log tables given update_lsn l old before → IsRolling log tables given new after
 
 -- all that was left is undone
-abbrev pub UndoesAll : LogContent → (old : Rollback) → (before : List Page) → (new : Rollback) → (after : List Page) → Type 0
-UndoesAll log old before new after =
+abbrev pub HasUndoneAll : LogContent → (old : Rollback) → (before : List Page) → (new : Rollback) → (after : List Page) → Type 0
+HasUndoneAll log old before new after =
     (tables : TablesContent) (given : List Page) → IsRolling log tables given old before → RolledBackInBrief log tables given after new.appended.items
 
 -- why the one cannot be undone, and why all cannot

@@ -9,5 +9,5 @@ abbrev pub wants_in : Wants → List Want
 wants_in wants = heap_items wants.heap
 
 -- none continues after this LSN
-abbrev pub AreUpTo : (lsn : ℕ) → List Want → Type 0
-AreUpTo lsn wants = All (λ want. want.lsn ≤ lsn) wants
+abbrev pub WantUpTo : (lsn : ℕ) → List Want → Type 0
+WantUpTo lsn wants = All (λ want. want.lsn ≤ lsn) wants

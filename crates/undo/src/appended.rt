@@ -5,7 +5,7 @@ ghost use Rattle.page.specs.declared.fault.Fault.TheVariants.{NoResource};
 ghost use Rattle.wal.specs.Records.{history};
 ghost use Rattle.wal.specs.Content.{content, shown};
 ghost use Rattle.wal.specs.Spelling.{Fits, frame};
-ghost use Rattle.undo.specs.Appended.{HasUpdate, HaveUpdates, record_of, records_of};
+ghost use Rattle.undo.specs.Appended.{HasUpdate, HaveUpdates, record_of, appended_records};
 
 use crate::looked::Looked;
 use page::Fault;
@@ -95,10 +95,14 @@ pub fn record_of(log: &Looked, appended: Appended) -> Record
 
 /// The full records, with what they hold. The only error is [`Fault::NoResource`], if memory was
 /// refused.
-pub fn records_of(alloc: Global, log: &Looked, appended: &[Appended]) -> Result<Vec<Record>, Fault>
+pub fn appended_records(
+    alloc: Global,
+    log: &Looked,
+    appended: &[Appended],
+) -> Result<Vec<Record>, Fault>
     requires { HaveUpdates log.now appended.now }
     ensures ok { IfOk result (λ x. map content x.items
-        ≡ records_of (history log.now) appended.now) }
+        ≡ appended_records (history log.now) appended.now) }
     ensures err { IsOkUnless result NoResource }
 {
     let mut records = Vec::with_capacity(alloc, appended.len())?;

@@ -10,7 +10,7 @@ ghost use Rattle.wal.specs.declared.sizes.TheConstants.{HEADER_BYTES, LARGEST_BA
 ghost use Rattle.tables.specs.Pieces.{IsPieceOf};
 ghost use Rattle.tables.specs.Tables.{losers_in};
 ghost use Rattle.undo.specs.Enough.{AreGathered, sends};
-ghost use Rattle.undo.specs.Wants.{AreUpTo, wants_in};
+ghost use Rattle.undo.specs.Wants.{WantUpTo, wants_in};
 ghost use Rattle.undo.specs.Gathering.{AreGatheredSoFar, IsGathering, MayWant};
 
 use crate::gathered::Gathered;
@@ -64,7 +64,7 @@ impl Gathering {
         requires room { HEADER_BYTES + SMALLEST_FRAME * count < 2 ^ 63 }
         ensures begun { IfOk result (λ gathering. (whole : History) → base_lsn whole ≡ base
             → last_lsn whole ≡ base + count → IsGathering whole (losers_in tables.now) gathering) }
-        ensures before { IfOk result (λ gathering. AreUpTo (base + count)
+        ensures before { IfOk result (λ gathering. WantUpTo (base + count)
             (wants_in gathering.wants)) }
         ensures err { IsOkUnless result NoResource }
     {
@@ -84,7 +84,7 @@ impl Gathering {
     /// What is gathered after the whole log was read: enough to roll the losers back.
     pub fn finish(self) -> Gathered
         ensures { (whole : History) (losers : List TableEntry) → IsGathering whole losers self
-            → AreUpTo (base_lsn whole) (wants_in self.wants)
+            → WantUpTo (base_lsn whole) (wants_in self.wants)
             → AreGathered whole (history result) losers }
     {
         self.gathered
@@ -93,8 +93,8 @@ impl Gathering {
     /// The highest LSN at which a transaction continues; 0 if none does. No record after it is
     /// looked at.
     pub fn upto(&self) -> u64
-        ensures up_to { AreUpTo result (wants_in self.now.wants) }
-        ensures least { (n : ℕ) → AreUpTo n (wants_in self.now.wants) → result ≤ n }
+        ensures up_to { WantUpTo result (wants_in self.now.wants) }
+        ensures least { (n : ℕ) → WantUpTo n (wants_in self.now.wants) → result ≤ n }
     {
         self.wants.highest()
     }
@@ -104,8 +104,8 @@ impl Gathering {
         ensures same { self.new.gathered ≡ self.old.gathered }
         ensures wants { OnOk result (MayWant tx from lsn (wants_in self.old.wants)
             (wants_in self.new.wants)) }
-        ensures below { OnOk result ((n : ℕ) → from ≤ n + 1 → AreUpTo n (wants_in self.old.wants)
-            → AreUpTo n (wants_in self.new.wants)) }
+        ensures below { OnOk result ((n : ℕ) → from ≤ n + 1 → WantUpTo n (wants_in self.old.wants)
+            → WantUpTo n (wants_in self.new.wants)) }
         ensures err { IsOkUnless result NoResource }
     {
         if lsn < from && lsn != 0 {
@@ -121,8 +121,8 @@ impl Gathering {
             → record_at (history piece.now) want.lsn ≡ record_at whole want.lsn
             → AreGatheredSoFar whole (history self.old.gathered) losers
             (want ∷ wants_in self.old.wants) → IsGathering whole losers self.new) }
-        ensures below { OnOk result ((n : ℕ) → want.lsn ≤ n → AreUpTo n (wants_in self.old.wants)
-            → AreUpTo n (wants_in self.new.wants)) }
+        ensures below { OnOk result ((n : ℕ) → want.lsn ≤ n → WantUpTo n (wants_in self.old.wants)
+            → WantUpTo n (wants_in self.new.wants)) }
         ensures err { IsOkUnless result NoResource }
     {
         let Some(view) = piece.get(want.lsn) else {
@@ -148,9 +148,9 @@ impl Gathering {
     pub fn take(&mut self, alloc: Global, piece: &Log) -> Result<(), Fault>
         ensures gathered { OnOk result ((whole : History) (losers : List TableEntry)
             → IsPieceOf whole (history piece.now)
-            → AreUpTo (last_lsn (history piece.now)) (wants_in self.old.wants)
+            → WantUpTo (last_lsn (history piece.now)) (wants_in self.old.wants)
             → IsGathering whole losers self.old → IsGathering whole losers self.new) }
-        ensures before { OnOk result (AreUpTo (base_lsn (history piece.now))
+        ensures before { OnOk result (WantUpTo (base_lsn (history piece.now))
             (wants_in self.new.wants)) }
         ensures err { IsOkUnless result NoResource }
     {

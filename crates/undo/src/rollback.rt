@@ -9,7 +9,7 @@ ghost use Rattle.wal.specs.Tail.{tail_of};
 ghost use Rattle.tables.specs.Tables.{losers_in};
 ghost use Rattle.undo.specs.Undone.{RolledBack, IsLawfulCrash, UndoFault, HasNoTransaction0, AreWritable};
 ghost use Rattle.undo.specs.Appended.{IsUpdate, HaveUpdates, AreFit, TellTail, RolledBackInBrief};
-ghost use Rattle.undo.specs.Rollback.{loser_at, IsUpdateAt, Undoes, KeepsUndone, CompensationFault, AreBelow, AreOthers, WaitOnce, AreUpdates, UndoesNewest, UndoesAll, StopsUndo, StopsRollback};
+ghost use Rattle.undo.specs.Rollback.{loser_at, IsUpdateAt, Undoes, KeepsUndone, CompensationFault, WaitBelow, AreOthers, WaitOnce, AreUpdates, UndoesNewest, HasUndoneAll, StopsUndo, StopsRollback};
 
 use crate::appended::{Appended, records_of};
 use crate::looked::{Looked, Place};
@@ -84,8 +84,8 @@ impl Rollback {
             (UndoesNewest log.now update_lsn loser self.old pages.old self.new pages.new) }
         ensures updates { OnOk result (AreUpdates log.now self.old → AreUpdates log.now self.new) }
         ensures once { OnOk result (WaitOnce (loser_at self.old) → WaitOnce (loser_at self.new)) }
-        ensures falls { OnOk result (AreBelow update_lsn (loser_at self.old)
-            → AreBelow update_lsn (loser_at self.new)) }
+        ensures falls { OnOk result (WaitBelow update_lsn (loser_at self.old)
+            → WaitBelow update_lsn (loser_at self.new)) }
         ensures few { OnOk result
             (length self.new.appended.items ≤ length self.old.appended.items + 2) }
         ensures fault { IfErr result (StopsUndo log.now update_lsn loser self.old pages.old) }
@@ -104,7 +104,7 @@ impl Rollback {
         requires updates { AreUpdates log.now self.old }
         requires once { WaitOnce (loser_at self.old) }
         requires room { vec_len self.old.appended ≤ 2 ^ 32 }
-        ensures undoes { OnOk result (UndoesAll log.now self.old pages.old self.new pages.new) }
+        ensures undoes { OnOk result (HasUndoneAll log.now self.old pages.old self.new pages.new) }
         ensures few { OnOk result (length self.new.appended.items
             ≤ length self.old.appended.items + 2 * length log.now.records) }
         ensures fault { IfErr result (StopsRollback log.now self.old pages.old) }

@@ -26,7 +26,7 @@ pub struct Wants {
 }
 
 impl Wants {
-    ghost use Rattle.undo.specs.Wants.{wants_in, AreUpTo};
+    ghost use Rattle.undo.specs.Wants.{wants_in, WantUpTo};
 
     /// No transaction continues.
     pub fn new(alloc: Global) -> Wants
@@ -47,8 +47,8 @@ impl Wants {
 
     /// The highest LSN at which a transaction continues; 0 if none does.
     pub fn highest(&self) -> u64
-        ensures up_to { AreUpTo result (wants_in self.now) }
-        ensures least { (n : ℕ) → AreUpTo n (wants_in self.now) → result ≤ n }
+        ensures up_to { WantUpTo result (wants_in self.now) }
+        ensures least { (n : ℕ) → WantUpTo n (wants_in self.now) → result ≤ n }
     {
         match self.heap.peek() {
             Some(want) => want.lsn,
@@ -61,7 +61,7 @@ impl Wants {
         ensures above { IfSome result (λ want. lsn < want.lsn) }
         ensures taken { IfSome result
             (λ want. IsPermutation (wants_in self.old) (want ∷ wants_in self.new)) }
-        ensures none { IfNone result (AreUpTo lsn (wants_in self.new)) }
+        ensures none { IfNone result (WantUpTo lsn (wants_in self.new)) }
         ensures same { IfNone result (wants_in self.new ≡ wants_in self.old) }
     {
         if self.heap.peek()?.lsn <= lsn {

@@ -19,9 +19,9 @@ abbrev pub IsLineStatus : ErrorKind → (status : ℕ) → Type 0
 IsLineStatus kind status = (status ≡ line_status kind) ⊎ (status ≡ 1)
 
 -- the status of a rejected line; 1 if out of memory
-abbrev pub IsStatusOf : Refusal → (status : ℕ) → Type 0
-IsStatusOf (Line error) status = IsLineStatus (kind_of error) status
-IsStatusOf Memory status = status ≡ 1
+abbrev pub IsExitStatusOf : Refusal → (status : ℕ) → Type 0
+IsExitStatusOf (Line error) status = IsLineStatus (kind_of error) status
+IsExitStatusOf Memory status = status ≡ 1
 
 -- the status of a run without words: 2 if a word is not valid UTF-8, as for any line that is wrong; 1 if out of memory
 abbrev pub wordless_status : NoWords → ℕ

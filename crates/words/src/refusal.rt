@@ -3,7 +3,7 @@
 ghost use Rattle.std.specs.Prelude.{◌≡◌};
 ghost use Rattle.clap.specs.Words.{kind_of};
 ghost use Rattle.clap.specs.declared.error.kind.ErrorKind.TheVariants.{OutOfMemory};
-ghost use Rattle.words.specs.Statuses.{IsLineStatus, IsStatusOf};
+ghost use Rattle.words.specs.Statuses.{IsLineStatus, IsExitStatusOf};
 ghost use Rattle.words.specs.declared.refusal.Refusal.TheVariants.{Memory};
 
 use crate::refuse;
@@ -62,7 +62,7 @@ impl Refusal {
     /// Returns the status: 1 if memory was refused or the print failed, 2 for a line that is wrong,
     /// otherwise 0.
     pub fn explain<O: Write, E: Write>(self, out: &mut O, err: &mut E) -> u8
-        ensures { IsStatusOf self result }
+        ensures { IsExitStatusOf self result }
     {
         match self {
             Refusal::Line(error) => explain_line(error, out, err),

@@ -7,7 +7,7 @@ use Rattle.recovery.specs.Recovery.{Recovered as AreRecovered, new_log as log_ma
 use Rattle.recovery.proofs.Delivered.{goes_on, cut_lawful}
 use Rattle.aries_c.specs.declared.fault.Fault.{Fault as Told}
 use Rattle.aries_c.specs.Fault.{told_of, no_memory}
-use Rattle.aries_c.specs.Recovered.{new_log, new_store, report_told}
+use Rattle.aries_c.specs.Recovered.{log_in_buffers, new_store, report_told}
 use Rattle.aries_c.proofs.Buffers.{taken_front, log_told}
 use Rattle.aries_c.proofs.recovered.aries_recover.Goals as goal
 
@@ -39,7 +39,7 @@ returns-clause-lawful c = λ base bytes _.
     let doubt_are : c.deref-3.result.now ≡ x.report.in_doubt = c.deref-3.ensures.value ∙ ap (λ (r : Recovery). r.report.in_doubt) c.recovery.view_is in
     let tail_is : take made.tail_length c.copy_to.new.out ≡ x.frames.items =
     taken_front c.deref.result.now c.args.tail.now c.copy_to.new.out made.tail_length (c.recovered_of.ensures.tail ∙ ap length (sym frames_are)) c.copy_to.ensures ∙ frames_are in
-    let log_is : new_log c.args.log.now c.copy_to.new.out made ≡ log_made x = log_told c.args.log.now x made c.in-Ok.ensures.kept c.recovered_of.ensures.report c.copy_to.new.out tail_is in
+    let log_is : log_in_buffers c.args.log.now c.copy_to.new.out made ≡ log_made x = log_told c.args.log.now x made c.in-Ok.ensures.kept c.recovered_of.ensures.report c.copy_to.new.out tail_is in
     let store_is : new_store c.copy_to-2.new.out made ≡ x.store.items =
     taken_front c.deref-2.result.now c.args.out_store.now c.copy_to-2.new.out made.store_length (c.recovered_of.ensures.store ∙ ap length (sym store_are)) c.copy_to-2.ensures ∙ store_are in
     let doubt_is : take made.in_doubt c.copy_numbers.new.out ≡ x.report.in_doubt =

@@ -5,7 +5,7 @@ use Rattle.std.specs.Io.KnownBytes.{Appends, Keeps}
 use Rattle.wal.specs.Headers.{header_bytes}
 use Rattle.wal.specs.Records.{history, first, last_lsn}
 use Rattle.wal.proofs.Histories.{first_all}
-use Rattle.dump.specs.LogLines.{BeginsLog, log_line, place_behind, record_lines, torn_line}
+use Rattle.dump.specs.LogLines.{PrintsBeginning, log_line, place_behind, record_lines, torn_line}
 use Rattle.dump.proofs.Memory.{if_memory_weaker}
 use Rattle.dump.proofs.Places.{place_behind_all}
 use Rattle.dump.proofs.log_lines.print_log.Goals as goal
@@ -43,7 +43,7 @@ returns-in_err-end-clause-so_far g c =
     let line : c.deref.result.now ≡ log_line c.args.style log.begins =
     c.deref.ensures.value ∙ c.in_ok-put_start.ensures ∙ ap (λ (l : List ℕ). l ++ log_line c.args.style c.start-start.result) c.new-line.ensures.items ∙ ap (log_line c.args.style) begins in
     let so_far : (lsn : ℕ) × Appends (g.W.Write.contents c.write_all.new.self) (g.W.Write.contents c.print_records.new.out) (lines c.header_bytes-header.result lsn)
-    → BeginsLog c.args.style c.args.choice.now log (g.W.Write.contents c.args.out.now) (g.W.Write.contents c.print_records.new.out) =
+    → PrintsBeginning c.args.style c.args.choice.now log (g.W.Write.contents c.args.out.now) (g.W.Write.contents c.print_records.new.out) =
     λ some. inr (
       some.0,
       subst (Appends (g.W.Write.contents c.args.out.now) (g.W.Write.contents c.print_records.new.out))
@@ -68,6 +68,6 @@ returns-clause-so_far g c =
     (ap (λ (l : List ℕ). c.deref.result.now ++ l) all ∙ ap₂ (λ (l : List ℕ) n. l ++ lines n last) line header)
     (Appends-trans _ _ _ _ _ c.in_ok-write_all.ensures.bytes c.in_ok-end.ensures.printed) in
     let so_far : Keeps (g.W.Write.contents c.print_records.new.out) (g.W.Write.contents c.print_torn_tail.new.out)
-    → BeginsLog c.args.style c.args.choice.now log (g.W.Write.contents c.args.out.now) (g.W.Write.contents c.print_torn_tail.new.out) =
+    → PrintsBeginning c.args.style c.args.choice.now log (g.W.Write.contents c.args.out.now) (g.W.Write.contents c.print_torn_tail.new.out) =
     λ kept. inr (last, Appends-kept _ _ _ (log_line c.args.style log.begins ++ lines (header_bytes log.begins) last) out kept) in
     IfErr-weaker c.print_torn_tail.result _ _ (λ e kept. if_memory_weaker _ _ e so_far kept) c.print_torn_tail.ensures.kept

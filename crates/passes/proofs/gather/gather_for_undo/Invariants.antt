@@ -3,7 +3,7 @@ use Rattle.std.specs.Io.KnownBytes.{Keeps}
 use Rattle.wal.specs.Records.{LogContent, history, last_lsn}
 use Rattle.wal.specs.Reads.{Reads}
 use Rattle.tables.specs.Tables.{losers_in}
-use Rattle.undo.specs.Wants.{AreUpTo, wants_in}
+use Rattle.undo.specs.Wants.{WantUpTo, wants_in}
 use Rattle.undo.specs.Gathering.{IsGathering}
 use Rattle.passes.specs.Marks.{AreMarks}
 use Rattle.passes.proofs.gather.gather_for_undo.Given as goal
@@ -14,7 +14,7 @@ invariant-loop-upto g l =
       room : length l.room ≡ length l.initial.room;
       same : Keeps (g.S.Reread.text l.initial.source) (g.S.Reread.text l.source);
       failures : g.S.Source.failures l.source ≡ g.S.Source.failures l.initial.source;
-      up_to : AreUpTo l.upto (wants_in l.gathering.wants);
+      up_to : WantUpTo l.upto (wants_in l.gathering.wants);
       within : (text : List ℕ) (whole : LogContent) → AreMarks text whole l.marks → l.upto ≤ last_lsn (history whole);
       gathering : (text : List ℕ) (whole : LogContent) (torn : ℕ) → g.S.Reread.text l.initial.source ≡ Some text → Reads text whole torn → AreMarks text whole l.marks → IsGathering (history whole) (losers_in l.tables) l.gathering;
     }

@@ -1,6 +1,6 @@
 use Rattle.std.proofs.Common.{subst, arith}
 use Rattle.wal.specs.Records.{history}
-use Rattle.undo.specs.Wants.{AreUpTo, wants_in}
+use Rattle.undo.specs.Wants.{WantUpTo, wants_in}
 use Rattle.passes.proofs.gather.gather_piece.Goals as goal
 
 pub returns-clause-gathered : goal.returns-clause-gathered
@@ -9,4 +9,4 @@ returns-clause-gathered g c = λ text whole before torn losers is reads mark up 
     (λ k d lt. omega (arith, up k d lt, c.in_ok-piece.ensures.reaches)) far
 
 pub returns-clause-before : goal.returns-clause-before
-returns-clause-before g c = subst (λ n. AreUpTo n (wants_in c.take.new.self.wants)) c.in_ok-piece.ensures.base c.in_ok-take.ensures.before
+returns-clause-before g c = subst (λ n. WantUpTo n (wants_in c.take.new.self.wants)) c.in_ok-piece.ensures.base c.in_ok-take.ensures.before

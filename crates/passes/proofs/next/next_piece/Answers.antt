@@ -2,7 +2,7 @@ use Rattle.std.proofs.Common.{◌≡◌, ◌+◌, ◌-◌, ◌≤◌, ℕ, List,
 use Rattle.std.proofs.lemmas.Bool.{cases_lt}
 use Rattle.std.proofs.lemmas.Result.{err_from_is_err_and}
 use Rattle.wal.specs.Records.{◌⧺◌}
-use Rattle.pieces.specs.Pieces.{IsMark, piece_text, GoesOn}
+use Rattle.pieces.specs.Pieces.{IsMark, piece_text, ContinuesLog}
 use Rattle.pieces.proofs.Beginnings.{pieces_belong}
 use Rattle.passes.proofs.Nexts.{no_more, room_takes}
 use Rattle.passes.proofs.Reached.{told, in_front, piece_in_front, base_is}
@@ -32,8 +32,8 @@ returns-then-count-full-clause-fault g c = λ text before is mark long.
     told (g.S.Reread.text c.args.source.now) text (λ t. take c.in_ok-count.count c.read_piece.new.room ≡ piece_text t c.args.mark count) is c.in_ok-count.ensures.piece in
     let size : length (take c.in_ok-count.count c.read_piece.new.room) - 16 ≡ count = omega (arith, length-take c.in_ok-count.count c.read_piece.new.room, c.in_ok-count.ensures.within) in
     let front : List ℕ = take (c.args.mark.offset + count) text in
-    let goes : GoesOn front before c.args.mark count c.in_ok-log.log c.in_ok-log.torn =
-    subst (λ n. GoesOn front before c.args.mark n c.in_ok-log.log c.in_ok-log.torn) size
+    let goes : ContinuesLog front before c.args.mark count c.in_ok-log.log c.in_ok-log.torn =
+    subst (λ n. ContinuesLog front before c.args.mark n c.in_ok-log.log c.in_ok-log.torn) size
     (c.in_ok-log.ensures.goes_on front before count (in_front text before c.args.mark (c.args.mark.offset + count) (omega arith) mark) (piece_is ∙ piece_in_front text c.args.mark count)) in
     absurd
     (room_takes text c.read_piece.new.room before c.args.mark c.in_ok-count.count c.in_ok-log.torn c.in_ok-log.log
@@ -47,7 +47,7 @@ returns-clause-next g c = λ text before is mark.
     let piece_is : take c.in_ok-count.count c.read_piece.new.room ≡ piece_text text c.args.mark count =
     told (g.S.Reread.text c.args.source.now) text (λ t. take c.in_ok-count.count c.read_piece.new.room ≡ piece_text t c.args.mark count) is c.in_ok-count.ensures.piece in
     let size : length (take c.in_ok-count.count c.read_piece.new.room) - 16 ≡ count = omega (arith, length-take c.in_ok-count.count c.read_piece.new.room, c.in_ok-count.ensures.within) in
-    let goes : GoesOn text before c.args.mark count piece torn = subst (λ n. GoesOn text before c.args.mark n piece torn) size (c.in_ok-log.ensures.goes_on text before count mark piece_is) in
+    let goes : ContinuesLog text before c.args.mark count piece torn = subst (λ n. ContinuesLog text before c.args.mark n piece torn) size (c.in_ok-log.ensures.goes_on text before count mark piece_is) in
     record {
       is_next = subst (IsMark text (before ⧺ piece.records)) (ap₂ (λ l o. record { lsn = l; offset = c.args.mark.offset + o }) (sym c.last.ensures) (sym c.saturating_sub-whole.ensures)) goes.next;
       is_piece = λ whole left reads. pieces_belong text whole left before c.args.mark count piece torn reads mark goes;
@@ -61,7 +61,7 @@ returns-clause-ends g c = λ text before is mark same.
     let piece_is : take c.in_ok-count.count c.read_piece.new.room ≡ piece_text text c.args.mark count =
     told (g.S.Reread.text c.args.source.now) text (λ t. take c.in_ok-count.count c.read_piece.new.room ≡ piece_text t c.args.mark count) is c.in_ok-count.ensures.piece in
     let size : length (take c.in_ok-count.count c.read_piece.new.room) - 16 ≡ count = omega (arith, length-take c.in_ok-count.count c.read_piece.new.room, c.in_ok-count.ensures.within) in
-    let goes : GoesOn text before c.args.mark count piece torn = subst (λ n. GoesOn text before c.args.mark n piece torn) size (c.in_ok-log.ensures.goes_on text before count mark piece_is) in
+    let goes : ContinuesLog text before c.args.mark count piece torn = subst (λ n. ContinuesLog text before c.args.mark n piece torn) size (c.in_ok-log.ensures.goes_on text before count mark piece_is) in
     no_more text before c.args.mark count torn piece goes (sym c.last.ensures ∙ same)
     (elim (cases_lt c.in_ok-count.count (length c.read_piece.new.room)) [
       | inl less ↦ told (g.S.Reread.text c.args.source.now) text (λ t. length t ≤ c.args.mark.offset + count) is (c.in_ok-count.ensures.end less)

@@ -2,7 +2,7 @@ use Rattle.std.proofs.Common.{◌≡◌, ◌+◌, ◌-◌, ◌≤◌, ℕ, List,
 use Rattle.std.proofs.lemmas.Bool.{cases_lt}
 use Rattle.std.proofs.lemmas.Result.{err_from_is_err_and}
 use Rattle.wal.proofs.Causes.{no_fault_of_a_log}
-use Rattle.pieces.specs.Pieces.{piece_text, GoesOn}
+use Rattle.pieces.specs.Pieces.{piece_text, ContinuesLog}
 use Rattle.pieces.proofs.Beginnings.{pieces_belong}
 use Rattle.passes.specs.declared.fault.PassFault.TheVariants as fault
 use Rattle.passes.proofs.Reached.{told, in_front, piece_in_front, base_is, reached}
@@ -24,8 +24,8 @@ returns-then-last-upto-clause-fault g c = λ text whole before torn is reads mar
     told (g.S.Reread.text c.args.source.now) text (λ t. take c.in_ok-count.count c.read_piece.new.room ≡ piece_text t c.args.mark count) is c.in_ok-count.ensures.piece in
     let long : length (take c.in_ok-count.count c.read_piece.new.room) - 16 ≡ count = omega (arith, length-take c.in_ok-count.count c.read_piece.new.room, c.in_ok-count.ensures.within) in
     let front : List ℕ = take (c.args.mark.offset + count) text in
-    let goes : GoesOn front before c.args.mark count c.in_ok-log.log c.in_ok-log.field-0-1 =
-    subst (λ n. GoesOn front before c.args.mark n c.in_ok-log.log c.in_ok-log.field-0-1) long
+    let goes : ContinuesLog front before c.args.mark count c.in_ok-log.log c.in_ok-log.field-0-1 =
+    subst (λ n. ContinuesLog front before c.args.mark n c.in_ok-log.log c.in_ok-log.field-0-1) long
     (c.in_ok-log.ensures.goes_on front before count (in_front text before c.args.mark (c.args.mark.offset + count) (omega arith) mark) (piece_is ∙ piece_in_front text c.args.mark count)) in
     let within : reach.1.offset ≤ c.args.mark.offset + count =
     elim (cases_lt c.in_ok-count.count (length c.read_piece.new.room)) [

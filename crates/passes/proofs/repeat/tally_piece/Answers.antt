@@ -1,7 +1,7 @@
 use Rattle.std.proofs.Common.{◌+◌, length, sym, subst, ◌∙◌}
 use Rattle.std.proofs.lemmas.Result.{err_from_is_err_and}
 use Rattle.redo.specs.Redone.{ExistBelow}
-use Rattle.redo.specs.Passing.{PassFault}
+use Rattle.redo.specs.Passing.{PieceFault}
 use Rattle.passes.proofs.Redoing.{tallied_more, pass_cause, resource_cause}
 use Rattle.passes.proofs.repeat.tally_piece.Goals as goal
 
@@ -19,8 +19,8 @@ returns-in_err-pass-clause-fault g c =
     (λ text whole before images tables is own tallied long.
     let piece = c.in_ok-piece.piece in
     let next = c.in_ok-piece.ensures.next text before is own.is_mark in
-    let cause = subst (λ n. PassFault piece n tables.redo_lsn c.in_err-pass.field-0.0) tallied.tallied.count
-    (subst (λ n. PassFault piece (length c.args.scan.now.tallies) n c.in_err-pass.field-0.0) (sym tallied.from) c.in_err-pass.ensures.fault) in
+    let cause = subst (λ n. PieceFault piece n tables.redo_lsn c.in_err-pass.field-0.0) tallied.tallied.count
+    (subst (λ n. PieceFault piece (length c.args.scan.now.tallies) n c.in_err-pass.field-0.0) (sym tallied.from) c.in_err-pass.ensures.fault) in
     pass_cause whole piece (length images) tables.redo_lsn c.in_err-pass.field-0.0 (next.is_piece whole own.torn own.reads)
     (subst (λ n. ExistBelow whole (length images) tables.redo_lsn (n + 1)) (sym c.in_ok-piece.ensures.base) tallied.exist) cause)
 

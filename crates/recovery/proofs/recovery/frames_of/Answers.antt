@@ -6,7 +6,7 @@ use Rattle.wal.specs.Spelling.{frame}
 use Rattle.wal.proofs.Histories.{size_of_log, base_of_log}
 use Rattle.undo.specs.declared.appended.Appended.{Appended}
 use Rattle.undo.specs.declared.appended.Appended.TheVariants as brief
-use Rattle.undo.specs.Appended.{record_of, records_of}
+use Rattle.undo.specs.Appended.{record_of, appended_records}
 use Rattle.recovery.proofs.Bytes.{spellings_push}
 use Rattle.recovery.proofs.recovery.frames_of.Goals as goal
 
@@ -16,11 +16,11 @@ loop-entry-preserved c =
     let i = c.loop-entry.entry-index in
     let told = c.args.appended.now in
     let entry : Appended = get_or told i (brief.Compensation 0 0) in
-    let done : List LogRecord = records_of log (take i told) in
+    let done : List LogRecord = appended_records log (take i told) in
     let within : i < length told = omega arith in
     let count : length done ≡ i = omega (arith, length-map (take i told) (record_of log), length-take i told, within) in
-    let more : records_of log (take (i + 1) told) ≡ done ++ record_of log entry ∷ [] =
-    ap (records_of log) (take_more told i _ within) ∙ map_push (record_of log) (take i told) entry in
+    let more : appended_records log (take (i + 1) told) ≡ done ++ record_of log entry ∷ [] =
+    ap (appended_records log) (take_more told i _ within) ∙ map_push (record_of log) (take i told) entry in
     record {
       lsn_is = omega (arith, c.loop-entry.invariant.lsn_is);
       frames_are =

@@ -9,7 +9,7 @@ use Rattle.wal.specs.Reads.{Reads, spellings, log_text}
 use Rattle.recovery.specs.Text.{ReportContent}
 use Rattle.restart.specs.Restart.{IsSettled}
 use Rattle.restart.specs.Outcome.{outcome_in}
-use Rattle.undo.specs.Appended.{record_of, records_of}
+use Rattle.undo.specs.Appended.{record_of, appended_records}
 use Rattle.recovery.proofs.TailLength.{tail_short}
 use Rattle.recovery.proofs.Alike.{alike_fit, alike_frames, alike_report}
 use Rattle.recovery.proofs.Bytes.{kept_text, text_extended}
@@ -23,7 +23,7 @@ returns-clause-answer c = λ whole log_bytes text before alike reads_log spells 
     let torn = c.args.torn in
     let log = history read in
     let told = c.args.outcome.appended.items in
-    let appended : List LogRecord = records_of log told in
+    let appended : List LogRecord = appended_records log told in
     let same : c.deref.result.now ≡ told = c.deref.ensures.value in
     let own = c.report_of-report.result.0.torn in
     let kept : take (length log_bytes - own) log_bytes ≡ log_text read = ap (λ n. take (length log_bytes - n) log_bytes) (ap (λ (r : ReportContent). r.torn) c.report_of-report.ensures.report) ∙ kept_text log_bytes read torn reads_log in
@@ -31,7 +31,7 @@ returns-clause-answer c = λ whole log_bytes text before alike reads_log spells 
     let log_is : bytes ≡ log_text (read ⧺ appended) =
     text_extended read appended (take (length log_bytes - own) log_bytes) c.in_ok-frames.frames.items (last_lsn log + 1)
     kept refl
-    (c.in_ok-frames.ensures.frames ∙ ap (λ xs. spellings (last_lsn (history some) + 1) (records_of (history some) xs)) same ∙ alike_frames whole some told alike) in
+    (c.in_ok-frames.ensures.frames ∙ ap (λ xs. spellings (last_lsn (history some) + 1) (appended_records (history some) xs)) same ∙ alike_frames whole some told alike) in
     let few : last_lsn log + length appended < 2 ^ 64 = omega (arith, c.in_ok-frames.ensures.room, alike.last, ap length same, length-map told (record_of log)) in
     record {
       decoded = record { read = read; torn = torn; before = before; reads = reads_log; spells = spells };
@@ -50,7 +50,7 @@ returns-clause-lawful c = λ whole base log_bytes before alike reads_log restore
     let torn = c.args.torn in
     let log = history read in
     let told = c.args.outcome.appended.items in
-    let appended : List LogRecord = records_of log told in
+    let appended : List LogRecord = appended_records log told in
     let same : c.deref.result.now ≡ told = c.deref.ensures.value in
     let own = c.report_of-report.result.0.torn in
     let kept : take (length log_bytes - own) log_bytes ≡ log_text read = ap (λ n. take (length log_bytes - n) log_bytes) (ap (λ (r : ReportContent). r.torn) c.report_of-report.ensures.report) ∙ kept_text log_bytes read torn reads_log in
@@ -58,7 +58,7 @@ returns-clause-lawful c = λ whole base log_bytes before alike reads_log restore
     let log_is : bytes ≡ log_text (read ⧺ appended) =
     text_extended read appended (take (length log_bytes - own) log_bytes) c.in_ok-frames.frames.items (last_lsn log + 1)
     kept refl
-    (c.in_ok-frames.ensures.frames ∙ ap (λ xs. spellings (last_lsn (history some) + 1) (records_of (history some) xs)) same ∙ alike_frames whole some told alike) in
+    (c.in_ok-frames.ensures.frames ∙ ap (λ xs. spellings (last_lsn (history some) + 1) (appended_records (history some) xs)) same ∙ alike_frames whole some told alike) in
     let few : last_lsn log + length appended < 2 ^ 64 = omega (arith, c.in_ok-frames.ensures.room, alike.last, ap length same, length-map told (record_of log)) in
     let reads = reads_extended bytes read appended log_is reads_log.starts reads_log.each (alike_fit whole some told alike c.requires.writable) few in
     record {
@@ -87,7 +87,7 @@ returns-clause-short c = λ whole base log_bytes before alike reads_log restored
     let told = c.args.outcome.appended.items in
     let same : c.deref.result.now ≡ told = c.deref.ensures.value in
     let frames : c.in_ok-frames.frames.items ≡ spellings (last_lsn log + 1) (tail_of read) =
-    c.in_ok-frames.ensures.frames ∙ ap (λ xs. spellings (last_lsn (history some) + 1) (records_of (history some) xs)) same ∙ alike_frames whole some told alike ∙ ap (spellings (last_lsn log + 1)) restored.appended in
+    c.in_ok-frames.ensures.frames ∙ ap (λ xs. spellings (last_lsn (history some) + 1) (appended_records (history some) xs)) same ∙ alike_frames whole some told alike ∙ ap (spellings (last_lsn log + 1)) restored.appended in
     let read_bytes = reads_log in
     omega (
       arith,

@@ -4,7 +4,7 @@ use Rattle.redo.specs.Inputs.{InputContent}
 use Rattle.redo.specs.Parted.{PartedContent}
 use Rattle.redo.specs.declared.crew.Share.{Share}
 use Rattle.redo.specs.declared.tally.Tally.{Tally}
-use Rattle.redo.specs.Parts.{IsBack, IsDone, HasPage, resolved}
+use Rattle.redo.specs.Parts.{IsBack, IsWhollyRedone, HasRedoPage, resolved}
 use Rattle.redo.proofs.Reading.{popped, or_false}
 use Rattle.redo.proofs.Gathered.{share_tallied, both_tallied, done_below}
 use Rattle.redo.proofs.gather.gather.Goals as goal
@@ -18,14 +18,14 @@ loop-share-init c =
     let share : Share = c.in-Some.last in
     let some_left : 0 < vec_len c.args.shares = c.requires.some in
     let back = popped (IsBack parted board) c.args.shares.items (vec_len c.args.shares) share c.requires.each c.args.shares.ok.0 some_left pop.value in
-    let done : All (IsDone input) (map (resolved input) c.deref.result.now) = subst (λ (ts : List Tally). All (IsDone input) (map (resolved input) ts)) (sym c.deref.ensures.value) back.done in (
+    let done : All (IsWhollyRedone input) (map (resolved input) c.deref.result.now) = subst (λ (ts : List Tally). All (IsWhollyRedone input) (map (resolved input) ts)) (sym c.deref.ensures.value) back.done in (
       back.at_board,
       (let a = pop.len in let b = back.one_place in omega arith),
       subst (All (IsBack parted board)) (sym pop.rest) (All-take (IsBack parted board) (vec_len c.args.shares - 1) c.args.shares.items c.requires.each),
       c.put_tallies.ensures.count ∙ c.requires.count,
       (λ stopped told.
           share_tallied parted board share c.put_tallies.new.tallies back stopped told
-          (λ number has. c.put_tallies.ensures.put input done number (inr (subst (λ (ts : List Tally). HasPage (map (resolved input) ts) number) (sym c.deref.ensures.value) has)))),
+          (λ number has. c.put_tallies.ensures.put input done number (inr (subst (λ (ts : List Tally). HasRedoPage (map (resolved input) ts) number) (sym c.deref.ensures.value) has)))),
       back.ended,
     )
 
@@ -56,7 +56,7 @@ loop-share-preserved c =
     let share : Share = c.in-Some-pop.share in
     let some_left : 0 < vec_len c.loop-share.shares = (let a = pop.len in omega arith) in
     let back = popped (IsBack parted board) c.loop-share.shares.items (vec_len c.loop-share.shares) share old.2 c.loop-share.shares.ok.0 some_left pop.value in
-    let done : All (IsDone input) (map (resolved input) c.deref-in-Some-pop.result.now) = subst (λ (ts : List Tally). All (IsDone input) (map (resolved input) ts)) (sym c.deref-in-Some-pop.ensures.value) back.done in
+    let done : All (IsWhollyRedone input) (map (resolved input) c.deref-in-Some-pop.result.now) = subst (λ (ts : List Tally). All (IsWhollyRedone input) (map (resolved input) ts)) (sym c.deref-in-Some-pop.ensures.value) back.done in
     let step = c.join-seat.ensures in
     let put = c.put_tallies-in-Some-pop.ensures in
     let tallies = c.put_tallies-in-Some-pop.new.tallies in (
@@ -69,7 +69,7 @@ loop-share-preserved c =
           let t = or_false c.loop-share.seat.told share.seat.told (sym step.notes.1 ∙ not_told) in
           both_tallied parted tallies c.loop-share.seat.drawn share.seat.drawn c.join-seat.result.drawn step.drawn
           (λ number part given has. put.put input done number (inl (old.4 s.0 t.0 number part given has)))
-          (share_tallied parted board share tallies back s.1 t.1 (λ number has. put.put input done number (inr (subst (λ (ts : List Tally). HasPage (map (resolved input) ts) number) (sym c.deref-in-Some-pop.ensures.value) has))))),
+          (share_tallied parted board share tallies back s.1 t.1 (λ number has. put.put input done number (inr (subst (λ (ts : List Tally). HasRedoPage (map (resolved input) ts) number) (sym c.deref-in-Some-pop.ensures.value) has))))),
       (λ not_stopped not_told.
           let s = or_false c.loop-share.seat.stopped share.seat.stopped (sym step.notes.0 ∙ not_stopped) in
           let t = or_false c.loop-share.seat.told share.seat.told (sym step.notes.1 ∙ not_told) in

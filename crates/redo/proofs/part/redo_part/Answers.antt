@@ -1,7 +1,7 @@
 use Rattle.std.proofs.Common.{◌≡◌, ◌++◌, List, Some, map, sym, ap, ◌∙◌, subst}
 use Rattle.std.proofs.lemmas.List.{map-append}
 use Rattle.redo.specs.Changes.{RedoPage}
-use Rattle.redo.specs.Parts.{HasPage, resolved}
+use Rattle.redo.specs.Parts.{HasRedoPage, resolved}
 use Rattle.redo.proofs.Gathered.{has_left, has_right}
 use Rattle.redo.proofs.part.redo_part.Goals as goal
 
@@ -11,8 +11,8 @@ behind c = ap (map (resolved c.args.parted.now.input)) c.in_ok-append.ensures.it
 
 pub returns-clause-kept : goal.returns-clause-kept
 returns-clause-kept c = λ other has page given.
-    subst (λ (ps : List RedoPage). HasPage ps page) (sym (behind c)) (has_left (map (resolved c.args.parted.now.input) c.args.tallies.now.items) _ page (has page given))
+    subst (λ (ps : List RedoPage). HasRedoPage ps page) (sym (behind c)) (has_left (map (resolved c.args.parted.now.input) c.args.tallies.now.items) _ page (has page given))
 
 pub returns-clause-added : goal.returns-clause-added
 returns-clause-added c = λ page given.
-    subst (λ (ps : List RedoPage). HasPage ps page) (sym (behind c)) (has_right (map (resolved c.args.parted.now.input) c.args.tallies.now.items) _ page (c.in_ok-counted.ensures.all page (given ∙ ap Some (sym c.part.ensures))))
+    subst (λ (ps : List RedoPage). HasRedoPage ps page) (sym (behind c)) (has_right (map (resolved c.args.parted.now.input) c.args.tallies.now.items) _ page (c.in_ok-counted.ensures.all page (given ∙ ap Some (sym c.part.ensures))))

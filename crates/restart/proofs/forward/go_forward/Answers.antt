@@ -4,7 +4,7 @@ use Rattle.wal.specs.Content.{entry_of}
 use Rattle.wal.specs.Records.{history}
 use Rattle.analysis.specs.Tables.{AreTransactionsOf, BaseFault}
 use Rattle.analysis.proofs.Halves.{both_halves}
-use Rattle.restart.specs.Restart.{ArePagesRedone, PagesFault}
+use Rattle.restart.specs.Restart.{ArePagesRedone, ForwardFault}
 use Rattle.restart.proofs.Restored.{base_alone, pages_alone}
 use Rattle.restart.proofs.Causes.{base_fault, pages_fault}
 use Rattle.restart.proofs.forward.go_forward.Goals as goal
@@ -28,7 +28,7 @@ returns-in_err-pages-clause-lawful g c = λ base lawful.
     let exit = err_from_is_err_and c.from_residual-in_err-pages.result c.from_residual-in_err-pages.ensures.1 in
     rw (exit.1, exit.2)
     (pages_alone base c.args.log.now c.args.store lawful c.args.workers c.in_err-pages.field-0.0 c.requires.settings.fit
-    (IfErr-at_err (PagesFault c.args.log.now c.args.store c.args.workers) c.in_err-pages.was c.side_by_side-transactions.ensures.fault))
+    (IfErr-at_err (ForwardFault c.args.log.now c.args.store c.args.workers) c.in_err-pages.was c.side_by_side-transactions.ensures.fault))
 
 pub returns-in_err-pages-clause-fault : goal.returns-in_err-pages-clause-fault
 returns-in_err-pages-clause-fault g c =
@@ -38,7 +38,7 @@ returns-in_err-pages-clause-fault g c =
     IfOk-at_ok (λ found. AreTransactionsOf c.args.log.now c.args.store.master (map entry_of found.entries)) c.in_ok-transactions.was c.side_by_side-transactions.ensures.transactions in
     rw (exit.1, exit.2)
     (pages_fault c.args.log.now c.args.store c.requires.none_ahead found some c.args.workers c.in_err-pages.field-0.0 c.requires.settings.fit
-    (IfErr-at_err (PagesFault c.args.log.now c.args.store c.args.workers) c.in_err-pages.was c.side_by_side-transactions.ensures.fault))
+    (IfErr-at_err (ForwardFault c.args.log.now c.args.store c.args.workers) c.in_err-pages.was c.side_by_side-transactions.ensures.fault))
 
 pub returns-clause-redone : goal.returns-clause-redone
 returns-clause-redone g c =

@@ -1,7 +1,7 @@
 use Rattle.std.proofs.Common.{◌+◌, ap, sym, ◌∙◌, arith}
 use Rattle.std.proofs.lemmas.List.{take_all}
 use Rattle.wal.specs.Records.{history}
-use Rattle.undo.specs.Appended.{records_of}
+use Rattle.undo.specs.Appended.{appended_records}
 use Rattle.restart.specs.Restart.{clrs_in, ends_in}
 use Rattle.restart.proofs.Tallied.{one_clr, one_end}
 use Rattle.restart.proofs.passes.count_kinds.Goals.{in-Compensation, in-End}
@@ -33,8 +33,8 @@ loop-record-preserved c =
 
 pub returns-clause-clrs : goal.returns-clause-clrs
 returns-clause-clrs c = λ log are.
-    c.loop-record.invariant.clrs_are log are ∙ ap (λ xs. clrs_in (records_of (history log) xs)) (take_all c.loop-record.record-index c.args.appended.now (omega (arith, c.loop-record-test.false)))
+    c.loop-record.invariant.clrs_are log are ∙ ap (λ xs. clrs_in (appended_records (history log) xs)) (take_all c.loop-record.record-index c.args.appended.now (omega (arith, c.loop-record-test.false)))
 
 pub returns-clause-ends : goal.returns-clause-ends
 returns-clause-ends c = λ log are.
-    c.loop-record.invariant.ends_are log are ∙ ap (λ xs. ends_in (records_of (history log) xs)) (take_all c.loop-record.record-index c.args.appended.now (omega (arith, c.loop-record-test.false)))
+    c.loop-record.invariant.ends_are log are ∙ ap (λ xs. ends_in (appended_records (history log) xs)) (take_all c.loop-record.record-index c.args.appended.now (omega (arith, c.loop-record-test.false)))

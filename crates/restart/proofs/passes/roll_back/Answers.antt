@@ -10,7 +10,7 @@ use Rattle.tables.specs.Lawful.{AreTrue}
 use Rattle.tables.specs.Tables.{TablesContent, losers_in}
 use Rattle.redo.specs.declared.redone.Redone.{Redone}
 use Rattle.redo.specs.Redone.{redone_page}
-use Rattle.undo.specs.Appended.{records_of, HaveUpdates, RolledBackInBrief}
+use Rattle.undo.specs.Appended.{appended_records, HaveUpdates, RolledBackInBrief}
 use Rattle.undo.specs.Enough.{AreGathered}
 use Rattle.undo.specs.Undone.{undone_page, IsLawfulCrash, UndoFault}
 use Rattle.undo.proofs.LawfulUndo.{tail_is, memory_alone}
@@ -28,7 +28,7 @@ count log before tables redone made = ap length made.redone_pages ∙ length-map
 pub invariant_of-result : goal.invariant_of-result
 invariant_of-result c =
     subst AreNumbered (sym c.in_ok-pages.ensures.rolled_back.rolled_back.pages_are)
-    (changed_numbered (undone_page (history c.args.log.now) (records_of (history c.args.log.now) c.in_ok-pages.appended.items)) c.args.redone.pages.items (λ page. refl) c.requires.numbered)
+    (changed_numbered (undone_page (history c.args.log.now) (appended_records (history c.args.log.now) c.in_ok-pages.appended.items)) c.args.redone.pages.items (λ page. refl) c.requires.numbered)
 
 -- redo of a lawful log and its store leaves the pages of a lawful crash
 crash : (log : LogContent) (base : BasePages) (before : StoreContent) (tables : TablesContent) (redone : Redone) → Lawful base log before → AreTrue log before tables → IsRedone log before tables redone
@@ -97,8 +97,8 @@ rolls_back c whole are master kept =
         length-map c.tables.inside.transactions.entries entry_of,
       );
       in_doubt_are = c.in_ok-in_doubt.ensures.ok;
-      compensated = c.count_kinds-compensated.ensures.clrs whole told ∙ ap (λ xs. clrs_in (records_of log xs)) c.deref.ensures.value;
-      ended = c.count_kinds-compensated.ensures.ends whole told ∙ ap (λ xs. ends_in (records_of log xs)) c.deref.ensures.value;
+      compensated = c.count_kinds-compensated.ensures.clrs whole told ∙ ap (λ xs. clrs_in (appended_records log xs)) c.deref.ensures.value;
+      ended = c.count_kinds-compensated.ensures.ends whole told ∙ ap (λ xs. ends_in (appended_records log xs)) c.deref.ensures.value;
     }
 
 pub returns-clause-lawful : goal.returns-clause-lawful

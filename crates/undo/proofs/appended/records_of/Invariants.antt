@@ -1,8 +1,8 @@
 use Rattle.std.proofs.Common.{◌≡◌, map, take}
 use Rattle.wal.specs.Records.{history}
 use Rattle.wal.specs.Content.{content}
-use Rattle.undo.specs.Appended.{records_of}
+use Rattle.undo.specs.Appended.{appended_records}
 use Rattle.undo.proofs.appended.records_of.Given as goal
 
 abbrev pub invariant-loop-entry : goal.invariant-loop-entry
-invariant-loop-entry l = map content l.records.items ≡ records_of (history l.log) (take l.entry-index l.appended)
+invariant-loop-entry l = map content l.records.items ≡ appended_records (history l.log) (take l.entry-index l.appended)

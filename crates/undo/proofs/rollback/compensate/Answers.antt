@@ -5,7 +5,7 @@ use Rattle.wal.specs.Records.{LogRecord, Compensation, history}
 use Rattle.wal.specs.Content.{shown}
 use Rattle.wal.proofs.Histories.{size_of_log}
 use Rattle.undo.specs.declared.appended.Appended.TheVariants as brief
-use Rattle.undo.specs.Appended.{clr_of, record_of, records_of}
+use Rattle.undo.specs.Appended.{clr_of, record_of, appended_records}
 use Rattle.undo.specs.Undone.{undone_page}
 use Rattle.undo.proofs.Effects.{Puts}
 use Rattle.undo.proofs.UndonePages.{put_undone}
@@ -21,9 +21,9 @@ returns-clause-pages c = λ given numbered same.
     let is : record_of log (brief.Compensation c.args.update_lsn c.args.last) ≡ r =
     ap (clr_of c.args.last) (sym u.ensures.found) ∙ ap (λ v. clr_of c.args.last (Some (shown v))) u.field-0-is
     ∙ ap (λ v. Compensation (record { tx = u.field-0-0; prev = c.args.last; page = u.page; slot = u.slot; undo_next = u.prev; image = v })) (sym c.value_of.ensures) in
-    let pushed : records_of log c.push.new.self.items ≡ records_of log c.args.appended.now.items ++ r ∷ [] =
-    ap (records_of log) c.in_ok-push.ensures.items ∙ map_push (record_of log) c.args.appended.now.items _ ∙ ap (λ x. records_of log c.args.appended.now.items ++ x ∷ []) is in
-    let n : length c.args.pages.now ≡ length given = ap length same ∙ length-map given (undone_page log (records_of log c.args.appended.now.items)) in
-    put_undone log (records_of log c.args.appended.now.items) r given u.page u.slot c.args.lsn value c.args.pages.now c.index-pages-page.result c.set.new.self puts numbered
+    let pushed : appended_records log c.push.new.self.items ≡ appended_records log c.args.appended.now.items ++ r ∷ [] =
+    ap (appended_records log) c.in_ok-push.ensures.items ∙ map_push (record_of log) c.args.appended.now.items _ ∙ ap (λ x. appended_records log c.args.appended.now.items ++ x ∷ []) is in
+    let n : length c.args.pages.now ≡ length given = ap length same ∙ length-map given (undone_page log (appended_records log c.args.appended.now.items)) in
+    put_undone log (appended_records log c.args.appended.now.items) r given u.page u.slot c.args.lsn value c.args.pages.now c.index-pages-page.result c.set.new.self puts numbered
     c.if-page-pages.false n (omega (arith, c.requires.lsn, size_of_log c.args.log.now, length-map c.args.appended.now.items (record_of log), c.args.appended.now.ok.0)) same c.set.ensures
     ∙ ap (λ appended. map (undone_page log appended) given) (sym pushed)

@@ -6,7 +6,7 @@ use Rattle.page.specs.declared.page.Page.{Page}
 use Rattle.wal.specs.Records.{LogContent, history}
 use Rattle.tables.specs.Tables.{TablesContent, losers_in}
 use Rattle.undo.specs.declared.losers.Rollback.{Rollback}
-use Rattle.undo.specs.Appended.{records_of, RolledBackInBrief}
+use Rattle.undo.specs.Appended.{appended_records, RolledBackInBrief}
 use Rattle.undo.specs.Undone.{undone_page, UndoFault}
 use Rattle.undo.specs.Rollback.{IsRolling}
 use Rattle.undo.proofs.Placed.{rolling_once}
@@ -60,7 +60,7 @@ returns-clause-rolled_back c =
     let log = history c.args.log.now in
     let pages = c.undo_all.new.pages in
     let appended = c.undo_all.new.self.appended.items in
-    let len : c.args.pages.len ≡ length pages = omega (arith, c.args.pages.ok.0, ap length (done c).rolled_back.pages_are, length-map c.args.pages.items (undone_page log (records_of log appended))) in
+    let len : c.args.pages.len ≡ length pages = omega (arith, c.args.pages.ok.0, ap length (done c).rolled_back.pages_are, length-map c.args.pages.items (undone_page log (appended_records log appended))) in
     let same : take c.args.pages.len (pages ++ drop (length pages) c.args.pages.items) ≡ pages =
     ap (λ n. take n (pages ++ drop (length pages) c.args.pages.items)) len ∙ take-append_seam pages (drop (length pages) c.args.pages.items) in
     subst (λ (ps : List Page). RolledBackInBrief c.args.log.now c.args.tables.now c.args.pages.items ps appended) (sym same) (done c)

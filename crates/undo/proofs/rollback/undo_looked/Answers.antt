@@ -2,7 +2,7 @@ use Rattle.std.proofs.Common.{◌≡◌, List, map, sym, ap, ◌∙◌, subst}
 use Rattle.std.proofs.lemmas.Result.{err_from_is_err_and}
 use Rattle.wal.specs.Content.{content}
 use Rattle.wal.specs.Records.{LogRecord, history}
-use Rattle.undo.specs.Appended.{records_of}
+use Rattle.undo.specs.Appended.{appended_records}
 use Rattle.undo.specs.Undone.{RolledBack}
 use Rattle.undo.proofs.Told.{told_writable}
 use Rattle.undo.proofs.rollback.undo_looked.Goals as goal
@@ -13,8 +13,8 @@ returns-in_err-pages-clause-lawful c = λ crash.
     rw (exit.1, exit.2) (c.in_err-pages.ensures.lawful crash)
 
 -- the full records are those of the compact form
-same : (c : goal.After-drop-appended-2) → map content c.in_ok-records.records.items ≡ records_of (history c.args.log.now) c.in_ok-pages.appended.items
-same c = c.in_ok-records.ensures.ok ∙ ap (records_of (history c.args.log.now)) c.deref.ensures.value
+same : (c : goal.After-drop-appended-2) → map content c.in_ok-records.records.items ≡ appended_records (history c.args.log.now) c.in_ok-pages.appended.items
+same c = c.in_ok-records.ensures.ok ∙ ap (appended_records (history c.args.log.now)) c.deref.ensures.value
 
 pub returns-clause-rolled_back : goal.returns-clause-rolled_back
 returns-clause-rolled_back c =

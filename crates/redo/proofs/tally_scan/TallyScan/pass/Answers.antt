@@ -5,7 +5,7 @@ use Rattle.wal.proofs.Histories.{base_within}
 use Rattle.redo.specs.declared.tally.Tally.{Tally}
 use Rattle.redo.specs.Routes.{skipped, ExistWithin, NoteFault}
 use Rattle.redo.specs.OnePass.{AreUpTo}
-use Rattle.redo.specs.Passing.{TalliesSoFar, AreKept, PassFault}
+use Rattle.redo.specs.Passing.{TalliesSoFar, AreScanned, PieceFault}
 use Rattle.redo.proofs.Reading.{written_back}
 use Rattle.redo.proofs.Stretches.{skipped_from, skipped_within}
 use Rattle.redo.proofs.Causes.{exist_from, first_missing}
@@ -16,7 +16,7 @@ pub loop-lsn-init : goal.loop-lsn-init
 loop-lsn-init c =
     let old = c.args.self.now in
     let piece = c.args.piece.now in
-    let begun = subst (λ (s : TalliesSoFar). AreKept s.upto s.tallies) c.self.view_is c.self.invariant in
+    let begun = subst (λ (s : TalliesSoFar). AreScanned s.upto s.tallies) c.self.view_is c.self.invariant in
     let redo_lsn : c.self.inside.redo_lsn ≡ old.redo_lsn = ap (λ (s : TalliesSoFar). s.redo_lsn) c.self.view_is in
     let from : c.skipped_below-from.result ≡ skipped_at old piece = c.skipped_below-from.ensures ∙ ap (λ n. skipped (base_lsn (history piece)) n (last_lsn (history piece))) redo_lsn in (
       subst (HasPassed old piece c.skipped_below-from.result) (sym (ap (λ (s : TalliesSoFar). s.tallies) c.self.view_is))
@@ -70,7 +70,7 @@ returns-in_err-count_seen-clause-fault c =
     let named = subst (NoteFault (length old.tallies) (lsn + 1) glance.entry) only cause in
     let past : skipped_at old piece ≤ lsn = omega (arith, c.loop-lsn.auto.lsn, c.skipped_below-from.ensures, ap (λ n. skipped (base_lsn (history piece)) n (last_lsn (history piece))) c.loop-lsn.invariant.1) in
     rw (exit.1, exit.2)
-    (subst (PassFault piece (length old.tallies) old.redo_lsn) (sym only)
+    (subst (PieceFault piece (length old.tallies) old.redo_lsn) (sym only)
     (first_missing piece (length old.tallies) old.redo_lsn (lsn + 1)
     (record { entry = glance.entry; past = omega (arith, past); there = glance.there; beyond = named.1; before = λ k r above less found. passed.exist k r above (omega (arith, less)) found })))
 

@@ -5,7 +5,7 @@ use Rattle.wal.specs.Records.{history, base_lsn, last_lsn, record_at}
 use Rattle.wal.specs.Content.{entry_of}
 use Rattle.wal.specs.Undo.{lost_in}
 use Rattle.undo.specs.Gathered.{IsPassedOver}
-use Rattle.undo.specs.Wants.{AreUpTo, wants_in}
+use Rattle.undo.specs.Wants.{WantUpTo, wants_in}
 use Rattle.undo.proofs.FirstWants.{Waits}
 use Rattle.undo.proofs.gathering.Gathering.begin.Given as goal
 
@@ -16,5 +16,5 @@ invariant-loop-tx l =
       last : last_lsn (history l.gathering.gathered) ≡ l.base + l.count;
       none : (lsn : ℕ) → IsPassedOver (record_at (history l.gathering.gathered) lsn);
       waits : All (Waits (l.base + l.count) (wants_in l.gathering.wants)) (lost_in (map entry_of (map deref_pair l.yielded)));
-      before : AreUpTo (l.base + l.count) (wants_in l.gathering.wants);
+      before : WantUpTo (l.base + l.count) (wants_in l.gathering.wants);
     }

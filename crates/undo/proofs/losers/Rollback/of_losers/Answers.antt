@@ -15,7 +15,7 @@ use Rattle.wal.specs.Undo.{entry_for, is_lost, lost_in}
 use Rattle.wal.proofs.Histories.{size_of_log}
 use Rattle.wal.proofs.Entries.{Rise, entry_found, rise, distinct}
 use Rattle.tables.specs.Tables.{losers_in}
-use Rattle.undo.specs.Appended.{record_of, records_of}
+use Rattle.undo.specs.Appended.{record_of, appended_records}
 use Rattle.undo.specs.Rollback.{loser_at}
 use Rattle.undo.proofs.Begun.{AreEnds, Begun, meets_nothing}
 use Rattle.undo.proofs.Lost.{one_more, one_lost, none_lost, lost_about, lost_rise, lost_found}
@@ -72,7 +72,7 @@ returns-in_err-resolve-clause-fault c =
     let earlier = stands_earlier 0 (lost_in done) (lost_in (map entry_of c.next.new.self)) e (subst (Rise 0) losers rises) in
     rw (exit.1, exit.2)
     (λ count. broken_start (history c.args.log.now) (losers_in c.args.tables.now) (lost_in done) (loser_at c.loop-tx.rollback) (loser_at c.resolve.new.self)
-    (records_of (history c.args.log.now) c.loop-tx.rollback.appended.items) (records_of (history c.args.log.now) c.resolve.new.self.appended.items) c.next_lsn-end.result (omega (arith, c.next_lsn-end.ensures.next, size_of_log c.args.log.now))
+    (appended_records (history c.args.log.now) c.loop-tx.rollback.appended.items) (appended_records (history c.args.log.now) c.resolve.new.self.appended.items) c.next_lsn-end.result (omega (arith, c.next_lsn-end.ensures.next, size_of_log c.args.log.now))
     e (own c.in-Some.tx.now c.in-Some.entry.now c.tables.inside.transactions.entries (losers_in c.args.tables.now) same turn.1 lost) c.loop-tx.invariant.begun
     (λ t x lt some. earlier t x lt (sym (ap (entry_for t) losers) ∙ some)) count c.in_err-resolve.field-0.0 c.in_err-resolve.ensures.fault)
 
@@ -89,9 +89,9 @@ loop-tx-preserved-in-Continue-1 c =
     let more = ap lost_in (one_more c.loop-tx.yielded c.in-Some.tx c.in-Some.entry) ∙ one_lost done e lost in
     record {
       begun =
-          subst (λ es. Begun (history c.args.log.now) (losers_in c.args.tables.now) es (loser_at c.resolve.new.self) (records_of (history c.args.log.now) c.resolve.new.self.appended.items)) (sym more)
+          subst (λ es. Begun (history c.args.log.now) (losers_in c.args.tables.now) es (loser_at c.resolve.new.self) (appended_records (history c.args.log.now) c.resolve.new.self.appended.items)) (sym more)
           (begun_more (history c.args.log.now) (losers_in c.args.tables.now) (lost_in done) (loser_at c.loop-tx.rollback) (loser_at c.resolve.new.self)
-          (records_of (history c.args.log.now) c.loop-tx.rollback.appended.items) (records_of (history c.args.log.now) c.resolve.new.self.appended.items) c.next_lsn-end.result (omega (arith, c.next_lsn-end.ensures.next, size_of_log c.args.log.now))
+          (appended_records (history c.args.log.now) c.loop-tx.rollback.appended.items) (appended_records (history c.args.log.now) c.resolve.new.self.appended.items) c.next_lsn-end.result (omega (arith, c.next_lsn-end.ensures.next, size_of_log c.args.log.now))
           e found c.loop-tx.invariant.begun c.in_ok-resolve.ensures.ok.resolved);
       numbers =
           subst (All (λ n. n < 2 ^ 32)) (sym (ap (map tx_in) more ∙ map_push tx_in (lost_in done) e))
@@ -107,7 +107,7 @@ loop-tx-preserved c =
     let kept : is_lost e ≡ false = sym (c.is_lost.ensures c.in-Some.tx.now) ∙ c.if-is_lost.false in
     let more = ap lost_in (one_more c.loop-tx.yielded c.in-Some.tx c.in-Some.entry) ∙ none_lost (map entry_of (map deref_pair c.loop-tx.yielded)) e kept in
     record {
-      begun = subst (λ es. Begun (history c.args.log.now) (losers_in c.args.tables.now) es (loser_at c.loop-tx.rollback) (records_of (history c.args.log.now) c.loop-tx.rollback.appended.items)) (sym more) c.loop-tx.invariant.begun;
+      begun = subst (λ es. Begun (history c.args.log.now) (losers_in c.args.tables.now) es (loser_at c.loop-tx.rollback) (appended_records (history c.args.log.now) c.loop-tx.rollback.appended.items)) (sym more) c.loop-tx.invariant.begun;
       numbers = subst (λ es. All (λ n. n < 2 ^ 32) (map tx_in es)) (sym more) c.loop-tx.invariant.numbers;
       updates = c.loop-tx.invariant.updates;
       writable = c.loop-tx.invariant.writable;
@@ -132,7 +132,7 @@ returns-clause-ok c = λ pages numbered.
     let log = history c.args.log.now in
     let losers = losers_in c.args.tables.now in
     let rollback = c.loop-tx.rollback in
-    let appended = records_of log rollback.appended.items in
+    let appended = appended_records log rollback.appended.items in
     let ends : AreEnds appended = subst AreEnds (sym c.loop-tx.invariant.begun.ends) (are_ends (filter (meets_nothing log) (lost_in (map entry_of (map deref_pair c.loop-tx.yielded))))) in
     record {
       numbered = numbered;

@@ -6,7 +6,7 @@ use Rattle.wal.proofs.Histories.{size_of_log, base_of_log}
 use Rattle.tables.specs.Tables.{TablesContent, losers_in}
 use Rattle.undo.specs.declared.losers.Loser.{Loser}
 use Rattle.undo.specs.declared.losers.Rollback.{Rollback}
-use Rattle.undo.specs.Appended.{records_of}
+use Rattle.undo.specs.Appended.{appended_records}
 use Rattle.undo.specs.declared.turns.Turns.{Turns}
 use Rattle.undo.specs.Turns.{turns_of, turn_at, Taken}
 use Rattle.undo.specs.Rollback.{loser_at, IsRolling, IsTaken}
@@ -80,7 +80,7 @@ returns-clause-undoes c = λ tables given rolling.
     let losers = losers_in tables in
     let rollback = c.loop-update_lsn.self in
     let at = loser_at rollback in
-    let records = records_of log rollback.appended.items in
+    let records = appended_records log rollback.appended.items in
     let rolls = c.loop-update_lsn.invariant.rolls tables given rolling in
     record {
       rolled_back = record {

@@ -4,7 +4,7 @@ use Rattle.std.proofs.lemmas.Result.{err_from_is_err_and, on_ok_weaker, IfErr-we
 use Rattle.wal.specs.Records.{history}
 use Rattle.wal.proofs.Histories.{size_of_log, base_of_log}
 use Rattle.tables.specs.Tables.{losers_in}
-use Rattle.undo.specs.Appended.{record_of, records_of}
+use Rattle.undo.specs.Appended.{record_of, appended_records}
 use Rattle.undo.specs.Undone.{undone_page}
 use Rattle.undo.specs.Turns.{turn_at}
 use Rattle.undo.specs.Rollback.{CompensationFault}
@@ -26,7 +26,7 @@ pub returns-in_err-prev-clause-fault : goal.returns-in_err-prev-clause-fault
 returns-in_err-prev-clause-fault c =
     let exit = err_from_is_err_and c.from_residual.result c.from_residual.ensures.1 in
     let log = history c.args.log.now in
-    let before = records_of log c.args.self.now.appended.items in
+    let before = appended_records log c.args.self.now.appended.items in
     let fault = c.in_err-prev.field-0.0 in
     rw (exit.1, exit.2)
     (λ tables given at.
@@ -40,9 +40,9 @@ returns-clause-undoes c =
     let u = c.requires.update.update in
     let done = c.in_ok-prev.ensures.ok u c.requires.update.found in
     let some : 0 < c.args.loser.tx = subst (λ t. 0 < t) c.requires.update.own (c.in_ok-prev.ensures.counted u c.requires.update.found) in
-    let before = records_of log c.args.self.now.appended.items in
-    let between = records_of log c.compensate.new.appended.items in
-    let after = records_of log c.resolve.new.self.appended.items in
+    let before = appended_records log c.args.self.now.appended.items in
+    let between = appended_records log c.compensate.new.appended.items in
+    let after = appended_records log c.resolve.new.self.appended.items in
     on_ok_weaker c.resolve.result
     (λ resolves tables given at.
     let rolling = at.rolling in
@@ -67,7 +67,7 @@ returns-clause-fault c =
     let log = history c.args.log.now in
     let u = c.requires.update.update in
     let done = c.in_ok-prev.ensures.ok u c.requires.update.found in
-    let before = records_of log c.args.self.now.appended.items in
+    let before = appended_records log c.args.self.now.appended.items in
     IfErr-weaker c.resolve.result _ _
     (λ e h tables given at.
     let count : length c.args.pages.now ≡ length given = ap length at.rolling.pages_are ∙ length-map given (undone_page log before) in
@@ -89,8 +89,8 @@ returns-clause-few c =
     (λ resolves.
     omega (
       arith,
-      resolved_few log _ c.args.update_lsn c.in_ok-prev.prev _ _ (records_of log c.compensate.new.appended.items) (records_of log c.resolve.new.self.appended.items) resolves.resolved,
-      one_more (records_of log c.args.self.now.appended.items) (records_of log c.compensate.new.appended.items) _ done.appended,
+      resolved_few log _ c.args.update_lsn c.in_ok-prev.prev _ _ (appended_records log c.compensate.new.appended.items) (appended_records log c.resolve.new.self.appended.items) resolves.resolved,
+      one_more (appended_records log c.args.self.now.appended.items) (appended_records log c.compensate.new.appended.items) _ done.appended,
       length-map c.args.self.now.appended.items (record_of log),
       length-map c.compensate.new.appended.items (record_of log),
       length-map c.resolve.new.self.appended.items (record_of log),
