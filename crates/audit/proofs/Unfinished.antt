@@ -1,11 +1,17 @@
 -- Unfinished transactions, and those in doubt, by what is known of each.
-use Rattle.std.proofs.Common.{◌≡◌, ◌&&◌, not, ℕ, suc, Bool, true, false, List, Option, Some, None, refl, sym, ap, ap₂, ◌∙◌, inl, inr, arith, eqb, eq-eqb, ne_eqb}
+use Rattle.std.proofs.Common.{◌≡◌, ◌&&◌, not, ℕ, suc, Bool, true, false, List, Option, Some, None, refl, sym, ap, ap₂, ◌∙◌, inl, inr, arith, eqb, eq-eqb, ne_eqb, cond, get_or, subst}
 use Rattle.std.proofs.lemmas.Bool.{cases_Bool, cases_eq, or_cases, or_left, or_right, false≢true, both_ways}
+use Rattle.std.specs.Prelude.{◌%◌, ◌⊎◌, is_some}
+use Rattle.std.specs.Ordering.{nat_cmp}
+use Rattle.std.specs.BTreeMap.{get}
+use Rattle.std.proofs.Math.Nat.{mod-lt}
 use Rattle.wal.specs.Records.{LogRecord, Prepare, History, start, ◌▸◌, last_lsn}
 use Rattle.wal.specs.Meaning.{is_of, is_prepare_of, has, prepared, aborted, in_doubt, is_unfinished, finished, last_of}
 use Rattle.audit.specs.declared.status.Status.{Status}
 use Rattle.audit.specs.declared.standing.Finish.{Finish}
+use Rattle.audit.specs.declared.unfinished_table.UnfinishedTable.{UnfinishedTable}
 use Rattle.audit.specs.Statuses.{IsStatusOf}
+use Rattle.audit.specs.Unfinished.{unfinished_in, own_or, IsPlaced, IsOther}
 use Rattle.audit.specs.Standings.{IsStandingOf, standing_by}
 use Rattle.audit.proofs.StandingAfter.{finished_so}
 
@@ -53,6 +59,28 @@ absent_not_unfinished links t log finish h =
 pub present_unfinished : (links : List ℕ) (t : ℕ) (log : History) (s : Option Status) (finish : Option Finish) → IsStandingOf links t log (standing_by s finish) → finished t log ≡ true → s ≡ None
 present_unfinished links t log None finish h done = refl
 present_unfinished links t log (Some s) finish h done = absurd (both_ways (finished t log) h.unfinished done)
+
+-- so one that is unfinished stands at a place, or among the others
+found_there : (table : UnfinishedTable) (t : ℕ) (s : Status) → unfinished_in table t ≡ Some s → IsPlaced table t ⊎ IsOther table t
+found_there table t s e = by_place (get_or table.places (t % 256) None) refl
+  where
+    by_place : (o : Option (ℕ × Status)) → get_or table.places (t % 256) None ≡ o → IsPlaced table t ⊎ IsOther table t
+    by_place None is = inr (ap is_some (sym (ap (λ o. own_or t o (get nat_cmp table.others t)) is) ∙ e))
+    by_place (Some p) is =
+        elim (cases_eq p.0 t) [
+          | inl own ↦ inl (t % 256, p.1, mod-lt t (omega arith), is ∙ ap (λ n. Some (n, p.1)) own)
+          | inr ne ↦
+              inr (ap is_some (sym (ap (λ o. own_or t o (get nat_cmp table.others t)) is ∙ ap (λ b. cond b (Some p.1) (get nat_cmp table.others t)) (ne_eqb p.0 t ne)) ∙ e))
+        ]
+
+pub unfinished_there : (links : List ℕ) (t : ℕ) (log : History) (table : UnfinishedTable) (finish : Option Finish) → IsStandingOf links t log (standing_by (unfinished_in table t) finish) → is_unfinished t log ≡ true
+    → IsPlaced table t ⊎ IsOther table t
+unfinished_there links t log table finish stands live = by_status (unfinished_in table t) refl
+  where
+    by_status : (o : Option Status) → unfinished_in table t ≡ o → IsPlaced table t ⊎ IsOther table t
+    by_status None e =
+        absurd (both_ways (is_unfinished t log) (absent_not_unfinished links t log finish (subst (λ (o : Option Status). IsStandingOf links t log (standing_by o finish)) e stands)) live)
+    by_status (Some s) e = found_there table t s e
 
 -- who has prepared has a record
 prepare_own : (t : ℕ) (r : LogRecord) → is_prepare_of t r ≡ true → is_of t r ≡ true

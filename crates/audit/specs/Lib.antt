@@ -1,4 +1,7 @@
 pub mod Statuses
+pub mod Unfinished
+pub mod Numbers
+pub mod Finished
 pub mod Standings
 pub mod Cells
 pub mod FirstFault

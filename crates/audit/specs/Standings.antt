@@ -1,6 +1,5 @@
 -- How the transactions stand, finished or not (own).
-use Rattle.std.specs.Prelude.{◌≡◌, ℕ, List, Option, Some, None, Bool, true, false, nat_eq, unwrap_or, slice_index_or, replicate, ◌/◌, ◌%◌}
-use Rattle.std.specs.HashMap.{get}
+use Rattle.std.specs.Prelude.{◌≡◌, ℕ, List, Option, Some, None, Bool, true, false}
 use Rattle.wal.specs.Records.{LogRecord, Commit, End, History}
 use Rattle.wal.specs.Meaning.{committed, ended, is_commit_of, is_end_of}
 use Rattle.audit.specs.declared.status.Status.{Status}
@@ -8,9 +7,10 @@ use Rattle.audit.specs.declared.standing.Finish.{Finish}
 use Rattle.audit.specs.declared.standing.Finish.TheVariants.{Committed, Ended}
 use Rattle.audit.specs.declared.standing.Standing.{Standing}
 use Rattle.audit.specs.declared.standing.Standing.TheVariants.{Unfinished, Finished}
-use Rattle.audit.specs.declared.finish_table.FinishTable.{FinishTable}
 use Rattle.audit.specs.declared.standings.Standings.{Standings}
 use Rattle.audit.specs.Statuses.{IsStatusOf, unknown, after}
+use Rattle.audit.specs.Unfinished.{unfinished_in}
+use Rattle.audit.specs.Finished.{finish_in}
 
 -- ONE TRANSACTION
 -- the transaction t has finished so
@@ -46,14 +46,6 @@ is_some_with test None = false
 is_some_with test (Some r) = test r
 
 -- ALL OF THEM
--- how the 16 transactions of a block have finished
-abbrev pub block_in : FinishTable → ℕ → List (Option Finish)
-block_in table number = unwrap_or (get nat_eq table.blocks number) (replicate 16 None)
-
--- how the transaction t has finished
-abbrev pub finish_in : FinishTable → ℕ → Option Finish
-finish_in table t = slice_index_or (block_in table (t / 16)) (t % 16) None
-
 -- how it stands, by what is known of it where it has not finished, and by how it has
 abbrev pub standing_by : Option Status → Option Finish → Standing
 standing_by (Some s) finish = Unfinished s
@@ -61,4 +53,4 @@ standing_by None (Some finish) = Finished finish
 standing_by None None = Unfinished unknown
 
 abbrev pub standing_in : Standings → ℕ → Standing
-standing_in standings t = standing_by (get nat_eq standings.unfinished t) (finish_in standings.finished t)
+standing_in standings t = standing_by (unfinished_in standings.unfinished t) (finish_in standings.finished t)

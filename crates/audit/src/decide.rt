@@ -1,7 +1,6 @@
 //! Whether a record keeps a law: one function a law, exact.
 
-ghost use Rattle.std.specs.Prelude.{◌≡◌, ◌+◌, ◌*◌, ◌≤◌, ◌<◌, ◌↔◌, ℕ, List, All, IsTrue, Some, length, nat_eq, option_map, slice_index_or};
-ghost use Rattle.std.specs.HashMap.{get};
+ghost use Rattle.std.specs.Prelude.{◌≡◌, ◌+◌, ◌*◌, ◌≤◌, ◌<◌, ◌↔◌, ℕ, List, All, IsTrue, Some, length, option_map, slice_index_or};
 ghost use Rattle.page.specs.Image.{Image};
 ghost use Rattle.wal.specs.Records.{LogRecord, History, history, last_lsn, record_at, base_lsn};
 ghost use Rattle.wal.specs.Meaning.{BasePages};
@@ -11,6 +10,7 @@ ghost use Rattle.wal.specs.Spelling.{Fits};
 ghost use Rattle.wal.specs.Tail.{tx_of};
 ghost use Rattle.wal.specs.Content.{shown};
 ghost use Rattle.audit.specs.Standings.{IsStandingOf, standing_in, finishes, is_some_with};
+ghost use Rattle.audit.specs.Unfinished.{unfinished_in};
 ghost use Rattle.audit.specs.Cells.{HasCell, KeepsCells, cell_in};
 ghost use Rattle.audit.specs.declared.cell.Cell.{Cell};
 ghost use Rattle.audit.specs.Passing.{Begins, Undoes, IsFreeFor};
@@ -187,7 +187,7 @@ fn cell_at(cells: &[Cell], page: u32, slot: u8) -> Cell
 /// Whether the writer of a cell, if it has one, is this transaction or not among the unfinished.
 fn is_free_for(standings: &Standings, writer: Option<u32>, tx: u32) -> bool
     ensures { IsTrue result
-        ↔ IsFreeFor (get nat_eq standings.now.unfinished) writer tx }
+        ↔ IsFreeFor (unfinished_in standings.now.unfinished) writer tx }
 {
     match writer {
         None => true,

@@ -1,32 +1,139 @@
 //! The finished transactions: some two bytes each, where their numbers lie close together.
 
-ghost use Rattle.std.specs.Prelude.{◌≡◌, ◌==◌, ◌/◌, ◌%◌, ℕ, Some, None, OnOk, IsOkUnless, if◌then◌else◌, length, slice_set};
+ghost use Rattle.std.specs.Prelude.{◌≡◌, ◌≢◌, ◌==◌, ◌/◌, ◌%◌, ◌<◌, ◌++◌, ◌∷◌, [], ℕ, Some, None, OnOk, OnErr, IfOk, IsOkUnless, if◌then◌else◌, length, slice_set, slice_index_or, option_map, take};
 ghost use Rattle.page.specs.declared.fault.Fault.TheVariants.{NoResource};
-ghost use Rattle.audit.specs.Standings.{block_in, finish_in};
+ghost use Rattle.audit.specs.Finished.{finish_in, place_of, empty_block, with_finish, AreDistinct, IsIndexOf};
+ghost use Rattle.audit.specs.declared.number_table.TheConstants.{NO_NUMBER, NO_PLACE};
 
+use crate::number_table::{NO_PLACE, NumberTable};
 use crate::standing::Finish;
 use page::Fault;
 use std::alloc::Global;
-use std::collections::HashMap;
+use std::marker::Model;
 
 /// How many transactions a block is of.
-const BLOCK: usize = 16;
+pub const BLOCK: usize = 16;
 
-/// How each finished transaction has finished. They stand in blocks of 16 with neighbouring numbers:
-/// engines count their transactions, so blocks are full.
-#[derive(Drop)]
-pub struct FinishTable {
-    /// By a sixteenth of their numbers; None for one that has not finished.
-    pub blocks: HashMap<u32, [Option<Finish>; BLOCK]>,
+/// With how many buckets an index begins.
+const FIRST_BUCKETS: usize = 8;
+
+/// How 16 transactions with neighbouring numbers have finished.
+#[derive(Clone, Copy)]
+pub struct Block {
+    /// A sixteenth of their numbers.
+    pub number: u32,
+    /// By the last four bits of their numbers; None for one that has not finished.
+    pub finishes: [Option<Finish>; BLOCK],
 }
 
-/// Puts into its block how a transaction has finished.
+/// How each finished transaction has finished. They stand in blocks of 16 with neighbouring numbers:
+/// engines count their transactions, so blocks are full. Contracts see the list of the blocks.
+#[derive(Drop)]
+pub struct FinishTable {
+    /// In the order of their first finish.
+    blocks: Vec<Block>,
+    /// The place of each block, by its number.
+    index: NumberTable,
+    /// The place of the block that was used last; any number before the first.
+    newest: usize,
+}
+
+impl Model for FinishTable {
+    ghost use Rattle.std.specs.Prelude.{List};
+    ghost use Rattle.audit.specs.declared.finish_table.Block.{Block};
+    ghost use Rattle.audit.specs.Finished.{AreDistinct, IsIndexOf};
+
+    ghost Value = { List Block };
+
+    ghost view = { λ t. t.blocks.items };
+
+    ghost invariant = { λ t. AreDistinct t.blocks.items × IsIndexOf t.blocks.items t.index };
+}
+
+/// Notes in its block how a transaction has finished.
 #[inline(always)]
-fn put(block: &mut [Option<Finish>; BLOCK], tx: u32, finish: Finish)
-    ensures count { length block.old ≡ 16 }
-    ensures put { block.new ≡ slice_set block.old (tx % 16) (Some finish) }
+fn put(block: &mut Block, tx: u32, finish: Finish)
+    ensures count { length block.old.finishes ≡ 16 }
+    ensures put { block.new ≡ with_finish block.old (tx % 16) finish }
 {
-    block[tx as usize % BLOCK] = Some(finish);
+    block.finishes[tx as usize % BLOCK] = Some(finish);
+}
+
+/// A place as an index keeps it. The only error is `NoResource`, where there are as many places as
+/// an index can tell apart.
+fn index_place(place: usize) -> Result<u32, Fault>
+    ensures ok { IfOk result (λ p. (p ≡ place) × (p ≢ NO_PLACE)) }
+    ensures err { IsOkUnless result NoResource }
+{
+    if place >= NO_PLACE as usize {
+        return Err(Fault::NoResource);
+    }
+    Ok(place as u32)
+}
+
+/// An index of the blocks that has so many buckets. The only error is `NoResource`.
+fn index_of(alloc: Global, blocks: &[Block], count: usize) -> Result<NumberTable, Fault>
+    requires { AreDistinct blocks.now }
+    ensures ok { IfOk result (λ index. IsIndexOf blocks.now index) }
+    ensures err { IsOkUnless result NoResource }
+{
+    let mut index = NumberTable::with_buckets(alloc, count)?;
+    for place in 0..blocks.len() {
+        index.insert(blocks[place].number, index_place(place)?)?;
+    }
+    Ok(index)
+}
+
+/// Makes an index of the blocks larger where there are more than three blocks a bucket. The only error
+/// is `NoResource`.
+fn make_room(blocks: &Vec<Block>, index: &mut NumberTable) -> Result<(), Fault>
+    requires distinct { AreDistinct blocks.now.items }
+    requires index { IsIndexOf blocks.now.items index.old }
+    ensures index { IsIndexOf blocks.now.items index.new }
+    ensures err { IsOkUnless result NoResource }
+{
+    let count = index.buckets.len();
+    if blocks.len() / 3 >= count {
+        let more = count.saturating_mul(2).max(FIRST_BUCKETS);
+        *index = index_of(*blocks.allocator(), blocks, more)?;
+    }
+    Ok(())
+}
+
+/// Appends a block in which nobody has finished. The only error is `NoResource`, and then the blocks
+/// are as they were.
+fn push_block(blocks: &mut Vec<Block>, number: u32) -> Result<(), Fault>
+    ensures ok { OnOk result (blocks.new.items ≡ blocks.old.items ++ empty_block number ∷ []) }
+    ensures unchanged { OnErr result (blocks.new.items ≡ blocks.old.items) }
+    ensures err { IsOkUnless result NoResource }
+{
+    blocks.push(Block {
+        number,
+        finishes: [None; BLOCK],
+    })?;
+    Ok(())
+}
+
+/// Appends a block in which nobody has finished, and indexes it. The only error is `NoResource`, and
+/// then the blocks are as they were.
+fn add_block(blocks: &mut Vec<Block>, index: &mut NumberTable, number: u32) -> Result<(), Fault>
+    requires distinct { AreDistinct blocks.old.items }
+    requires index { IsIndexOf blocks.old.items index.old }
+    requires new { place_of blocks.old.items number ≡ None }
+    requires number { number ≢ NO_NUMBER }
+    ensures ok { OnOk result (blocks.new.items ≡ blocks.old.items ++ empty_block number ∷ []) }
+    ensures unchanged { OnErr result (blocks.new.items ≡ blocks.old.items) }
+    ensures index { IsIndexOf blocks.new.items index.new }
+    ensures err { IsOkUnless result NoResource }
+{
+    let count = blocks.len();
+    let place = index_place(count)?;
+    push_block(blocks, number)?;
+    if let Err(fault) = index.insert(number, place) {
+        blocks.truncate(count);
+        return Err(fault);
+    }
+    Ok(())
 }
 
 impl FinishTable {
@@ -35,17 +142,27 @@ impl FinishTable {
         ensures { (t : ℕ) → finish_in result t ≡ None }
     {
         FinishTable {
-            blocks: HashMap::new(alloc),
+            blocks: Vec::new(alloc),
+            index: NumberTable::new(alloc),
+            newest: 0,
         }
     }
 
-    /// The block of this number.
-    fn block(&self, number: u32) -> [Option<Finish>; BLOCK]
-        ensures { result ≡ block_in self.now number }
+    /// The place of the block with a number, None where there is none. The newest block is looked at
+    /// first.
+    #[inline(always)]
+    fn find(&self, number: u32) -> Option<usize>
+        requires { number ≢ NO_NUMBER }
+        ensures { result ≡ place_of self.now number }
     {
-        match self.blocks.get(&number) {
-            Some(block) => *block,
-            None => [None; BLOCK],
+        if let Some(block) = self.blocks.get(self.newest) {
+            if block.number == number {
+                return Some(self.newest);
+            }
+        }
+        match self.index.get(number) {
+            Some(place) => Some(place as usize),
+            None => None,
         }
     }
 
@@ -53,7 +170,39 @@ impl FinishTable {
     pub fn get(&self, tx: u32) -> Option<Finish>
         ensures { result ≡ finish_in self.now tx }
     {
-        self.block(tx / BLOCK as u32)[tx as usize % BLOCK]
+        match self.find(tx / BLOCK as u32) {
+            Some(place) => self.blocks[place].finishes[tx as usize % BLOCK],
+            None => None,
+        }
+    }
+
+    /// Adds a block with a number that none has, and answers its place. The only error is
+    /// `NoResource`.
+    fn add(&mut self, number: u32) -> Result<usize, Fault>
+        requires new { place_of self.old number ≡ None }
+        requires number { number ≢ NO_NUMBER }
+        ensures place { IfOk result (λ place. place_of self.new number ≡ Some place) }
+        ensures same { OnOk result ((t : ℕ) → finish_in self.new t ≡ finish_in self.old t) }
+        ensures err { IsOkUnless result NoResource }
+    {
+        make_room(&self.blocks, &mut self.index)?;
+        let place = self.blocks.len();
+        add_block(&mut self.blocks, &mut self.index, number)?;
+        Ok(place)
+    }
+
+    /// The place of the block with a number, a new one where there was none. The only error is
+    /// `NoResource`.
+    fn find_or_add(&mut self, number: u32) -> Result<usize, Fault>
+        requires { number ≢ NO_NUMBER }
+        ensures place { IfOk result (λ place. place_of self.new number ≡ Some place) }
+        ensures same { OnOk result ((t : ℕ) → finish_in self.new t ≡ finish_in self.old t) }
+        ensures err { IsOkUnless result NoResource }
+    {
+        match self.find(number) {
+            Some(place) => Ok(place),
+            None => self.add(number),
+        }
     }
 
     /// Notes how a transaction has finished. The only error is `NoResource`.
@@ -62,11 +211,9 @@ impl FinishTable {
             ≡ (if tx == t then Some finish else finish_in self.old t)) }
         ensures err { IsOkUnless result NoResource }
     {
-        let block = self
-            .blocks
-            .entry(tx / BLOCK as u32)?
-            .or_insert([None; BLOCK]);
-        put(block, tx, finish);
+        let place = self.find_or_add(tx / BLOCK as u32)?;
+        self.newest = place;
+        put(&mut self.blocks[place], tx, finish);
         Ok(())
     }
 }

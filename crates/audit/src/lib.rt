@@ -9,12 +9,14 @@ mod dirty;
 mod finish_table;
 mod laws;
 mod master;
+mod number_table;
 mod pages;
 mod records;
 mod standing;
 mod standings;
 mod status;
 mod table;
+mod unfinished_table;
 mod verdict;
 
 pub use laws::{

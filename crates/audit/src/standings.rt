@@ -1,27 +1,27 @@
 //! How the transactions stand: what is known of each unfinished one, and how the others finished.
 
-ghost use Rattle.std.specs.Prelude.{◌≡◌, ℕ, OnOk, IsOkUnless, if◌then◌else◌, is_some, nat_eq};
-ghost use Rattle.std.specs.HashMap.{get};
+ghost use Rattle.std.specs.Prelude.{◌≡◌, ℕ, OnOk, IsOkUnless, if◌then◌else◌, is_some};
 ghost use Rattle.page.specs.declared.fault.Fault.TheVariants.{NoResource};
 ghost use Rattle.wal.specs.Meaning.{is_of};
 ghost use Rattle.wal.specs.Content.{shown};
 ghost use Rattle.audit.specs.Statuses.{unknown};
+ghost use Rattle.audit.specs.Unfinished.{unfinished_in};
 ghost use Rattle.audit.specs.declared.standing.Standing.TheVariants.{Unfinished};
 ghost use Rattle.audit.specs.Standings.{standing_after, standing_in};
 
 use crate::finish_table::FinishTable;
 use crate::standing::{Standing, standing_after};
 use crate::status::Status;
+use crate::unfinished_table::UnfinishedTable;
 use page::Fault;
 use std::alloc::Global;
-use std::collections::HashMap;
 use wal::RecordView;
 
 /// How each transaction stands.
 #[derive(Drop)]
 pub struct Standings {
     /// Those that have a record and have not finished.
-    pub unfinished: HashMap<u32, Status>,
+    pub unfinished: UnfinishedTable,
     /// Those that have finished.
     pub finished: FinishTable,
 }
@@ -32,7 +32,7 @@ impl Standings {
         ensures { (t : ℕ) → standing_in result t ≡ Unfinished unknown }
     {
         Standings {
-            unfinished: HashMap::new(alloc),
+            unfinished: UnfinishedTable::new(alloc),
             finished: FinishTable::new(alloc),
         }
     }
@@ -41,8 +41,8 @@ impl Standings {
     pub fn get(&self, tx: u32) -> Standing
         ensures { result ≡ standing_in self.now tx }
     {
-        match self.unfinished.get(&tx) {
-            Some(status) => Standing::Unfinished(*status),
+        match self.unfinished.get(tx) {
+            Some(status) => Standing::Unfinished(status),
             None => match self.finished.get(tx) {
                 Some(finish) => Standing::Finished(finish),
                 None => Standing::Unfinished(Status::unknown()),
@@ -52,9 +52,9 @@ impl Standings {
 
     /// Whether a transaction is among the unfinished.
     pub fn has_unfinished(&self, tx: u32) -> bool
-        ensures { result ≡ is_some (get nat_eq self.now.unfinished tx) }
+        ensures { result ≡ is_some (unfinished_in self.now.unfinished tx) }
     {
-        self.unfinished.contains_key(&tx)
+        self.unfinished.has(tx)
     }
 
     /// Takes in the record at an LSN, before which its transaction stands so. `below` is what stands
@@ -79,7 +79,7 @@ impl Standings {
             }
             Standing::Finished(finish) => {
                 self.finished.note(tx, finish)?;
-                self.unfinished.remove(&tx);
+                self.unfinished.remove(tx);
             }
         }
         Ok(())

@@ -1,7 +1,8 @@
 //! The transaction table of a checkpoint, against how the transactions stand at its begin.
 
-ghost use Rattle.std.specs.Prelude.{◌≡◌, ◌||◌, ◌↔◌, ℕ, List, All, IsTrue, true, map, nat_eq, IfOk, OnOk, IfSome, IsOkUnless};
-ghost use Rattle.std.specs.HashSet.{contains};
+ghost use Rattle.std.specs.Prelude.{◌≡◌, ◌==◌, ◌||◌, ◌↔◌, ℕ, List, All, IsTrue, true, map, IfOk, OnOk, IfSome, IsOkUnless};
+ghost use Rattle.std.specs.Ordering.{nat_cmp};
+ghost use Rattle.std.specs.BTreeSet.{contains};
 ghost use Rattle.page.specs.declared.fault.Fault.TheVariants.{NoResource};
 ghost use Rattle.wal.specs.Records.{tx_in, History};
 ghost use Rattle.wal.specs.Meaning.{state_by, is_unfinished};
@@ -10,14 +11,16 @@ ghost use Rattle.wal.specs.Spelling.{IsRising};
 ghost use Rattle.wal.specs.Content.{entry_of};
 ghost use Rattle.audit.specs.Statuses.{IsStatusOf};
 ghost use Rattle.audit.specs.Standings.{IsStandingOf, standing_in};
+ghost use Rattle.audit.specs.Unfinished.{IsPlaced, IsOther};
 ghost use Rattle.audit.specs.Checkpoints.{IsTrueEntry, Lists};
 
 use crate::standing::Standing;
 use crate::standings::Standings;
 use crate::status::Status;
+use crate::unfinished_table::PLACES;
 use page::Fault;
 use std::alloc::Global;
-use std::collections::HashSet;
+use std::collections::BTreeSet;
 use wal::{Entry, State, TransactionTable};
 
 /// Whether a transaction that has not finished, and stands so, has begun.
@@ -79,9 +82,9 @@ fn entries_are_true(standings: &Standings, transactions: &TransactionTable) -> b
 }
 
 /// Takes a transaction into the set. The only error is `NoResource`.
-fn list(listed: &mut HashSet<u32>, tx: u32) -> Result<(), Fault>
-    ensures ok { OnOk result ((t : ℕ) → contains nat_eq listed.new t
-        ≡ (nat_eq t tx || contains nat_eq listed.old t)) }
+fn list(listed: &mut BTreeSet<u32>, tx: u32) -> Result<(), Fault>
+    ensures ok { OnOk result ((t : ℕ) → contains nat_cmp listed.new t
+        ≡ (tx == t || contains nat_cmp listed.old t)) }
     ensures err { IsOkUnless result NoResource }
 {
     listed.insert(tx)?;
@@ -89,12 +92,12 @@ fn list(listed: &mut HashSet<u32>, tx: u32) -> Result<(), Fault>
 }
 
 /// The transactions that have an entry. The only error is `NoResource`.
-fn listed_in(alloc: Global, transactions: &TransactionTable) -> Result<HashSet<u32>, Fault>
-    ensures ok { IfOk result (λ set. (t : ℕ) → IsTrue (contains nat_eq set t)
+fn listed_in(alloc: Global, transactions: &TransactionTable) -> Result<BTreeSet<u32>, Fault>
+    ensures ok { IfOk result (λ set. (t : ℕ) → IsTrue (contains nat_cmp set t)
         ↔ Lists transactions.now t) }
     ensures err { IsOkUnless result NoResource }
 {
-    let mut listed = HashSet::new(alloc);
+    let mut listed = BTreeSet::new(alloc);
     for place in 0..transactions.len() {
         let (tx, _) = transactions.entry(place);
         list(&mut listed, tx)?;
@@ -102,19 +105,59 @@ fn listed_in(alloc: Global, transactions: &TransactionTable) -> Result<HashSet<u
     Ok(listed)
 }
 
-/// Whether each unfinished transaction is listed.
-fn unfinished_are_listed(standings: &Standings, listed: &HashSet<u32>) -> bool
+/// Whether a transaction is listed where it is unfinished.
+fn is_listed(standings: &Standings, listed: &BTreeSet<u32>, tx: u32) -> bool
+    ensures { (log : History) (links : List ℕ)
+        → IsStandingOf links tx log (standing_in standings.now tx)
+        → IsTrue result ↔ (is_unfinished tx log ≡ true
+        → IsTrue (contains nat_cmp listed.now tx)) }
+{
+    match standings.get(tx) {
+        Standing::Unfinished(status) => !has_begun(status) || listed.contains(&tx),
+        Standing::Finished(_) => true,
+    }
+}
+
+/// Whether each unfinished transaction that stands at a place is listed.
+fn placed_are_listed(standings: &Standings, listed: &BTreeSet<u32>) -> bool
     ensures { (log : History) (links : List ℕ)
         → ((t : ℕ) → IsStandingOf links t log (standing_in standings.now t))
-        → IsTrue result ↔ ((t : ℕ) → is_unfinished t log ≡ true
-        → IsTrue (contains nat_eq listed.now t)) }
+        → IsTrue result ↔ ((t : ℕ) → IsPlaced standings.now.unfinished t
+        → is_unfinished t log ≡ true → IsTrue (contains nat_cmp listed.now t)) }
 {
-    for (tx, status) in &standings.unfinished {
-        if has_begun(*status) && !listed.contains(tx) {
+    for place in 0..PLACES {
+        if let Some((tx, _)) = standings.unfinished.places[place] {
+            if !is_listed(standings, listed, tx) {
+                return false;
+            }
+        }
+    }
+    true
+}
+
+/// Whether each unfinished transaction that has no place is listed.
+fn others_are_listed(standings: &Standings, listed: &BTreeSet<u32>) -> bool
+    ensures { (log : History) (links : List ℕ)
+        → ((t : ℕ) → IsStandingOf links t log (standing_in standings.now t))
+        → IsTrue result ↔ ((t : ℕ) → IsOther standings.now.unfinished t
+        → is_unfinished t log ≡ true → IsTrue (contains nat_cmp listed.now t)) }
+{
+    for (tx, _) in &standings.unfinished.others {
+        if !is_listed(standings, listed, *tx) {
             return false;
         }
     }
     true
+}
+
+/// Whether each unfinished transaction is listed.
+fn unfinished_are_listed(standings: &Standings, listed: &BTreeSet<u32>) -> bool
+    ensures { (log : History) (links : List ℕ)
+        → ((t : ℕ) → IsStandingOf links t log (standing_in standings.now t))
+        → IsTrue result ↔ ((t : ℕ) → is_unfinished t log ≡ true
+        → IsTrue (contains nat_cmp listed.now t)) }
+{
+    placed_are_listed(standings, listed) && others_are_listed(standings, listed)
 }
 
 /// Whether the table is exactly that of the unfinished transactions. The only error is

@@ -1,10 +1,10 @@
-use Rattle.std.proofs.Common.{◌≡◌, ◌≤◌, ◌<◌, ◌∙◌, ℕ, Option, ap, subst, refl, arith, option_map, eqb}
+use Rattle.std.proofs.Common.{◌≡◌, ◌≤◌, ◌<◌, ◌∙◌, ℕ, Option, ap, subst, refl, arith, option_map}
 use Rattle.std.specs.Prelude.{IsTrue, ◌↔◌}
 use Rattle.wal.specs.Records.{UpdateRecord}
 use Rattle.audit.specs.declared.cell.Cell.{Cell}
 use Rattle.audit.specs.Cells.{last_writer}
-use Rattle.audit.specs.Standings.{finish_in}
-use Rattle.std.specs.HashMap.{get}
+use Rattle.audit.specs.Unfinished.{unfinished_in}
+use Rattle.audit.specs.Finished.{finish_in}
 use Rattle.audit.specs.Passing.{IsFreeFor}
 use Rattle.audit.proofs.Deciding.{free_strict, strict_free}
 use Rattle.audit.proofs.decide.keeps_strictness.Goals as goal
@@ -17,8 +17,8 @@ returns-in-Update c =
     let u : UpdateRecord = record { tx = c.in-Update.tx; prev = c.in-Update.prev; page = c.in-Update.page; slot = c.in-Update.slot; before = option_map (λ s. s.now) c.in-Update.before; after = option_map (λ s. s.now) c.in-Update.after } in
     let w : c.cell_at.result.writer ≡ last_writer c.in-Update.page c.in-Update.slot so_far =
     ap (λ (x : Cell). x.writer) (c.cell_at.ensures c.cell_at.result ∙ cells.each c.in-Update.page c.in-Update.slot c.cell_at.result named slot) in
-    let is : IsTrue c.is_free_for.result ↔ IsFreeFor (get eqb c.args.standings.now.unfinished) (last_writer c.in-Update.page c.in-Update.slot so_far) c.in-Update.tx =
-    subst (λ (o : Option ℕ). IsTrue c.is_free_for.result ↔ IsFreeFor (get eqb c.args.standings.now.unfinished) o c.in-Update.tx) w c.is_free_for.ensures in (
-      λ t. free_strict base so_far lawful links (get eqb c.args.standings.now.unfinished) (finish_in c.args.standings.now.finished) stands u (last_writer u.page u.slot so_far) refl (is.0 t),
-      λ s. is.1 (strict_free base so_far lawful links (get eqb c.args.standings.now.unfinished) (finish_in c.args.standings.now.finished) stands u (last_writer u.page u.slot so_far) refl s),
+    let is : IsTrue c.is_free_for.result ↔ IsFreeFor (unfinished_in c.args.standings.now.unfinished) (last_writer c.in-Update.page c.in-Update.slot so_far) c.in-Update.tx =
+    subst (λ (o : Option ℕ). IsTrue c.is_free_for.result ↔ IsFreeFor (unfinished_in c.args.standings.now.unfinished) o c.in-Update.tx) w c.is_free_for.ensures in (
+      λ t. free_strict base so_far lawful links (unfinished_in c.args.standings.now.unfinished) (finish_in c.args.standings.now.finished) stands u (last_writer u.page u.slot so_far) refl (is.0 t),
+      λ s. is.1 (strict_free base so_far lawful links (unfinished_in c.args.standings.now.unfinished) (finish_in c.args.standings.now.finished) stands u (last_writer u.page u.slot so_far) refl s),
     ))

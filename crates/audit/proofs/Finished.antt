@@ -1,0 +1,190 @@
+-- Blocks of finished transactions, found by their numbers.
+use Rattle.std.proofs.Common.{◌≡◌, ◌≢◌, ◌<◌, ◌≤◌, ℕ, zero, suc, Bool, true, false, cond, eqb, List, [], ◌∷◌, ◌++◌, Option, Some, None, length, get_or, set, take, replicate, refl, sym, ap, ◌∙◌, subst, inl, inr, arith, eq-eqb, ne_eqb, length-append}
+use Rattle.std.specs.Prelude.{option_map, ◌/◌, ◌%◌}
+use Rattle.std.proofs.lemmas.Bool.{cases_Bool, cases_eq, cases_lt}
+use Rattle.std.proofs.lemmas.List.{length-set, get_or-set_other, get_or_append_left, get_or_push}
+use Rattle.std.proofs.lemmas.Grind.{get_or-set_at}
+use Rattle.std.proofs.lemmas.Option.{same_Some}
+use Rattle.wal.specs.Checkpoint.{or_else}
+use Rattle.audit.specs.declared.standing.Finish.{Finish}
+use Rattle.audit.specs.declared.finish_table.Block.{Block}
+use Rattle.audit.specs.declared.number_table.NumberTable.{NumberTable}
+use Rattle.audit.specs.Numbers.{place_in, IsSound}
+use Rattle.audit.specs.Finished.{block_in, finish_in, place_of, empty_block, with_finish, AreDistinct, IsIndexOf}
+
+-- WHERE A BLOCK STANDS
+later : (o : Option ℕ) (p : ℕ) → option_map suc o ≡ Some p → (q : ℕ) × (o ≡ Some q) × (suc q ≡ p)
+later None p e = absurd cc
+later (Some q) p e = (q, refl, same_Some (suc q) p e)
+
+-- the block at the place of a number has that number, and its finishes are those of the number
+pub record IsAt (blocks : List Block) (n p : ℕ) : Type 0 where
+  pub within : p < length blocks
+  pub number : (d : Block) → (get_or blocks p d).number ≡ n
+  pub finishes : (d : Block) → block_in blocks n ≡ (get_or blocks p d).finishes
+
+pub place_is : (blocks : List Block) (n p : ℕ) → place_of blocks n ≡ Some p → IsAt blocks n p
+place_is [] n p e = absurd cc
+place_is (b ∷ blocks) n p e =
+    elim (cases_eq b.number n) [
+      | inl own ↦
+          subst (IsAt (b ∷ blocks) n) (same_Some 0 p (rw (eq-eqb b.number n own) at e))
+          (record { within = omega arith; number = λ d. own; finishes = λ d. rw (eq-eqb b.number n own) refl })
+      | inr ne ↦
+          (let l = later (place_of blocks n) p (rw (ne_eqb b.number n ne) at e) in
+          let below = place_is blocks n l.0 l.1 in
+          subst (IsAt (b ∷ blocks) n) l.2
+          (record { within = omega (arith, below.within); number = below.number; finishes = λ d. rw (ne_eqb b.number n ne) (below.finishes d) }))
+    ]
+
+pub none_is : (blocks : List Block) (n : ℕ) → place_of blocks n ≡ None → block_in blocks n ≡ replicate 16 None
+none_is [] n e = refl
+none_is (b ∷ blocks) n e =
+    elim (cases_eq b.number n) [
+      | inl own ↦ absurd (let some : Some 0 ≡ None = rw (eq-eqb b.number n own) at e in cc)
+      | inr ne ↦ rw (ne_eqb b.number n ne) (none_is blocks n (no_later (place_of blocks n) (rw (ne_eqb b.number n ne) at e)))
+    ]
+  where
+    no_later : (o : Option ℕ) → option_map suc o ≡ None → o ≡ None
+    no_later None e = refl
+    no_later (Some q) e = absurd cc
+
+-- no block before the place of a number has that number
+pub none_before : (blocks : List Block) (n p i : ℕ) → place_of blocks n ≡ Some p → i ≤ p → place_of (take i blocks) n ≡ None
+none_before blocks n p zero e le = refl
+none_before [] n p (suc i) e le = refl
+none_before (b ∷ blocks) n p (suc i) e le =
+    elim (cases_eq b.number n) [
+      | inl own ↦ absurd (let first : 0 ≡ p = same_Some 0 p (rw (eq-eqb b.number n own) at e) in omega (arith, le, first))
+      | inr ne ↦
+          (let l = later (place_of blocks n) p (rw (ne_eqb b.number n ne) at e) in
+          let next : suc l.0 ≡ p = l.2 in
+          rw (ne_eqb b.number n ne) (ap (option_map suc) (none_before blocks n l.0 i l.1 (omega (arith, le, next)))))
+    ]
+
+-- ONE BLOCK MORE
+pub place_push : (blocks : List Block) (b : Block) (n : ℕ) → place_of (blocks ++ b ∷ []) n ≡ or_else (place_of blocks n) (cond (eqb b.number n) (Some (length blocks)) None)
+place_push [] b n = refl
+place_push (c ∷ blocks) b n =
+    elim (cases_eq c.number n) [
+      | inl own ↦ rw (eq-eqb c.number n own) refl
+      | inr ne ↦ rw (ne_eqb c.number n ne) (ap (option_map suc) (place_push blocks b n) ∙ step (place_of blocks n) (eqb b.number n) (length blocks))
+    ]
+  where
+    step : (o : Option ℕ) (t : Bool) (k : ℕ) → option_map suc (or_else o (cond t (Some k) None)) ≡ or_else (option_map suc o) (cond t (Some (suc k)) None)
+    step None true k = refl
+    step None false k = refl
+    step (Some x) t k = refl
+
+block_push : (blocks : List Block) (m n : ℕ) → block_in (blocks ++ empty_block m ∷ []) n ≡ block_in blocks n
+block_push [] m n = elim (cases_Bool (eqb m n)) [ inl e ↦ rw e refl | inr e ↦ rw e refl ]
+block_push (c ∷ blocks) m n =
+    elim (cases_eq c.number n) [
+      | inl own ↦ rw (eq-eqb c.number n own) refl
+      | inr ne ↦ rw (ne_eqb c.number n ne) (block_push blocks m n)
+    ]
+
+pub finish_push : (blocks : List Block) (m t : ℕ) → finish_in (blocks ++ empty_block m ∷ []) t ≡ finish_in blocks t
+finish_push blocks m t = ap (λ (b : List (Option Finish)). get_or b (t % 16) None) (block_push blocks m (t / 16))
+
+-- a new number is found behind the others
+pub place_new : (blocks : List Block) (m : ℕ) → place_of blocks m ≡ None → place_of (blocks ++ empty_block m ∷ []) m ≡ Some (length blocks)
+place_new blocks m none =
+    place_push blocks (empty_block m) m ∙ (ap (λ o. or_else o (cond (eqb m m) (Some (length blocks)) None)) none ∙ ap (λ t. cond t (Some (length blocks)) None) (eq-eqb m m refl))
+
+pub distinct_push : (blocks : List Block) (m : ℕ) → AreDistinct blocks → place_of blocks m ≡ None → m ≢ 4294967295 → AreDistinct (blocks ++ empty_block m ∷ [])
+distinct_push blocks m distinct none number p d lt =
+    elim (cases_lt p (length blocks)) [
+      | inl below ↦
+          (let at = distinct p d below in
+          rw (get_or_append_left blocks (empty_block m ∷ []) d p below)
+          (at.0, place_push blocks (empty_block m) (get_or blocks p d).number ∙ ap (λ o. or_else o (cond (eqb m (get_or blocks p d).number) (Some (length blocks)) None)) at.1))
+      | inr behind ↦
+          (let last : p ≡ length blocks = omega (arith, lt, behind, length-append blocks (empty_block m ∷ [])) in
+          rw (get_or_push blocks (empty_block m) d p (sym last)) (number, place_new blocks m none ∙ ap Some (sym last)))
+    ]
+
+pub index_push : (blocks : List Block) (b : Block) (old new : NumberTable) → IsIndexOf blocks old → place_of blocks b.number ≡ None → IsSound new
+    → ((n : ℕ) → n ≢ 4294967295 → place_in new n ≡ cond (eqb b.number n) (Some (length blocks)) (place_in old n)) → IsIndexOf (blocks ++ b ∷ []) new
+index_push blocks b old new index none sound put = record {
+  places = λ n ne. put n ne ∙ (ap (cond (eqb b.number n) (Some (length blocks))) (index.places n ne) ∙ (by_test n ∙ sym (place_push blocks b n)));
+  sound = sound;
+}
+  where
+    last_or : (o : Option ℕ) → o ≡ or_else o None
+    last_or None = refl
+    last_or (Some x) = refl
+
+    by_test : (n : ℕ) → cond (eqb b.number n) (Some (length blocks)) (place_of blocks n) ≡ or_else (place_of blocks n) (cond (eqb b.number n) (Some (length blocks)) None)
+    by_test n =
+        elim (cases_eq b.number n) [
+          | inl e ↦
+              (let gone : place_of blocks n ≡ None = ap (place_of blocks) (sym e) ∙ none in
+              rw (eq-eqb b.number n e) (ap (λ o. or_else o (Some (length blocks))) (sym gone)))
+          | inr d ↦ rw (ne_eqb b.number n d) (last_or (place_of blocks n))
+        ]
+
+-- ONE BLOCK CHANGED
+module _ (blocks : List Block) (p : ℕ) (b : Block) where
+  pub place_set : (d : Block) (n : ℕ) → b.number ≡ (get_or blocks p d).number → place_of (set blocks p b) n ≡ place_of blocks n
+  place_set d n same = places blocks p same
+    where
+      places : (bs : List Block) (i : ℕ) → b.number ≡ (get_or bs i d).number → place_of (set bs i b) n ≡ place_of bs n
+      places [] i same = refl
+      places (c ∷ bs) zero same = ap (λ k. cond (eqb k n) (Some 0) (option_map suc (place_of bs n))) same
+      places (c ∷ bs) (suc i) same = ap (λ o. cond (eqb c.number n) (Some 0) (option_map suc o)) (places bs i same)
+
+  pub block_set_other : (d : Block) (n : ℕ) → b.number ≡ (get_or blocks p d).number → b.number ≢ n → block_in (set blocks p b) n ≡ block_in blocks n
+  block_set_other d n same ne = of blocks p same
+    where
+      of : (bs : List Block) (i : ℕ) → b.number ≡ (get_or bs i d).number → block_in (set bs i b) n ≡ block_in bs n
+      of [] i same = refl
+      of (c ∷ bs) zero same = rw (ne_eqb b.number n ne, ne_eqb c.number n (λ e. ne (same ∙ e))) refl
+      of (c ∷ bs) (suc i) same = ap (λ (x : List (Option Finish)). cond (eqb c.number n) c.finishes x) (of bs i same)
+
+  pub distinct_set : (e : Block) → b.number ≡ (get_or blocks p e).number → p < length blocks → AreDistinct blocks → AreDistinct (set blocks p b)
+  distinct_set e same within distinct q d lt =
+      let Q : Block → Type 0 = λ x. (x.number ≢ 4294967295) × (place_of (set blocks p b) x.number ≡ Some q) in
+      elim (cases_eq q p) [
+        | inl here ↦
+            (let at = distinct p e within in
+            subst Q (sym (get_or-set_at blocks p q b d here within))
+            (λ z. at.0 (sym same ∙ z), place_set e b.number same ∙ (ap (place_of blocks) same ∙ (at.1 ∙ ap Some (sym here)))))
+        | inr ne ↦
+            (let at = distinct q d (omega (arith, lt, length-set blocks p b)) in
+            subst Q (sym (get_or-set_other blocks p q b d ne)) (at.0, place_set e (get_or blocks q d).number same ∙ at.1))
+      ]
+
+  pub index_set : (d : Block) (index : NumberTable) → b.number ≡ (get_or blocks p d).number → IsIndexOf blocks index → IsIndexOf (set blocks p b) index
+  index_set d index same is = record { places = λ n ne. is.places n ne ∙ sym (place_set d n same); sound = is.sound }
+
+-- how one more transaction has finished is noted in its block
+noted_here : (finishes : List (Option Finish)) (tx t : ℕ) (finish : Finish) → length finishes ≡ 16 → tx / 16 ≡ t / 16
+    → get_or (set finishes (tx % 16) (Some finish)) (t % 16) None ≡ cond (eqb tx t) (Some finish) (get_or finishes (t % 16) None)
+noted_here finishes tx t finish count e =
+    elim (cases_eq tx t) [
+      | inl same ↦
+          get_or-set_at finishes (tx % 16) (t % 16) (Some finish) None (ap (λ n. n % 16) (sym same)) (omega (arith, count))
+          ∙ sym (ap (λ b. cond b (Some finish) (get_or finishes (t % 16) None)) (eq-eqb tx t same))
+      | inr ne ↦
+          get_or-set_other finishes (tx % 16) (t % 16) (Some finish) None (λ r. ne (omega (arith, r, e)))
+          ∙ sym (ap (λ b. cond b (Some finish) (get_or finishes (t % 16) None)) (ne_eqb tx t ne))
+    ]
+
+pub finish_noted : (blocks : List Block) (p tx : ℕ) (finish : Finish) (d : Block) → place_of blocks (tx / 16) ≡ Some p → length (get_or blocks p d).finishes ≡ 16 → (t : ℕ)
+    → finish_in (set blocks p (with_finish (get_or blocks p d) (tx % 16) finish)) t ≡ cond (eqb tx t) (Some finish) (finish_in blocks t)
+finish_noted blocks p tx finish d is count t =
+    let after : Block = with_finish (get_or blocks p d) (tx % 16) finish in
+    let at = place_is blocks (tx / 16) p is in
+    let read = λ (x : List (Option Finish)). get_or x (t % 16) None in
+    elim (cases_eq (tx / 16) (t / 16)) [
+      | inl e ↦
+          (let here : place_of (set blocks p after) (t / 16) ≡ Some p = place_set blocks p after d (t / 16) refl ∙ (ap (place_of blocks) (sym e) ∙ is) in
+          let put : (get_or (set blocks p after) p d).finishes ≡ set (get_or blocks p d).finishes (tx % 16) (Some finish) = ap (λ (b : Block). b.finishes) (get_or-set_at blocks p p after d refl at.within) in
+          let new : block_in (set blocks p after) (t / 16) ≡ set (get_or blocks p d).finishes (tx % 16) (Some finish) = (place_is (set blocks p after) (t / 16) p here).finishes d ∙ put in
+          let old : block_in blocks (t / 16) ≡ (get_or blocks p d).finishes = ap (block_in blocks) (sym e) ∙ at.finishes d in
+          ap read new ∙ (noted_here (get_or blocks p d).finishes tx t finish count e ∙ ap (λ (x : List (Option Finish)). cond (eqb tx t) (Some finish) (read x)) (sym old)))
+      | inr ne ↦
+          ap read (block_set_other blocks p after d (t / 16) refl (λ e. ne (sym (at.number d) ∙ e)))
+          ∙ sym (ap (λ b. cond b (Some finish) (finish_in blocks t)) (ne_eqb tx t (λ e. ne (ap (λ n. n / 16) e))))
+    ]

@@ -1,0 +1,182 @@
+//! Places by number: which place has a number that was given one. No choice of numbers makes a search
+//! long: what does not fit into a number's bucket is in a map that is kept in order.
+
+ghost use Rattle.std.specs.Prelude.{◌≡◌, ◌≢◌, ◌==◌, ◌<◌, ◌≤◌, ℕ, Some, None, true, OnOk, OnErr, IfOk, IfSome, IfNone, IsOkUnless, if◌then◌else◌, length, slice_index_or};
+ghost use Rattle.std.specs.Ordering.{nat_cmp};
+ghost use Rattle.std.specs.BTreeMap.{get};
+ghost use Rattle.page.specs.declared.fault.Fault.TheVariants.{NoResource};
+ghost use Rattle.audit.specs.Numbers.{home_of, value_in, bucket_of, place_in, is_full, IsFree, IsSound, set_key};
+
+use page::Fault;
+use std::alloc::Global;
+use std::collections::BTreeMap;
+
+/// How many numbers a bucket has.
+pub const KEYS: usize = 8;
+
+/// The key that is no number: nothing has it yet.
+pub const NO_NUMBER: u32 = u32::MAX;
+
+/// The value that is no place.
+pub const NO_PLACE: u32 = u32::MAX;
+
+/// What a number is multiplied by, so that neighbours are far apart: 2^32 by the golden ratio.
+const FACTOR: u32 = 0x9E37_79B9;
+
+/// Eight numbers with their places. Keys are filled from the front, so a bucket is full where the last
+/// one is a number.
+#[derive(Clone, Copy)]
+pub struct Bucket {
+    pub keys: [u32; KEYS],
+    pub values: [u32; KEYS],
+}
+
+/// A bucket without a number.
+const EMPTY: Bucket = Bucket {
+    keys: [NO_NUMBER; KEYS],
+    values: [NO_PLACE; KEYS],
+};
+
+/// The places of numbers.
+#[derive(Drop)]
+pub struct NumberTable {
+    pub buckets: Vec<Bucket>,
+    /// The numbers whose bucket is full, or that have none.
+    pub others: BTreeMap<u32, u32>,
+}
+
+/// Which of so many buckets is a number's.
+#[inline(always)]
+fn home(number: u32, count: usize) -> usize
+    ensures { result ≡ home_of number count }
+{
+    (number.wrapping_mul(FACTOR) as usize).wrapping_mul(count) >> 32
+}
+
+/// The value of a number among eight keys, `NO_PLACE` where it is none of them. All are looked at,
+/// without a branch.
+#[inline(always)]
+fn value_in(keys: &[u32; KEYS], values: &[u32; KEYS], number: u32) -> u32
+    ensures { result ≡ value_in keys.now values.now number NO_PLACE }
+{
+    let mut found = NO_PLACE;
+    for place in 0..KEYS {
+        if keys[place] == number {
+            found = values[place];
+        }
+    }
+    found
+}
+
+/// The first key without a number; `KEYS` where each has one.
+fn first_free(keys: &[u32; KEYS]) -> usize
+    ensures free { result < KEYS → (d : ℕ) → slice_index_or keys.now result d ≡ NO_NUMBER }
+    ensures full { KEYS ≤ result → (d : ℕ) → slice_index_or keys.now 7 d ≢ NO_NUMBER }
+{
+    for place in 0..KEYS {
+        if keys[place] == NO_NUMBER {
+            return place;
+        }
+    }
+    KEYS
+}
+
+/// Puts a number with its place at a key.
+fn put(bucket: &mut Bucket, key: usize, number: u32, place: u32)
+    requires { key < KEYS }
+    ensures keys { length bucket.old.keys ≡ KEYS }
+    ensures values { length bucket.old.values ≡ KEYS }
+    ensures put { bucket.new ≡ set_key bucket.old key number place }
+{
+    bucket.keys[key] = number;
+    bucket.values[key] = place;
+}
+
+impl NumberTable {
+    /// No number has a place.
+    pub fn new(alloc: Global) -> NumberTable
+        ensures none { (number : ℕ) → place_in result number ≡ None }
+        ensures sound { IsSound result }
+    {
+        NumberTable {
+            buckets: Vec::new(alloc),
+            others: BTreeMap::new(alloc),
+        }
+    }
+
+    /// No number has a place; there are so many buckets. The only error is `NoResource`.
+    pub fn with_buckets(alloc: Global, count: usize) -> Result<NumberTable, Fault>
+        ensures none { IfOk result (λ table. (number : ℕ) → number ≢ NO_NUMBER
+            → place_in table number ≡ None) }
+        ensures sound { IfOk result IsSound }
+        ensures err { IsOkUnless result NoResource }
+    {
+        let buckets = vec![in alloc; EMPTY; count]?;
+        Ok(NumberTable {
+            buckets,
+            others: BTreeMap::new(alloc),
+        })
+    }
+
+    /// The place of a number, None where it has none.
+    #[inline(always)]
+    pub fn get(&self, number: u32) -> Option<u32>
+        requires { IsSound self.now }
+        ensures { result ≡ place_in self.now number }
+    {
+        let home = home(number, self.buckets.len());
+        if home < self.buckets.len() {
+            let bucket = &self.buckets[home];
+            let found = value_in(&bucket.keys, &bucket.values, number);
+            if found != NO_PLACE {
+                return Some(found);
+            }
+            if bucket.keys[KEYS - 1] == NO_NUMBER {
+                return None;
+            }
+        }
+        match self.others.get(&number) {
+            Some(place) => Some(*place),
+            None => None,
+        }
+    }
+
+    /// The bucket of a number, and the first key there without a number; None where each key has one,
+    /// or there is no bucket.
+    fn free_key(&self, number: u32) -> Option<(usize, usize)>
+        ensures free { IfSome result (IsFree self.now number) }
+        ensures full { IfNone result (is_full (bucket_of self.now number) ≡ true) }
+    {
+        let home = home(number, self.buckets.len());
+        if home >= self.buckets.len() {
+            return None;
+        }
+        let key = first_free(&self.buckets[home].keys);
+        if key >= KEYS {
+            return None;
+        }
+        Some((home, key))
+    }
+
+    /// Gives a place to a number that has none. The only error is `NoResource`, and then no place has
+    /// changed.
+    pub fn insert(&mut self, number: u32, place: u32) -> Result<(), Fault>
+        requires sound { IsSound self.old }
+        requires new { place_in self.old number ≡ None }
+        requires number { number ≢ NO_NUMBER }
+        requires place { place ≢ NO_PLACE }
+        ensures ok { OnOk result ((n : ℕ) → n ≢ NO_NUMBER → place_in self.new n
+            ≡ (if number == n then Some place else place_in self.old n)) }
+        ensures unchanged { OnErr result ((n : ℕ) → place_in self.new n ≡ place_in self.old n) }
+        ensures sound { IsSound self.new }
+        ensures err { IsOkUnless result NoResource }
+    {
+        match self.free_key(number) {
+            Some((home, key)) => put(&mut self.buckets[home], key, number, place),
+            None => {
+                self.others.insert(number, place)?;
+            }
+        }
+        Ok(())
+    }
+}
