@@ -13,7 +13,7 @@ use Rattle.audit.specs.declared.standing.Standing.TheVariants.{Unfinished, Finis
 use Rattle.audit.specs.Statuses.{Linked, IsStatusOf}
 use Rattle.audit.specs.Standings.{IsStandingOf, newest_of, standing_by}
 use Rattle.audit.specs.Cells.{last_writer}
-use Rattle.audit.specs.Passing.{Begins, Undoes, IsFreeFor}
+use Rattle.audit.specs.Passing.{Begins, IsUpdateUndoneBy, IsFreeFor}
 use Rattle.audit.proofs.StandingAfter.{finished_so}
 use Rattle.audit.proofs.Unfinished.{absent_finished, present_unfinished}
 use Rattle.audit.proofs.Cells.{last_touches, holder_wrote}
@@ -21,10 +21,10 @@ use Rattle.audit.proofs.Cells.{last_touches, holder_wrote}
 -- COMPENSATION
 -- the record at an LSN is what a CLR undoes
 abbrev pub HasUndone : LogContent → CompensationRecord → ℕ → Type 0
-HasUndone content c newest = (r : LogRecord) × (record_at (history content) newest ≡ Some r) × Undoes r c.page c.slot c.undo_next c.image
+HasUndone content c newest = (r : LogRecord) × (record_at (history content) newest ≡ Some r) × IsUpdateUndoneBy r c.page c.slot c.undo_next c.image
 
 module _ (content : LogContent) (log : History) (links : List ℕ) (c : CompensationRecord) (s : Status) (begins : Begins log content) (len : base_lsn log + length links ≡ last_lsn log) (h : IsStatusOf links c.tx log s) where
-  by_record : (r : LogRecord) (n : ℕ) (ns : List ℕ) → pending c.tx log ≡ n ∷ ns → record_at log n ≡ Some r → Undoes r c.page c.slot c.undo_next c.image → Compensates log c
+  by_record : (r : LogRecord) (n : ℕ) (ns : List ℕ) → pending c.tx log ≡ n ∷ ns → record_at log n ≡ Some r → IsUpdateUndoneBy r c.page c.slot c.undo_next c.image → Compensates log c
   by_record (Update u) n ns p found h =
       record { lsn = n; below = ns; update = u; newest = p; found = found; page = h.0; slot = h.1; image = h.3; undo_next = h.2 }
   by_record r n ns p found h = absurd h

@@ -9,7 +9,7 @@ use Rattle.wal.specs.Tail.{number_or_0, tx_of}
 use Rattle.wal.proofs.Holders.{found_has}
 use Rattle.audit.specs.declared.standing.Finish.{Finish}
 use Rattle.audit.specs.declared.standing.Finish.TheVariants.{Committed, Ended}
-use Rattle.audit.specs.Standings.{HasFinished, finishes, is_some_with}
+use Rattle.audit.specs.Standings.{HasFinished, is_finish_of, is_some_with}
 use Rattle.audit.specs.Passing.{Begins}
 use Rattle.audit.proofs.StandingAfter.{end_of_another}
 
@@ -111,7 +111,7 @@ commits_last base t (log ▸ r) lawful h none =
           last_before t (is_commit_of t) log r other not_this (commits_last base t log lawful.0 (rw not_this at h) not_ended.1))
     ]
 
-pub finishes_last : (base : BasePages) (t : ℕ) (log : History) (finish : Finish) → IsLawful base log → HasFinished t log finish → IsLastOf t (finishes finish t) log
+pub finishes_last : (base : BasePages) (t : ℕ) (log : History) (finish : Finish) → IsLawful base log → HasFinished t log finish → IsLastOf t (is_finish_of finish t) log
 finishes_last base t log Committed lawful h = commits_last base t log lawful h.0 h.1
 finishes_last base t log Ended lawful h = ends_last base t log lawful h
 
@@ -121,13 +121,13 @@ module _ (base : BasePages) (so_far : History) (content : LogContent) (lsn t : �
   by_last law = (let l : IfSome (Some t) (λ x. prev_of r ≡ last_of x so_far) = subst (λ o. IfSome o (λ x. prev_of r ≡ last_of x so_far)) own law in l)
 
   pub finish_chain : prev_of r < lsn
-      → (is_some_with (finishes finish t) (record_at (history content) (prev_of r)) ≡ true → ChainLaw so_far r)
-      × (ChainLaw so_far r → is_some_with (finishes finish t) (record_at (history content) (prev_of r)) ≡ true)
+      → (is_some_with (is_finish_of finish t) (record_at (history content) (prev_of r)) ≡ true → ChainLaw so_far r)
+      × (ChainLaw so_far r → is_some_with (is_finish_of finish t) (record_at (history content) (prev_of r)) ≡ true)
   finish_chain within =
       let same : record_at (history content) (prev_of r) ≡ record_at so_far (prev_of r) = begins (prev_of r) (omega (arith, within, at)) in
       let last = finishes_last base t so_far finish lawful (subst (λ n. HasFinished n so_far finish) (ap number_or_0 own) h) (prev_of r) in (
-        λ yes. subst (λ o. IfSome o (λ x. prev_of r ≡ last_of x so_far)) (sym own) (last.1 (ap (is_some_with (finishes finish t)) (sym same) ∙ yes)),
-        λ law. ap (is_some_with (finishes finish t)) same ∙ last.0 (by_last law),
+        λ yes. subst (λ o. IfSome o (λ x. prev_of r ≡ last_of x so_far)) (sym own) (last.1 (ap (is_some_with (is_finish_of finish t)) (sym same) ∙ yes)),
+        λ law. ap (is_some_with (is_finish_of finish t)) same ∙ last.0 (by_last law),
       )
 
   pub behind_no_chain : lsn ≤ prev_of r → ChainLaw so_far r → ⊥

@@ -13,7 +13,7 @@ use Rattle.wal.specs.Pages.{PageLaw}
 use Rattle.wal.specs.Checkpoint.{CheckpointLaw, checkpoint_at}
 use Rattle.wal.specs.Store.{NamesPages, Lawful}
 use Rattle.wal.proofs.Lists.{each_of_lawful}
-use Rattle.audit.specs.FirstFault.{BrokenAt, RecordFault, FirstBroken, BrokenPage, PagesFault, FirstBrokenPage, KeepsDirty, MasterFault, FirstFault, NoFaultOfTheLawful}
+use Rattle.audit.specs.FirstFault.{BrokenAt, RecordFault, FirstBroken, BrokenPage, PageLawFault, FirstBrokenPage, KeepsDirty, MasterFault, FirstFault, NoFaultOfTheLawful}
 
 pub not_broken : (base : BasePages) (count : ℕ) (log : History) (r : LogRecord) (e : Fault) → NamesPages count r → Obeys base log r → BrokenAt base count log r e → ⊥
 not_broken base count log r (NoSuchPage n) named o b = b.1 named
@@ -44,7 +44,7 @@ at_place P pages place page there all = subst P (get_or_from_slice_get pages pla
 pub none_broken_page : (base : BasePages) (log : History) (pages : List Page) (e : Fault) → All (PageLaw base log) pages → FirstBrokenPage base log pages e → ⊥
 none_broken_page base log pages e all f = page_not_broken base log f.page e (at_place (PageLaw base log) pages f.place f.page f.there all) f.broken
 
-pages_kept : (base : BasePages) (log : History) (pages : List Page) (e : Fault) → All (PageLaw base log) pages → PagesFault base log pages e → e ≡ NoResource
+pages_kept : (base : BasePages) (log : History) (pages : List Page) (e : Fault) → All (PageLaw base log) pages → PageLawFault base log pages e → e ≡ NoResource
 pages_kept base log pages NoResource all f = refl
 pages_kept base log pages e all f = absurd (none_broken_page base log pages e all f)
 

@@ -10,7 +10,7 @@ use Rattle.wal.specs.Checkpoint.{DirtyLaw}
 use Rattle.wal.specs.Store.{NamesPages}
 use Rattle.wal.proofs.Histories.{record_last, record_more, record_in_first, size_of_first}
 use Rattle.audit.specs.Pages.{page_lsn}
-use Rattle.audit.specs.Dirty.{first_missing, KeepsMissing, missing_after, IsInRange, IsCovered}
+use Rattle.audit.specs.Dirty.{first_missing, KeepsMissing, missing_after, IsRecLsnInRange, IsCovered}
 
 -- ONE RECORD MORE
 module _ (pages : List Page) (log : History) (lsn p : ℕ) (r : LogRecord) (at : last_lsn log + 1 ≡ lsn) (on : (q : ℕ) → is_on q r ≡ eqb p q) (lt : p < length pages) (ms : List ℕ) (keeps : KeepsMissing pages log ms) where
@@ -134,7 +134,7 @@ missing_low p k (log ▸ r) lsn x at on lt =
 
 -- THE LAW
 module _ (log : LogContent) (m p k : ℕ) (listed : Option ℕ) (from : base_lsn (history log) ≤ m) (le : m ≤ last_lsn (history log)) where
-  pub covered_law : IsInRange (base_lsn (history log)) listed m → IsCovered listed (first_missing p k (first m (history log))) → DirtyLaw (history log) m p k listed
+  pub covered_law : IsRecLsnInRange (base_lsn (history log)) listed m → IsCovered listed (first_missing p k (first m (history log))) → DirtyLaw (history log) m p k listed
   covered_law range covered =
       record {
         range = range;
@@ -148,7 +148,7 @@ module _ (log : LogContent) (m p k : ℕ) (listed : Option ℕ) (from : base_lsn
             ];
       }
 
-  pub law_covered : DirtyLaw (history log) m p k listed → IsInRange (base_lsn (history log)) listed m × IsCovered listed (first_missing p k (first m (history log)))
+  pub law_covered : DirtyLaw (history log) m p k listed → IsRecLsnInRange (base_lsn (history log)) listed m × IsCovered listed (first_missing p k (first m (history log)))
   law_covered law = (
     law.range,
     λ some.

@@ -17,7 +17,7 @@ use Rattle.wal.specs.Checkpoint.{checkpoint_at}
 use Rattle.wal.specs.Store.{NamesPages}
 use Rattle.wal.proofs.Histories.{record_in_first, first_first}
 use Rattle.wal.proofs.Lists.{each_of_lawful}
-use Rattle.audit.specs.FirstFault.{BrokenAt, AreSound, RecordFault, FirstBroken, BrokenPage, PagesFault, FirstBrokenPage, KeepsDirty, FirstUncovered, MasterFault, FirstFault, OneFirstFault}
+use Rattle.audit.specs.FirstFault.{BrokenAt, AreSound, RecordFault, FirstBroken, BrokenPage, PageLawFault, FirstBrokenPage, KeepsDirty, FirstUncovered, MasterFault, FirstFault, OneFirstFault}
 use Rattle.audit.proofs.Kept.{not_broken, none_broken, page_not_broken, none_broken_page, same_transactions, same_dirty}
 
 -- A LAW BEFORE OTHERS
@@ -170,7 +170,7 @@ records_broken : (base : BasePages) (count : ℕ) (log : History) (e : Fault) �
 records_broken base count log NoResource some x = absurd (some refl)
 records_broken base count log e some x = x
 
-pages_broken : (base : BasePages) (log : History) (pages : List Page) (e : Fault) → (e ≡ NoResource → ⊥) → PagesFault base log pages e → FirstBrokenPage base log pages e
+pages_broken : (base : BasePages) (log : History) (pages : List Page) (e : Fault) → (e ≡ NoResource → ⊥) → PageLawFault base log pages e → FirstBrokenPage base log pages e
 pages_broken base log pages NoResource some x = absurd (some refl)
 pages_broken base log pages e some x = x
 
@@ -184,7 +184,7 @@ module _ (base : BasePages) (content : LogContent) (store : StoreContent) (d e :
   sound_not_broken : (f : Fault) → (f ≡ NoResource → ⊥) → AreSound base count log → RecordFault base count log f → ⊥
   sound_not_broken f is sound x = none_broken base count log f sound.lawful sound.named (records_broken base count log f is x)
 
-  kept_not_broken : (f : Fault) → (f ≡ NoResource → ⊥) → All (PageLaw base log) store.pages → PagesFault base log store.pages f → ⊥
+  kept_not_broken : (f : Fault) → (f ≡ NoResource → ⊥) → All (PageLaw base log) store.pages → PageLawFault base log store.pages f → ⊥
   kept_not_broken f is all x = none_broken_page base log store.pages f all (pages_broken base log store.pages f is x)
 
   pub same_fault : FirstFault base content store d → FirstFault base content store e → d ≡ e

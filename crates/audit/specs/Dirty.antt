@@ -23,8 +23,8 @@ missing_after lsn_of missing cell lsn =
     option_map_or (λ c. if slice_index missing c.0 == 0 && nat_lt (lsn_of c.0) lsn then slice_set missing c.0 lsn else missing) cell missing
 
 -- a listed RecLSN is above the base LSN, and at most the master
-abbrev pub IsInRange : (base : ℕ) → Option ℕ → ℕ → Type 0
-IsInRange base listed master = (rec_lsn : ℕ) → listed ≡ Some rec_lsn → (base < rec_lsn) × (rec_lsn ≤ master)
+abbrev pub IsRecLsnInRange : (base : ℕ) → Option ℕ → ℕ → Type 0
+IsRecLsnInRange base listed master = (rec_lsn : ℕ) → listed ≡ Some rec_lsn → (base < rec_lsn) × (rec_lsn ≤ master)
 
 -- a missing record is listed from no later a RecLSN
 abbrev pub IsCovered : Option ℕ → ℕ → Type 0

@@ -62,9 +62,9 @@ pub record FirstBrokenPage (base : BasePages) (log : History) (pages : List Page
   pub broken : BrokenPage base log page e
 
 -- why the pages are refused, want of memory aside
-abbrev pub PagesFault : BasePages → History → List Page → Fault → Type 0
-PagesFault base log pages NoResource = ⊤
-PagesFault base log pages e = FirstBrokenPage base log pages e
+abbrev pub PageLawFault : BasePages → History → List Page → Fault → Type 0
+PageLawFault base log pages NoResource = ⊤
+PageLawFault base log pages e = FirstBrokenPage base log pages e
 
 -- the dirty page table of the begin at m is true of the page
 abbrev pub KeepsDirty : History → ℕ → List (ℕ × ℕ) → Page → Type 0
@@ -100,7 +100,7 @@ MasterFault log pages m _ = ⊥
 abbrev pub FirstFault : BasePages → LogContent → StoreContent → Fault → Type 0
 FirstFault base log store e =
     RecordFault base (length store.pages) (history log) e
-    ⊎ ((AreSound base (length store.pages) (history log) × PagesFault base (history log) store.pages e)
+    ⊎ ((AreSound base (length store.pages) (history log) × PageLawFault base (history log) store.pages e)
     ⊎ (AreSound base (length store.pages) (history log) × All (PageLaw base (history log)) store.pages × MasterFault (history log) store.pages store.master e))
 
 -- an input that is not lawful has one first fault

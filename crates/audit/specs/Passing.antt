@@ -20,9 +20,9 @@ abbrev pub Begins : History → LogContent → Type 0
 Begins so_far log = (n : ℕ) → n ≤ last_lsn so_far → record_at (history log) n ≡ record_at so_far n
 
 -- the record is an update that a CLR with this cell, UndoNxtLSN and image undoes
-abbrev pub Undoes : LogRecord → (page slot undo_next : ℕ) → Image → Type 0
-Undoes (Update u) page slot undo_next image = (page ≡ u.page) × (slot ≡ u.slot) × (undo_next ≡ u.prev) × (image ≡ u.before)
-Undoes _ page slot undo_next image = ⊥
+abbrev pub IsUpdateUndoneBy : LogRecord → (page slot undo_next : ℕ) → Image → Type 0
+IsUpdateUndoneBy (Update u) page slot undo_next image = (page ≡ u.page) × (slot ≡ u.slot) × (undo_next ≡ u.prev) × (image ≡ u.before)
+IsUpdateUndoneBy _ page slot undo_next image = ⊥
 
 -- the writer of a cell, if it has one, is this transaction or not among the unfinished
 abbrev pub IsFreeFor : (unfinished : ℕ → Option Status) → Option ℕ → ℕ → Type 0

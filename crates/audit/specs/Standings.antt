@@ -36,9 +36,9 @@ standing_after r lsn below (Unfinished s) = Unfinished (after r lsn below s)
 standing_after r lsn below (Finished finish) = Finished finish
 
 -- the record is that by which the transaction t finishes so
-abbrev pub finishes : Finish → ℕ → LogRecord → Bool
-finishes Committed t r = is_commit_of t r
-finishes Ended t r = is_end_of t r
+abbrev pub is_finish_of : Finish → ℕ → LogRecord → Bool
+is_finish_of Committed t r = is_commit_of t r
+is_finish_of Ended t r = is_end_of t r
 
 -- whether there is a record, and it passes the test
 abbrev pub is_some_with : (LogRecord → Bool) → Option LogRecord → Bool

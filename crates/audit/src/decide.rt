@@ -9,15 +9,15 @@ ghost use Rattle.wal.specs.Store.{NamesPages};
 ghost use Rattle.wal.specs.Spelling.{Fits};
 ghost use Rattle.wal.specs.Tail.{tx_of};
 ghost use Rattle.wal.specs.Content.{shown};
-ghost use Rattle.audit.specs.Standings.{IsStandingOf, standing_in, finishes, is_some_with};
+ghost use Rattle.audit.specs.Standings.{IsStandingOf, standing_in, is_finish_of, is_some_with};
 ghost use Rattle.audit.specs.Unfinished.{unfinished_in};
 ghost use Rattle.audit.specs.Cells.{HasCell, KeepsCells, cell_in};
 ghost use Rattle.audit.specs.declared.cell.Cell.{Cell};
-ghost use Rattle.audit.specs.Passing.{Begins, Undoes, IsFreeFor};
+ghost use Rattle.audit.specs.Passing.{Begins, IsUpdateUndoneBy, IsFreeFor};
 ghost use Rattle.page.specs.declared.sizes.TheConstants.{SLOTS};
 
 use crate::cell::Cell;
-use crate::standing::{Finish, Standing, finishes};
+use crate::standing::{Finish, Standing, is_finish_of};
 use crate::standings::Standings;
 use page::{SLOTS, Value};
 use wal::{DirtyTable, Log, RecordView};
@@ -56,10 +56,10 @@ pub fn names_pages(view: &RecordView, count: usize) -> bool
 
 /// Whether a record stands at an LSN by which a transaction finishes so.
 fn finishes_at(log: &Log, lsn: u64, tx: u32, finish: Finish) -> bool
-    ensures { result ≡ is_some_with (finishes finish tx) (record_at (history log.now) lsn) }
+    ensures { result ≡ is_some_with (is_finish_of finish tx) (record_at (history log.now) lsn) }
 {
     match log.get(lsn) {
-        Some(view) => finishes(&view, tx, finish),
+        Some(view) => is_finish_of(&view, tx, finish),
         None => false,
     }
 }
@@ -120,7 +120,7 @@ fn are_same(left: Option<&[u8]>, right: Option<&[u8]>) -> bool
 
 /// Whether it is an update of this cell that has this before image and PrevLSN.
 fn undoes(view: &RecordView, cell: (u32, u8), undo_next: u64, image: Option<&[u8]>) -> bool
-    ensures { IsTrue result ↔ Undoes (shown view.now) cell.0 cell.1 undo_next
+    ensures { IsTrue result ↔ IsUpdateUndoneBy (shown view.now) cell.0 cell.1 undo_next
         (option_map (λ s. s.now) image.entry) }
 {
     match view {
@@ -140,7 +140,7 @@ fn undoes(view: &RecordView, cell: (u32, u8), undo_next: u64, image: Option<&[u8
 /// Whether such an update stands at an LSN.
 fn undoes_at(log: &Log, lsn: u64, cell: (u32, u8), undo_next: u64, image: Option<&[u8]>) -> bool
     ensures { IsTrue result ↔ ((r : LogRecord) × (record_at (history log.now) lsn ≡ Some r)
-        × Undoes r cell.0 cell.1 undo_next (option_map (λ s. s.now) image.entry)) }
+        × IsUpdateUndoneBy r cell.0 cell.1 undo_next (option_map (λ s. s.now) image.entry)) }
 {
     match log.get(lsn) {
         None => false,

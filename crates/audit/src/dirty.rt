@@ -8,7 +8,7 @@ ghost use Rattle.wal.specs.Redo.{rec_lsn_of};
 ghost use Rattle.wal.specs.Checkpoint.{DirtyLaw};
 ghost use Rattle.wal.specs.Store.{NamesPages};
 ghost use Rattle.audit.specs.Pages.{page_lsn};
-ghost use Rattle.audit.specs.Dirty.{KeepsMissing, missing_after, IsInRange, IsCovered};
+ghost use Rattle.audit.specs.Dirty.{KeepsMissing, missing_after, IsRecLsnInRange, IsCovered};
 ghost use Rattle.audit.specs.FirstFault.{KeepsDirty, DirtyFault};
 
 use page::{Fault, Page};
@@ -80,7 +80,7 @@ fn rec_lsns_in(alloc: Global, dirty: &DirtyTable, count: usize) -> Result<Vec<Op
 /// Whether a listed RecLSN lies above the base LSN and up to the master, and at or before the first
 /// missing record.
 fn is_covered(base: u64, listed: Option<u64>, missing: u64, master: u64) -> bool
-    ensures { IsTrue result ↔ IsInRange base listed master × IsCovered listed missing }
+    ensures { IsTrue result ↔ IsRecLsnInRange base listed master × IsCovered listed missing }
 {
     match listed {
         None => missing == 0,

@@ -10,7 +10,7 @@ ghost use Rattle.wal.specs.Store.{NamesPages};
 ghost use Rattle.wal.specs.Content.{shown};
 ghost use Rattle.audit.specs.Cells.{KeepsWriters, image_or};
 ghost use Rattle.audit.specs.Pages.{page_lsn, writers_after, log_at, KeepsPage};
-ghost use Rattle.audit.specs.FirstFault.{BrokenPage, PagesFault};
+ghost use Rattle.audit.specs.FirstFault.{BrokenPage, PageLawFault};
 ghost use Rattle.page.specs.declared.sizes.TheConstants.{PAGES, SLOTS};
 
 use crate::base::{base_page_lsn, base_value};
@@ -160,7 +160,7 @@ pub fn check_pages(alloc: Global, log: &Log, base: &[Page], pages: &[Page]) -> R
     requires numbered { AreNumbered pages.now }
     requires named { EachRecord (NamesPages (length pages.now)) (history log.now) }
     ensures ok { OnOk result (All (PageLaw (base_pages base.now) (history log.now)) pages.now) }
-    ensures err { IfErr result (PagesFault (base_pages base.now) (history log.now) pages.now) }
+    ensures err { IfErr result (PageLawFault (base_pages base.now) (history log.now) pages.now) }
 {
     let writers = writers_at(alloc, log, pages)?;
     for page in pages {

@@ -4,7 +4,7 @@ ghost use Rattle.std.specs.Prelude.{◌≡◌, ◌↔◌, ℕ, List, IsTrue, fal
 ghost use Rattle.wal.specs.Records.{History};
 ghost use Rattle.wal.specs.Meaning.{finished, ended, aborted, prepared, in_doubt};
 ghost use Rattle.wal.specs.Content.{shown};
-ghost use Rattle.audit.specs.Standings.{IsStandingOf, newest_of, standing_after, finishes};
+ghost use Rattle.audit.specs.Standings.{IsStandingOf, newest_of, standing_after, is_finish_of};
 
 use crate::status::{Status, status_after};
 use wal::RecordView;
@@ -118,8 +118,8 @@ pub fn standing_after(standing: Standing, view: &RecordView, lsn: u64, below: u6
 }
 
 /// Whether the record is that by which a transaction finishes so.
-pub fn finishes(view: &RecordView, tx: u32, finish: Finish) -> bool
-    ensures { result ≡ finishes finish tx (shown view.now) }
+pub fn is_finish_of(view: &RecordView, tx: u32, finish: Finish) -> bool
+    ensures { result ≡ is_finish_of finish tx (shown view.now) }
 {
     match finish {
         Finish::Committed => match view {

@@ -3,7 +3,7 @@ use Rattle.std.proofs.lemmas.Bool.{ltb-true}
 use Rattle.wal.specs.Records.{LogRecord, history, record_at}
 use Rattle.wal.specs.Meaning.{prev_of}
 use Rattle.wal.specs.Content.{shown}
-use Rattle.audit.specs.Standings.{finishes, is_some_with}
+use Rattle.audit.specs.Standings.{is_finish_of, is_some_with}
 use Rattle.audit.proofs.Finishing.{finish_chain, behind_no_chain}
 use Rattle.audit.proofs.decide.keeps_chain.Goals as goal
 
@@ -13,8 +13,8 @@ returns-then-prev-lsn c =
     (λ base so_far links lawful begins at h.
     let r : LogRecord = shown c.args.view.now in
     let within : prev_of r < c.args.lsn = subst (λ n. n < c.args.lsn) c.prev-in-Finished.ensures c.if-prev-lsn.true in
-    let is : c.finishes_at.result ≡ is_some_with (finishes c.in-Finished.finish c.in-Some.tx) (record_at (history c.args.log.now) (prev_of r)) =
-    c.finishes_at.ensures ∙ ap (λ n. is_some_with (finishes c.in-Finished.finish c.in-Some.tx) (record_at (history c.args.log.now) n)) c.prev-then-prev-lsn.ensures in
+    let is : c.finishes_at.result ≡ is_some_with (is_finish_of c.in-Finished.finish c.in-Some.tx) (record_at (history c.args.log.now) (prev_of r)) =
+    c.finishes_at.ensures ∙ ap (λ n. is_some_with (is_finish_of c.in-Finished.finish c.in-Some.tx) (record_at (history c.args.log.now) n)) c.prev-then-prev-lsn.ensures in
     let decided = finish_chain base so_far c.args.log.now c.args.lsn c.in-Some.tx c.in-Finished.finish r lawful begins at (sym c.tx.ensures ∙ c.in-Some.is) h within in
     (λ t. decided.0 (sym is ∙ t), λ law. is ∙ decided.1 law))
 

@@ -8,7 +8,7 @@ use Rattle.page.specs.declared.page.Page.{Page}
 use Rattle.wal.specs.Records.{History, LogContent, history, last_lsn, first, base_lsn}
 use Rattle.wal.specs.Redo.{rec_lsn_of}
 use Rattle.audit.specs.Pages.{page_lsn}
-use Rattle.audit.specs.Dirty.{first_missing, KeepsMissing, IsInRange, IsCovered}
+use Rattle.audit.specs.Dirty.{first_missing, KeepsMissing, IsRecLsnInRange, IsCovered}
 use Rattle.audit.specs.FirstFault.{KeepsDirty}
 use Rattle.audit.proofs.Missing.{covered_law, law_covered}
 use Rattle.audit.proofs.dirty.check_dirty.Goals as goal
@@ -22,11 +22,11 @@ kept pages log ms i n x page is lt number keeps at xn =
     at ∙ get_or_default ms i x 0 room ∙ keeps.each i lt ∙ ap₂ (λ q k. first_missing q k log) (sym number) lsn
 
 decided : (log : LogContent) (base m n : ℕ) (page : Page) (dirty : List (ℕ × ℕ)) (o : Option ℕ) → base ≡ base_lsn (history log) → base_lsn (history log) ≤ m → m ≤ last_lsn (history log) → o ≡ rec_lsn_of page.number dirty → n ≡ first_missing page.number page.lsn (first m (history log))
-    → (IsInRange base o m × IsCovered o n) ↔ KeepsDirty (history log) m dirty page
+    → (IsRecLsnInRange base o m × IsCovered o n) ↔ KeepsDirty (history log) m dirty page
 decided log base m n page dirty o is from le e f = (
-  λ h. covered_law log m page.number page.lsn (rec_lsn_of page.number dirty) from le (subst (λ b. IsInRange b (rec_lsn_of page.number dirty) m) is (subst (λ z. IsInRange base z m) e h.0)) (subst (λ z. IsCovered (rec_lsn_of page.number dirty) z) f (subst (λ z. IsCovered z n) e h.1)),
+  λ h. covered_law log m page.number page.lsn (rec_lsn_of page.number dirty) from le (subst (λ b. IsRecLsnInRange b (rec_lsn_of page.number dirty) m) is (subst (λ z. IsRecLsnInRange base z m) e h.0)) (subst (λ z. IsCovered (rec_lsn_of page.number dirty) z) f (subst (λ z. IsCovered z n) e h.1)),
   λ law. let h = law_covered log m page.number page.lsn (rec_lsn_of page.number dirty) from le law in
-      (subst (λ z. IsInRange base z m) (sym e) (subst (λ b. IsInRange b (rec_lsn_of page.number dirty) m) (sym is) h.0), subst (λ z. IsCovered z n) (sym e) (subst (λ z. IsCovered (rec_lsn_of page.number dirty) z) (sym f) h.1)),
+      (subst (λ z. IsRecLsnInRange base z m) (sym e) (subst (λ b. IsRecLsnInRange b (rec_lsn_of page.number dirty) m) (sym is) h.0), subst (λ z. IsCovered z n) (sym e) (subst (λ z. IsCovered (rec_lsn_of page.number dirty) z) (sym f) h.1)),
 )
 
 pub returns-then-not-is_covered-clause-err : goal.returns-then-not-is_covered-clause-err
