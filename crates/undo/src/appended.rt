@@ -95,7 +95,7 @@ pub fn record_of(log: &Looked, appended: Appended) -> Record
 
 /// The full records, with what they hold. The only error is [`Fault::NoResource`], if memory was
 /// refused.
-pub fn appended_records(
+pub fn records_of(
     alloc: Global,
     log: &Looked,
     appended: &[Appended],
