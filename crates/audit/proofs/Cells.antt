@@ -35,7 +35,7 @@ last_touches page slot t (log ▸ r) h =
       | inr e ↦ or_right (is_of t r && writes page slot r) (touches t page slot log) (last_touches page slot t log (rw e at h))
     ]
 
--- who holds a cell is its last writer
+-- the holder of a cell is its last writer
 pub holder_wrote : (page slot t : ℕ) (log : History) → holder page slot log ≡ Some t → last_writer page slot log ≡ Some t
 holder_wrote page slot t (start _) h = absurd (cc)
 holder_wrote page slot t (log ▸ Update u) h =

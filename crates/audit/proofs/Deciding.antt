@@ -1,4 +1,4 @@
--- What is decided of the laws by what an audit keeps.
+-- The laws of a record, decided by what an audit keeps.
 use Rattle.std.proofs.Common.{◌≡◌, ◌<◌, ◌≤◌, ◌&&◌, not, ℕ, Bool, true, false, List, [], ◌∷◌, length, Option, Some, None, refl, sym, ap, subst, ◌∙◌, inl, inr, arith, ◌+◌}
 use Rattle.std.proofs.lemmas.Bool.{cases_eq, both_ways, and_parts, or_cases, or_left, or_right}
 use Rattle.wal.specs.Records.{UpdateRecord, CompensationRecord, LogRecord, Update, Compensation, History, start, ◌▸◌, history, last_lsn, record_at, LogContent, base_lsn}
@@ -61,7 +61,7 @@ end_allowed links t log s h e = empty_stack (base_lsn log) links (pending t log)
 end_needs : (links : List ℕ) (t : ℕ) (log : History) (s : Status) → IsStatusOf links t log s → pending t log ≡ [] → s.newest ≡ 0
 end_needs links t log s h e = (let l : Linked (base_lsn log) links [] s.newest = subst (λ x. Linked (base_lsn log) links x s.newest) e h.pending in l)
 
--- by how the transaction of a CLR or an end stands that keeps the law of finish
+-- a CLR or an end that keeps the law of finish, decided by the standing of its transaction
 pub clr_decided : (content : LogContent) (log : History) (links : List ℕ) (c : CompensationRecord) (standing : Standing) → Begins log content → base_lsn log + length links ≡ last_lsn log
     → IsStandingOf links c.tx log standing → FinishLaw log (Compensation c)
     → (HasUndone content c (newest_of standing) → Compensates log c) × (Compensates log c → HasUndone content c (newest_of standing))
@@ -113,7 +113,7 @@ not_is true false e = absurd (cc)
 not_is false true e = absurd (cc)
 not_is false false e = (λ h. refl, λ h. refl)
 
--- the first of two is not so: it is as the second says
+-- if the first of two is false, the second decides whether both are
 pub neither : (a b x y : Bool) → a ≡ x → b ≡ y → a ≡ false
     → (not b ≡ true → (x ≡ false) × (y ≡ false)) × ((x ≡ false) × (y ≡ false) → not b ≡ true)
 neither a b x y e f n = (λ k. (sym e ∙ n, (not_is b y f).0 k), λ p. (not_is b y f).1 p.1)

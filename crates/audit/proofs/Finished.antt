@@ -87,7 +87,7 @@ block_push (c ∷ blocks) m n =
 pub finish_push : (blocks : List Block) (m t : ℕ) → finish_in (blocks ++ empty_block m ∷ []) t ≡ finish_in blocks t
 finish_push blocks m t = ap (λ (b : List (Option Finish)). get_or b (t % 16) None) (block_push blocks m (t / 16))
 
--- a new number is found behind the others
+-- a new number is found after the others
 pub place_new : (blocks : List Block) (m : ℕ) → place_of blocks m ≡ None → place_of (blocks ++ empty_block m ∷ []) m ≡ Some (length blocks)
 place_new blocks m none =
     place_push blocks (empty_block m) m ∙ (ap (λ o. or_else o (cond (eqb m m) (Some (length blocks)) None)) none ∙ ap (λ t. cond t (Some (length blocks)) None) (eq-eqb m m refl))

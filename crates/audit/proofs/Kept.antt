@@ -48,7 +48,7 @@ pages_kept : (base : BasePages) (log : History) (pages : List Page) (e : Fault) 
 pages_kept base log pages NoResource all f = refl
 pages_kept base log pages e all f = absurd (none_broken_page base log pages e all f)
 
--- there are no other tables
+-- a checkpoint has no other tables
 abbrev transactions_or : List TableEntry → Option (List TableEntry × List (ℕ × ℕ)) → List TableEntry
 transactions_or ts None = ts
 transactions_or ts (Some x) = x.0

@@ -1,4 +1,4 @@
--- What is kept after one record more.
+-- What is kept after one more record.
 use Rattle.std.proofs.Common.{◌≡◌, ◌<◌, ◌≤◌, ◌+◌, ◌*◌, ◌&&◌, ℕ, true, false, cond, List, [], ◌∷◌, length, get_or, set, Option, Some, refl, sym, subst, ◌∙◌, inl, inr, arith, eqb, eq-eqb, ne_eqb}
 use Rattle.std.proofs.lemmas.Bool.{cases_Bool, cases_eq, and_left, and_right}
 use Rattle.std.proofs.lemmas.List.{get_or-set_other}
@@ -44,7 +44,7 @@ cell_below count cells (Update u) cell e size named fits = subst (λ o. IfSome o
 cell_below count cells (Compensation u) cell e size named fits = subst (λ o. IfSome o (λ c. 16 * c.0 + c.1 < cells)) (sym e) (has_cell count cells (Compensation u) size named fits)
 cell_below count cells r cell e size named fits = subst (λ o. IfSome o (λ c. 16 * c.0 + c.1 < cells)) (sym e) tt
 
--- one cell is put
+-- one cell is changed
 module _ {X : Type 0} (count : ℕ) (before after : ℕ → ℕ → X) (cells : List X) where
   pub put_there : (p s : ℕ) (x : X) → p < count → s < 16
       → ((page slot : ℕ) → after page slot ≡ cond (eqb p page && eqb s slot) x (before page slot))
@@ -73,7 +73,7 @@ module _ {X : Type 0} (count : ℕ) (before after : ℕ → ℕ → X) (cells : 
             | inr n ↦ elsewhere page slot d lt lt' (and_left (eqb p page) (eqb s slot) (ne_eqb p page n)) (λ z. n (omega arith))
           ]
 
-  -- none is
+  -- no cell is changed
   pub left_there : ((page slot : ℕ) → after page slot ≡ before page slot) → KeepsCells count before cells → KeepsCells count after cells
   left_there same keeps = record { size_is = keeps.size_is; each = λ page slot d lt lt'. keeps.each page slot d lt lt' ∙ sym (same page slot) }
 

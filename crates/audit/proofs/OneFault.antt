@@ -1,4 +1,4 @@
--- An input that is not lawful has one first fault.
+-- An input has at most one first fault.
 use Rattle.std.proofs.Common.{◌+◌, ◌≡◌, ◌⊎◌, ◌<◌, ℕ, suc, List, length, take, Some, cond, refl, sym, ap, subst, ◌∙◌, inl, inr, arith, None, Option}
 use Rattle.std.specs.Prelude.{All, slice_get}
 use Rattle.std.proofs.lemmas.List.{get_or-take, length-take}
@@ -21,7 +21,7 @@ use Rattle.audit.specs.FirstFault.{BrokenAt, AreSound, RecordFault, FirstBroken,
 use Rattle.audit.proofs.Kept.{not_broken, none_broken, page_not_broken, none_broken_page, same_transactions, same_dirty}
 
 -- A LAW BEFORE OTHERS
--- it is broken, which is this fault; or it holds, and the fault is one of the others
+-- the law is broken, which is this fault; or it holds, and the fault is one of the others
 abbrev Either : Type 0 → Fault → (Fault → Type 0) → Fault → Type 0
 Either Law fault Others e = ((Law → ⊥) × (e ≡ fault)) ⊎ (Law × Others e)
 
@@ -54,7 +54,7 @@ same_at xs i j x y a b e = (let c : Some x ≡ Some y = sym a ∙ ap (slice_get 
 abbrev compensation_fault : LogRecord → ℕ → Fault
 compensation_fault r lsn = cond (is_end r) (EndTooEarly lsn) (WrongCompensation lsn)
 
--- the laws of a record in the order in which they are looked at
+-- the laws of a record in the order in which they are checked
 abbrev RecordFaults : (base : BasePages) → ℕ → History → LogRecord → Fault → Type 0
 RecordFaults base count log r =
     let lsn = suc (last_lsn log) in
@@ -90,7 +90,7 @@ one_broken base count log r d e x y =
     (one_of (BeforeLaw base log r) (BeforeImage lsn) _ no_other)))))
     d e (in_order base count log r d x) (in_order base count log r e y)
 
--- what stands before a sound record is not broken
+-- no record before the first broken one is broken
 not_sound : (base : BasePages) (count : ℕ) (log : History) (d e : Fault) (x : FirstBroken base count log d) (y : FirstBroken base count log e) → x.lsn < y.lsn → ⊥
 not_sound base count log d e x y lt =
     let there : record_at (first y.lsn log) (x.lsn + 1) ≡ Some x.entry = record_in_first y.lsn log (x.lsn + 1) (omega (arith, lt)) ∙ x.there in

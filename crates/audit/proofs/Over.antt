@@ -14,7 +14,7 @@ use Rattle.audit.proofs.OneFault.{one_first_fault}
 pub over_kept : (log : LogContent) (store base : StoreContent) (r : Result ⊤ Fault) → LawfulOver log store base → IfErr r (FirstFault (base_pages base.pages) log store) → IfErr r (λ e. e ≡ NoResource)
 over_kept log store base r lawful f = lawful_kept (base_pages base.pages) log store r lawful.lawful f
 
--- a fault is that of the base store, or not
+-- a fault is that of the base store, or of a law
 data Which (log : LogContent) (store base : StoreContent) (e : Fault) : Type 0 where
   TheBase : e ≡ BadBase → (IsBaseOf log store base → ⊥) → Which log store base e
   ALaw : IsBaseOf log store base → FirstFault (base_pages base.pages) log store e → Which log store base e

@@ -18,7 +18,7 @@ use Rattle.audit.proofs.Noting.{put_there, left_there}
 use Rattle.wal.proofs.Histories.{first_all, first_first, size_of_first_le, record_in_first, first_base}
 
 -- BEGINNINGS
--- one record more, for a page whose PageLSN is k
+-- one more record, for a page whose PageLSN is k
 step : (page slot k : ℕ) (log : History) (r : LogRecord) → last_write page slot (first k (log ▸ r)) ≡ cond (writes page slot r && ltb (last_lsn log) k) (suc (last_lsn log)) (last_write page slot (first k log))
 step page slot k log r =
     elim (cases_Bool (ltb (last_lsn log) k)) [
@@ -44,7 +44,7 @@ module _ (pages : List Page) (log : History) (r : LogRecord) (lsn : ℕ) (at : l
   abbrev Written : (History) → (page slot : ℕ) → ℕ
   Written h page slot = last_write page slot (log_at pages h page)
 
-  -- whether it counts, by its page
+  -- whether the record counts, by the PageLSN of its page
   counts_there : (p s page slot : ℕ) (b : Bool) → leb lsn (page_lsn pages p) ≡ b → (eqb p page && eqb s slot) ≡ true → ltb (last_lsn log) (page_lsn pages page) ≡ b
   counts_there p s page slot b e w =
       let same : p ≡ page = eqb-true p page (and_parts (eqb p page) (eqb s slot) w).0 in
@@ -96,7 +96,7 @@ writers_noted pages log (Compensation u) lsn ws at named fits keeps =
     in_cell pages log (Compensation u) lsn at ws keeps u.page u.slot (λ page slot. refl) named (omega arith)
 writers_noted pages log r lsn ws at named fits keeps = in_none pages log r lsn at ws keeps (λ page slot. refl)
 
--- what is written up to an LSN has none above
+-- the last write up to an LSN is not above it
 write_low : (page slot lsn : ℕ) (log : History) → last_write page slot (first lsn log) ≤ lsn
 write_low page slot lsn log =
     elim (cases_lt lsn (base_lsn log)) [

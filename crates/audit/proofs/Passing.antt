@@ -18,7 +18,7 @@ use Rattle.audit.specs.FirstFault.{BrokenAt, AreSound, FirstBroken, RecordFault}
 pub begins_first : (log : LogContent) (lsn : ℕ) → base_lsn (history log) ≤ lsn → Begins (first lsn (history log)) log
 begins_first log lsn from n le = sym (record_in_first lsn (history log) n (omega (arith, le, size_of_first_le lsn (history log) from)))
 
--- one record more
+-- one more record
 pub sound_more : (base : BasePages) (count : ℕ) (log : History) (lsn : ℕ) (r : LogRecord) → first (lsn + 1) log ≡ first lsn log ▸ r
     → AreSound base count (first lsn log) → NamesPages count r → Obeys base (first lsn log) r → AreSound base count (first (lsn + 1) log)
 sound_more base count log lsn r next sound named obeys =
@@ -41,11 +41,11 @@ wrong_end_or_clr base count log r lsn e is at named chain finish broken =
           subst (BrokenAt base count log r) (sym f) (at, named, chain, finish, i, broken))
     ]
 
--- what a vector holds whose elements were lent and written
+-- what a vector holds after its elements were borrowed and written
 pub written_back : {X : Type 0} (n : ℕ) (items ws : List X) → length items ≡ n → length ws ≡ n → take n (ws ++ drop (length ws) items) ≡ ws
 written_back n items ws e f = take_at ws (drop (length ws) items) n f
 
--- what an answer, or a value, is said to keep says more of it
+-- if P implies Q, a result or a value that keeps P keeps Q
 pub on_ok : {T E : Type 0} {P Q : Type 0} (r : Result T E) → (P → Q) → OnOk r P → OnOk r Q
 on_ok (Ok x) f h = f h
 on_ok (Err e) f h = tt

@@ -1,4 +1,4 @@
--- How a transaction stands after one record more, finished or not.
+-- The standing of a transaction, finished or not, after one more record.
 use Rattle.std.proofs.Common.{◌≡◌, ◌+◌, ℕ, true, false, cond, Option, Some, None, List, [], ◌∷◌, ◌++◌, length, refl, sym, ap, subst, ◌∙◌, inl, inr, eqb, eqb-true}
 use Rattle.std.proofs.lemmas.Bool.{cases_Bool, or_left, or_right, or_parts, both_ways, false≢true}
 use Rattle.wal.specs.Records.{LogRecord, Update, Compensation, Commit, Abort, End, Prepare, History, ◌▸◌, last_lsn, base_lsn}
@@ -13,7 +13,7 @@ use Rattle.audit.specs.Statuses.{under}
 use Rattle.audit.specs.Standings.{HasFinished, IsStandingOf, newest_of, standing_after}
 use Rattle.audit.proofs.Statuses.{stands_other, stands_update, stands_compensation, stands_abort, stands_prepare}
 
--- who has finished so has finished
+-- a transaction that has finished in either way has finished
 pub finished_so : (t : ℕ) (log : History) (finish : Finish) → HasFinished t log finish → finished t log ≡ true
 finished_so t log Committed h = or_left (committed t log) (ended t log) h.0
 finished_so t log Ended h = or_right (committed t log) (ended t log) h

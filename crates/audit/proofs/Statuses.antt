@@ -1,4 +1,4 @@
--- How an unfinished transaction stands after one record more.
+-- The status of an unfinished transaction after one more record.
 use Rattle.std.proofs.Common.{◌≡◌, ◌+◌, ◌≤◌, ℕ, zero, suc, true, false, List, [], ◌∷◌, ◌++◌, length, get_or, drop, refl, sym, ap, subst, ◌∙◌, arith, eqb, eq-eqb, length-append, ◌-◌, ◌<◌, ◌⊎◌, inl, inr}
 use Rattle.std.proofs.Math.Seq.{get_or-append_seam}
 use Rattle.std.proofs.lemmas.List.{get_or_append_left}
@@ -53,7 +53,7 @@ stands_other links x t log (Prepare u) s e h =
 stands_other links x t log r s e h =
     record { unfinished = h.unfinished; last = h.last ∙ sym (last_other t log r e); undo_next = h.undo_next; aborted = h.aborted; prepared = h.prepared; pending = linked_more (base_lsn log) links x (pending t log) s.newest h.pending }
 
--- after a record of its own that does not finish it
+-- the status after a record of its own that does not finish it
 module _ (links : List ℕ) (log : History) (s : Status) (lsn below : ℕ) (at : last_lsn log + 1 ≡ lsn) (len : base_lsn log + length links ≡ last_lsn log) where
   next_is : lsn ≡ suc (last_lsn log)
   next_is = omega (arith, at)

@@ -31,7 +31,7 @@ has_some t (log ▸ r) h =
       | inr e ↦ rw e (has_some t log (λ z. h (rw e z)))
     ]
 
--- one that has not finished is unfinished where it has a record
+-- a transaction that has not finished is unfinished if and only if it has a record
 pub begun_is : (t : ℕ) (log : History) (links : List ℕ) (s : Status) → IsStatusOf links t log s → not (eqb s.last 0) ≡ is_unfinished t log
 begun_is t log links s h =
     elim (cases_eq s.last 0) [
@@ -43,7 +43,7 @@ begun_is t log links s h =
           ap not (ne_eqb s.last 0 n) ∙ ap₂ (λ x y. x && not y) (sym some) (sym h.unfinished))
     ]
 
--- one that is not among the unfinished, and has a record, has finished
+-- a transaction that is not among the unfinished, and has a record, has finished
 pub absent_finished : (links : List ℕ) (t : ℕ) (log : History) (finish : Option Finish) → IsStandingOf links t log (standing_by None finish) → has (is_of t) log ≡ true → finished t log ≡ true
 absent_finished links t log (Some finish) h some = finished_so t log finish h
 absent_finished links t log None h some = absurd (both_ways (has (is_of t) log) (has_none t log (sym h.last)) some)
@@ -55,12 +55,12 @@ absent_not_unfinished links t log finish h =
       | inr none ↦ rw none refl
     ]
 
--- one that is among them has not
+-- a transaction that is among the unfinished has not finished
 pub present_unfinished : (links : List ℕ) (t : ℕ) (log : History) (s : Option Status) (finish : Option Finish) → IsStandingOf links t log (standing_by s finish) → finished t log ≡ true → s ≡ None
 present_unfinished links t log None finish h done = refl
 present_unfinished links t log (Some s) finish h done = absurd (both_ways (finished t log) h.unfinished done)
 
--- so one that is unfinished stands at a place, or among the others
+-- so an unfinished transaction is at a place, or among the others
 found_there : (table : UnfinishedTable) (t : ℕ) (s : Status) → unfinished_in table t ≡ Some s → IsPlaced table t ⊎ IsOther table t
 found_there table t s e = by_place (get_or table.places (t % 256) None) refl
   where
@@ -82,7 +82,7 @@ unfinished_there links t log table finish stands live = by_status (unfinished_in
         absurd (both_ways (is_unfinished t log) (absent_not_unfinished links t log finish (subst (λ (o : Option Status). IsStandingOf links t log (standing_by o finish)) e stands)) live)
     by_status (Some s) e = found_there table t s e
 
--- who has prepared has a record
+-- a transaction that has prepared has a record
 prepare_own : (t : ℕ) (r : LogRecord) → is_prepare_of t r ≡ true → is_of t r ≡ true
 prepare_own t (Prepare s) h = h
 prepare_own t r h = absurd (false≢true h)
@@ -95,7 +95,7 @@ prepared_has t (log ▸ r) h =
       | inr i ↦ or_right (is_of t r) (has (is_of t) log) (prepared_has t log i)
     ]
 
--- so one that has prepared need not be asked whether it has begun
+-- so a transaction that has prepared has begun, and need not be checked for that
 pub begun_already : (begun unfinished prepares aborts : Bool) → (prepares ≡ true → begun ≡ true)
     → (unfinished && (prepares && not aborts)) ≡ ((begun && unfinished) && (prepares && not aborts))
 begun_already true unfinished prepares aborts h = refl

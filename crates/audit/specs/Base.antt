@@ -9,7 +9,7 @@ use Rattle.wal.specs.Pages.{base_pages}
 use Rattle.wal.specs.Store.{Lawful}
 use Rattle.audit.specs.FirstFault.{FirstFault}
 
--- it has as many pages as the store beside the log, and none of them is of a record of the log
+-- it has as many pages as the log's store, and no PageLSN is that of a record of the log
 pub record IsBaseOf (log : LogContent) (store base : StoreContent) : Type 0 where
   pub count : length base.pages ≡ length store.pages
   pub before : All (λ page. page.lsn ≤ base_lsn (history log)) base.pages
@@ -19,15 +19,15 @@ pub record LawfulOver (log : LogContent) (store base : StoreContent) : Type 0 wh
   pub is_base : IsBaseOf log store base
   pub lawful : Lawful (base_pages base.pages) log store
 
--- FIRST FAULT over a base store: that this is none, else the first broken law over its pages; want of memory aside
+-- FIRST FAULT over a base store: it is not a base of the log, else the first broken law over its pages; a lack of memory aside
 abbrev pub FirstFaultOver : LogContent → StoreContent → StoreContent → Fault → Type 0
 FirstFaultOver log store base BadBase = IsBaseOf log store base → ⊥
 FirstFaultOver log store base e = IsBaseOf log store base × FirstFault (base_pages base.pages) log store e
 
--- an input that is not lawful over a base store has one first fault
+-- an input has at most one first fault over a base store
 abbrev pub OneFirstFaultOver : Type 0
 OneFirstFaultOver = (log : LogContent) (store base : StoreContent) → HasOneCause (FirstFaultOver log store base)
 
--- and a lawful one has none
+-- a lawful input has none
 abbrev pub NoFaultOfTheLawfulOver : Type 0
 NoFaultOfTheLawfulOver = (log : LogContent) (store base : StoreContent) → LawfulOver log store base → HasNoCause (FirstFaultOver log store base)

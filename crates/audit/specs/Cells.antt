@@ -17,21 +17,21 @@ abbrev pub last_writer : ℕ → ℕ → History → Option ℕ
 last_writer page slot (start _) = None
 last_writer page slot (log ▸ r) = if writes page slot r then owner r else last_writer page slot log
 
--- what the record at an LSN left in a cell, or where there is none what was there before
+-- what the record at an LSN left in a cell; without a record, what was there before
 abbrev pub image_or : Image → Option LogRecord → Image
 image_or before None = before
 image_or before (Some r) = image_of r
 
--- what is to be kept of a cell
+-- what is kept of a cell
 abbrev pub cell_in : BasePages → History → (page slot : ℕ) → Cell
 cell_in base log page slot = record { writer = last_writer page slot log; image = replay base log page slot }
 
--- for each cell of so many pages this is kept of it
+-- the list has, for each cell of `count` pages, what `of` says of the cell
 pub record KeepsCells {X : Type 0} (count : ℕ) (of : (page slot : ℕ) → X) (cells : List X) : Type 0 where
   pub size_is : length cells ≡ SLOTS * count
   pub each : (page slot : ℕ) (default : X) → page < count → slot < SLOTS → slice_index_or cells (SLOTS * page + slot) default ≡ of page slot
 
--- for each cell its last writer, in the log that counts for its page
+-- the list has, for each cell, its last writer in the log that counts for its page
 abbrev pub KeepsWriters : (count : ℕ) → (counts : ℕ → History) → List ℕ → Type 0
 KeepsWriters count counts writers = KeepsCells count (λ page slot. last_write page slot (counts page)) writers
 

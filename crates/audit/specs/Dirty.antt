@@ -17,7 +17,7 @@ pub record KeepsMissing (pages : List Page) (log : History) (missing : List ℕ)
   pub size_is : length missing ≡ length pages
   pub each : (page : ℕ) → page < length pages → slice_index missing page ≡ first_missing page (page_lsn pages page) log
 
--- after the record at an LSN, which is in this cell or in none
+-- the first missing records after the record at an LSN, which is in this cell or in none
 abbrev pub missing_after : (ℕ → ℕ) → List ℕ → Option (ℕ × ℕ) → ℕ → List ℕ
 missing_after lsn_of missing cell lsn =
     option_map_or (λ c. if slice_index missing c.0 == 0 && nat_lt (lsn_of c.0) lsn then slice_set missing c.0 lsn else missing) cell missing
@@ -26,6 +26,6 @@ missing_after lsn_of missing cell lsn =
 abbrev pub IsRecLsnInRange : (base : ℕ) → Option ℕ → ℕ → Type 0
 IsRecLsnInRange base listed master = (rec_lsn : ℕ) → listed ≡ Some rec_lsn → (base < rec_lsn) × (rec_lsn ≤ master)
 
--- a missing record is listed from no later a RecLSN
+-- if a record is missing, the listed RecLSN is at or before it
 abbrev pub IsCovered : Option ℕ → ℕ → Type 0
 IsCovered listed missing = 0 < missing → (rec_lsn : ℕ) × (listed ≡ Some rec_lsn) × (rec_lsn ≤ missing)

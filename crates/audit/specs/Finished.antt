@@ -6,7 +6,7 @@ use Rattle.audit.specs.declared.number_table.NumberTable.{NumberTable}
 use Rattle.audit.specs.declared.number_table.TheConstants.{NO_NUMBER}
 use Rattle.audit.specs.Numbers.{place_in, IsSound}
 
--- how the 16 transactions of the block with this number have finished: none, where there is no such block
+-- how the 16 transactions of the block with this number have finished; none has if there is no such block
 abbrev pub block_in : List Block → ℕ → List (Option Finish)
 block_in [] number = replicate 16 None
 block_in (b ∷ blocks) number = if b.number == number then b.finishes else block_in blocks number
@@ -15,25 +15,25 @@ block_in (b ∷ blocks) number = if b.number == number then b.finishes else bloc
 abbrev pub finish_in : List Block → ℕ → Option Finish
 finish_in blocks t = slice_index_or (block_in blocks (t / 16)) (t % 16) None
 
--- where the block with this number stands
+-- the place of the block with this number
 abbrev pub place_of : List Block → ℕ → Option ℕ
 place_of [] number = None
 place_of (b ∷ blocks) number = if b.number == number then Some 0 else option_map suc (place_of blocks number)
 
--- a block in which nobody has finished
+-- a block in which no transaction has finished
 abbrev pub empty_block : ℕ → Block
 empty_block number = record { number = number; finishes = replicate 16 None }
 
--- one more has finished so
+-- the block after one more transaction has finished in this way
 abbrev pub with_finish : Block → (place : ℕ) → Finish → Block
 with_finish b place finish = record { number = b.number; finishes = slice_set b.finishes place (Some finish) }
 
--- no two blocks have one number, and each has one
+-- no two blocks have the same number, and each has one
 abbrev pub AreDistinct : List Block → Type 0
 AreDistinct blocks = (place : ℕ) (d : Block) → place < length blocks
     → ((slice_index_or blocks place d).number ≢ NO_NUMBER) × (place_of blocks (slice_index_or blocks place d).number ≡ Some place)
 
--- an index tells where each block stands
+-- an index has the place of each block
 pub record IsIndexOf (blocks : List Block) (index : NumberTable) : Type 0 where
   pub places : (number : ℕ) → (number ≢ NO_NUMBER) → place_in index number ≡ place_of blocks number
   pub sound : IsSound index

@@ -14,7 +14,7 @@ use Rattle.wal.specs.Redo.{rec_lsn_of}
 use Rattle.page.specs.Causes.{HasOneCause, HasNoCause}
 use Rattle.page.specs.Store.{StoreContent}
 
--- the fault names the record behind this log and the first law that the record breaks there
+-- the fault names the record after this log and the first law that the record breaks there
 abbrev pub BrokenAt : BasePages → (count : ℕ) → History → LogRecord → Fault → Type 0
 BrokenAt base count log r (NoSuchPage lsn) = (lsn ≡ suc (last_lsn log)) × (NamesPages count r → ⊥)
 BrokenAt base count log r (Chain lsn) = (lsn ≡ suc (last_lsn log)) × NamesPages count r × (ChainLaw log r → ⊥)
@@ -34,7 +34,7 @@ pub record AreSound (base : BasePages) (count : ℕ) (log : History) : Type 0 wh
   pub lawful : IsLawful base log
   pub named : EachRecord (NamesPages count) log
 
--- the fault is that of the first record that breaks a law, behind this LSN
+-- the fault is that of the first record that breaks a law, the one after this LSN
 pub record FirstBroken (base : BasePages) (count : ℕ) (log : History) (e : Fault) : Type 0 where
   pub lsn : ℕ
   pub entry : LogRecord
@@ -42,7 +42,7 @@ pub record FirstBroken (base : BasePages) (count : ℕ) (log : History) (e : Fau
   pub before : AreSound base count (first lsn log)
   pub broken : BrokenAt base count (first lsn log) entry e
 
--- why the records are refused, want of memory aside
+-- the fault of the records, a lack of memory aside
 abbrev pub RecordFault : BasePages → (count : ℕ) → History → Fault → Type 0
 RecordFault base count log NoResource = ⊤
 RecordFault base count log e = FirstBroken base count log e
@@ -61,16 +61,16 @@ pub record FirstBrokenPage (base : BasePages) (log : History) (pages : List Page
   pub before : All (PageLaw base log) (take place pages)
   pub broken : BrokenPage base log page e
 
--- why the pages are refused, want of memory aside
+-- the fault of the pages, a lack of memory aside
 abbrev pub PageLawFault : BasePages → History → List Page → Fault → Type 0
 PageLawFault base log pages NoResource = ⊤
 PageLawFault base log pages e = FirstBrokenPage base log pages e
 
--- the dirty page table of the begin at m is true of the page
+-- the dirty page table of the checkpoint whose begin record is at m is true of the page
 abbrev pub KeepsDirty : History → ℕ → List (ℕ × ℕ) → Page → Type 0
 KeepsDirty log m dirty page = DirtyLaw log m page.number page.lsn (rec_lsn_of page.number dirty)
 
--- the fault names the first page of which it is not
+-- the fault names the first page of which the table is not true
 pub record FirstUncovered (log : History) (m : ℕ) (dirty : List (ℕ × ℕ)) (pages : List Page) (e : Fault) : Type 0 where
   pub place : ℕ
   pub page : Page
@@ -79,12 +79,12 @@ pub record FirstUncovered (log : History) (m : ℕ) (dirty : List (ℕ × ℕ)) 
   pub fault : e ≡ DirtyTable page.number
   pub broken : KeepsDirty log m dirty page → ⊥
 
--- why a dirty page table is refused, want of memory aside
+-- the fault of a dirty page table, a lack of memory aside
 abbrev pub DirtyFault : History → ℕ → List (ℕ × ℕ) → List Page → Fault → Type 0
 DirtyFault log m dirty pages NoResource = ⊤
 DirtyFault log m dirty pages e = FirstUncovered log m dirty pages e
 
--- why the master m is refused, want of memory aside
+-- the fault of the master m, a lack of memory aside
 abbrev pub MasterFault : History → List Page → ℕ → Fault → Type 0
 MasterFault log pages m NoResource = ⊤
 MasterFault log pages m BadMaster = (m ≢ 0) × (checkpoint_at m log ≡ None)
@@ -96,17 +96,17 @@ MasterFault log pages m (DirtyTable number) =
     × FirstUncovered log m dirty pages (DirtyTable number))
 MasterFault log pages m _ = ⊥
 
--- FIRST FAULT. The first broken law: of the records, else of the pages, else of the checkpoint; want of memory aside.
+-- FIRST FAULT. The first broken law of the records, else of the pages, else of the checkpoint; a lack of memory aside.
 abbrev pub FirstFault : BasePages → LogContent → StoreContent → Fault → Type 0
 FirstFault base log store e =
     RecordFault base (length store.pages) (history log) e
     ⊎ ((AreSound base (length store.pages) (history log) × PageLawFault base (history log) store.pages e)
     ⊎ (AreSound base (length store.pages) (history log) × All (PageLaw base (history log)) store.pages × MasterFault (history log) store.pages store.master e))
 
--- an input that is not lawful has one first fault
+-- an input has at most one first fault
 abbrev pub OneFirstFault : Type 0
 OneFirstFault = (base : BasePages) (log : LogContent) (store : StoreContent) → HasOneCause (FirstFault base log store)
 
--- and a lawful one has none
+-- a lawful input has none
 abbrev pub NoFaultOfTheLawful : Type 0
 NoFaultOfTheLawful = (base : BasePages) (log : LogContent) (store : StoreContent) → Lawful base log store → HasNoCause (FirstFault base log store)

@@ -1,4 +1,4 @@
--- What is kept while the records are gone through (own).
+-- What is kept while the records are read (own).
 use Rattle.std.specs.Prelude.{◌≡◌, ◌≤◌, ◌⊎◌, ℕ, length, Option, Some, None, ◌+◌, ⊤}
 use Rattle.page.specs.Image.{Image}
 use Rattle.wal.specs.Records.{LogRecord, Update, History, LogContent, history, last_lsn, record_at, base_lsn}
@@ -8,7 +8,7 @@ use Rattle.audit.specs.declared.audit_state.AuditState.{AuditState}
 use Rattle.audit.specs.Standings.{IsStandingOf, standing_in}
 use Rattle.audit.specs.Cells.{KeepsCells, cell_in}
 
--- it tells how each transaction stands, and what the cells hold over the base pages
+-- the state has the standing of each transaction, and what the cells hold over the base pages
 pub record IsAuditStateOf (pages : BasePages) (count : ℕ) (log : History) (audit_state : AuditState) : Type 0 where
   pub base : audit_state.base ≡ base_lsn log
   pub links : base_lsn log + length audit_state.links.items ≡ last_lsn log

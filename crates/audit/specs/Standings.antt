@@ -1,4 +1,4 @@
--- How the transactions stand, finished or not (own).
+-- The standings of the transactions, finished or not (own).
 use Rattle.std.specs.Prelude.{◌≡◌, ℕ, List, Option, Some, None, Bool, true, false}
 use Rattle.wal.specs.Records.{LogRecord, Commit, End, History}
 use Rattle.wal.specs.Meaning.{committed, ended, is_commit_of, is_end_of}
@@ -13,12 +13,12 @@ use Rattle.audit.specs.Unfinished.{unfinished_in}
 use Rattle.audit.specs.Finished.{finish_in}
 
 -- ONE TRANSACTION
--- the transaction t has finished so
+-- the transaction t has finished in this way
 abbrev pub HasFinished : ℕ → History → Finish → Type 0
 HasFinished t log Committed = (committed t log ≡ true) × (ended t log ≡ false)
 HasFinished t log Ended = ended t log ≡ true
 
--- it is what the log says of the transaction t
+-- the standing is what the log says of the transaction t
 abbrev pub IsStandingOf : List ℕ → ℕ → History → Standing → Type 0
 IsStandingOf links t log (Unfinished s) = IsStatusOf links t log s
 IsStandingOf links t log (Finished finish) = HasFinished t log finish
@@ -28,14 +28,14 @@ abbrev pub newest_of : Standing → ℕ
 newest_of (Unfinished s) = s.newest
 newest_of (Finished finish) = 0
 
--- how the transaction of a record stands after it; `below` is what stands below its newest pending update
+-- the standing of a record's transaction after the record; `below` is the LSN below its newest pending update
 abbrev pub standing_after : LogRecord → (lsn below : ℕ) → Standing → Standing
 standing_after (Commit s) lsn below before = Finished Committed
 standing_after (End s) lsn below before = Finished Ended
 standing_after r lsn below (Unfinished s) = Unfinished (after r lsn below s)
 standing_after r lsn below (Finished finish) = Finished finish
 
--- the record is that by which the transaction t finishes so
+-- the record is the one by which the transaction t finishes in this way
 abbrev pub is_finish_of : Finish → ℕ → LogRecord → Bool
 is_finish_of Committed t r = is_commit_of t r
 is_finish_of Ended t r = is_end_of t r
@@ -46,7 +46,7 @@ is_some_with test None = false
 is_some_with test (Some r) = test r
 
 -- ALL OF THEM
--- how it stands, by what is known of it where it has not finished, and by how it has
+-- the standing of a transaction, by what is known of it if it has not finished, and by how it has finished
 abbrev pub standing_by : Option Status → Option Finish → Standing
 standing_by (Some s) finish = Unfinished s
 standing_by None (Some finish) = Finished finish

@@ -4,21 +4,21 @@ use Rattle.wal.specs.Records.{LogRecord, Update, Compensation, Abort, Prepare, H
 use Rattle.wal.specs.Meaning.{finished, aborted, prepared, pending, last_of, undo_next_of}
 use Rattle.audit.specs.declared.status.Status.{Status}
 
--- what stands below an LSN on a stack, 0 for nothing: there is a link for each LSN behind the base LSN
+-- the LSN below an LSN on a stack, 0 for none: there is a link for each LSN after the base LSN
 abbrev pub under : (base : ℕ) → List ℕ → ℕ → ℕ
 under base links zero = 0
 under base links (suc n) = slice_index links (suc n - base - 1)
 
--- such an LSN, or 0
+-- an LSN that has a link, or 0
 abbrev pub IsTop : (base : ℕ) → List ℕ → ℕ → Type 0
 IsTop base links top = (top ≡ 0) ⊎ ((base < top) × (top ≤ base + length links))
 
--- the links from this top on show these LSNs, and nothing more
+-- the links, followed from this top, give these LSNs, and nothing more
 abbrev pub Linked : (base : ℕ) → List ℕ → List ℕ → ℕ → Type 0
 Linked base links [] top = top ≡ 0
 Linked base links (n ∷ ns) top = (top ≡ n) × (base < n) × (n ≤ base + length links) × Linked base links ns (under base links n)
 
--- it is what the log says of the transaction t, which has not finished
+-- the status is what the log says of the transaction t, which has not finished
 pub record IsStatusOf (links : List ℕ) (t : ℕ) (log : History) (s : Status) : Type 0 where
   pub unfinished : finished t log ≡ false
   pub last : s.last ≡ last_of t log
@@ -31,7 +31,7 @@ pub record IsStatusOf (links : List ℕ) (t : ℕ) (log : History) (s : Status) 
 abbrev pub unknown : Status
 unknown = record { last = 0; undo_next = 0; newest = 0; aborted = false; prepared = false }
 
--- how the unfinished transaction of a record that does not finish it stands after it; `below` is what stands below its newest
+-- the status of a record's unfinished transaction after the record, which does not finish it; `below` is the LSN below its newest
 -- pending update
 abbrev pub after : LogRecord → (lsn below : ℕ) → Status → Status
 after (Update u) lsn below s = record { last = lsn; undo_next = lsn; newest = lsn; aborted = s.aborted; prepared = s.prepared }

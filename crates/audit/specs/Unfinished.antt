@@ -6,12 +6,12 @@ use Rattle.audit.specs.declared.status.Status.{Status}
 use Rattle.audit.specs.declared.unfinished_table.UnfinishedTable.{UnfinishedTable}
 use Rattle.audit.specs.declared.unfinished_table.TheConstants.{PLACES}
 
--- whether a place is another transaction's than t
+-- whether a transaction other than t is at a place
 abbrev pub is_of_another : ℕ → Option (ℕ × Status) → Bool
 is_of_another t None = false
 is_of_another t (Some p) = not (p.0 == t)
 
--- what a place knows of the transaction t; where it is not its place, what is known elsewhere
+-- what is known of the transaction t at a place; if t is not there, what is known elsewhere
 abbrev pub own_or : ℕ → Option (ℕ × Status) → Option Status → Option Status
 own_or t None other = other
 own_or t (Some p) other = if p.0 == t then Some p.1 else other

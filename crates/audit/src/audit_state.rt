@@ -1,4 +1,4 @@
-//! What is kept while the records are gone through.
+//! What is kept while the records are read.
 
 ghost use Rattle.std.specs.Prelude.{◌≡◌, ◌+◌, ◌≤◌, ℕ, length, IfOk, OnOk, IsOkUnless};
 ghost use Rattle.page.specs.declared.fault.Fault.TheVariants.{NoResource};
@@ -24,23 +24,24 @@ use page::{Fault, Page};
 use std::alloc::Global;
 use wal::RecordView;
 
-/// What the records so far say: a link of 8 bytes a record, how the transactions stand, and what the
-/// cells hold.
+/// What the records so far say: a link of 8 bytes for each record, the standings of the
+/// transactions, and what the cells hold.
 #[derive(Drop)]
 pub struct AuditState {
-    /// How each transaction stands.
+    /// The standing of each transaction.
     pub standings: Standings,
     /// The base LSN of the log.
     pub base: u64,
-    /// For each record what stood on top of its transaction's stack of pending updates before it.
+    /// For each record, the top of its transaction's stack of pending updates before it: an LSN, 0
+    /// for none.
     pub links: Vec<u64>,
     /// What is kept of each cell; a page has as many cells as slots.
     pub cells: Vec<Cell>,
 }
 
 impl AuditState {
-    /// Before the first record of a log with this base LSN, over the base pages, for `count` pages.
-    /// The only error is `NoResource`.
+    /// The state before the first record of a log with this base LSN, over the base pages, for
+    /// `count` pages. The only error is `NoResource`.
     pub fn start(alloc: Global, lsn: u64, base: &[Page], count: usize) -> Result<AuditState, Fault>
         requires { count ≤ PAGES }
         ensures ok { IfOk result (IsAuditStateOf (base_pages base.now) count (start lsn)) }
@@ -55,8 +56,8 @@ impl AuditState {
         })
     }
 
-    /// Takes in the record at an LSN, of a transaction that stands so before it. The only error is
-    /// `NoResource`.
+    /// Takes in the record at an LSN. `standing` is that of its transaction before it. The only
+    /// error is `NoResource`.
     pub fn note(&mut self, view: &RecordView, lsn: u64, standing: Standing) -> Result<(), Fault>
         requires cell { HasCell (length self.old.cells.items) (shown view.now) }
         requires fits { Fits (shown view.now) }

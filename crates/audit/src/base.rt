@@ -8,7 +8,7 @@ ghost use Rattle.audit.specs.Base.{IsBaseOf};
 use page::{Page, Store, Value};
 use wal::Log;
 
-/// What the base pages hold in a cell: nothing past them.
+/// What the base pages hold in a cell; nothing if the page is past them.
 pub fn base_value(base: &[Page], page: u32, slot: usize) -> Option<Value>
     ensures { result ≡ (base_pages base.now).cells page slot }
 {
@@ -21,7 +21,7 @@ pub fn base_value(base: &[Page], page: u32, slot: usize) -> Option<Value>
     }
 }
 
-/// The PageLSN of a base page: 0 past them.
+/// The PageLSN of a base page; 0 if the page is past them.
 pub fn base_page_lsn(base: &[Page], page: u32) -> u64
     ensures { result ≡ (base_pages base.now).page_lsn page }
 {
@@ -43,8 +43,8 @@ fn are_up_to(pages: &[Page], lsn: u64) -> bool
     true
 }
 
-/// Whether a store can be what the log's records were made over: as many pages as the store beside
-/// the log, none of them changed by a record of the log.
+/// Whether a store can be what the log's records were made over: it has as many pages as the log's
+/// store, and no record of the log has changed one of them.
 pub fn is_base_of(log: &Log, store: &Store, base: &Store) -> bool
     ensures { IsTrue result ↔ IsBaseOf log.now store.now base.now }
 {

@@ -1,4 +1,4 @@
-//! What is kept of each cell while the records are gone through.
+//! What is kept of each cell while the records are read.
 
 ghost use Rattle.std.specs.Prelude.{◌≡◌, ◌≤◌, ◌*◌, ℕ, length, IfOk, IsOkUnless};
 ghost use Rattle.page.specs.declared.fault.Fault.TheVariants.{NoResource};
@@ -14,19 +14,19 @@ use page::{Fault, Page, SLOTS, Value};
 use std::alloc::Global;
 use wal::{Log, RecordView, value_of};
 
-/// How many records are looked at ahead.
+/// How many records ahead are read.
 pub const AHEAD: usize = 8;
 
 /// What is kept of a cell.
 #[derive(Clone, Copy)]
 pub struct Cell {
-    /// The transaction of its last update or CLR; None where it has none.
+    /// The transaction of its last update or CLR; None if it has none.
     pub writer: Option<u32>,
-    /// The value that it holds; None where it is absent.
+    /// The value that it holds; None if it is absent.
     pub image: Option<Value>,
 }
 
-/// The cells of `count` pages before the first record: they hold what the base pages do. The only
+/// The cells of `count` pages before the first record: they hold what the base pages hold. The only
 /// error is `NoResource`.
 pub fn start_cells(alloc: Global, base: &[Page], count: usize) -> Result<Vec<Cell>, Fault>
     requires { count ≤ PAGES }
@@ -59,7 +59,7 @@ pub fn note_cell(cells: &mut [Cell], view: &RecordView)
     }
 }
 
-/// Whether a record is in the cell with this number; no, where there is no such cell.
+/// Whether a record is in the cell with this number; false if there is no such cell.
 #[inline(always)]
 fn is_written(cells: &[Cell], number: usize) -> bool {
     match cells.get(number) {
@@ -68,8 +68,8 @@ fn is_written(cells: &[Cell], number: usize) -> bool {
     }
 }
 
-/// Puts the number of the cell of each of the next records after an LSN, as many as there are places;
-/// 0 for a record that is in none. Where the log has no more records, the places stay as they were.
+/// Puts the cell numbers of the next records after an LSN into `numbers`, one for each place; 0 for
+/// a record that is in no cell. If the log has no more records, the places left are unchanged.
 #[inline(always)]
 fn number_cells(log: &Log, lsn: u64, numbers: &mut [usize])
     requires from { base_lsn (history log.now) ≤ lsn }
@@ -86,12 +86,12 @@ fn number_cells(log: &Log, lsn: u64, numbers: &mut [usize])
     }
 }
 
-/// Reads the cells of the next records after an LSN, as many as there are places for what is seen. The
-/// cells of a full store do not fit into the processor's cache; those that are read one right after
-/// another are fetched at the same time, before the records need them. The writer of each is read, and
-/// that of the next, since a cell may lie in two lines of the cache. What is read is stored, since the
-/// compiler would drop a read that nothing uses; no one asks for it, so it may hold anything before and
-/// after.
+/// Reads the cells of the next records after an LSN, as many as `seen` has places. The cells of a
+/// full store do not fit into the processor's cache. Cells that are read one right after another
+/// are fetched at the same time, before the records need them. The writer of each cell is read, and
+/// that of the next cell, since a cell may lie in two lines of the cache. What is read is stored in
+/// `seen`, since the compiler would drop a read that nothing uses. Nothing uses `seen`, so it may
+/// hold anything before and after.
 pub fn look_ahead(log: &Log, cells: &[Cell], lsn: u64, seen: &mut [usize])
     requires from { base_lsn (history log.now) ≤ lsn }
     requires to { lsn ≤ last_lsn (history log.now) }

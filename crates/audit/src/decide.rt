@@ -1,4 +1,4 @@
-//! Whether a record keeps a law: one function a law, exact.
+//! Whether a record keeps a law: one function for each law, and it is exact.
 
 ghost use Rattle.std.specs.Prelude.{◌≡◌, ◌+◌, ◌*◌, ◌≤◌, ◌<◌, ◌↔◌, ℕ, List, All, IsTrue, Some, length, option_map, slice_index_or};
 ghost use Rattle.page.specs.Image.{Image};
@@ -54,7 +54,7 @@ pub fn names_pages(view: &RecordView, count: usize) -> bool
     }
 }
 
-/// Whether a record stands at an LSN by which a transaction finishes so.
+/// Whether the record at an LSN is the one by which a transaction finishes in this way.
 fn finishes_at(log: &Log, lsn: u64, tx: u32, finish: Finish) -> bool
     ensures { result ≡ is_some_with (is_finish_of finish tx) (record_at (history log.now) lsn) }
 {
@@ -64,8 +64,8 @@ fn finishes_at(log: &Log, lsn: u64, tx: u32, finish: Finish) -> bool
     }
 }
 
-/// Whether PrevLSN is the transaction's last record, for the record at an LSN. The last one of a
-/// transaction that has finished is that by which it did.
+/// Whether the PrevLSN of the record at an LSN is the LSN of its transaction's last record. The
+/// last record of a finished transaction is the one by which it finished.
 pub fn keeps_chain(log: &Log, view: &RecordView, standing: Standing, lsn: u64) -> bool
     ensures { (base : BasePages) (so_far : History) (links : List ℕ) → IsLawful base so_far
         → Begins so_far log.now → last_lsn so_far + 1 ≡ lsn
@@ -118,7 +118,7 @@ fn are_same(left: Option<&[u8]>, right: Option<&[u8]>) -> bool
     }
 }
 
-/// Whether it is an update of this cell that has this before image and PrevLSN.
+/// Whether a record is an update of this cell that has this before image and PrevLSN.
 fn undoes(view: &RecordView, cell: (u32, u8), undo_next: u64, image: Option<&[u8]>) -> bool
     ensures { IsTrue result ↔ IsUpdateUndoneBy (shown view.now) cell.0 cell.1 undo_next
         (option_map (λ s. s.now) image.entry) }
@@ -137,7 +137,7 @@ fn undoes(view: &RecordView, cell: (u32, u8), undo_next: u64, image: Option<&[u8
     }
 }
 
-/// Whether such an update stands at an LSN.
+/// Whether the record at an LSN is such an update.
 fn undoes_at(log: &Log, lsn: u64, cell: (u32, u8), undo_next: u64, image: Option<&[u8]>) -> bool
     ensures { IsTrue result ↔ ((r : LogRecord) × (record_at (history log.now) lsn ≡ Some r)
         × IsUpdateUndoneBy r cell.0 cell.1 undo_next (option_map (λ s. s.now) image.entry)) }
@@ -148,8 +148,8 @@ fn undoes_at(log: &Log, lsn: u64, cell: (u32, u8), undo_next: u64, image: Option
     }
 }
 
-/// Whether a CLR undoes the newest pending update, and an end without a commit finds none. The
-/// record keeps the law of finish.
+/// Whether a CLR undoes the newest pending update, and an end without a commit finds no pending
+/// update. The record keeps the law of finish.
 pub fn keeps_compensation(log: &Log, view: &RecordView, standing: Standing) -> bool
     ensures { (so_far : History) (links : List ℕ) → Begins so_far log.now
         → base_lsn so_far + length links ≡ last_lsn so_far

@@ -29,7 +29,7 @@ fn note_missing(missing: &mut [u64], cell: Option<(u32, u8)>, pages: &[Page], ls
     }
 }
 
-/// For each page the LSN of the first record up to an LSN that is on it and above its PageLSN, 0
+/// For each page, the LSN of the first record on it that is above its PageLSN and at most `upto`; 0
 /// for none. The only error is `NoResource`.
 fn missing_in(alloc: Global, log: &Log, upto: u64, pages: &[Page]) -> Result<Vec<u64>, Fault>
     requires from { base_lsn (history log.now) ≤ upto }
@@ -48,7 +48,7 @@ fn missing_in(alloc: Global, log: &Log, upto: u64, pages: &[Page]) -> Result<Vec
     Ok(missing)
 }
 
-/// Puts the RecLSN of a page to its number, if there is such a page.
+/// Puts the RecLSN of a page at the page's number, if there is such a page.
 fn put_rec_lsn(listed: &mut [Option<u64>], page: u32, rec_lsn: u64)
     ensures count { length listed.new ≡ length listed.old }
     ensures put { (number : ℕ) (default : Option ℕ) → number < length listed.old
@@ -60,7 +60,7 @@ fn put_rec_lsn(listed: &mut [Option<u64>], page: u32, rec_lsn: u64)
     }
 }
 
-/// For each page its RecLSN, if the table lists it. The only error is `NoResource`.
+/// For each page, its RecLSN if the table lists it. The only error is `NoResource`.
 fn rec_lsns_in(alloc: Global, dirty: &DirtyTable, count: usize) -> Result<Vec<Option<u64>>, Fault>
     ensures count { IfOk result (λ listed. length listed.items ≡ count) }
     ensures each { IfOk result (λ listed. (number : ℕ) (default : Option ℕ) → number < count
@@ -69,7 +69,7 @@ fn rec_lsns_in(alloc: Global, dirty: &DirtyTable, count: usize) -> Result<Vec<Op
 {
     let mut listed = vec![in alloc; None; count]?;
     let last = dirty.len();
-    // From the last entry to the first, since of two for one page the first counts.
+    // From the last entry to the first: if a page has two entries, the first of them counts.
     for behind in 0..last {
         let (page, rec_lsn) = dirty.entry(last - 1 - behind);
         put_rec_lsn(&mut listed, page, rec_lsn);
@@ -77,8 +77,8 @@ fn rec_lsns_in(alloc: Global, dirty: &DirtyTable, count: usize) -> Result<Vec<Op
     Ok(listed)
 }
 
-/// Whether a listed RecLSN lies above the base LSN and up to the master, and at or before the first
-/// missing record.
+/// Whether a listed RecLSN is above the base LSN, at most the master, and at or before the first
+/// missing record. If none is listed, no record may be missing.
 fn is_covered(base: u64, listed: Option<u64>, missing: u64, master: u64) -> bool
     ensures { IsTrue result ↔ IsRecLsnInRange base listed master × IsCovered listed missing }
 {
@@ -90,8 +90,9 @@ fn is_covered(base: u64, listed: Option<u64>, missing: u64, master: u64) -> bool
     }
 }
 
-/// Refuses the smallest page of which the dirty page table of the begin at `master` is not true.
-/// `NoResource`, where memory is refused, may come in its place.
+/// Checks the dirty page table of the checkpoint whose begin record is at `master`. The error names
+/// the page with the smallest number of which the table is not true. `NoResource`, if memory was
+/// refused, can come instead of any other result.
 pub fn check_dirty(
     alloc: Global,
     log: &Log,

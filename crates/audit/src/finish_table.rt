@@ -1,4 +1,4 @@
-//! The finished transactions: some two bytes each, where their numbers lie close together.
+//! The finished transactions: 2 to 3 bytes each, if their numbers are close together.
 
 ghost use Rattle.std.specs.Prelude.{◌≡◌, ◌≢◌, ◌==◌, ◌/◌, ◌%◌, ◌<◌, ◌++◌, ◌∷◌, [], ℕ, Some, None, OnOk, OnErr, IfOk, IsOkUnless, if◌then◌else◌, length, slice_set, slice_index_or, option_map, take};
 ghost use Rattle.page.specs.declared.fault.Fault.TheVariants.{NoResource};
@@ -11,22 +11,22 @@ use page::Fault;
 use std::alloc::Global;
 use std::marker::Model;
 
-/// How many transactions a block is of.
+/// How many transactions a block holds.
 pub const BLOCK: usize = 16;
 
-/// With how many buckets an index begins.
+/// How many buckets the first index has.
 const FIRST_BUCKETS: usize = 8;
 
 /// How 16 transactions with neighbouring numbers have finished.
 #[derive(Clone, Copy)]
 pub struct Block {
-    /// A sixteenth of their numbers.
+    /// Their numbers divided by 16.
     pub number: u32,
     /// By the last four bits of their numbers; None for one that has not finished.
     pub finishes: [Option<Finish>; BLOCK],
 }
 
-/// How each finished transaction has finished. They stand in blocks of 16 with neighbouring numbers:
+/// How each finished transaction has finished. They are in blocks of 16 with neighbouring numbers:
 /// engines count their transactions, so blocks are full. Contracts see the list of the blocks.
 #[derive(Drop)]
 pub struct FinishTable {
@@ -59,8 +59,8 @@ fn put(block: &mut Block, tx: u32, finish: Finish)
     block.finishes[tx as usize % BLOCK] = Some(finish);
 }
 
-/// A place as an index keeps it. The only error is `NoResource`, where there are as many places as
-/// an index can tell apart.
+/// A place as an index keeps it. The only error is `NoResource`, if the place is too large for an
+/// index: it is at least `NO_PLACE`.
 fn index_place(place: usize) -> Result<u32, Fault>
     ensures ok { IfOk result (λ p. (p ≡ place) × (p ≢ NO_PLACE)) }
     ensures err { IsOkUnless result NoResource }
@@ -71,7 +71,7 @@ fn index_place(place: usize) -> Result<u32, Fault>
     Ok(place as u32)
 }
 
-/// An index of the blocks that has so many buckets. The only error is `NoResource`.
+/// An index of the blocks with `count` buckets. The only error is `NoResource`.
 fn index_of(alloc: Global, blocks: &[Block], count: usize) -> Result<NumberTable, Fault>
     requires { AreDistinct blocks.now }
     ensures ok { IfOk result (λ index. IsIndexOf blocks.now index) }
@@ -84,7 +84,7 @@ fn index_of(alloc: Global, blocks: &[Block], count: usize) -> Result<NumberTable
     Ok(index)
 }
 
-/// Makes an index of the blocks larger where there are more than three blocks a bucket. The only error
+/// Makes an index of the blocks larger if there are three blocks a bucket or more. The only error
 /// is `NoResource`.
 fn make_room(blocks: &Vec<Block>, index: &mut NumberTable) -> Result<(), Fault>
     requires distinct { AreDistinct blocks.now.items }
@@ -100,8 +100,8 @@ fn make_room(blocks: &Vec<Block>, index: &mut NumberTable) -> Result<(), Fault>
     Ok(())
 }
 
-/// Appends a block in which nobody has finished. The only error is `NoResource`, and then the blocks
-/// are as they were.
+/// Appends a block in which no transaction has finished. The only error is `NoResource`, and then
+/// the blocks are unchanged.
 fn push_block(blocks: &mut Vec<Block>, number: u32) -> Result<(), Fault>
     ensures ok { OnOk result (blocks.new.items ≡ blocks.old.items ++ empty_block number ∷ []) }
     ensures unchanged { OnErr result (blocks.new.items ≡ blocks.old.items) }
@@ -114,8 +114,8 @@ fn push_block(blocks: &mut Vec<Block>, number: u32) -> Result<(), Fault>
     Ok(())
 }
 
-/// Appends a block in which nobody has finished, and indexes it. The only error is `NoResource`, and
-/// then the blocks are as they were.
+/// Appends a block in which no transaction has finished, and puts it into the index. The only error
+/// is `NoResource`, and then the blocks are unchanged.
 fn add_block(blocks: &mut Vec<Block>, index: &mut NumberTable, number: u32) -> Result<(), Fault>
     requires distinct { AreDistinct blocks.old.items }
     requires index { IsIndexOf blocks.old.items index.old }
@@ -137,7 +137,7 @@ fn add_block(blocks: &mut Vec<Block>, index: &mut NumberTable, number: u32) -> R
 }
 
 impl FinishTable {
-    /// Nobody has finished.
+    /// A table in which no transaction has finished.
     pub fn new(alloc: Global) -> FinishTable
         ensures { (t : ℕ) → finish_in result t ≡ None }
     {
@@ -148,8 +148,8 @@ impl FinishTable {
         }
     }
 
-    /// The place of the block with a number, None where there is none. The newest block is looked at
-    /// first.
+    /// The place of the block with a number, None if there is none. The block that was used last is
+    /// tried first.
     #[inline(always)]
     fn find(&self, number: u32) -> Option<usize>
         requires { number ≢ NO_NUMBER }
@@ -166,7 +166,7 @@ impl FinishTable {
         }
     }
 
-    /// How a transaction has finished, None where it has not.
+    /// How a transaction has finished, None if it has not.
     pub fn get(&self, tx: u32) -> Option<Finish>
         ensures { result ≡ finish_in self.now tx }
     {
@@ -176,7 +176,7 @@ impl FinishTable {
         }
     }
 
-    /// Adds a block with a number that none has, and answers its place. The only error is
+    /// Adds a block with a number that no block has, and returns its place. The only error is
     /// `NoResource`.
     fn add(&mut self, number: u32) -> Result<usize, Fault>
         requires new { place_of self.old number ≡ None }
@@ -191,8 +191,8 @@ impl FinishTable {
         Ok(place)
     }
 
-    /// The place of the block with a number, a new one where there was none. The only error is
-    /// `NoResource`.
+    /// The place of the block with a number; a new block is added if there is none. The only error
+    /// is `NoResource`.
     fn find_or_add(&mut self, number: u32) -> Result<usize, Fault>
         requires { number ≢ NO_NUMBER }
         ensures place { IfOk result (λ place. place_of self.new number ≡ Some place) }

@@ -3,22 +3,23 @@
 ghost use Rattle.audit.specs.FirstFault.{OneFirstFault, NoFaultOfTheLawful};
 ghost use Rattle.audit.specs.Base.{OneFirstFaultOver, NoFaultOfTheLawfulOver};
 
-/// No log and store are refused for two faults, want of memory aside.
+/// A log and a store have at most one error, besides a lack of memory.
 pub fn one_first_fault()
     ensures { OneFirstFault }
 {}
 
-/// No lawful log and store are refused, want of memory aside.
+/// A lawful log and store have no error, besides a lack of memory.
 pub fn no_fault_of_the_lawful()
     ensures { NoFaultOfTheLawful }
 {}
 
-/// No log and store are refused for two faults over a base store, want of memory aside.
+/// A log and a store have at most one error over a base store, besides a lack of memory.
 pub fn one_first_fault_over()
     ensures { OneFirstFaultOver }
 {}
 
-/// No log and store that are lawful over a base store are refused over it, want of memory aside.
+/// A log and a store that are lawful over a base store have no error over it, besides a lack of
+/// memory.
 pub fn no_fault_of_the_lawful_over()
     ensures { NoFaultOfTheLawfulOver }
 {}

@@ -12,10 +12,10 @@ use page::{Fault, Page};
 use std::alloc::Global;
 use wal::{DirtyTable, Log, TransactionTable};
 
-/// Refuses the master for the first law that its checkpoint breaks. `tables` are those of the
-/// checkpoint, if the master names one, and `is_true` tells whether its transaction table is that
-/// of the unfinished transactions. `NoResource`, where memory is refused, may come in place of any
-/// answer.
+/// Checks the master. The error is that of the first law that its checkpoint breaks. `tables` are
+/// those of the checkpoint, if the master names one, and `is_true` is whether its transaction table
+/// is that of the unfinished transactions. `NoResource`, if memory was refused, can come instead of
+/// any other result.
 pub fn check_master(
     alloc: Global,
     log: &Log,

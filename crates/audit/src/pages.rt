@@ -19,8 +19,8 @@ use page::{Fault, Page, SLOTS, Value};
 use std::alloc::Global;
 use wal::{Log, RecordView};
 
-/// Notes the record at an LSN as the last writer of its cell, if it has one and is at or before its
-/// page's PageLSN.
+/// Notes the record at an LSN as the last writer of its cell, if it has a cell and its LSN is at
+/// most its page's PageLSN.
 fn note_writer(writers: &mut [u64], cell: Option<(u32, u8)>, pages: &[Page], lsn: u64)
     requires page { IfSome cell (λ c. c.0 < length pages.now) }
     requires cell { IfSome cell (λ c. SLOTS * c.0 + c.1 < length writers.old) }
@@ -33,7 +33,7 @@ fn note_writer(writers: &mut [u64], cell: Option<(u32, u8)>, pages: &[Page], lsn
     }
 }
 
-/// The highest PageLSN, 0 where there is no page.
+/// The highest PageLSN, 0 without pages.
 fn highest_in(pages: &[Page]) -> u64
     ensures { All (λ page. page.lsn ≤ result) pages.now }
 {
@@ -44,7 +44,7 @@ fn highest_in(pages: &[Page]) -> u64
     highest
 }
 
-/// For each cell the LSN of its last writer at or before its page's PageLSN, 0 for none. The only
+/// For each cell, the LSN of its last writer at or before its page's PageLSN, 0 for none. The only
 /// error is `NoResource`.
 fn writers_at(alloc: Global, log: &Log, pages: &[Page]) -> Result<Vec<u64>, Fault>
     requires few { length pages.now ≤ PAGES }
@@ -64,7 +64,7 @@ fn writers_at(alloc: Global, log: &Log, pages: &[Page]) -> Result<Vec<u64>, Faul
     Ok(writers)
 }
 
-/// Whether it is an update or a CLR on this page.
+/// Whether a record is an update or a CLR on this page.
 fn is_on_page(view: &RecordView, number: u32) -> bool
     ensures { result ≡ is_on number (shown view.now) }
 {
@@ -74,7 +74,7 @@ fn is_on_page(view: &RecordView, number: u32) -> bool
     }
 }
 
-/// Whether PageLSN is that of the base page or the LSN of a record on the page.
+/// Whether the PageLSN is that of the base page or the LSN of a record on the page.
 fn lsn_is_on(log: &Log, base: &[Page], page: &Page) -> bool
     ensures { IsTrue result ↔ (page.now.lsn ≡ (base_pages base.now).page_lsn page.now.number)
         ⊎ ((r : LogRecord) × (record_at (history log.now) page.now.lsn ≡ Some r)
@@ -89,7 +89,7 @@ fn lsn_is_on(log: &Log, base: &[Page], page: &Page) -> bool
     }
 }
 
-/// What the record at an LSN leaves in its cell or, where none is, what was there before.
+/// What the record at an LSN leaves in its cell; without a record, what was there before.
 fn image_left(log: &Log, writer: u64, before: Option<Value>) -> Option<Value>
     ensures { result ≡ image_or before (record_at (history log.now) writer) }
 {
@@ -109,7 +109,8 @@ fn are_same_values(value: Option<Value>, other: Option<Value>) -> bool
     }
 }
 
-/// Whether each slot of the page of this number holds what its last writer left, or the base page.
+/// Whether each slot of the page with this number holds what its last writer left; if it has no
+/// writer, what the base page holds there.
 fn slots_are_left(
     log: &Log,
     base: &[Page],
@@ -134,7 +135,7 @@ fn slots_are_left(
     true
 }
 
-/// Refuses the page for the first law that it breaks.
+/// Checks the laws of a page. The error is that of the first law that it breaks.
 fn check_page(log: &Log, base: &[Page], writers: &[u64], page: &Page) -> Result<(), Fault>
     requires { SLOTS * page.now.number + SLOTS ≤ length writers.now }
     ensures ok { OnOk result (KeepsPage (history log.now) writers.now page.now
@@ -154,8 +155,9 @@ fn check_page(log: &Log, base: &[Page], writers: &[u64], page: &Page) -> Result<
     Ok(())
 }
 
-/// Refuses the first page that is not what the log up to its PageLSN makes of the base page.
-/// `NoResource`, where memory is refused, may come in its place.
+/// Checks whether each page is what the log up to its PageLSN makes of the base page. The error
+/// names the first page that is not. `NoResource`, if memory was refused, can come instead of any
+/// other result.
 pub fn check_pages(alloc: Global, log: &Log, base: &[Page], pages: &[Page]) -> Result<(), Fault>
     requires numbered { AreNumbered pages.now }
     requires named { EachRecord (NamesPages (length pages.now)) (history log.now) }

@@ -40,8 +40,8 @@ fn wrong_compensation(view: &RecordView, lsn: u64) -> Fault
     }
 }
 
-/// Refuses the record at an LSN for the first law that it breaks after the log before it, by how
-/// its transaction stands there.
+/// Checks the laws for the record at an LSN, after the log before it. `standing` is that of its
+/// transaction there. The error is that of the first law that the record breaks.
 fn check_record(
     log: &Log,
     audit_state: &AuditState,
@@ -85,8 +85,8 @@ fn check_record(
     Ok(())
 }
 
-/// Refuses the record behind an LSN if it breaks a law, else takes it in. `NoResource`, where
-/// memory is refused, may come in place of any answer.
+/// Takes in the record after an LSN, if it breaks no law. The error is that of the first law that
+/// it breaks. `NoResource`, if memory was refused, can come instead of any other result.
 fn check_next(log: &Log, audit_state: &mut AuditState, count: usize, lsn: u64) -> Result<(), Fault>
     requires from { base_lsn (history log.now) ≤ lsn }
     requires to { lsn < last_lsn (history log.now) }
@@ -111,9 +111,10 @@ fn check_next(log: &Log, audit_state: &mut AuditState, count: usize, lsn: u64) -
     audit_state.note(&view, lsn + 1, standing)
 }
 
-/// Refuses the first record that breaks a law over these base pages, and names the law. Else
-/// answers whether the transaction table, if there is one, is that of the unfinished transactions
-/// at the LSN `master`. `NoResource`, where memory is refused, may come in place of any answer.
+/// Checks the laws of the records over these base pages. The error names the first record that
+/// breaks a law, and the law. Otherwise returns whether the transaction table, if there is one, is
+/// that of the unfinished transactions at the LSN `master`. `NoResource`, if memory was refused,
+/// can come instead of any other result.
 pub fn check_records(
     alloc: Global,
     log: &Log,

@@ -1,4 +1,4 @@
-//! How a transaction stands after the records so far, finished or not.
+//! The standing of a transaction, finished or not, after the records so far.
 
 ghost use Rattle.std.specs.Prelude.{◌≡◌, ◌↔◌, ℕ, List, IsTrue, false};
 ghost use Rattle.wal.specs.Records.{History};
@@ -18,7 +18,7 @@ pub enum Finish {
     Ended,
 }
 
-/// How a transaction stands.
+/// The standing of a transaction: what its records so far say.
 #[derive(Clone, Copy)]
 pub enum Standing {
     /// It has not finished, or has no record.
@@ -60,7 +60,7 @@ impl Standing {
         }
     }
 
-    /// Whether it has prepared to commit, and neither turned back nor finished.
+    /// Whether it has prepared to commit, and has neither aborted nor finished.
     pub fn is_in_doubt(&self) -> bool
         ensures { (t : ℕ) (log : History) (links : List ℕ) → IsStandingOf links t log self.now
             → result ≡ in_doubt t log }
@@ -95,8 +95,8 @@ impl Standing {
     }
 }
 
-/// How the transaction of a record stands after it. `below` is what stands below its newest pending
-/// update.
+/// The standing of a record's transaction after the record. `below` is the LSN below its newest
+/// pending update.
 pub fn standing_after(standing: Standing, view: &RecordView, lsn: u64, below: u64) -> Standing
     ensures { result ≡ standing_after (shown view.now) lsn below standing }
 {
@@ -117,7 +117,7 @@ pub fn standing_after(standing: Standing, view: &RecordView, lsn: u64, below: u6
     }
 }
 
-/// Whether the record is that by which a transaction finishes so.
+/// Whether the record is the one by which a transaction finishes in this way.
 pub fn is_finish_of(view: &RecordView, tx: u32, finish: Finish) -> bool
     ensures { result ≡ is_finish_of finish tx (shown view.now) }
 {

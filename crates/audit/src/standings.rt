@@ -1,4 +1,5 @@
-//! How the transactions stand: what is known of each unfinished one, and how the others finished.
+//! The standings of the transactions: what is known of each unfinished one, and how the others
+//! finished.
 
 ghost use Rattle.std.specs.Prelude.{◌≡◌, ℕ, OnOk, IsOkUnless, if◌then◌else◌, is_some};
 ghost use Rattle.page.specs.declared.fault.Fault.TheVariants.{NoResource};
@@ -17,7 +18,7 @@ use page::Fault;
 use std::alloc::Global;
 use wal::RecordView;
 
-/// How each transaction stands.
+/// The standing of each transaction.
 #[derive(Drop)]
 pub struct Standings {
     /// Those that have a record and have not finished.
@@ -27,7 +28,7 @@ pub struct Standings {
 }
 
 impl Standings {
-    /// Before the first record.
+    /// The standings before the first record.
     pub fn start(alloc: Global) -> Standings
         ensures { (t : ℕ) → standing_in result t ≡ Unfinished unknown }
     {
@@ -37,7 +38,7 @@ impl Standings {
         }
     }
 
-    /// How a transaction stands.
+    /// The standing of a transaction.
     pub fn get(&self, tx: u32) -> Standing
         ensures { result ≡ standing_in self.now tx }
     {
@@ -57,8 +58,8 @@ impl Standings {
         self.unfinished.has(tx)
     }
 
-    /// Takes in the record at an LSN, before which its transaction stands so. `below` is what stands
-    /// below its newest pending update. The only error is `NoResource`.
+    /// Takes in the record at an LSN. `standing` is that of its transaction before it, and `below`
+    /// is the LSN below its newest pending update. The only error is `NoResource`.
     pub fn note(
         &mut self,
         view: &RecordView,

@@ -1,4 +1,4 @@
-//! How an unfinished transaction stands after the records so far.
+//! The status of an unfinished transaction after the records so far.
 
 ghost use Rattle.std.specs.Prelude.{◌≡◌};
 ghost use Rattle.wal.specs.Tail.{tx_of};
@@ -7,12 +7,12 @@ ghost use Rattle.audit.specs.Statuses.{under, unknown, after, IsTop};
 
 use wal::RecordView;
 
-/// How an unfinished transaction stands: what its records so far say. LSNs are 0 for none.
+/// The status of an unfinished transaction: what its records so far say. LSNs are 0 for none.
 #[derive(Clone, Copy)]
 pub struct Status {
     /// The LSN of its last record.
     pub last: u64,
-    /// The raw undo-next: of its last update the LSN, of its last CLR the UndoNxtLSN.
+    /// The raw undo-next, by its last update or CLR: the LSN of an update, the UndoNxtLSN of a CLR.
     pub undo_next: u64,
     /// The LSN of its newest pending update.
     pub newest: u64,
@@ -21,7 +21,7 @@ pub struct Status {
 }
 
 impl Status {
-    /// How a transaction stands that has no record.
+    /// The status of a transaction that has no record.
     pub fn unknown() -> Status
         ensures { result ≡ unknown }
     {
@@ -35,7 +35,7 @@ impl Status {
     }
 }
 
-/// The transaction of a record, 0 where it has none.
+/// The transaction of a record, 0 if it has none.
 pub fn transaction_of(view: &RecordView) -> u32
     ensures { result ≡ tx_of (shown view.now) }
 {
@@ -45,8 +45,8 @@ pub fn transaction_of(view: &RecordView) -> u32
     }
 }
 
-/// What stands below this LSN on its stack, 0 for nothing. There is a link for each LSN behind the
-/// base LSN.
+/// The LSN below this one on its stack of pending updates, 0 for none. There is a link for each LSN
+/// after the base LSN.
 pub fn below_top(base: u64, links: &[u64], top: u64) -> u64
     requires { IsTop base links.now top }
     ensures { result ≡ under base links.now top }
@@ -57,8 +57,8 @@ pub fn below_top(base: u64, links: &[u64], top: u64) -> u64
     links[(top - base - 1) as usize]
 }
 
-/// How the unfinished transaction of a record that does not finish it stands after it. `below` is
-/// what stands below its newest pending update.
+/// The status of a record's unfinished transaction after the record, which does not finish it.
+/// `below` is the LSN below its newest pending update.
 pub fn status_after(status: Status, view: &RecordView, lsn: u64, below: u64) -> Status
     ensures { result ≡ after (shown view.now) lsn below status }
 {

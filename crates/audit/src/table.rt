@@ -1,4 +1,5 @@
-//! The transaction table of a checkpoint, against how the transactions stand at its begin.
+//! The transaction table of a checkpoint, against the standings of the transactions at its begin
+//! record.
 
 ghost use Rattle.std.specs.Prelude.{◌≡◌, ◌==◌, ◌||◌, ◌↔◌, ℕ, List, All, IsTrue, true, map, IfOk, OnOk, IfSome, IsOkUnless};
 ghost use Rattle.std.specs.Ordering.{nat_cmp};
@@ -23,7 +24,7 @@ use std::alloc::Global;
 use std::collections::BTreeSet;
 use wal::{Entry, State, TransactionTable};
 
-/// Whether a transaction that has not finished, and stands so, has begun.
+/// Whether a transaction that has not finished, and has this status, has begun.
 fn has_begun(status: Status) -> bool
     ensures { (t : ℕ) (log : History) (links : List ℕ) → IsStatusOf links t log status
         → result ≡ is_unfinished t log }
@@ -31,7 +32,7 @@ fn has_begun(status: Status) -> bool
     status.last != 0
 }
 
-/// Whether a state is that of a transaction that has or has not aborted, and has or has not
+/// Whether this is the state of a transaction, by whether it has aborted and whether it has
 /// prepared.
 fn tells_state(state: State, aborted: bool, prepared: bool) -> bool
     ensures { IsTrue result ↔ state ≡ state_by aborted prepared }
@@ -43,7 +44,7 @@ fn tells_state(state: State, aborted: bool, prepared: bool) -> bool
     }
 }
 
-/// Whether a transaction that stands so is unfinished, and has this entry.
+/// Whether a transaction with this status is unfinished, and the entry is true of it.
 fn is_true_of(status: Status, entry: Entry) -> bool
     ensures { (t : ℕ) (log : History) (links : List ℕ) → IsStatusOf links t log status
         → IsTrue result ↔ IsTrueEntry log (entry_of (t, entry)) }
@@ -54,7 +55,7 @@ fn is_true_of(status: Status, entry: Entry) -> bool
         && tells_state(entry.state, status.aborted, status.prepared)
 }
 
-/// Whether the transaction of an entry is unfinished, and the entry true of it.
+/// Whether the transaction of an entry is unfinished, and the entry is true of it.
 fn is_true_entry(standings: &Standings, tx: u32, entry: Entry) -> bool
     ensures { (log : History) (links : List ℕ)
         → IsStandingOf links tx log (standing_in standings.now tx)
@@ -81,7 +82,7 @@ fn entries_are_true(standings: &Standings, transactions: &TransactionTable) -> b
     true
 }
 
-/// Takes a transaction into the set. The only error is `NoResource`.
+/// Puts a transaction into the set. The only error is `NoResource`.
 fn list(listed: &mut BTreeSet<u32>, tx: u32) -> Result<(), Fault>
     ensures ok { OnOk result ((t : ℕ) → contains nat_cmp listed.new t
         ≡ (tx == t || contains nat_cmp listed.old t)) }
@@ -105,7 +106,7 @@ fn listed_in(alloc: Global, transactions: &TransactionTable) -> Result<BTreeSet<
     Ok(listed)
 }
 
-/// Whether a transaction is listed where it is unfinished.
+/// Whether a transaction is listed, if it is unfinished.
 fn is_listed(standings: &Standings, listed: &BTreeSet<u32>, tx: u32) -> bool
     ensures { (log : History) (links : List ℕ)
         → IsStandingOf links tx log (standing_in standings.now tx)
@@ -118,7 +119,7 @@ fn is_listed(standings: &Standings, listed: &BTreeSet<u32>, tx: u32) -> bool
     }
 }
 
-/// Whether each unfinished transaction that stands at a place is listed.
+/// Whether each unfinished transaction that is at a place is listed.
 fn placed_are_listed(standings: &Standings, listed: &BTreeSet<u32>) -> bool
     ensures { (log : History) (links : List ℕ)
         → ((t : ℕ) → IsStandingOf links t log (standing_in standings.now t))

@@ -1,5 +1,5 @@
 //! The transactions that have not finished. No choice of their numbers makes a search long: each is
-//! at the place of its number, where it is found at once, or in a map that is kept in order.
+//! at the place of its number, where it is found without a search, or in an ordered map.
 
 ghost use Rattle.std.specs.Prelude.{◌≡◌, ◌==◌, ◌%◌, ◌↔◌, ℕ, IsTrue, Some, None, OnOk, IfErr, IsOkUnless, if◌then◌else◌, is_some, slice_index_or, length, IsSome};
 ghost use Rattle.std.specs.Ordering.{nat_cmp};
@@ -13,20 +13,20 @@ use page::Fault;
 use std::alloc::Global;
 use std::collections::BTreeMap;
 
-/// How many transactions are found at once.
+/// How many places there are for transactions that are found without a search.
 pub const PLACES: usize = 256;
 
 /// What is known of each transaction that has a record and has not finished.
 #[derive(Drop)]
 pub struct UnfinishedTable {
-    /// One transaction a place, with its number, which is the place modulo 256; None where nobody is.
+    /// At each place one transaction, with its number, or None. The place is the number modulo 256.
     pub places: [Option<(u32, Status)>; PLACES],
-    /// Those whose place another had. One that stands at its place by now may be here still: then
-    /// what is known of it is at its place.
+    /// Those whose place another transaction had. One that is at its place now may still be here:
+    /// then what is known of it is what is at its place.
     pub others: BTreeMap<u32, Status>,
 }
 
-/// Whether a place is another transaction's.
+/// Whether another transaction is at a place.
 fn is_of_another(place: Option<(u32, Status)>, tx: u32) -> bool
     ensures { result ≡ is_of_another tx place }
 {
@@ -51,7 +51,7 @@ fn status_in(others: &BTreeMap<u32, Status>, tx: u32) -> Option<Status>
 }
 
 impl UnfinishedTable {
-    /// Nobody is unfinished.
+    /// A table without a transaction.
     pub fn new(alloc: Global) -> UnfinishedTable
         ensures { (t : ℕ) → unfinished_in result t ≡ None }
     {
@@ -61,7 +61,7 @@ impl UnfinishedTable {
         }
     }
 
-    /// What is known of a transaction; None where it has no record or has finished.
+    /// What is known of a transaction; None if it has no record or has finished.
     #[inline(always)]
     pub fn get(&self, tx: u32) -> Option<Status>
         ensures { result ≡ unfinished_in self.now tx }
@@ -96,7 +96,7 @@ impl UnfinishedTable {
         Ok(())
     }
 
-    /// Takes a transaction away, if it is there.
+    /// Removes a transaction, if it is there.
     pub fn remove(&mut self, tx: u32)
         ensures { (t : ℕ) → unfinished_in self.new t
             ≡ (if tx == t then None else unfinished_in self.old t) }

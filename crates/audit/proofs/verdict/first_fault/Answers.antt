@@ -8,7 +8,7 @@ use Rattle.wal.specs.Spelling.{Fits, IsRising}
 use Rattle.wal.proofs.Checkpoints.{checkpoint_within, checkpoint_above}
 use Rattle.audit.proofs.verdict.first_fault.Goals as goal
 
--- where the tables of a checkpoint are lent, its begin is in the log
+-- if the tables of a checkpoint are borrowed, its begin record is in the log
 begins : (log : LogContent) (m : ℕ) (tables : Option (TransactionTable × DirtyTable)) (lent : Option (Bor TransactionTable)) → option_map (λ t. t.now) lent ≡ option_map (λ x. x.0) tables
     → option_map (λ x. (x.0, x.1)) tables ≡ checkpoint_at m (history log) → IfSome tables (λ x. Fits (CheckpointEnd m x.0 x.1))
     → IfSome lent (λ t. (base_lsn (history log) < m) × (m ≤ last_lsn (history log)) × IsRising (map tx_in t.now))
