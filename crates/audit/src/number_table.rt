@@ -68,17 +68,15 @@ fn value_in(keys: &[u32; KEYS], values: &[u32; KEYS], number: u32) -> u32
     found
 }
 
-/// The first key without a number; `KEYS` where each has one.
-fn first_free(keys: &[u32; KEYS]) -> usize
-    ensures free { result < KEYS → (d : ℕ) → slice_index_or keys.now result d ≡ NO_NUMBER }
-    ensures full { KEYS ≤ result → (d : ℕ) → slice_index_or keys.now 7 d ≢ NO_NUMBER }
-{
+/// How many of eight keys are numbers. All are looked at, without a branch, since no processor could
+/// foresee it.
+#[inline(always)]
+fn count_numbers(keys: &[u32; KEYS]) -> usize {
+    let mut count = 0;
     for place in 0..KEYS {
-        if keys[place] == NO_NUMBER {
-            return place;
-        }
+        count += (keys[place] != NO_NUMBER) as usize;
     }
-    KEYS
+    count
 }
 
 /// Puts a number with its place at a key.
@@ -141,8 +139,9 @@ impl NumberTable {
         }
     }
 
-    /// The bucket of a number, and the first key there without a number; None where each key has one,
-    /// or there is no bucket.
+    /// The bucket of a number, and a key there without a number, the first one where those before it
+    /// are numbers; None where each key has one, or there is no bucket.
+    #[inline(always)]
     fn free_key(&self, number: u32) -> Option<(usize, usize)>
         ensures free { IfSome result (IsFree self.now number) }
         ensures full { IfNone result (is_full (bucket_of self.now number) ≡ true) }
@@ -151,11 +150,15 @@ impl NumberTable {
         if home >= self.buckets.len() {
             return None;
         }
-        let key = first_free(&self.buckets[home].keys);
-        if key >= KEYS {
-            return None;
+        let keys = &self.buckets[home].keys;
+        let key = count_numbers(keys).min(KEYS - 1);
+        if keys[key] == NO_NUMBER {
+            return Some((home, key));
         }
-        Some((home, key))
+        if keys[KEYS - 1] == NO_NUMBER {
+            return Some((home, KEYS - 1));
+        }
+        None
     }
 
     /// Gives a place to a number that has none. The only error is `NoResource`, and then no place has
