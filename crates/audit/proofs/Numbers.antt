@@ -34,7 +34,7 @@ kept_value (k ∷ keys) (v ∷ values) n other h ne is =
       | inr d ↦ rw (ne_eqb k n d) (kept_value keys values n other h.1 ne is)
     ]
 
--- where a number was not found, none of the keys is that number
+-- if a number was not found, none of the keys is that number
 not_found : (k v : ℕ) (keys values : List ℕ) (n : ℕ) → HavePlaces (k ∷ keys) (v ∷ values) → n ≢ 4294967295 → value_in (k ∷ keys) (v ∷ values) n 4294967295 ≡ 4294967295
     → (k ≢ n) × (value_in keys values n 4294967295 ≡ 4294967295)
 not_found k v keys values n h ne none =
@@ -74,7 +74,7 @@ put_places (k ∷ keys) [] (suc i) m v is h = tt
 put_places (k ∷ keys) (w ∷ values) zero m v is h = (λ _. is, h.1)
 put_places (k ∷ keys) (w ∷ values) (suc i) m v is h = (h.0, put_places keys values i m v is h.1)
 
--- WHAT A VALUE TELLS
+-- WHAT A VALUE SAYS
 told_none : (v : ℕ) → place_told v ≡ None → v ≡ 4294967295
 told_none v none =
     elim (cases_eq v 4294967295) [

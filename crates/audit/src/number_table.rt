@@ -1,5 +1,5 @@
-//! Places by number: which place has a number that was given one. No choice of numbers makes a search
-//! long: what does not fit into a number's bucket is in a map that is kept in order.
+//! A table from numbers to places. No choice of numbers makes a search long: a number that does not
+//! fit into its bucket is in a map that is kept in order.
 
 ghost use Rattle.std.specs.Prelude.{◌≡◌, ◌≢◌, ◌==◌, ◌<◌, ◌≤◌, ℕ, Some, None, true, OnOk, OnErr, IfOk, IfSome, IfNone, IsOkUnless, if◌then◌else◌, length, slice_index_or};
 ghost use Rattle.std.specs.Ordering.{nat_cmp};
@@ -11,20 +11,20 @@ use page::Fault;
 use std::alloc::Global;
 use std::collections::BTreeMap;
 
-/// How many numbers a bucket has.
+/// How many numbers fit into a bucket.
 pub const KEYS: usize = 8;
 
-/// The key that is no number: nothing has it yet.
+/// The key that is not a number: it is free.
 pub const NO_NUMBER: u32 = u32::MAX;
 
-/// The value that is no place.
+/// The value that is not a place.
 pub const NO_PLACE: u32 = u32::MAX;
 
-/// What a number is multiplied by, so that neighbours are far apart: 2^32 by the golden ratio.
+/// The factor that puts neighbouring numbers far apart: 2^32 divided by the golden ratio.
 const FACTOR: u32 = 0x9E37_79B9;
 
-/// Eight numbers with their places. Keys are filled from the front, so a bucket is full where the last
-/// one is a number.
+/// Eight numbers with their places. Keys are filled from the front, so a bucket is full if the last
+/// key is a number.
 #[derive(Clone, Copy)]
 pub struct Bucket {
     pub keys: [u32; KEYS],
@@ -41,11 +41,11 @@ const EMPTY: Bucket = Bucket {
 #[derive(Drop)]
 pub struct NumberTable {
     pub buckets: Vec<Bucket>,
-    /// The numbers whose bucket is full, or that have none.
+    /// The numbers whose bucket is full, or that have no bucket.
     pub others: BTreeMap<u32, u32>,
 }
 
-/// Which of so many buckets is a number's.
+/// The bucket of a number, if there are this many buckets.
 #[inline(always)]
 fn home(number: u32, count: usize) -> usize
     ensures { result ≡ home_of number count }
@@ -53,8 +53,8 @@ fn home(number: u32, count: usize) -> usize
     (number.wrapping_mul(FACTOR) as usize).wrapping_mul(count) >> 32
 }
 
-/// The value of a number among eight keys, `NO_PLACE` where it is none of them. All are looked at,
-/// without a branch.
+/// The value of a number among eight keys, `NO_PLACE` if it is not one of them. All keys are looked
+/// at, without a branch.
 #[inline(always)]
 fn value_in(keys: &[u32; KEYS], values: &[u32; KEYS], number: u32) -> u32
     ensures { result ≡ value_in keys.now values.now number NO_PLACE }
@@ -68,8 +68,8 @@ fn value_in(keys: &[u32; KEYS], values: &[u32; KEYS], number: u32) -> u32
     found
 }
 
-/// How many of eight keys are numbers. All are looked at, without a branch, since no processor could
-/// foresee it.
+/// How many of eight keys are numbers. All keys are looked at, without a branch, since a processor
+/// could not predict it.
 #[inline(always)]
 fn count_numbers(keys: &[u32; KEYS]) -> usize {
     let mut count = 0;
@@ -91,7 +91,7 @@ fn put(bucket: &mut Bucket, key: usize, number: u32, place: u32)
 }
 
 impl NumberTable {
-    /// No number has a place.
+    /// A table in which no number has a place.
     pub fn new(alloc: Global) -> NumberTable
         ensures none { (number : ℕ) → place_in result number ≡ None }
         ensures sound { IsSound result }
@@ -102,7 +102,8 @@ impl NumberTable {
         }
     }
 
-    /// No number has a place; there are so many buckets. The only error is `NoResource`.
+    /// A table with this many buckets, in which no number has a place. The only error is
+    /// `NoResource`.
     pub fn with_buckets(alloc: Global, count: usize) -> Result<NumberTable, Fault>
         ensures none { IfOk result (λ table. (number : ℕ) → number ≢ NO_NUMBER
             → place_in table number ≡ None) }
@@ -116,7 +117,7 @@ impl NumberTable {
         })
     }
 
-    /// The place of a number, None where it has none.
+    /// The place of a number, `None` if it has no place.
     #[inline(always)]
     pub fn get(&self, number: u32) -> Option<u32>
         requires { IsSound self.now }
@@ -139,8 +140,8 @@ impl NumberTable {
         }
     }
 
-    /// The bucket of a number, and a key there without a number, the first one where those before it
-    /// are numbers; None where each key has one, or there is no bucket.
+    /// The bucket of a number, and a free key there: the first one if all keys before it are numbers.
+    /// `None` if no key is free, or if there is no bucket.
     #[inline(always)]
     fn free_key(&self, number: u32) -> Option<(usize, usize)>
         ensures free { IfSome result (IsFree self.now number) }
@@ -161,7 +162,7 @@ impl NumberTable {
         None
     }
 
-    /// Gives a place to a number that has none. The only error is `NoResource`, and then no place has
+    /// Gives a place to a number that has none. The only error is `NoResource`; then no place has
     /// changed.
     pub fn insert(&mut self, number: u32, place: u32) -> Result<(), Fault>
         requires sound { IsSound self.old }
