@@ -19,6 +19,7 @@ import tempfile
 
 sys.dont_write_bytecode = True  # no folder of it beside the tests
 from borrow import check_borrow
+from chosen import check_chosen
 from contracts import check_contracts
 from dump import check_dump
 from edits import check_edits
@@ -400,6 +401,7 @@ def main():
         check_order(tally, room, library_of(room, "watch_calls"))
         check_spoiled(tally, room)
         check_borrow(tally, room)
+        check_chosen(tally, room)
         check_prints(tally, room)
         check_refusals(tally, room)
         check_dump(tally, room, Refuser(room))
