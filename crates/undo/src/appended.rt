@@ -95,11 +95,7 @@ pub fn record_of(log: &Looked, appended: Appended) -> Record
 
 /// The full records, with what they hold. The only error is [`Fault::NoResource`], if memory was
 /// refused.
-pub fn records_of(
-    alloc: Global,
-    log: &Looked,
-    appended: &[Appended],
-) -> Result<Vec<Record>, Fault>
+pub fn records_of(alloc: Global, log: &Looked, appended: &[Appended]) -> Result<Vec<Record>, Fault>
     requires { HaveUpdates log.now appended.now }
     ensures ok { IfOk result (λ x. map content x.items
         ≡ appended_records (history log.now) appended.now) }
