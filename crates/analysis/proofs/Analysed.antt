@@ -1,6 +1,7 @@
 -- Analysis of a lawful log: what is true at the checkpoint, and then record by record.
 use Rattle.std.proofs.Common.{ℕ, suc, ◌≡◌, ◌≤◌, Bool, true, false, cond, ◌||◌, not, List, [], ◌∷◌, Option, Some, None, refl, sym, ap, ap₂, ◌∙◌, subst, inl, inr, eqb-true, eqb, ltb}
 use Rattle.std.proofs.lemmas.Bool.{cases_Bool, or_parts, or_left, or_right, both_ways, and_right, and_left, ltb-false, and_from, not_from_false, not_from_true}
+use Rattle.wal.proofs.Histories.{last_other}
 use Rattle.wal.specs.declared.record.State.TheVariants.{Active}
 use Rattle.wal.specs.Records.{TableEntry, LogRecord, Update, Compensation, Commit, Abort, End, Prepare, History, start, ◌▸◌, last_lsn, first}
 use Rattle.wal.specs.Meaning.{BasePages, state_by, state_at, is_of, is_abort_of, is_prepare_of, has, aborted, prepared, committed, ended, finished, is_unfinished, last_of, undo_next_of}
@@ -38,10 +39,7 @@ pub record Absent (t : ℕ) (log : History) : Type 0 where
   pub undo_next : undo_next_of t log ≡ 0
   pub last : last_of t log ≡ 0
 
--- a record of another transaction is not the last of t
-last_other : (t : ℕ) (log : History) (r : LogRecord) → is_of t r ≡ false → last_of t (log ▸ r) ≡ last_of t log
-last_other t log r e = rw e refl
-
+-- a transaction without a record
 absent : (t : ℕ) (log : History) → has (is_of t) log ≡ false → Absent t log
 absent t (start _) h = record { state = refl; undo_next = refl; last = refl }
 absent t (log ▸ Update u) h =

@@ -6,6 +6,7 @@ use Rattle.wal.specs.Meaning.{BasePages, is_of, has, pending, finished, touches,
 use Rattle.wal.specs.Laws.{IsLawful, FinishLaw, Compensates, Strictness}
 use Rattle.wal.proofs.Histories.{record_none}
 use Rattle.wal.proofs.Holders.{held, strict_from_holder}
+use Rattle.wal.proofs.Restored.{touches_has}
 use Rattle.audit.specs.declared.status.Status.{Status}
 use Rattle.audit.specs.declared.standing.Finish.{Finish}
 use Rattle.audit.specs.declared.standing.Standing.{Standing}
@@ -74,14 +75,6 @@ end_decided links t log (Unfinished s) h unfinished = (end_allowed links t log s
 end_decided links t log (Finished finish) h unfinished = absurd (both_ways (finished t log) unfinished (finished_so t log finish h))
 
 -- STRICTNESS
-touches_has : (t page slot : ℕ) (log : History) → touches t page slot log ≡ true → has (is_of t) log ≡ true
-touches_has t page slot (start _) h = h
-touches_has t page slot (log ▸ r) h =
-    elim (or_cases (is_of t r && writes page slot r) (touches t page slot log) h) [
-      | inl i ↦ or_left (is_of t r) (has (is_of t) log) (and_parts (is_of t r) (writes page slot r) i).0
-      | inr i ↦ or_right (is_of t r) (has (is_of t) log) (touches_has t page slot log i)
-    ]
-
 module _ (base : BasePages) (log : History) (lawful : IsLawful base log) (links : List ℕ) (unfinished : ℕ → Option Status) (finish : ℕ → Option Finish) (stands : (t : ℕ) → IsStandingOf links t log (standing_by (unfinished t) (finish t))) (u : UpdateRecord) where
   pub free_strict : (o : Option ℕ) → last_writer u.page u.slot log ≡ o → IsFreeFor unfinished o u.tx → Strictness log (Update u)
   free_strict None e f = strict_from_holder base log lawful u (λ t held_by. let p : last_writer u.page u.slot log ≡ Some t = holder_wrote u.page u.slot t log held_by in absurd (cc))

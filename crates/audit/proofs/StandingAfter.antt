@@ -1,6 +1,7 @@
 -- The standing of a transaction, finished or not, after one more record.
 use Rattle.std.proofs.Common.{◌≡◌, ◌+◌, ℕ, true, false, cond, Option, Some, None, List, [], ◌∷◌, ◌++◌, length, refl, sym, ap, subst, ◌∙◌, inl, inr, eqb, eqb-true}
 use Rattle.std.proofs.lemmas.Bool.{cases_Bool, or_left, or_right, or_parts, both_ways, false≢true}
+use Rattle.wal.proofs.Filters.{is_of_tx}
 use Rattle.wal.specs.Records.{LogRecord, Update, Compensation, Commit, Abort, End, Prepare, History, ◌▸◌, last_lsn, base_lsn}
 use Rattle.wal.specs.Meaning.{is_owned_by, is_of, owner, is_end_of, committed, ended, finished}
 use Rattle.wal.specs.Laws.{FinishLaw}
@@ -48,13 +49,6 @@ module _ (links : List ℕ) (log : History) (lsn below : ℕ) (at : last_lsn log
   standing_own r standing b own law h = absurd (false≢true own)
 
 -- AFTER EITHER
-owned : (t : ℕ) (r : LogRecord) → is_of t r ≡ true → tx_of r ≡ t
-owned t r = by_owner (owner r)
-  where
-    by_owner : (o : Option ℕ) → is_owned_by t o ≡ true → number_or_0 o ≡ t
-    by_owner None e = absurd (false≢true e)
-    by_owner (Some x) e = eqb-true x t e
-
 module _ (links : List ℕ) (log : History) (r : LogRecord) (lsn below : ℕ) (before after : ℕ → Standing) (standing : Standing) where
   pub standings_after : last_lsn log + 1 ≡ lsn → base_lsn log + length links ≡ last_lsn log → below ≡ under (base_lsn log) links (newest_of standing) → FinishLaw log r → standing ≡ before (tx_of r)
       → ((t : ℕ) → after t ≡ cond (is_of t r) (standing_after r lsn below standing) (before t))
@@ -62,7 +56,7 @@ module _ (links : List ℕ) (log : History) (r : LogRecord) (lsn below : ℕ) (b
   standings_after at len b law is follows stands t =
       elim (cases_Bool (is_of t r)) [
         | inl e ↦
-            (let same : tx_of r ≡ t = owned t r e in
+            (let same : tx_of r ≡ t = is_of_tx t r e in
             let own : is_of (tx_of r) r ≡ true = ap (λ n. is_of n r) same ∙ e in
             let h : IsStandingOf links (tx_of r) log standing = subst (λ s. IsStandingOf links (tx_of r) log s) (sym is) (stands (tx_of r)) in
             let k : IsStandingOf (links ++ newest_of standing ∷ []) t (log ▸ r) (standing_after r lsn below standing) =

@@ -2,6 +2,7 @@
 use Rattle.std.proofs.Common.{◌≡◌, ◌+◌, ◌≤◌, ℕ, zero, suc, true, false, List, [], ◌∷◌, ◌++◌, length, get_or, drop, refl, sym, ap, subst, ◌∙◌, arith, eqb, eq-eqb, length-append, ◌-◌, ◌<◌, ◌⊎◌, inl, inr}
 use Rattle.std.proofs.Math.Seq.{get_or-append_seam}
 use Rattle.std.proofs.lemmas.List.{get_or_append_left}
+use Rattle.wal.proofs.Histories.{last_other}
 use Rattle.wal.specs.Records.{UpdateRecord, CompensationRecord, PlainRecord, LogRecord, Update, Compensation, Commit, Abort, End, Prepare, History, ◌▸◌, last_lsn, base_lsn}
 use Rattle.wal.specs.Meaning.{is_of, pending, last_of}
 use Rattle.audit.specs.declared.status.Status.{Status}
@@ -33,10 +34,7 @@ linked_push base links ns top m e h =
     let room : suc m ≤ base + length (links ++ top ∷ []) = omega (arith, e, length-append links (top ∷ [])) in
     (refl, omega (arith, e), room, subst (λ k. Linked base (links ++ top ∷ []) ns k) (sym at) (linked_more base links top ns top h))
 
--- a record of another transaction is not the last of this one
-last_other : (t : ℕ) (log : History) (r : LogRecord) → is_of t r ≡ false → last_of t (log ▸ r) ≡ last_of t log
-last_other t log r e = rw e refl
-
+-- a record of another transaction changes nothing
 pub stands_other : (links : List ℕ) (x t : ℕ) (log : History) (r : LogRecord) (s : Status) → is_of t r ≡ false → IsStatusOf links t log s → IsStatusOf (links ++ x ∷ []) t (log ▸ r) s
 stands_other links x t log (Update u) s e h =
     record { unfinished = h.unfinished; last = rw e h.last; undo_next = rw e h.undo_next; aborted = h.aborted; prepared = h.prepared; pending = rw e (linked_more (base_lsn log) links x (pending t log) s.newest h.pending) }

@@ -17,6 +17,7 @@ use Rattle.page.specs.declared.fault.Fault.{Fault}
 use Rattle.page.specs.declared.fault.Fault.TheVariants.{NoResource, BadPage}
 use Rattle.page.proofs.Slots.{length-directory, length-cells-le}
 use Rattle.page.proofs.Pages.{same_header}
+use Rattle.page.specs.declared.sizes.TheConstants.{CELLS_AT, PAGES, PAGE_BYTES, ROOM_BYTES}
 
 -- magic and numbers of a header
 pub record HasHeaderParts (mark numbers : List ℕ) (count master : ℕ) : Type 0 where
@@ -31,7 +32,7 @@ header_parts bytes front mark numbers count master h ef em en = record {
 }
 
 pub header_whole : (bytes front mark numbers : List ℕ) (count blank master : ℕ) → front ≡ take 24 bytes → mark ≡ take 8 front → numbers ≡ drop 8 front
-    → mark ≡ magic → numbers ≡ to_be_bytes w32 count ++ to_be_bytes w32 blank ++ to_be_bytes w64 master → blank ≡ 0 → 0 < count → count ≤ 4096 → master < 2 ^ 64
+    → mark ≡ magic → numbers ≡ to_be_bytes w32 count ++ to_be_bytes w32 blank ++ to_be_bytes w64 master → blank ≡ 0 → 0 < count → count ≤ PAGES → master < 2 ^ 64
     → BeginsWithHeader bytes count master
 header_whole bytes front mark numbers count blank master ef em en e n z some few small = record {
   text = sym ef ∙ sym (take-append-drop 8 front) ∙ ap₂ (λ (x y : List ℕ). x ++ y) (sym em ∙ e) (sym en ∙ n ∙ ap (λ m. to_be_bytes w32 count ++ to_be_bytes w32 m ++ to_be_bytes w64 master) z);
@@ -68,21 +69,21 @@ length-pieces f n (x ∷ xs) len = omega (arith, length-append (f x) (flat_map f
 
 -- ---- images
 
-pub length-page_text : (page : Page) → FitsPage page → length (page_text page) ≡ 1024
+pub length-page_text : (page : Page) → FitsPage page → length (page_text page) ≡ PAGE_BYTES
 length-page_text page fits =
     let first = header page.number page.lsn in
-    let entries = directory 80 page.slots in
-    let zeros = 944 - length (cells page.slots) in
-    omega (arith, length-append (first ++ entries) (body page.slots), length-append first entries, length-directory 80 page.slots, fits.slots, length-append (cells page.slots) (replicate {A = ℕ} zeros 0), length-replicate {A = ℕ} zeros 0, length-cells-le page.slots fits.values)
+    let entries = directory CELLS_AT page.slots in
+    let zeros = ROOM_BYTES - length (cells page.slots) in
+    omega (arith, length-append (first ++ entries) (body page.slots), length-append first entries, length-directory CELLS_AT page.slots, fits.slots, length-append (cells page.slots) (replicate {A = ℕ} zeros 0), length-replicate {A = ℕ} zeros 0, length-cells-le page.slots fits.values)
 
 pub image_inside : (images : List ℕ) (count : ℕ) (pages : List Page) (k : ℕ) (d : Page) → SpellPages images count pages → k < length pages → SpellsPage (image_of images k) (get_or pages k d)
 image_inside images count pages k d s lt = record {
   fits = s.fits k d lt;
-  text = ap (λ (t : List ℕ). image_of t k) s.text ∙ piece_inside page_text 1024 pages k d (λ i h. length-page_text (get_or pages i d) (s.fits i d h)) lt;
+  text = ap (λ (t : List ℕ). image_of t k) s.text ∙ piece_inside page_text PAGE_BYTES pages k d (λ i h. length-page_text (get_or pages i d) (s.fits i d h)) lt;
 }
 
-pub length-images : (images : List ℕ) (count : ℕ) (pages : List Page) → SpellPages images count pages → length images ≡ 1024 * count
-length-images images count pages s = ap length s.text ∙ length-pieces page_text 1024 pages (λ k d lt. length-page_text (get_or pages k d) (s.fits k d lt)) ∙ ap (λ n. 1024 * n) s.number
+pub length-images : (images : List ℕ) (count : ℕ) (pages : List Page) → SpellPages images count pages → length images ≡ PAGE_BYTES * count
+length-images images count pages s = ap length s.text ∙ length-pieces page_text PAGE_BYTES pages (λ k d lt. length-page_text (get_or pages k d) (s.fits k d lt)) ∙ ap (λ n. PAGE_BYTES * n) s.number
 
 at_place_push : (pages : List Page) (page : Page) → ((k : ℕ) (d : Page) → k < length pages → (get_or pages k d).number ≡ k) → page.number ≡ length pages
     → (k : ℕ) (d : Page) → k < length (pages ++ page ∷ []) → (get_or (pages ++ page ∷ []) k d).number ≡ k
@@ -95,14 +96,14 @@ at_place_push pages page h e k d lt =
     ]
 
 pub pages_more : (images rest image : List ℕ) (i : ℕ) (pages new : List Page) (page : Page) → PagesSoFar images i pages
-    → rest ≡ drop (1024 * i) images → image ≡ take 1024 rest → SpellsPage image page → page.number ≡ i → new ≡ pages ++ page ∷ []
+    → rest ≡ drop (PAGE_BYTES * i) images → image ≡ take PAGE_BYTES rest → SpellsPage image page → page.number ≡ i → new ≡ pages ++ page ∷ []
     → PagesSoFar images (i + 1) new
 pages_more images rest image i pages new page so_far er ei s n e =
     let s0 = so_far.spelled in
-    let here : image ≡ image_of images i = ei ∙ ap (take 1024) er in
-    let next : 1024 * (i + 1) ≡ 1024 * i + 1024 = omega arith in
-    let text : take (1024 * (i + 1)) images ≡ flat_map page_text (pages ++ page ∷ []) =
-    ap (λ m. take m images) next ∙ take-add (1024 * i) 1024 images ∙ ap₂ (λ (x y : List ℕ). x ++ y) s0.text (sym here ∙ s.text ∙ sym (append-nil (page_text page))) ∙ sym (flat_map-append page_text pages (page ∷ [])) in
+    let here : image ≡ image_of images i = ei ∙ ap (take PAGE_BYTES) er in
+    let next : PAGE_BYTES * (i + 1) ≡ PAGE_BYTES * i + PAGE_BYTES = omega arith in
+    let text : take (PAGE_BYTES * (i + 1)) images ≡ flat_map page_text (pages ++ page ∷ []) =
+    ap (λ m. take m images) next ∙ take-add (PAGE_BYTES * i) PAGE_BYTES images ∙ ap₂ (λ (x y : List ℕ). x ++ y) s0.text (sym here ∙ s.text ∙ sym (append-nil (page_text page))) ∙ sym (flat_map-append page_text pages (page ∷ [])) in
     let P : List Page → Type 0 = λ xs. PagesSoFar images (i + 1) xs in
     subst P (sym e) (record {
       spelled = record {
@@ -114,18 +115,18 @@ pages_more images rest image i pages new page so_far er ei s n e =
       good = below_more (HasPage images) i so_far.good (page, subst (λ (t : List ℕ). SpellsPage t page) here s, n);
     })
 
-pub pages_whole : (images : List ℕ) (i count : ℕ) (pages : List Page) → PagesSoFar images i pages → i ≡ count → length images ≡ 1024 * count → SpellPages images count pages
+pub pages_whole : (images : List ℕ) (i count : ℕ) (pages : List Page) → PagesSoFar images i pages → i ≡ count → length images ≡ PAGE_BYTES * count → SpellPages images count pages
 pages_whole images i count pages so_far e len =
-    let all : take (1024 * i) images ≡ images = take_all (1024 * i) images (omega (arith, len)) in
+    let all : take (PAGE_BYTES * i) images ≡ images = take_all (PAGE_BYTES * i) images (omega (arith, len)) in
     let s = so_far.spelled in
     record { number = s.number ∙ e; at_place = s.at_place; fits = s.fits; text = sym all ∙ s.text }
 
-pub first_bad : (images rest image : List ℕ) (i count : ℕ) (pages : List Page) → PagesSoFar images i pages → i < count → rest ≡ drop (1024 * i) images → image ≡ take 1024 rest
+pub first_bad : (images rest image : List ℕ) (i count : ℕ) (pages : List Page) → PagesSoFar images i pages → i < count → rest ≡ drop (PAGE_BYTES * i) images → image ≡ take PAGE_BYTES rest
     → ((page : Page) → SpellsPage image page → page.number ≡ i → ⊥) → FirstBadPage images count i
 first_bad images rest image i count pages so_far lt er ei none = record {
   below = lt;
   good = so_far.good;
-  bad = λ page s. none page (subst (λ (t : List ℕ). SpellsPage t page) (sym (ei ∙ ap (take 1024) er)) s);
+  bad = λ page s. none page (subst (λ (t : List ℕ). SpellsPage t page) (sym (ei ∙ ap (take PAGE_BYTES) er)) s);
 }
 
 -- ---- stores

@@ -14,6 +14,7 @@ use Rattle.page.proofs.Reading.{slot_inside}
 use Rattle.page.proofs.Pages.{page_parts, same_header, same_page}
 use Rattle.page.specs.File.{BeginsWithHeader, SpellsStore}
 use Rattle.page.proofs.Files.{image_inside, header_parts, store_header_of, store_pages_of}
+use Rattle.page.specs.declared.sizes.TheConstants.{CELLS_AT, VALUE_BYTES}
 
 same_16 : (a b : ℕ) → a < 2 ^ 16 → b < 2 ^ 16 → to_be_bytes w16 a ≡ to_be_bytes w16 b → a ≡ b
 same_16 a b la lb e = sym (from_be_bytes-to_be_bytes_2 a la) ∙ ap (from_be_bytes w16) e ∙ from_be_bytes-to_be_bytes_2 b lb
@@ -29,8 +30,8 @@ one_slot entries bytes place None None some small a b = refl
 one_slot entries bytes place None (Some y) some small a b = absurd (not_absent place y some small (sym b.entry ∙ a.entry))
 one_slot entries bytes place (Some x) None some small a b = absurd (not_absent place x some small (sym a.entry ∙ b.entry))
 one_slot entries bytes place (Some x) (Some y) some small a b =
-    let short_x : length x ≤ 48 = a.fits in
-    let short_y : length y ≤ 48 = b.fits in
+    let short_x : length x ≤ VALUE_BYTES = a.fits in
+    let short_y : length y ≤ VALUE_BYTES = b.fits in
     let len : length x ≡ length y = same_16 (length x) (length y) (omega (arith, short_x)) (omega (arith, short_y)) (ap (drop 2) (sym a.entry ∙ b.entry)) in
     let whole_x : take (length x) bytes ≡ x = a.cell in
     let whole_y : take (length y) bytes ≡ y = b.cell in
@@ -40,11 +41,11 @@ first_slots : (entries bytes : List ℕ) (xs ys : List Image) (i : ℕ) → Spel
 first_slots entries bytes xs ys zero a b le = refl
 first_slots entries bytes xs ys (suc i) a b le =
     let before = first_slots entries bytes xs ys i a b (omega arith) in
-    let place = λ (slots : List Image). 80 + length (cells (take i slots)) in
-    let near : length (cells (take i xs)) ≤ 48 * i = omega (arith, length-cells-le (take i xs) (All-take FitsSlot i xs a.values), length-take i xs) in
+    let place = λ (slots : List Image). CELLS_AT + length (cells (take i slots)) in
+    let near : length (cells (take i xs)) ≤ VALUE_BYTES * i = omega (arith, length-cells-le (take i xs) (All-take FitsSlot i xs a.values), length-take i xs) in
     let at_x = slot_inside entries bytes xs i None a (omega arith) in
     let at_y = slot_inside entries bytes ys i None b (omega arith) in
-    let P : List Image → Type 0 = λ front. BeginsWithSlot (drop (4 * i) entries) (drop (length (cells front)) bytes) (80 + length (cells front)) (get_or ys i None) in
+    let P : List Image → Type 0 = λ front. BeginsWithSlot (drop (4 * i) entries) (drop (length (cells front)) bytes) (CELLS_AT + length (cells front)) (get_or ys i None) in
     let same = one_slot _ _ (place xs) (get_or xs i None) (get_or ys i None) (omega arith) (omega (arith, near)) at_x (subst P (sym before) at_y) in
     let next : suc i ≡ i + 1 = sym (add-one i) in
     ap (λ n. take n xs) next ∙ take_more xs i None (omega (arith, a.count)) ∙ ap₂ (λ (front : List Image) slot. front ++ slot ∷ []) before same ∙ sym (take_more ys i None (omega (arith, b.count))) ∙ ap (λ n. take n ys) (sym next)

@@ -7,6 +7,7 @@ use Rattle.page.specs.Image.{Image, directory, header, body, SpellsPage}
 use Rattle.page.specs.Parts.{SpellsSlots}
 use Rattle.page.proofs.BigEndian.{same_32, same_64}
 use Rattle.page.proofs.Slots.{length-directory}
+use Rattle.page.specs.declared.sizes.TheConstants.{CELLS_AT}
 
 -- header, directory and body of a page's encoding
 pub record HasParts (front entries rest : List ℕ) (page : Page) : Type 0 where
@@ -17,10 +18,10 @@ pub page_parts : (bytes front behind entries rest : List ℕ) (page : Page) → 
     → front ≡ take 16 bytes → behind ≡ drop 16 bytes → entries ≡ take 64 behind → rest ≡ drop 64 behind → HasParts front entries rest page
 page_parts bytes front behind entries rest page s ef eb ee er =
     let first = header page.number page.lsn in
-    let second = directory 80 page.slots in
+    let second = directory CELLS_AT page.slots in
     let third = body page.slots in
     let text : bytes ≡ first ++ (second ++ third) = s.text ∙ append_assoc first second third in
-    let long : length second ≡ 64 = omega (arith, length-directory 80 page.slots, s.fits.slots) in
+    let long : length second ≡ 64 = omega (arith, length-directory CELLS_AT page.slots, s.fits.slots) in
     let after : behind ≡ second ++ third = eb ∙ ap (drop 16) text ∙ drop_at first (second ++ third) 16 refl in
     record {
       header = ef ∙ ap (take 16) text ∙ take_at first (second ++ third) 16 refl;

@@ -8,25 +8,26 @@ use Rattle.page.specs.Pieces.{PagesSoFar, AreRead, IsSoFar}
 use Rattle.page.specs.File.{store_header, BeginsWithHeader, HasStoreHeader, SpellsStore, HasWrongSize, HasBadPage}
 use Rattle.page.proofs.Files.{pages_more, first_bad, pages_whole}
 use Rattle.page.proofs.Once.{store_of}
+use Rattle.page.specs.declared.sizes.TheConstants.{PAGES, PAGE_BYTES}
 
 -- ---- what came stays as it is when more comes
 
-image_stays : (images more : List ℕ) (k : ℕ) → 1024 * (k + 1) ≤ length images → image_of (images ++ more) k ≡ image_of images k
+image_stays : (images more : List ℕ) (k : ℕ) → PAGE_BYTES * (k + 1) ≤ length images → image_of (images ++ more) k ≡ image_of images k
 image_stays images more k le =
-    let rest = drop (1024 * k) images in
-    ap (take 1024) (drop-append-le (1024 * k) images more (omega arith)) ∙ take-append-le 1024 rest more (omega (arith, length-drop (1024 * k) images))
+    let rest = drop (PAGE_BYTES * k) images in
+    ap (take PAGE_BYTES) (drop-append-le (PAGE_BYTES * k) images more (omega arith)) ∙ take-append-le PAGE_BYTES rest more (omega (arith, length-drop (PAGE_BYTES * k) images))
 
-page_stays : (images more : List ℕ) (k : ℕ) → 1024 * (k + 1) ≤ length images → HasPage images k → HasPage (images ++ more) k
+page_stays : (images more : List ℕ) (k : ℕ) → PAGE_BYTES * (k + 1) ≤ length images → HasPage images k → HasPage (images ++ more) k
 page_stays images more k le h =
     subst (λ (t : List ℕ). (page : Page) × SpellsPage t page × (page.number ≡ k)) (sym (image_stays images more k le)) h
 
-pub pages_stay : (images more : List ℕ) (i : ℕ) (pages : List Page) → 1024 * i ≤ length images → PagesSoFar images i pages → PagesSoFar (images ++ more) i pages
+pub pages_stay : (images more : List ℕ) (i : ℕ) (pages : List Page) → PAGE_BYTES * i ≤ length images → PagesSoFar images i pages → PagesSoFar (images ++ more) i pages
 pages_stay images more i pages le s = record {
-  spelled = subst (λ (t : List ℕ). SpellPages t i pages) (sym (take-append-le (1024 * i) images more le)) s.spelled;
+  spelled = subst (λ (t : List ℕ). SpellPages t i pages) (sym (take-append-le (PAGE_BYTES * i) images more le)) s.spelled;
   good = λ k lt. page_stays images more k (omega arith) (s.good k lt);
 }
 
-bad_stays : (images more : List ℕ) (count n : ℕ) → 1024 * (n + 1) ≤ length images → FirstBadPage images count n → FirstBadPage (images ++ more) count n
+bad_stays : (images more : List ℕ) (count n : ℕ) → PAGE_BYTES * (n + 1) ≤ length images → FirstBadPage images count n → FirstBadPage (images ++ more) count n
 bad_stays images more count n le b = record {
   below = b.below;
   good = λ k lt. page_stays images more k (omega arith) (b.good k lt);
@@ -47,7 +48,7 @@ read_stays images more count pages bad all r =
     }
 
 -- if more images are wanted, those that came are the images of the pages that were read
-pub just_these : (images : List ℕ) (count : ℕ) (pages : List Page) → length images % 1024 ≡ 0 → length pages < count → AreRead images count pages false → length images ≡ 1024 * length pages
+pub just_these : (images : List ℕ) (count : ℕ) (pages : List Page) → length images % PAGE_BYTES ≡ 0 → length pages < count → AreRead images count pages false → length images ≡ PAGE_BYTES * length pages
 just_these images count pages whole lt r = omega (arith, whole, lt, r.going refl)
 
 -- ---- one more page, or a bad one
@@ -56,23 +57,23 @@ just_these images count pages whole lt r = omega (arith, whole, lt, r.going refl
 pub record IsLeft (images : List ℕ) (count : ℕ) (pages : List Page) (rest : List ℕ) : Type 0 where
   pub so_far : PagesSoFar images (length pages) pages
   pub few : length pages ≤ count
-  pub inside : 1024 * length pages ≤ length images
-  pub left : rest ≡ drop (1024 * length pages) images
+  pub inside : PAGE_BYTES * length pages ≤ length images
+  pub left : rest ≡ drop (PAGE_BYTES * length pages) images
 
-pub left_first : (images more : List ℕ) (count : ℕ) (pages : List Page) → length images % 1024 ≡ 0 → length pages < count → AreRead images count pages false → IsLeft (images ++ more) count pages more
+pub left_first : (images more : List ℕ) (count : ℕ) (pages : List Page) → length images % PAGE_BYTES ≡ 0 → length pages < count → AreRead images count pages false → IsLeft (images ++ more) count pages more
 left_first images more count pages whole lt r =
     let long = just_these images count pages whole lt r in
     record {
       so_far = pages_stay images more (length pages) pages r.inside r.so_far;
       few = r.few;
       inside = omega (arith, length-append images more, r.inside);
-      left = sym (drop_at images more (1024 * length pages) long);
+      left = sym (drop_at images more (PAGE_BYTES * length pages) long);
     }
 
 -- all pages that the images have were read
-pub read_all : (images rest : List ℕ) (count : ℕ) (pages : List Page) → IsLeft images count pages rest → (count ≤ length pages) ⊎ (length rest < 1024) → AreRead images count pages false
+pub read_all : (images rest : List ℕ) (count : ℕ) (pages : List Page) → IsLeft images count pages rest → (count ≤ length pages) ⊎ (length rest < PAGE_BYTES) → AreRead images count pages false
 read_all images rest count pages l none =
-    let left = ap length l.left ∙ length-drop (1024 * length pages) images in
+    let left = ap length l.left ∙ length-drop (PAGE_BYTES * length pages) images in
     record {
       so_far = l.so_far;
       few = l.few;
@@ -86,24 +87,24 @@ read_all images rest count pages l none =
     }
 
 -- the next image is a page
-pub read_more : (images rest behind image : List ℕ) (count : ℕ) (pages new : List Page) (page : Page) → IsLeft images count pages rest → length pages < count → 1024 ≤ length rest → image ≡ take 1024 rest → behind ≡ drop 1024 rest
+pub read_more : (images rest behind image : List ℕ) (count : ℕ) (pages new : List Page) (page : Page) → IsLeft images count pages rest → length pages < count → PAGE_BYTES ≤ length rest → image ≡ take PAGE_BYTES rest → behind ≡ drop PAGE_BYTES rest
     → SpellsPage image page → page.number ≡ length pages → new ≡ pages ++ page ∷ [] → IsLeft images count new behind
 read_more images rest behind image count pages new page l lt some ei eb s n e =
-    let left = ap length l.left ∙ length-drop (1024 * length pages) images in
+    let left = ap length l.left ∙ length-drop (PAGE_BYTES * length pages) images in
     let more : length new ≡ length pages + 1 = ap length e ∙ length_push pages page in
-    let next : 1024 * length pages + 1024 ≡ 1024 * length new = omega (arith, more) in
+    let next : PAGE_BYTES * length pages + PAGE_BYTES ≡ PAGE_BYTES * length new = omega (arith, more) in
     record {
       so_far = subst (λ i. PagesSoFar images i new) (sym more) (pages_more images rest image (length pages) pages new page l.so_far l.left ei s n e);
       few = omega (arith, more, lt);
       inside = omega (arith, more, left, some, l.inside);
-      left = eb ∙ ap (drop 1024) l.left ∙ drop-drop 1024 (1024 * length pages) images ∙ ap (λ m. drop m images) next;
+      left = eb ∙ ap (drop PAGE_BYTES) l.left ∙ drop-drop PAGE_BYTES (PAGE_BYTES * length pages) images ∙ ap (λ m. drop m images) next;
     }
 
 -- the next image is bad
-pub read_bad : (images rest image : List ℕ) (count : ℕ) (pages : List Page) → IsLeft images count pages rest → length pages < count → 1024 ≤ length rest → image ≡ take 1024 rest
+pub read_bad : (images rest image : List ℕ) (count : ℕ) (pages : List Page) → IsLeft images count pages rest → length pages < count → PAGE_BYTES ≤ length rest → image ≡ take PAGE_BYTES rest
     → ((page : Page) → SpellsPage image page → page.number ≡ length pages → ⊥) → AreRead images count pages true
 read_bad images rest image count pages l lt some ei none =
-    let left = ap length l.left ∙ length-drop (1024 * length pages) images in
+    let left = ap length l.left ∙ length-drop (PAGE_BYTES * length pages) images in
     record {
       so_far = l.so_far;
       few = l.few;
@@ -133,7 +134,7 @@ so_far_more bytes more count master size next pages new was_bad bad refused le s
 
 -- only a header came
 pub so_far_first : (bytes : List ℕ) (count master : ℕ) (pages : List Page) (refused : Bool) → length bytes ≤ 24 → pages ≡ [] → (0 < count → BeginsWithHeader bytes count master)
-    → (refused ≡ false → count ≡ 0 → HasStoreHeader bytes → ⊥) → count ≤ 4096 → IsSoFar bytes count master pages (length bytes) false refused
+    → (refused ≡ false → count ≡ 0 → HasStoreHeader bytes → ⊥) → count ≤ PAGES → IsSoFar bytes count master pages (length bytes) false refused
 so_far_first bytes count master pages refused short e header none few =
     let images : drop 24 bytes ≡ [] = drop_all 24 bytes short in
     record {
@@ -157,10 +158,10 @@ so_far_first bytes count master pages refused short e header none few =
 -- ---- all bytes came
 
 -- as many as the header says
-right_size : (bytes : List ℕ) (count size : ℕ) → count ≤ 4096 → size ≡ min (length bytes) (2 ^ 64 - 1) → size ≡ 24 + 1024 * count → length bytes ≡ 24 + 1024 * count
+right_size : (bytes : List ℕ) (count size : ℕ) → count ≤ PAGES → size ≡ min (length bytes) (2 ^ 64 - 1) → size ≡ 24 + PAGE_BYTES * count → length bytes ≡ 24 + PAGE_BYTES * count
 right_size bytes count size few e right = omega (arith, few, e, right)
 
-pub is_wrong_size : (bytes : List ℕ) (count master : ℕ) (pages : List Page) (size : ℕ) (bad refused : Bool) → IsSoFar bytes count master pages size bad refused → 0 < count → (size ≡ 24 + 1024 * count → ⊥) → HasWrongSize bytes
+pub is_wrong_size : (bytes : List ℕ) (count master : ℕ) (pages : List Page) (size : ℕ) (bad refused : Bool) → IsSoFar bytes count master pages size bad refused → 0 < count → (size ≡ 24 + PAGE_BYTES * count → ⊥) → HasWrongSize bytes
 is_wrong_size bytes count master pages size bad refused s some wrong = record {
   count = count;
   master = master;
@@ -168,7 +169,7 @@ is_wrong_size bytes count master pages size bad refused s some wrong = record {
   size = λ e. wrong (omega (arith, s.few, s.came, e));
 }
 
-pub is_bad_page : (bytes : List ℕ) (count master : ℕ) (pages : List Page) (size : ℕ) (bad refused : Bool) → IsSoFar bytes count master pages size bad refused → 0 < count → size ≡ 24 + 1024 * count → bad ≡ true → HasBadPage bytes (length pages)
+pub is_bad_page : (bytes : List ℕ) (count master : ℕ) (pages : List Page) (size : ℕ) (bad refused : Bool) → IsSoFar bytes count master pages size bad refused → 0 < count → size ≡ 24 + PAGE_BYTES * count → bad ≡ true → HasBadPage bytes (length pages)
 is_bad_page bytes count master pages size bad refused s some right is = record {
   count = count;
   master = master;
@@ -177,11 +178,11 @@ is_bad_page bytes count master pages size bad refused s some right is = record {
   page = s.read.stopped is;
 }
 
-pub is_store : (bytes : List ℕ) (count master : ℕ) (pages : List Page) (size : ℕ) (bad refused : Bool) → IsSoFar bytes count master pages size bad refused → 0 < count → size ≡ 24 + 1024 * count → bad ≡ false → SpellsStore bytes (store_of master pages)
+pub is_store : (bytes : List ℕ) (count master : ℕ) (pages : List Page) (size : ℕ) (bad refused : Bool) → IsSoFar bytes count master pages size bad refused → 0 < count → size ≡ 24 + PAGE_BYTES * count → bad ≡ false → SpellsStore bytes (store_of master pages)
 is_store bytes count master pages size bad refused s some right is =
     let header = s.header some in
     let long = right_size bytes count size s.few s.came right in
-    let images : length (drop 24 bytes) ≡ 1024 * count = length-drop 24 bytes ∙ omega (arith, long) in
+    let images : length (drop 24 bytes) ≡ PAGE_BYTES * count = length-drop 24 bytes ∙ omega (arith, long) in
     let all : length pages ≡ count = omega (arith, images, s.read.going is) in
     let spelled = pages_whole (drop 24 bytes) (length pages) count pages s.read.so_far all images in
     record {

@@ -10,14 +10,15 @@ use Rattle.std.proofs.lemmas.List.Elements.{All-push, All-get_or}
 use Rattle.page.specs.Image.{Image, cell, cells, entry, directory, FitsSlot}
 use Rattle.page.specs.Parts.{BeginsWithSlot, SpellsSlots}
 use Rattle.page.proofs.Slots.{cells-append, directory-append, length-entry, length-directory, short_cell}
+use Rattle.page.specs.declared.sizes.TheConstants.{CELLS_AT, ROOM_BYTES, VALUE_BYTES}
 
 -- the first i slots are in front, their cells end here, and the bytes can encode no others
 pub record ReadSoFar (entries bytes : List ℕ) (i end : ℕ) (slots : List Image) : Type 0 where
   pub count : length slots ≡ 16
   pub here : end ≡ length (cells (take i slots))
-  pub near : end ≤ 48 * i
+  pub near : end ≤ VALUE_BYTES * i
   pub values : All FitsSlot (take i slots)
-  pub directory : take (4 * i) entries ≡ directory 80 (take i slots)
+  pub directory : take (4 * i) entries ≡ directory CELLS_AT (take i slots)
   pub cells : take end bytes ≡ cells (take i slots)
   pub only : (others : List Image) → SpellsSlots entries bytes others → take i others ≡ take i slots
 
@@ -27,18 +28,18 @@ parts slots i d lt = sym (take-append-drop i slots) ∙ ap (λ (t : List Image).
 
 -- bytes that encode slots have the entry and the cell of each slot at their places
 pub slot_inside : (entries bytes : List ℕ) (slots : List Image) (i : ℕ) (d : Image) → SpellsSlots entries bytes slots → i < 16
-    → BeginsWithSlot (drop (4 * i) entries) (drop (length (cells (take i slots))) bytes) (80 + length (cells (take i slots))) (get_or slots i d)
+    → BeginsWithSlot (drop (4 * i) entries) (drop (length (cells (take i slots))) bytes) (CELLS_AT + length (cells (take i slots))) (get_or slots i d)
 slot_inside entries bytes slots i d s lt =
     let front = take i slots in
     let slot = get_or slots i d in
     let rest = drop (i + 1) slots in
     let split : slots ≡ front ++ slot ∷ rest = parts slots i d (omega (arith, s.count)) in
-    let place = 80 + length (cells front) in
+    let place = CELLS_AT + length (cells front) in
     let later = directory (place + length (cell slot)) rest in
-    let zeros : List ℕ = replicate (944 - length (cells slots)) 0 in
-    let text : entries ≡ directory 80 front ++ (entry place slot ++ later) = s.directory ∙ ap (directory 80) split ∙ directory-append 80 front (slot ∷ rest) in
-    let long : length (directory 80 front) ≡ 4 * i = omega (arith, length-directory 80 front, length-take i slots, s.count) in
-    let at_entry : drop (4 * i) entries ≡ entry place slot ++ later = ap (drop (4 * i)) text ∙ drop_at (directory 80 front) (entry place slot ++ later) (4 * i) long in
+    let zeros : List ℕ = replicate (ROOM_BYTES - length (cells slots)) 0 in
+    let text : entries ≡ directory CELLS_AT front ++ (entry place slot ++ later) = s.directory ∙ ap (directory CELLS_AT) split ∙ directory-append CELLS_AT front (slot ∷ rest) in
+    let long : length (directory CELLS_AT front) ≡ 4 * i = omega (arith, length-directory CELLS_AT front, length-take i slots, s.count) in
+    let at_entry : drop (4 * i) entries ≡ entry place slot ++ later = ap (drop (4 * i)) text ∙ drop_at (directory CELLS_AT front) (entry place slot ++ later) (4 * i) long in
     let whole : cells slots ++ zeros ≡ cells front ++ (cell slot ++ (cells rest ++ zeros)) =
     ap (λ (t : List ℕ). t ++ zeros) (ap cells split ∙ cells-append front (slot ∷ rest)) ∙ append_assoc (cells front) (cell slot ++ cells rest) zeros ∙ ap (λ (t : List ℕ). cells front ++ t) (append_assoc (cell slot) (cells rest) zeros) in
     let at_cell : drop (length (cells front)) bytes ≡ cell slot ++ (cells rest ++ zeros) =
@@ -52,11 +53,11 @@ slot_inside entries bytes slots i d s lt =
 -- bytes that encode other slots have at this place one that the reader takes too
 pub slot_there : (entries bytes at_entry at_cell : List ℕ) (i end : ℕ) (slots others : List Image) (d : Image) → ReadSoFar entries bytes i end slots → SpellsSlots entries bytes others → i < 16
     → at_entry ≡ drop (4 * i) entries → at_cell ≡ drop end bytes
-    → BeginsWithSlot at_entry at_cell (80 + end) (get_or others i d)
+    → BeginsWithSlot at_entry at_cell (CELLS_AT + end) (get_or others i d)
 slot_there entries bytes at_entry at_cell i end slots others d so_far s lt e b =
     let here : length (cells (take i others)) ≡ end = ap (λ xs. length (cells xs)) (so_far.only others s) ∙ sym so_far.here in
     let inside = slot_inside entries bytes others i d s lt in
-    let place : 80 + length (cells (take i others)) ≡ 80 + end = ap (λ n. 80 + n) here in
+    let place : CELLS_AT + length (cells (take i others)) ≡ CELLS_AT + end = ap (λ n. CELLS_AT + n) here in
     let slot = get_or others i d in
     record {
       fits = inside.fits;
@@ -67,8 +68,8 @@ slot_there entries bytes at_entry at_cell i end slots others d so_far s lt e b =
 -- one more slot was read
 pub read_more : (entries bytes at_entry at_cell : List ℕ) (i end later : ℕ) (slots : List Image) (slot : Image) → ReadSoFar entries bytes i end slots → i < 16
     → at_entry ≡ drop (4 * i) entries → at_cell ≡ drop end bytes
-    → BeginsWithSlot at_entry at_cell (80 + end) slot
-    → ((other : Image) → BeginsWithSlot at_entry at_cell (80 + end) other → ◌≡◌ {A = Option Image} (Some slot) (Some other))
+    → BeginsWithSlot at_entry at_cell (CELLS_AT + end) slot
+    → ((other : Image) → BeginsWithSlot at_entry at_cell (CELLS_AT + end) other → ◌≡◌ {A = Option Image} (Some slot) (Some other))
     → later ≡ end + length (cell slot)
     → ReadSoFar entries bytes (i + 1) later (set slots i slot)
 read_more entries bytes at_entry at_cell i end later slots slot so_far lt ee eb found only after =
@@ -76,8 +77,8 @@ read_more entries bytes at_entry at_cell i end later slots slot so_far lt ee eb 
     let more : take (i + 1) (set slots i slot) ≡ take i slots ++ slot ∷ [] = take_more_set slots i slot inside in
     let front = cells (take i slots) in
     let cells_more : cells (take (i + 1) (set slots i slot)) ≡ front ++ cell slot = ap cells more ∙ cells-append (take i slots) (slot ∷ []) ∙ ap (λ (t : List ℕ). front ++ t) (append-nil (cell slot)) in
-    let directory_more : directory 80 (take (i + 1) (set slots i slot)) ≡ directory 80 (take i slots) ++ entry (80 + end) slot =
-    ap (directory 80) more ∙ directory-append 80 (take i slots) (slot ∷ []) ∙ ap (λ (t : List ℕ). directory 80 (take i slots) ++ t) (append-nil (entry (80 + length front) slot) ∙ ap (λ n. entry (80 + n) slot) (sym so_far.here)) in
+    let directory_more : directory CELLS_AT (take (i + 1) (set slots i slot)) ≡ directory CELLS_AT (take i slots) ++ entry (CELLS_AT + end) slot =
+    ap (directory CELLS_AT) more ∙ directory-append CELLS_AT (take i slots) (slot ∷ []) ∙ ap (λ (t : List ℕ). directory CELLS_AT (take i slots) ++ t) (append-nil (entry (CELLS_AT + length front) slot) ∙ ap (λ n. entry (CELLS_AT + n) slot) (sym so_far.here)) in
     let four : 4 * (i + 1) ≡ 4 * i + 4 = omega arith in
     record {
       count = length-set slots i slot ∙ so_far.count;
@@ -92,17 +93,17 @@ read_more entries bytes at_entry at_cell i end later slots slot so_far lt ee eb 
     }
 
 -- all slots were read, and zeros are left
-pub read_all : (entries bytes left : List ℕ) (i end : ℕ) (slots : List Image) → ReadSoFar entries bytes i end slots → i ≡ 16 → length entries ≡ 64 → length bytes ≡ 944
+pub read_all : (entries bytes left : List ℕ) (i end : ℕ) (slots : List Image) → ReadSoFar entries bytes i end slots → i ≡ 16 → length entries ≡ 64 → length bytes ≡ ROOM_BYTES
     → left ≡ drop end bytes → left ≡ replicate (length left) 0 → SpellsSlots entries bytes slots
 read_all entries bytes left i end slots so_far e le lb el zeros =
     let all : take i slots ≡ slots = take_all i slots (omega (arith, so_far.count)) in
     let here : end ≡ length (cells slots) = so_far.here ∙ ap (λ xs. length (cells xs)) all in
-    let room : length left ≡ 944 - length (cells slots) = omega (arith, ap length el, length-drop end bytes, here, lb) in
+    let room : length left ≡ ROOM_BYTES - length (cells slots) = omega (arith, ap length el, length-drop end bytes, here, lb) in
     let whole : take (4 * i) entries ≡ entries = take_all (4 * i) entries (omega (arith, le)) in
     record {
       count = so_far.count;
       values = subst (All FitsSlot) all so_far.values;
-      directory = sym whole ∙ so_far.directory ∙ ap (directory 80) all;
+      directory = sym whole ∙ so_far.directory ∙ ap (directory CELLS_AT) all;
       body = sym (take-append-drop end bytes) ∙ ap₂ (λ (x y : List ℕ). x ++ y) (so_far.cells ∙ ap cells all) (sym el ∙ zeros ∙ ap (λ n. replicate n 0) room);
     }
 
@@ -113,7 +114,7 @@ only_these entries bytes left i end slots others so_far e el s =
     let all : take i others ≡ others = take_all i others (omega (arith, s.count)) in
     let same : others ≡ slots = sym all ∙ so_far.only others s ∙ take_all i slots (omega (arith, so_far.count)) in
     let here : length (cells others) ≡ end = ap (λ xs. length (cells xs)) (sym all ∙ so_far.only others s) ∙ sym so_far.here in
-    let n : ℕ = 944 - length (cells others) in
+    let n : ℕ = ROOM_BYTES - length (cells others) in
     let zeros : left ≡ replicate n 0 = el ∙ ap (drop end) s.body ∙ drop_at (cells others) (replicate n 0) end here in
     (zeros ∙ ap (λ m. replicate m 0) (sym (length-replicate n 0) ∙ ap length (sym zeros)), sym same)
 

@@ -3,6 +3,7 @@ use Rattle.std.proofs.Common.{◌≡◌, ℕ, ◌+◌, ◌*◌, ◌<◌, ◌≤�
 use Rattle.std.proofs.lemmas.List.{append-nil, length-append, take_more}
 use Rattle.std.proofs.lemmas.List.Elements.{All-head, All-tail}
 use Rattle.page.specs.Image.{Image, cell, cells, entry, directory, FitsSlot}
+use Rattle.page.specs.declared.sizes.TheConstants.{VALUE_BYTES}
 
 pub cells-append : (xs ys : List Image) → cells (xs ++ ys) ≡ cells xs ++ cells ys
 cells-append [] ys = refl
@@ -29,10 +30,10 @@ pub length-directory : (place : ℕ) (slots : List Image) → length (directory 
 length-directory place [] = refl
 length-directory place (x ∷ xs) = omega (arith, length-append (entry place x) (directory (place + length (cell x)) xs), length-entry place x, length-directory (place + length (cell x)) xs)
 
-pub short_cell : (slot : Image) → FitsSlot slot → length (cell slot) ≤ 48
+pub short_cell : (slot : Image) → FitsSlot slot → length (cell slot) ≤ VALUE_BYTES
 short_cell None h = omega arith
 short_cell (Some value) h = h
 
-pub length-cells-le : (slots : List Image) → All FitsSlot slots → length (cells slots) ≤ 48 * length slots
+pub length-cells-le : (slots : List Image) → All FitsSlot slots → length (cells slots) ≤ VALUE_BYTES * length slots
 length-cells-le [] h = omega arith
 length-cells-le (x ∷ xs) h = omega (arith, length-append (cell x) (cells xs), short_cell x (All-head FitsSlot x xs h), length-cells-le xs (All-tail FitsSlot x xs h))

@@ -11,18 +11,19 @@ use Rattle.page.specs.Image.{Image, cell, cells, entry, directory, FitsSlot, pag
 use Rattle.page.specs.declared.page.Page.{Page}
 use Rattle.page.specs.Images.{AreImages}
 use Rattle.page.proofs.Slots.{cells_more, directory_more, length-entry, short_cell}
+use Rattle.page.specs.declared.sizes.TheConstants.{CELLS_AT, PAGE_BYTES, VALUE_BYTES}
 
 -- the entries of the first i slots are in front, and the next cell has this place
 pub record Directed (slots : List Image) (i place : ℕ) (entries : List ℕ) : Type 0 where
-  pub next : place ≡ 80 + length (cells (take i slots))
-  pub near : place ≤ 80 + 48 * i
-  pub front : take (4 * i) entries ≡ directory 80 (take i slots)
+  pub next : place ≡ CELLS_AT + length (cells (take i slots))
+  pub near : place ≤ CELLS_AT + VALUE_BYTES * i
+  pub front : take (4 * i) entries ≡ directory CELLS_AT (take i slots)
   pub fits : All FitsSlot (take i slots)
 
 -- the cells of the first i slots are in front, and end here
 pub record Filled (slots : List Image) (i end : ℕ) (room : List ℕ) : Type 0 where
   pub here : end ≡ length (cells (take i slots))
-  pub near : end ≤ 48 * i
+  pub near : end ≤ VALUE_BYTES * i
   pub front : take end room ≡ cells (take i slots)
 
 -- a part that is written after what is there
@@ -37,13 +38,13 @@ pub directed_more : (slots : List Image) (i place later : ℕ) (entries next : L
 directed_more slots i place later entries next d k so_far lt room e after fits =
     let slot = get_or slots i d in
     let more : cells (take (i + 1) slots) ≡ cells (take i slots) ++ cell slot = cells_more slots i d lt in
-    let text : directory 80 (take (i + 1) slots) ≡ directory 80 (take i slots) ++ entry place slot =
-    directory_more 80 slots i d lt ∙ ap (λ p. directory 80 (take i slots) ++ entry p slot) (sym so_far.next) in
+    let text : directory CELLS_AT (take (i + 1) slots) ≡ directory CELLS_AT (take i slots) ++ entry place slot =
+    directory_more CELLS_AT slots i d lt ∙ ap (λ p. directory CELLS_AT (take i slots) ++ entry p slot) (sym so_far.next) in
     let long : length next ≡ 4 = ap length e ∙ length-entry place slot in
     record {
       next = omega (arith, after, so_far.next, ap length more, length-append (cells (take i slots)) (cell slot));
       near = omega (arith, after, so_far.near, short_cell slot fits);
-      front = written_behind (4 * i) k (4 * (i + 1)) entries next (directory 80 (take i slots)) so_far.front (omega arith) (omega arith) ∙ ap (λ (t : List ℕ). directory 80 (take i slots) ++ t) e ∙ sym text;
+      front = written_behind (4 * i) k (4 * (i + 1)) entries next (directory CELLS_AT (take i slots)) so_far.front (omega arith) (omega arith) ∙ ap (λ (t : List ℕ). directory CELLS_AT (take i slots) ++ t) e ∙ sym text;
       fits = All-more FitsSlot slots i d lt so_far.fits fits;
     }
 
@@ -57,7 +58,7 @@ written_in_front a k n xs ys front e le short =
 -- a value and the bytes after it are written after the cells
 pub filled_value : (slots : List Image) (i end : ℕ) (room all now value : List ℕ) (slot : Image) (k : ℕ)
     → Filled slots i end room → i < length slots → get_or slots i slot ≡ Some value → end ≤ length room
-    → now ≡ all → take (length value) all ≡ value → length value ≤ length all → length value ≤ 48
+    → now ≡ all → take (length value) all ≡ value → length value ≤ length all → length value ≤ VALUE_BYTES
     → Filled slots (i + 1) (end + length value) (put_mid end k room now)
 filled_value slots i end room all now value slot k so_far lt some fits e front long short =
     let same : cell (get_or slots i slot) ≡ value = ap cell some in
@@ -92,15 +93,15 @@ three_parts xs a b c m n k l la lb mn nx all =
     ap₂ (λ (f p : List ℕ). f ++ (c ++ p)) front none ∙ ap (λ (t : List ℕ). (a ++ b) ++ t) (append-nil c)
 
 -- the image of the next page put after those of the first i pages
-pub images_more : (pages : List Page) (i k : ℕ) (images image : List ℕ) (page : Page) → AreImages (take (1024 * i) images) (take i pages) → 1024 * i ≤ length images
-    → i < length pages → page ≡ get_or pages i page → image ≡ page_text page → FitsPage page → length image ≡ 1024
-    → AreImages (take (1024 * (i + 1)) (put_mid (1024 * i) k images image)) (take (i + 1) pages)
+pub images_more : (pages : List Page) (i k : ℕ) (images image : List ℕ) (page : Page) → AreImages (take (PAGE_BYTES * i) images) (take i pages) → PAGE_BYTES * i ≤ length images
+    → i < length pages → page ≡ get_or pages i page → image ≡ page_text page → FitsPage page → length image ≡ PAGE_BYTES
+    → AreImages (take (PAGE_BYTES * (i + 1)) (put_mid (PAGE_BYTES * i) k images image)) (take (i + 1) pages)
 images_more pages i k images image page so_far room lt read text fits long =
     let texts = flat_map page_text in
     let more : take (i + 1) pages ≡ take i pages ++ page ∷ [] = take_more pages i page lt ∙ ap (λ p. take i pages ++ p ∷ []) (sym read) in
     let front : texts (take (i + 1) pages) ≡ texts (take i pages) ++ image =
     ap texts more ∙ flat_map-append page_text (take i pages) (page ∷ []) ∙ ap (λ (t : List ℕ). texts (take i pages) ++ t) (append-nil (page_text page) ∙ sym text) in
     record {
-      text = written_behind (1024 * i) k (1024 * (i + 1)) images image (texts (take i pages)) so_far.text (omega (arith, long)) room ∙ sym front;
+      text = written_behind (PAGE_BYTES * i) k (PAGE_BYTES * (i + 1)) images image (texts (take i pages)) so_far.text (omega (arith, long)) room ∙ sym front;
       fits = All-more FitsPage pages i page lt so_far.fits (subst FitsPage read fits);
     }

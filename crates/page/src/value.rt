@@ -20,11 +20,11 @@ impl Model for Value {
 
     ghost view = { λ v. take v.len v.bytes };
 
-    ghost invariant = { λ v. (v.len ≤ 48) × (length (take v.len v.bytes) ≡ v.len) × (v.bytes ≡ take v.len v.bytes ++ replicate (48 - v.len) 0) };
+    ghost invariant = { λ v. (v.len ≤ VALUE_BYTES) × (length (take v.len v.bytes) ≡ v.len) × (v.bytes ≡ take v.len v.bytes ++ replicate (VALUE_BYTES - v.len) 0) };
 
-    ghost inverse = { λ d. record { bytes = d ++ replicate (48 - length d) 0; len = length d } };
+    ghost inverse = { λ d. record { bytes = d ++ replicate (VALUE_BYTES - length d) 0; len = length d } };
 
-    ghost inverse_ok = { λ a h. ap₂ (λ b n. record { bytes = b; len = n }) (ap (λ n. take a.len a.bytes ++ replicate (48 - n) 0) h.1 ∙ sym h.2) h.1 };
+    ghost inverse_ok = { λ a h. ap₂ (λ b n. record { bytes = b; len = n }) (ap (λ n. take a.len a.bytes ++ replicate (VALUE_BYTES - n) 0) h.1 ∙ sym h.2) h.1 };
 }
 
 impl Value {

@@ -17,9 +17,6 @@ use Rattle.undo.proofs.Begun.{AreEnds}
 use Rattle.undo.proofs.Effects.{Puts, Idle}
 
 -- LISTS
-map-same : {X : Type 0} (f g : ℕ → X) (xs : List ℕ) → f ≡ g → map f xs ≡ map g xs
-map-same f g xs e = ap (λ h. map h xs) e
-
 pub map-same-at : {A B : Type 0} (f g : A → B) (xs : List A) (d : A) → ((k : ℕ) → k < length xs → g (get_or xs k d) ≡ f (get_or xs k d)) → map f xs ≡ map g xs
 map-same-at f g [] d h = refl
 map-same-at f g (x ∷ xs) d h = ap₂ (λ y ys. y ∷ ys) (sym (h 0 (omega arith))) (map-same-at f g xs d (λ k lt. h (suc k) (omega arith)))
@@ -70,7 +67,7 @@ no_last b page lsn (log ▸ r) h =
 nothing_done : (b : ℕ) (log : History) (image : Page) → last_lsn log ≤ b → by_log b log image ≡ image
 nothing_done b log image le =
     let slots : slots_of (effects (λ lsn _. ltb b lsn) (held_by image) log) image ≡ image.slots =
-    map-same (effects (λ lsn _. ltb b lsn) (held_by image) log image.number) (held_by image image.number) (range_with_len 0 (length image.slots))
+    ap (λ h. map h (range_with_len 0 (length image.slots)))
     (fun_ext (λ s. no_effects b (held_by image) log image.number s le))
     ∙ sym (fill_by_all (λ s. get_or image.slots s None) image.slots (length image.slots) None refl (λ k l. refl)) in
     ap₂ (λ l s. record { number = image.number; lsn = l; slots = s }) (no_last b image.number image.lsn log le) slots
@@ -85,7 +82,7 @@ module _ (b : ℕ) (log : History) (r : LogRecord) (within : b ≤ last_lsn log)
   unaffected image w o =
       ap₂ (λ l s. record { number = image.number; lsn = l; slots = s })
       (rw o refl)
-      (map-same (effects (λ lsn _. ltb b lsn) (held_by image) (log ▸ r) image.number) (effects (λ lsn _. ltb b lsn) (held_by image) log image.number) (range_with_len 0 (length image.slots))
+      (ap (λ h. map h (range_with_len 0 (length image.slots)))
       (fun_ext (λ s. (let e = w s in rw e refl))))
 
   affected : (image : Page) (slot : ℕ) (value : Image) → Puts r image.number slot value

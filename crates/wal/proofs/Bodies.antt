@@ -11,6 +11,8 @@ use Rattle.page.proofs.BigEndian.{AreBytes}
 use Rattle.wal.proofs.Fields.{AreBytes-rest, bind_some, guard_ended, Takes, Takes-then, first_of_all, field32, field64, slot_field, image_field, plain_field}
 use Rattle.wal.proofs.TableFields.{transactions_field, dirties_field}
 use Rattle.page.specs.Image.{FitsSlot}
+use Rattle.page.specs.declared.sizes.TheConstants.{PAGES}
+use Rattle.wal.specs.declared.sizes.TheConstants.{TRANSACTIONS}
 
 -- a record of this kind was read
 abbrev pub Read : ℕ → List ℕ → LogRecord × List ℕ → Type 0
@@ -60,8 +62,8 @@ checkpoint_takes : (bytes : List ℕ) (x : LogRecord × List ℕ) → AreBytes b
 unfolding checkpoint_at
 checkpoint_takes bytes x fits e =
     let a = first_of_all (number_at w64) (to_be_bytes w64) (λ n. n < 2 ^ 64) field64 bytes _ x fits e in
-    let b = first_of_all transactions_at (table entry) (FitsTable 1024 tx_in FitsEntry) transactions_field a.rest _ x a.takes.rest_fits a.after in
-    let c = first_of_all dirties_at (table dirty_page) (FitsTable 4096 page_in FitsDirty) dirties_field b.rest _ x b.takes.rest_fits b.after in
+    let b = first_of_all transactions_at (table entry) (FitsTable TRANSACTIONS tx_in FitsEntry) transactions_field a.rest _ x a.takes.rest_fits a.after in
+    let c = first_of_all dirties_at (table dirty_page) (FitsTable PAGES page_in FitsDirty) dirties_field b.rest _ x b.takes.rest_fits b.after in
     let bc = Takes-then a.rest (table entry b.value) b.rest (table dirty_page c.value) c.rest b.takes c.takes in
     let ac = Takes-then bytes (to_be_bytes w64 a.value) a.rest (table entry b.value ++ table dirty_page c.value) c.rest a.takes bc in
     subst (Read 7 bytes) (same_Some (CheckpointEnd a.value b.value c.value, c.rest) x c.after)

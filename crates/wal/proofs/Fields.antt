@@ -11,6 +11,7 @@ use Rattle.wal.specs.Records.{PlainRecord}
 use Rattle.wal.specs.Spelling.{image, plain, FitsPlain}
 use Rattle.wal.specs.Reading.{◌>>=◌, number_at, tx_at, slot_at, image_at, plain_at}
 use Rattle.wal.proofs.Loop.{chosen}
+use Rattle.page.specs.declared.sizes.TheConstants.{VALUE_BYTES}
 
 pub AreBytes-rest : (b : ℕ) (bytes : List ℕ) → AreBytes (b ∷ bytes) → AreBytes bytes
 AreBytes-rest b bytes h i = h (suc i)
@@ -149,12 +150,12 @@ image_takes (size ∷ rest) x fits e =
           (let none : Takes (size ∷ rest) (image None) rest × FitsSlot None = (record { parts = ap (λ s. s ∷ rest) (eqb-true size 255 p.0); rest_fits = there }, tt) in
           subst (λ (y : Image × List ℕ). Takes (size ∷ rest) (image y.0) y.1 × FitsSlot y.0) (same_Some (None, rest) x p.1) none)
       | inr p ↦
-          elim (chosen (ltb 48 size) _ _ _ p.1) [
+          elim (chosen (ltb VALUE_BYTES size) _ _ _ p.1) [
             | inl q ↦ absurd cc
             | inr q ↦
                 (let g = guard_some (ltb (length rest) size) (Some (take size rest), drop size rest) x q.1 in
                 let long : size ≤ length rest = ltb-false _ _ g.0 in
-                let low : size ≤ 48 = ltb-false _ _ q.0 in
+                let low : size ≤ VALUE_BYTES = ltb-false _ _ q.0 in
                 let len : length (take size rest) ≡ size = omega (arith, length-take size rest) in
                 let parts : ◌≡◌ {A = List ℕ} (size ∷ rest) (length (take size rest) ∷ (take size rest ++ drop size rest)) = rw (len, take-append-drop size rest) refl in
                 subst (λ (y : Image × List ℕ). Takes (size ∷ rest) (image y.0) y.1 × FitsSlot y.0) g.1 (record { parts = parts; rest_fits = AreBytes-drop size rest there }, omega (arith, len)))
@@ -166,7 +167,7 @@ unfolding image_at
 image_again None rest h = refl
 image_again (Some value) rest h =
     let not_absent : eqb (length value) 255 ≡ false = ne_eqb _ _ (λ z. omega (arith, z, h)) in
-    let low : ltb 48 (length value) ≡ false = le-ltb _ _ h in
+    let low : ltb VALUE_BYTES (length value) ≡ false = le-ltb _ _ h in
     let long : ltb (length (value ++ rest)) (length value) ≡ false = le-ltb _ _ (omega (arith, length-append value rest)) in
     rw (not_absent, low, long, take_at value rest (length value) refl, drop_at value rest (length value) refl) refl
 

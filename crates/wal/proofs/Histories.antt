@@ -5,6 +5,7 @@ use Rattle.std.proofs.Common.{ne_eqb, eq-eqb, eqb, ltb, eqb-true, false, inl, in
 use Rattle.std.proofs.lemmas.List.{length-map, get_or-map}
 use Rattle.std.specs.Prelude.{All}
 use Rattle.wal.specs.Records.{LogRecord, History, start, ◌▸◌, ◌▸▸◌, lsn_before, LogContent, history, ◌⧺◌, up_to, last_lsn, base_lsn, record_at, first}
+use Rattle.wal.specs.Meaning.{is_of, last_of}
 
 -- ---- one more record
 
@@ -13,6 +14,10 @@ record_last log r = rw (eq-eqb (suc (last_lsn log)) (suc (last_lsn log)) refl)
 
 pub record_older : (log : History) (r : LogRecord) (n : ℕ) → n ≤ last_lsn log → record_at (log ▸ r) n ≡ record_at log n
 record_older log r n h = rw (ne_eqb n (suc (last_lsn log)) (λ e. omega arith))
+
+-- a record of another transaction is not the last of t
+pub last_other : (t : ℕ) (log : History) (r : LogRecord) → is_of t r ≡ false → last_of t (log ▸ r) ≡ last_of t log
+last_other t log r e = rw e refl
 
 -- what is found has an LSN of the log
 pub record_within : (log : History) (n : ℕ) (x : LogRecord) → record_at log n ≡ Some x → n ≤ last_lsn log

@@ -11,6 +11,7 @@ use Rattle.wal.specs.declared.header.LogStart.TheVariants.{Version1, Version2}
 use Rattle.wal.specs.Records.{LogRecord, CheckpointBegin, lsn_before}
 use Rattle.wal.specs.Headers.{header_bytes}
 use Rattle.wal.specs.Frames.{length_of, frame_at, frame_if_right, next_at, frames_at, frames_behind, ◌>>=◌, IsPlace, ArePlaces, record_of, Fails}
+use Rattle.wal.specs.declared.sizes.TheConstants.{LARGEST_BODY}
 
 pub chosen : {A : Type 0} (b : Bool) (x y z : A) → cond b x y ≡ z → ((b ≡ true) × (x ≡ z)) ⊎ ((b ≡ false) × (y ≡ z))
 chosen true x y z e = inl (refl, e)
@@ -26,7 +27,7 @@ pub record Found (lsn : ℕ) (bytes : List ℕ) (r : LogRecord) (size : ℕ) : T
   pub size_is : size ≡ 4 + length_of bytes
   pub whole : 4 + length_of bytes ≤ length bytes
   pub low : 9 ≤ length_of bytes
-  pub high : length_of bytes ≤ 70681
+  pub high : length_of bytes ≤ LARGEST_BODY
   pub spelled : frame_at bytes ≡ Some (r, lsn)
 
 judged_is : (lsn offset size : ℕ) (f : Option (LogRecord × ℕ)) (x : LogRecord × ℕ) → frame_if_right lsn offset size f ≡ Ok (Some x) → (f ≡ Some (x.0, lsn)) × (x.1 ≡ size)
@@ -45,13 +46,13 @@ next_is lsn offset bytes r size e =
     elim (chosen (ltb (length bytes) 4) _ _ _ e) [
       | inl p ↦ absurd cc
       | inr p ↦
-          elim (chosen (ltb (length_of bytes) 9 || ltb 70681 (length_of bytes)) _ _ _ p.1) [
+          elim (chosen (ltb (length_of bytes) 9 || ltb LARGEST_BODY (length_of bytes)) _ _ _ p.1) [
             | inl q ↦ absurd cc
             | inr q ↦
                 elim (chosen (ltb (length bytes) (4 + length_of bytes)) _ _ _ q.1) [
                   | inl w ↦ absurd cc
                   | inr w ↦
-                      (let bounds = or_parts (ltb (length_of bytes) 9) (ltb 70681 (length_of bytes)) q.0 in
+                      (let bounds = or_parts (ltb (length_of bytes) 9) (ltb LARGEST_BODY (length_of bytes)) q.0 in
                       let found = judged_is lsn offset (4 + length_of bytes) (frame_at bytes) (r, size) w.1 in
                       record {
                         size_is = found.1;

@@ -285,7 +285,7 @@ restored_is_kept base (log ▸ r) h page slot =
     restored_same base log h.0 page slot (restored_is_kept base log h.0 page slot) r refl refl (λ t _ v. undone_plain base log h.0 page slot (restored_is_kept base log h.0 page slot) r t refl v) (kept_more base log r page slot (λ _. refl) refl)
 
 -- a transaction that touched a cell has a record
-touches_has : (t page slot : ℕ) (log : History) → touches t page slot log ≡ true → has (is_of t) log ≡ true
+pub touches_has : (t page slot : ℕ) (log : History) → touches t page slot log ≡ true → has (is_of t) log ≡ true
 touches_has t page slot (start _) w = w
 touches_has t page slot (log ▸ r) w =
     elim (or_cases (is_of t r && writes page slot r) (touches t page slot log) w) [

@@ -9,6 +9,8 @@ use Rattle.wal.specs.declared.record.Entry.{Entry}
 use Rattle.wal.specs.Records.{tx_in, page_in}
 use Rattle.wal.specs.Content.{entry_of}
 use Rattle.wal.specs.Spelling.{FitsEntry, FitsDirty, FitsTable, IsRising}
+use Rattle.page.specs.declared.sizes.TheConstants.{PAGES}
+use Rattle.wal.specs.declared.sizes.TheConstants.{TRANSACTIONS}
 
 -- each number is smaller than the next, and the first is at least `low`
 abbrev pub RisesFrom : ℕ → List ℕ → Type 0
@@ -89,13 +91,13 @@ each_in : (xs : List (ℕ × Entry)) → AllByRecursion (λ x. FitsEntry (entry_
 each_in [] h = tt
 each_in (x ∷ xs) h = (h.0, each_in xs h.1)
 
-pub entries_fit : (xs : List (ℕ × Entry)) → FitsTable 1024 tx_in FitsEntry (map entry_of xs) ↔ IsTable 1024 (λ x. x.0) (λ x. FitsEntry (entry_of x)) xs
+pub entries_fit : (xs : List (ℕ × Entry)) → FitsTable TRANSACTIONS tx_in FitsEntry (map entry_of xs) ↔ IsTable TRANSACTIONS (λ x. x.0) (λ x. FitsEntry (entry_of x)) xs
 entries_fit xs = (
   λ fits. (omega (arith, fits.few, length-map xs entry_of), (All-from_recursion (λ x. FitsEntry (entry_of x)) xs (each_out xs fits.each), subst IsRising (numbers_of xs) fits.rising)),
   λ right. record { few = omega (arith, right.0, length-map xs entry_of); each = each_in xs (recursion_from_All (λ x. FitsEntry (entry_of x)) xs right.1.0); rising = subst IsRising (sym (numbers_of xs)) right.1.1 },
 )
 
-pub dirty_pages_fit : (xs : List (ℕ × ℕ)) → FitsTable 4096 page_in FitsDirty xs ↔ IsTable 4096 (λ x. x.0) FitsDirty xs
+pub dirty_pages_fit : (xs : List (ℕ × ℕ)) → FitsTable PAGES page_in FitsDirty xs ↔ IsTable PAGES (λ x. x.0) FitsDirty xs
 dirty_pages_fit xs = (
   λ fits. (fits.few, (All-from_recursion FitsDirty xs fits.each, fits.rising)),
   λ right. record { few = right.0; each = recursion_from_All FitsDirty xs right.1.0; rising = right.1.1 },

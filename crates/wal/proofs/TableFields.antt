@@ -15,6 +15,8 @@ use Rattle.wal.proofs.Loop.{chosen}
 use Rattle.wal.proofs.Rising.{RisesFrom, rises_rising, rising_from_0}
 use Rattle.page.proofs.BigEndian.{AreBytes}
 use Rattle.wal.proofs.Fields.{AreBytes-rest, bind_some, Takes, Takes-then, IsField, first_of_all, field32, field64, FitsTx, tx_field}
+use Rattle.page.specs.declared.sizes.TheConstants.{PAGES}
+use Rattle.wal.specs.declared.sizes.TheConstants.{TRANSACTIONS}
 
 -- ---- entries
 
@@ -156,13 +158,13 @@ module _ {E : Type 0} (number : E → ℕ) (one : List ℕ → Option (E × List
   counted_field : (most : ℕ) → most < 2 ^ 32 → IsField (counted_at most) (table spell) (FitsTable most number Fit)
   counted_field most small = record { takes = counted_takes most; again = counted_again most small }
 
-pub transactions_field : IsField transactions_at (table entry) (FitsTable 1024 tx_in FitsEntry)
+pub transactions_field : IsField transactions_at (table entry) (FitsTable TRANSACTIONS tx_in FitsEntry)
 unfolding transactions_at
-transactions_field = counted_field tx_in entry_at entry FitsEntry entry_field 1024 (omega arith)
+transactions_field = counted_field tx_in entry_at entry FitsEntry entry_field TRANSACTIONS (omega arith)
 
-pub dirties_field : IsField dirties_at (table dirty_page) (FitsTable 4096 page_in FitsDirty)
+pub dirties_field : IsField dirties_at (table dirty_page) (FitsTable PAGES page_in FitsDirty)
 unfolding dirties_at
-dirties_field = counted_field page_in dirty_at dirty_page FitsDirty dirty_field 4096 (omega arith)
+dirties_field = counted_field page_in dirty_at dirty_page FitsDirty dirty_field PAGES (omega arith)
 
 -- how long a table is
 entries_length : {E : Type 0} (spell : E → List ℕ) (size : ℕ) → ((e : E) → length (spell e) ≡ size) → (entries : List E) → length (flat_map spell entries) ≡ size * length entries

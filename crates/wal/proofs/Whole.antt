@@ -25,6 +25,8 @@ use Rattle.wal.proofs.TableFields.{table_length}
 use Rattle.wal.proofs.Headers.{start_small, header_dropped, header_room, start_again, no_start, Header, header_taken}
 use Rattle.wal.proofs.Histories.{size_of_log}
 use Rattle.page.specs.Image.{FitsSlot}
+use Rattle.page.specs.declared.sizes.TheConstants.{VALUE_BYTES}
+use Rattle.wal.specs.declared.sizes.TheConstants.{LARGEST_BODY}
 
 bind_ok : {A B : Type 0} (r : Result A Fault) (f : A → Result B Fault) (y : B) → (r >>= f) ≡ Ok y → (x : A) × (r ≡ Ok x) × (f x ≡ Ok y)
 bind_ok (Ok x) f y e = (x, refl, e)
@@ -51,10 +53,10 @@ found_frame lsn bytes r size fits found =
     sym (take-append-drop 4 bytes) ∙ ap (λ (x : List ℕ). take 4 bytes ++ x) (sym (take-append-drop (length_of bytes) (drop 4 bytes)) ∙ ap (λ (x : List ℕ). body_of bytes ++ x) back) in
     (parts ∙ sym (append_assoc (take 4 bytes) (body_of bytes) (drop size bytes)) ∙ ap (λ (x : List ℕ). x ++ drop size bytes) (sym spelled), inner.1, inner.2)
 
-image_length : (o : List ℕ) → length o ≤ 48 → length (image (Some o)) ≤ 49
+image_length : (o : List ℕ) → length o ≤ VALUE_BYTES → length (image (Some o)) ≤ 1 + VALUE_BYTES
 image_length o h = omega arith
 
-image_size : (i : Option (List ℕ)) → FitsSlot i → length (image i) ≤ 49
+image_size : (i : Option (List ℕ)) → FitsSlot i → length (image i) ≤ 1 + VALUE_BYTES
 image_size None h = omega arith
 image_size (Some o) h = omega (arith, h)
 
@@ -67,7 +69,7 @@ entry_length e = by_state e.state
     by_state Prepared = refl
 
 -- how long a body is
-pub body_size : (r : LogRecord) (lsn : ℕ) → Fits r → (9 ≤ length (body r lsn)) × (length (body r lsn) ≤ 70681)
+pub body_size : (r : LogRecord) (lsn : ℕ) → Fits r → (9 ≤ length (body r lsn)) × (length (body r lsn) ≤ LARGEST_BODY)
 body_size (Update u) lsn fits =
     let a = image_size u.before fits.before in
     let b = image_size u.after fits.after in
@@ -115,7 +117,7 @@ frame_next r lsn offset rest fits lt =
     let all : length bytes ≡ 4 + length (body r lsn) + length rest = length-append (frame r lsn) rest ∙ omega (arith, length-append (to_be_bytes w32 (length (body r lsn))) (body r lsn)) in
     let a : ltb (length bytes) 4 ≡ false = le-ltb _ _ (omega (arith, all)) in
     let b : ltb (length_of bytes) 9 ≡ false = le-ltb _ _ (omega (arith, n, size.0)) in
-    let c : ltb 70681 (length_of bytes) ≡ false = le-ltb _ _ (omega (arith, n, size.1)) in
+    let c : ltb LARGEST_BODY (length_of bytes) ≡ false = le-ltb _ _ (omega (arith, n, size.1)) in
     let d : ltb (length bytes) (4 + length_of bytes) ≡ false = le-ltb _ _ (omega (arith, n, all)) in
     let e : frame_if_right lsn offset (4 + length_of bytes) (frame_at bytes) ≡ Ok (Some (r, 4 + length (body r lsn))) =
     ap₂ (λ k f. frame_if_right lsn offset (4 + k) f) n (frame_spells r lsn rest fits lt) ∙ rw (eq-eqb lsn lsn refl) refl in
@@ -129,12 +131,12 @@ none_torn lsn offset bytes e =
     elim (chosen (ltb (length bytes) 4) _ _ _ e) [
       | inl p ↦ inl (ltb-true _ _ p.0)
       | inr p ↦
-          elim (chosen (ltb (length_of bytes) 9 || ltb 70681 (length_of bytes)) _ _ _ p.1) [
+          elim (chosen (ltb (length_of bytes) 9 || ltb LARGEST_BODY (length_of bytes)) _ _ _ p.1) [
             | inl q ↦ absurd cc
             | inr q ↦
                 elim (chosen (ltb (length bytes) (4 + length_of bytes)) _ _ _ q.1) [
                   | inl w ↦
-                      (let bounds = or_parts (ltb (length_of bytes) 9) (ltb 70681 (length_of bytes)) q.0 in
+                      (let bounds = or_parts (ltb (length_of bytes) 9) (ltb LARGEST_BODY (length_of bytes)) q.0 in
                       inr (ltb-false _ _ p.0, ltb-false _ _ bounds.0, ltb-false _ _ bounds.1, ltb-true _ _ w.0))
                   | inr w ↦ absurd (never_none lsn offset (4 + length_of bytes) (frame_at bytes) w.1)
                 ]
@@ -356,15 +358,15 @@ next_fault lsn offset bytes e fits h =
     elim (chosen (ltb (length bytes) 4) _ _ _ h) [
       | inl p ↦ absurd cc
       | inr p ↦
-          elim (chosen (ltb (length_of bytes) 9 || ltb 70681 (length_of bytes)) _ _ _ p.1) [
+          elim (chosen (ltb (length_of bytes) 9 || ltb LARGEST_BODY (length_of bytes)) _ _ _ p.1) [
             | inl q ↦
-                (let bad : (length_of bytes < 9) ⊎ (70681 < length_of bytes) = elim (or_cases (ltb (length_of bytes) 9) (ltb 70681 (length_of bytes)) q.0) [ inl a ↦ inl (ltb-true _ _ a) | inr b ↦ inr (ltb-true _ _ b) ] in
+                (let bad : (length_of bytes < 9) ⊎ (LARGEST_BODY < length_of bytes) = elim (or_cases (ltb (length_of bytes) 9) (ltb LARGEST_BODY (length_of bytes)) q.0) [ inl a ↦ inl (ltb-true _ _ a) | inr b ↦ inr (ltb-true _ _ b) ] in
                 subst (λ d. HasFault d lsn offset bytes) (err_is {B = Option (LogRecord × ℕ)} (BadLength offset) e q.1) (refl, ltb-false _ _ p.0, bad))
             | inr q ↦
                 elim (chosen (ltb (length bytes) (4 + length_of bytes)) _ _ _ q.1) [
                   | inl w ↦ absurd cc
                   | inr w ↦
-                      (let bounds = or_parts (ltb (length_of bytes) 9) (ltb 70681 (length_of bytes)) q.0 in
+                      (let bounds = or_parts (ltb (length_of bytes) 9) (ltb LARGEST_BODY (length_of bytes)) q.0 in
                       judged_fault lsn offset bytes e fits (ltb-false _ _ bounds.0, ltb-false _ _ bounds.1, ltb-false _ _ w.0) (frame_at bytes) refl w.1)
                 ]
           ]

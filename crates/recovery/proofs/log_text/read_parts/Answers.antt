@@ -4,6 +4,7 @@ use Rattle.std.proofs.lemmas.Result.{IfOk-at_ok}
 use Rattle.std.specs.Io.KnownBytes.{Consumes}
 use Rattle.recovery.proofs.LogTexts.{gave_both, at_ok}
 use Rattle.recovery.proofs.log_text.read_parts.Goals as goal
+use Rattle.wal.specs.declared.sizes.TheConstants.{LONGEST_FRAME}
 
 pub returns-then-filled-lt-BASED_HEADER_BYTES-clause-gave : goal.returns-then-filled-lt-BASED_HEADER_BYTES-clause-gave
 returns-then-filled-lt-BASED_HEADER_BYTES-clause-gave g c =
@@ -20,6 +21,6 @@ pub returns-clause-gave : goal.returns-clause-gave
 returns-clause-gave g c =
     let front = c.in_ok-front.front.items in
     let came = at_ok _ c.in_ok-read.was c.first_beside_rest-first.ensures.read in
-    gave_both _ _ _ front (drop 70685 c.first_beside_rest-first.new.back.items) _
+    gave_both _ _ _ front (drop LONGEST_FRAME c.first_beside_rest-first.new.back.items) _
     (IfOk-at_ok (λ bytes. Consumes (g.S.Source.left c.args.source.now) (g.S.Source.left c.read_half-back.new.source) bytes.items) c.in_ok-front.was c.read_half-back.ensures.read)
     came.read (at_ok _ c.in_ok-read.was c.first_beside_rest-first.ensures.end) c.text_in_parts.ensures.text

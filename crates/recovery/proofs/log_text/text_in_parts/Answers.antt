@@ -3,12 +3,13 @@ use Rattle.std.proofs.lemmas.Result.{IfOk-at_ok, IfErr-at_err}
 use Rattle.wal.specs.Reads.{Cause}
 use Rattle.wal.specs.Stretches.{BeginsCut, BeginsLog}
 use Rattle.recovery.proofs.log_text.text_in_parts.Goals as goal
+use Rattle.wal.specs.declared.sizes.TheConstants.{LONGEST_FRAME}
 
 pub returns-in-Ok-clause-text : goal.returns-in-Ok-clause-text
 returns-in-Ok-clause-text c =
     let front = c.args.front.items in
     let end = c.in-Ok.first.end in
-    let rest = drop 70685 c.args.back.items in
+    let rest = drop LONGEST_FRAME c.args.back.items in
     ap₂ (λ (a b : List ℕ). a ++ b) c.move_rest-from.ensures.front c.move_rest-from.ensures.back
     ∙ sym (append_assoc (take end front) (drop end front) rest)
     ∙ ap (λ (t : List ℕ). t ++ rest) (take-append-drop end front)
@@ -25,5 +26,5 @@ pub returns-in-Err-clause-is : goal.returns-in-Err-clause-is
 returns-in-Err-clause-is c =
     record {
       within = c.requires.room;
-      is = IfErr-at_err (λ e. (more : List ℕ) → Cause (c.args.front.items ++ more) e) c.in-Err.is c.requires.no_log (drop 70685 c.args.back.items);
+      is = IfErr-at_err (λ e. (more : List ℕ) → Cause (c.args.front.items ++ more) e) c.in-Err.is c.requires.no_log (drop LONGEST_FRAME c.args.back.items);
     }

@@ -10,6 +10,7 @@ use Rattle.page.proofs.Files.{length-page_text, length-pieces}
 use Rattle.recovery.proofs.Taken.{begins_longer}
 use Rattle.recovery.proofs.Delivered.{behind_front}
 use Rattle.recovery.proofs.store_pieces.write_images.Goals as goal
+use Rattle.page.specs.declared.sizes.TheConstants.{PAGE_BYTES}
 
 pub returns-in_err-write_all-clause-beginning : goal.returns-in_err-write_all-clause-beginning
 returns-in_err-write_all-clause-beginning g c =
@@ -35,11 +36,11 @@ loop-rest-preserved g c =
     let images = c.encode_pages_into.new.images in
     let rest_is : c.loop-rest.rest.now ≡ piece ++ behind =
     sym (ap₂ (λ (a b : List Page). a ++ b) c.split_at.ensures.front c.split_at.ensures.back ∙ take-append-drop c.min.result c.loop-rest.rest.now) in
-    let images_len : length images ≡ 1024 * length piece =
-    ap length c.encode_pages_into.ensures.text ∙ length-pieces page_text 1024 piece (λ k d lt. length-page_text (get_or piece k d) (c.encode_pages_into.ensures.fits k d lt)) in (
+    let images_len : length images ≡ PAGE_BYTES * length piece =
+    ap length c.encode_pages_into.ensures.text ∙ length-pieces page_text PAGE_BYTES piece (λ k d lt. length-page_text (get_or piece k d) (c.encode_pages_into.ensures.fits k d lt)) in (
       c.in_ok-write_all.ensures.cause ∙ c.loop-rest.invariant.0,
       Keeps-trans _ _ _ c.loop-rest.invariant.1 c.in_ok-write_all.ensures.unflushed,
-      omega (arith, c.loop-rest.invariant.2, length-append images (drop (1024 * length piece) c.loop-rest.room), length-drop (1024 * length piece) c.loop-rest.room, c.split_at.ensures.front_len, c.min.ensures, images_len),
+      omega (arith, c.loop-rest.invariant.2, length-append images (drop (PAGE_BYTES * length piece) c.loop-rest.room), length-drop (PAGE_BYTES * length piece) c.loop-rest.room, c.split_at.ensures.front_len, c.min.ensures, images_len),
       (
         done ++ piece,
         split ∙ ap (λ l. done ++ l) rest_is ∙ sym (append_assoc done piece behind),
