@@ -91,7 +91,7 @@ tx_fits t CheckpointBegin f e = absurd (false≢true e)
 tx_fits t (CheckpointEnd begin transactions dirty) f e = absurd (false≢true e)
 tx_fits t r f e = (omega (arith, f.some_tx, eqb-true (tx_of r) t e), omega (arith, f.tx, eqb-true (tx_of r) t e))
 
--- so has each transaction of which the log has a record
+-- each transaction of which the log has a record has a number with an encoding
 transaction_fits : (t : ℕ) (log : History) → EachRecord Fits log → has (is_of t) log ≡ true → FitsTx t
 transaction_fits t (start _) p h = absurd (false≢true h)
 transaction_fits t (log ▸ r) p h =
