@@ -15,7 +15,7 @@ block_in (b ∷ blocks) number = if b.number == number then b.finishes else bloc
 abbrev pub finish_in : List Block → ℕ → Option Finish
 finish_in blocks t = slice_index_or (block_in blocks (t / 16)) (t % 16) None
 
--- where the block with this number stands
+-- the place of the block with this number
 abbrev pub place_of : List Block → ℕ → Option ℕ
 place_of [] number = None
 place_of (b ∷ blocks) number = if b.number == number then Some 0 else option_map suc (place_of blocks number)
@@ -33,7 +33,7 @@ abbrev pub AreDistinct : List Block → Type 0
 AreDistinct blocks = (place : ℕ) (d : Block) → place < length blocks
     → ((slice_index_or blocks place d).number ≢ NO_NUMBER) × (place_of blocks (slice_index_or blocks place d).number ≡ Some place)
 
--- an index tells where each block stands
+-- an index has the place of each block
 pub record IsIndexOf (blocks : List Block) (index : NumberTable) : Type 0 where
   pub places : (number : ℕ) → (number ≢ NO_NUMBER) → place_in index number ≡ place_of blocks number
   pub sound : IsSound index

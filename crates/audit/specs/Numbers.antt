@@ -22,7 +22,7 @@ abbrev pub value_at : Option Bucket → ℕ → ℕ
 value_at None number = NO_PLACE
 value_at (Some b) number = value_in b.keys b.values number NO_PLACE
 
--- the place that a value is
+-- the place that a value says
 abbrev pub place_told : ℕ → Option ℕ
 place_told value = if value == NO_PLACE then None else Some value
 

@@ -1,4 +1,5 @@
-//! The finished transactions: some two bytes each, where their numbers lie close together.
+//! The finished transactions: a few bytes each, where their numbers lie close together. No choice
+//! of their numbers makes a search long.
 
 ghost use Rattle.std.specs.Prelude.{◌≡◌, ◌≢◌, ◌==◌, ◌/◌, ◌%◌, ◌<◌, ◌++◌, ◌∷◌, [], ℕ, Some, None, OnOk, OnErr, IfOk, IsOkUnless, if◌then◌else◌, length, slice_set, slice_index_or, option_map, take};
 ghost use Rattle.page.specs.declared.fault.Fault.TheVariants.{NoResource};
@@ -26,7 +27,7 @@ pub struct Block {
     pub finishes: [Option<Finish>; BLOCK],
 }
 
-/// How each finished transaction has finished. They stand in blocks of 16 with neighbouring numbers:
+/// How each finished transaction has finished. They are in blocks of 16 with neighbouring numbers:
 /// engines count their transactions, so blocks are full. Contracts see the list of the blocks.
 #[derive(Drop)]
 pub struct FinishTable {
@@ -59,8 +60,8 @@ fn put(block: &mut Block, tx: u32, finish: Finish)
     block.finishes[tx as usize % BLOCK] = Some(finish);
 }
 
-/// A place as an index keeps it. The only error is `NoResource`, where there are as many places as
-/// an index can tell apart.
+/// A place as an index keeps it. The only error is `NoResource`, if there are too many blocks for
+/// an index.
 fn index_place(place: usize) -> Result<u32, Fault>
     ensures ok { IfOk result (λ p. (p ≡ place) × (p ≢ NO_PLACE)) }
     ensures err { IsOkUnless result NoResource }
@@ -84,7 +85,7 @@ fn index_of(alloc: Global, blocks: &[Block], count: usize) -> Result<NumberTable
     Ok(index)
 }
 
-/// Makes an index of the blocks larger where there are more than three blocks a bucket. The only error
+/// Makes an index of the blocks larger if there are three blocks a bucket or more. The only error
 /// is `NoResource`.
 fn make_room(blocks: &Vec<Block>, index: &mut NumberTable) -> Result<(), Fault>
     requires distinct { AreDistinct blocks.now.items }
@@ -100,8 +101,8 @@ fn make_room(blocks: &Vec<Block>, index: &mut NumberTable) -> Result<(), Fault>
     Ok(())
 }
 
-/// Appends a block in which nobody has finished. The only error is `NoResource`, and then the blocks
-/// are as they were.
+/// Appends a block in which nobody has finished. The only error is `NoResource`, and then the
+/// blocks are as they were.
 fn push_block(blocks: &mut Vec<Block>, number: u32) -> Result<(), Fault>
     ensures ok { OnOk result (blocks.new.items ≡ blocks.old.items ++ empty_block number ∷ []) }
     ensures unchanged { OnErr result (blocks.new.items ≡ blocks.old.items) }
@@ -114,8 +115,8 @@ fn push_block(blocks: &mut Vec<Block>, number: u32) -> Result<(), Fault>
     Ok(())
 }
 
-/// Appends a block in which nobody has finished, and indexes it. The only error is `NoResource`, and
-/// then the blocks are as they were.
+/// Appends a block in which nobody has finished, and indexes it. The only error is `NoResource`,
+/// and then the blocks are as they were.
 fn add_block(blocks: &mut Vec<Block>, index: &mut NumberTable, number: u32) -> Result<(), Fault>
     requires distinct { AreDistinct blocks.old.items }
     requires index { IsIndexOf blocks.old.items index.old }
@@ -148,8 +149,8 @@ impl FinishTable {
         }
     }
 
-    /// The place of the block with a number, None where there is none. The newest block is looked at
-    /// first.
+    /// The place of the block with a number, None where there is none. The newest block is looked
+    /// at first.
     #[inline(always)]
     fn find(&self, number: u32) -> Option<usize>
         requires { number ≢ NO_NUMBER }
@@ -176,7 +177,7 @@ impl FinishTable {
         }
     }
 
-    /// Adds a block with a number that none has, and answers its place. The only error is
+    /// Adds a block with a number that none has, and returns its place. The only error is
     /// `NoResource`.
     fn add(&mut self, number: u32) -> Result<usize, Fault>
         requires new { place_of self.old number ≡ None }

@@ -1,5 +1,5 @@
-//! Places by number: which place has a number that was given one. No choice of numbers makes a search
-//! long: what does not fit into a number's bucket is in a map that is kept in order.
+//! Places by number: which place has a number that was given one. No choice of numbers makes a
+//! search long: what does not fit into a number's bucket is in a map that is kept in order.
 
 ghost use Rattle.std.specs.Prelude.{◌≡◌, ◌≢◌, ◌==◌, ◌<◌, ◌≤◌, ℕ, List, true, false, Some, None, OnOk, OnErr, IfOk, IfSome, IfNone, IsOkUnless, if◌then◌else◌, length, slice_index_or};
 ghost use Rattle.std.specs.Ordering.{nat_cmp};
@@ -23,8 +23,8 @@ pub const NO_PLACE: u32 = u32::MAX;
 /// What a number is multiplied by, so that neighbours are far apart: 2^32 by the golden ratio.
 const FACTOR: u32 = 0x9E37_79B9;
 
-/// Eight numbers with their places. Keys are filled from the front, so a bucket is full where the last
-/// one is a number.
+/// Eight numbers with their places. Keys are filled from the front, so a bucket is full where the
+/// last one is a number.
 #[derive(Clone, Copy)]
 pub struct Bucket {
     pub keys: [u32; KEYS],
@@ -157,8 +157,8 @@ impl NumberTable {
         }
     }
 
-    /// The bucket of a number, and the first key there without a number; None where each key has one,
-    /// or there is no bucket.
+    /// The bucket of a number, and the first key there without a number; None where each key has
+    /// one, or there is no bucket.
     fn free_key(&self, number: u32) -> Option<(usize, usize)>
         ensures free { IfSome result (IsFree self.now number) }
         ensures full { IfNone result (is_full (bucket_of self.now number) ≡ true) }
@@ -174,8 +174,8 @@ impl NumberTable {
         Some((home, key))
     }
 
-    /// Gives a place to a number that has none. The only error is `NoResource`, and then no place has
-    /// changed.
+    /// Gives a place to a number that has none. The only error is `NoResource`, and then no place
+    /// has changed.
     pub fn insert(&mut self, number: u32, place: u32) -> Result<(), Fault>
         requires sound { IsSound self.old }
         requires new { place_in self.old number ≡ None }

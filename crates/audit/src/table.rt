@@ -105,7 +105,7 @@ fn listed_in(alloc: Global, transactions: &TransactionTable) -> Result<BTreeSet<
     Ok(listed)
 }
 
-/// Whether a transaction is listed where it is unfinished.
+/// Whether a transaction is listed, if it is unfinished.
 fn is_listed(standings: &Standings, listed: &BTreeSet<u32>, tx: u32) -> bool
     ensures { (log : History) (links : List ℕ)
         → IsStandingOf links tx log (standing_in standings.now tx)
@@ -118,7 +118,7 @@ fn is_listed(standings: &Standings, listed: &BTreeSet<u32>, tx: u32) -> bool
     }
 }
 
-/// Whether each unfinished transaction that stands at a place is listed.
+/// Whether each unfinished transaction that has a place is listed.
 fn placed_are_listed(standings: &Standings, listed: &BTreeSet<u32>) -> bool
     ensures { (log : History) (links : List ℕ)
         → ((t : ℕ) → IsStandingOf links t log (standing_in standings.now t))
@@ -135,7 +135,7 @@ fn placed_are_listed(standings: &Standings, listed: &BTreeSet<u32>) -> bool
     true
 }
 
-/// Whether each unfinished transaction that has no place is listed.
+/// Whether each unfinished transaction among the others is listed.
 fn others_are_listed(standings: &Standings, listed: &BTreeSet<u32>) -> bool
     ensures { (log : History) (links : List ℕ)
         → ((t : ℕ) → IsStandingOf links t log (standing_in standings.now t))

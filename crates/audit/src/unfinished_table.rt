@@ -1,5 +1,5 @@
-//! The transactions that have not finished. No choice of their numbers makes a search long: each is
-//! at the place of its number, where it is found at once, or in a map that is kept in order.
+//! The transactions that have not finished. No choice of their numbers makes a search long: each
+//! is at the place of its number, where it is found at once, or in a map that is kept in order.
 
 ghost use Rattle.std.specs.Prelude.{◌≡◌, ◌==◌, ◌%◌, ◌↔◌, ℕ, IsTrue, Some, None, OnOk, IfErr, IsOkUnless, if◌then◌else◌, is_some, slice_index_or, length, IsSome};
 ghost use Rattle.std.specs.Ordering.{nat_cmp};
@@ -19,10 +19,11 @@ pub const PLACES: usize = 256;
 /// What is known of each transaction that has a record and has not finished.
 #[derive(Drop)]
 pub struct UnfinishedTable {
-    /// One transaction a place, with its number, which is the place modulo 256; None where nobody is.
+    /// One transaction a place, with its number, which is the place modulo 256; None where nobody
+    /// is.
     pub places: [Option<(u32, Status)>; PLACES],
-    /// Those whose place another had. One that stands at its place by now may be here still: then
-    /// what is known of it is at its place.
+    /// Those whose place another had. One that has its place by now may be here too: then what is
+    /// known of it is at its place, and what is here is out of date.
     pub others: BTreeMap<u32, Status>,
 }
 

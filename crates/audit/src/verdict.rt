@@ -48,7 +48,8 @@ fn first_fault(alloc: Global, log: &Log, base: &[Page], store: &Store) -> Result
 /// Whether a log and a store are lawful over empty pages: what an ARIES system can leave behind
 /// that began with them. Ok exactly where they are, want of memory aside. Neither is changed. Time
 /// is near linear in both; memory is 8 bytes a record, 1 KiB a page, and for a transaction some 50
-/// bytes until it has finished and then, if finished ones have neighbouring numbers, 2 to 3.
+/// bytes until it has finished and then, if finished ones have neighbouring numbers, 4 to 7. No
+/// choice of transaction numbers makes it slow.
 ///
 /// Errors, of which the first is given. First the records in LSN order, at each (with its LSN):
 /// - NoSuchPage: it, or its dirty page table, names a page that the store does not have.
