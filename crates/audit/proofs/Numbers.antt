@@ -23,6 +23,13 @@ pub value_miss : (keys values : List ℕ) (i n other : ℕ) → i < length keys 
 value_miss keys values i n other lt lt' d =
     value_more keys values i n other lt lt' ∙ ap (λ b. value_in (drop (i + 1) keys) (drop (i + 1) values) n (cond b (get_or values i 0) other)) (ne_eqb (get_or keys i 0) n d)
 
+-- where no key is the number
+pub value_none : (keys values : List ℕ) (n other : ℕ) → ((k d : ℕ) → k < length keys → get_or keys k d ≢ n) → value_in keys values n other ≡ other
+value_none [] values n other none = refl
+value_none (k ∷ keys) [] n other none = refl
+value_none (k ∷ keys) (v ∷ values) n other none =
+    rw (ne_eqb k n (none 0 0 (omega arith))) (value_none keys values n other (λ i d lt. none (suc i) d (omega (arith, lt))))
+
 -- WHERE A KEY IS PUT
 -- what was found is not lost
 kept_value : (keys values : List ℕ) (n other : ℕ) → HavePlaces keys values → n ≢ 4294967295 → other ≢ 4294967295 → value_in keys values n other ≢ 4294967295

@@ -1,7 +1,7 @@
 //! A table from numbers to places. No choice of numbers makes a search long: a number that does not
 //! fit into its bucket is in a map that is kept in order.
 
-ghost use Rattle.std.specs.Prelude.{◌≡◌, ◌≢◌, ◌==◌, ◌<◌, ◌≤◌, ℕ, Some, None, true, OnOk, OnErr, IfOk, IfSome, IfNone, IsOkUnless, if◌then◌else◌, length, slice_index_or};
+ghost use Rattle.std.specs.Prelude.{◌≡◌, ◌≢◌, ◌==◌, ◌<◌, ◌≤◌, ℕ, List, true, false, Some, None, OnOk, OnErr, IfOk, IfSome, IfNone, IsOkUnless, if◌then◌else◌, length, slice_index_or};
 ghost use Rattle.std.specs.Ordering.{nat_cmp};
 ghost use Rattle.std.specs.BTreeMap.{get};
 ghost use Rattle.page.specs.declared.fault.Fault.TheVariants.{NoResource};
@@ -53,6 +53,19 @@ fn home(number: u32, count: usize) -> usize
     (number.wrapping_mul(FACTOR) as usize).wrapping_mul(count) >> 32
 }
 
+/// Whether a number is one of eight keys. All keys are looked at, without a branch.
+#[inline(always)]
+fn is_among(keys: &[u32; KEYS], number: u32) -> bool
+    ensures { result ≡ false → (values : List ℕ)
+        → value_in keys.now values number NO_PLACE ≡ NO_PLACE }
+{
+    let mut found = false;
+    for place in 0..KEYS {
+        found |= keys[place] == number;
+    }
+    found
+}
+
 /// The value of a number among eight keys, `NO_PLACE` if it is not one of them. All keys are looked
 /// at, without a branch.
 #[inline(always)]
@@ -68,15 +81,17 @@ fn value_in(keys: &[u32; KEYS], values: &[u32; KEYS], number: u32) -> u32
     found
 }
 
-/// How many of eight keys are numbers. All keys are looked at, without a branch, since a processor
-/// could not predict it.
-#[inline(always)]
-fn count_numbers(keys: &[u32; KEYS]) -> usize {
-    let mut count = 0;
+/// The first free key; `KEYS` if no key is free.
+fn first_free(keys: &[u32; KEYS]) -> usize
+    ensures free { result < KEYS → (d : ℕ) → slice_index_or keys.now result d ≡ NO_NUMBER }
+    ensures full { KEYS ≤ result → (d : ℕ) → slice_index_or keys.now 7 d ≢ NO_NUMBER }
+{
     for place in 0..KEYS {
-        count += (keys[place] != NO_NUMBER) as usize;
+        if keys[place] == NO_NUMBER {
+            return place;
+        }
     }
-    count
+    KEYS
 }
 
 /// Puts a number with its place at a key.
@@ -126,9 +141,12 @@ impl NumberTable {
         let home = home(number, self.buckets.len());
         if home < self.buckets.len() {
             let bucket = &self.buckets[home];
-            let found = value_in(&bucket.keys, &bucket.values, number);
-            if found != NO_PLACE {
-                return Some(found);
+            // Most numbers have no place yet: then the values are not read.
+            if is_among(&bucket.keys, number) {
+                let found = value_in(&bucket.keys, &bucket.values, number);
+                if found != NO_PLACE {
+                    return Some(found);
+                }
             }
             if bucket.keys[KEYS - 1] == NO_NUMBER {
                 return None;
@@ -140,9 +158,8 @@ impl NumberTable {
         }
     }
 
-    /// The bucket of a number, and a free key there: the first one if all keys before it are numbers.
-    /// `None` if no key is free, or if there is no bucket.
-    #[inline(always)]
+    /// The bucket of a number, and the first free key there. `None` if no key is free, or if there is
+    /// no bucket.
     fn free_key(&self, number: u32) -> Option<(usize, usize)>
         ensures free { IfSome result (IsFree self.now number) }
         ensures full { IfNone result (is_full (bucket_of self.now number) ≡ true) }
@@ -151,15 +168,11 @@ impl NumberTable {
         if home >= self.buckets.len() {
             return None;
         }
-        let keys = &self.buckets[home].keys;
-        let key = count_numbers(keys).min(KEYS - 1);
-        if keys[key] == NO_NUMBER {
-            return Some((home, key));
+        let key = first_free(&self.buckets[home].keys);
+        if key >= KEYS {
+            return None;
         }
-        if keys[KEYS - 1] == NO_NUMBER {
-            return Some((home, KEYS - 1));
-        }
-        None
+        Some((home, key))
     }
 
     /// Gives a place to a number that has none. The only error is `NoResource`; then no place has
