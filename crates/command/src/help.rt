@@ -2,13 +2,13 @@
 
 /// The option `--verbose`.
 pub(crate) const VERBOSE: &str =
-    "Say on standard error why a run was refused, else how long each part took";
+    "Print on standard error why a run failed, or how long each part took";
 
 /// The program.
 pub(crate) const ARIES: &str = "Statuses:\n  \
-    0  done, or help or the version was asked for\n  \
-    1  refused: `fault N: text` on standard error; without it a print failed, maybe that of the line\n  \
-    2  a wrong command line\n\
+    0  success, or help or the version was asked for\n  \
+    1  failure: `fault N: text` on standard error; without that line, printing failed\n  \
+    2  wrong command line\n\
     \n\
     More: aries recover --help, aries(1), aries-formats(5)";
 
@@ -19,17 +19,17 @@ pub(crate) const RECOVER_USAGE: &str =
     aries recover [OPTIONS] --in-place --log <FILE> --store <FILE> --replace";
 
 /// The option `--out-log`.
-pub(crate) const OUT_LOG: &str = "Where the new log is made; no file may stand there";
+pub(crate) const OUT_LOG: &str = "The new log; the file must not exist";
 
 /// The option `--out-store`.
-pub(crate) const OUT_STORE: &str = "Where the recovered store is made; no file may stand there";
+pub(crate) const OUT_STORE: &str = "The recovered store; the file must not exist";
 
 /// The option `--in-place`.
-pub(crate) const IN_PLACE: &str = "Continue the log file where it lies; then no new log is made";
+pub(crate) const IN_PLACE: &str = "Continue the log file in place, instead of making a new log";
 
 /// The option `--replace`.
 pub(crate) const REPLACE: &str =
-    "Put the recovered store in the place of the old one; only with --in-place";
+    "Put the recovered store in place of the old one; only with --in-place";
 
 /// A line of `recover` that does not say where the new log goes.
 pub(crate) const NO_LOG: &str = "'--out-log <FILE>' is needed, or '--in-place'";
@@ -57,37 +57,37 @@ pub(crate) const RECOVER: &str = "Examples:\n  \
     \n\
     It prints eight lines:\n  \
     records      whole records of the log\n  \
-    torn         bytes of a torn record at the log's end, which is dropped\n  \
-    redo-from    the LSN from which redo looked at records, 0 for none\n  \
+    torn         bytes of an incomplete record at the log's end, which are dropped\n  \
+    redo-from    the LSN at which redo began, 0 if it had no record to consider\n  \
     redone       records that redo applied\n  \
     losers       transactions that were rolled back\n  \
     compensated  compensation records appended\n  \
     ended        end records appended\n  \
     pages        pages of the store\n\
-    and then, where transactions are prepared and undecided, `in-doubt` with their count, and\n\
-    `transaction` with the number of each.\n\
+    If transactions are in doubt (prepared, neither committed nor aborted), it also prints\n\
+    `in-doubt` with their count, and `transaction` with the number of each.\n\
     \n\
     Statuses:\n  \
-    0  all is written and synced; put new files in place of the old ones, the log first\n  \
-    1  refused: `fault N: text` on standard error; without it a print failed, maybe that of the line\n  \
-    2  a wrong command line\n\
+    0  everything is written and synced; put the new files in place of the old ones, the log first\n  \
+    1  failure: `fault N: text` on standard error; without that line, printing failed\n  \
+    2  wrong command line\n\
     \n\
-    Without --in-place the old files are never changed. Put new ones in place after status 0 alone, or\n\
-    after an audit of them. A refused run may leave some, empty, in part or whole: remove them, and run\n\
-    it again. Fault 4 or 5 at once mostly says that such a file stands there still. After fault 1 they\n\
-    are empty, or whole if memory for the report was refused.\n\
+    Without --in-place the old files are never changed. Put the new ones in place only after status 0,\n\
+    or after an audit of them. A run that failed may leave new files: empty, in part or whole. Remove\n\
+    them, and run it again. Fault 4 or 5 at once usually means that such a file exists. After fault 1\n\
+    the new files are empty, or whole if memory for the report was refused.\n\
     \n\
-    With --in-place the log file is continued where its last whole record ends. With --replace the\n\
-    recovered store then takes the place of the old one. Run it again after a crash: it finishes what\n\
-    was begun.";
+    With --in-place the log file is continued after its last whole record. With --replace the\n\
+    recovered store then takes the place of the old one. If the run is interrupted, run it again: it\n\
+    finishes what was begun.";
 
 /// The command `audit`.
 pub(crate) const AUDIT: &str = "Example:\n  \
     aries audit --log log --store store\n\
     \n\
-    It prints `lawful` where an ARIES system can have left the files.\n\
+    It prints `lawful` if the log and the store keep the rules of docs/DEFINITIONS.md.\n\
     \n\
     Statuses:\n  \
     0  lawful\n  \
-    1  unlawful or unread: `fault N: text` on standard error; without it a print failed\n  \
-    2  a wrong command line";
+    1  not lawful, or not read: `fault N: text` on standard error; without that line, printing failed\n  \
+    2  wrong command line";

@@ -113,10 +113,10 @@ fn recover_command<'a>(alloc: Global) -> Result<Command<'a>, AllocError>
     ensures { IfOk result (λ c. shape_of c ≡ recover_line) }
 {
     Command::new(alloc, "recover")
-        .about("Restart after a crash: write log and store, and list transactions in doubt")
+        .about("Recover a store and its log after a crash")
         .override_usage(help::RECOVER_USAGE)
         .after_help(help::RECOVER)
-        .arg(file_option(alloc, "log", "The log to restart by"))?
+        .arg(file_option(alloc, "log", "The log"))?
         .arg(file_option(alloc, "store", "The store to recover"))?
         .arg(free_file_option(alloc, "out-log", help::OUT_LOG))?
         .arg(free_file_option(alloc, "out-store", help::OUT_STORE))?
@@ -134,7 +134,7 @@ fn recover_command<'a>(alloc: Global) -> Result<Command<'a>, AllocError>
             "parts",
             PAGES as u32,
             Some("16"),
-            "Into how many parts the pages are dealt, 1 to 4096",
+            "Into how many parts the pages are divided, 1 to 4096",
         ))?
         .arg(flag_option(alloc, "verbose", help::VERBOSE))
 }
@@ -144,14 +144,16 @@ fn audit_command<'a>(alloc: Global) -> Result<Command<'a>, AllocError>
     ensures { IfOk result (λ c. shape_of c ≡ audit_line) }
 {
     Command::new(alloc, "audit")
-        .about("Say whether a log and its store are lawful, or the first law that is broken")
+        .about(
+            "Check whether a log and a store keep the rules; if not, print the first that is broken",
+        )
         .after_help(help::AUDIT)
-        .arg(file_option(alloc, "log", "The log to look at"))?
-        .arg(file_option(alloc, "store", "The store to look at"))?
+        .arg(file_option(alloc, "log", "The log"))?
+        .arg(file_option(alloc, "store", "The store"))?
         .arg(free_file_option(
             alloc,
             "base",
-            "The store as the log found it; without it all pages were empty (fault 23 or 26 mostly, where the log has a base LSN)",
+            "The base store: what the pages held before the log's first record (without it, nothing)",
         ))?
         .arg(flag_option(alloc, "verbose", help::VERBOSE))
 }

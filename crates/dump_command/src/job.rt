@@ -14,7 +14,7 @@ use std::alloc::{AllocError, Global};
 use words::{Refusal, flag_of, flag_option, no_command};
 
 /// The text of `--help` for the flag that asks for JSON.
-const JSON: &str = "An object of JSON a line";
+const JSON: &str = "Print each line as a JSON object";
 
 /// What a command line of `aries_dump` asks for. A number that is `None` was not given.
 #[derive(Debug, Drop)]
@@ -74,22 +74,17 @@ fn log_command<'a>(alloc: Global) -> Result<Command<'a>, AllocError>
     ensures { IfOk result (λ c. shape_of c ≡ log_line) }
 {
     Command::new(alloc, "log")
-        .about("Say what a log holds, up to its end or to where it is damaged")
+        .about("Print what a log holds, up to its end or to the first damage")
         .arg(path(alloc, "The log"))?
-        .arg(lsn_option(alloc, "from", "No records with smaller LSNs"))?
-        .arg(lsn_option(alloc, "to", "No records with larger LSNs"))?
+        .arg(lsn_option(alloc, "from", "Only records with this LSN or a higher one"))?
+        .arg(lsn_option(alloc, "to", "Only records with this LSN or a lower one"))?
         .arg(number_option(
             alloc,
             "transaction",
             "N",
-            "The records of this transaction alone",
+            "Only the records of this transaction",
         ))?
-        .arg(number_option(
-            alloc,
-            "page",
-            "P",
-            "The updates and CLRs of this page alone",
-        ))?
+        .arg(number_option(alloc, "page", "P", "Only the updates and CLRs on this page"))?
         .arg(flag_option(alloc, "json", JSON))
 }
 
@@ -98,9 +93,9 @@ fn store_command<'a>(alloc: Global) -> Result<Command<'a>, AllocError>
     ensures { IfOk result (λ c. shape_of c ≡ store_line) }
 {
     Command::new(alloc, "store")
-        .about("Say what a store holds")
+        .about("Print what a store holds")
         .arg(path(alloc, "The store"))?
-        .arg(number_option(alloc, "page", "P", "This page alone"))?
+        .arg(number_option(alloc, "page", "P", "Only this page"))?
         .arg(flag_option(alloc, "json", JSON))
 }
 
@@ -110,7 +105,7 @@ fn dump_command<'a>(alloc: Global) -> Result<Command<'a>, AllocError>
 {
     Command::new(alloc, "aries_dump")
         .version("0.1.0")
-        .about("What a log or a store holds, a record or a page a line")
+        .about("Print what a log or a store holds, a line for each record or page")
         .subcommand_required(true)
         .subcommand(log_command(alloc)?)?
         .subcommand(store_command(alloc)?)
