@@ -148,8 +148,8 @@ fn audit_command<'a>(alloc: Global) -> Result<Command<'a>, AllocError>
             "Check whether a log and a store keep the rules; if not, print the first that is broken",
         )
         .after_help(help::AUDIT)
-        .arg(file_option(alloc, "log", "The log"))?
-        .arg(file_option(alloc, "store", "The store"))?
+        .arg(file_option(alloc, "log", "The log to check"))?
+        .arg(file_option(alloc, "store", "The store to check"))?
         .arg(free_file_option(
             alloc,
             "base",
