@@ -188,7 +188,7 @@ WAYS = [
     ('recover in memory, 100 MB with a checkpoint, 4 workers', 355, 'aries_cli/main.rt:main',
      ['nothing fails', 'a recovery', 'new files', 'in memory', 'several workers', 'a long log']),
     ('aries_recover (C)', 165, 'aries_c/recovered.rt:aries_recover', FEW + ['no threads']),
-    ('audit, with a checkpoint', 220, 'aries_cli/main.rt:main', ['nothing fails', 'an audit']),
+    ('audit, with a checkpoint', 232, 'aries_cli/main.rt:main', ['nothing fails', 'an audit']),
     ('aries_dump log', 145, 'aries_dump/main.rt:main', ['nothing fails', 'a log']),
 ]
 
