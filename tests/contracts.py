@@ -24,8 +24,8 @@ HEAD = """# Contracts, definitions and lemmas
   label, usually that the result is exactly a given value);
 - the definitions that clauses use, file by file: the first line of each file of `specs/`;
 - the files of lemmas, with the first line of each file of `proofs/`;
-- for each public theorem (a function of `laws.rt`, which is proved and does nothing), the files of lemmas that its proof
-  cites directly.
+- for each public theorem (a function of `laws.rt`, which is proved and does nothing), the files of lemmas that its
+  proof cites directly.
 """
 
 
