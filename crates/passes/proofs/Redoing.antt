@@ -27,7 +27,7 @@ use Rattle.redo.proofs.LastRecords.{in_slot}
 use Rattle.redo.proofs.Stretches.{skipped_some}
 use Rattle.redo.proofs.Replay.{skips_none}
 use Rattle.redo.proofs.Passing.{exist_gone, missing_gone}
-use Rattle.passes.specs.declared.fault.PassFault.{PieceFault}
+use Rattle.passes.specs.declared.fault.PassFault.{PassFault}
 use Rattle.passes.specs.Marks.{IsResource, AreMarks, AreInReach, Reaches}
 use Rattle.passes.specs.Next.{IsBefore}
 use Rattle.passes.specs.Redoing.{RedoCause, AreTalliedUpTo}
@@ -114,7 +114,7 @@ pub exist_all : (whole : LogContent) (count redo_lsn : ℕ) → ExistBelow whole
 exist_all whole count redo_lsn below lsn r looked found = below lsn r looked (omega (arith, record_within (history whole) lsn r found)) found
 
 -- THE ERRORS
-pub resource_cause : (whole : LogContent) (count redo_lsn : ℕ) (e : PieceFault) → IsResource e → RedoCause whole count redo_lsn e
+pub resource_cause : (whole : LogContent) (count redo_lsn : ℕ) (e : PassFault) → IsResource e → RedoCause whole count redo_lsn e
 resource_cause whole count redo_lsn e (inl failed) = subst (RedoCause whole count redo_lsn) (sym failed) tt
 resource_cause whole count redo_lsn e (inr refused) = subst (RedoCause whole count redo_lsn) (sym refused) tt
 
