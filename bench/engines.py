@@ -8,7 +8,7 @@ It takes what Debian calls db5.3-util, libdb5.3-dev and postgresql-15, a compile
 
 Berkeley DB: one process, a B-tree, sixteen transactions at a time, the cache not written after the first checkpoint (bench/bdb.c). The
 time is that of `db_recover`, from its start to its end.
-PostgreSQL: one session, a table with a primary key, a commit after each eight updates, no checkpoint after the first one. The times are
+PostgreSQL: one connection, a table with a primary key, a commit after each eight updates, no checkpoint after the first one. The times are
 that of redo, as the server logs it, and from the start of the server until it accepts work.
 """
 import os

@@ -83,6 +83,8 @@ def sources():
     yield from (("man", name, paragraphs_of_man(text_of(name))) for name in sorted(glob.glob("man/*", root_dir=TOP)))
     yield "header", "include/aries.h", paragraphs_of_comments(r"\s*(?:/\*|\*)(.*?)(?:\*/)?$", text_of("include/aries.h"))
     for name in sorted(glob.glob("crates/*/src/**/*.rt", root_dir=TOP, recursive=True)):
+        if name.startswith("crates/workloads/"):
+            continue  # the benchmark keeps the text with which it was measured
         yield "comments", name, paragraphs_of_comments(r"\s*//[/!]?(.*)$", text_of(name))
     for name in sorted(glob.glob("crates/*/specs/**/*.antt", root_dir=TOP, recursive=True)):
         yield "comments", name, paragraphs_of_comments(r"\s*--(.*)$", text_of(name))

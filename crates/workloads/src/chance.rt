@@ -1,7 +1,6 @@
-//! Random numbers, the same for the same seed.
+//! Numbers by chance, the same for the same seed.
 
-/// The generator SplitMix64 (Steele, Lea, Flood, *Fast splittable pseudorandom number generators*,
-/// 2014).
+/// The generator SplitMix64 (Steele, Lea, Flood, *Fast splittable pseudorandom number generators*, 2014).
 #[derive(Clone, Copy)]
 pub struct Chance {
     state: u64,
@@ -31,7 +30,7 @@ pub fn low_32(number: u64) -> u32 {
     (number & 0xffff_ffff) as u32
 }
 
-/// A random order of all numbers of 16 bits, each of which is at one place. A key gives an order.
+/// An order by chance of all numbers of 16 bits: each stands at one place. A key gives an order.
 pub fn in_order(place: u16, key: u64) -> u16 {
     let mixed = place.wrapping_add(low_16(key));
     let mixed = (mixed ^ (mixed >> 7)).wrapping_mul(0x6b4f);

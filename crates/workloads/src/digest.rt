@@ -3,7 +3,7 @@
 use device::{Failed, Sink};
 use std::io::{self, Write};
 
-/// How many bytes are mixed at a time.
+/// How many bytes are taken together.
 const BLOCK: usize = 4096;
 
 /// A digest of the bytes so far.
@@ -11,20 +11,20 @@ const BLOCK: usize = 4096;
 pub struct Digest {
     /// A sum of each fourth word.
     lanes: [u64; 4],
-    /// The bytes after the last whole block.
+    /// The bytes behind the last whole block.
     begun: [u8; BLOCK],
     filled: usize,
     length: u64,
 }
 
-/// A sum with one more word.
+/// A sum with a word more.
 fn mixed(sum: u64, word: u64) -> u64 {
     (sum ^ word)
         .wrapping_mul(0x9e37_79b9_7f4a_7c15)
         .rotate_left(29)
 }
 
-/// The sums with the words of one more block.
+/// The sums with the words of a block more.
 fn mixed_block(lanes: [u64; 4], block: &[u8; BLOCK]) -> [u64; 4] {
     let [mut a, mut b, mut c, mut d] = lanes;
     let (words, _) = block.as_slice().as_chunks::<8>();
@@ -48,7 +48,7 @@ impl Digest {
         }
     }
 
-    /// Appends the first of the bytes to a block that was begun, and returns the others.
+    /// Puts a beginning of the bytes behind those of a block that was begun, and gives the others.
     #[inline]
     fn fill<'a>(&mut self, bytes: &'a [u8]) -> &'a [u8] {
         match self.begun.as_mut_slice().split_at_mut_checked(self.filled) {

@@ -19,15 +19,15 @@ use std::alloc::Global;
 use std::thread::Threads;
 use wal::{Record, write_frame};
 
-/// The size of a job's input, and the number that it is made from.
+/// How large a job's input is, and the number that it is made from.
 #[derive(Clone, Copy)]
 pub struct Input {
-    /// In bytes, updates or records, depending on the job.
+    /// In bytes, updates or records, as the job has it.
     pub size: usize,
     pub seed: u64,
 }
 
-/// Takes the numbers of a report.
+/// Takes what a report says.
 fn take_report(digest: &mut Digest, report: &Report) {
     digest.take_number(report.records);
     digest.take_number(report.torn);
@@ -84,8 +84,8 @@ fn recover_alone_into(alloc: Global, pair: &Pair, digest: &mut Digest) -> Result
     Ok(())
 }
 
-/// Recovery of long logs, with empty pages and with a checkpoint at 90 percent, by one worker and
-/// by four. The size is that of a log in bytes.
+/// Recovery of long logs, with empty pages and with a checkpoint at 90 percent, by one worker and by four.
+/// The size is that of a log in bytes.
 pub fn of_recovery<R: Threads + Sync>(
     rt: &R,
     alloc: Global,
@@ -107,8 +107,8 @@ pub fn of_recovery<R: Threads + Sync>(
     Ok(())
 }
 
-/// Recovery that undoes nearly all updates, of one transaction and of 64. The size is the number of
-/// updates.
+/// Recovery where nearly all updates are to be undone, of one transaction and of 64. The size is the number
+/// of updates.
 pub fn of_rollback<R: Threads + Sync>(
     rt: &R,
     alloc: Global,
@@ -131,15 +131,15 @@ pub fn of_rollback<R: Threads + Sync>(
     Ok(())
 }
 
-/// Audits a pair, which must be lawful.
+/// Audits a pair, which has to be lawful.
 fn audit_into(alloc: Global, log: &[u8], store: &[u8], digest: &mut Digest) -> Result<()> {
     audit_texts(alloc, log, store)?;
     digest.take_number(log.len() as u64);
     Ok(())
 }
 
-/// Audits of a long log with a checkpoint and without, and of many short transactions, whose
-/// numbers are in order and scattered. The size is that of a log in bytes.
+/// Audits of a long log with a checkpoint and without, and of many short transactions, whose numbers are in
+/// order and scattered. The size is that of a log in bytes.
 pub fn of_audit(alloc: Global, input: Input, digest: &mut Digest) -> Result<()> {
     let mut chance = Chance::new(input.seed);
     let writer = Writer::new(alloc, chance.draw(), Values::Bytes)?;
@@ -164,7 +164,7 @@ pub fn of_audit(alloc: Global, input: Input, digest: &mut Digest) -> Result<()> 
     Ok(())
 }
 
-/// A random value.
+/// A value by chance.
 fn value_of(drawn: u64) -> Option<Value> {
     let mut bytes = [0; 16];
     let (front, back) = bytes.split_at_mut(8);
@@ -173,7 +173,7 @@ fn value_of(drawn: u64) -> Option<Value> {
     Value::new(&bytes[..8 + (drawn % 9) as usize])
 }
 
-/// A random record after another: sometimes a commit, otherwise an update.
+/// A record by chance, behind one: a commit now and then, else an update.
 fn record_of(drawn: u64, before: u64) -> Record {
     let (tx, prev) = (low_32(drawn >> 40) | 1, drawn >> 32);
     if drawn % 11 == 0 {
@@ -189,7 +189,7 @@ fn record_of(drawn: u64, before: u64) -> Record {
     }
 }
 
-/// Appends the frame of a record that has an encoding.
+/// Appends the frame of a record that has a spelling.
 fn put_frame(logged: &Record, lsn: u64, out: &mut Vec<u8>) -> Result<()> {
     if lsn == 0 || !logged.is_writable() {
         return Err(anyhow::Error::msg("a record has no spelling"));
@@ -198,9 +198,8 @@ fn put_frame(logged: &Record, lsn: u64, out: &mut Vec<u8>) -> Result<()> {
     Ok(())
 }
 
-/// Writes frames of a few thousand records, again and again at other LSNs: every other one into a
-/// buffer that is emptied at 64 KiB, and the others each into one of its own. The size is the
-/// number of frames.
+/// Writes frames of some thousand records, again and again at other LSNs: every other one into a buffer that
+/// is emptied at 64 KiB, and the others each into one of its own. The size is the number of frames.
 pub fn of_writing(alloc: Global, input: Input, digest: &mut Digest) -> Result<()> {
     let mut chance = Chance::new(input.seed);
     let mut records = Vec::new(alloc);
@@ -245,8 +244,7 @@ fn list_into(alloc: Global, log: &[u8], style: Style, digest: &mut Digest) -> Re
     ))
 }
 
-/// Lists logs as text and as JSON, with values of bytes and of letters. The size is that of a log
-/// in bytes.
+/// Lists logs as text and as JSON, with values of bytes and of letters. The size is that of a log in bytes.
 pub fn of_listing(alloc: Global, input: Input, digest: &mut Digest) -> Result<()> {
     let mut chance = Chance::new(input.seed);
     for values in [Values::Bytes, Values::Letters] {
@@ -262,8 +260,8 @@ pub fn of_listing(alloc: Global, input: Input, digest: &mut Digest) -> Result<()
     Ok(())
 }
 
-/// Recovery of many short logs, of 1 MB and of 100 KB, each with a full store. The size is the
-/// number of logs.
+/// Recovery of many short logs, of 1 MB and of 100 KB, each beside a full store. The size is the number of
+/// logs.
 pub fn of_small_ones<R: Threads + Sync>(
     rt: &R,
     alloc: Global,
@@ -291,7 +289,7 @@ pub fn of_small_ones<R: Threads + Sync>(
     Ok(())
 }
 
-/// Audits an input of each shape, which must be lawful. The size is that of a log in bytes.
+/// Audits an input of each shape, which has to be lawful. The size is that of a log in bytes.
 pub fn of_inputs(alloc: Global, input: Input, digest: &mut Digest) -> Result<()> {
     let mut chance = Chance::new(input.seed);
     of_audit(alloc, input, digest)?;

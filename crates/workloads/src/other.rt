@@ -1,5 +1,5 @@
-//! Other lawful logs and stores, made in place from lawful ones: all values are others, and all
-//! transactions have other numbers. Values have at least eight bytes; the first eight change.
+//! Other lawful logs and stores, made from such in place: all values are others, and all transactions
+//! have other numbers. Values have at least eight bytes, of which these change.
 
 use crate::chance::Chance;
 use crate::shapes::Pair;
@@ -9,13 +9,13 @@ use crate::shapes::Pair;
 pub struct Change {
     /// The first eight bytes of a value are taken exclusive-or with this.
     pub mask: u64,
-    /// The number of each transaction is multiplied by this, which is odd; then `step` is added.
+    /// The number of each transaction is multiplied by this, which is odd, and then rises by `step`.
     pub factor: u32,
     pub step: u32,
 }
 
 impl Change {
-    /// Other random values, and the next numbers.
+    /// Other values by chance, and the next numbers.
     pub fn by(chance: &mut Chance) -> Change {
         Change {
             mask: chance.draw(),
@@ -24,7 +24,7 @@ impl Change {
         }
     }
 
-    /// Other values, which stay letters if they are letters, and the next numbers.
+    /// Other values, which stay letters if they are such, and the next numbers.
     pub fn of_letters() -> Change {
         Change {
             mask: 0x0101_0101_0101_0101,
@@ -42,7 +42,7 @@ impl Change {
         }
     }
 
-    /// Numbers from the whole range of 32 bits, in another order: not for a log with a checkpoint.
+    /// Numbers all over those of 32 bits, in another order: not for a log with a checkpoint.
     pub fn scattered(chance: &mut Chance) -> Change {
         Change {
             mask: chance.draw(),
@@ -51,7 +51,7 @@ impl Change {
         }
     }
 
-    /// Changes the transaction whose number is at the front.
+    /// Gives the transaction whose number stands in front another one.
     #[inline]
     fn change_number(&self, bytes: &mut [u8]) {
         if let Some(number) = bytes.first_chunk_mut::<4>() {
@@ -62,7 +62,7 @@ impl Change {
         }
     }
 
-    /// Changes the bytes of the value at the front.
+    /// Changes the bytes of a value that stand in front.
     #[inline]
     fn change_value(&self, bytes: &mut [u8]) {
         if let Some(value) = bytes.first_chunk_mut::<8>() {
@@ -71,7 +71,7 @@ impl Change {
     }
 }
 
-/// Changes what follows these bytes.
+/// Changes what stands behind these bytes.
 #[inline]
 fn behind(bytes: &mut [u8], count: usize) -> &mut [u8] {
     match bytes.split_at_mut_checked(count) {
@@ -80,7 +80,7 @@ fn behind(bytes: &mut [u8], count: usize) -> &mut [u8] {
     }
 }
 
-/// Changes the image at the front, and returns how many bytes it takes.
+/// Changes the image in front, and gives how many bytes it takes.
 #[inline]
 fn change_image(bytes: &mut [u8], change: &Change) -> usize {
     let length = match bytes.first() {
@@ -142,7 +142,7 @@ fn change_log(log: &mut [u8], change: &Change) {
     }
 }
 
-/// Changes the image of a page. A value's length follows its offset in the directory.
+/// Changes the image of a page. A value's length stands behind its offset in the directory.
 fn change_page(page: &mut [u8], change: &Change) {
     let mut at = 80;
     for slot in 0..16 {

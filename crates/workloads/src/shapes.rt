@@ -17,7 +17,7 @@ pub struct Pair {
     pub store: Vec<u8>,
 }
 
-/// This many new transactions after those counted so far.
+/// So many new transactions behind those counted so far.
 fn begun(alloc: Global, counted: &mut u32, many: u32) -> Result<Vec<Running>> {
     let mut running = Vec::with_capacity(alloc, many as usize)?;
     for _ in 0..many {
@@ -48,8 +48,7 @@ impl Checkpoint {
     }
 }
 
-/// Pages are flushed in turn while the log grows from 80 to 90 percent of its length: those that
-/// are due.
+/// Pages are flushed in turn while the log grows from 80 to 90 percent of its length: those that are due.
 fn flush_due(writer: &mut Writer, size: usize, flushed: &mut usize) -> Result<()> {
     let tenth = (size / 10).max(1);
     let grown = writer.bytes.len().saturating_sub(tenth.saturating_mul(8));
@@ -84,9 +83,9 @@ fn go_on(
     }
 }
 
-/// Sixteen transactions at a time update eight cells each, in turn, and commit; the last sixteen
-/// are unfinished. A checkpoint is at 90 percent of the bytes. The pages are as they were flushed,
-/// one after another, while the log grew from 80 percent on.
+/// Sixteen transactions at a time update eight cells each, in turn, and commit; the last sixteen are
+/// unfinished. A checkpoint stands at 90 percent of the bytes, and the pages are as they were flushed, one
+/// after another, while the log grew from 80 percent on.
 pub fn rounds(alloc: Global, mut writer: Writer, size: usize) -> Result<Pair> {
     let mut checkpoint = Checkpoint::ToCome;
     let (mut counted, mut flushed) = (0, 0);
@@ -115,7 +114,7 @@ pub fn rounds(alloc: Global, mut writer: Writer, size: usize) -> Result<Pair> {
     })
 }
 
-/// This many transactions of one update and a commit, 64 at a time; the pages are empty.
+/// So many transactions of one update and a commit, 64 at a time; the pages are empty.
 pub fn short(alloc: Global, mut writer: Writer, count: usize) -> Result<Pair> {
     let mut counted = 0;
     for _ in 0..count / 64 {
@@ -135,8 +134,8 @@ pub fn short(alloc: Global, mut writer: Writer, count: usize) -> Result<Pair> {
     })
 }
 
-/// This many updates of a few transactions that do not end, each of which has its own cells; the
-/// pages are empty. `losers` divides the number of cells.
+/// So many updates of a few transactions that do not end, each of which has its own cells; the pages are
+/// empty. `losers` divides the number of cells.
 pub fn pending(alloc: Global, mut writer: Writer, count: usize, losers: u32) -> Result<Pair> {
     let mut counted = 0;
     let mut running = begun(alloc, &mut counted, losers)?;

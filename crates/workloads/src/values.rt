@@ -1,5 +1,5 @@
-//! Values as engines store them, each made from a random number. The functions that make them are
-//! not inlined, since each call would clear its locals.
+//! Values as engines store them, each made from a number by chance. What makes one is not inlined, since
+//! each call would clear its locals.
 
 use crate::chance::Chance;
 use page::{VALUE_BYTES, Value};
@@ -12,7 +12,7 @@ fn in_letters<const N: usize>(mut bytes: [u8; N]) -> [u8; N] {
     bytes
 }
 
-/// Random bytes.
+/// Bytes by chance.
 #[inline(never)]
 fn by_chance(drawn: u64) -> [u8; VALUE_BYTES] {
     let mut chance = Chance::new(drawn);

@@ -10,7 +10,7 @@ use wal::{Entry, Record, State, based_header, plain_header, write_frame};
 /// How many cells there are: slot c mod 16 of page c / 16 is cell c.
 pub const CELLS: usize = PAGES * SLOTS;
 
-/// The smallest base LSN of a log after an archived one.
+/// The smallest base LSN of a log behind an archived one.
 const BASE: u64 = 1 << 32;
 
 /// A transaction that is at work.
@@ -30,7 +30,7 @@ impl Running {
 /// What values look like.
 #[derive(Clone, Copy, PartialEq, Eq)]
 pub enum Values {
-    /// The LSN and up to eight random bytes.
+    /// The LSN and up to eight bytes by chance.
     Bytes,
     /// Eight to sixteen letters.
     Letters,
@@ -40,9 +40,9 @@ pub enum Values {
     Json,
     /// 48 bytes of words in UTF-8, in which one letter of six takes two bytes.
     Accents,
-    /// 16 random bytes.
+    /// 16 bytes by chance.
     Keys,
-    /// As many random bytes as a value can have.
+    /// As many bytes by chance as a value can have.
     Longest,
 }
 
@@ -57,7 +57,7 @@ pub struct Writer {
     cells: Vec<Option<Value>>,
     /// PageLSN of each page.
     page_lsns: Vec<u64>,
-    /// RecLSN of each page, 0 if it is clean.
+    /// RecLSN of each page, 0 where it is clean.
     rec_lsns: Vec<u64>,
     /// The pages as they were flushed.
     flushed: Vec<Page>,
@@ -97,7 +97,7 @@ impl Writer {
         })
     }
 
-    /// A log after one that was archived, with pages whose cells all have values.
+    /// A log behind one that was archived, beside pages all of whose cells have values.
     pub fn behind(alloc: Global, seed: u64) -> Result<Writer> {
         Writer::behind_with(alloc, seed, Values::Bytes)
     }
@@ -123,8 +123,8 @@ impl Writer {
         Ok(writer)
     }
 
-    /// A cell that differs from the last 65,535 if `anew` is false, otherwise from at least the
-    /// last 127. Each cell comes as often as any other, in a random order.
+    /// A cell that differs from the last 65,535 where `anew` is false, else from the last 127 at
+    /// least: each cell comes as often as any other, in an order by chance.
     pub fn draw_cell(&mut self, anew: bool) -> u16 {
         let place = low_16(self.turn);
         if place == 0 && anew {
@@ -134,7 +134,7 @@ impl Writer {
         in_order(place, self.order)
     }
 
-    /// Appends a record, and returns its LSN.
+    /// Appends a record, and gives its LSN.
     fn put(&mut self, logged: &Record) -> Result<u64> {
         let lsn = self.lsn.checked_add(1).context("no LSN is left")?;
         if !logged.is_writable() {
@@ -145,7 +145,8 @@ impl Writer {
         Ok(lsn)
     }
 
-    /// A value that no cell has had. There are 40,960 JSON values, so one of these can come again.
+    /// A value that no cell has had.
+    /// Of JSON there are 40,960 values, so one of these can come again.
     fn new_value(&mut self) -> Option<Value> {
         let drawn = self.chance.draw();
         match self.values {
@@ -207,8 +208,8 @@ impl Writer {
         Ok(())
     }
 
-    /// Begins a checkpoint, with these transactions at work in ascending order of number. Returns
-    /// its LSN, and the record that ends it.
+    /// Begins a checkpoint, with these transactions at work in rising order of number. Gives its LSN,
+    /// and the record that ends it.
     pub fn begin_checkpoint(&mut self, running: &[Running]) -> Result<(u64, Record)> {
         let begin = self.put(&Record::CheckpointBegin)?;
         let mut transactions = Vec::new(self.alloc);

@@ -1,6 +1,6 @@
-//! What the calls for C do: a record that numbers and buffers describe is written into a buffer,
-//! and a recovery is copied into buffers. The calls are in a static library, on which no crate can
-//! depend. So the functions below them are called here in the same order, with the same copies.
+//! What the calls for C do: a record that numbers and buffers name is written into a buffer, and a
+//! recovery is copied into buffers. They stand in a static library, on which no crate can depend; so
+//! the functions below them are called here in the same order, with the same copies.
 
 use super::{put_frame, take_report};
 use crate::chance::{Chance, low_32};
@@ -15,10 +15,10 @@ use wal::Record;
 /// How many bytes the buffer for frames has.
 const ROOM: usize = 1 << 16;
 
-/// The length that means no value.
+/// The length that names no value.
 const ABSENT: u8 = 255;
 
-/// A value as C gives it: its length, and its bytes at the front.
+/// A value as C names it: its length, and its bytes in front.
 #[derive(Clone, Copy)]
 struct Image {
     length: u8,
@@ -26,7 +26,7 @@ struct Image {
 }
 
 impl Image {
-    /// A value, for C.
+    /// The name of a value.
     fn of(value: Option<Value>) -> Image {
         let mut image = Image {
             length: ABSENT,
@@ -41,7 +41,7 @@ impl Image {
         image
     }
 
-    /// The value that C gives.
+    /// The value that is named.
     fn value(&self) -> Result<Option<Value>> {
         if self.length == ABSENT {
             return Ok(None);
@@ -51,7 +51,7 @@ impl Image {
     }
 }
 
-/// A random value: the first eight to sixteen bytes of a number that is written twice.
+/// A value by chance: the first eight to sixteen bytes of a number that stands there twice.
 fn twice(drawn: u64) -> Option<Value> {
     let mut bytes = [0; 16];
     let (front, back) = bytes.split_at_mut(8);
@@ -60,7 +60,7 @@ fn twice(drawn: u64) -> Option<Value> {
     Value::new(&bytes[..8 + (drawn % 9) as usize])
 }
 
-/// A record as C gives it.
+/// A record as C names it.
 #[derive(Clone, Copy)]
 struct Named {
     prev: u64,
@@ -74,7 +74,7 @@ struct Named {
 }
 
 impl Named {
-    /// A random record: sometimes a commit, otherwise an update.
+    /// A record by chance: a commit now and then, else an update.
     fn by(drawn: u64, before: u64) -> Named {
         Named {
             prev: drawn >> 32,
@@ -87,7 +87,7 @@ impl Named {
         }
     }
 
-    /// The record that C gives.
+    /// The record that is named.
     fn record(&self) -> Result<Record> {
         let (tx, prev) = (self.tx, self.prev);
         match self.kind {
@@ -114,7 +114,7 @@ fn copy_to(bytes: &[u8], buffer: &mut [u8]) -> Result<()> {
     Ok(())
 }
 
-/// Writes the frame of a record to the front of a buffer, and returns its length.
+/// Writes the frame of a record to the front of a buffer, and gives its length.
 fn write_named(alloc: Global, named: &Named, lsn: u64, buffer: &mut [u8]) -> Result<usize> {
     let logged = named.record()?;
     let mut frame = Vec::new(alloc);
@@ -123,7 +123,7 @@ fn write_named(alloc: Global, named: &Named, lsn: u64, buffer: &mut [u8]) -> Res
     Ok(frame.len())
 }
 
-/// A few thousand records.
+/// Some thousand records.
 fn named_records(alloc: Global, chance: &mut Chance) -> Result<Vec<Named>> {
     let mut records = Vec::new(alloc);
     let mut before = chance.draw();
@@ -135,8 +135,7 @@ fn named_records(alloc: Global, chance: &mut Chance) -> Result<Vec<Named>> {
     Ok(records)
 }
 
-/// Writes this many frames one after another into a buffer, and starts at its front again if little
-/// room is left.
+/// Writes so many frames one after another into a buffer, from its front again where little room is left.
 pub fn write_to_buffer(
     alloc: Global,
     count: usize,

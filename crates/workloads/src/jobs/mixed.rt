@@ -16,21 +16,20 @@ use std::alloc::Global;
 use std::thread::Threads;
 use wal::Record;
 
-/// How many transactions are unfinished, if many are.
+/// How many transactions are unfinished where many are.
 const LOSERS: u32 = 5_000;
 
-/// The fewest updates of these transactions, and the most: each has at least one, and no cell has
-/// two.
+/// The fewest updates of those and the most: each has one at least, and no cell has two.
 const FEWEST: usize = 5_000;
 
 const MOST: usize = 65_000;
 
-/// A frame of the least length whose body encodes no record.
+/// A frame of the least length whose body spells no record.
 const NO_RECORD: [u8; 13] = [0, 0, 0, 9, 0, 0, 0, 0, 0, 0, 0, 0, 0];
 
-/// Listings of values between plain and random; audits of recovered pairs, and of such pairs with a
-/// fault; recovery of many losers, of the longest values and with a torn tail; and what the calls
-/// for C do. The size is that of a log in bytes.
+/// Listings of values between plain and random; audits of recovered pairs, and of such with a fault;
+/// recovery of many losers, of the longest values and with a torn tail; and what the calls for C do. The
+/// size is that of a log in bytes.
 pub fn of_mixed<R: Threads + Sync>(
     rt: &R,
     alloc: Global,
@@ -78,8 +77,8 @@ fn recovered(alloc: Global, pair: &Pair) -> Result<(Pair, u64)> {
     Ok((Pair { log, store }, last))
 }
 
-/// Audits a pair whose log ends with a record that no law allows: it replaces a value that its cell
-/// does not have.
+/// Audits a pair whose log ends with a record that no law allows: it replaces a value that its cell does
+/// not have.
 fn audit_unlawful(alloc: Global, pair: &mut Pair, last: u64, digest: &mut Digest) -> Result<()> {
     let whole = pair.log.len();
     let logged = Record::Update {
@@ -96,7 +95,7 @@ fn audit_unlawful(alloc: Global, pair: &mut Pair, last: u64, digest: &mut Digest
     Ok(())
 }
 
-/// Audits and lists a log whose last frame encodes no record.
+/// Audits and lists a log whose last frame spells no record.
 fn audit_damaged(alloc: Global, pair: &mut Pair, digest: &mut Digest) -> Result<()> {
     let whole = pair.log.len();
     pair.log.extend_from_slice(&NO_RECORD)?;
@@ -106,8 +105,7 @@ fn audit_damaged(alloc: Global, pair: &mut Pair, digest: &mut Digest) -> Result<
     Ok(())
 }
 
-/// Audits what recovery made, whose pages are up to date with the last records; and the same with a
-/// fault at the end.
+/// Audits what recovery made, whose pages are as of the last records; and with a fault at the end.
 fn audit_recovered(
     alloc: Global,
     size: usize,
