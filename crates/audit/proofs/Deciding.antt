@@ -1,8 +1,8 @@
 -- The laws of a record, decided by what an audit keeps.
-use Rattle.std.proofs.Common.{◌≡◌, ◌<◌, ◌≤◌, ◌&&◌, not, ℕ, Bool, true, false, List, [], ◌∷◌, length, Option, Some, None, refl, sym, ap, subst, ◌∙◌, inl, inr, arith, ◌+◌}
-use Rattle.std.proofs.lemmas.Bool.{cases_eq, both_ways, and_parts, or_cases, or_left, or_right}
-use Rattle.wal.specs.Records.{UpdateRecord, CompensationRecord, LogRecord, Update, Compensation, History, start, ◌▸◌, history, last_lsn, record_at, LogContent, base_lsn}
-use Rattle.wal.specs.Meaning.{BasePages, is_of, has, pending, finished, touches, writes}
+use Rattle.std.proofs.Common.{◌≡◌, ◌<◌, ◌≤◌, not, ℕ, Bool, true, false, List, [], ◌∷◌, length, Option, Some, None, refl, sym, ap, subst, ◌∙◌, inl, inr, arith, ◌+◌}
+use Rattle.std.proofs.lemmas.Bool.{cases_eq, both_ways}
+use Rattle.wal.specs.Records.{UpdateRecord, CompensationRecord, LogRecord, Update, Compensation, History, history, last_lsn, record_at, LogContent, base_lsn}
+use Rattle.wal.specs.Meaning.{BasePages, pending, finished}
 use Rattle.wal.specs.Laws.{IsLawful, FinishLaw, Compensates, Strictness}
 use Rattle.wal.proofs.Histories.{record_none}
 use Rattle.wal.proofs.Holders.{held, strict_from_holder}

@@ -2,14 +2,14 @@
 use Rattle.std.proofs.Common.{◌≡◌, ◌≢◌, ◌<◌, ◌≤◌, ℕ, zero, suc, Bool, true, false, cond, eqb, List, [], ◌∷◌, ◌++◌, Option, Some, None, length, get_or, set, take, replicate, refl, sym, ap, ◌∙◌, subst, inl, inr, arith, eq-eqb, ne_eqb, length-append}
 use Rattle.std.specs.Prelude.{option_map, ◌/◌, ◌%◌}
 use Rattle.std.proofs.lemmas.Bool.{cases_Bool, cases_eq, cases_lt}
-use Rattle.std.proofs.lemmas.List.{length-set, get_or-set_other, get_or_append_left, get_or_push}
+use Rattle.std.proofs.lemmas.List.{length-set, length-take, get_or-take, get_or-set_other, get_or_append_left, get_or_push}
 use Rattle.std.proofs.lemmas.Grind.{get_or-set_at}
 use Rattle.std.proofs.lemmas.Option.{same_Some}
 use Rattle.wal.specs.Checkpoint.{or_else}
 use Rattle.audit.specs.declared.standing.Finish.{Finish}
 use Rattle.audit.specs.declared.finish_table.Block.{Block}
-use Rattle.audit.specs.declared.number_table.NumberTable.{NumberTable}
-use Rattle.audit.specs.Numbers.{place_in, IsSound}
+use Rattle.audit.specs.declared.block_index.BlockIndex.{BlockIndex}
+use Rattle.audit.specs.BlockIndex.{IsKept}
 use Rattle.audit.specs.Finished.{block_in, finish_in, place_of, empty_block, with_finish, AreDistinct, IsIndexOf}
 
 -- WHERE A BLOCK STANDS
@@ -62,6 +62,24 @@ none_before (b ∷ blocks) n p (suc i) e le =
           rw (ne_eqb b.number n ne) (ap (option_map suc) (none_before blocks n l.0 i l.1 (omega (arith, le, next)))))
     ]
 
+-- the place of a number is that among the blocks up to it
+place_take : (blocks : List Block) (n p i : ℕ) → place_of blocks n ≡ Some p → p < i → place_of (take i blocks) n ≡ Some p
+place_take blocks n p zero e lt = absurd (omega (arith, lt))
+place_take [] n p (suc i) e lt = e
+place_take (b ∷ blocks) n p (suc i) e lt =
+    elim (cases_eq b.number n) [
+      | inl own ↦ rw (eq-eqb b.number n own) (rw (eq-eqb b.number n own) at e)
+      | inr ne ↦
+          (let l = later (place_of blocks n) p (rw (ne_eqb b.number n ne) at e) in
+          let next : suc l.0 ≡ p = l.2 in
+          rw (ne_eqb b.number n ne) (ap (option_map suc) (place_take blocks n l.0 i l.1 (omega (arith, lt, next))) ∙ ap Some next))
+    ]
+
+pub distinct_take : (blocks : List Block) (i : ℕ) → AreDistinct blocks → AreDistinct (take i blocks)
+distinct_take blocks i distinct p d lt =
+    let below : (p < i) × (p < length blocks) = (omega (arith, lt, length-take i blocks), omega (arith, lt, length-take i blocks)) in
+    rw (get_or-take i blocks p d below.0) (place_take blocks (get_or blocks p d).number p i (distinct p d below.1) below.0)
+
 -- ONE BLOCK MORE
 pub place_push : (blocks : List Block) (b : Block) (n : ℕ) → place_of (blocks ++ b ∷ []) n ≡ or_else (place_of blocks n) (cond (eqb b.number n) (Some (length blocks)) None)
 place_push [] b n = refl
@@ -92,37 +110,40 @@ pub place_new : (blocks : List Block) (m : ℕ) → place_of blocks m ≡ None �
 place_new blocks m none =
     place_push blocks (empty_block m) m ∙ (ap (λ o. or_else o (cond (eqb m m) (Some (length blocks)) None)) none ∙ ap (λ t. cond t (Some (length blocks)) None) (eq-eqb m m refl))
 
-pub distinct_push : (blocks : List Block) (m : ℕ) → AreDistinct blocks → place_of blocks m ≡ None → m ≢ 4294967295 → AreDistinct (blocks ++ empty_block m ∷ [])
-distinct_push blocks m distinct none number p d lt =
+pub distinct_push : (blocks : List Block) (m : ℕ) → AreDistinct blocks → place_of blocks m ≡ None → AreDistinct (blocks ++ empty_block m ∷ [])
+distinct_push blocks m distinct none p d lt =
     elim (cases_lt p (length blocks)) [
       | inl below ↦
-          (let at = distinct p d below in
           rw (get_or_append_left blocks (empty_block m ∷ []) d p below)
-          (at.0, place_push blocks (empty_block m) (get_or blocks p d).number ∙ ap (λ o. or_else o (cond (eqb m (get_or blocks p d).number) (Some (length blocks)) None)) at.1))
+          (place_push blocks (empty_block m) (get_or blocks p d).number ∙ ap (λ o. or_else o (cond (eqb m (get_or blocks p d).number) (Some (length blocks)) None)) (distinct p d below))
       | inr behind ↦
           (let last : p ≡ length blocks = omega (arith, lt, behind, length-append blocks (empty_block m ∷ [])) in
-          rw (get_or_push blocks (empty_block m) d p (sym last)) (number, place_new blocks m none ∙ ap Some (sym last)))
+          rw (get_or_push blocks (empty_block m) d p (sym last)) (place_new blocks m none ∙ ap Some (sym last)))
     ]
 
-pub index_push : (blocks : List Block) (b : Block) (old new : NumberTable) → IsIndexOf blocks old → place_of blocks b.number ≡ None → IsSound new
-    → ((n : ℕ) → n ≢ 4294967295 → place_in new n ≡ cond (eqb b.number n) (Some (length blocks)) (place_in old n)) → IsIndexOf (blocks ++ b ∷ []) new
-index_push blocks b old new index none sound put = record {
-  places = λ n ne. put n ne ∙ (ap (cond (eqb b.number n) (Some (length blocks))) (index.places n ne) ∙ (by_test n ∙ sym (place_push blocks b n)));
-  sound = sound;
-}
-  where
-    last_or : (o : Option ℕ) → o ≡ or_else o None
-    last_or None = refl
-    last_or (Some x) = refl
+-- an index that keeps all places but that of a new number
+module _ (blocks : List Block) (number : ℕ) (old new : BlockIndex) (distinct : AreDistinct blocks) (index : IsIndexOf blocks old) (none : place_of blocks number ≡ None)
+    (sized : length new.places.items ≡ length new.tags.items) (keeps : (n p : ℕ) → n ≢ number → IsKept old n p → IsKept new n p) where
+  kept_before : (p : ℕ) (d : Block) → p < length blocks → IsKept new (get_or blocks p d).number p
+  kept_before p d lt =
+      keeps (get_or blocks p d).number p
+      (λ e. absurd (let clash : Some p ≡ None = sym (distinct p d lt) ∙ (ap (place_of blocks) e ∙ none) in cc))
+      (index.kept p d lt)
 
-    by_test : (n : ℕ) → cond (eqb b.number n) (Some (length blocks)) (place_of blocks n) ≡ or_else (place_of blocks n) (cond (eqb b.number n) (Some (length blocks)) None)
-    by_test n =
-        elim (cases_eq b.number n) [
-          | inl e ↦
-              (let gone : place_of blocks n ≡ None = ap (place_of blocks) (sym e) ∙ none in
-              rw (eq-eqb b.number n e) (ap (λ o. or_else o (Some (length blocks))) (sym gone)))
-          | inr d ↦ rw (ne_eqb b.number n d) (last_or (place_of blocks n))
-        ]
+  pub index_kept : IsIndexOf blocks new
+  index_kept = record { kept = kept_before; sized = sized }
+
+  pub index_push : (b : Block) → b.number ≡ number → IsKept new number (length blocks) → IsIndexOf (blocks ++ b ∷ []) new
+  index_push b own put = record {
+    kept = λ p d lt.
+        elim (cases_lt p (length blocks)) [
+          | inl below ↦ rw (get_or_append_left blocks (b ∷ []) d p below) (kept_before p d below)
+          | inr behind ↦
+              (let last : p ≡ length blocks = omega (arith, lt, behind, length-append blocks (b ∷ [])) in
+              rw (get_or_push blocks b d p (sym last), own, last) put)
+        ];
+    sized = sized;
+  }
 
 -- ONE BLOCK CHANGED
 module _ (blocks : List Block) (p : ℕ) (b : Block) where
@@ -144,19 +165,28 @@ module _ (blocks : List Block) (p : ℕ) (b : Block) where
 
   pub distinct_set : (e : Block) → b.number ≡ (get_or blocks p e).number → p < length blocks → AreDistinct blocks → AreDistinct (set blocks p b)
   distinct_set e same within distinct q d lt =
-      let Q : Block → Type 0 = λ x. (x.number ≢ 4294967295) × (place_of (set blocks p b) x.number ≡ Some q) in
+      let Q : Block → Type 0 = λ x. place_of (set blocks p b) x.number ≡ Some q in
       elim (cases_eq q p) [
         | inl here ↦
-            (let at = distinct p e within in
             subst Q (sym (get_or-set_at blocks p q b d here within))
-            (λ z. at.0 (sym same ∙ z), place_set e b.number same ∙ (ap (place_of blocks) same ∙ (at.1 ∙ ap Some (sym here)))))
+            (place_set e b.number same ∙ (ap (place_of blocks) same ∙ (distinct p e within ∙ ap Some (sym here))))
         | inr ne ↦
-            (let at = distinct q d (omega (arith, lt, length-set blocks p b)) in
-            subst Q (sym (get_or-set_other blocks p q b d ne)) (at.0, place_set e (get_or blocks q d).number same ∙ at.1))
+            subst Q (sym (get_or-set_other blocks p q b d ne))
+            (place_set e (get_or blocks q d).number same ∙ distinct q d (omega (arith, lt, length-set blocks p b)))
       ]
 
-  pub index_set : (d : Block) (index : NumberTable) → b.number ≡ (get_or blocks p d).number → IsIndexOf blocks index → IsIndexOf (set blocks p b) index
-  index_set d index same is = record { places = λ n ne. is.places n ne ∙ sym (place_set d n same); sound = is.sound }
+  pub index_set : (e : Block) (index : BlockIndex) → b.number ≡ (get_or blocks p e).number → p < length blocks → IsIndexOf blocks index → IsIndexOf (set blocks p b) index
+  index_set e index same within is = record {
+    kept = λ q d lt.
+        let Q : Block → Type 0 = λ x. IsKept index x.number q in
+        elim (cases_eq q p) [
+          | inl here ↦
+              subst Q (sym (get_or-set_at blocks p q b d here within))
+              (subst (λ n. IsKept index n q) (sym same) (subst (λ i. IsKept index (get_or blocks p e).number i) (sym here) (is.kept p e within)))
+          | inr ne ↦ subst Q (sym (get_or-set_other blocks p q b d ne)) (is.kept q d (omega (arith, lt, length-set blocks p b)))
+        ];
+    sized = is.sized;
+  }
 
 -- how one more transaction has finished is noted in its block
 noted_here : (finishes : List (Option Finish)) (tx t : ℕ) (finish : Finish) → length finishes ≡ 16 → tx / 16 ≡ t / 16

@@ -12,5 +12,5 @@ pub mod Missing
 pub mod Kept
 pub mod OneFault
 pub mod Over
-pub mod Numbers
+pub mod BlockIndex
 pub mod Finished

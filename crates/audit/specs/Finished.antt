@@ -1,10 +1,9 @@
 -- How the finished transactions have finished, by blocks of 16 neighbours (own).
-use Rattle.std.specs.Prelude.{◌≡◌, ◌≢◌, ◌<◌, ℕ, suc, List, [], ◌∷◌, Option, Some, None, ◌==◌, ◌/◌, ◌%◌, if◌then◌else◌, length, option_map, replicate, slice_set, slice_index_or}
+use Rattle.std.specs.Prelude.{◌≡◌, ◌<◌, ℕ, suc, List, [], ◌∷◌, Option, Some, None, ◌==◌, ◌/◌, ◌%◌, if◌then◌else◌, length, option_map, replicate, slice_set, slice_index_or}
 use Rattle.audit.specs.declared.standing.Finish.{Finish}
 use Rattle.audit.specs.declared.finish_table.Block.{Block}
-use Rattle.audit.specs.declared.number_table.NumberTable.{NumberTable}
-use Rattle.audit.specs.declared.number_table.TheConstants.{NO_NUMBER}
-use Rattle.audit.specs.Numbers.{place_in, IsSound}
+use Rattle.audit.specs.declared.block_index.BlockIndex.{BlockIndex}
+use Rattle.audit.specs.BlockIndex.{IsKept}
 
 -- how the 16 transactions of the block with this number have finished; none has if there is no such block
 abbrev pub block_in : List Block → ℕ → List (Option Finish)
@@ -28,12 +27,11 @@ empty_block number = record { number = number; finishes = replicate 16 None }
 abbrev pub with_finish : Block → (place : ℕ) → Finish → Block
 with_finish b place finish = record { number = b.number; finishes = slice_set b.finishes place (Some finish) }
 
--- no two blocks have the same number, and each has one
+-- no two blocks have the same number
 abbrev pub AreDistinct : List Block → Type 0
-AreDistinct blocks = (place : ℕ) (d : Block) → place < length blocks
-    → ((slice_index_or blocks place d).number ≢ NO_NUMBER) × (place_of blocks (slice_index_or blocks place d).number ≡ Some place)
+AreDistinct blocks = (place : ℕ) (d : Block) → place < length blocks → place_of blocks (slice_index_or blocks place d).number ≡ Some place
 
 -- an index has the place of each block
-pub record IsIndexOf (blocks : List Block) (index : NumberTable) : Type 0 where
-  pub places : (number : ℕ) → (number ≢ NO_NUMBER) → place_in index number ≡ place_of blocks number
-  pub sound : IsSound index
+pub record IsIndexOf (blocks : List Block) (index : BlockIndex) : Type 0 where
+  pub kept : (place : ℕ) (d : Block) → place < length blocks → IsKept index (slice_index_or blocks place d).number place
+  pub sized : length index.places.items ≡ length index.tags.items

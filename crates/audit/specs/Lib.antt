@@ -1,6 +1,6 @@
 pub mod Statuses
 pub mod Unfinished
-pub mod Numbers
+pub mod BlockIndex
 pub mod Finished
 pub mod Standings
 pub mod Cells

@@ -1,11 +1,10 @@
-//! The finished transactions: 2 to 3 bytes each, if their numbers are close together.
+//! The finished transactions: 2 to 4 bytes each, if their numbers are close together.
 
-ghost use Rattle.std.specs.Prelude.{◌≡◌, ◌≢◌, ◌==◌, ◌/◌, ◌%◌, ◌<◌, ◌++◌, ◌∷◌, [], ℕ, Some, None, OnOk, OnErr, IfOk, IsOkUnless, if◌then◌else◌, length, slice_set, slice_index_or, option_map, take};
+ghost use Rattle.std.specs.Prelude.{◌≡◌, ◌==◌, ◌/◌, ◌%◌, ◌++◌, ◌∷◌, [], ℕ, Some, None, OnOk, OnErr, IfOk, IsOkUnless, if◌then◌else◌, length, slice_set, slice_index_or, option_map, take};
 ghost use Rattle.page.specs.declared.fault.Fault.TheVariants.{NoResource};
 ghost use Rattle.audit.specs.Finished.{finish_in, place_of, empty_block, with_finish, AreDistinct, IsIndexOf};
-ghost use Rattle.audit.specs.declared.number_table.TheConstants.{NO_NUMBER, NO_PLACE};
 
-use crate::number_table::{NO_PLACE, NumberTable};
+use crate::block_index::BlockIndex;
 use crate::standing::Finish;
 use page::Fault;
 use std::alloc::Global;
@@ -16,6 +15,9 @@ pub const BLOCK: usize = 16;
 
 /// How many buckets the first index has.
 const FIRST_BUCKETS: usize = 8;
+
+/// How many blocks a bucket of an index has on average when the index grows.
+const FULL: usize = 4;
 
 /// How 16 transactions with neighbouring numbers have finished.
 #[derive(Clone, Copy)]
@@ -33,7 +35,7 @@ pub struct FinishTable {
     /// In the order of their first finish.
     blocks: Vec<Block>,
     /// The place of each block, by its number.
-    index: NumberTable,
+    index: BlockIndex,
     /// The place of the block that was used last; any number before the first.
     newest: usize,
 }
@@ -60,40 +62,37 @@ fn put(block: &mut Block, tx: u32, finish: Finish)
 }
 
 /// A place as an index keeps it. The only error is `NoResource`, if the place is too large for an
-/// index: it is at least `NO_PLACE`.
+/// index.
 fn index_place(place: usize) -> Result<u32, Fault>
-    ensures ok { IfOk result (λ p. (p ≡ place) × (p ≢ NO_PLACE)) }
+    ensures ok { IfOk result (λ p. p ≡ place) }
     ensures err { IsOkUnless result NoResource }
 {
-    if place >= NO_PLACE as usize {
-        return Err(Fault::NoResource);
-    }
-    Ok(place as u32)
+    u32::try_from(place).map_err(|_| Fault::NoResource)
 }
 
 /// An index of the blocks with `count` buckets. The only error is `NoResource`.
-fn index_of(alloc: Global, blocks: &[Block], count: usize) -> Result<NumberTable, Fault>
+fn index_of(alloc: Global, blocks: &[Block], count: usize) -> Result<BlockIndex, Fault>
     requires { AreDistinct blocks.now }
     ensures ok { IfOk result (λ index. IsIndexOf blocks.now index) }
     ensures err { IsOkUnless result NoResource }
 {
-    let mut index = NumberTable::with_buckets(alloc, count)?;
+    let mut index = BlockIndex::with_buckets(alloc, count)?;
     for place in 0..blocks.len() {
         index.insert(blocks[place].number, index_place(place)?)?;
     }
     Ok(index)
 }
 
-/// Makes an index of the blocks larger if there are three blocks a bucket or more. The only error
-/// is `NoResource`.
-fn make_room(blocks: &Vec<Block>, index: &mut NumberTable) -> Result<(), Fault>
+/// Makes an index of the blocks larger if there are four blocks a bucket or more. The only error is
+/// `NoResource`.
+fn make_room(blocks: &Vec<Block>, index: &mut BlockIndex) -> Result<(), Fault>
     requires distinct { AreDistinct blocks.now.items }
     requires index { IsIndexOf blocks.now.items index.old }
     ensures index { IsIndexOf blocks.now.items index.new }
     ensures err { IsOkUnless result NoResource }
 {
-    let count = index.buckets.len();
-    if blocks.len() / 3 >= count {
+    let count = index.tags.len();
+    if blocks.len() / FULL >= count {
         let more = count.saturating_mul(2).max(FIRST_BUCKETS);
         *index = index_of(*blocks.allocator(), blocks, more)?;
     }
@@ -116,11 +115,10 @@ fn push_block(blocks: &mut Vec<Block>, number: u32) -> Result<(), Fault>
 
 /// Appends a block in which no transaction has finished, and puts it into the index. The only error
 /// is `NoResource`, and then the blocks are unchanged.
-fn add_block(blocks: &mut Vec<Block>, index: &mut NumberTable, number: u32) -> Result<(), Fault>
+fn add_block(blocks: &mut Vec<Block>, index: &mut BlockIndex, number: u32) -> Result<(), Fault>
     requires distinct { AreDistinct blocks.old.items }
     requires index { IsIndexOf blocks.old.items index.old }
     requires new { place_of blocks.old.items number ≡ None }
-    requires number { number ≢ NO_NUMBER }
     ensures ok { OnOk result (blocks.new.items ≡ blocks.old.items ++ empty_block number ∷ []) }
     ensures unchanged { OnErr result (blocks.new.items ≡ blocks.old.items) }
     ensures index { IsIndexOf blocks.new.items index.new }
@@ -143,7 +141,7 @@ impl FinishTable {
     {
         FinishTable {
             blocks: Vec::new(alloc),
-            index: NumberTable::new(alloc),
+            index: BlockIndex::new(alloc),
             newest: 0,
         }
     }
@@ -152,7 +150,6 @@ impl FinishTable {
     /// tried first.
     #[inline(always)]
     fn find(&self, number: u32) -> Option<usize>
-        requires { number ≢ NO_NUMBER }
         ensures { result ≡ place_of self.now number }
     {
         if let Some(block) = self.blocks.get(self.newest) {
@@ -160,7 +157,7 @@ impl FinishTable {
                 return Some(self.newest);
             }
         }
-        match self.index.get(number) {
+        match self.index.get(&self.blocks, number) {
             Some(place) => Some(place as usize),
             None => None,
         }
@@ -180,7 +177,6 @@ impl FinishTable {
     /// `NoResource`.
     fn add(&mut self, number: u32) -> Result<usize, Fault>
         requires new { place_of self.old number ≡ None }
-        requires number { number ≢ NO_NUMBER }
         ensures place { IfOk result (λ place. place_of self.new number ≡ Some place) }
         ensures same { OnOk result ((t : ℕ) → finish_in self.new t ≡ finish_in self.old t) }
         ensures err { IsOkUnless result NoResource }
@@ -194,7 +190,6 @@ impl FinishTable {
     /// The place of the block with a number; a new block is added if there is none. The only error
     /// is `NoResource`.
     fn find_or_add(&mut self, number: u32) -> Result<usize, Fault>
-        requires { number ≢ NO_NUMBER }
         ensures place { IfOk result (λ place. place_of self.new number ≡ Some place) }
         ensures same { OnOk result ((t : ℕ) → finish_in self.new t ≡ finish_in self.old t) }
         ensures err { IsOkUnless result NoResource }

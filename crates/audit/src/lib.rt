@@ -3,13 +3,13 @@
 
 mod audit_state;
 mod base;
+mod block_index;
 mod cell;
 mod decide;
 mod dirty;
 mod finish_table;
 mod laws;
 mod master;
-mod number_table;
 mod pages;
 mod records;
 mod standing;

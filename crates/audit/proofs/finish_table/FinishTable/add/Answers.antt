@@ -8,7 +8,7 @@ pub invariant_of-self-2 : goal.invariant_of-self-2
 invariant_of-self-2 c =
     let blocks : List Block = c.self.inside.blocks.items in
     let new : place_of blocks c.args.number ≡ None = ap (λ (bs : List Block). place_of bs c.args.number) c.self.view_is ∙ c.requires.new in
-    (subst AreDistinct (sym c.in_ok-add_block.ensures.ok) (distinct_push blocks c.args.number c.self.invariant.0 new c.requires.number), c.in_ok-add_block.ensures.index)
+    (subst AreDistinct (sym c.in_ok-add_block.ensures.ok) (distinct_push blocks c.args.number c.self.invariant.0 new), c.in_ok-add_block.ensures.index)
 
 pub returns-clause-place : goal.returns-clause-place
 returns-clause-place c =

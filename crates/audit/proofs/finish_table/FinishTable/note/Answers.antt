@@ -17,7 +17,7 @@ invariant_of-self c =
     let old : Block = c.index_mut.result.now in
     let same : c.put.new.block.number ≡ (get_or blocks c.in_ok-place.place old).number = ap (λ (b : Block). b.number) c.put.ensures.put ∙ ap (λ (b : Block). b.number) c.index_mut.ensures.value in (
       distinct_set blocks c.in_ok-place.place c.put.new.block old same (omega (arith, at.within, ap (λ (bs : List Block). length bs) c.self.view_is)) c.self.invariant.0,
-      index_set blocks c.in_ok-place.place c.put.new.block old c.self.inside.index same c.self.invariant.1,
+      index_set blocks c.in_ok-place.place c.put.new.block old c.self.inside.index same (omega (arith, at.within, ap (λ (bs : List Block). length bs) c.self.view_is)) c.self.invariant.1,
     )
 
 pub returns-clause-ok : goal.returns-clause-ok

@@ -1,6 +1,6 @@
 use Rattle.std.proofs.Common.{refl}
-use Rattle.audit.specs.Numbers.{home_of}
-use Rattle.audit.proofs.number_table.home.Goals as goal
+use Rattle.audit.specs.BlockIndex.{home_of}
+use Rattle.audit.proofs.block_index.home.Goals as goal
 
 pub returns : goal.returns
 unfolding home_of
