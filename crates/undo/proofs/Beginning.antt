@@ -58,9 +58,10 @@ EachEntry-both : (P Q : TableEntry → Type 0) (es : List TableEntry) → EachEn
 EachEntry-both P Q [] a b = tt
 EachEntry-both P Q (e ∷ es) a b = ((a.0, b.0), EachEntry-both P Q es a.1 b.1)
 
-others : (t : ℕ) (es : List TableEntry) → is_among t (map tx_in es) ≡ false → EachEntry (λ e. eqb t e.tx ≡ false) es
-others t [] h = tt
-others t (e ∷ es) h = (let (a, b) = or_parts (eqb t e.tx) (is_among t (map tx_in es)) h in (a, others t es b))
+-- each entry is of another transaction than one that has no entry
+of_another : (t : ℕ) (es : List TableEntry) → is_among t (map tx_in es) ≡ false → EachEntry (λ e. eqb t e.tx ≡ false) es
+of_another t [] h = tt
+of_another t (e ∷ es) h = (let (a, b) = or_parts (eqb t e.tx) (is_among t (map tx_in es)) h in (a, of_another t es b))
 
 own_entries : (es : List TableEntry) → AreDistinct (map tx_in es) → EachEntry (λ e. entry_for e.tx es ≡ Some e) es
 own_entries [] d = tt
@@ -68,7 +69,7 @@ own_entries (x ∷ es) d = (
   ap (λ b. cond b (Some x) (entry_for x.tx es)) (eq-eqb x.tx x.tx refl),
   EachEntry-more (λ e. (eqb x.tx e.tx ≡ false) × (entry_for e.tx es ≡ Some e)) (λ e. entry_for e.tx (x ∷ es) ≡ Some e) es
       (λ e h. ap (λ b. cond b (Some x) (entry_for e.tx es)) h.0 ∙ h.1)
-      (EachEntry-both (λ e. eqb x.tx e.tx ≡ false) (λ e. entry_for e.tx es ≡ Some e) es (others x.tx es d.0) (own_entries es d.1)),
+      (EachEntry-both (λ e. eqb x.tx e.tx ≡ false) (λ e. entry_for e.tx es ≡ Some e) es (of_another x.tx es d.0) (own_entries es d.1)),
 )
 
 ends_are : (f : ℕ → ℕ) (n : ℕ) (p : ℕ → Bool) (q : TableEntry → Bool) (es : List TableEntry) → AreDistinct (map tx_in es) → EachEntry (λ e. (p e.tx ≡ q e) × (f e.tx ≡ e.last)) es
@@ -81,7 +82,7 @@ ends_are f n p q (x ∷ es) d h =
           let rest : EachEntry (λ e. (p e.tx ≡ q e) × (g e.tx ≡ e.last)) es =
           EachEntry-more (λ e. (eqb x.tx e.tx ≡ false) × ((p e.tx ≡ q e) × (f e.tx ≡ e.last))) (λ e. (p e.tx ≡ q e) × (g e.tx ≡ e.last)) es
           (λ y k. (k.1.0, ap (λ b. cond b n (f y.tx)) k.0 ∙ k.1.1))
-          (EachEntry-both (λ e. eqb x.tx e.tx ≡ false) (λ e. (p e.tx ≡ q e) × (f e.tx ≡ e.last)) es (others x.tx es d.0) h.1) in
+          (EachEntry-both (λ e. eqb x.tx e.tx ≡ false) (λ e. (p e.tx ≡ q e) × (f e.tx ≡ e.last)) es (of_another x.tx es d.0) h.1) in
           let a : filter p (map tx_in (x ∷ es)) ≡ x.tx ∷ filter p (map tx_in es) = ap (λ b. cond b (x.tx ∷ filter p (map tx_in es)) (filter p (map tx_in es))) (h.0.0 ∙ e) in
           let b : filter q (x ∷ es) ≡ x ∷ filter q es = rw e in
           ap (λ ts. records_for f n (map Finish ts)) a

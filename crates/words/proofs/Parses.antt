@@ -24,11 +24,11 @@ command_added old below new line shape adds plain old_is below_is =
     adds.shape (plain_fields below (ap (λ (s : Shape). s.is_plain) below_is ∙ plain)).globals ∙ ap₂ with_subcommand old_is below_is
 
 -- THE COMMAND THAT A PARSE ENTERED
--- the name and the rows of what is met, from the two separately
-met : {B : Type 0} (o : Option B) (found : B → Text × List Row) (name : Text) (rows : List Row) → option_map (λ p. p.1) (option_map found o) ≡ Some rows
+-- what was found has this name and these rows, if its name and its rows are known one by one
+name_and_rows : {B : Type 0} (o : Option B) (found : B → Text × List Row) (name : Text) (rows : List Row) → option_map (λ p. p.1) (option_map found o) ≡ Some rows
     → option_map (λ b. (found b).0) o ≡ Some name → option_map found o ≡ Some (name, rows)
-met None found name rows e f = cc
-met (Some b) found name rows e f =
+name_and_rows None found name rows e f = cc
+name_and_rows (Some b) found name rows e f =
     let x : (found b).0 ≡ name = cc in
     let y : (found b).1 ≡ rows = cc in
     λ i. Some (x i, y i)
@@ -43,7 +43,7 @@ command_met : (matches : ArgMatches) (words : List Text) (line known : App) (nam
     → HasMatchesOf line words matches → subcommand_name_of matches ≡ Some name → option_map (λ p. p.1) (subcommand_rows_of matches) ≡ Some rows
     → subcommand_of known words ≡ Some (name, rows)
 command_met matches words line known name rows simple line_is has name_is rows_are =
-    sym (rows_met matches words line known simple line_is has) ∙ met _ _ name rows rows_are name_is
+    sym (rows_met matches words line known simple line_is has) ∙ name_and_rows _ _ name rows rows_are name_is
 
 -- what holds for the command that a parse entered and for its rows, holds for what the words give
 pub given : (matches : ArgMatches) (words : List Text) (line known : App) (name : Text) (rows : List Row) (P : Text × List Row → Type 0) → is_simple known ≡ true

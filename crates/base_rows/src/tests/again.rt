@@ -1,6 +1,6 @@
 //! Sources that are read again from an offset: over memory, slow ones, ones that fail, and files.
 
-use super::{check, check_all, check_at};
+use checks::{check, check_all, check_at};
 use device::{FileSource, MemorySource, Pace, Reread, SlowSource, Source, read_full_at};
 use std::fs;
 use std::fs::File;

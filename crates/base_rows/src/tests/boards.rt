@@ -2,8 +2,8 @@
 
 ghost use Rattle.std.specs.Prelude.{◌≡◌, ◌+◌, ◌<◌, ◌≤◌, length};
 
-use super::{check, check_all, check_at};
 use board::{Board, Draw, Seat, Tally};
+use checks::{check, check_all, check_at};
 use std::alloc::Global;
 use std::test::Fail;
 use std::thread::join;

@@ -2,7 +2,7 @@
 
 ghost use Rattle.std.specs.Prelude.{IfOk, ◌≤◌};
 
-use super::{check, check_all};
+use checks::{check, check_all};
 use device::{
     Continue, Failed, FileLog, FileSink, FileSource, ReadFault, Reread, Sink, read_all, write_all,
 };

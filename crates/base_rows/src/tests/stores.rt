@@ -2,7 +2,7 @@
 
 ghost use Rattle.std.specs.Prelude.{◌<◌, ◌≤◌};
 
-use super::{check, check_all, check_at};
+use checks::{check, check_all, check_at};
 use page::{
     Fault, PAGE_BYTES, Page, Store, StoreReader, Value, decode_page, decode_store, encode_page,
     encode_pages_into, encode_store, store_header,

@@ -1,6 +1,6 @@
 //! Reading and writing all of devices that are slow or fail, and of files that do.
 
-use super::{check, check_all, check_at};
+use checks::{check, check_all, check_at};
 use device::{
     Continue, MemorySink, MemorySource, Pace, ReadFault, Sink, SlowSink, SlowSource, read_all,
     read_front, read_rest, write_all,

@@ -1,8 +1,8 @@
 //! Worked rows: the tables of small logs.
 
 use super::records::{abort, commit, end, log_of, prepare};
-use super::{check, check_all};
 use analysis::{Tables, analyse};
+use checks::{check, check_all};
 use page::Fault;
 use std::alloc::Global;
 use std::test::Fail;

@@ -2,9 +2,9 @@
 //! log.
 
 use super::analysed::ROWS;
-use super::check;
 use super::records::{log_of, put};
 use analysis::{CheckpointScan, PageScan, TransactionScan, analyse};
+use checks::check;
 use page::Fault;
 use std::alloc::Global;
 use std::collections::BTreeMap;

@@ -1,8 +1,8 @@
 //! Rows worked by hand: the fault of each log and store, or none.
 
-use super::check_all;
 use super::records::{abort, commit, end, log_of, prepare};
 use audit::audit;
+use checks::check_all;
 use page::{Fault, Value, decode_store};
 use std::alloc::Global;
 use std::test::Fail;

@@ -3,8 +3,8 @@
 mod calls;
 mod in_place;
 
-use super::{check, check_all};
 use aries::{Options, recover};
+use checks::{check, check_all};
 use core_rows::written::{
     Row, clr_points_past_zero, one_commit, one_loser, page_with, store_of, two_losers,
 };

@@ -1,8 +1,8 @@
 //! The gate, seen through a whole recovery: it hears which of two workers draws which part.
 
-use super::{check, check_all};
 use crate::in_memory::recover_in_memory;
 use aries::Options;
+use checks::{check, check_all};
 use core_rows::ten_pages::{HeldGate, are_all_changed, ten_pages, ten_updates};
 use page::{Fault, Page, decode_store, encode_page};
 use redo::{Gate, OpenGate};

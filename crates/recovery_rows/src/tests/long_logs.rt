@@ -2,9 +2,9 @@
 
 ghost use Rattle.std.specs.Prelude.{◌≤◌};
 
-use super::{check, check_all};
 use crate::in_memory::recover_in_memory;
 use aries::{Options, Report};
+use checks::{check, check_all};
 use core_rows::written::{long_commit, page_with, store_of};
 use page::{Fault, Page};
 use redo::OpenGate;

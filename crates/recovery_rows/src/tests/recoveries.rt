@@ -1,8 +1,8 @@
 //! What no clause says: that calls succeed.
 
-use super::{check, check_all};
 use crate::in_memory::recover_in_memory;
 use aries::{Options, audit_texts, audit_texts_over};
+use checks::{check, check_all};
 use core_rows::written::{
     Letter, Row, checkpoint_loser, clr_points_past_zero, one_commit, one_loser, page_with,
     prepared_beside_loser, store_of, two_losers,

@@ -2,8 +2,8 @@
 
 ghost use Rattle.std.specs.Prelude.{◌≤◌};
 
-use super::check;
 use super::stretches::{FRAME_BYTES, RECORDS, are_at_their_lsns, updates};
+use checks::check;
 use page::Fault;
 use std::alloc::Global;
 use std::test::Fail;

@@ -1,7 +1,7 @@
 //! Redo of logs that are read in pieces: the rows of redo, cut after each few records.
 
-use super::check;
 use analysis::analyse;
+use checks::check;
 use core_rows::ten_pages::{are_all_changed, ten_pages, ten_updates};
 use core_rows::written::{long_commit, one_loser, page_with, partial_rollback_commit};
 use page::{Fault, Page, Store, Value, decode_store};

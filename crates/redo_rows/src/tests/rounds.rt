@@ -1,7 +1,7 @@
 //! Worked rows of redo.
 
-use super::check;
 use analysis::analyse;
+use checks::check;
 use core_rows::ten_pages::{HeldGate, are_all_changed, ten_pages, ten_updates};
 use core_rows::written::{
     Letter, Text, checkpoint_loser, one_commit, one_loser, page_with, partial_rollback_commit,

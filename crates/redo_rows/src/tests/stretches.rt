@@ -1,6 +1,6 @@
 //! Logs that several threads read: what they read is what one reads.
 
-use super::check;
+use checks::check;
 use page::{Fault, Value};
 use std::alloc::Global;
 use std::test::Fail;

@@ -3,8 +3,9 @@
 
 use super::in_pieces::gathered_of;
 use super::rollbacks::alone;
-use super::{check, with_appended};
+use super::with_appended;
 use analysis::analyse;
+use checks::check;
 use core_rows::written::{
     Row, checkpoint_loser, one_loser, page_with, partial_rollback_loser, rollback_interrupted,
     several_kinds_of_loser, two_losers, undo_of_missing_page,

@@ -2,8 +2,9 @@
 //! end.
 
 use super::gathered::undone;
-use super::{check, with_appended};
+use super::with_appended;
 use analysis::analyse;
+use checks::check;
 use core_rows::written::{page_with, two_losers};
 use device::MemorySource;
 use page::Fault;

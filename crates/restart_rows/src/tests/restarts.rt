@@ -2,7 +2,7 @@
 //! and the fault that comes first.
 
 use super::both_ways::{Expected, GOOD, Manner, Numbers, is_restarted, refused, rolled_back};
-use super::check;
+use checks::check;
 use core_rows::written::{
     Row, Text, checkpoint_loser, one_commit, one_loser, page_with, partial_rollback_loser,
     prepared, prepared_abort, prepared_beside_loser, prepared_commit, prepared_idle,

@@ -3,8 +3,9 @@
 ghost use Rattle.std.specs.Prelude.{IfOk};
 ghost use Rattle.page.specs.Store.{AreNumbered};
 
-use super::{check, with_appended};
+use super::with_appended;
 use analysis::analyse;
+use checks::check;
 use core_rows::written::{
     Row, Text, checkpoint_loser, one_loser, page_with, partial_rollback_loser,
     rollback_interrupted, several_kinds_of_loser, two_losers,

@@ -5,7 +5,7 @@ use super::both_ways::{
     Expected, GOOD, Manner, Numbers, is_restarted, is_restarted_on, outcome_by_pieces, outcome_of,
     refused, rolled_back,
 };
-use super::check;
+use checks::check;
 use core_rows::ten_pages::{are_all_changed, ten_pages, ten_updates};
 use core_rows::written::{
     Letter, Row, Text, checkpoint_loser, clr_points_past_zero, one_commit, one_loser, page_with,

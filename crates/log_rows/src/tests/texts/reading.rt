@@ -1,11 +1,11 @@
 //! Bytes that are read as logs, and bytes that are not a log.
 
-use super::super::{check, check_all};
 use super::vectors::{
     BASE_LOSER, CHECKPOINT_LOSER, EMPTY_AND_FULL_VALUES, ONE_COMMIT, ONE_LOSER_RESTARTED,
     PARTIAL_ROLLBACK_COMMIT, PREPARED, PREPARED_AT_CHECKPOINT, ROLLBACK_INTERRUPTED,
 };
 use super::{is_rewritten, largest_checkpoint};
+use checks::{check, check_all};
 use page::Fault;
 use std::alloc::Global;
 use std::test::Fail;

@@ -1,11 +1,11 @@
 //! Frames that are written have the bytes worked out by hand.
 
 use super::super::records::put;
-use super::super::{check, check_all};
 use super::vectors::{
     CHECKPOINT_LOSER, EMPTY_AND_FULL_VALUES, ONE_COMMIT, ONE_LOSER_RESTARTED, PREPARED,
     PREPARED_AT_CHECKPOINT, ROLLBACK_INTERRUPTED,
 };
+use checks::{check, check_all};
 use linked_list_allocator::LocalHeap;
 use page::{Fault, Value};
 use std::alloc::Global;

@@ -1,10 +1,10 @@
 //! A device that fails at each of its calls in turn, and recoveries of what a failed one left.
 
-use super::super::{check, check_at};
 use super::{
     Device, OPTIONS, Paces, Seen, Worked, recovered, seen, worked_one_loser, worked_two_losers,
 };
 use crate::in_memory::recover_in_memory;
+use checks::{check, check_at};
 use device::{Pace, SlowSink};
 use page::Fault;
 use redo::OpenGate;
@@ -129,8 +129,8 @@ fn a_failed_recovery_is_gone_on_from(rt: HostRuntime) -> Result<(), Fail> {
         let log = log_left_at(&rt, alloc, &row, call)?;
         let is_whole = log.len() >= row.row.given.bytes.len();
         let is_gone_on_from = is_gone_on_from(&rt, alloc, &row, &log)?;
-        check_at(call, is_whole, "all that was read, at call")?;
-        check_at(call, is_gone_on_from, "gone on from call")?;
+        check_at(call as usize, is_whole, "all that was read, at call")?;
+        check_at(call as usize, is_gone_on_from, "gone on from call")?;
     }
     Ok(())
 }
@@ -151,7 +151,11 @@ fn a_refused_store_is_read_to_its_end(rt: HostRuntime) -> Result<(), Fail> {
         for (call, fault) in [(2, Fault::ReadStore), (69, Fault::ReadStore), (70, refused)] {
             let paces = fast.with(Device::StoreSource, Pace::failing(usize::MAX, call));
             let seen = seen(&rt, alloc, &long, &paces)?;
-            check_at(call, seen == (Err(fault), 0, 0), "a failure at call")?;
+            check_at(
+                call as usize,
+                seen == (Err(fault), 0, 0),
+                "a failure at call",
+            )?;
         }
     }
     Ok(())

@@ -1,8 +1,8 @@
 //! Recovery in place over devices that pass a few bytes a call, and fail.
 
-use super::super::{check, check_all, check_at};
 use super::{OPTIONS, Worked, worked_one_commit, worked_two_losers};
 use aries::{TailFile, recover_in_place};
+use checks::{check, check_all, check_at};
 use device::{MemorySource, Pace, SlowSink};
 use page::Fault;
 use redo::OpenGate;
@@ -180,14 +180,14 @@ fn check_left<R: Threads + Sync>(
     let new_log = worked.row.made.bytes.as_slice();
     let log = left.log.bytes();
     let is_cut = log.len() >= worked.row.given.bytes.len() && new_log.starts_with(log);
-    check_at(call, log == read || is_cut, "the log after call")?;
+    check_at(call as usize, log == read || is_cut, "the log after call")?;
     check_at(
-        call,
+        call as usize,
         left.store.bytes().is_empty() || log == new_log,
         "the store after call",
     )?;
     let again = left_of(rt, alloc, worked, log, Sinks::fast())?;
-    check_at(call, is_whole(worked, &again), "gone on from call")
+    check_at(call as usize, is_whole(worked, &again), "gone on from call")
 }
 
 /// How many calls fail, each with this fault, before one at which the recovery succeeds.
@@ -205,7 +205,11 @@ fn failing_calls<R: Threads + Sync>(
             check(is_whole(worked, &left), "recovered")?;
             return Ok(call - 1);
         }
-        check_at(call, left.answer == Err(fault), "the fault of call")?;
+        check_at(
+            call as usize,
+            left.answer == Err(fault),
+            "the fault of call",
+        )?;
         check_left(rt, alloc, worked, &read, &left, call)?;
     }
     Err(Fail::new("no end"))
