@@ -20,7 +20,7 @@ use Rattle.redo.specs.declared.redone.Redone.{Redone}
 use Rattle.redo.specs.Redone.{redone_page, applied_to, AreWorkers, AllExist, IsFirstMissing, RedoFault}
 use Rattle.restart.specs.declared.outcome.Outcome.{Outcome}
 use Rattle.restart.specs.Outcome.{OutcomeContent, outcome_in}
-use Rattle.restart.specs.Results.{OkUnlessMemory}
+use Rattle.restart.specs.Results.{UnlessMemory}
 use Rattle.undo.specs.declared.appended.Appended.{Appended}
 use Rattle.undo.specs.Appended.{HaveUpdates, full_records}
 use Rattle.undo.specs.Enough.{HasEnough}
@@ -124,7 +124,7 @@ pub record Restarts (log : LogContent) (before : StoreContent) (x : OutcomeConte
 -- LAWFUL INPUT over base pages
 -- for a lawful log and its store, over any base pages, true tables are found, unless memory is refused
 abbrev pub FindsTrueTables : LogContent → StoreContent → Result (TablesContent × Redone) Fault → Type 0
-FindsTrueTables log before result = (base : BasePages) → Lawful base log before → OkUnlessMemory result (λ x. AreTrue log before x.0)
+FindsTrueTables log before result = (base : BasePages) → Lawful base log before → UnlessMemory result (λ x. AreTrue log before x.0)
 
 -- a lawful log and its store without a loser, on which a restart appends nothing and leaves the store as it is
 pub record IsSettled (base : BasePages) (log : LogContent) (store : StoreContent) : Type 0 where
@@ -156,13 +156,13 @@ pub record Restores (base : BasePages) (log : LogContent) (before : StoreContent
 -- for a lawful log and its store, over any base pages: a restart returns what restores them, unless memory is refused
 abbrev pub RestoresLawful : {A : Type 0} → (A → OutcomeContent) → LogContent → StoreContent → Result A Fault → Type 0
 RestoresLawful outcome log before result =
-    (base : BasePages) → Lawful base log before → OkUnlessMemory result (λ x. Restores base log before (outcome x))
+    (base : BasePages) → Lawful base log before → UnlessMemory result (λ x. Restores base log before (outcome x))
 
 -- the same, if the settings are valid
 abbrev pub RestoresWith : {A : Type 0} → (A → OutcomeContent) → LogContent → StoreContent → PartingContent → (workers : ℕ) → Result A Fault → Type 0
 RestoresWith outcome log before parting workers result =
     (base : BasePages) → Lawful base log before → AreSettings (length before.pages) parting workers
-    → OkUnlessMemory result (λ x. Restores base log before (outcome x))
+    → UnlessMemory result (λ x. Restores base log before (outcome x))
 
 -- ERRORS
 -- analysis finds tables of which this holds
@@ -202,7 +202,7 @@ RestartsOnWhole some master tables redone result = (whole : LogContent) (before 
 abbrev pub RestoresWhole : (some : LogContent) → (master : ℕ) → TablesContent → Redone → Result (Outcome Appended) Fault → Type 0
 RestoresWhole some master tables redone result = (whole : LogContent) (base : BasePages) (before : StoreContent) → HasEnough whole some tables
     → Lawful base whole before → AreNumbered before.pages → before.master ≡ master → AreTrue whole before tables → IsRedone whole before tables redone
-    → OkUnlessMemory result (λ x. Restores base whole before (outcome_in (history whole) x))
+    → UnlessMemory result (λ x. Restores base whole before (outcome_in (history whole) x))
 
 -- an error is that of the whole log and the store
 abbrev pub FailsOnWhole : (some : LogContent) → TablesContent → Redone → Result (Outcome Appended) Fault → Type 0

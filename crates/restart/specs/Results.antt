@@ -8,5 +8,5 @@ abbrev pub IsErrWhen : {A : Type 0} → Result A Fault → (Fault → Type 0) �
 IsErrWhen result Cause = (e : Fault) → Cause e → result ≡ Err e
 
 -- the call succeeds with a value of which this holds, unless memory is refused
-abbrev pub OkUnlessMemory : {A : Type 0} → Result A Fault → (A → Type 0) → Type 0
-OkUnlessMemory result Holds = MatchResult result Holds (λ e. e ≡ NoResource)
+abbrev pub UnlessMemory : {A : Type 0} → Result A Fault → (A → Type 0) → Type 0
+UnlessMemory result Holds = MatchResult result Holds (λ e. e ≡ NoResource)
