@@ -1,4 +1,5 @@
 pub mod Options
+pub mod Results
 pub mod Outcome
 pub mod Restart
 pub mod OneAnswer

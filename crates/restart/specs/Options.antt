@@ -10,6 +10,10 @@ pub record AreInRange (options : Options) : Type 0 where
   pub workers : AreWorkers options.workers
   pub parts : IsSize options.parts
 
+-- valid options, with which a restart does all in one thread and in one part
+abbrev pub one_worker : Options
+one_worker = record { workers = 1; parts = 1 }
+
 -- the error of options
 abbrev pub OptionsFault : Options → Fault → Type 0
 OptionsFault options BadWorkers = AreWorkers options.workers → ⊥

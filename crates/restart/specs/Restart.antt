@@ -1,21 +1,29 @@
 -- What a restart makes of a log and a store, and its errors. ARIES, section 6 (restart processing).
-use Rattle.std.specs.Prelude.{◌≡◌, ℕ, ◌<◌, ◌≤◌, ◌⊎◌, List, [], All, Some, None, false, length, map, filter, sum, slice_index_or, ⊤}
+use Rattle.std.specs.Prelude.{◌≡◌, ℕ, ◌+◌, ◌<◌, ◌≤◌, ◌⊎◌, List, [], All, Some, None, Result, IfOk, IfErr, false, length, map, filter, sum, slice_index_or, ⊤}
 use Rattle.std.specs.List.{slice_get}
 use Rattle.page.specs.declared.fault.Fault.{Fault}
 use Rattle.page.specs.declared.fault.Fault.TheVariants.{NoResource, BadMaster, PageAheadOfLog, NoSuchPage, BrokenChain, BadParting, BadWorkers}
 use Rattle.page.specs.declared.page.Page.{Page}
-use Rattle.page.specs.Store.{StoreContent}
+use Rattle.page.specs.Store.{StoreContent, AreNumbered}
+use Rattle.wal.specs.Content.{entry_of}
 use Rattle.wal.specs.Records.{LogRecord, LogContent, history, ◌⧺◌, last_lsn}
+use Rattle.wal.specs.declared.record.Entry.{Entry}
 use Rattle.wal.specs.Meaning.{BasePages, in_doubt, is_loser}
 use Rattle.wal.specs.Tail.{is_clr, is_end, in_doubt_of, losers_of, tail_of}
 use Rattle.wal.specs.Undo.{doubtful_in}
 use Rattle.wal.specs.Store.{Lawful, store_out}
+use Rattle.tables.specs.Lawful.{AreTrue}
 use Rattle.tables.specs.Tables.{TablesContent, losers_in}
-use Rattle.analysis.specs.Tables.{AreTablesOf, AreDirtyPagesOf, BaseFault, base_of}
+use Rattle.analysis.specs.Tables.{AreTablesOf, AreTransactionsOf, AreDirtyPagesOf, BaseFault, base_of}
 use Rattle.redo.specs.Parting.{PartingContent}
 use Rattle.redo.specs.declared.redone.Redone.{Redone}
 use Rattle.redo.specs.Redone.{redone_page, applied_to, AreWorkers, AllExist, IsFirstMissing, RedoFault}
-use Rattle.restart.specs.Outcome.{OutcomeContent}
+use Rattle.restart.specs.declared.outcome.Outcome.{Outcome}
+use Rattle.restart.specs.Outcome.{OutcomeContent, outcome_in}
+use Rattle.restart.specs.Results.{UnlessMemory}
+use Rattle.undo.specs.declared.appended.Appended.{Appended}
+use Rattle.undo.specs.Appended.{HaveUpdates, full_records}
+use Rattle.undo.specs.Enough.{HasEnough}
 use Rattle.undo.specs.Undone.{RolledBack, MeetsMissing, Breaks}
 
 -- SETTINGS
@@ -59,6 +67,14 @@ clrs_in records = length (filter is_clr records)
 abbrev pub ends_in : List LogRecord → ℕ
 ends_in records = length (filter is_end records)
 
+-- the full records of what is appended have this count, by each log that has the updates
+abbrev pub IsCount : (List LogRecord → ℕ) → List Appended → ℕ → Type 0
+IsCount count appended number = (log : LogContent) → HaveUpdates log appended → number ≡ count (full_records log appended)
+
+-- these numbers and the losers are as many as the transactions of the tables
+abbrev pub AreAllButLosers : TablesContent → List ℕ → Type 0
+AreAllButLosers tables numbers = length numbers + length (losers_in tables) ≡ length tables.transactions
+
 -- the losers of the tables are rolled back on the pages that redo made, and the outcome reports it
 pub record RollsBack (log : LogContent) (master : ℕ) (tables : TablesContent) (redone : Redone) (x : OutcomeContent) : Type 0 where
   pub rolled_back : RolledBack log tables redone.pages.items x.store.pages x.appended
@@ -79,7 +95,12 @@ pub record IsRedone (log : LogContent) (before : StoreContent) (tables : TablesC
   pub redone_pages : redone.pages.items ≡ map (redone_page log tables) before.pages
   pub applied : redone.applied ≡ sum (map (applied_to log tables) before.pages)
 
--- BY THE DIRTY PAGES ONLY, whatever the transactions
+-- BY HALVES
+-- the entries of a map are the transactions that analysis finds in a log
+abbrev pub AreEntriesOf : LogContent → (master : ℕ) → List (ℕ × Entry) → Type 0
+AreEntriesOf log master entries = AreTransactionsOf log master (map entry_of entries)
+
+-- by the dirty pages only, whatever the transactions:
 -- what redo has made of a log and a store; the tables are looked at only for their pages, and for where redo begins
 pub record ArePagesRedone (log : LogContent) (before : StoreContent) (pages : TablesContent) (redone : Redone) : Type 0 where
   pub are : AreDirtyPagesOf log before.master pages.dirty pages.redo_lsn
@@ -101,6 +122,10 @@ pub record Restarts (log : LogContent) (before : StoreContent) (x : OutcomeConte
   pub rolls_back : RollsBack log before.master tables redone x
 
 -- LAWFUL INPUT over base pages
+-- for a lawful log and its store, over any base pages, true tables are found, unless memory is refused
+abbrev pub FindsTrueTables : LogContent → StoreContent → Result (TablesContent × Redone) Fault → Type 0
+FindsTrueTables log before result = (base : BasePages) → Lawful base log before → UnlessMemory result (λ x. AreTrue log before x.0)
+
 -- a lawful log and its store without a loser, on which a restart appends nothing and leaves the store as it is
 pub record IsSettled (base : BasePages) (log : LogContent) (store : StoreContent) : Type 0 where
   pub lawful : Lawful base log store
@@ -127,6 +152,17 @@ pub record Restores (base : BasePages) (log : LogContent) (before : StoreContent
   pub still_in_doubt : (t : ℕ) → in_doubt t (history (log ⧺ x.appended)) ≡ in_doubt t (history log)
   pub ended : x.ended ≡ length (losers_of (history log))
   pub compensated : x.compensated ≡ clrs_in (tail_of log)
+
+-- for a lawful log and its store, over any base pages: a restart returns what restores them, unless memory is refused
+abbrev pub RestoresLawful : {A : Type 0} → (A → OutcomeContent) → LogContent → StoreContent → Result A Fault → Type 0
+RestoresLawful outcome log before result =
+    (base : BasePages) → Lawful base log before → UnlessMemory result (λ x. Restores base log before (outcome x))
+
+-- the same, if the settings are valid
+abbrev pub RestoresWith : {A : Type 0} → (A → OutcomeContent) → LogContent → StoreContent → PartingContent → (workers : ℕ) → Result A Fault → Type 0
+RestoresWith outcome log before parting workers result =
+    (base : BasePages) → Lawful base log before → AreSettings (length before.pages) parting workers
+    → UnlessMemory result (λ x. Restores base log before (outcome x))
 
 -- ERRORS
 -- analysis finds tables of which this holds
@@ -155,3 +191,20 @@ InputFault log before e = NoneAhead log before × Finds log before (PassFault lo
 abbrev pub RestartFault : LogContent → StoreContent → PartingContent → ℕ → Fault → Type 0
 RestartFault log before parting workers e =
     SettingsFault (length before.pages) parting workers e ⊎ (AreSettings (length before.pages) parting workers × InputFault log before e)
+
+-- THE END OF A RESTART, by what was gathered of the whole log. Redo by the tables has made pages of a store with this master.
+-- the outcome is that of a restart on the whole log and the store
+abbrev pub RestartsOnWhole : (some : LogContent) → (master : ℕ) → TablesContent → Redone → Result (Outcome Appended) Fault → Type 0
+RestartsOnWhole some master tables redone result = (whole : LogContent) (before : StoreContent) → HasEnough whole some tables
+    → before.master ≡ master → IsRedone whole before tables redone → IfOk result (λ x. Restarts whole before (outcome_in (history whole) x))
+
+-- for a lawful whole log and its store, over any base pages, and true tables: it restores them, unless memory is refused
+abbrev pub RestoresWhole : (some : LogContent) → (master : ℕ) → TablesContent → Redone → Result (Outcome Appended) Fault → Type 0
+RestoresWhole some master tables redone result = (whole : LogContent) (base : BasePages) (before : StoreContent) → HasEnough whole some tables
+    → Lawful base whole before → AreNumbered before.pages → before.master ≡ master → AreTrue whole before tables → IsRedone whole before tables redone
+    → UnlessMemory result (λ x. Restores base whole before (outcome_in (history whole) x))
+
+-- an error is that of the whole log and the store
+abbrev pub FailsOnWhole : (some : LogContent) → TablesContent → Redone → Result (Outcome Appended) Fault → Type 0
+FailsOnWhole some tables redone result = (whole : LogContent) (before : StoreContent) → HasEnough whole some tables
+    → IsRedone whole before tables redone → IfErr result (InputFault whole before)

@@ -1,9 +1,9 @@
 //! The transactions in doubt, which a restart leaves as they are and reports.
 
-ghost use Rattle.std.specs.Prelude.{◌≡◌, ◌+◌, length, IfOk, IsOkUnless};
+ghost use Rattle.std.specs.Prelude.{◌≡◌, IfOk, IsOkUnless};
 ghost use Rattle.page.specs.declared.fault.Fault.TheVariants.{NoResource};
 ghost use Rattle.wal.specs.Undo.{is_prepared, doubtful_in};
-ghost use Rattle.tables.specs.Tables.{losers_in};
+ghost use Rattle.restart.specs.Restart.{AreAllButLosers};
 
 use page::Fault;
 use std::alloc::Global;
@@ -25,8 +25,7 @@ fn is_prepared(state: State) -> bool
 /// error is [`Fault::NoResource`], if memory was refused.
 pub fn in_doubt(alloc: Global, tables: &Tables) -> Result<Vec<u32>, Fault>
     ensures ok { IfOk result (λ x. x.items ≡ doubtful_in tables.now.transactions) }
-    ensures others { IfOk result (λ x. length x.items + length (losers_in tables.now)
-        ≡ length tables.now.transactions) }
+    ensures others { IfOk result (λ x. AreAllButLosers tables.now x.items) }
     ensures err { IsOkUnless result NoResource }
 {
     let mut numbers = Vec::new(alloc);

@@ -2,17 +2,12 @@
 //! Redo needs only the dirty pages from analysis. So with more workers the transactions are found
 //! at the same time as redo.
 
-ghost use Rattle.std.specs.Prelude.{◌≡◌, ℕ, true, Some, None, is_some, IfSome, IfOk, IfErr, MatchResult, map, length};
-ghost use Rattle.page.specs.declared.fault.Fault.TheVariants.{NoResource};
-ghost use Rattle.page.specs.Store.{StoreContent};
-ghost use Rattle.wal.specs.Content.{entry_of};
-ghost use Rattle.wal.specs.Meaning.{BasePages};
+ghost use Rattle.std.specs.Prelude.{◌≡◌, true, None, is_some, IfSome, IfOk, IfErr, length};
+ghost use Rattle.std.specs.Option.{ForSome};
 ghost use Rattle.wal.specs.Records.{history};
-ghost use Rattle.wal.specs.Store.{Lawful};
 ghost use Rattle.wal.specs.Undo.{entry_for};
-ghost use Rattle.tables.specs.Lawful.{AreTrue};
-ghost use Rattle.analysis.specs.Tables.{AreTransactionsOf, BaseFault, entry_at};
-ghost use Rattle.restart.specs.Restart.{AreSettings, NoneAhead, IsRedone, ArePagesRedone, ForwardFault, InputFault};
+ghost use Rattle.analysis.specs.Tables.{BaseFault, entry_at};
+ghost use Rattle.restart.specs.Restart.{AreSettings, NoneAhead, IsRedone, ArePagesRedone, AreEntriesOf, FindsTrueTables, ForwardFault, InputFault};
 
 use analysis::{analyse_pages, analyse_transactions, join_tables};
 use page::{Fault, Store};
@@ -34,8 +29,7 @@ pub fn forward_alone<G: Gate>(
     requires { NoneAhead log.now store }
     ensures redone { IfOk result (λ x. IsRedone log.now store x.0 x.1) }
     ensures no_transaction_0 { IfOk result (λ x. entry_for 0 x.0.transactions ≡ None) }
-    ensures lawful { (base : BasePages) → Lawful base log.now store
-        → MatchResult result (λ x. AreTrue log.now store x.0) (λ e. e ≡ NoResource) }
+    ensures lawful { FindsTrueTables log.now store result }
     ensures fault { IfErr result (InputFault log.now store) }
 {
     let transactions = analyse_transactions(alloc, log, store.master)?;
@@ -58,8 +52,8 @@ fn side_by_side<G: Gate, R: Threads + Sync>(
     Result<(Tables, Redone), Fault>,
 )
     requires settings { AreSettings (length store.pages) parting.now workers }
-    ensures transactions { IfOk result.0 (λ found. AreTransactionsOf log.now store.master
-        (map entry_of found.entries)) }
+    ensures transactions { IfOk result.0
+        (λ found. AreEntriesOf log.now store.master found.entries) }
     ensures no_transaction_0 { IfOk result.0 (λ found. entry_at 0 found.entries ≡ None) }
     ensures no_base { IfErr result.0 (BaseFault store.master (history log.now)) }
     ensures redone { IfOk result.1 (λ x. ArePagesRedone log.now store x.0 x.1) }
@@ -67,8 +61,8 @@ fn side_by_side<G: Gate, R: Threads + Sync>(
 {
     let master = store.master;
     let mut find = || -> Result<BTreeMap<u32, Entry>, Fault>
-        ensures transactions { IfOk result (λ found. AreTransactionsOf log.entry.now master
-            (map entry_of found.entries)) }
+        ensures transactions { IfOk result
+            (λ found. AreEntriesOf log.entry.now master found.entries) }
         ensures no_transaction_0 { IfOk result (λ found. entry_at 0 found.entries ≡ None) }
         ensures fault { IfErr result (BaseFault master (history log.entry.now)) }
     { analyse_transactions(alloc, log, master) };
@@ -76,12 +70,12 @@ fn side_by_side<G: Gate, R: Threads + Sync>(
     let mut given = Some(store);
     let mut redo = || -> Result<(Tables, Redone), Fault>
         requires settings { IfSome given
-            (λ store. AreSettings (length store.pages) parting.now workers) }
+            (λ s. AreSettings (length s.pages) parting.now workers) }
         requires ready { is_some given ≡ true }
-        ensures redone { (before : StoreContent) → given.entry ≡ Some before
-            → IfOk result (λ x. ArePagesRedone log.entry.now before x.0 x.1) }
-        ensures fault { (before : StoreContent) → given.entry ≡ Some before
-            → IfErr result (ForwardFault log.entry.now before workers) }
+        ensures redone { ForSome given.entry
+            (λ s. IfOk result (λ x. ArePagesRedone log.entry.now s x.0 x.1)) }
+        ensures fault { ForSome given.entry
+            (λ s. IfErr result (ForwardFault log.entry.now s workers)) }
     {
         match given.take() {
             Some(store) => {
@@ -114,8 +108,7 @@ pub fn go_forward<G: Gate, R: Threads + Sync>(
     requires none_ahead { NoneAhead log.now store }
     ensures redone { IfOk result (λ x. IsRedone log.now store x.0 x.1) }
     ensures no_transaction_0 { IfOk result (λ x. entry_for 0 x.0.transactions ≡ None) }
-    ensures lawful { (base : BasePages) → Lawful base log.now store
-        → MatchResult result (λ x. AreTrue log.now store x.0) (λ e. e ≡ NoResource) }
+    ensures lawful { FindsTrueTables log.now store result }
     ensures fault { IfErr result (InputFault log.now store) }
 {
     if workers == 1 {

@@ -1,8 +1,8 @@
 //! The options of a recovery.
 
-ghost use Rattle.std.specs.Prelude.{◌≡◌, Err, OnOk, IfErr};
-ghost use Rattle.page.specs.declared.fault.Fault.{Fault};
+ghost use Rattle.std.specs.Prelude.{OnOk, IfErr};
 ghost use Rattle.restart.specs.Options.{AreInRange, OptionsFault};
+ghost use Rattle.restart.specs.Results.{IsErrWhen};
 
 use page::Fault;
 use redo::{Parting, are_workers};
@@ -21,7 +21,7 @@ pub struct Options {
 pub fn check_options(options: &Options) -> Result<(), Fault>
     ensures ok { OnOk result (AreInRange options.now) }
     ensures fault { IfErr result (OptionsFault options.now) }
-    ensures refused { (e : Fault) → OptionsFault options.now e → result ≡ Err e }
+    ensures refused { IsErrWhen result (OptionsFault options.now) }
 {
     if !are_workers(options.workers) {
         return Err(Fault::BadWorkers);

@@ -1,19 +1,14 @@
 //! Restart on values: analysis, redo and undo, one after the other.
 
-ghost use Rattle.std.specs.Prelude.{◌≡◌, ◌≤◌, ◌+◌, ◌*◌, ◌^◌, All, Err, length, IfOk, OnOk, IfErr, MatchResult};
-ghost use Rattle.page.specs.declared.fault.Fault.{Fault};
-ghost use Rattle.page.specs.declared.fault.Fault.TheVariants.{NoResource};
-ghost use Rattle.page.specs.Store.{StoreContent, AreNumbered};
+ghost use Rattle.std.specs.Prelude.{◌≡◌, ◌≤◌, ◌+◌, ◌*◌, ◌^◌, All, length, IfOk, OnOk, IfErr};
+ghost use Rattle.page.specs.Store.{AreNumbered};
 ghost use Rattle.wal.specs.Records.{LogContent, history, last_lsn};
-ghost use Rattle.wal.specs.Meaning.{BasePages};
-ghost use Rattle.wal.specs.Store.{Lawful};
-ghost use Rattle.tables.specs.Lawful.{AreTrue};
-ghost use Rattle.tables.specs.Tables.{losers_in};
-ghost use Rattle.undo.specs.Appended.{appended_records, HaveUpdates, AreFit};
-ghost use Rattle.undo.specs.Enough.{AreGathered};
+ghost use Rattle.undo.specs.Appended.{HaveUpdates, AreFit};
+ghost use Rattle.undo.specs.Enough.{AppendsAlike};
 ghost use Rattle.undo.specs.Undone.{HasNoTransaction0, AreWritable};
 ghost use Rattle.restart.specs.Outcome.{outcome_of, outcome_in};
-ghost use Rattle.restart.specs.Restart.{AreSettings, SettingsFault, AheadFault, clrs_in, ends_in, IsRedone, Restarts, Restores, InputFault, RestartFault};
+ghost use Rattle.restart.specs.Restart.{AreSettings, SettingsFault, AheadFault, IsCount, clrs_in, ends_in, Restarts, RestoresWith, RestartsOnWhole, RestoresWhole, FailsOnWhole, RestartFault};
+ghost use Rattle.restart.specs.Results.{IsErrWhen};
 
 use crate::doubt::in_doubt;
 use crate::forward::go_forward;
@@ -30,8 +25,8 @@ use wal::Log;
 /// number of pages.
 fn check_settings(store: &Store, parting: &Parting, workers: u32) -> Result<(), Fault>
     ensures ok { OnOk result (AreSettings (length store.now.pages) parting.now workers) }
-    ensures refused { (e : Fault) → SettingsFault (length store.now.pages) parting.now workers e
-        → result ≡ Err e }
+    ensures refused { IsErrWhen result
+        (SettingsFault (length store.now.pages) parting.now workers) }
     ensures fault { IfErr result (SettingsFault (length store.now.pages) parting.now workers) }
 {
     if !are_workers(workers) {
@@ -60,10 +55,8 @@ pub fn check_lsns(last: u64, pages: &[Page]) -> Result<(), Fault>
 
 /// How many CLRs there are among records, and how many ends.
 fn count_kinds(appended: &[Appended]) -> (u64, u64)
-    ensures clrs { (log : LogContent) → HaveUpdates log appended.now
-        → result.0 ≡ clrs_in (appended_records (history log) appended.now) }
-    ensures ends { (log : LogContent) → HaveUpdates log appended.now
-        → result.1 ≡ ends_in (appended_records (history log) appended.now) }
+    ensures clrs { IsCount clrs_in appended.now result.0 }
+    ensures ends { IsCount ends_in appended.now result.1 }
 {
     let mut clrs = 0;
     let mut ends = 0;
@@ -98,24 +91,13 @@ pub fn roll_back(
     requires no_transaction_0 { HasNoTransaction0 tables.now }
     // For a lawful log and its store, over any base pages: the log's tail and the store that the
     // winners leave.
-    ensures lawful { (whole : LogContent) (base : BasePages) (before : StoreContent)
-        → AreGathered (history whole) (history log.now) (losers_in tables.now)
-        → Lawful base whole before → AreNumbered before.pages → before.master ≡ master
-        → AreTrue whole before tables.now → IsRedone whole before tables.now redone
-        → MatchResult result (λ x. Restores base whole before (outcome_in (history whole) x))
-        (λ e. e ≡ NoResource) }
+    ensures lawful { RestoresWhole log.now master tables.now redone result }
 
     // On success: what undo makes of the whole log and the pages.
-    ensures restarts { (whole : LogContent) (before : StoreContent)
-        → AreGathered (history whole) (history log.now) (losers_in tables.now)
-        → before.master ≡ master → IsRedone whole before tables.now redone
-        → IfOk result (λ x. Restarts whole before (outcome_in (history whole) x)) }
+    ensures restarts { RestartsOnWhole log.now master tables.now redone result }
 
     // What is appended is the same by what was gathered and by the whole log.
-    ensures alike { IfOk result (λ x. (whole : LogContent)
-        → AreGathered (history whole) (history log.now) (losers_in tables.now)
-        → appended_records (history log.now) x.appended.items
-        ≡ appended_records (history whole) x.appended.items) }
+    ensures alike { IfOk result (λ x. AppendsAlike log.now tables.now x.appended.items) }
 
     // Each update that is named is in the log; each appended record has an encoding, and they are
     // so few that there are LSNs for them after the log.
@@ -124,9 +106,7 @@ pub fn roll_back(
     ensures few { IfOk result (λ x. length x.appended.items ≤ 2 * length log.now.records + 2 ^ 32) }
 
     // On an error, its condition holds for the whole log and the store, memory aside.
-    ensures fault { (whole : LogContent) (before : StoreContent)
-        → AreGathered (history whole) (history log.now) (losers_in tables.now)
-        → IsRedone whole before tables.now redone → IfErr result (InputFault whole before) }
+    ensures fault { FailsOnWhole log.now tables.now redone result }
 {
     let in_doubt = in_doubt(alloc, tables)?;
     let (pages, appended) = undo_in_brief(alloc, log, tables, redone.pages)?;
@@ -157,15 +137,12 @@ pub fn restart_in_place<G: Gate, R: Threads + Sync>(
 ) -> Result<BriefOutcome, Fault>
     // For a lawful log and its store, over any base pages: the log's tail and the store that the
     // winners leave.
-    ensures lawful { (base : BasePages) → Lawful base log.now store
-        → AreSettings (length store.pages) parting.now workers
-        → MatchResult result (λ x. Restores base log.now store (outcome_in (history log.now) x))
-        (λ e. e ≡ NoResource) }
+    ensures lawful { RestoresWith (outcome_in (history log.now))
+        log.now store parting.now workers result }
 
     // On success: what analysis, redo and undo make of log and store, and no error condition holds.
     ensures restarts { IfOk result (λ x. Restarts log.now store (outcome_in (history log.now) x)) }
-    ensures settings { (e : Fault) → SettingsFault (length store.pages) parting.now workers e
-        → result ≡ Err e }
+    ensures settings { IsErrWhen result (SettingsFault (length store.pages) parting.now workers) }
 
     // Each update that is named is in the log.
     ensures told { IfOk result (λ x. HaveUpdates log.now x.appended.items) }
@@ -218,15 +195,12 @@ pub fn restart<G: Gate, R: Threads + Sync>(
 ) -> Result<Outcome, Fault>
     // For a lawful log and its store, over any base pages: the log's tail and the store that the
     // winners leave.
-    ensures lawful { (base : BasePages) → Lawful base log.now store.now
-        → AreSettings (length store.now.pages) parting.now workers
-        → MatchResult result (λ x. Restores base log.now store.now (outcome_of x))
-        (λ e. e ≡ NoResource) }
+    ensures lawful { RestoresWith outcome_of log.now store.now parting.now workers result }
 
     // On success: what analysis, redo and undo make of log and store, and no error condition holds.
     ensures restarts { IfOk result (λ x. Restarts log.now store.now (outcome_of x)) }
-    ensures settings { (e : Fault) → SettingsFault (length store.now.pages) parting.now workers e
-        → result ≡ Err e }
+    ensures settings { IsErrWhen result
+        (SettingsFault (length store.now.pages) parting.now workers) }
 
     // Each appended record has an encoding; they are so few that there are LSNs for them after the
     // log.

@@ -1,13 +1,10 @@
 //! Restart without threads.
 
-ghost use Rattle.std.specs.Prelude.{◌≡◌, ◌≤◌, ◌+◌, ◌*◌, ◌^◌, length, IfOk, IfErr, MatchResult};
-ghost use Rattle.page.specs.declared.fault.Fault.TheVariants.{NoResource};
+ghost use Rattle.std.specs.Prelude.{◌≤◌, ◌+◌, ◌*◌, ◌^◌, length, IfOk, IfErr};
 ghost use Rattle.wal.specs.Records.{history};
-ghost use Rattle.wal.specs.Meaning.{BasePages};
-ghost use Rattle.wal.specs.Store.{Lawful};
 ghost use Rattle.undo.specs.Appended.{HaveUpdates, AreFit};
 ghost use Rattle.restart.specs.Outcome.{outcome_in};
-ghost use Rattle.restart.specs.Restart.{Restarts, Restores, InputFault};
+ghost use Rattle.restart.specs.Restart.{Restarts, RestoresLawful, InputFault};
 
 use crate::forward::forward_alone;
 use crate::outcome::BriefOutcome;
@@ -24,9 +21,7 @@ use wal::Log;
 pub fn restart_alone(alloc: Global, log: &Log, store: Store) -> Result<BriefOutcome, Fault>
     // For a lawful log and its store, over any base pages: the log's tail and the store that the
     // winners leave.
-    ensures lawful { (base : BasePages) → Lawful base log.now store
-        → MatchResult result (λ x. Restores base log.now store (outcome_in (history log.now) x))
-        (λ e. e ≡ NoResource) }
+    ensures lawful { RestoresLawful (outcome_in (history log.now)) log.now store result }
 
     // On success: what analysis, redo and undo make of log and store, and no error condition holds.
     ensures restarts { IfOk result (λ x. Restarts log.now store (outcome_in (history log.now) x)) }

@@ -1,5 +1,6 @@
 -- What undo appends, in compact form: which records are meant (own).
-use Rattle.std.specs.Prelude.{◌≡◌, ℕ, List, All, Option, Some, map, ⊤}
+use Rattle.std.specs.Prelude.{◌≡◌, ℕ, List, All, Option, Some, Vec, map, ⊤}
+use Rattle.std.specs.declared.alloc.Global.{Global}
 use Rattle.page.specs.declared.page.Page.{Page}
 use Rattle.wal.specs.Records.{LogRecord, LogContent, Update, End, CheckpointBegin, History, history, record_at}
 use Rattle.wal.specs.Tail.{Undo, record_for, tail_of}
@@ -27,6 +28,10 @@ record_of log (brief.End tx prev) = End (record { tx = tx; prev = prev })
 abbrev pub appended_records : History → List Appended → List LogRecord
 appended_records log appended = map (record_of log) appended
 
+-- the full records, by the content of a log
+abbrev pub full_records : LogContent → List Appended → List LogRecord
+full_records log appended = appended_records (history log) appended
+
 -- the update that is compensated is in the log
 abbrev pub HasUpdate : LogContent → Appended → Type 0
 HasUpdate log (brief.Compensation update prev) = IsUpdate (record_at (history log) update)
@@ -41,14 +46,22 @@ AreFit log appended = All (λ a. Fits (record_of (history log) a)) appended
 
 -- they are the log's tail
 abbrev pub TellTail : LogContent → List Appended → Type 0
-TellTail log appended = appended_records (history log) appended ≡ tail_of log
+TellTail log appended = full_records log appended ≡ tail_of log
 
 -- the pages have their effects
 abbrev pub AreUndone : LogContent → (given : List Page) → List Appended → (pages : List Page) → Type 0
-AreUndone log given appended pages = pages ≡ map (undone_page (history log) (appended_records (history log) appended)) given
+AreUndone log given appended pages = pages ≡ map (undone_page (history log) (full_records log appended)) given
 
 -- THE LOSERS ARE ROLLED BACK, and these are the appended records in compact form
 pub record RolledBackInBrief (log : LogContent) (tables : TablesContent) (given pages : List Page) (appended : List Appended) : Type 0 where
-  pub rolled_back : RolledBack log tables given pages (appended_records (history log) appended)
+  pub rolled_back : RolledBack log tables given pages (full_records log appended)
   pub updates : HaveUpdates log appended
   pub writable : HasNoTransaction0 tables → AreFit log appended
+
+-- the pages and the compact records that undo returns: the losers are rolled back
+abbrev pub UndoesInBrief : LogContent → TablesContent → (given : List Page) → Vec Page Global × Vec Appended Global → Type 0
+UndoesInBrief log tables given made = RolledBackInBrief log tables given made.0.items made.1.items
+
+-- these compact records are the log's tail
+abbrev pub AppendsTailInBrief : LogContent → Vec Page Global × Vec Appended Global → Type 0
+AppendsTailInBrief log made = TellTail log made.1.items

@@ -9,7 +9,7 @@ use Rattle.tables.specs.Tables.{TablesContent, losers_in}
 use Rattle.undo.specs.Rollback.{hop_of}
 use Rattle.undo.specs.Undone.{UndoFault}
 use Rattle.undo.specs.declared.appended.Appended.{Appended}
-use Rattle.undo.specs.Appended.{appended_records, HaveUpdates, RolledBackInBrief}
+use Rattle.undo.specs.Appended.{full_records, HaveUpdates, RolledBackInBrief}
 use Rattle.undo.specs.Gathered.{IsPassedOver}
 
 -- the LSN to which a record sends the walk of t: an update to its PrevLSN, a CLR to its UndoNxtLSN
@@ -30,11 +30,19 @@ pub record AreGathered (whole some : History) (losers : List TableEntry) : Type 
   pub begin : (t : ℕ) (e : TableEntry) → entry_for t losers ≡ Some e → IsFound whole some t e.undo_next
   pub go_on : (t lsn next : ℕ) (e : TableEntry) → entry_for t losers ≡ Some e → sends t (record_at some lsn) ≡ Some next → next < lsn → IsFound whole some t next
 
+-- this is what was gathered of the whole log for the losers of these tables
+abbrev pub HasEnough : (whole some : LogContent) → TablesContent → Type 0
+HasEnough whole some tables = AreGathered (history whole) (history some) (losers_in tables)
+
+-- what is appended is the same by what was gathered as by the whole log
+abbrev pub AppendsAlike : (some : LogContent) → TablesContent → List Appended → Type 0
+AppendsAlike some tables appended = (whole : LogContent) → HasEnough whole some tables → full_records some appended ≡ full_records whole appended
+
 -- ENOUGH. What undo makes of what is gathered it makes of the whole log, and an error with the one is an error with the other.
 pub record Suffices (whole some : LogContent) (tables : TablesContent) : Type 0 where
   pub rolled_back : (given pages : List Page) (appended : List Appended) → RolledBackInBrief some tables given pages appended → RolledBackInBrief whole tables given pages appended
-  pub told : (appended : List Appended) → HaveUpdates some appended → appended_records (history some) appended ≡ appended_records (history whole) appended
+  pub told : (appended : List Appended) → HaveUpdates some appended → full_records some appended ≡ full_records whole appended
   pub fault : (count : ℕ) (e : Fault) → UndoFault (history some) (losers_in tables) count e → UndoFault (history whole) (losers_in tables) count e
 
 abbrev pub GatheredSuffices : Type 0
-GatheredSuffices = (whole some : LogContent) (tables : TablesContent) → AreGathered (history whole) (history some) (losers_in tables) → Suffices whole some tables
+GatheredSuffices = (whole some : LogContent) (tables : TablesContent) → HasEnough whole some tables → Suffices whole some tables

@@ -1,10 +1,10 @@
 -- A log of which only the records are kept that undo looks at (own).
-use Rattle.std.specs.Prelude.{◌≡◌, ⊤, ℕ, suc, ◌+◌, ◌*◌, ◌<◌, ◌≤◌, ◌^◌, List, All, Option, Some, map, length, ◌==◌, option_map, unwrap_or}
+use Rattle.std.specs.Prelude.{◌≡◌, ⊤, ℕ, suc, ◌+◌, ◌*◌, ◌<◌, ◌≤◌, ◌^◌, List, All, Option, Some, map, length, ◌==◌, option_map, unwrap_or, if◌then◌else◌}
 use Rattle.std.specs.List.{range_with_len, slice_get}
 use Rattle.std.specs.Map.{lookup}
 use Rattle.wal.specs.Reading.{◌>>=◌}
 use Rattle.wal.specs.declared.header.LogStart.TheVariants.{Version2}
-use Rattle.wal.specs.Records.{LogRecord, LogContent, Update, Compensation, CheckpointBegin}
+use Rattle.wal.specs.Records.{LogRecord, LogContent, History, Update, Compensation, CheckpointBegin, history, base_lsn, last_lsn, record_at}
 use Rattle.wal.specs.Spelling.{Fits}
 use Rattle.wal.specs.declared.sizes.TheConstants.{HEADER_BYTES, LARGEST_BASE, SMALLEST_FRAME}
 
@@ -33,6 +33,14 @@ pub record IsGathered (base count : ℕ) (places : List (ℕ × ℕ)) (links : L
   pub room : HEADER_BYTES + SMALLEST_FRAME * count < 2 ^ 63
   pub placed : (lsn place : ℕ) → place_of lsn places ≡ Some place → place < length links
   pub fits : All Fits links
+
+-- a record of the log has this LSN
+abbrev pub HasLsn : History → ℕ → Type 0
+HasLsn log lsn = (base_lsn log < lsn) × (lsn ≤ last_lsn log)
+
+-- the link of this record is kept at an LSN; at any other LSN nothing has changed
+abbrev pub KeepsLink : (lsn : ℕ) → LogRecord → (old new : LogContent) → Type 0
+KeepsLink lsn r old new = (n : ℕ) → record_at (history new) n ≡ (if lsn == n then Some (link_in r) else record_at (history old) n)
 
 -- undo passes over what is there
 abbrev pub IsPassedOver : Option LogRecord → Type 0

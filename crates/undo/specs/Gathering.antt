@@ -1,11 +1,12 @@
 -- The records that undo looks at, while they are gathered: a log is read in pieces, from its end to its beginning (own).
-use Rattle.std.specs.Prelude.{◌≡◌, ◌⊎◌, ℕ, ◌<◌, List, ◌∷◌, Contains, IsPermutation, Some}
-use Rattle.wal.specs.Records.{History, TableEntry, history, base_lsn, last_lsn, record_at}
+use Rattle.std.specs.Prelude.{◌≡◌, ◌⊎◌, ℕ, ◌+◌, ◌<◌, List, ◌∷◌, Contains, IsPermutation, Some}
+use Rattle.wal.specs.Records.{History, TableEntry, LogContent, history, base_lsn, last_lsn, record_at}
 use Rattle.wal.specs.Undo.{entry_for}
+use Rattle.tables.specs.Pieces.{IsPieceOf}
 use Rattle.undo.specs.declared.want.Want.{Want}
-use Rattle.undo.specs.Enough.{IsFound, sends}
+use Rattle.undo.specs.Enough.{IsFound, AreGathered, sends}
 use Rattle.undo.specs.Gathered.{IsPassedOver}
-use Rattle.undo.specs.Wants.{wants_in}
+use Rattle.undo.specs.Wants.{wants_in, WantUpTo}
 use Rattle.undo.specs.declared.gathering.Gathering.{Gathering}
 
 -- the walk of a transaction continues at this LSN
@@ -25,6 +26,30 @@ pub record AreGatheredSoFar (whole some : History) (losers : List TableEntry) (w
   pub go_on : (t lsn next : ℕ) (e : TableEntry) → entry_for t losers ≡ Some e → sends t (record_at some lsn) ≡ Some next → next < lsn
       → IsFound whole some t next ⊎ ContinuesAt waiting t next
 
--- The same for a gathering in progress.
+-- A GATHERING IN PROGRESS
+-- where its walks continue
+abbrev pub wants_of : Gathering → List Want
+wants_of g = wants_in g.wants
+
+-- what it keeps is in the whole log, and what it does not keep yet is found, or wanted
 abbrev pub IsGathering : History → List TableEntry → Gathering → Type 0
-IsGathering whole losers g = AreGatheredSoFar whole (history g.gathered) losers (wants_in g.wants)
+IsGathering whole losers g = AreGatheredSoFar whole (history g.gathered) losers (wants_of g)
+
+-- it begins so, for each log with this base LSN and this many records
+abbrev pub BeginsGathering : (base count : ℕ) → List TableEntry → Gathering → Type 0
+BeginsGathering base count losers g = (whole : History) → base_lsn whole ≡ base → last_lsn whole ≡ base + count → IsGathering whole losers g
+
+-- the record at the LSN of a want is gathered from a piece, if the piece has there what the whole log has
+abbrev pub GathersAt : (piece : History) → Want → (old new : Gathering) → Type 0
+GathersAt piece want old new = (whole : History) (losers : List TableEntry) → record_at piece want.lsn ≡ record_at whole want.lsn
+    → AreGatheredSoFar whole (history old.gathered) losers (want ∷ wants_of old) → IsGathering whole losers new
+
+-- a piece of the whole log is gathered, if no walk continues after it
+abbrev pub GathersPiece : (piece : History) → (old new : Gathering) → Type 0
+GathersPiece piece old new = (whole : History) (losers : List TableEntry) → IsPieceOf whole piece → WantUpTo (last_lsn piece) (wants_of old)
+    → IsGathering whole losers old → IsGathering whole losers new
+
+-- what it keeps is enough of the whole log, if no walk continues in it
+abbrev pub EndsGathering : Gathering → (gathered : LogContent) → Type 0
+EndsGathering g gathered = (whole : History) (losers : List TableEntry) → IsGathering whole losers g → WantUpTo (base_lsn whole) (wants_of g)
+    → AreGathered whole (history gathered) losers

@@ -1,5 +1,6 @@
 -- A rollback in progress: where each loser continues, and what is left to be undone (own).
-use Rattle.std.specs.Prelude.{◌≡◌, ◌≢◌, ℕ, suc, ◌+◌, ◌-◌, ◌<◌, ◌≤◌, ◌⊎◌, List, All, [], ◌∷◌, ◌++◌, length, flat_map, Option, Some, None, option_map, MatchOption, true, ◌==◌, if◌then◌else◌, ⊤}
+use Rattle.std.specs.Prelude.{◌≡◌, ◌≢◌, ℕ, suc, ◌+◌, ◌-◌, ◌<◌, ◌≤◌, ◌⊎◌, List, All, [], ◌∷◌, ◌++◌, length, flat_map, Option, Some, None, Vec, option_map, MatchOption, true, ◌==◌, if◌then◌else◌, ⊤}
+use Rattle.std.specs.declared.alloc.Global.{Global}
 use Rattle.page.specs.declared.page.Page.{Page}
 use Rattle.page.specs.Store.{AreNumbered}
 use Rattle.page.specs.declared.fault.Fault.{Fault}
@@ -10,15 +11,19 @@ use Rattle.wal.specs.Tail.{Action, Undo, record_for, records_for, is_among, is_s
 use Rattle.wal.specs.Store.{NamesPages}
 use Rattle.wal.specs.Undo.{entry_for, walk_of, undone_by}
 use Rattle.tables.specs.Tables.{TablesContent, losers_in}
-use Rattle.undo.specs.Undone.{UndoFault, HasNoTransaction0}
-use Rattle.undo.specs.Appended.{appended_records, HaveUpdates, AreFit, AreUndone, RolledBackInBrief}
+use Rattle.undo.specs.Undone.{UndoFault, RollbackFault, HasNoTransaction0}
+use Rattle.undo.specs.Appended.{full_records, HaveUpdates, AreFit, AreUndone, RolledBackInBrief}
 use Rattle.undo.specs.declared.appended.Appended.{Appended}
 use Rattle.undo.specs.declared.walk.Hop.{Hop}
 use Rattle.undo.specs.declared.walk.Hop.TheVariants as hop
 use Rattle.undo.specs.declared.losers.Loser.{Loser}
 use Rattle.undo.specs.declared.losers.Rollback.{Rollback}
 use Rattle.undo.specs.declared.turns.Turns.{Turns}
-use Rattle.undo.specs.Turns.{Waiting, Taken, turn_at}
+use Rattle.undo.specs.Turns.{Waiting, AlsoWaits, Taken, turn_at}
+
+-- what held before a change holds after it
+abbrev pub Preserves : {A : Type 0} → (A → Type 0) → (old new : A) → Type 0
+Preserves Holds old new = Holds old → Holds new
 
 -- A WALK
 -- the place to which a transaction is sent by the record at an LSN, which must be an update or a CLR of it
@@ -30,6 +35,10 @@ hop_of t None = None
 -- the walk of t that the record at the LSN `from` sends to another
 abbrev pub walk_from : History → ℕ → ℕ → ℕ → Walk
 walk_from log t from lsn = hops t (first (from - 1) log) lsn
+
+-- what holds of the update at an LSN, if an update is there
+abbrev pub ForUpdateAt : History → (lsn : ℕ) → (UpdateRecord → Type 0) → Type 0
+ForUpdateAt log lsn Holds = (u : UpdateRecord) → record_at log lsn ≡ Some (Update u) → Holds u
 
 -- an update of t is there
 pub record IsUpdateAt (log : History) (t lsn : ℕ) : Type 0 where
@@ -67,7 +76,7 @@ pub record Ends (log : History) (l : Loser) (from lsn : ℕ) (old new : Waiting)
 pub record Stays (log : History) (l : Loser) (from lsn : ℕ) (old new : Waiting) (before after : List LogRecord) : Type 0 where
   pub update_lsn : ℕ
   pub meets : Meets log l.tx from lsn update_lsn
-  pub waiting : (n : ℕ) → new n ≡ (if update_lsn == n then Some l else old n)
+  pub waiting : AlsoWaits update_lsn l old new
   pub appended : after ≡ before
 
 abbrev pub Resolved : History → Loser → ℕ → ℕ → Waiting → Waiting → List LogRecord → List LogRecord → Type 0
@@ -113,7 +122,7 @@ undos left log = flat_map (undo_of left) (updates_where (is_stacked left) log)
 -- all that wait are below this LSN, and the update there is on a page below the count
 pub record IsPassed (log : History) (count : ℕ) (at : Waiting) (lsn : ℕ) : Type 0 where
   pub above : WaitBelow lsn at
-  pub exists : (u : UpdateRecord) → record_at log lsn ≡ Some (Update u) → u.page < count
+  pub exists : ForUpdateAt log lsn (λ u. u.page < count)
 
 -- what has been appended and what is left are together what undo appends; what is met is left or passed
 pub record RollbackInvariant (log : History) (losers : List TableEntry) (count : ℕ) (at : Waiting) (appended : List LogRecord) : Type 0 where
@@ -132,20 +141,20 @@ pub record Compensated (u : UpdateRecord) (last count prev : ℕ) (before after 
   pub appended : after ≡ before ++ record_for (λ _. last) (Undo u) ∷ []
 
 -- the same for the update at an LSN, with the CLR in compact form
-abbrev pub Undoes : LogContent → (update_lsn last : ℕ) → (pages : List Page) → (before after : List Appended) → (prev : ℕ) → Type 0
+abbrev pub Undoes : LogContent → (update_lsn last : ℕ) → (pages : List Page) → (before after : Vec Appended Global) → (prev : ℕ) → Type 0
 Undoes log update_lsn last pages before after prev =
-    (u : UpdateRecord) → record_at (history log) update_lsn ≡ Some (Update u)
-    → Compensated u last (length pages) prev (appended_records (history log) before) (appended_records (history log) after)
+    ForUpdateAt (history log) update_lsn (λ u. Compensated u last (length pages) prev (full_records log before.items) (full_records log after.items))
 
 -- the error if it is not undone, memory aside: its page is missing
 abbrev pub CompensationFault : History → ℕ → ℕ → Fault → Type 0
 CompensationFault log update_lsn count NoResource = ⊤
-CompensationFault log update_lsn count (NoSuchPage lsn) = (lsn ≡ update_lsn) × ((u : UpdateRecord) → record_at log update_lsn ≡ Some (Update u) → count ≤ u.page)
+CompensationFault log update_lsn count (NoSuchPage lsn) = (lsn ≡ update_lsn) × ForUpdateAt log update_lsn (λ u. count ≤ u.page)
 CompensationFault log update_lsn count e = ⊥
 
 -- pages with the effects of what was appended have those of what is appended now
-abbrev pub KeepsUndone : LogContent → (before : List Appended) → (old : List Page) → (after : List Appended) → (new : List Page) → Type 0
-KeepsUndone log before old after new = (given : List Page) → AreNumbered given → AreUndone log given before old → AreUndone log given after new
+abbrev pub KeepsUndone : LogContent → (before : Vec Appended Global) → (old : List Page) → (after : Vec Appended Global) → (new : List Page) → Type 0
+KeepsUndone log before old after new =
+    (given : List Page) → AreNumbered given → AreUndone log given before.items old → AreUndone log given after.items new
 
 -- A ROLLBACK IN PROGRESS, as the program has it
 -- the loser that waits at an LSN
@@ -158,17 +167,17 @@ AreUpdates log r = (n : ℕ) (l : Loser) → loser_at r n ≡ Some l → IsUpdat
 
 -- a loser is resolved; what is appended still has its updates, and an encoding
 pub record Resolves (log : LogContent) (l : Loser) (from lsn : ℕ) (old new : Rollback) : Type 0 where
-  pub resolved : Resolved (history log) l from lsn (loser_at old) (loser_at new) (appended_records (history log) old.appended.items) (appended_records (history log) new.appended.items)
-  pub updates : HaveUpdates log old.appended.items → HaveUpdates log new.appended.items
-  pub writable : 0 < l.tx → AreFit log old.appended.items → AreFit log new.appended.items
+  pub resolved : Resolved (history log) l from lsn (loser_at old) (loser_at new) (full_records log old.appended.items) (full_records log new.appended.items)
+  pub updates : Preserves (HaveUpdates log) old.appended.items new.appended.items
+  pub writable : 0 < l.tx → Preserves (AreFit log) old.appended.items new.appended.items
 
 -- the losers of the tables are being rolled back on pages that were the given ones: what is left waits, and the pages have the effects of
 -- what is appended
 pub record IsRolling (log : LogContent) (tables : TablesContent) (given : List Page) (r : Rollback) (pages : List Page) : Type 0 where
   pub numbered : AreNumbered given
-  pub left : RollbackInvariant (history log) (losers_in tables) (length given) (loser_at r) (appended_records (history log) r.appended.items)
+  pub left : RollbackInvariant (history log) (losers_in tables) (length given) (loser_at r) (full_records log r.appended.items)
   pub updates : HaveUpdates log r.appended.items
-  pub exist : All (NamesPages (length given)) (appended_records (history log) r.appended.items)
+  pub exist : All (NamesPages (length given)) (full_records log r.appended.items)
   pub pages_are : AreUndone log given r.appended.items pages
   pub writable : HasNoTransaction0 tables → AreFit log r.appended.items
 
@@ -192,11 +201,19 @@ abbrev pub HasUndoneAll : LogContent → (old : Rollback) → (before : List Pag
 HasUndoneAll log old before new after =
     (tables : TablesContent) (given : List Page) → IsRolling log tables given old before → RolledBackInBrief log tables given after new.appended.items
 
+-- at most this many records are appended
+abbrev pub AppendsAtMost : (most : ℕ) → (old new : Rollback) → Type 0
+AppendsAtMost most old new = length new.appended.items ≤ length old.appended.items + most
+
+-- why a rollback cannot begin, on any number of pages
+abbrev pub StopsBeginning : LogContent → TablesContent → Fault → Type 0
+StopsBeginning log tables e = (count : ℕ) → UndoFault (history log) (losers_in tables) count e
+
 -- why the one cannot be undone, and why all cannot
 abbrev pub StopsUndo : LogContent → ℕ → Loser → Rollback → List Page → Fault → Type 0
 StopsUndo log update_lsn l r pages e =
-    (tables : TablesContent) (given : List Page) → IsTaken log tables given update_lsn l r pages → UndoFault (history log) (losers_in tables) (length given) e
+    (tables : TablesContent) (given : List Page) → IsTaken log tables given update_lsn l r pages → RollbackFault log tables given e
 
 abbrev pub StopsRollback : LogContent → Rollback → List Page → Fault → Type 0
 StopsRollback log r pages e =
-    (tables : TablesContent) (given : List Page) → IsRolling log tables given r pages → UndoFault (history log) (losers_in tables) (length given) e
+    (tables : TablesContent) (given : List Page) → IsRolling log tables given r pages → RollbackFault log tables given e

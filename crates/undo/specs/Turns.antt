@@ -1,5 +1,5 @@
 -- The losers that wait, and for which update (own).
-use Rattle.std.specs.Prelude.{◌≡◌, ◌≢◌, ℕ, ◌≤◌, List, map, Option, Some, None, ◌==◌}
+use Rattle.std.specs.Prelude.{◌≡◌, ◌≢◌, ℕ, ◌≤◌, List, map, Option, Some, None, ◌==◌, if◌then◌else◌}
 use Rattle.std.specs.Map.{lookup}
 use Rattle.std.specs.BinaryHeap.{heap_items}
 use Rattle.undo.specs.declared.losers.Loser.{Loser}
@@ -8,6 +8,10 @@ use Rattle.undo.specs.declared.turns.Turns.{Turns}
 -- the loser that waits at an LSN
 abbrev pub Waiting : Type 0
 Waiting = ℕ → Option Loser
+
+-- this loser waits at this LSN; at any other LSN nothing has changed
+abbrev pub AlsoWaits : (lsn : ℕ) → Loser → (old new : Waiting) → Type 0
+AlsoWaits lsn loser old new = (n : ℕ) → new n ≡ (if lsn == n then Some loser else old n)
 
 -- the loser that waits at the newest update is taken
 pub record Taken (update_lsn : ℕ) (l : Loser) (old new : Waiting) : Type 0 where

@@ -1,5 +1,6 @@
 -- What undo makes of any log, tables and pages, and its errors. ARIES, section 6.3 (undo pass).
-use Rattle.std.specs.Prelude.{◌≡◌, ℕ, suc, ◌<◌, ◌≤◌, ◌⊎◌, min, [], ◌∷◌, List, All, Some, None, true, length, map, nat_lt, ⊤}
+use Rattle.std.specs.Prelude.{◌≡◌, ℕ, suc, ◌+◌, ◌*◌, ◌<◌, ◌≤◌, ◌⊎◌, min, [], ◌∷◌, List, All, Some, None, Vec, true, length, map, nat_lt, ⊤}
+use Rattle.std.specs.declared.alloc.Global.{Global}
 use Rattle.std.specs.List.{range_with_len}
 use Rattle.page.specs.Image.{Image}
 use Rattle.page.specs.declared.page.Page.{Page}
@@ -9,7 +10,7 @@ use Rattle.page.specs.Causes.{HasOneCause, HasNoCause}
 use Rattle.page.specs.declared.fault.Fault.TheVariants.{NoResource, NoSuchPage, BrokenChain}
 use Rattle.wal.specs.Records.{TableEntry, UpdateRecord, LogRecord, LogContent, Update, History, history, last_lsn, record_at, ◌▸▸◌}
 use Rattle.wal.specs.Meaning.{BasePages, Cells, effects}
-use Rattle.wal.specs.Tail.{is_among}
+use Rattle.wal.specs.Tail.{is_among, tail_of}
 use Rattle.wal.specs.Redo.{held_by, last_where}
 use Rattle.wal.specs.Store.{NamesPages, Lawful}
 use Rattle.wal.specs.Undo.{entry_for, walk_of, undone_by}
@@ -58,6 +59,18 @@ pub record RolledBack (log : LogContent) (tables : TablesContent) (given pages :
   pub met_exist : MetExist (history log) (losers_in tables) (length given) 0
   pub exist : All (NamesPages (length given)) appended
 
+-- the pages and the records that undo returns: the losers are rolled back, and the records are those that it appends
+abbrev pub UndoesLosers : LogContent → TablesContent → (given : List Page) → Vec Page Global × Vec Record Global → Type 0
+UndoesLosers log tables given made = RolledBack log tables given made.0.items (map content made.1.items)
+
+-- the records that undo returns are the log's tail
+abbrev pub AppendsTail : LogContent → Vec Page Global × Vec Record Global → Type 0
+AppendsTail log made = map content made.1.items ≡ tail_of log
+
+-- how many records undo appends at most: two for each record of the log, and one for each loser
+abbrev pub most_appended : LogContent → TablesContent → ℕ
+most_appended log tables = 2 * length log.records + length (losers_in tables)
+
 -- AFTER A CRASH. A lawful log and its store, over base pages, and true tables; there are as many pages as in the store (own).
 pub record IsLawfulCrash (log : LogContent) (tables : TablesContent) (pages : List Page) : Type 0 where
   pub base : BasePages
@@ -104,6 +117,10 @@ UndoFault log losers count NoResource = ⊤
 UndoFault log losers count (NoSuchPage lsn) = MeetsMissing log losers count lsn
 UndoFault log losers count (BrokenChain lsn) = Breaks log losers count lsn
 UndoFault log losers count e = ⊥
+
+-- the same for the losers of these tables on these pages
+abbrev pub RollbackFault : LogContent → TablesContent → (given : List Page) → Fault → Type 0
+RollbackFault log tables given e = UndoFault (history log) (losers_in tables) (length given) e
 
 -- ONE ERROR. Undo has at most one error, and none if it succeeds.
 abbrev pub OneUndoFault : Type 0

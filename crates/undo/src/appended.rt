@@ -5,7 +5,7 @@ ghost use Rattle.page.specs.declared.fault.Fault.TheVariants.{NoResource};
 ghost use Rattle.wal.specs.Records.{history};
 ghost use Rattle.wal.specs.Content.{content, shown};
 ghost use Rattle.wal.specs.Spelling.{Fits, frame};
-ghost use Rattle.undo.specs.Appended.{HasUpdate, HaveUpdates, record_of, appended_records};
+ghost use Rattle.undo.specs.Appended.{HasUpdate, HaveUpdates, record_of, full_records};
 
 use crate::looked::Looked;
 use page::Fault;
@@ -97,8 +97,7 @@ pub fn record_of(log: &Looked, appended: Appended) -> Record
 /// refused.
 pub fn records_of(alloc: Global, log: &Looked, appended: &[Appended]) -> Result<Vec<Record>, Fault>
     requires { HaveUpdates log.now appended.now }
-    ensures ok { IfOk result (λ x. map content x.items
-        ≡ appended_records (history log.now) appended.now) }
+    ensures ok { IfOk result (λ x. map content x.items ≡ full_records log.now appended.now) }
     ensures err { IsOkUnless result NoResource }
 {
     let mut records = Vec::with_capacity(alloc, appended.len())?;

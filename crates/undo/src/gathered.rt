@@ -1,12 +1,12 @@
 //! A log of which only the records are kept that undo looks at.
 
-ghost use Rattle.std.specs.Prelude.{◌≡◌, ◌+◌, ◌*◌, ◌-◌, ◌<◌, ◌≤◌, ◌^◌, length, option_map, ℕ, Some, None, OnOk, IfSome, if◌then◌else◌, ◌==◌, IsOkUnless, IsTrue, ◌↔◌};
+ghost use Rattle.std.specs.Prelude.{◌≡◌, ◌+◌, ◌*◌, ◌-◌, ◌<◌, ◌≤◌, ◌^◌, length, option_map, ℕ, Some, None, OnOk, IfSome, IsOkUnless, IsTrue, ◌↔◌};
 ghost use Rattle.page.specs.declared.fault.Fault.TheVariants.{NoResource};
 ghost use Rattle.wal.specs.Content.{content, shown};
 ghost use Rattle.wal.specs.Records.{history, record_at, last_lsn, base_lsn};
 ghost use Rattle.wal.specs.Spelling.{Fits};
 ghost use Rattle.wal.specs.declared.sizes.TheConstants.{HEADER_BYTES, LARGEST_BASE, SMALLEST_FRAME};
-ghost use Rattle.undo.specs.Gathered.{link_in, IsPassedOver};
+ghost use Rattle.undo.specs.Gathered.{link_in, IsPassedOver, HasLsn, KeepsLink};
 
 use page::{Fault, Value};
 use std::alloc::Global;
@@ -121,8 +121,7 @@ impl Gathered {
         requires fits { Fits (content link) }
         ensures base { base_lsn (history self.new) ≡ base_lsn (history self.old) }
         ensures last { last_lsn (history self.new) ≡ last_lsn (history self.old) }
-        ensures kept { OnOk result ((n : ℕ) → record_at (history self.new) n
-            ≡ (if lsn == n then Some (link_in (content link)) else record_at (history self.old) n)) }
+        ensures kept { OnOk result (KeepsLink lsn (content link) self.old self.new) }
         ensures err { IsOkUnless result NoResource }
     {
         let place = self.records.len();
@@ -133,8 +132,7 @@ impl Gathered {
 
     /// Whether the log has a record at an LSN.
     pub fn has(&self, lsn: u64) -> bool
-        ensures { IsTrue result ↔ ((base_lsn (history self.now) < lsn)
-            × (lsn ≤ last_lsn (history self.now))) }
+        ensures { IsTrue result ↔ HasLsn (history self.now) lsn }
     {
         let last = self.base + self.count;
         if lsn <= self.base || last < lsn {

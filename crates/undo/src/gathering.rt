@@ -1,17 +1,16 @@
 //! The records that undo looks at, gathered while a log is read in pieces, from its end to its
 //! beginning.
 
-ghost use Rattle.std.specs.Prelude.{◌≡◌, ◌≢◌, ◌+◌, ◌*◌, ◌<◌, ◌≤◌, ◌^◌, ◌∷◌, [], ℕ, List, Some, IfNone, IfOk, IfSome, IsPermutation, OnOk, IsOkUnless};
+ghost use Rattle.std.specs.Prelude.{◌≡◌, ◌+◌, ◌*◌, ◌<◌, ◌≤◌, ◌^◌, ℕ, Some, IfOk, OnOk, IsOkUnless};
 ghost use Rattle.page.specs.declared.fault.Fault.TheVariants.{NoResource};
 ghost use Rattle.wal.specs.Content.{shown};
-ghost use Rattle.wal.specs.Records.{History, TableEntry, history, base_lsn, last_lsn, record_at};
+ghost use Rattle.wal.specs.Records.{history, base_lsn};
 ghost use Rattle.wal.specs.Spelling.{Fits};
 ghost use Rattle.wal.specs.declared.sizes.TheConstants.{HEADER_BYTES, LARGEST_BASE, SMALLEST_FRAME};
-ghost use Rattle.tables.specs.Pieces.{IsPieceOf};
 ghost use Rattle.tables.specs.Tables.{losers_in};
-ghost use Rattle.undo.specs.Enough.{AreGathered, sends};
-ghost use Rattle.undo.specs.Wants.{WantUpTo, wants_in};
-ghost use Rattle.undo.specs.Gathering.{AreGatheredSoFar, IsGathering, MayWant};
+ghost use Rattle.undo.specs.Enough.{sends};
+ghost use Rattle.undo.specs.Wants.{WantUpTo, AddsBelow};
+ghost use Rattle.undo.specs.Gathering.{wants_of, MayWant, BeginsGathering, GathersAt, GathersPiece, EndsGathering};
 
 use crate::gathered::Gathered;
 use crate::losers::is_lost;
@@ -62,10 +61,8 @@ impl Gathering {
     pub fn begin(alloc: Global, base: u64, count: u64, tables: &Tables) -> Result<Gathering, Fault>
         requires low { base ≤ LARGEST_BASE }
         requires room { HEADER_BYTES + SMALLEST_FRAME * count < 2 ^ 63 }
-        ensures begun { IfOk result (λ gathering. (whole : History) → base_lsn whole ≡ base
-            → last_lsn whole ≡ base + count → IsGathering whole (losers_in tables.now) gathering) }
-        ensures before { IfOk result (λ gathering. WantUpTo (base + count)
-            (wants_in gathering.wants)) }
+        ensures begun { IfOk result (BeginsGathering base count (losers_in tables.now)) }
+        ensures before { IfOk result (λ gathering. WantUpTo (base + count) (wants_of gathering)) }
         ensures err { IsOkUnless result NoResource }
     {
         let mut gathering = Gathering {
@@ -83,9 +80,7 @@ impl Gathering {
 
     /// What is gathered after the whole log was read: enough to roll the losers back.
     pub fn finish(self) -> Gathered
-        ensures { (whole : History) (losers : List TableEntry) → IsGathering whole losers self
-            → WantUpTo (base_lsn whole) (wants_in self.wants)
-            → AreGathered whole (history result) losers }
+        ensures { EndsGathering self result }
     {
         self.gathered
     }
@@ -93,8 +88,8 @@ impl Gathering {
     /// The highest LSN at which a transaction continues; 0 if none does. No record after it is
     /// looked at.
     pub fn upto(&self) -> u64
-        ensures up_to { WantUpTo result (wants_in self.now.wants) }
-        ensures least { (n : ℕ) → WantUpTo n (wants_in self.now.wants) → result ≤ n }
+        ensures up_to { WantUpTo result (wants_of self.now) }
+        ensures least { (n : ℕ) → WantUpTo n (wants_of self.now) → result ≤ n }
     {
         self.wants.highest()
     }
@@ -102,10 +97,8 @@ impl Gathering {
     /// Lets a transaction continue at an LSN, if that is below the record that sends it there.
     fn go_on(&mut self, tx: u32, from: u64, lsn: u64) -> Result<(), Fault>
         ensures same { self.new.gathered ≡ self.old.gathered }
-        ensures wants { OnOk result (MayWant tx from lsn (wants_in self.old.wants)
-            (wants_in self.new.wants)) }
-        ensures below { OnOk result ((n : ℕ) → from ≤ n + 1 → WantUpTo n (wants_in self.old.wants)
-            → WantUpTo n (wants_in self.new.wants)) }
+        ensures wants { OnOk result (MayWant tx from lsn (wants_of self.old) (wants_of self.new)) }
+        ensures below { OnOk result (AddsBelow from (wants_of self.old) (wants_of self.new)) }
         ensures err { IsOkUnless result NoResource }
     {
         if lsn < from && lsn != 0 {
@@ -117,12 +110,9 @@ impl Gathering {
     /// Keeps the record at which a transaction continues, if it is an update or a CLR of the
     /// transaction, and lets the transaction continue from there. The only error is `NoResource`.
     fn gather_at(&mut self, alloc: Global, piece: &Log, want: Want) -> Result<(), Fault>
-        ensures gathered { OnOk result ((whole : History) (losers : List TableEntry)
-            → record_at (history piece.now) want.lsn ≡ record_at whole want.lsn
-            → AreGatheredSoFar whole (history self.old.gathered) losers
-            (want ∷ wants_in self.old.wants) → IsGathering whole losers self.new) }
-        ensures below { OnOk result ((n : ℕ) → want.lsn ≤ n → WantUpTo n (wants_in self.old.wants)
-            → WantUpTo n (wants_in self.new.wants)) }
+        ensures gathered { OnOk result (GathersAt (history piece.now) want self.old self.new) }
+        ensures below { OnOk result
+            (AddsBelow (want.lsn + 1) (wants_of self.old) (wants_of self.new)) }
         ensures err { IsOkUnless result NoResource }
     {
         let Some(view) = piece.get(want.lsn) else {
@@ -146,12 +136,8 @@ impl Gathering {
     /// The only error is `NoResource`, if memory was refused. What is gathered must then not be
     /// used.
     pub fn take(&mut self, alloc: Global, piece: &Log) -> Result<(), Fault>
-        ensures gathered { OnOk result ((whole : History) (losers : List TableEntry)
-            → IsPieceOf whole (history piece.now)
-            → WantUpTo (last_lsn (history piece.now)) (wants_in self.old.wants)
-            → IsGathering whole losers self.old → IsGathering whole losers self.new) }
-        ensures before { OnOk result (WantUpTo (base_lsn (history piece.now))
-            (wants_in self.new.wants)) }
+        ensures gathered { OnOk result (GathersPiece (history piece.now) self.old self.new) }
+        ensures before { OnOk result (WantUpTo (base_lsn (history piece.now)) (wants_of self.new)) }
         ensures err { IsOkUnless result NoResource }
     {
         let base = piece.base();

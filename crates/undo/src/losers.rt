@@ -5,8 +5,7 @@ ghost use Rattle.wal.specs.Records.{history, last_lsn};
 ghost use Rattle.wal.specs.Content.{entry_of};
 ghost use Rattle.wal.specs.Undo.{is_lost};
 ghost use Rattle.tables.specs.Tables.{losers_in};
-ghost use Rattle.undo.specs.Undone.{UndoFault};
-ghost use Rattle.undo.specs.Rollback.{walk_from, WalkFault, loser_at, AreUpdates, AreOthers, Resolves, BeginsRollback};
+ghost use Rattle.undo.specs.Rollback.{walk_from, WalkFault, loser_at, AreUpdates, AreOthers, Resolves, BeginsRollback, StopsBeginning};
 
 use crate::Appended;
 use crate::looked::Looked;
@@ -52,8 +51,7 @@ impl Rollback {
         ensures ok { IfOk result (BeginsRollback log.now tables.now) }
         ensures few { IfOk result (λ r. length r.appended.items ≤ length (losers_in tables.now)) }
         ensures numbers { OnOk result (length (losers_in tables.now) ≤ 2 ^ 32) }
-        ensures fault { IfErr result (λ e. (count : ℕ)
-            → UndoFault (history log.now) (losers_in tables.now) count e) }
+        ensures fault { IfErr result (StopsBeginning log.now tables.now) }
     {
         let mut rollback = Rollback {
             waiting: Turns::new(alloc),

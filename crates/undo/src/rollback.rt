@@ -1,15 +1,13 @@
 //! The undo pass: the updates of all losers are undone, the newest first.
 
-ghost use Rattle.std.specs.Prelude.{◌≡◌, ◌≤◌, ◌<◌, ◌+◌, ◌*◌, ◌^◌, length, map, OnOk, IfOk, IfErr, IsOkUnless, vec_len};
+ghost use Rattle.std.specs.Prelude.{◌≡◌, ◌≤◌, ◌<◌, ◌+◌, ◌*◌, ◌^◌, length, OnOk, IfOk, IfErr, IsOkUnless, vec_len};
 ghost use Rattle.page.specs.declared.fault.Fault.TheVariants.{NoResource};
 ghost use Rattle.page.specs.Store.{AreNumbered};
-ghost use Rattle.wal.specs.Records.{UpdateRecord, Update, history, record_at, last_lsn};
-ghost use Rattle.wal.specs.Content.{content};
-ghost use Rattle.wal.specs.Tail.{tail_of};
+ghost use Rattle.wal.specs.Records.{history, record_at, last_lsn};
 ghost use Rattle.tables.specs.Tables.{losers_in};
-ghost use Rattle.undo.specs.Undone.{RolledBack, IsLawfulCrash, UndoFault, HasNoTransaction0, AreWritable};
-ghost use Rattle.undo.specs.Appended.{IsUpdate, HaveUpdates, AreFit, TellTail, RolledBackInBrief};
-ghost use Rattle.undo.specs.Rollback.{loser_at, IsUpdateAt, Undoes, KeepsUndone, CompensationFault, WaitBelow, AreOthers, WaitOnce, AreUpdates, UndoesNewest, HasUndoneAll, StopsUndo, StopsRollback};
+ghost use Rattle.undo.specs.Undone.{UndoesLosers, AppendsTail, most_appended, IsLawfulCrash, RollbackFault, HasNoTransaction0, AreWritable};
+ghost use Rattle.undo.specs.Appended.{IsUpdate, HaveUpdates, AreFit, UndoesInBrief, AppendsTailInBrief};
+ghost use Rattle.undo.specs.Rollback.{Preserves, loser_at, ForUpdateAt, IsUpdateAt, Undoes, KeepsUndone, CompensationFault, WaitBelow, AreOthers, WaitOnce, AreUpdates, UndoesNewest, HasUndoneAll, AppendsAtMost, StopsUndo, StopsRollback};
 
 use crate::appended::{Appended, records_of};
 use crate::looked::{Looked, Place};
@@ -32,15 +30,14 @@ fn compensate(
     requires update { IsUpdate (record_at (history log.now) update_lsn) }
     requires lsn { lsn ≡ last_lsn (history log.now) + vec_len appended.old + 1 }
     ensures ok { IfOk result
-        (Undoes log.now update_lsn last pages.old appended.old.items appended.new.items) }
+        (Undoes log.now update_lsn last pages.old appended.old appended.new) }
     ensures pages { OnOk result
-        (KeepsUndone log.now appended.old.items pages.old appended.new.items pages.new) }
+        (KeepsUndone log.now appended.old pages.old appended.new pages.new) }
     ensures updates { OnOk result
-        (HaveUpdates log.now appended.old.items → HaveUpdates log.now appended.new.items) }
+        (Preserves (HaveUpdates log.now) appended.old.items appended.new.items) }
     ensures writable { OnOk result
-        (AreFit log.now appended.old.items → AreFit log.now appended.new.items) }
-    ensures counted { (u : UpdateRecord) → record_at (history log.now) update_lsn ≡ Some (Update u)
-        → 0 < u.tx }
+        (Preserves (AreFit log.now) appended.old.items appended.new.items) }
+    ensures counted { ForUpdateAt (history log.now) update_lsn (λ u. 0 < u.tx) }
     ensures fault { IfErr result
         (CompensationFault (history log.now) update_lsn (length pages.old)) }
 {
@@ -82,12 +79,11 @@ impl Rollback {
         requires others { AreOthers loser.tx (loser_at self.old) }
         ensures undoes { OnOk result
             (UndoesNewest log.now update_lsn loser self.old pages.old self.new pages.new) }
-        ensures updates { OnOk result (AreUpdates log.now self.old → AreUpdates log.now self.new) }
-        ensures once { OnOk result (WaitOnce (loser_at self.old) → WaitOnce (loser_at self.new)) }
-        ensures falls { OnOk result (WaitBelow update_lsn (loser_at self.old)
-            → WaitBelow update_lsn (loser_at self.new)) }
-        ensures few { OnOk result
-            (length self.new.appended.items ≤ length self.old.appended.items + 2) }
+        ensures updates { OnOk result (Preserves (AreUpdates log.now) self.old self.new) }
+        ensures once { OnOk result (Preserves WaitOnce (loser_at self.old) (loser_at self.new)) }
+        ensures falls { OnOk result
+            (Preserves (WaitBelow update_lsn) (loser_at self.old) (loser_at self.new)) }
+        ensures few { OnOk result (AppendsAtMost 2 self.old self.new) }
         ensures fault { IfErr result (StopsUndo log.now update_lsn loser self.old pages.old) }
     {
         let lsn = log.next_lsn() + self.appended.len() as u64;
@@ -105,8 +101,7 @@ impl Rollback {
         requires once { WaitOnce (loser_at self.old) }
         requires room { vec_len self.old.appended ≤ 2 ^ 32 }
         ensures undoes { OnOk result (HasUndoneAll log.now self.old pages.old self.new pages.new) }
-        ensures few { OnOk result (length self.new.appended.items
-            ≤ length self.old.appended.items + 2 * length log.now.records) }
+        ensures few { OnOk result (AppendsAtMost (2 * length log.now.records) self.old self.new) }
         ensures fault { IfErr result (StopsRollback log.now self.old pages.old) }
     {
         while let Some((update_lsn, loser)) = self.waiting.take_newest() {
@@ -127,23 +122,20 @@ pub fn undo_in_brief(
     requires { AreNumbered pages.items }
     // The losers are rolled back on the pages. Each update that is named is in the log, and each
     // appended record has an encoding, if no loser has the number 0.
-    ensures rolled_back { IfOk result
-        (λ x. RolledBackInBrief log.now tables.now pages.items x.0.items x.1.items) }
+    ensures rolled_back { IfOk result (UndoesInBrief log.now tables.now pages.items) }
 
     // At most two records are appended for each record of the log, and one for each loser; losers
     // have numbers of 32 bits.
-    ensures few { IfOk result (λ x. length x.1.items ≤ 2 * length log.now.records + length
-        (losers_in tables.now)) }
+    ensures few { IfOk result (λ x. length x.1.items ≤ most_appended log.now tables.now) }
     ensures numbers { OnOk result (length (losers_in tables.now) ≤ 2 ^ 32) }
 
     // On an error, its condition holds: a bad hop or a missing page, whichever comes first, memory
     // aside.
-    ensures fault { IfErr result (UndoFault (history log.now) (losers_in tables.now)
-        (length pages.items)) }
+    ensures fault { IfErr result (RollbackFault log.now tables.now pages.items) }
 
     // For a lawful log and its store, with true tables: the log's tail, unless memory runs out.
     ensures tail { IsLawfulCrash log.now tables.now pages.items
-        → IfOk result (λ x. TellTail log.now x.1.items) }
+        → IfOk result (AppendsTailInBrief log.now) }
     ensures lawful { IsLawfulCrash log.now tables.now pages.items → IsOkUnless result NoResource }
 {
     let mut rollback = Rollback::of_losers(alloc, log, tables)?;
@@ -161,24 +153,21 @@ fn undo_looked(
     requires { AreNumbered pages.items }
     // The losers are rolled back on the pages; each appended record has an encoding, if no loser
     // has the number 0.
-    ensures rolled_back { IfOk result
-        (λ x. RolledBack log.now tables.now pages.items x.0.items (map content x.1.items)) }
+    ensures rolled_back { IfOk result (UndoesLosers log.now tables.now pages.items) }
     ensures writable { IfOk result (λ x. HasNoTransaction0 tables.now → AreWritable x.1.items) }
 
     // At most two records are appended for each record of the log, and one for each loser; losers
     // have numbers of 32 bits.
-    ensures few { IfOk result (λ x. length x.1.items ≤ 2 * length log.now.records + length
-        (losers_in tables.now)) }
+    ensures few { IfOk result (λ x. length x.1.items ≤ most_appended log.now tables.now) }
     ensures numbers { OnOk result (length (losers_in tables.now) ≤ 2 ^ 32) }
 
     // On an error, its condition holds: a bad hop or a missing page, whichever comes first, memory
     // aside.
-    ensures fault { IfErr result (UndoFault (history log.now) (losers_in tables.now)
-        (length pages.items)) }
+    ensures fault { IfErr result (RollbackFault log.now tables.now pages.items) }
 
     // For a lawful log and its store, with true tables: the log's tail, unless memory runs out.
     ensures tail { IsLawfulCrash log.now tables.now pages.items
-        → IfOk result (λ x. map content x.1.items ≡ tail_of log.now) }
+        → IfOk result (AppendsTail log.now) }
     ensures lawful { IsLawfulCrash log.now tables.now pages.items → IsOkUnless result NoResource }
 {
     let (pages, appended) = undo_in_brief(alloc, log, tables, pages)?;
@@ -215,24 +204,21 @@ pub fn undo(
     requires { AreNumbered pages.items }
     // The losers are rolled back on the pages; each appended record has an encoding, if no loser
     // has the number 0.
-    ensures rolled_back { IfOk result
-        (λ x. RolledBack log.now tables.now pages.items x.0.items (map content x.1.items)) }
+    ensures rolled_back { IfOk result (UndoesLosers log.now tables.now pages.items) }
     ensures writable { IfOk result (λ x. HasNoTransaction0 tables.now → AreWritable x.1.items) }
 
     // At most two records are appended for each record of the log, and one for each loser; losers
     // have numbers of 32 bits.
-    ensures few { IfOk result (λ x. length x.1.items ≤ 2 * length log.now.records + length
-        (losers_in tables.now)) }
+    ensures few { IfOk result (λ x. length x.1.items ≤ most_appended log.now tables.now) }
     ensures numbers { OnOk result (length (losers_in tables.now) ≤ 2 ^ 32) }
 
     // On an error, its condition holds: a bad hop or a missing page, whichever comes first, memory
     // aside.
-    ensures fault { IfErr result (UndoFault (history log.now) (losers_in tables.now)
-        (length pages.items)) }
+    ensures fault { IfErr result (RollbackFault log.now tables.now pages.items) }
 
     // For a lawful log and its store, with true tables: the log's tail, unless memory runs out.
     ensures tail { IsLawfulCrash log.now tables.now pages.items
-        → IfOk result (λ x. map content x.1.items ≡ tail_of log.now) }
+        → IfOk result (AppendsTail log.now) }
     ensures lawful { IsLawfulCrash log.now tables.now pages.items → IsOkUnless result NoResource }
 {
     let looked = Looked {

@@ -1,6 +1,6 @@
 //! The turns of the losers that wait: the newest update is undone first.
 
-ghost use Rattle.std.specs.Prelude.{◌≡◌, ◌==◌, ℕ, map, nat_eq, if◌then◌else◌, Some, None, OnOk, IfSome, IfNone};
+ghost use Rattle.std.specs.Prelude.{◌≡◌, ℕ, map, nat_eq, None, OnOk, IfSome, IfNone};
 ghost use Rattle.std.specs.BinaryHeap.{IsHeap, heap_items};
 ghost use Rattle.std.specs.List.{IsDistinct};
 ghost use Rattle.std.proofs.Props.{props};
@@ -30,7 +30,7 @@ pub struct Turns {
 }
 
 impl Turns {
-    ghost use Rattle.undo.specs.Turns.{turn_at, Taken};
+    ghost use Rattle.undo.specs.Turns.{turn_at, AlsoWaits, Taken};
 
     /// No loser waits.
     pub fn new(alloc: Global) -> Turns
@@ -44,8 +44,7 @@ impl Turns {
     /// The loser waits at an LSN at which no loser waits yet.
     pub fn put(&mut self, lsn: u64, loser: Loser) -> Result<(), AllocError>
         requires free { turn_at self.old lsn ≡ None }
-        ensures { OnOk result
-            ((n : ℕ) → turn_at self.new n ≡ (if lsn == n then Some loser else turn_at self.old n)) }
+        ensures { OnOk result (AlsoWaits lsn loser (turn_at self.old) (turn_at self.new)) }
     {
         self.heap.push(Turn { lsn, loser })?;
         Ok(())

@@ -58,9 +58,9 @@ impl Wants {
 
     /// Takes one that continues above this LSN; `None` if all continue at or below it.
     pub fn take_above(&mut self, lsn: u64) -> Option<Want>
-        ensures above { IfSome result (λ want. lsn < want.lsn) }
+        ensures above { IfSome result (λ w. lsn < w.lsn) }
         ensures taken { IfSome result
-            (λ want. IsPermutation (wants_in self.old) (want ∷ wants_in self.new)) }
+            (λ w. IsPermutation (wants_in self.old) (w ∷ wants_in self.new)) }
         ensures none { IfNone result (WantUpTo lsn (wants_in self.new)) }
         ensures same { IfNone result (wants_in self.new ≡ wants_in self.old) }
     {
