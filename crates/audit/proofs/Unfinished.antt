@@ -62,13 +62,13 @@ present_unfinished links t log (Some s) finish h done = absurd (both_ways (finis
 
 -- so an unfinished transaction is at a place, or among the others
 found_there : (table : UnfinishedTable) (t : ℕ) (s : Status) → unfinished_in table t ≡ Some s → IsPlaced table t ⊎ IsOther table t
-found_there table t s e = by_place (get_or table.places (t % 256) None) refl
+found_there table t s e = by_place (get_or table.places (t % 1024) None) refl
   where
-    by_place : (o : Option (ℕ × Status)) → get_or table.places (t % 256) None ≡ o → IsPlaced table t ⊎ IsOther table t
+    by_place : (o : Option (ℕ × Status)) → get_or table.places (t % 1024) None ≡ o → IsPlaced table t ⊎ IsOther table t
     by_place None is = inr (ap is_some (sym (ap (λ o. own_or t o (get nat_cmp table.others t)) is) ∙ e))
     by_place (Some p) is =
         elim (cases_eq p.0 t) [
-          | inl own ↦ inl (t % 256, p.1, mod-lt t (omega arith), is ∙ ap (λ n. Some (n, p.1)) own)
+          | inl own ↦ inl (t % 1024, p.1, mod-lt t (omega arith), is ∙ ap (λ n. Some (n, p.1)) own)
           | inr ne ↦
               inr (ap is_some (sym (ap (λ o. own_or t o (get nat_cmp table.others t)) is ∙ ap (λ b. cond b (Some p.1) (get nat_cmp table.others t)) (ne_eqb p.0 t ne)) ∙ e))
         ]
