@@ -4,6 +4,7 @@ use Rattle.std.proofs.lemmas.List.{drop-take, take-append-le}
 use Rattle.std.specs.Prelude.{IfSome}
 use Rattle.std.specs.Io.KnownBytes.{Keeps}
 use Rattle.std.proofs.KnownBytes.{Keeps-refl}
+use Rattle.device.specs.declared.traits.Sink.{Ghosts as Sink}
 use Rattle.device.specs.Reread.{EndsBy}
 use Rattle.page.specs.declared.fault.Fault.{Fault}
 use Rattle.page.specs.declared.fault.Fault.TheVariants.{NoResource, ReadLog, ReadStore, WriteLog, WriteStore, BadWorkers, BadParting}
@@ -98,10 +99,10 @@ by_device store_left options log store e read (inl failed) = subst (DeviceCause 
 by_device store_left options log store e read (inr cause) = device_cause (Some log) store_left options log store e read cause
 
 -- and nothing is changed after it
-pub untouched : (log_left store_left log_taken flushed store_taken : Option (List ℕ)) (e : Fault) → IsOfLog e → IsLeftIn log_left store_left log_taken log_taken flushed flushed store_taken store_taken e
-untouched log_left store_left log_taken flushed store_taken WriteLog h = absurd h
-untouched log_left store_left log_taken flushed store_taken WriteStore h = absurd h
-untouched log_left store_left log_taken flushed store_taken e h = (Keeps-refl log_taken, Keeps-refl store_taken)
+pub untouched : {L S : Type 0} (log : Sink L) (a : L) (store : Sink S) (b : S) (log_left store_left : Option (List ℕ)) (e : Fault) → IsOfLog e → IsLeftIn log a a store b b log_left store_left e
+untouched log a store b log_left store_left WriteLog h = absurd h
+untouched log a store b log_left store_left WriteStore h = absurd h
+untouched log a store b log_left store_left e h = (Keeps-refl (log.taken a), Keeps-refl (store.taken b))
 
 -- WHAT IS MADE, and the file of its tail
 module _ (store_left : Option (List ℕ)) (log store : List ℕ) (made : Made) (read : SourcesGave (Some log) store_left log store) (measured : IsMeasured log made)
@@ -126,9 +127,10 @@ module _ (store_left : Option (List ℕ)) (log store : List ℕ) (made : Made) (
       (r ∙ ap (λ n. sum_of (end_of (take n log))) measured.kept_is) h
 
 -- a sink's fault is not one of the log's device
-pub stays_other : {U : Type 0} (s : Result U Fault) (kept : ℕ) (frames new_store : List ℕ) (a b c d x y : Option (List ℕ)) (e : Fault) → s ≡ Err e → LeavesInPlace kept frames new_store a b c d x y e → s ≡ Err ReadLog → ⊥
-stays_other s kept frames new_store a b c d x y e is stays blamed =
-    subst (λ f. LeavesInPlace kept frames new_store a b c d x y f) (let same : e ≡ ReadLog = cc in same) stays
+pub stays_other : {U L S : Type 0} (s : Result U Fault) (log : Sink L) (a b : L) (store : Sink S) (c d : S) (kept : ℕ) (frames new_store : List ℕ) (e : Fault) → s ≡ Err e
+    → LeavesInPlace log a b store c d kept frames new_store e → s ≡ Err ReadLog → ⊥
+stays_other s log a b store c d kept frames new_store e is stays blamed =
+    subst (λ f. LeavesInPlace log a b store c d kept frames new_store f) (let same : e ≡ ReadLog = cc in same) stays
 
 pub other_failed : {U : Type 0} (s : Result U Fault) (a b c : ℕ) → (s ≡ Err ReadLog → ⊥) → b ≡ a → c ≡ b → FailsOnlyWith ReadLog s a c
 other_failed s a b c other before after = record { blamed = λ is. absurd (other is); innocent = λ _. after ∙ before }

@@ -9,6 +9,7 @@ use Rattle.page.specs.File.{store_text}
 use Rattle.wal.specs.Meaning.{BasePages}
 use Rattle.wal.specs.Reads.{Reads}
 use Rattle.wal.specs.Tail.{with_tail}
+use Rattle.device.specs.declared.traits.Sink.{Ghosts as Sink}
 use Rattle.device.specs.Transfer.{TookBeginning}
 use Rattle.restart.specs.declared.options.Options.{Options}
 use Rattle.recovery.specs.declared.by_pieces.Made.{Made}
@@ -53,40 +54,41 @@ module _ (store_left : Option (List ℕ)) (log store : List ℕ) (made : Made) (
       (subst (λ l. Recovers log store l (store_text made.remade.store) made.remade.report) copy_is recovers)
 
 -- A FAULT while it is written
-module _ (new_log new_store : List ℕ) (log_before log_after store_before store_after : Option (List ℕ)) where
-  pub copied_resource : (e : Fault) → LeavesCopied new_log new_store log_before log_after store_before store_after e → IsResourceOrDevice e
+module _ {L S : Type 0} (out_log : Sink L) (a b : L) (out_store : Sink S) (c d : S) (new_log new_store : List ℕ) where
+  pub copied_resource : (e : Fault) → LeavesCopied out_log a b out_store c d new_log new_store e → IsResourceOrDevice e
   copied_resource ReadLog h = tt
   copied_resource WriteLog h = tt
   copied_resource WriteStore h = tt
   copied_resource e h = absurd h
 
-  pub copied_cause : (log_left store_left : Option (List ℕ)) (options : Options) (e : Fault) → LeavesCopied new_log new_store log_before log_after store_before store_after e → DeviceCause log_left store_left options e
+  pub copied_cause : (log_left store_left : Option (List ℕ)) (options : Options) (e : Fault) → LeavesCopied out_log a b out_store c d new_log new_store e → DeviceCause log_left store_left options e
   copied_cause log_left store_left options ReadLog h = tt
   copied_cause log_left store_left options WriteLog h = tt
   copied_cause log_left store_left options WriteStore h = tt
   copied_cause log_left store_left options e h = absurd h
 
   pub copied_cut : {base : BasePages} {log store : List ℕ} (bytes : AreLawful base log store) → Reads new_log (with_tail bytes.decoded.read) 0
-      → (e : Fault) → LeavesCopied new_log new_store log_before log_after store_before store_after e → LeavesCutCopied base bytes.decoded.read bytes.decoded.before store log_before log_after e
-  copied_cut bytes reads ReadLog h = inr (leaves_cut bytes new_log reads new_store log_before log_after store_before store_after WriteLog h)
-  copied_cut bytes reads WriteLog h = leaves_cut bytes new_log reads new_store log_before log_after store_before store_after WriteLog h
-  copied_cut bytes reads WriteStore h = leaves_cut bytes new_log reads new_store log_before log_after store_before store_after WriteStore h
+      → (e : Fault) → LeavesCopied out_log a b out_store c d new_log new_store e → LeavesCutCopied out_log a b (record { base = base; log = log; store = store; bytes = bytes }) e
+  copied_cut bytes reads ReadLog h = inr (leaves_cut bytes new_log reads out_log a b out_store c d new_store WriteLog h)
+  copied_cut bytes reads WriteLog h = leaves_cut bytes new_log reads out_log a b out_store c d new_store WriteLog h
+  copied_cut bytes reads WriteStore h = leaves_cut bytes new_log reads out_log a b out_store c d new_store WriteStore h
   copied_cut bytes reads e h = absurd h
 
-module _ (log_left store_left log_before log_after store_before store_after : Option (List ℕ)) where
-  pub copied_out : (made : Makes log_left store_left) (e : Fault) → LeavesCopied made.new_log made.new_store log_before log_after store_before store_after e
-      → IsOutCopied log_left store_left log_before log_after store_before store_after e
+module _ {L S : Type 0} (out_log : Sink L) (a b : L) (out_store : Sink S) (c d : S) {log_left store_left : Option (List ℕ)} where
+  pub copied_out : (made : Makes log_left store_left) (e : Fault) → LeavesCopied out_log a b out_store c d made.new_log made.new_store e
+      → IsOutCopied out_log a b out_store c d log_left store_left e
   copied_out made ReadLog h = inr (made, h)
   copied_out made WriteLog h = (made, h)
   copied_out made WriteStore h = (made, h)
   copied_out made e h = absurd h
 
 -- a fault before it leaves nothing
-pub nothing_copied : (log_left store_left log_taken store_taken : Option (List ℕ)) (e : Fault) → IsOfLog e → IsOutCopied log_left store_left log_taken log_taken store_taken store_taken e
-nothing_copied log_left store_left log_taken store_taken ReadLog h = inl (Keeps-refl log_taken, Keeps-refl store_taken)
-nothing_copied log_left store_left log_taken store_taken WriteLog h = absurd h
-nothing_copied log_left store_left log_taken store_taken WriteStore h = absurd h
-nothing_copied log_left store_left log_taken store_taken e h = (Keeps-refl log_taken, Keeps-refl store_taken)
+pub nothing_copied : {L S : Type 0} (log : Sink L) (a : L) (store : Sink S) (b : S) (log_left store_left : Option (List ℕ)) (e : Fault) → IsOfLog e
+    → IsOutCopied log a a store b b log_left store_left e
+nothing_copied log a store b log_left store_left ReadLog h = inl (Keeps-refl (log.taken a), Keeps-refl (store.taken b))
+nothing_copied log a store b log_left store_left WriteLog h = absurd h
+nothing_copied log a store b log_left store_left WriteStore h = absurd h
+nothing_copied log a store b log_left store_left e h = (Keeps-refl (log.taken a), Keeps-refl (store.taken b))
 
 -- FAILURES of the log's device are those while it is copied, if it had none before
 pub failed_since : {T U : Type 0} (e : Fault) (a b c : ℕ) → b ≡ a → FailsOnlyWith {T = T} ReadLog (Err e) b c → FailsOnlyWith {T = U} ReadLog (Err e) a c

@@ -10,6 +10,7 @@ use Rattle.wal.specs.Reads.{Reads, log_text}
 use Rattle.wal.specs.Meaning.{BasePages}
 use Rattle.wal.specs.Theorems.{GoesOn}
 use Rattle.wal.proofs.CutBytes.{cuts_settle}
+use Rattle.device.specs.declared.traits.Sink.{Ghosts as Sink}
 use Rattle.device.specs.Transfer.{TookBeginning}
 use Rattle.restart.specs.declared.options.Options.{Options}
 use Rattle.recovery.specs.Text.{ReportContent}
@@ -74,21 +75,21 @@ never_sink log store options = (
       ],
 )
 
-pub nothing_out : (log_left store_left log_taken store_taken : Option (List ℕ)) (log store : List ℕ) (options : Options) (e : Fault) → RecoveryCause log store options e
-    → IsOut log_left store_left log_taken log_taken store_taken store_taken e
-nothing_out log_left store_left log_taken store_taken log store options WriteLog h = absurd ((never_sink log store options).0 h)
-nothing_out log_left store_left log_taken store_taken log store options WriteStore h = absurd ((never_sink log store options).1 h)
-nothing_out log_left store_left log_taken store_taken log store options e h = (Keeps-refl log_taken, Keeps-refl store_taken)
+pub nothing_out : {L S : Type 0} (out_log : Sink L) (a : L) (out_store : Sink S) (b : S) (log_left store_left : Option (List ℕ)) (log store : List ℕ) (options : Options) (e : Fault)
+    → RecoveryCause log store options e → IsOut out_log a a out_store b b log_left store_left e
+nothing_out out_log a out_store b log_left store_left log store options WriteLog h = absurd ((never_sink log store options).0 h)
+nothing_out out_log a out_store b log_left store_left log store options WriteStore h = absurd ((never_sink log store options).1 h)
+nothing_out out_log a out_store b log_left store_left log store options e h = (Keeps-refl (out_log.taken a), Keeps-refl (out_store.taken b))
 
 pub is_resource : (e : Fault) → e ≡ NoResource → IsResourceOrDevice e
 is_resource e alone = subst IsResourceOrDevice (sym alone) tt
 
 -- what a fault of a sink leaves is written
-pub left_out : (log_left store_left log_before log_after store_before store_after : Option (List ℕ)) (made : Makes log_left store_left) (e : Fault)
-    → Leaves made.new_log made.new_store log_before log_after store_before store_after e → IsOut log_left store_left log_before log_after store_before store_after e
-left_out log_left store_left log_before log_after store_before store_after made WriteLog h = (made, h)
-left_out log_left store_left log_before log_after store_before store_after made WriteStore h = (made, h)
-left_out log_left store_left log_before log_after store_before store_after made e h = absurd h
+pub left_out : {L S : Type 0} (log : Sink L) (a b : L) (store : Sink S) (c d : S) {log_left store_left : Option (List ℕ)} (made : Makes log_left store_left) (e : Fault)
+    → Leaves log a b store c d made.new_log made.new_store e → IsOut log a b store c d log_left store_left e
+left_out log a b store c d made WriteLog h = (made, h)
+left_out log a b store c d made WriteStore h = (made, h)
+left_out log a b store c d made e h = absurd h
 
 -- A LOG IN TWO PIECES
 -- the first piece with a prefix of the second is a prefix of both
@@ -111,9 +112,10 @@ module _ {base : BasePages} {log store : List ℕ} (bytes : AreCut base log stor
   }
 
   -- and what a restart on it writes is what the first would have written
-  pub completed : (log_before log_after store_before store_after : Option (List ℕ)) (report : ReportContent) → Delivers base bytes.cut.whole bytes.left log_before log_after store_before store_after report
-      → Completes base bytes.first.decoded.read bytes.first.decoded.before log_before log_after store_before store_after
-  completed log_before log_after store_before store_after report out = record {
-    log_out = subst (Appends log_before log_after) (out.recovered.log_is ∙ ap log_text goes_on.same_log) out.log_out;
-    store_out = subst (Appends store_before store_after) (out.recovered.store_is ∙ ap store_text goes_on.same_store) out.store_out;
+  pub completed : {L S : Type 0} (out_log : Sink L) (a b : L) (out_store : Sink S) (c d : S) (report : ReportContent)
+      → Delivers out_log a b out_store c d (record { base = base; log = log; store = store; bytes = cut_lawful }) report
+      → Completes out_log a b out_store c d (record { base = base; log = bytes.first_log; store = bytes.first_store; bytes = bytes.first })
+  completed out_log a b out_store c d report out = record {
+    log_out = subst (Appends (out_log.taken a) (out_log.taken b)) (out.recovered.log_is ∙ ap log_text goes_on.same_log) out.log_out;
+    store_out = subst (Appends (out_store.taken c) (out_store.taken d)) (out.recovered.store_is ∙ ap store_text goes_on.same_store) out.store_out;
   }

@@ -12,6 +12,7 @@ use Rattle.wal.specs.Meaning.{BasePages}
 use Rattle.wal.specs.Reads.{Reads, log_text}
 use Rattle.wal.specs.Tail.{with_tail}
 use Rattle.wal.proofs.Whole.{one_reading}
+use Rattle.device.specs.declared.traits.Sink.{Ghosts as Sink}
 use Rattle.device.specs.Continued.{Cuts, Shortens}
 use Rattle.device.specs.Transfer.{Flushes}
 use Rattle.restart.specs.declared.options.Options.{Options}
@@ -21,7 +22,7 @@ use Rattle.recovery.specs.Devices.{AreOut}
 use Rattle.recovery.specs.TailFile.{tail_text, sum_of, end_of}
 use Rattle.recovery.specs.InPlace.{Continues, IsContinued, IsFlushed, IsLeft, IsLeftIn, Prepares, LeavesInPlace, HasTail, HoldsCut, DeliversInPlace, CompletesInPlace}
 use Rattle.recovery.proofs.Bytes.{kept_text}
-use Rattle.recovery.proofs.Delivered.{never_sink, goes_on}
+use Rattle.recovery.proofs.Delivered.{never_sink, goes_on, cut_lawful}
 use Rattle.recovery.proofs.Resuming.{cut_of}
 
 -- cut, flushed, appended to, flushed
@@ -76,11 +77,11 @@ module _ {base : BasePages} {log store : List ℕ} (bytes : AreLawful base log s
       let torn : kept ≡ length log - bytes.decoded.torn = kept_is ∙ ap (λ (r : ReportContent). length log - r.torn) recovers.report_is ∙ ap (λ t. length log - t) one.1 in
       ap (λ n. take n log) torn ∙ kept_text log bytes.decoded.read bytes.decoded.torn bytes.decoded.reads
 
-  left_cut : (before after flushed_before flushed_after : Option (List ℕ)) → before ≡ Some log → IsLeft kept frames before after flushed_before flushed_after
-      → HoldsCut base bytes.decoded.read bytes.decoded.before log store after
-  left_cut before after flushed_before flushed_after e left =
+  left_cut : {L : Type 0} (out_log : Sink L) (a b : L) → out_log.taken a ≡ Some log → IsLeft out_log a b kept frames
+      → HoldsCut base bytes.decoded.read bytes.decoded.before log store (out_log.taken b)
+  left_cut out_log a b e left =
       elim left [
-        | inl same ↦ record { held = log; holds = holds_on before after log e same; is = inl refl }
+        | inl same ↦ record { held = log; holds = holds_on (out_log.taken a) (out_log.taken b) log e same; is = inl refl }
         | inr begun ↦
             (let front = take kept log in
             let written = take begun.count frames in
@@ -90,64 +91,62 @@ module _ {base : BasePages} {log store : List ℕ} (bytes : AreLawful base log s
             ap (λ (t : List ℕ). front ++ t) (sym (take-append-drop begun.count frames)) ∙ sym (append_assoc front written missing) in
             record {
               held = front ++ written;
-              holds = holds_more kept written log before after e begun.begun;
+              holds = holds_more kept written log (out_log.taken a) (out_log.taken b) e begun.begun;
               is = inr (cut_of bytes (front ++ frames) reads (front ++ written) written missing begins goes_on);
             })
       ]
 
   -- the same for all of it
-  pub stays_cut : (before after flushed_before flushed_after store_before store_after : Option (List ℕ)) (e : Fault) → before ≡ Some log
-      → LeavesInPlace kept frames new_store before after flushed_before flushed_after store_before store_after e → HoldsCut base bytes.decoded.read bytes.decoded.before log store after
-  stays_cut before after flushed_before flushed_after store_before store_after WriteLog e stays = left_cut before after flushed_before flushed_after e stays.0
-  stays_cut before after flushed_before flushed_after store_before store_after WriteStore e stays =
-      left_cut before after flushed_before flushed_after e (inr (record {
+  pub stays_cut : {L S : Type 0} (out_log : Sink L) (a b : L) (out_store : Sink S) (c d : S) (e : Fault) → out_log.taken a ≡ Some log
+      → LeavesInPlace out_log a b out_store c d kept frames new_store e → HoldsCut base bytes.decoded.read bytes.decoded.before log store (out_log.taken b)
+  stays_cut out_log a b out_store c d WriteLog e stays = left_cut out_log a b e stays.0
+  stays_cut out_log a b out_store c d WriteStore e stays =
+      left_cut out_log a b e (inr (record {
         count = length frames;
         within = omega arith;
-        begun = subst (λ (t : List ℕ). Continues kept t before after) (sym (take_all (length frames) frames (omega arith))) stays.0;
+        begun = subst (λ (t : List ℕ). Continues kept t (out_log.taken a) (out_log.taken b)) (sym (take_all (length frames) frames (omega arith))) stays.0;
         cut_first = λ some few. absurd (omega (arith, few));
       }))
-  stays_cut before after flushed_before flushed_after store_before store_after f e stays = absurd stays
+  stays_cut out_log a b out_store c d f e stays = absurd stays
 
 -- A FAULT
-pub left_in : (log_left store_left before after flushed_before flushed_after store_before store_after : Option (List ℕ)) (made : Prepares log_left store_left) (e : Fault)
-    → LeavesInPlace made.kept made.frames made.new_store before after flushed_before flushed_after store_before store_after e
-    → IsLeftIn log_left store_left before after flushed_before flushed_after store_before store_after e
-left_in log_left store_left before after flushed_before flushed_after store_before store_after made WriteLog h = (made, h)
-left_in log_left store_left before after flushed_before flushed_after store_before store_after made WriteStore h = (made, h)
-left_in log_left store_left before after flushed_before flushed_after store_before store_after made e h = absurd h
+pub left_in : {L S : Type 0} (log : Sink L) (a b : L) (store : Sink S) (c d : S) {log_left store_left : Option (List ℕ)} (made : Prepares log_left store_left) (e : Fault)
+    → LeavesInPlace log a b store c d made.kept made.frames made.new_store e → IsLeftIn log a b store c d log_left store_left e
+left_in log a b store c d made WriteLog h = (made, h)
+left_in log a b store c d made WriteStore h = (made, h)
+left_in log a b store c d made e h = absurd h
 
-pub nothing_left : (log_left store_left log_taken flushed store_taken : Option (List ℕ)) (log store : List ℕ) (options : Options) (e : Fault) → RecoveryCause log store options e
-    → IsLeftIn log_left store_left log_taken log_taken flushed flushed store_taken store_taken e
-nothing_left log_left store_left log_taken flushed store_taken log store options WriteLog h = absurd ((never_sink log store options).0 h)
-nothing_left log_left store_left log_taken flushed store_taken log store options WriteStore h = absurd ((never_sink log store options).1 h)
-nothing_left log_left store_left log_taken flushed store_taken log store options e h = (Keeps-refl log_taken, Keeps-refl store_taken)
+pub nothing_left : {L S : Type 0} (out_log : Sink L) (a : L) (out_store : Sink S) (b : S) (log_left store_left : Option (List ℕ)) (log store : List ℕ) (options : Options) (e : Fault)
+    → RecoveryCause log store options e → IsLeftIn out_log a a out_store b b log_left store_left e
+nothing_left out_log a out_store b log_left store_left log store options WriteLog h = absurd ((never_sink log store options).0 h)
+nothing_left out_log a out_store b log_left store_left log store options WriteStore h = absurd ((never_sink log store options).1 h)
+nothing_left out_log a out_store b log_left store_left log store options e h = (Keeps-refl (out_log.taken a), Keeps-refl (out_store.taken b))
 
 -- THE FILE of the tail is written
-pub has_tail : {log_left store_left : Option (List ℕ)} (made : Prepares log_left store_left) (before after flushed_before flushed_after : Option (List ℕ)) (text : List ℕ)
-    → text ≡ tail_text (length made.log) made.kept (sum_of (end_of (take made.kept made.log))) made.frames → AreOut text before after flushed_before flushed_after
-    → HasTail made before after flushed_before flushed_after
-has_tail made before after flushed_before flushed_after text is out = record { out = subst (Appends before after) is out.out; flushed = out.flushed }
+pub has_tail : {D : Type 0} {log_left store_left : Option (List ℕ)} (made : Prepares log_left store_left) (sink : Sink D) (old new : D) (text : List ℕ)
+    → text ≡ tail_text (length made.log) made.kept (sum_of (end_of (take made.kept made.log))) made.frames → AreOut sink old new text
+    → HasTail made sink old new
+has_tail made sink old new text is out = record { out = subst (Appends (sink.taken old) (sink.taken new)) is out.out; flushed = out.flushed }
 
 -- AFTER AN INTERRUPTION all is as the first restart would have left it
-pub settled_in_place : {base : BasePages} {log store : List ℕ} (bytes : AreCut base log store) (log_after store_before store_after : Option (List ℕ)) (report : ReportContent)
-    → DeliversInPlace base bytes.cut.whole bytes.left log_after store_before store_after report
-    → CompletesInPlace base bytes.first.decoded.read bytes.first.decoded.before log_after store_before store_after
-settled_in_place bytes log_after store_before store_after report out =
+pub settled_in_place : {S : Type 0} {base : BasePages} {log store : List ℕ} (bytes : AreCut base log store) (log_after : Option (List ℕ)) (out_store : Sink S) (a b : S) (report : ReportContent)
+    → DeliversInPlace log_after out_store a b (record { base = base; log = log; store = store; bytes = cut_lawful bytes }) report
+    → CompletesInPlace log_after out_store a b (record { base = base; log = bytes.first_log; store = bytes.first_store; bytes = bytes.first })
+settled_in_place bytes log_after out_store a b report out =
     let on = goes_on bytes in
     record {
       log_is = out.log_is ∙ ap (λ (t : List ℕ). Some t) (out.recovered.log_is ∙ ap log_text on.same_log);
-      store_out = subst (Appends store_before store_after) (out.recovered.store_is ∙ ap store_text on.same_store) out.store_out;
+      store_out = subst (Appends (out_store.taken a) (out_store.taken b)) (out.recovered.store_is ∙ ap store_text on.same_store) out.store_out;
     }
 
 -- THE SAME by equal numbers and frames
 pub same_tail : (a b k l s t : ℕ) (f g : List ℕ) → a ≡ b → k ≡ l → s ≡ t → f ≡ g → tail_text a k s f ≡ tail_text b l t g
 same_tail a b k l s t f g p q r h = cc
 
-pub continued_as : (k l : ℕ) (f g : List ℕ) (before after flushed_before flushed_after : Option (List ℕ)) → k ≡ l → f ≡ g
-    → IsContinued k f before after flushed_before flushed_after → IsContinued l g before after flushed_before flushed_after
-continued_as k l f g before after flushed_before flushed_after p q done =
-    subst (λ n. IsContinued n g before after flushed_before flushed_after) p (subst (λ t. IsContinued k t before after flushed_before flushed_after) q done)
+pub continued_as : {L : Type 0} (log : Sink L) (a b : L) (k l : ℕ) (f g : List ℕ) → k ≡ l → f ≡ g → IsContinued log a b k f → IsContinued log a b l g
+continued_as log a b k l f g p q done = subst (λ n. IsContinued log a b n g) p (subst (λ t. IsContinued log a b k t) q done)
 
-pub stays_as : (k l : ℕ) (f g new_store : List ℕ) (a b c d x y : Option (List ℕ)) (e : Fault) → k ≡ l → f ≡ g → LeavesInPlace k f new_store a b c d x y e → LeavesInPlace l g new_store a b c d x y e
-stays_as k l f g new_store a b c d x y e p q stays =
-    subst (λ n. LeavesInPlace n g new_store a b c d x y e) p (subst (λ t. LeavesInPlace k t new_store a b c d x y e) q stays)
+pub stays_as : {L S : Type 0} (log : Sink L) (a b : L) (store : Sink S) (c d : S) (k l : ℕ) (f g new_store : List ℕ) (e : Fault) → k ≡ l → f ≡ g
+    → LeavesInPlace log a b store c d k f new_store e → LeavesInPlace log a b store c d l g new_store e
+stays_as log a b store c d k l f g new_store e p q stays =
+    subst (λ n. LeavesInPlace log a b store c d n g new_store e) p (subst (λ t. LeavesInPlace log a b store c d k t new_store e) q stays)

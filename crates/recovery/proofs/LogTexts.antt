@@ -12,7 +12,7 @@ use Rattle.wal.specs.Frames.{Fails}
 use Rattle.wal.specs.Records.{LogContent}
 use Rattle.wal.specs.Reads.{Cause}
 use Rattle.wal.proofs.Causes.{no_fault_of_a_log}
-use Rattle.recovery.specs.LogText.{CameBehind}
+use Rattle.recovery.specs.LogText.{CameAfter}
 use Rattle.recovery.specs.Recovery.{ReadsAs}
 use Rattle.recovery.specs.Devices.{Gave}
 use Rattle.recovery.proofs.Decoded.{gave_all}
@@ -26,12 +26,13 @@ no_log text e cause = record {
 }
 
 -- what was read after the first bytes
-pub behind_room : (a b : Option (List ℕ)) (n : ℕ) (old new : List ℕ) → n ≤ length old → ReadBehind a b (take n old) new → (take n new ≡ take n old) × CameBehind a b n new
-behind_room a b n old new within (rest, is, read) =
+pub behind_room : {D : Type 0} (left : D → Option (List ℕ)) (a b : D) (n : ℕ) (old new : List ℕ) → n ≤ length old → ReadBehind (left a) (left b) (take n old) new
+    → (take n new ≡ take n old) × CameAfter left a b n new
+behind_room left a b n old new within (rest, is, read) =
     let long : length (take n old) ≡ n = omega (arith, length-take n old, within) in (
       ap (take n) is ∙ take_at (take n old) rest n long,
       record {
-        read = subst (Consumes a b) (sym (ap (drop n) is ∙ drop_at (take n old) rest n long)) read;
+        read = subst (Consumes (left a) (left b)) (sym (ap (drop n) is ∙ drop_at (take n old) rest n long)) read;
         within = omega (arith, ap length is, length-append (take n old) rest, long);
       },
     )

@@ -1,5 +1,5 @@
 -- What a recovery leaves of its log, if a sink fails: a prefix of the new log is a log, and with the old store a cut.
-use Rattle.std.proofs.Common.{ℕ, zero, suc, ◌≡◌, ◌+◌, ◌^◌, ◌<◌, ◌≤◌, List, [], ◌∷◌, ◌++◌, All, length, take, drop, Option, refl, sym, ap, ◌∙◌, subst, inl, inr, arith, append_assoc, append-nil, length-append, take-append-drop}
+use Rattle.std.proofs.Common.{ℕ, zero, suc, ◌≡◌, ◌+◌, ◌^◌, ◌<◌, ◌≤◌, List, [], ◌∷◌, ◌++◌, All, length, take, drop, refl, sym, ap, ◌∙◌, subst, inl, inr, arith, append_assoc, append-nil, length-append, take-append-drop}
 use Rattle.std.specs.List.{AllByRecursion}
 use Rattle.std.specs.Int.{w32, from_be_bytes, to_be_bytes}
 use Rattle.std.proofs.Math.Seq.{take-append-add}
@@ -23,6 +23,7 @@ use Rattle.wal.specs.Cut.{Cut}
 use Rattle.wal.proofs.Fields.{wide32}
 use Rattle.wal.proofs.Histories.{after-append, first_in_front, record_in_front, size_of_log}
 use Rattle.wal.proofs.Whole.{body_size}
+use Rattle.device.specs.declared.traits.Sink.{Ghosts as Sink}
 use Rattle.recovery.specs.Devices.{AreCutOf, Leaves, LeavesCut}
 use Rattle.recovery.specs.Recovery.{AreLawful}
 use Rattle.recovery.proofs.Bytes.{text_extended}
@@ -192,13 +193,13 @@ module _ {base : BasePages} {log store : List ℕ} (bytes : AreLawful base log s
         store_is = refl;
       }
 
-  pub leaves_cut : (new_store : List ℕ) (log_before log_after store_before store_after : Option (List ℕ)) (e : Fault) → Leaves new_log new_store log_before log_after store_before store_after e
-      → LeavesCut base bytes.decoded.read bytes.decoded.before store log_before log_after e
-  leaves_cut new_store log_before log_after store_before store_after WriteLog (took, kept) =
+  pub leaves_cut : {L S : Type 0} (out_log : Sink L) (a b : L) (out_store : Sink S) (c d : S) (new_store : List ℕ) (e : Fault) → Leaves out_log a b out_store c d new_log new_store e
+      → LeavesCut out_log a b (record { base = base; log = log; store = store; bytes = bytes }) e
+  leaves_cut out_log a b out_store c d new_store WriteLog (took, kept) =
       let out = take took.0 new_log in
       (out, took.2, λ written begins. cut_of out written (drop took.0 new_log) begins (sym (take-append-drop took.0 new_log)))
-  leaves_cut new_store log_before log_after store_before store_after WriteStore (out, took) =
+  leaves_cut out_log a b out_store c d new_store WriteStore (out, took) =
       let read = bytes.decoded.read in
       let begins : new_log ≡ log_text read ++ spellings (last_lsn (history read) + 1) (tail_of read) = new_log_is base read bytes.decoded.before bytes.lawful new_log reads ∙ sym (text_more read (tail_of read)) in
       (new_log, out, cut_of new_log (spellings (last_lsn (history read) + 1) (tail_of read)) [] begins (sym (append-nil new_log)))
-  leaves_cut new_store log_before log_after store_before store_after e h = absurd h
+  leaves_cut out_log a b out_store c d new_store e h = absurd h

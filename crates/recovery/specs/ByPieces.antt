@@ -1,12 +1,19 @@
 -- What a recovery makes of a log that it reads in pieces, and its errors (own).
-use Rattle.std.specs.Prelude.{◌≡◌, ◌⊎◌, ◌+◌, ◌-◌, ℕ, List, length, Result, Err, ⊤}
+use Rattle.std.specs.Prelude.{◌≡◌, ◌⊎◌, ◌+◌, ◌-◌, ℕ, List, Option, Some, length, Result, Err, MatchResult, ⊤}
 use Rattle.page.specs.declared.fault.Fault.{Fault}
 use Rattle.page.specs.declared.fault.Fault.TheVariants.{NoResource, ReadLog, ReadStore, WriteLog, WriteStore}
+use Rattle.page.specs.Store.{StoreContent}
+use Rattle.page.specs.File.{SpellsStore}
+use Rattle.wal.specs.Meaning.{BasePages}
+use Rattle.wal.specs.Records.{LogContent}
+use Rattle.wal.specs.Reads.{Reads, Cause as LogFault}
 use Rattle.passes.specs.declared.fault.PassFault.{PassFault}
 use Rattle.passes.specs.declared.fault.PassFault.TheVariants as pass
 use Rattle.restart.specs.declared.options.Options.{Options}
 use Rattle.recovery.specs.declared.by_pieces.Made.{Made}
-use Rattle.recovery.specs.Recovery.{RecoveryCause}
+use Rattle.restart.specs.Options.{AreInRange}
+use Rattle.recovery.specs.Recovery.{AreLawful, Remakes, RemakesLawful, RecoveryCause, Decodes}
+use Rattle.recovery.specs.Devices.{IsFaultOf, DeviceCause}
 
 -- the fault of a log's device, of its bytes or of a restart by it, or a lack of memory: that of no other device
 abbrev pub IsOfLog : Fault → Type 0
@@ -39,3 +46,42 @@ pub record StoreFails {T : Type 0} (answer : Result T Fault) (before after : ℕ
 pub record IsMeasured (log : List ℕ) (made : Made) : Type 0 where
   pub length_is : made.length ≡ length log
   pub kept_is : made.kept ≡ length log - made.remade.report.torn
+
+-- the bytes are a log's, with or without a torn tail
+abbrev pub IsLog : List ℕ → Type 0
+IsLog text = (whole : LogContent) × (torn : ℕ) × Reads text whole torn
+
+-- the log's device failed, or this is the error of the bytes that it holds
+abbrev pub LogCause : (held : Option (List ℕ)) → Fault → Type 0
+LogCause held e = (text : List ℕ) → held ≡ Some text → (e ≡ ReadLog) ⊎ LogFault text e
+
+-- P is true if this is what a decoder returns for some bytes
+abbrev pub IfDecoded : Result StoreContent Fault → Type 0 → Type 0
+IfDecoded decoded P = (store : List ℕ) → Decodes store decoded → P
+
+-- WHAT IS MADE of the bytes that a log's device holds, and of bytes that are those of the store
+-- it is their recovery
+abbrev pub IsMadeOf : (held : Option (List ℕ)) → (IsStore : List ℕ → Type 0) → Made → Type 0
+IsMadeOf held IsStore x = (log store : List ℕ) → held ≡ Some log → IsStore store → Remakes log store x.remade
+
+-- this is their error, whatever the options are
+abbrev pub IsCauseOf : (held : Option (List ℕ)) → (IsStore : List ℕ → Type 0) → Fault → Type 0
+IsCauseOf held IsStore e =
+    (log store : List ℕ) (options : Options) → held ≡ Some log → IsStore store → AreInRange options → ReadingCause log store options e
+
+-- if they are lawful, it is what a recovery makes of lawful input, or the error is a lack of memory or the log's device
+abbrev pub IsMadeLawful : (held : Option (List ℕ)) → (IsStore : List ℕ → Type 0) → Result Made Fault → Type 0
+IsMadeLawful held IsStore answer =
+    (base : BasePages) (log store : List ℕ) → held ≡ Some log → IsStore store → (bytes : AreLawful base log store)
+    → MatchResult answer (λ x. RemakesLawful (record { base = base; log = log; store = store; bytes = bytes }) x.remade) (IsFaultOf ReadLog)
+
+-- the same if the bytes of the store encode this
+abbrev pub IsMadeLawfulOf : (held : Option (List ℕ)) → StoreContent → Result Made Fault → Type 0
+IsMadeLawfulOf held before answer =
+    (base : BasePages) (log store : List ℕ) → held ≡ Some log → SpellsStore store before → (bytes : AreLawful base log store)
+    → bytes.decoded.before ≡ before
+    → MatchResult answer (λ x. RemakesLawful (record { base = base; log = log; store = store; bytes = bytes }) x.remade) (IsFaultOf ReadLog)
+
+-- the error of a recovery over devices, if it is known what the log's device holds
+abbrev pub RereadCause : (log_held store_left : Option (List ℕ)) → Options → Fault → Type 0
+RereadCause log_held store_left options e = (log : List ℕ) → log_held ≡ Some log → DeviceCause (Some log) store_left options e

@@ -1,12 +1,14 @@
 -- What a recovery leaves that copies the log while it reads the log once more (own).
-use Rattle.std.specs.Prelude.{ℕ, ◌⊎◌, List, Option, ⊤}
+use Rattle.std.specs.Prelude.{◌≡◌, ℕ, ◌≤◌, ◌⊎◌, List, ◌++◌, Option, Some, length, ⊤}
 use Rattle.std.specs.Io.KnownBytes.{Keeps}
 use Rattle.page.specs.declared.fault.Fault.{Fault}
 use Rattle.page.specs.declared.fault.Fault.TheVariants.{ReadLog, WriteLog, BadLsn}
-use Rattle.page.specs.Store.{StoreContent}
-use Rattle.wal.specs.Meaning.{BasePages}
-use Rattle.wal.specs.Records.{LogContent}
-use Rattle.recovery.specs.Devices.{IsOut, Leaves, LeavesCut}
+use Rattle.page.specs.File.{store_text}
+use Rattle.device.specs.declared.traits.Sink.{Ghosts as Sink}
+use Rattle.recovery.specs.declared.by_pieces.Made.{Made}
+use Rattle.recovery.specs.Recovery.{LawfulInput}
+use Rattle.recovery.specs.Devices.{AreOut, IsOut, Leaves, LeavesCut}
+use Rattle.recovery.specs.Calls.{ForKept}
 
 -- why a log is not copied: its source or its sink failed, or the source no longer holds what it held
 abbrev pub IsOfCopying : Fault → Type 0
@@ -15,24 +17,48 @@ IsOfCopying WriteLog = ⊤
 IsOfCopying (BadLsn offset) = ⊤
 IsOfCopying e = ⊥
 
--- what is written after a fault during the writing of the new log and the new store: a fault of the log's source leaves what a fault of the
--- log's sink leaves
-abbrev pub LeavesCopied : (new_log new_store : List ℕ) (log_before log_after store_before store_after : Option (List ℕ)) → Fault → Type 0
-LeavesCopied new_log new_store log_before log_after store_before store_after ReadLog =
-    Leaves new_log new_store log_before log_after store_before store_after WriteLog
-LeavesCopied new_log new_store log_before log_after store_before store_after e =
-    Leaves new_log new_store log_before log_after store_before store_after e
+-- TO SINKS: what is written to the log's sink and the store's, each before and after the call
+module _ {L S : Type 0} (log : Sink L) (log_old log_new : L) (store : Sink S) (store_old store_new : S) where
+  -- after a fault during the writing of the new log and the new store: a fault of the log's source leaves what a fault of the log's sink leaves
+  abbrev pub LeavesCopied : (new_log new_store : List ℕ) → Fault → Type 0
+  LeavesCopied new_log new_store ReadLog = Leaves log log_old log_new store store_old store_new new_log new_store WriteLog
+  LeavesCopied new_log new_store e = Leaves log log_old log_new store store_old store_new new_log new_store e
 
--- what is written after any fault: after a fault of the log's source nothing, or what a fault of the log's sink leaves
-abbrev pub IsOutCopied : (log_left store_left log_before log_after store_before store_after : Option (List ℕ)) → Fault → Type 0
-IsOutCopied log_left store_left log_before log_after store_before store_after ReadLog =
-    IsOut log_left store_left log_before log_after store_before store_after ReadLog
-    ⊎ IsOut log_left store_left log_before log_after store_before store_after WriteLog
-IsOutCopied log_left store_left log_before log_after store_before store_after e =
-    IsOut log_left store_left log_before log_after store_before store_after e
+  -- after any fault: after a fault of the log's source nothing, or what a fault of the log's sink leaves
+  abbrev pub IsOutCopied : (log_left store_left : Option (List ℕ)) → Fault → Type 0
+  IsOutCopied log_left store_left ReadLog =
+      IsOut log log_old log_new store store_old store_new log_left store_left ReadLog
+      ⊎ IsOut log log_old log_new store store_old store_new log_left store_left WriteLog
+  IsOutCopied log_left store_left e = IsOut log log_old log_new store store_old store_new log_left store_left e
 
 -- LAWFUL INPUT: what is written of the new log after a fault, as after a fault of a sink; after one of the log's source perhaps nothing is
-abbrev pub LeavesCutCopied : BasePages → (read : LogContent) (before : StoreContent) (store : List ℕ) (log_before log_after : Option (List ℕ)) → Fault → Type 0
-LeavesCutCopied base read before store log_before log_after ReadLog =
-    Keeps log_before log_after ⊎ LeavesCut base read before store log_before log_after WriteLog
-LeavesCutCopied base read before store log_before log_after e = LeavesCut base read before store log_before log_after e
+module _ {L : Type 0} (log : Sink L) (old new : L) (x : LawfulInput) where
+  abbrev pub LeavesCutCopied : Fault → Type 0
+  LeavesCutCopied ReadLog = Keeps (log.taken old) (log.taken new) ⊎ LeavesCut log old new x WriteLog
+  LeavesCutCopied e = LeavesCut log old new x e
+
+-- WHAT IS COPIED of a log's device, if it is known what that holds
+-- if it holds so many bytes, the fault is its own or the sink's
+abbrev pub IsCopyFault : (held : Option (List ℕ)) → (count : ℕ) → Fault → Type 0
+IsCopyFault held count e = (text : List ℕ) → held ≡ Some text → count ≤ length text → (e ≡ ReadLog) ⊎ (e ≡ WriteLog)
+
+-- P is true of what is kept, followed by these frames, or by those that were made
+abbrev pub ForFront : (held : Option (List ℕ)) → (kept : ℕ) → (frames : List ℕ) → (List ℕ → Type 0) → Type 0
+ForFront held kept frames P = ForKept held kept (λ front. P (front ++ frames))
+
+abbrev pub ForNewLog : (held : Option (List ℕ)) → Made → (List ℕ → Type 0) → Type 0
+ForNewLog held made P = ForFront held made.kept made.remade.frames.items P
+
+-- the copy is written and flushed
+abbrev pub CopyIsOut : {D : Type 0} → (held : Option (List ℕ)) → Made → (sink : Sink D) → (old new : D) → Type 0
+CopyIsOut held made sink old new = ForNewLog held made (AreOut sink old new)
+
+-- the new store is
+abbrev pub StoreIsOut : {D : Type 0} → (sink : Sink D) → (old new : D) → Made → Type 0
+StoreIsOut sink old new made = AreOut sink old new (store_text made.remade.store)
+
+-- what a fault during the writing of the copy and of the store that was made leaves
+module _ {L S : Type 0} (log : Sink L) (log_old log_new : L) (store : Sink S) (store_old store_new : S) where
+  abbrev pub LeavesCopy : (held : Option (List ℕ)) → Made → Fault → Type 0
+  LeavesCopy held made e =
+      ForNewLog held made (λ new_log. LeavesCopied log log_old log_new store store_old store_new new_log (store_text made.remade.store) e)

@@ -10,9 +10,13 @@ use Rattle.wal.specs.Records.{LogContent}
 use Rattle.wal.specs.Tail.{with_tail}
 use Rattle.wal.specs.Reads.{log_text}
 use Rattle.wal.specs.Store.{store_out}
+use Rattle.device.specs.declared.traits.Sink.{Ghosts as Sink}
 use Rattle.device.specs.Transfer.{TookBeginning, Flushes}
+use Rattle.restart.specs.declared.options.Options.{Options}
+use Rattle.restart.specs.Options.{AreInRange}
+use Rattle.recovery.specs.declared.tail_file.TailFile.{TailFile}
 use Rattle.recovery.specs.Text.{ReportContent}
-use Rattle.recovery.specs.Recovery.{Recovers, Recovered}
+use Rattle.recovery.specs.Recovery.{Recovers, Recovered, AreLawful, AreCut, LawfulInput}
 use Rattle.recovery.specs.Devices.{SourcesGave, AreCutOf}
 use Rattle.recovery.specs.TailFile.{tail_text, end_of, sum_of}
 
@@ -25,21 +29,33 @@ Continues kept frames before after = IfSome before (λ held. after ≡ Some (tak
 abbrev pub IsFlushed : (before after flushed_before flushed_after : Option (List ℕ)) → Type 0
 IsFlushed before after flushed_before flushed_after = IfSome before (λ _. Flushes flushed_before flushed_after after)
 
-pub record IsContinued (kept : ℕ) (frames : List ℕ) (before after flushed_before flushed_after : Option (List ℕ)) : Type 0 where
-  pub continued : Continues kept frames before after
-  pub flushed : IsFlushed before after flushed_before flushed_after
+module _ {L : Type 0} (log : Sink L) (old new : L) where
+  pub record IsContinued (kept : ℕ) (frames : List ℕ) : Type 0 where
+    pub continued : Continues kept frames (log.taken old) (log.taken new)
+    pub flushed : IsFlushed (log.taken old) (log.taken new) (log.flushed old) (log.flushed new)
 
--- what a fault leaves of it: nothing is changed; or it is cut, and a prefix of the frames is there; if some but not all frames are there,
--- the cut was flushed before them
-pub record IsBegun (kept : ℕ) (frames : List ℕ) (before after flushed_before flushed_after : Option (List ℕ)) : Type 0 where
-  pub count : ℕ
-  pub within : count ≤ length frames
-  pub begun : Continues kept (take count frames) before after
-  pub cut_first : 0 < count → count < length frames → IfSome flushed_before (λ _. IfSome before (λ held. flushed_after ≡ Some (take kept held)))
+  abbrev pub IsLogFlushed : Type 0
+  IsLogFlushed = IsFlushed (log.taken old) (log.taken new) (log.flushed old) (log.flushed new)
 
-abbrev pub IsLeft : (kept : ℕ) (frames : List ℕ) (before after flushed_before flushed_after : Option (List ℕ)) → Type 0
-IsLeft kept frames before after flushed_before flushed_after =
-    Keeps before after ⊎ IsBegun kept frames before after flushed_before flushed_after
+  -- what a fault leaves of it: nothing is changed; or it is cut, and a prefix of the frames is there; if some but not all frames are there,
+  -- the cut was flushed before them
+  pub record IsBegun (kept : ℕ) (frames : List ℕ) : Type 0 where
+    pub count : ℕ
+    pub within : count ≤ length frames
+    pub begun : Continues kept (take count frames) (log.taken old) (log.taken new)
+    pub cut_first :
+        0 < count → count < length frames
+        → IfSome (log.flushed old) (λ _. IfSome (log.taken old) (λ held. log.flushed new ≡ Some (take kept held)))
+
+  abbrev pub IsLeft : (kept : ℕ) (frames : List ℕ) → Type 0
+  IsLeft kept frames = Keeps (log.taken old) (log.taken new) ⊎ IsBegun kept frames
+
+  -- the same by the file of a tail
+  abbrev pub ContinuesBy : TailFile → Type 0
+  ContinuesBy file = IsContinued file.kept file.frames.now
+
+  abbrev pub LeavesBy : TailFile → Type 0
+  LeavesBy file = IsLeft file.kept file.frames.now
 
 -- WHAT IS MADE in memory of the bytes that the sources gave
 pub record Prepares (log_left store_left : Option (List ℕ)) : Type 0 where
@@ -54,46 +70,58 @@ pub record Prepares (log_left store_left : Option (List ℕ)) : Type 0 where
   pub recovers : Recovers log store (take kept log ++ frames) new_store report
 
 -- the file of the tail is written for them, and flushed
-pub record HasTail {log_left store_left : Option (List ℕ)} (made : Prepares log_left store_left) (before after flushed_before flushed_after : Option (List ℕ)) : Type 0 where
-  pub out : Appends before after (tail_text (length made.log) made.kept (sum_of (end_of (take made.kept made.log))) made.frames)
-  pub flushed : Flushes flushed_before flushed_after after
+pub record HasTail {T : Type 0} {log_left store_left : Option (List ℕ)} (made : Prepares log_left store_left) (tail : Sink T) (old new : T) : Type 0 where
+  pub out : Appends (tail.taken old) (tail.taken new) (tail_text (length made.log) made.kept (sum_of (end_of (take made.kept made.log))) made.frames)
+  pub flushed : Flushes (tail.flushed old) (tail.flushed new) (tail.taken new)
 
--- ON SUCCESS: the log is continued, and the new store is written
-pub record Completed (log_left store_left log_before log_after store_before store_after : Option (List ℕ)) (report : ReportContent) : Type 0 where
-  pub made : Prepares log_left store_left
-  pub report_is : report ≡ made.report
-  pub log_out : Continues made.kept made.frames log_before log_after
-  pub store_out : Appends store_before store_after made.new_store
+-- what is made of what the sources gave has its file
+abbrev pub TailIsOut : {T : Type 0} → (tail : Sink T) → (old new : T) → (log_left store_left : Option (List ℕ)) → Type 0
+TailIsOut tail old new log_left store_left = (made : Prepares log_left store_left) × HasTail made tail old new
 
--- A FAULT of a sink: what it leaves of the log and of the new store
-abbrev pub LeavesInPlace : (kept : ℕ) (frames new_store : List ℕ) (log_before log_after log_flushed_before log_flushed_after store_before store_after : Option (List ℕ)) → Fault → Type 0
-LeavesInPlace kept frames new_store log_before log_after log_flushed_before log_flushed_after store_before store_after WriteLog =
-    IsLeft kept frames log_before log_after log_flushed_before log_flushed_after × Keeps store_before store_after
-LeavesInPlace kept frames new_store log_before log_after log_flushed_before log_flushed_after store_before store_after WriteStore =
-    Continues kept frames log_before log_after × TookBeginning store_before store_after new_store
-LeavesInPlace kept frames new_store log_before log_after log_flushed_before log_flushed_after store_before store_after e = ⊥
+-- and continues the log
+abbrev pub LogIsContinued : {L : Type 0} → (log : Sink L) → (old new : L) → (log_left store_left : Option (List ℕ)) → Type 0
+LogIsContinued log old new log_left store_left = (made : Prepares log_left store_left) × IsContinued log old new made.kept made.frames
 
--- any fault: a fault of another device or of the input leaves all as it was
-abbrev pub IsLeftIn : (log_left store_left log_before log_after log_flushed_before log_flushed_after store_before store_after : Option (List ℕ)) → Fault → Type 0
-IsLeftIn log_left store_left log_before log_after log_flushed_before log_flushed_after store_before store_after WriteLog =
-    (made : Prepares log_left store_left) × LeavesInPlace made.kept made.frames made.new_store log_before log_after log_flushed_before log_flushed_after store_before store_after WriteLog
-IsLeftIn log_left store_left log_before log_after log_flushed_before log_flushed_after store_before store_after WriteStore =
-    (made : Prepares log_left store_left) × LeavesInPlace made.kept made.frames made.new_store log_before log_after log_flushed_before log_flushed_after store_before store_after WriteStore
-IsLeftIn log_left store_left log_before log_after log_flushed_before log_flushed_after store_before store_after e =
-    Keeps log_before log_after × Keeps store_before store_after
+-- WHAT BECOMES of the log's device and the store's sink, each before and after the call
+module _ {L S : Type 0} (log : Sink L) (log_old log_new : L) (store : Sink S) (store_old store_new : S) where
+  -- on success: the log is continued, and the new store is written
+  pub record Completed (log_left store_left : Option (List ℕ)) (report : ReportContent) : Type 0 where
+    pub made : Prepares log_left store_left
+    pub report_is : report ≡ made.report
+    pub log_out : Continues made.kept made.frames (log.taken log_old) (log.taken log_new)
+    pub store_out : Appends (store.taken store_old) (store.taken store_new) made.new_store
 
--- LAWFUL INPUT: the log's device holds the log and its tail, and the store that the winners leave is written
-pub record DeliversInPlace (base : BasePages) (read : LogContent) (before : StoreContent) (log_after store_before store_after : Option (List ℕ)) (report : ReportContent) : Type 0 where
-  pub new_log : List ℕ
-  pub new_store : List ℕ
-  pub recovered : Recovered base read before new_log new_store report
-  pub log_is : log_after ≡ Some new_log
-  pub store_out : Appends store_before store_after new_store
+  -- a fault of a sink: what it leaves of the log and of the new store
+  abbrev pub LeavesInPlace : (kept : ℕ) (frames new_store : List ℕ) → Fault → Type 0
+  LeavesInPlace kept frames new_store WriteLog = IsLeft log log_old log_new kept frames × Keeps (store.taken store_old) (store.taken store_new)
+  LeavesInPlace kept frames new_store WriteStore =
+      Continues kept frames (log.taken log_old) (log.taken log_new) × TookBeginning (store.taken store_old) (store.taken store_new) new_store
+  LeavesInPlace kept frames new_store e = ⊥
 
--- AFTER AN INTERRUPTION: as an uninterrupted restart of this log and its store leaves them
-pub record CompletesInPlace (base : BasePages) (read : LogContent) (before : StoreContent) (log_after store_before store_after : Option (List ℕ)) : Type 0 where
-  pub log_is : log_after ≡ Some (log_text (with_tail read))
-  pub store_out : Appends store_before store_after (store_text (store_out base read before))
+  -- the same by the file of the tail, and the store that was made
+  abbrev pub LeavesPart : TailFile → StoreContent → Fault → Type 0
+  LeavesPart file made e = LeavesInPlace file.kept file.frames.now (store_text made) e
+
+  -- any fault: a fault of another device or of the input leaves all as it was
+  abbrev pub IsLeftIn : (log_left store_left : Option (List ℕ)) → Fault → Type 0
+  IsLeftIn log_left store_left WriteLog = (made : Prepares log_left store_left) × LeavesInPlace made.kept made.frames made.new_store WriteLog
+  IsLeftIn log_left store_left WriteStore = (made : Prepares log_left store_left) × LeavesInPlace made.kept made.frames made.new_store WriteStore
+  IsLeftIn log_left store_left e = Keeps (log.taken log_old) (log.taken log_new) × Keeps (store.taken store_old) (store.taken store_new)
+
+-- LAWFUL INPUT, and what the log's device holds in the end
+module _ {S : Type 0} (log_after : Option (List ℕ)) (store : Sink S) (old new : S) where
+  -- it holds the log and its tail, and the store that the winners leave is written
+  pub record DeliversInPlace (x : LawfulInput) (report : ReportContent) : Type 0 where
+    pub new_log : List ℕ
+    pub new_store : List ℕ
+    pub recovered : Recovered x.base x.bytes.decoded.read x.bytes.decoded.before new_log new_store report
+    pub log_is : log_after ≡ Some new_log
+    pub store_out : Appends (store.taken old) (store.taken new) new_store
+
+  -- after an interruption: as an uninterrupted restart of this input leaves them
+  pub record CompletesInPlace (x : LawfulInput) : Type 0 where
+    pub log_is : log_after ≡ Some (log_text (with_tail x.bytes.decoded.read))
+    pub store_out : Appends (store.taken old) (store.taken new) (store_text (store_out x.base x.bytes.decoded.read x.bytes.decoded.before))
 
 -- WHAT THE LOG'S DEVICE HOLDS AFTER A FAULT: the log that was read, or bytes that, with the store that was read, an interrupted restart may
 -- have left
@@ -101,3 +129,18 @@ pub record HoldsCut (base : BasePages) (read : LogContent) (before : StoreConten
   pub held : List ℕ
   pub holds : log_after ≡ Some held
   pub is : (held ≡ log) ⊎ AreCutOf base read before held store
+
+-- LAWFUL INPUT, and that of an interrupted restart: as `ForLawful` and `ForCut`, if the log's device holds the log too
+abbrev pub ForLawfulHeld : (log_left store_left log_held : Option (List ℕ)) → Options → (LawfulInput → Type 0) → Type 0
+ForLawfulHeld log_left store_left log_held options P =
+    (base : BasePages) (log store : List ℕ) → log_left ≡ Some log → store_left ≡ Some store → log_held ≡ Some log → AreInRange options
+    → (bytes : AreLawful base log store) → P (record { base = base; log = log; store = store; bytes = bytes })
+
+abbrev pub ForCutHeld : (log_left store_left log_held : Option (List ℕ)) → Options → (LawfulInput → Type 0) → Type 0
+ForCutHeld log_left store_left log_held options P =
+    (base : BasePages) (log store : List ℕ) → log_left ≡ Some log → store_left ≡ Some store → log_held ≡ Some log → AreInRange options
+    → (bytes : AreCut base log store) → P (record { base = base; log = bytes.first_log; store = bytes.first_store; bytes = bytes.first })
+
+-- the same for lawful input
+abbrev pub HoldsCutOf : (log_after : Option (List ℕ)) → LawfulInput → Type 0
+HoldsCutOf log_after x = HoldsCut x.base x.bytes.decoded.read x.bytes.decoded.before x.log x.store log_after

@@ -2,6 +2,7 @@ pub mod Text
 pub mod Recovery
 pub mod Audit
 pub mod Devices
+pub mod Calls
 pub mod LogText
 pub mod OneAnswer
 pub mod TailFile

@@ -12,8 +12,8 @@ abbrev pub text_of : LogText → List ℕ
 text_of text = text.front.items ++ drop text.from text.back.items
 
 -- all that a source had left came after the first of these bytes
-pub record CameBehind (old new : Option (List ℕ)) (first : ℕ) (bytes : List ℕ) : Type 0 where
-  pub read : Consumes old new (drop first bytes)
+pub record CameAfter {D : Type 0} (left : D → Option (List ℕ)) (old new : D) (first : ℕ) (bytes : List ℕ) : Type 0 where
+  pub read : Consumes (left old) (left new) (drop first bytes)
   pub within : first ≤ length bytes
 
 -- what is known of them holds

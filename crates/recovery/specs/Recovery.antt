@@ -1,18 +1,22 @@
 -- What a recovery makes of the bytes of a log and a store, and its errors (own).
-use Rattle.std.specs.Prelude.{◌≡◌, ℕ, ◌-◌, ◌⊎◌, List, ◌++◌, length, take, Result, Ok, IfOk, IfErr, MatchResult, ⊤}
+use Rattle.std.specs.Prelude.{◌≡◌, ℕ, ◌+◌, ◌-◌, ◌*◌, ◌≤◌, ◌⊎◌, List, ◌++◌, length, take, Result, Ok, IfOk, IfErr, MatchResult, ⊤}
 use Rattle.page.specs.declared.fault.Fault.{Fault}
 use Rattle.page.specs.declared.fault.Fault.TheVariants.{NoResource, BadWorkers, BadParting}
 use Rattle.page.specs.Store.{StoreContent}
 use Rattle.page.specs.File.{store_text, SpellsStore, StoreFault}
-use Rattle.wal.specs.Records.{LogContent, history, ◌⧺◌}
+use Rattle.wal.specs.Records.{LogContent, history, last_lsn, ◌⧺◌}
 use Rattle.wal.specs.Meaning.{BasePages, in_doubt}
 use Rattle.wal.specs.Tail.{in_doubt_of, losers_of, tail_of, with_tail}
 use Rattle.wal.specs.Frames.{Gives}
-use Rattle.wal.specs.Reads.{Reads, log_text, Cause as LogFault}
+use Rattle.wal.specs.Reads.{Reads, log_text, spellings, Cause as LogFault}
 use Rattle.wal.specs.Store.{Lawful, store_out}
 use Rattle.wal.specs.Cut.{Cut}
-use Rattle.restart.specs.Outcome.{OutcomeContent}
-use Rattle.restart.specs.Restart.{clrs_in, Restarts, IsSettled, Redoes, InputFault}
+use Rattle.undo.specs.declared.appended.Appended.{Appended}
+use Rattle.undo.specs.Appended.{appended_records}
+use Rattle.restart.specs.declared.outcome.Outcome.{Outcome}
+use Rattle.restart.specs.Outcome.{OutcomeContent, outcome_in}
+use Rattle.restart.specs.Restart.{clrs_in, Restarts, Restores, IsSettled, Redoes, InputFault}
+use Rattle.passes.specs.InPieces.{AreAlike}
 use Rattle.restart.specs.declared.options.Options.{Options}
 use Rattle.recovery.specs.declared.recovery.Recovery.{Recovery}
 use Rattle.recovery.specs.declared.recovery.Remade.{Remade}
@@ -32,9 +36,21 @@ pub record Decoded (log store : List ℕ) : Type 0 where
 abbrev pub new_log : Recovery → List ℕ
 new_log x = x.kept.now ++ x.frames.items
 
--- the same for the bytes of a log: all but their torn tail are kept
+-- the same for what is not yet written
+abbrev pub log_with : (kept : List ℕ) → Remade → List ℕ
+log_with kept x = kept ++ x.frames.items
+
+-- and for the bytes of a log: all but their torn tail are kept
 abbrev pub log_of : List ℕ → Remade → List ℕ
 log_of log x = take (length log - x.report.torn) log ++ x.frames.items
+
+-- the frames of the records that are appended to a log, if the first has this LSN
+abbrev pub frames_from : (lsn : ℕ) → LogContent → List Appended → List ℕ
+frames_from lsn log appended = spellings lsn (appended_records (history log) appended)
+
+-- the first of them follows the last of the log
+abbrev pub appended_frames : LogContent → List Appended → List ℕ
+appended_frames log appended = frames_from (last_lsn (history log) + 1) log appended
 
 -- the result of a decoder of store files for these bytes: the store that they encode, or their error
 pub record Decodes (text : List ℕ) (answer : Result StoreContent Fault) : Type 0 where
@@ -73,11 +89,44 @@ pub record Recovers (log store new_log new_store : List ℕ) (report : ReportCon
   pub store_is : new_store ≡ store_text outcome.store
   pub report_is : report ≡ report_of decoded.read decoded.torn outcome
 
+-- what is made in memory is the recovery of these bytes
+abbrev pub IsRecoveryOf : (log store : List ℕ) → Recovery → Type 0
+IsRecoveryOf log store x = Recovers log store (new_log x) x.store.items x.report
+
+abbrev pub Remakes : (log store : List ℕ) → Remade → Type 0
+Remakes log store x = Recovers log store (log_of log x) (store_text x.store) x.report
+
+-- P is true of all bytes of a log and of a store for which their decoders return these results
+abbrev pub ForRead : Result (LogContent × ℕ) Fault → Result StoreContent Fault → (List ℕ → List ℕ → Type 0) → Type 0
+ForRead records decoded P = (log store : List ℕ) → ReadsAs log records → Decodes store decoded → P log store
+
 -- LAWFUL INPUT
 -- the bytes of a log and its store that are lawful over these base pages
 pub record AreLawful (base : BasePages) (log store : List ℕ) : Type 0 where
   pub decoded : Decoded log store
   pub lawful : Lawful base decoded.read decoded.before
+
+-- base pages, and the bytes of a log and its store that are lawful over them
+pub record LawfulInput : Type 0 where
+  pub base : BasePages
+  pub log : List ℕ
+  pub store : List ℕ
+  pub bytes : AreLawful base log store
+
+-- P is true of these bytes over all base pages over which they are lawful
+abbrev pub ForLawfulBytes : (log store : List ℕ) → (LawfulInput → Type 0) → Type 0
+ForLawfulBytes log store P =
+    (base : BasePages) (bytes : AreLawful base log store) → P (record { base = base; log = log; store = store; bytes = bytes })
+
+-- P is true of all lawful bytes for which the decoders return these results
+abbrev pub ForLawfulRead : Result (LogContent × ℕ) Fault → Result StoreContent Fault → (LawfulInput → Type 0) → Type 0
+ForLawfulRead records decoded P =
+    (base : BasePages) (log store : List ℕ) → ReadsAs log records → Decodes store decoded → (bytes : AreLawful base log store)
+    → P (record { base = base; log = log; store = store; bytes = bytes })
+
+-- P is true of the value, or the error is a lack of memory
+abbrev pub UnlessMemory : {T : Type 0} → Result T Fault → (T → Type 0) → Type 0
+UnlessMemory answer P = MatchResult answer P (λ e. e ≡ NoResource)
 
 -- the new log is the log and its tail, the new store what the winners leave; the transactions in doubt are reported, and stay so; a restart
 -- on both appends nothing and leaves the store as it is
@@ -92,6 +141,40 @@ pub record Recovered (base : BasePages) (read : LogContent) (before : StoreConte
   pub still_in_doubt : (t : ℕ) → in_doubt t (history (with_tail read)) ≡ in_doubt t (history read)
   pub ended_are : report.ended ≡ length (losers_of (history read))
   pub compensated_are : report.compensated ≡ clrs_in (tail_of read)
+
+-- what is made in memory of lawful input is that
+abbrev pub RecoversLawful : LawfulInput → Recovery → Type 0
+RecoversLawful x made = Recovered x.base x.bytes.decoded.read x.bytes.decoded.before (new_log made) made.store.items made.report
+
+abbrev pub RemakesLawful : LawfulInput → Remade → Type 0
+RemakesLawful x made = Recovered x.base x.bytes.decoded.read x.bytes.decoded.before (log_of x.log made) (store_text made.store) made.report
+
+-- what is appended to a log takes at most twice its bytes
+abbrev pub IsShort : (log : List ℕ) → Recovery → Type 0
+IsShort log made = length made.frames.items ≤ 2 * length log
+
+-- A RESTART, of which this is the outcome, of a whole log that is like the records looked at: what is remade is a recovery of any bytes that
+-- encode the log, with this many torn, and the store
+abbrev pub RemakesRestart : (records : LogContent) (torn : ℕ) → Outcome Appended → Remade → Type 0
+RemakesRestart records torn outcome made =
+    (whole : LogContent) (log store : List ℕ) (before : StoreContent) → AreAlike whole records outcome.appended.items
+    → Reads log whole torn → SpellsStore store before → Restarts whole before (outcome_in (history whole) outcome) → Remakes log store made
+
+-- P is true of each such log that the restart restores over some base pages, with the store before it
+abbrev pub ForRestored : (records : LogContent) (torn : ℕ) → Outcome Appended
+    → (BasePages → LogContent → StoreContent → (log : List ℕ) → Type 0) → Type 0
+ForRestored records torn outcome P =
+    (whole : LogContent) (base : BasePages) (log : List ℕ) (before : StoreContent) → AreAlike whole records outcome.appended.items
+    → Reads log whole torn → Restores base whole before (outcome_in (history whole) outcome) → P base whole before log
+
+-- then what is remade restores it, and is short
+abbrev pub RemakesRestored : (records : LogContent) (torn : ℕ) → Outcome Appended → Remade → Type 0
+RemakesRestored records torn outcome made =
+    ForRestored records torn outcome (λ base whole before log. Recovered base whole before (log_of log made) (store_text made.store) made.report)
+
+abbrev pub IsShortRestored : (records : LogContent) (torn : ℕ) → Outcome Appended → Remade → Type 0
+IsShortRestored records torn outcome made =
+    ForRestored records torn outcome (λ base whole before log. length made.frames.items ≤ 2 * length log)
 
 -- AFTER AN INTERRUPTION
 -- bytes that an interrupted restart on the bytes of a lawful log and its store may have left
@@ -113,3 +196,11 @@ RecoveryCause log store options e =
     AreInRange options
     × (LogFault log e ⊎ ((read : LogContent) × (torn : ℕ) × Reads log read torn × StoreFault store e)
     ⊎ ((decoded : Decoded log store) × InputFault decoded.read decoded.before e))
+
+-- the error of the bytes for which the decoders return these results
+abbrev pub ReadCause : Result (LogContent × ℕ) Fault → Result StoreContent Fault → Options → Fault → Type 0
+ReadCause records decoded options e = ForRead records decoded (λ log store. RecoveryCause log store options e)
+
+-- valid options, which cause no error
+abbrev pub one_worker : Options
+one_worker = record { workers = 1; parts = 1 }

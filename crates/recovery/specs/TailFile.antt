@@ -1,6 +1,7 @@
 -- The file of a tail (own): what a recovery in place keeps on the disk while it continues the log.
-use Rattle.std.specs.Prelude.{ℕ, ◌-◌, ◌*◌, ◌%◌, ◌^◌, List, [], ◌∷◌, ◌++◌, bit_xor, codes, drop, length}
+use Rattle.std.specs.Prelude.{◌≡◌, ℕ, ◌-◌, ◌*◌, ◌%◌, ◌^◌, ◌<◌, List, [], ◌∷◌, ◌++◌, bit_xor, codes, drop, length}
 use Rattle.std.specs.Int.{w64, to_be_bytes}
+use Rattle.recovery.specs.declared.tail_file.TailFile.{TailFile}
 
 -- FNV-1a of 64 bits (Fowler, Noll, Vo), continued over more bytes
 abbrev pub sum_on : ℕ → List ℕ → ℕ
@@ -14,6 +15,10 @@ sum_of bytes = sum_on 0xcbf2_9ce4_8422_2325 bytes
 abbrev pub end_of : List ℕ → List ℕ
 end_of bytes = drop (length bytes - 4096) bytes
 
+-- this is the sum of the end of these bytes
+abbrev pub IsEndSum : ℕ → List ℕ → Type 0
+IsEndSum sum bytes = sum ≡ sum_of (end_of bytes)
+
 -- a magic, how long the log was, how much of it is kept, how long the tail is, and the sum of the end of what is kept
 unfoldable pub head_of : (log kept tail end : ℕ) → List ℕ
 head_of log kept tail end =
@@ -26,3 +31,15 @@ front_of log kept end frames = head_of log kept (length frames) end ++ frames
 -- followed by the sum of all this
 unfoldable pub tail_text : (log kept end : ℕ) (frames : List ℕ) → List ℕ
 tail_text log kept end frames = front_of log kept end frames ++ to_be_bytes w64 (sum_of (front_of log kept end frames))
+
+-- the file that holds this, and what comes before its sum
+abbrev pub file_text : TailFile → List ℕ
+file_text file = tail_text file.length file.kept file.end file.frames.now
+
+abbrev pub file_front : TailFile → List ℕ
+file_front file = front_of file.length file.kept file.end file.frames.now
+
+-- P is true if these bytes are the file of a tail
+abbrev pub IfTailFile : List ℕ → Type 0 → Type 0
+IfTailFile bytes P =
+    (log kept end : ℕ) (frames : List ℕ) → log < 2 ^ 64 → kept < 2 ^ 64 → end < 2 ^ 64 → bytes ≡ tail_text log kept end frames → P

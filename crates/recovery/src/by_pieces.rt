@@ -1,19 +1,18 @@
 //! Recovery in place of a log that is read in pieces: it is never in memory as a whole.
 
-ghost use Rattle.std.specs.Prelude.{◌≡◌, ◌⊎◌, ◌+◌, ℕ, List, length, Some, IfOk, IfErr, OnOk, OnErr, Err, MatchResult};
+ghost use Rattle.std.specs.Prelude.{◌≡◌, ◌⊎◌, length, Some, IfOk, IfErr, OnOk, OnErr, Err};
 ghost use Rattle.std.specs.Io.KnownBytes.{IsAtEnd, Keeps};
 ghost use Rattle.page.specs.declared.fault.Fault.{Fault};
-ghost use Rattle.page.specs.declared.fault.Fault.TheVariants.{ReadLog, WriteLog, WriteStore};
-ghost use Rattle.page.specs.File.{store_text, SpellsStore};
-ghost use Rattle.device.specs.Transfer.{Flushes};
-ghost use Rattle.wal.specs.Meaning.{BasePages};
-ghost use Rattle.restart.specs.declared.options.Options.{Options};
-ghost use Rattle.restart.specs.Options.{AreInRange, OptionsFault};
-ghost use Rattle.recovery.specs.Recovery.{log_of, Decodes, Recovers, Recovered, AreLawful, AreCut};
-ghost use Rattle.recovery.specs.Devices.{FailsOnlyWith, IsFaultOf, DeviceCause, IsResourceOrDevice, IsAfterReading};
-ghost use Rattle.recovery.specs.InPlace.{IsContinued, IsLeftIn, Prepares, HasTail, Completed, DeliversInPlace, CompletesInPlace, HoldsCut, IsFlushed};
-ghost use Rattle.recovery.specs.ByPieces.{IsOfLog, IsMeasured, ReadingCause, StoreFails};
+ghost use Rattle.page.specs.declared.fault.Fault.TheVariants.{ReadLog, WriteStore};
+ghost use Rattle.page.specs.File.{SpellsStore};
+ghost use Rattle.restart.specs.Options.{OptionsFault};
+ghost use Rattle.recovery.specs.Recovery.{Decodes};
+ghost use Rattle.recovery.specs.ByPieces.{IsOfLog, IsMeasured, StoreFails, IfDecoded, IsCauseOf, IsMadeLawful, IsMadeLawfulOf, IsMadeOf, RereadCause};
 ghost use Rattle.recovery.specs.declared.log_again.TheConstants.{ROOM};
+ghost use Rattle.recovery.specs.InPlace.{Completed, CompletesInPlace, DeliversInPlace, ForCutHeld, ForLawfulHeld, HoldsCutOf, IsLeftIn, IsLogFlushed, LogIsContinued, TailIsOut};
+ghost use Rattle.recovery.specs.Devices.{OnceRead, UnlessDevice};
+ghost use Rattle.recovery.specs.Calls.{Blames, BlamesSinks, ForText, IsStored};
+ghost use Rattle.std.specs.Option.{ForSome};
 
 use crate::Report;
 use crate::in_place::write_in_place;
@@ -47,22 +46,13 @@ fn make_of<L: Reread>(
     room: &mut [u8],
 ) -> Result<Made, Fault>
     requires { length room.old ≡ ROOM }
-    ensures lawful { (base : BasePages) (text store : List ℕ) → L.text log.old ≡ Some text
-        → SpellsStore store before → (bytes : AreLawful base text store)
-        → bytes.decoded.before ≡ before
-        → MatchResult result (λ x. Recovered base bytes.decoded.read bytes.decoded.before
-        (log_of text x.remade) (store_text x.remade.store) x.remade.report) (IsFaultOf ReadLog) }
-    ensures answer { IfOk result (λ x. (text store : List ℕ) → L.text log.old ≡ Some text
-        → SpellsStore store before
-        → Recovers text store (log_of text x.remade) (store_text x.remade.store) x.remade.report) }
-    ensures measured { IfOk result (λ x. (text : List ℕ) → L.text log.old ≡ Some text
-        → IsMeasured text x) }
-    ensures fault { IfErr result (λ e. (text store : List ℕ) (options : Options)
-        → L.text log.old ≡ Some text → SpellsStore store before → AreInRange options
-        → ReadingCause text store options e) }
+    ensures lawful { IsMadeLawfulOf (L.text log.old) before result }
+    ensures answer { IfOk result (IsMadeOf (L.text log.old) (λ store. SpellsStore store before)) }
+    ensures measured { IfOk result (λ x. ForSome (L.text log.old) (λ text. IsMeasured text x)) }
+    ensures fault { IfErr result (IsCauseOf (L.text log.old) (λ store. SpellsStore store before)) }
     ensures same { OnOk result (Keeps (L.text log.old) (L.text log.new)) }
     ensures named { IfErr result IsOfLog }
-    ensures cause { FailsOnlyWith ReadLog result (L.failures log.old) (L.failures log.new) }
+    ensures cause { Blames ReadLog L.failures log.old log.new result }
 {
     let Restarted {
         kept,
@@ -97,22 +87,13 @@ pub fn make_by_pieces<L: Reread>(
     room: &mut [u8],
 ) -> Result<Made, Fault>
     requires { length room.old ≡ ROOM }
-    ensures lawful { (base : BasePages) (text store : List ℕ) → L.text log.old ≡ Some text
-        → Decodes store decoded → (bytes : AreLawful base text store)
-        → MatchResult result (λ x. Recovered base bytes.decoded.read bytes.decoded.before
-        (log_of text x.remade) (store_text x.remade.store) x.remade.report) (IsFaultOf ReadLog) }
-    ensures answer { IfOk result (λ x. (text store : List ℕ) → L.text log.old ≡ Some text
-        → Decodes store decoded
-        → Recovers text store (log_of text x.remade) (store_text x.remade.store) x.remade.report) }
-    ensures measured { IfOk result (λ x. (text : List ℕ) → L.text log.old ≡ Some text
-        → IsMeasured text x) }
-    ensures fault { IfErr result (λ e. (text store : List ℕ) (options : Options)
-        → L.text log.old ≡ Some text → Decodes store decoded → AreInRange options
-        → ReadingCause text store options e) }
+    ensures lawful { IsMadeLawful (L.text log.old) (λ store. Decodes store decoded) result }
+    ensures answer { IfOk result (IsMadeOf (L.text log.old) (λ store. Decodes store decoded)) }
+    ensures measured { IfOk result (λ x. ForSome (L.text log.old) (λ text. IsMeasured text x)) }
+    ensures fault { IfErr result (IsCauseOf (L.text log.old) (λ store. Decodes store decoded)) }
     ensures same { OnOk result (Keeps (L.text log.old) (L.text log.new)) }
-    ensures named { IfErr result (λ e. (store : List ℕ) → Decodes store decoded → IsOfLog e) }
-    ensures cause { (store : List ℕ) → Decodes store decoded
-        → FailsOnlyWith ReadLog result (L.failures log.old) (L.failures log.new) }
+    ensures named { IfErr result (λ e. IfDecoded decoded (IsOfLog e)) }
+    ensures cause { IfDecoded decoded (Blames ReadLog L.failures log.old log.new result) }
 {
     match decoded {
         Ok(before) => make_of(alloc, log, before, room),
@@ -181,79 +162,54 @@ pub fn recover_by_pieces<LR: Reread, SR: Source, T: Sink, LW: Continue, SW: Sink
     // For the bytes of a log and its store that are lawful over any base pages: the log is
     // continued by its tail, the new store is written, and a fault is a lack of memory or a
     // device's.
-    ensures lawful { (base : BasePages) (log_text store_text : List ℕ)
-        → LR.text log.old ≡ Some log_text → SR.left store.old ≡ Some store_text
-        → LW.taken out_log.old ≡ Some log_text → AreInRange options.now
-        → (bytes : AreLawful base log_text store_text)
-        → MatchResult result (DeliversInPlace base bytes.decoded.read bytes.decoded.before
-        (LW.taken out_log.new) (SW.taken out_store.old) (SW.taken out_store.new))
-        IsResourceOrDevice }
+    ensures lawful { ForLawfulHeld (LR.text log.old) (SR.left store.old) (LW.taken out_log.old)
+        options.now (λ x. UnlessDevice result (DeliversInPlace (LW.taken out_log.new)
+        SW.Sink out_store.old out_store.new x)) }
 
     // For what an interrupted restart of them may leave: all is as that restart would have left it.
-    ensures interrupted { (base : BasePages) (log_text store_text : List ℕ)
-        → LR.text log.old ≡ Some log_text → SR.left store.old ≡ Some store_text
-        → LW.taken out_log.old ≡ Some log_text → AreInRange options.now
-        → (bytes : AreCut base log_text store_text)
-        → MatchResult result (λ _. CompletesInPlace base bytes.first.decoded.read
-        bytes.first.decoded.before (LW.taken out_log.new) (SW.taken out_store.old)
-        (SW.taken out_store.new)) IsResourceOrDevice }
+    ensures interrupted { ForCutHeld (LR.text log.old) (SR.left store.old) (LW.taken out_log.old)
+        options.now (λ x. UnlessDevice result (λ _. CompletesInPlace (LW.taken out_log.new)
+        SW.Sink out_store.old out_store.new x)) }
 
     // After any fault the log holds what was read, or such bytes.
-    ensures resumable { (base : BasePages) (log_text store_text : List ℕ)
-        → LR.text log.old ≡ Some log_text → SR.left store.old ≡ Some store_text
-        → LW.taken out_log.old ≡ Some log_text → AreInRange options.now
-        → (bytes : AreLawful base log_text store_text)
-        → OnErr result (HoldsCut base bytes.decoded.read bytes.decoded.before log_text store_text
-        (LW.taken out_log.new)) }
+    ensures resumable { ForLawfulHeld (LR.text log.old) (SR.left store.old) (LW.taken out_log.old)
+        options.now (λ x. OnErr result (HoldsCutOf (LW.taken out_log.new) x)) }
 
     // If it returns a report.
-    ensures answer { IfOk result (λ report. (log_text : List ℕ)
-        → LR.text log.old ≡ Some log_text
-        → Completed (Some log_text) (SR.left store.old) (LW.taken out_log.old)
-        (LW.taken out_log.new) (SW.taken out_store.old) (SW.taken out_store.new) report) }
+    ensures answer { IfOk result (ForText (LR.text log.old) (λ text. Completed
+        LW.Sink out_log.old out_log.new SW.Sink out_store.old out_store.new text
+        (SR.left store.old))) }
     ensures options { (e : Fault) → OptionsFault options.now e → result ≡ Err e }
 
     // On an error, its condition holds, and this is what is left after it.
-    ensures cause { IfErr result (λ e. (log_text : List ℕ) → LR.text log.old ≡ Some log_text
-        → DeviceCause (Some log_text) (SR.left store.old) options.now e) }
-    ensures left { IfErr result (λ e. (log_text : List ℕ) → LR.text log.old ≡ Some log_text
-        → IsLeftIn (Some log_text) (SR.left store.old) (LW.taken out_log.old)
-        (LW.taken out_log.new) (LW.flushed out_log.old) (LW.flushed out_log.new)
-        (SW.taken out_store.old) (SW.taken out_store.new) e) }
+    ensures cause { IfErr result (RereadCause (LR.text log.old) (SR.left store.old) options.now) }
+    ensures left { IfErr result (ForText (LR.text log.old) (λ text. IsLeftIn LW.Sink out_log.old
+        out_log.new SW.Sink out_store.old out_store.new text (SR.left store.old))) }
 
     // A report means that both are flushed.
-    ensures log_flushed { OnOk result (IsFlushed (LW.taken out_log.old) (LW.taken out_log.new)
-        (LW.flushed out_log.old) (LW.flushed out_log.new)) }
-    ensures store_flushed { OnOk result
-        (Flushes (SW.flushed out_store.old) (SW.flushed out_store.new) (SW.taken out_store.new)) }
+    ensures log_flushed { OnOk result (IsLogFlushed LW.Sink out_log.old out_log.new) }
+    ensures store_flushed { OnOk result (IsStored SW.Sink out_store.old out_store.new) }
 
     // The store's source is read to its end before anything is written; the file of the tail is
     // written and flushed before the log is touched, and the log is continued and flushed before
     // the new store is.
-    ensures read_first { ((tail.new ≡ tail.old) × (out_log.new ≡ out_log.old) × (out_store.new ≡ out_store.old))
-        ⊎ IsAtEnd (SR.left store.new) }
-    ensures tail_first { (log_text : List ℕ) → LR.text log.old ≡ Some log_text
-        → (out_log.new ≡ out_log.old)
-        ⊎ ((made : Prepares (Some log_text) (SR.left store.old))
-        × HasTail made (T.taken tail.old) (T.taken tail.new) (T.flushed tail.old)
-        (T.flushed tail.new)) }
-    ensures log_first { (log_text : List ℕ) → LR.text log.old ≡ Some log_text
-        → (out_store.new ≡ out_store.old)
-        ⊎ ((made : Prepares (Some log_text) (SR.left store.old))
-        × IsContinued made.kept made.frames (LW.taken out_log.old) (LW.taken out_log.new)
-        (LW.flushed out_log.old) (LW.flushed out_log.new)) }
+    ensures read_first { ((tail.new ≡ tail.old) × (out_log.new ≡ out_log.old)
+        × (out_store.new ≡ out_store.old)) ⊎ IsAtEnd (SR.left store.new) }
+    ensures tail_first { ForSome (LR.text log.old) (λ text. (out_log.new ≡ out_log.old)
+        ⊎ TailIsOut T.Sink tail.old tail.new (Some text) (SR.left store.old)) }
+    ensures log_first { ForSome (LR.text log.old) (λ text. (out_store.new ≡ out_store.old)
+        ⊎ LogIsContinued LW.Sink out_log.old out_log.new (Some text) (SR.left store.old)) }
 
     // A fault of what was read, or of writing, comes after the store's source was read to its end.
-    ensures read_to_end { IfErr result (λ e. IsAfterReading e → IsAtEnd (SR.left store.new)) }
+    ensures read_to_end { IfErr result (OnceRead (IsAtEnd (SR.left store.new))) }
 
     // A fault names a device if that device failed, and only then. If both sources failed, it names
     // the log's.
-    ensures log_source { FailsOnlyWith ReadLog result (LR.failures log.old) (LR.failures log.new) }
+    ensures log_source { Blames ReadLog LR.failures log.old log.new result }
     ensures store_source { StoreFails result (SR.failures store.old) (SR.failures store.new) }
-    ensures log_sinks { FailsOnlyWith WriteLog result (T.failures tail.old + LW.failures out_log.old)
-        (T.failures tail.new + LW.failures out_log.new) }
-    ensures store_sink { FailsOnlyWith WriteStore result (SW.failures out_store.old)
-        (SW.failures out_store.new) }
+    ensures log_sinks { BlamesSinks T.Sink tail.old tail.new LW.Sink out_log.old out_log.new
+        result }
+    ensures store_sink { Blames WriteStore SW.failures out_store.old out_store.new result }
 {
     check_options(options)?;
     let mut room = room_for_log(alloc)?;

@@ -1,21 +1,19 @@
 //! Recovery of a log that is read in pieces and copied: the new log is written while the old one is
 //! read once more. So the log is never in memory as a whole.
 
-ghost use Rattle.std.specs.Prelude.{◌≡◌, ◌≤◌, ◌⊎◌, ◌+◌, ◌^◌, ℕ, List, ◌++◌, length, take, drop, Some, IfOk, IfErr, OnOk, OnErr, Err, MatchResult};
-ghost use Rattle.std.specs.Io.KnownBytes.{Appends, IsAtEnd, Keeps};
+ghost use Rattle.std.specs.Prelude.{◌≡◌, ◌≤◌, ◌⊎◌, ◌+◌, ◌^◌, length, Some, IfOk, IfErr, OnOk, OnErr, Err};
+ghost use Rattle.std.specs.Io.KnownBytes.{IsAtEnd, Keeps};
 ghost use Rattle.page.specs.declared.fault.Fault.{Fault};
 ghost use Rattle.page.specs.declared.fault.Fault.TheVariants.{ReadLog, WriteLog, WriteStore};
-ghost use Rattle.page.specs.File.{store_text};
 ghost use Rattle.device.specs.Failures.{Counts};
-ghost use Rattle.device.specs.Transfer.{TookBeginning, Flushes};
-ghost use Rattle.wal.specs.Meaning.{BasePages};
-ghost use Rattle.restart.specs.Options.{AreInRange, OptionsFault};
-ghost use Rattle.recovery.specs.Recovery.{AreLawful, AreCut};
-ghost use Rattle.recovery.specs.Devices.{FailsOnlyWith, Makes, Writes, AreOut, DeviceCause, Delivers, Completes, IsResourceOrDevice, IsAfterReading};
-ghost use Rattle.recovery.specs.ByPieces.{StoreFails};
-ghost use Rattle.recovery.specs.Copying.{IsOfCopying, LeavesCopied, IsOutCopied, LeavesCutCopied};
+ghost use Rattle.restart.specs.Options.{OptionsFault};
+ghost use Rattle.recovery.specs.Devices.{AreOut, Completes, Delivers, ForCut, ForLawful, NewLogIsOut, OnceRead, UnlessDevice, Writes};
+ghost use Rattle.recovery.specs.ByPieces.{StoreFails, RereadCause};
+ghost use Rattle.recovery.specs.Copying.{IsOfCopying, CopyIsOut, ForFront, ForNewLog, IsCopyFault, IsOutCopied, LeavesCopy, LeavesCutCopied, StoreIsOut};
 ghost use Rattle.recovery.specs.declared.log_again.TheConstants.{ROOM};
 ghost use Rattle.recovery.specs.declared.store_pieces.TheConstants.{PIECE};
+ghost use Rattle.recovery.specs.Calls.{Blames, ForKept, ForPiece, ForText, IsStored, Took, Began};
+ghost use Rattle.std.specs.Option.{ForSome};
 
 use crate::Report;
 use crate::by_pieces::{Made, make_by_pieces};
@@ -36,19 +34,16 @@ fn copy_piece<L: Reread, S: Sink>(
     room: &mut [u8],
 ) -> Result<(), Fault>
     requires { offset + length room.old ≤ 2 ^ 64 }
-    ensures all { OnOk result ((text : List ℕ) → L.text log.old ≡ Some text
-        → Appends (S.taken sink.old) (S.taken sink.new)
-        (take (length room.old) (drop offset text))) }
-    ensures beginning { OnErr result ((text : List ℕ) → L.text log.old ≡ Some text
-        → TookBeginning (S.taken sink.old) (S.taken sink.new)
-        (take (length room.old) (drop offset text))) }
-    ensures fault { IfErr result (λ e. (text : List ℕ) → L.text log.old ≡ Some text
-        → offset + length room.old ≤ length text → (e ≡ ReadLog) ⊎ (e ≡ WriteLog)) }
+    ensures all { OnOk result (ForPiece (L.text log.old) offset room.old
+        (Took S.Sink sink.old sink.new)) }
+    ensures beginning { OnErr result
+        (ForPiece (L.text log.old) offset room.old (Began S.Sink sink.old sink.new)) }
+    ensures fault { IfErr result (IsCopyFault (L.text log.old) (offset + length room.old)) }
     ensures named { IfErr result IsOfCopying }
     ensures same { Keeps (L.text log.old) (L.text log.new) }
     ensures unflushed { Keeps (S.flushed sink.old) (S.flushed sink.new) }
-    ensures log_source { FailsOnlyWith ReadLog result (L.failures log.old) (L.failures log.new) }
-    ensures log_sink { FailsOnlyWith WriteLog result (S.failures sink.old) (S.failures sink.new) }
+    ensures log_source { Blames ReadLog L.failures log.old log.new result }
+    ensures log_sink { Blames WriteLog S.failures sink.old sink.new result }
 {
     let count = read_from(log, offset, room)?;
     if count < room.len() {
@@ -70,17 +65,14 @@ fn copy_kept<L: Reread, S: Sink>(
     room: &mut [u8],
 ) -> Result<(), Fault>
     requires { length room.old ≡ ROOM }
-    ensures all { OnOk result ((text : List ℕ) → L.text log.old ≡ Some text
-        → kept ≤ length text → Appends (S.taken sink.old) (S.taken sink.new) (take kept text)) }
-    ensures beginning { OnErr result ((text : List ℕ) → L.text log.old ≡ Some text
-        → kept ≤ length text
-        → TookBeginning (S.taken sink.old) (S.taken sink.new) (take kept text)) }
-    ensures fault { IfErr result (λ e. (text : List ℕ) → L.text log.old ≡ Some text
-        → kept ≤ length text → (e ≡ ReadLog) ⊎ (e ≡ WriteLog)) }
+    ensures all { OnOk result (ForKept (L.text log.old) kept (Took S.Sink sink.old sink.new)) }
+    ensures beginning { OnErr result (ForKept (L.text log.old) kept
+        (Began S.Sink sink.old sink.new)) }
+    ensures fault { IfErr result (IsCopyFault (L.text log.old) kept) }
     ensures named { IfErr result IsOfCopying }
     ensures unflushed { Keeps (S.flushed sink.old) (S.flushed sink.new) }
-    ensures log_source { FailsOnlyWith ReadLog result (L.failures log.old) (L.failures log.new) }
-    ensures log_sink { FailsOnlyWith WriteLog result (S.failures sink.old) (S.failures sink.new) }
+    ensures log_source { Blames ReadLog L.failures log.old log.new result }
+    ensures log_sink { Blames WriteLog S.failures sink.old sink.new result }
 {
     let mut offset: u64 = 0;
     while offset < kept {
@@ -93,10 +85,8 @@ fn copy_kept<L: Reread, S: Sink>(
 
 /// Writes frames to a sink, after the bytes that it took before, and flushes it.
 fn write_frames<S: Sink>(sink: &mut S, frames: &[u8]) -> Result<(), Failed>
-    ensures all { OnOk result (AreOut frames.now (S.taken sink.old) (S.taken sink.new)
-        (S.flushed sink.old) (S.flushed sink.new)) }
-    ensures beginning { OnErr result
-        (TookBeginning (S.taken sink.old) (S.taken sink.new) frames.now) }
+    ensures all { OnOk result (AreOut S.Sink sink.old sink.new frames.now) }
+    ensures beginning { OnErr result (Began S.Sink sink.old sink.new frames.now) }
     ensures cause { Counts (S.failures sink.old) (S.failures sink.new) result }
 {
     write_all(sink, frames)?;
@@ -113,19 +103,15 @@ fn write_copy<L: Reread, S: Sink>(
     room: &mut [u8],
 ) -> Result<(), Fault>
     requires { length room.old ≡ ROOM }
-    ensures all { OnOk result ((text : List ℕ) → L.text log.old ≡ Some text
-        → kept ≤ length text → AreOut (take kept text ++ frames.now) (S.taken sink.old)
-        (S.taken sink.new) (S.flushed sink.old) (S.flushed sink.new)) }
-    ensures beginning { OnErr result ((text : List ℕ) → L.text log.old ≡ Some text
-        → kept ≤ length text
-        → TookBeginning (S.taken sink.old) (S.taken sink.new) (take kept text ++ frames.now)) }
-    ensures flushed { OnOk result
-        (Flushes (S.flushed sink.old) (S.flushed sink.new) (S.taken sink.new)) }
-    ensures fault { IfErr result (λ e. (text : List ℕ) → L.text log.old ≡ Some text
-        → kept ≤ length text → (e ≡ ReadLog) ⊎ (e ≡ WriteLog)) }
+    ensures all { OnOk result
+        (ForFront (L.text log.old) kept frames.now (AreOut S.Sink sink.old sink.new)) }
+    ensures beginning { OnErr result
+        (ForFront (L.text log.old) kept frames.now (Began S.Sink sink.old sink.new)) }
+    ensures flushed { OnOk result (IsStored S.Sink sink.old sink.new) }
+    ensures fault { IfErr result (IsCopyFault (L.text log.old) kept) }
     ensures named { IfErr result IsOfCopying }
-    ensures log_source { FailsOnlyWith ReadLog result (L.failures log.old) (L.failures log.new) }
-    ensures log_sink { FailsOnlyWith WriteLog result (S.failures sink.old) (S.failures sink.new) }
+    ensures log_source { Blames ReadLog L.failures log.old log.new result }
+    ensures log_sink { Blames WriteLog S.failures sink.old sink.new result }
 {
     copy_kept(log, sink, kept, room)?;
     match write_frames(sink, frames) {
@@ -136,39 +122,28 @@ fn write_copy<L: Reread, S: Sink>(
 
 /// Writes the new log, copied, and then the new store. Each is whole and flushed before the next
 /// step.
-fn write_copied<L: Reread, LW: Sink, SW: Sink>(
+fn write_copied<L: Reread, K: Sink, S: Sink>(
     log: &mut L,
-    out_log: &mut LW,
-    out_store: &mut SW,
+    out_log: &mut K,
+    out_store: &mut S,
     made: &Made,
     room: &mut [u8],
     pieces: &mut [u8],
 ) -> Result<(), Fault>
     requires room { length room.old ≡ ROOM }
     requires pieces { length pieces.old ≡ PIECE }
-    ensures log_out { OnOk result ((text : List ℕ) → L.text log.old ≡ Some text
-        → made.now.kept ≤ length text
-        → AreOut (take made.now.kept text ++ made.now.remade.frames.items) (LW.taken out_log.old)
-        (LW.taken out_log.new) (LW.flushed out_log.old) (LW.flushed out_log.new)) }
-    ensures log_flushed { OnOk result
-        (Flushes (LW.flushed out_log.old) (LW.flushed out_log.new) (LW.taken out_log.new)) }
-    ensures store_out { OnOk result (AreOut (store_text made.now.remade.store)
-        (SW.taken out_store.old) (SW.taken out_store.new) (SW.flushed out_store.old)
-        (SW.flushed out_store.new)) }
-    ensures log_first { (text : List ℕ) → L.text log.old ≡ Some text → made.now.kept ≤ length text
-        → (out_store.new ≡ out_store.old)
-        ⊎ AreOut (take made.now.kept text ++ made.now.remade.frames.items) (LW.taken out_log.old)
-        (LW.taken out_log.new) (LW.flushed out_log.old) (LW.flushed out_log.new) }
-    ensures fault { IfErr result (λ e. (text : List ℕ) → L.text log.old ≡ Some text
-        → made.now.kept ≤ length text
-        → LeavesCopied (take made.now.kept text ++ made.now.remade.frames.items)
-        (store_text made.now.remade.store) (LW.taken out_log.old) (LW.taken out_log.new)
-        (SW.taken out_store.old) (SW.taken out_store.new) e) }
+    ensures log_out { OnOk result (CopyIsOut (L.text log.old) made.now
+        K.Sink out_log.old out_log.new) }
+    ensures log_flushed { OnOk result (IsStored K.Sink out_log.old out_log.new) }
+    ensures store_out { OnOk result (StoreIsOut S.Sink out_store.old out_store.new made.now) }
+    ensures log_first { ForNewLog (L.text log.old) made.now (λ text.
+        (out_store.new ≡ out_store.old) ⊎ AreOut K.Sink out_log.old out_log.new text) }
+    ensures fault { IfErr result (LeavesCopy K.Sink out_log.old out_log.new
+        S.Sink out_store.old out_store.new (L.text log.old) made.now) }
     ensures named { IfErr result (λ e. IsOfCopying e ⊎ (e ≡ WriteStore)) }
-    ensures log_source { FailsOnlyWith ReadLog result (L.failures log.old) (L.failures log.new) }
-    ensures log_sink { FailsOnlyWith WriteLog result (LW.failures out_log.old) (LW.failures out_log.new) }
-    ensures store_sink { FailsOnlyWith WriteStore result (SW.failures out_store.old)
-        (SW.failures out_store.new) }
+    ensures log_source { Blames ReadLog L.failures log.old log.new result }
+    ensures log_sink { Blames WriteLog K.failures out_log.old out_log.new result }
+    ensures store_sink { Blames WriteStore S.failures out_store.old out_store.new result }
 {
     write_copy(log, out_log, made.kept, &made.remade.frames, room)?;
     match write_store(out_store, &made.remade.store, pieces) {
@@ -217,74 +192,51 @@ pub fn recover_copying<LR: Reread, SR: Source, LW: Sink, SW: Sink>(
 ) -> Result<Report, Fault>
     // For the bytes of a log and its store that are lawful over any base pages: both are written,
     // and a fault is a lack of memory or a device's.
-    ensures lawful { (base : BasePages) (log_text store_text : List ℕ)
-        → LR.text log.old ≡ Some log_text → SR.left store.old ≡ Some store_text
-        → AreInRange options.now
-        → (bytes : AreLawful base log_text store_text)
-        → MatchResult result (Delivers base bytes.decoded.read bytes.decoded.before
-        (LW.taken out_log.old) (LW.taken out_log.new) (SW.taken out_store.old)
-        (SW.taken out_store.new)) IsResourceOrDevice }
+    ensures lawful { ForLawful (LR.text log.old) (SR.left store.old) options.now (λ x. UnlessDevice
+        result (Delivers LW.Sink out_log.old out_log.new SW.Sink out_store.old out_store.new x)) }
 
     // For what an interrupted restart of them may leave: what that restart would have written is
     // written.
-    ensures interrupted { (base : BasePages) (log_text store_text : List ℕ)
-        → LR.text log.old ≡ Some log_text → SR.left store.old ≡ Some store_text
-        → AreInRange options.now
-        → (bytes : AreCut base log_text store_text)
-        → MatchResult result
-        (λ _. Completes base bytes.first.decoded.read bytes.first.decoded.before
-        (LW.taken out_log.old) (LW.taken out_log.new) (SW.taken out_store.old)
-        (SW.taken out_store.new)) IsResourceOrDevice }
+    ensures interrupted { ForCut (LR.text log.old) (SR.left store.old) options.now
+        (λ x. UnlessDevice result (λ _. Completes LW.Sink out_log.old out_log.new
+        SW.Sink out_store.old out_store.new x)) }
 
     // After a fault during the writing, what is written of the new log, with the store that was
     // read, is such bytes.
-    ensures resumable { (base : BasePages) (log_text store_text : List ℕ)
-        → LR.text log.old ≡ Some log_text → SR.left store.old ≡ Some store_text
-        → AreInRange options.now
-        → (bytes : AreLawful base log_text store_text)
-        → IfErr result (LeavesCutCopied base bytes.decoded.read bytes.decoded.before store_text
-        (LW.taken out_log.old) (LW.taken out_log.new)) }
+    ensures resumable { ForLawful (LR.text log.old) (SR.left store.old) options.now
+        (λ x. IfErr result (LeavesCutCopied LW.Sink out_log.old out_log.new x)) }
 
     // On success.
-    ensures answer { IfOk result (λ report. (log_text : List ℕ)
-        → LR.text log.old ≡ Some log_text
-        → Writes (Some log_text) (SR.left store.old) (LW.taken out_log.old)
-        (LW.taken out_log.new) (SW.taken out_store.old) (SW.taken out_store.new) report) }
+    ensures answer { IfOk result (ForText (LR.text log.old) (λ text.
+        Writes LW.Sink out_log.old out_log.new SW.Sink out_store.old out_store.new text
+        (SR.left store.old))) }
     ensures options { (e : Fault) → OptionsFault options.now e → result ≡ Err e }
 
     // On an error, its condition holds, and this is what is written after it.
-    ensures cause { IfErr result (λ e. (log_text : List ℕ) → LR.text log.old ≡ Some log_text
-        → DeviceCause (Some log_text) (SR.left store.old) options.now e) }
-    ensures out { IfErr result (λ e. (log_text : List ℕ) → LR.text log.old ≡ Some log_text
-        → IsOutCopied (Some log_text) (SR.left store.old) (LW.taken out_log.old)
-        (LW.taken out_log.new) (SW.taken out_store.old) (SW.taken out_store.new) e) }
+    ensures cause { IfErr result (RereadCause (LR.text log.old) (SR.left store.old) options.now) }
+    ensures out { IfErr result (ForText (LR.text log.old) (λ text. IsOutCopied LW.Sink out_log.old
+        out_log.new SW.Sink out_store.old out_store.new text (SR.left store.old))) }
 
     // On success both are flushed.
-    ensures log_flushed { OnOk result
-        (Flushes (LW.flushed out_log.old) (LW.flushed out_log.new) (LW.taken out_log.new)) }
-    ensures store_flushed { OnOk result
-        (Flushes (SW.flushed out_store.old) (SW.flushed out_store.new) (SW.taken out_store.new)) }
+    ensures log_flushed { OnOk result (IsStored LW.Sink out_log.old out_log.new) }
+    ensures store_flushed { OnOk result (IsStored SW.Sink out_store.old out_store.new) }
 
     // The store's source is at its end before a sink is touched, and the new log is written and
     // flushed before the store's sink is touched.
     ensures read_first { ((out_log.new ≡ out_log.old) × (out_store.new ≡ out_store.old))
         ⊎ IsAtEnd (SR.left store.new) }
-    ensures log_out_first { (log_text : List ℕ) → LR.text log.old ≡ Some log_text
-        → (out_store.new ≡ out_store.old)
-        ⊎ ((made : Makes (Some log_text) (SR.left store.old))
-        × AreOut made.new_log (LW.taken out_log.old) (LW.taken out_log.new) (LW.flushed out_log.old)
-        (LW.flushed out_log.new)) }
+    ensures log_out_first { ForSome (LR.text log.old) (λ text. (out_store.new ≡ out_store.old)
+        ⊎ NewLogIsOut (Some text) (SR.left store.old) LW.Sink out_log.old out_log.new) }
 
     // A fault of what was read, or of writing, comes after the store's source was read to its end.
-    ensures read_to_end { IfErr result (λ e. IsAfterReading e → IsAtEnd (SR.left store.new)) }
+    ensures read_to_end { IfErr result (OnceRead (IsAtEnd (SR.left store.new))) }
 
     // A fault names a device if that device failed, and only then. If both sources failed, it names
     // the log's.
-    ensures log_source { FailsOnlyWith ReadLog result (LR.failures log.old) (LR.failures log.new) }
+    ensures log_source { Blames ReadLog LR.failures log.old log.new result }
     ensures store_source { StoreFails result (SR.failures store.old) (SR.failures store.new) }
-    ensures log_sink { FailsOnlyWith WriteLog result (LW.failures out_log.old) (LW.failures out_log.new) }
-    ensures store_sink { FailsOnlyWith WriteStore result (SW.failures out_store.old)
-        (SW.failures out_store.new) }
+    ensures log_sink { Blames WriteLog LW.failures out_log.old out_log.new result }
+    ensures store_sink { Blames WriteStore SW.failures out_store.old out_store.new result }
 {
     check_options(options)?;
     let mut room = room_for_log(alloc)?;

@@ -28,8 +28,7 @@ fn beside_each_other<'a, S: Source, R: Threads + Sync>(
     requires room { length room.old ≡ PIECE }
     requires known { IsLogText text.now known }
     ensures log { ReadsAs (text_of text.now) result.0 }
-    ensures store { ReadsStore (S.left store.old) (S.left store.new)
-        (S.failures store.old) (S.failures store.new) result.1 }
+    ensures store { ReadsStore S.Source store.old store.new result.1 }
 {
     // The closures are borrowed, and what is known is ready for the one call.
     let mut given = Some(known);
@@ -45,8 +44,7 @@ fn beside_each_other<'a, S: Source, R: Threads + Sync>(
     };
     let mut read = || -> Result<DecodedStore, Fault>
         requires { length room.now ≡ PIECE }
-        ensures { ReadsStore (S.left store.entry.now) (S.left store.exit.now)
-            (S.failures store.entry.now) (S.failures store.exit.now) result }
+        ensures { ReadsStore S.Source store.entry.now store.exit.now result }
     { read_store(alloc, store, room) };
     join_mut(rt, &mut decode_log, &mut read)
 }
@@ -67,8 +65,7 @@ pub fn decode_both<'a, S: Source, R: Threads + Sync>(
     requires room { length room.old ≡ PIECE }
     requires known { IsLogText text.now known }
     ensures log { ReadsAs (text_of text.now) result.0 }
-    ensures store { ReadsStore (S.left store.old) (S.left store.new)
-        (S.failures store.old) (S.failures store.new) result.1 }
+    ensures store { ReadsStore S.Source store.old store.new result.1 }
 {
     if workers < 2 {
         let read = read_store(alloc, store, room);

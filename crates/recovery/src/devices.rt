@@ -1,18 +1,16 @@
 //! Recovery over devices: the log and the store are read to their ends, the new ones are made in
 //! memory, and then written, the log first. The store is read and written piece by piece.
 
-ghost use Rattle.std.specs.Prelude.{◌≡◌, ◌≢◌, ◌⊎◌, ℕ, List, ◌++◌, length, Some, IfOk, IfErr, IfSome, OnOk, OnErr, Err, MatchResult};
+ghost use Rattle.std.specs.Prelude.{◌≡◌, ◌≢◌, ◌⊎◌, ◌++◌, length, IfOk, IfErr, OnOk, OnErr, Err};
 ghost use Rattle.std.specs.Io.KnownBytes.{IsAtEnd};
 ghost use Rattle.page.specs.declared.fault.Fault.{Fault};
 ghost use Rattle.page.specs.declared.fault.Fault.TheVariants.{NoResource, ReadLog, ReadStore, WriteLog, WriteStore};
 ghost use Rattle.device.specs.Failures.{Counts};
-ghost use Rattle.device.specs.Transfer.{TookBeginning, Flushes};
-ghost use Rattle.wal.specs.Meaning.{BasePages};
 ghost use Rattle.page.specs.File.{store_text};
-ghost use Rattle.recovery.specs.Recovery.{AreLawful, AreCut};
 ghost use Rattle.recovery.specs.declared.store_pieces.TheConstants.{PIECE};
-ghost use Rattle.restart.specs.Options.{AreInRange, OptionsFault};
-ghost use Rattle.recovery.specs.Devices.{FailsOnlyWith, Gave, IsFaultOf, Makes, Writes, AreOut, Leaves, IsOut, DeviceCause, Delivers, Completes, LeavesCut, IsResourceOrDevice, IsAfterReading};
+ghost use Rattle.restart.specs.Options.{OptionsFault};
+ghost use Rattle.recovery.specs.Devices.{Gave, IsFaultOf, AreOut, DeviceCause, Completes, Delivers, ForCut, ForLawful, IsOut, LeavesCut, LeavesRemade, LogIsOut, NewLogIsOut, OnceRead, UnlessDevice, Writes};
+ghost use Rattle.recovery.specs.Calls.{AreAtEnd, Blames, IsStored, Began};
 
 use crate::Report;
 use crate::decoding::decode_both;
@@ -37,7 +35,7 @@ pub fn read_source<S: Source>(
     ensures gave { IfOk result (λ bytes. Gave (S.left source.old) bytes.items) }
     ensures end { OnOk result (IsAtEnd (S.left source.new)) }
     ensures fault { IfErr result (IsFaultOf failed) }
-    ensures cause { FailsOnlyWith failed result (S.failures source.old) (S.failures source.new) }
+    ensures cause { Blames failed S.failures source.old source.new result }
 {
     match read_all(alloc, source) {
         Ok(bytes) => Ok(bytes),
@@ -49,10 +47,8 @@ pub fn read_source<S: Source>(
 /// Writes a log and flushes it: what is kept of the log that was read, followed by the frames
 /// appended.
 fn write_log<S: Sink>(sink: &mut S, kept: &LogBytes, frames: &[u8]) -> Result<(), Failed>
-    ensures all { OnOk result (AreOut (kept.now ++ frames.now) (S.taken sink.old) (S.taken sink.new)
-        (S.flushed sink.old) (S.flushed sink.new)) }
-    ensures beginning { OnErr result
-        (TookBeginning (S.taken sink.old) (S.taken sink.new) (kept.now ++ frames.now)) }
+    ensures all { OnOk result (AreOut S.Sink sink.old sink.new (kept.now ++ frames.now)) }
+    ensures beginning { OnErr result (Began S.Sink sink.old sink.new (kept.now ++ frames.now)) }
     ensures cause { Counts (S.failures sink.old) (S.failures sink.new) result }
 {
     kept.write(sink)?;
@@ -69,18 +65,15 @@ fn write_both<L: Sink, S: Sink>(
     room: &mut [u8],
 ) -> Result<(), Fault>
     requires { length room.old ≡ PIECE }
-    ensures log_out { OnOk result (AreOut (kept.now ++ remade.now.frames.items) (L.taken log.old)
-        (L.taken log.new) (L.flushed log.old) (L.flushed log.new)) }
-    ensures store_out { OnOk result (AreOut (store_text remade.now.store) (S.taken store.old)
-        (S.taken store.new) (S.flushed store.old) (S.flushed store.new)) }
-    ensures log_first { (store.new ≡ store.old)
-        ⊎ AreOut (kept.now ++ remade.now.frames.items) (L.taken log.old) (L.taken log.new)
-        (L.flushed log.old) (L.flushed log.new) }
-    ensures fault { IfErr result (Leaves (kept.now ++ remade.now.frames.items)
-        (store_text remade.now.store) (L.taken log.old) (L.taken log.new) (S.taken store.old)
-        (S.taken store.new)) }
-    ensures log_sink { FailsOnlyWith WriteLog result (L.failures log.old) (L.failures log.new) }
-    ensures store_sink { FailsOnlyWith WriteStore result (S.failures store.old) (S.failures store.new) }
+    ensures log_out { OnOk result (LogIsOut L.Sink log.old log.new kept.now remade.now) }
+    ensures store_out { OnOk result (AreOut S.Sink store.old store.new
+        (store_text remade.now.store)) }
+    ensures log_first { (store.new ≡ store.old) ⊎ LogIsOut L.Sink log.old log.new kept.now
+        remade.now }
+    ensures fault { IfErr result
+        (LeavesRemade L.Sink log.old log.new S.Sink store.old store.new kept.now remade.now) }
+    ensures log_sink { Blames WriteLog L.failures log.old log.new result }
+    ensures store_sink { Blames WriteStore S.failures store.old store.new result }
 {
     match write_log(log, kept, &remade.frames) {
         Ok(()) => match write_store(store, &remade.store, room) {
@@ -129,72 +122,52 @@ pub fn recover<LR: Source, SR: Source, LW: Sink, SW: Sink, G: Gate, R: Threads +
 ) -> Result<Report, Fault>
     // For the bytes of a log and its store that are lawful over any base pages: both are written,
     // and a fault is a lack of memory or a device's.
-    ensures lawful { (base : BasePages) (log_text store_text : List ℕ)
-        → LR.left log.old ≡ Some log_text → SR.left store.old ≡ Some store_text
-        → AreInRange options.now
-        → (bytes : AreLawful base log_text store_text)
-        → MatchResult result (Delivers base bytes.decoded.read bytes.decoded.before
-        (LW.taken out_log.old) (LW.taken out_log.new) (SW.taken out_store.old)
-        (SW.taken out_store.new)) IsResourceOrDevice }
+    ensures lawful { ForLawful (LR.left log.old) (SR.left store.old) options.now (λ x. UnlessDevice
+        result (Delivers LW.Sink out_log.old out_log.new SW.Sink out_store.old out_store.new x)) }
 
     // For what an interrupted restart of them may leave: what that restart would have written is
     // written.
-    ensures interrupted { (base : BasePages) (log_text store_text : List ℕ)
-        → LR.left log.old ≡ Some log_text → SR.left store.old ≡ Some store_text
-        → AreInRange options.now
-        → (bytes : AreCut base log_text store_text)
-        → MatchResult result
-        (λ _. Completes base bytes.first.decoded.read bytes.first.decoded.before
-        (LW.taken out_log.old) (LW.taken out_log.new) (SW.taken out_store.old)
-        (SW.taken out_store.new)) IsResourceOrDevice }
+    ensures interrupted { ForCut (LR.left log.old) (SR.left store.old) options.now
+        (λ x. UnlessDevice result (λ _. Completes LW.Sink out_log.old out_log.new
+        SW.Sink out_store.old out_store.new x)) }
 
     // After a fault of a sink, what is written of the new log, with the store that was read, is
     // such bytes.
-    ensures resumable { (base : BasePages) (log_text store_text : List ℕ)
-        → LR.left log.old ≡ Some log_text → SR.left store.old ≡ Some store_text
-        → AreInRange options.now
-        → (bytes : AreLawful base log_text store_text)
-        → IfErr result (LeavesCut base bytes.decoded.read bytes.decoded.before store_text
-        (LW.taken out_log.old) (LW.taken out_log.new)) }
+    ensures resumable { ForLawful (LR.left log.old) (SR.left store.old) options.now
+        (λ x. IfErr result (LeavesCut LW.Sink out_log.old out_log.new x)) }
 
     // On success.
-    ensures answer { IfOk result (Writes (LR.left log.old) (SR.left store.old)
-        (LW.taken out_log.old) (LW.taken out_log.new) (SW.taken out_store.old)
-        (SW.taken out_store.new)) }
+    ensures answer { IfOk result (Writes LW.Sink out_log.old out_log.new
+        SW.Sink out_store.old out_store.new (LR.left log.old) (SR.left store.old)) }
     ensures options { (e : Fault) → OptionsFault options.now e → result ≡ Err e }
 
     // On an error, its condition holds, and this is what is written after it.
     ensures cause { IfErr result (DeviceCause (LR.left log.old) (SR.left store.old) options.now) }
-    ensures out { IfErr result (IsOut (LR.left log.old) (SR.left store.old) (LW.taken out_log.old)
-        (LW.taken out_log.new) (SW.taken out_store.old) (SW.taken out_store.new)) }
+    ensures out { IfErr result (IsOut LW.Sink out_log.old out_log.new
+        SW.Sink out_store.old out_store.new (LR.left log.old) (SR.left store.old)) }
 
     // On success both are flushed.
-    ensures log_flushed { OnOk result
-        (Flushes (LW.flushed out_log.old) (LW.flushed out_log.new) (LW.taken out_log.new)) }
-    ensures store_flushed { OnOk result
-        (Flushes (SW.flushed out_store.old) (SW.flushed out_store.new) (SW.taken out_store.new)) }
+    ensures log_flushed { OnOk result (IsStored LW.Sink out_log.old out_log.new) }
+    ensures store_flushed { OnOk result (IsStored SW.Sink out_store.old out_store.new) }
 
     // The log is at its end before the store's source is touched, both are before a sink is, and
     // the new log is written and flushed before the store's sink is touched.
     ensures log_read_first { (store.new ≡ store.old) ⊎ IsAtEnd (LR.left log.new) }
     ensures log_unread { result ≡ Err ReadLog → store.new ≡ store.old }
     ensures read_first { ((out_log.new ≡ out_log.old) × (out_store.new ≡ out_store.old))
-        ⊎ (IsAtEnd (LR.left log.new) × IsAtEnd (SR.left store.new)) }
+        ⊎ AreAtEnd (LR.left log.new) (SR.left store.new) }
     ensures log_out_first { (out_store.new ≡ out_store.old)
-        ⊎ ((made : Makes (LR.left log.old) (SR.left store.old))
-        × AreOut made.new_log (LW.taken out_log.old) (LW.taken out_log.new) (LW.flushed out_log.old)
-        (LW.flushed out_log.new)) }
+        ⊎ NewLogIsOut (LR.left log.old) (SR.left store.old) LW.Sink out_log.old out_log.new }
 
     // A fault of what was read, or of writing, comes after both sources were read to their ends.
-    ensures read_to_ends { IfErr result (λ e. IsAfterReading e
-        → IsAtEnd (LR.left log.new) × IsAtEnd (SR.left store.new)) }
+    ensures read_to_ends { IfErr result
+        (OnceRead (AreAtEnd (LR.left log.new) (SR.left store.new))) }
 
     // A fault names a device if that device failed, and only then.
-    ensures log_source { FailsOnlyWith ReadLog result (LR.failures log.old) (LR.failures log.new) }
-    ensures store_source { FailsOnlyWith ReadStore result (SR.failures store.old) (SR.failures store.new) }
-    ensures log_sink { FailsOnlyWith WriteLog result (LW.failures out_log.old) (LW.failures out_log.new) }
-    ensures store_sink { FailsOnlyWith WriteStore result (SW.failures out_store.old)
-        (SW.failures out_store.new) }
+    ensures log_source { Blames ReadLog LR.failures log.old log.new result }
+    ensures store_source { Blames ReadStore SR.failures store.old store.new result }
+    ensures log_sink { Blames WriteLog LW.failures out_log.old out_log.new result }
+    ensures store_sink { Blames WriteStore SW.failures out_store.old out_store.new result }
 {
     check_options(options)?;
     let mut room = room_for_pieces(alloc)?;

@@ -2,21 +2,19 @@
 //! written. Before the log is touched, the file of its tail is written. With it, a continuation
 //! that a power failure ended can be made again.
 
-ghost use Rattle.std.specs.Prelude.{◌≡◌, ◌≤◌, ◌⊎◌, ◌+◌, ℕ, List, length, Some, IfOk, IfErr, OnOk, OnErr, Err, MatchResult};
+ghost use Rattle.std.specs.Prelude.{◌≡◌, ◌≤◌, ◌⊎◌, length, IfOk, IfErr, OnOk, OnErr, Err};
 ghost use Rattle.std.specs.Io.KnownBytes.{IsAtEnd};
 ghost use Rattle.page.specs.declared.fault.Fault.{Fault};
-ghost use Rattle.page.specs.declared.fault.Fault.TheVariants.{ReadLog, ReadStore, WriteLog, WriteStore};
+ghost use Rattle.page.specs.declared.fault.Fault.TheVariants.{ReadLog, ReadStore, WriteStore};
 ghost use Rattle.page.specs.File.{store_text};
 ghost use Rattle.device.specs.Failures.{Counts};
-ghost use Rattle.device.specs.Transfer.{Flushes};
-ghost use Rattle.wal.specs.Meaning.{BasePages};
-ghost use Rattle.restart.specs.Options.{AreInRange, OptionsFault};
-ghost use Rattle.recovery.specs.Recovery.{AreLawful, AreCut};
-ghost use Rattle.recovery.specs.Devices.{FailsOnlyWith, AreOut, DeviceCause, IsResourceOrDevice, IsAfterReading};
+ghost use Rattle.restart.specs.Options.{OptionsFault};
+ghost use Rattle.recovery.specs.Devices.{AreOut, DeviceCause, OnceRead, UnlessDevice};
 ghost use Rattle.recovery.specs.LogText.{text_of};
-ghost use Rattle.recovery.specs.TailFile.{tail_text, sum_of, end_of};
-ghost use Rattle.recovery.specs.InPlace.{IsContinued, IsLeft, IsLeftIn, Prepares, HasTail, Completed, DeliversInPlace, CompletesInPlace, HoldsCut, IsFlushed, LeavesInPlace};
+ghost use Rattle.recovery.specs.TailFile.{sum_of, end_of, file_text};
 ghost use Rattle.recovery.specs.declared.store_pieces.TheConstants.{PIECE};
+ghost use Rattle.recovery.specs.InPlace.{Completed, CompletesInPlace, ContinuesBy, DeliversInPlace, ForCutHeld, ForLawfulHeld, HoldsCutOf, IsContinued, IsLeft, IsLeftIn, IsLogFlushed, LeavesBy, LeavesPart, LogIsContinued, TailIsOut};
+ghost use Rattle.recovery.specs.Calls.{AreAtEnd, Blames, BlamesSinks, CountsSinks, IsStored};
 
 use crate::Report;
 use crate::decoding::decode_both;
@@ -35,10 +33,8 @@ use std::thread::Threads;
 /// Cuts a log after the bytes that are kept, and flushes the cut; then appends frames, and flushes
 /// them.
 pub fn continue_log<L: Continue>(log: &mut L, kept: u64, frames: &[u8]) -> Result<(), Failed>
-    ensures done { OnOk result (IsContinued kept frames.now (L.taken log.old) (L.taken log.new)
-        (L.flushed log.old) (L.flushed log.new)) }
-    ensures left { OnErr result (IsLeft kept frames.now (L.taken log.old) (L.taken log.new)
-        (L.flushed log.old) (L.flushed log.new)) }
+    ensures done { OnOk result (IsContinued L.Sink log.old log.new kept frames.now) }
+    ensures left { OnErr result (IsLeft L.Sink log.old log.new kept frames.now) }
     ensures cause { Counts (L.failures log.old) (L.failures log.new) result }
 {
     log.cut(kept)?;
@@ -69,18 +65,12 @@ fn write_tail<T: Sink, L: Continue>(
     log: &mut L,
     file: &TailFile,
 ) -> Result<(), Failed>
-    ensures tail_first { (log.new ≡ log.old) ⊎ AreOut
-        (tail_text file.now.length file.now.kept file.now.end file.now.frames.now)
-        (T.taken tail.old) (T.taken tail.new) (T.flushed tail.old) (T.flushed tail.new) }
-    ensures tail_out { OnOk result (AreOut
-        (tail_text file.now.length file.now.kept file.now.end file.now.frames.now)
-        (T.taken tail.old) (T.taken tail.new) (T.flushed tail.old) (T.flushed tail.new)) }
-    ensures done { OnOk result (IsContinued file.now.kept file.now.frames.now (L.taken log.old)
-        (L.taken log.new) (L.flushed log.old) (L.flushed log.new)) }
-    ensures left { OnErr result (IsLeft file.now.kept file.now.frames.now (L.taken log.old)
-        (L.taken log.new) (L.flushed log.old) (L.flushed log.new)) }
-    ensures cause { Counts (T.failures tail.old + L.failures log.old)
-        (T.failures tail.new + L.failures log.new) result }
+    ensures tail_first { (log.new ≡ log.old)
+        ⊎ AreOut T.Sink tail.old tail.new (file_text file.now) }
+    ensures tail_out { OnOk result (AreOut T.Sink tail.old tail.new (file_text file.now)) }
+    ensures done { OnOk result (ContinuesBy L.Sink log.old log.new file.now) }
+    ensures left { OnErr result (LeavesBy L.Sink log.old log.new file.now) }
+    ensures cause { CountsSinks T.Sink tail.old tail.new L.Sink log.old log.new result }
 {
     file.write(tail)?;
     continue_log(log, file.kept, file.frames)
@@ -97,21 +87,15 @@ pub fn write_in_place<T: Sink, L: Continue, S: Sink>(
     room: &mut [u8],
 ) -> Result<(), Fault>
     requires { length room.old ≡ PIECE }
-    ensures tail_first { (log.new ≡ log.old) ⊎ AreOut
-        (tail_text file.now.length file.now.kept file.now.end file.now.frames.now)
-        (T.taken tail.old) (T.taken tail.new) (T.flushed tail.old) (T.flushed tail.new) }
-    ensures log_first { (store.new ≡ store.old) ⊎ IsContinued file.now.kept file.now.frames.now
-        (L.taken log.old) (L.taken log.new) (L.flushed log.old) (L.flushed log.new) }
-    ensures log_done { OnOk result (IsContinued file.now.kept file.now.frames.now
-        (L.taken log.old) (L.taken log.new) (L.flushed log.old) (L.flushed log.new)) }
-    ensures store_out { OnOk result (AreOut (store_text made.now) (S.taken store.old)
-        (S.taken store.new) (S.flushed store.old) (S.flushed store.new)) }
-    ensures fault { IfErr result (LeavesInPlace file.now.kept file.now.frames.now (store_text made.now)
-        (L.taken log.old) (L.taken log.new) (L.flushed log.old) (L.flushed log.new)
-        (S.taken store.old) (S.taken store.new)) }
-    ensures log_sinks { FailsOnlyWith WriteLog result (T.failures tail.old + L.failures log.old)
-        (T.failures tail.new + L.failures log.new) }
-    ensures store_sink { FailsOnlyWith WriteStore result (S.failures store.old) (S.failures store.new) }
+    ensures tail_first { (log.new ≡ log.old)
+        ⊎ AreOut T.Sink tail.old tail.new (file_text file.now) }
+    ensures log_first { (store.new ≡ store.old) ⊎ ContinuesBy L.Sink log.old log.new file.now }
+    ensures log_done { OnOk result (ContinuesBy L.Sink log.old log.new file.now) }
+    ensures store_out { OnOk result (AreOut S.Sink store.old store.new (store_text made.now)) }
+    ensures fault { IfErr result (LeavesPart L.Sink log.old log.new
+        S.Sink store.old store.new file.now made.now) }
+    ensures log_sinks { BlamesSinks T.Sink tail.old tail.new L.Sink log.old log.new result }
+    ensures store_sink { Blames WriteStore S.failures store.old store.new result }
 {
     match write_tail(tail, log, file) {
         Ok(()) => match write_store(store, made, room) {
@@ -161,76 +145,55 @@ pub fn recover_in_place<
     // For the bytes of a log and its store that are lawful over any base pages: the log is
     // continued by its tail, the new store is written, and a fault is a lack of memory or a
     // device's.
-    ensures lawful { (base : BasePages) (log_text store_text : List ℕ)
-        → LR.left log.old ≡ Some log_text → SR.left store.old ≡ Some store_text
-        → LW.taken out_log.old ≡ Some log_text → AreInRange options.now
-        → (bytes : AreLawful base log_text store_text)
-        → MatchResult result (DeliversInPlace base bytes.decoded.read bytes.decoded.before
-        (LW.taken out_log.new) (SW.taken out_store.old) (SW.taken out_store.new))
-        IsResourceOrDevice }
+    ensures lawful { ForLawfulHeld (LR.left log.old) (SR.left store.old) (LW.taken out_log.old)
+        options.now (λ x. UnlessDevice result (DeliversInPlace (LW.taken out_log.new)
+        SW.Sink out_store.old out_store.new x)) }
 
     // For what an interrupted restart of them may leave: all is as that restart would have left it.
-    ensures interrupted { (base : BasePages) (log_text store_text : List ℕ)
-        → LR.left log.old ≡ Some log_text → SR.left store.old ≡ Some store_text
-        → LW.taken out_log.old ≡ Some log_text → AreInRange options.now
-        → (bytes : AreCut base log_text store_text)
-        → MatchResult result (λ _. CompletesInPlace base bytes.first.decoded.read
-        bytes.first.decoded.before (LW.taken out_log.new) (SW.taken out_store.old)
-        (SW.taken out_store.new)) IsResourceOrDevice }
+    ensures interrupted { ForCutHeld (LR.left log.old) (SR.left store.old) (LW.taken out_log.old)
+        options.now (λ x. UnlessDevice result (λ _. CompletesInPlace (LW.taken out_log.new)
+        SW.Sink out_store.old out_store.new x)) }
 
     // After any fault the log holds what was read, or such bytes.
-    ensures resumable { (base : BasePages) (log_text store_text : List ℕ)
-        → LR.left log.old ≡ Some log_text → SR.left store.old ≡ Some store_text
-        → LW.taken out_log.old ≡ Some log_text → AreInRange options.now
-        → (bytes : AreLawful base log_text store_text)
-        → OnErr result (HoldsCut base bytes.decoded.read bytes.decoded.before log_text store_text
-        (LW.taken out_log.new)) }
+    ensures resumable { ForLawfulHeld (LR.left log.old) (SR.left store.old) (LW.taken out_log.old)
+        options.now (λ x. OnErr result (HoldsCutOf (LW.taken out_log.new) x)) }
 
     // If it returns a report.
-    ensures answer { IfOk result (Completed (LR.left log.old) (SR.left store.old)
-        (LW.taken out_log.old) (LW.taken out_log.new) (SW.taken out_store.old)
-        (SW.taken out_store.new)) }
+    ensures answer { IfOk result (Completed LW.Sink out_log.old out_log.new SW.Sink out_store.old
+        out_store.new (LR.left log.old) (SR.left store.old)) }
     ensures options { (e : Fault) → OptionsFault options.now e → result ≡ Err e }
 
     // On an error, its condition holds, and this is what is left after it.
     ensures cause { IfErr result (DeviceCause (LR.left log.old) (SR.left store.old) options.now) }
-    ensures left { IfErr result (IsLeftIn (LR.left log.old) (SR.left store.old)
-        (LW.taken out_log.old) (LW.taken out_log.new) (LW.flushed out_log.old)
-        (LW.flushed out_log.new) (SW.taken out_store.old) (SW.taken out_store.new)) }
+    ensures left { IfErr result (IsLeftIn LW.Sink out_log.old out_log.new SW.Sink out_store.old
+        out_store.new (LR.left log.old) (SR.left store.old)) }
 
     // A report means that both are flushed.
-    ensures log_flushed { OnOk result (IsFlushed (LW.taken out_log.old) (LW.taken out_log.new)
-        (LW.flushed out_log.old) (LW.flushed out_log.new)) }
-    ensures store_flushed { OnOk result
-        (Flushes (SW.flushed out_store.old) (SW.flushed out_store.new) (SW.taken out_store.new)) }
+    ensures log_flushed { OnOk result (IsLogFlushed LW.Sink out_log.old out_log.new) }
+    ensures store_flushed { OnOk result (IsStored SW.Sink out_store.old out_store.new) }
 
     // The sources are read to their ends, the log first, before anything is written; the file of
     // the tail is written and flushed before the log is touched, and the log is continued and
     // flushed before the new store is.
     ensures log_read_first { (store.new ≡ store.old) ⊎ IsAtEnd (LR.left log.new) }
     ensures log_unread { result ≡ Err ReadLog → store.new ≡ store.old }
-    ensures read_first { ((tail.new ≡ tail.old) × (out_log.new ≡ out_log.old) × (out_store.new ≡ out_store.old))
-        ⊎ (IsAtEnd (LR.left log.new) × IsAtEnd (SR.left store.new)) }
-    ensures tail_first { (out_log.new ≡ out_log.old)
-        ⊎ ((made : Prepares (LR.left log.old) (SR.left store.old))
-        × HasTail made (T.taken tail.old) (T.taken tail.new) (T.flushed tail.old)
-        (T.flushed tail.new)) }
-    ensures log_first { (out_store.new ≡ out_store.old)
-        ⊎ ((made : Prepares (LR.left log.old) (SR.left store.old))
-        × IsContinued made.kept made.frames (LW.taken out_log.old) (LW.taken out_log.new)
-        (LW.flushed out_log.old) (LW.flushed out_log.new)) }
+    ensures read_first { ((tail.new ≡ tail.old) × (out_log.new ≡ out_log.old)
+        × (out_store.new ≡ out_store.old)) ⊎ AreAtEnd (LR.left log.new) (SR.left store.new) }
+    ensures tail_first { (out_log.new ≡ out_log.old) ⊎ TailIsOut T.Sink tail.old tail.new
+        (LR.left log.old) (SR.left store.old) }
+    ensures log_first { (out_store.new ≡ out_store.old) ⊎ LogIsContinued LW.Sink out_log.old
+        out_log.new (LR.left log.old) (SR.left store.old) }
 
     // A fault of what was read, or of writing, comes after both sources were read to their ends.
-    ensures read_to_ends { IfErr result (λ e. IsAfterReading e
-        → IsAtEnd (LR.left log.new) × IsAtEnd (SR.left store.new)) }
+    ensures read_to_ends { IfErr result
+        (OnceRead (AreAtEnd (LR.left log.new) (SR.left store.new))) }
 
     // A fault names a device if that device failed, and only then.
-    ensures log_source { FailsOnlyWith ReadLog result (LR.failures log.old) (LR.failures log.new) }
-    ensures store_source { FailsOnlyWith ReadStore result (SR.failures store.old) (SR.failures store.new) }
-    ensures log_sinks { FailsOnlyWith WriteLog result (T.failures tail.old + LW.failures out_log.old)
-        (T.failures tail.new + LW.failures out_log.new) }
-    ensures store_sink { FailsOnlyWith WriteStore result (SW.failures out_store.old)
-        (SW.failures out_store.new) }
+    ensures log_source { Blames ReadLog LR.failures log.old log.new result }
+    ensures store_source { Blames ReadStore SR.failures store.old store.new result }
+    ensures log_sinks { BlamesSinks T.Sink tail.old tail.new LW.Sink out_log.old out_log.new
+        result }
+    ensures store_sink { Blames WriteStore SW.failures out_store.old out_store.new result }
 {
     check_options(options)?;
     let mut room = room_for_pieces(alloc)?;

@@ -1,19 +1,18 @@
 //! A log's device that is read again: to its end, since a failure of the device is the first fault
 //! of reading, and for the sum of the log's end.
 
-ghost use Rattle.std.specs.Prelude.{◌≡◌, ◌≢◌, ◌≤◌, ◌<◌, ◌+◌, ◌^◌, ◌⊎◌, ℕ, List, length, take, IfOk, IfErr, OnOk, IfSome, IsOkUnless, Some};
+ghost use Rattle.std.specs.Prelude.{◌≡◌, ◌≢◌, ◌≤◌, ◌<◌, ◌+◌, ◌^◌, ◌⊎◌, length, IfOk, IfErr, OnOk, IfSome, IsOkUnless};
 ghost use Rattle.std.specs.Io.KnownBytes.{IsAtEnd, Keeps};
-ghost use Rattle.device.specs.Reread.{EndsBy, ReadsFrom};
+ghost use Rattle.device.specs.Reread.{ReadsFrom};
 ghost use Rattle.page.specs.declared.fault.Fault.TheVariants.{NoResource, ReadLog, ReadStore};
-ghost use Rattle.wal.specs.Records.{LogContent};
-ghost use Rattle.wal.specs.Reads.{Reads, Cause};
 ghost use Rattle.passes.specs.Marks.{failures_of_pass};
-ghost use Rattle.recovery.specs.Recovery.{Decodes};
-ghost use Rattle.recovery.specs.Devices.{FailsOnlyWith, Gave, IsFaultOf};
-ghost use Rattle.recovery.specs.TailFile.{sum_of, end_of};
-ghost use Rattle.recovery.specs.ByPieces.{IsOfLog, fault_of, StoreFails};
+ghost use Rattle.recovery.specs.Devices.{IsFaultOf, IsDecoded};
+ghost use Rattle.recovery.specs.TailFile.{IsEndSum};
+ghost use Rattle.recovery.specs.ByPieces.{IsOfLog, fault_of, StoreFails, IsLog, LogCause};
 ghost use Rattle.recovery.specs.declared.log_again.TheConstants.{ROOM};
 ghost use Rattle.recovery.specs.declared.store_pieces.TheConstants.{PIECE};
+ghost use Rattle.recovery.specs.Calls.{Blames, ForKept, IsShortAtEnd};
+ghost use Rattle.std.specs.Option.{ForSome};
 
 use crate::store_pieces::{DecodedStore, read_store};
 use crate::tail_file::{END_BYTES, sum_of_end};
@@ -57,11 +56,10 @@ pub fn read_from<L: Reread>(log: &mut L, offset: u64, buffer: &mut [u8]) -> Resu
     requires { offset + length buffer.old ≤ 2 ^ 64 }
     ensures within { IfOk result (λ count. count ≤ length buffer.new) }
     ensures bytes { IfOk result (λ count. ReadsFrom (L.text log.old) offset count buffer.new) }
-    ensures end { IfOk result (λ count. count < length buffer.new
-        → EndsBy (L.text log.old) (offset + count)) }
+    ensures end { IfOk result (IsShortAtEnd (L.text log.old) offset buffer.new) }
     ensures same { Keeps (L.text log.old) (L.text log.new) }
     ensures fault { IfErr result (λ e. e ≡ ReadLog) }
-    ensures cause { FailsOnlyWith ReadLog result (L.failures log.old) (L.failures log.new) }
+    ensures cause { Blames ReadLog L.failures log.old log.new result }
 {
     match read_full_at(log, offset, buffer) {
         Ok(count) => Ok(count),
@@ -76,7 +74,7 @@ pub fn read_through<L: Reread>(log: &mut L, room: &mut [u8]) -> Result<(), Fault
     ensures end { OnOk result (IfSome (L.text log.old) (λ held. length held < 2 ^ 64)) }
     ensures same { Keeps (L.text log.old) (L.text log.new) }
     ensures fault { IfErr result (IsFaultOf ReadLog) }
-    ensures cause { FailsOnlyWith ReadLog result (L.failures log.old) (L.failures log.new) }
+    ensures cause { Blames ReadLog L.failures log.old log.new result }
 {
     let mut offset: u64 = 0;
     while offset < LONGEST_LOG {
@@ -134,12 +132,11 @@ pub fn read_store_first<L: Reread, S: Source>(
 ) -> Result<DecodedStore, Fault>
     requires room { length room.old ≡ ROOM }
     requires pieces { length pieces.old ≡ PIECE }
-    ensures read { IfOk result (λ found. (text : List ℕ)
-        × Gave (S.left store.old) text × Decodes text found.store) }
+    ensures read { IfOk result (IsDecoded (S.left store.old)) }
     ensures end { OnOk result (IsAtEnd (S.left store.new)) }
     ensures log_unread { OnOk result (log.new ≡ log.old) }
     ensures fault { IfErr result (λ e. (e ≡ ReadLog) ⊎ IsFaultOf ReadStore e) }
-    ensures log_source { FailsOnlyWith ReadLog result (L.failures log.old) (L.failures log.new) }
+    ensures log_source { Blames ReadLog L.failures log.old log.new result }
     ensures store_source { StoreFails result (S.failures store.old) (S.failures store.new) }
 {
     match read_store(alloc, store, pieces) {
@@ -151,12 +148,10 @@ pub fn read_store_first<L: Reread, S: Source>(
 /// The fault of a log, if its device or its bytes have one; `NoResource` if memory was refused.
 pub fn check_log<L: Reread>(alloc: Global, log: &mut L, room: &mut [u8]) -> Result<(), Fault>
     requires { length room.old ≡ ROOM }
-    ensures reads { OnOk result ((text : List ℕ) → L.text log.old ≡ Some text
-        → (whole : LogContent) × (torn : ℕ) × Reads text whole torn) }
-    ensures fault { IfErr result (λ e. (text : List ℕ) → L.text log.old ≡ Some text
-        → (e ≡ ReadLog) ⊎ Cause text e) }
+    ensures reads { OnOk result (ForSome (L.text log.old) IsLog) }
+    ensures fault { IfErr result (LogCause (L.text log.old)) }
     ensures named { IfErr result IsOfLog }
-    ensures cause { FailsOnlyWith ReadLog result (L.failures log.old) (L.failures log.new) }
+    ensures cause { Blames ReadLog L.failures log.old log.new result }
 {
     let _found = match find_marks(alloc, log, room) {
         Ok(found) => found,
@@ -169,12 +164,10 @@ pub fn check_log<L: Reread>(alloc: Global, log: &mut L, room: &mut [u8]) -> Resu
 /// They are read again: `BadLsn` with their offset if the device no longer holds them all.
 pub fn sum_of_kept<L: Reread>(log: &mut L, kept: u64, room: &mut [u8]) -> Result<u64, Fault>
     requires { length room.old ≡ ROOM }
-    ensures sum { IfOk result (λ sum. (text : List ℕ) → L.text log.old ≡ Some text
-        → kept ≤ length text → sum ≡ sum_of (end_of (take kept text))) }
-    ensures fault { IfErr result (λ e. (text : List ℕ) → L.text log.old ≡ Some text
-        → kept ≤ length text → e ≡ ReadLog) }
+    ensures sum { IfOk result (λ sum. ForKept (L.text log.old) kept (IsEndSum sum)) }
+    ensures fault { IfErr result (λ e. ForKept (L.text log.old) kept (λ _. e ≡ ReadLog)) }
     ensures named { IfErr result IsOfLog }
-    ensures cause { FailsOnlyWith ReadLog result (L.failures log.old) (L.failures log.new) }
+    ensures cause { Blames ReadLog L.failures log.old log.new result }
 {
     let offset = kept.saturating_sub(END_BYTES as u64);
     let wanted = (kept - offset) as usize;

@@ -1,11 +1,11 @@
 //! The bytes of a log that are kept.
 
 ghost use Rattle.std.specs.Prelude.{◌≡◌, ◌≤◌, ◌++◌, ◌-◌, ℕ, List, length, take, OnOk, OnErr};
-ghost use Rattle.std.specs.Io.KnownBytes.{Appends, Keeps};
+ghost use Rattle.std.specs.Io.KnownBytes.{Keeps};
 ghost use Rattle.device.specs.Failures.{Counts};
-ghost use Rattle.device.specs.Transfer.{TookBeginning};
 ghost use Rattle.recovery.specs.LogText.{text_of};
 ghost use Rattle.recovery.specs.TailFile.{sum_of, end_of};
+ghost use Rattle.recovery.specs.Calls.{Took, Began};
 
 use crate::log_text::LogText;
 use crate::recovery::Remade;
@@ -59,9 +59,9 @@ impl<'a> LogBytes<'a> {
 
     /// Writes all of them to a sink, after those that it took before. The sink is not flushed.
     pub fn write<S: Sink>(&self, sink: &mut S) -> Result<(), Failed>
-        ensures all { OnOk result (Appends (S.taken sink.old) (S.taken sink.new) self.now) }
+        ensures all { OnOk result (Took S.Sink sink.old sink.new self.now) }
         ensures cause { Counts (S.failures sink.old) (S.failures sink.new) result }
-        ensures beginning { OnErr result (TookBeginning (S.taken sink.old) (S.taken sink.new) self.now) }
+        ensures beginning { OnErr result (Began S.Sink sink.old sink.new self.now) }
         ensures unflushed { Keeps (S.flushed sink.old) (S.flushed sink.new) }
     {
         write_all(sink, self.front)?;

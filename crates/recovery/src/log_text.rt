@@ -2,14 +2,15 @@
 //! in two parts, so that the first half is decoded while the second is read.
 
 ghost use Rattle.std.specs.Prelude.{◌≡◌, ◌≤◌, ◌<◌, ◌+◌, ◌-◌, ◌++◌, ℕ, List, length, take, drop, IfOk, IfErr, OnOk, IsOkUnless};
-ghost use Rattle.std.specs.Io.KnownBytes.{Consumes, IsAtEnd};
+ghost use Rattle.std.specs.Io.KnownBytes.{IsAtEnd};
 ghost use Rattle.page.specs.declared.fault.Fault.TheVariants.{NoResource, ReadLog};
 ghost use Rattle.wal.specs.Reads.{Cause};
 ghost use Rattle.wal.specs.Stretches.{BeginsCut};
 ghost use Rattle.wal.specs.declared.sizes.TheConstants.{BASED_HEADER_BYTES, LONGEST_FRAME};
-ghost use Rattle.recovery.specs.LogText.{text_of, CameBehind, IsLogText};
+ghost use Rattle.recovery.specs.LogText.{text_of, CameAfter, IsLogText};
 ghost use Rattle.recovery.specs.Recovery.{ReadsAs};
-ghost use Rattle.recovery.specs.Devices.{FailsOnlyWith, Gave, IsFaultOf};
+ghost use Rattle.recovery.specs.Devices.{Gave, IsFaultOf};
+ghost use Rattle.recovery.specs.Calls.{Blames, ReadNext};
 
 use crate::devices::read_source;
 use device::{ReadFault, Source, read_front, read_rest};
@@ -65,10 +66,9 @@ pub enum Known {
 /// The next bytes of a log's source: at least this many if there are so many, and up to 64 KiB
 /// more.
 fn read_next<S: Source>(alloc: Global, source: &mut S, count: usize) -> Result<Vec<u8>, Fault>
-    ensures read { IfOk result (λ bytes. Consumes (S.left source.old)
-        (S.left source.new) bytes.items) }
+    ensures read { IfOk result (λ bytes. ReadNext S.left source.old source.new bytes.items) }
     ensures fault { IfErr result (IsFaultOf ReadLog) }
-    ensures cause { FailsOnlyWith ReadLog result (S.failures source.old) (S.failures source.new) }
+    ensures cause { Blames ReadLog S.failures source.old source.new result }
 {
     match read_front(alloc, source, count) {
         Ok(bytes) => Ok(bytes),
@@ -81,11 +81,10 @@ fn read_next<S: Source>(alloc: Global, source: &mut S, count: usize) -> Result<V
 fn read_last<S: Source>(source: &mut S, bytes: &mut Vec<u8>, filled: usize) -> Result<(), Fault>
     requires { filled ≤ length bytes.old.items }
     ensures front { OnOk result (take filled bytes.new.items ≡ take filled bytes.old.items) }
-    ensures read { OnOk result (CameBehind (S.left source.old) (S.left source.new)
-        filled bytes.new.items) }
+    ensures read { OnOk result (CameAfter S.left source.old source.new filled bytes.new.items) }
     ensures end { OnOk result (IsAtEnd (S.left source.new)) }
     ensures fault { IfErr result (IsFaultOf ReadLog) }
-    ensures cause { FailsOnlyWith ReadLog result (S.failures source.old) (S.failures source.new) }
+    ensures cause { Blames ReadLog S.failures source.old source.new result }
 {
     match read_rest(source, bytes, filled) {
         Ok(()) => Ok(()),
@@ -111,19 +110,17 @@ fn read_half<S: Source, R: Threads + Sync>(
     half: usize,
     room: usize,
 ) -> (Vec<u8>, Result<Vec<u8>, Fault>)
-    ensures read { IfOk result.1 (λ bytes. Consumes (S.left source.old)
-        (S.left source.new) bytes.items) }
+    ensures read { IfOk result.1 (λ bytes. ReadNext S.left source.old source.new bytes.items) }
     ensures fault { IfErr result.1 (IsFaultOf ReadLog) }
-    ensures cause { FailsOnlyWith ReadLog result.1 (S.failures source.old) (S.failures source.new) }
+    ensures cause { Blames ReadLog S.failures source.old source.new result.1 }
 {
     let other = alloc;
     let mut make = || -> Vec<u8> { zeros(other, room) };
     let mut read = || -> Result<Vec<u8>, Fault>
-        ensures read { IfOk result (λ bytes. Consumes (S.left source.entry.now)
-            (S.left source.exit.now) bytes.items) }
+        ensures read { IfOk result (λ bytes. ReadNext S.left source.entry.now source.exit.now
+            bytes.items) }
         ensures fault { IfErr result (IsFaultOf ReadLog) }
-        ensures cause { FailsOnlyWith ReadLog result (S.failures source.entry.now)
-            (S.failures source.exit.now) }
+        ensures cause { Blames ReadLog S.failures source.entry.now source.exit.now result }
     { read_next(alloc, source, half) };
     join_mut(rt, &mut make, &mut read)
 }
@@ -191,11 +188,11 @@ fn first_beside_rest<S: Source, R: Threads + Sync>(
     ensures frames { IfOk result.0 (BeginsCut front.now) }
     ensures short { IfOk result.0 (λ first. length front.now < first.end + LONGEST_FRAME) }
     ensures no_log { IfErr result.0 (λ e. (more : List ℕ) → Cause (front.now ++ more) e) }
-    ensures read { OnOk result.1 (CameBehind (S.left source.old) (S.left source.new)
+    ensures read { OnOk result.1 (CameAfter S.left source.old source.new
         LONGEST_FRAME back.new.items) }
     ensures end { OnOk result.1 (IsAtEnd (S.left source.new)) }
     ensures fault { IfErr result.1 (IsFaultOf ReadLog) }
-    ensures cause { FailsOnlyWith ReadLog result.1 (S.failures source.old) (S.failures source.new) }
+    ensures cause { Blames ReadLog S.failures source.old source.new result.1 }
 {
     let mut decode = || -> Result<Stretch, Fault>
         requires { BASED_HEADER_BYTES ≤ length front.now }
@@ -205,12 +202,11 @@ fn first_beside_rest<S: Source, R: Threads + Sync>(
     { first_frames(rt, alloc, front, threads) };
     let mut read = || -> Result<(), Fault>
         requires { LONGEST_FRAME ≤ length back.now.items }
-        ensures read { OnOk result (CameBehind (S.left source.entry.now)
-            (S.left source.exit.now) LONGEST_FRAME back.exit.now.items) }
+        ensures read { OnOk result (CameAfter S.left source.entry.now source.exit.now LONGEST_FRAME
+            back.exit.now.items) }
         ensures end { OnOk result (IsAtEnd (S.left source.exit.now)) }
         ensures fault { IfErr result (IsFaultOf ReadLog) }
-        ensures cause { FailsOnlyWith ReadLog result (S.failures source.entry.now)
-            (S.failures source.exit.now) }
+        ensures cause { Blames ReadLog S.failures source.entry.now source.exit.now result }
     { read_last(source, back, LONGEST_FRAME) };
     join_mut(rt, &mut decode, &mut read)
 }
@@ -269,7 +265,7 @@ fn read_parts<S: Source, R: Threads + Sync>(
     ensures is { IfOk result (λ x. IsLogText x.0 x.1) }
     ensures end { OnOk result (IsAtEnd (S.left source.new)) }
     ensures fault { IfErr result (IsFaultOf ReadLog) }
-    ensures cause { FailsOnlyWith ReadLog result (S.failures source.old) (S.failures source.new) }
+    ensures cause { Blames ReadLog S.failures source.old source.new result }
 {
     let half = hint / 2;
     let room = (hint - half).saturating_add(LONGEST_FRAME + PIECE);
@@ -300,7 +296,7 @@ pub fn read_log_text<S: Source, R: Threads + Sync>(
     ensures is { IfOk result (λ x. IsLogText x.0 x.1) }
     ensures end { OnOk result (IsAtEnd (S.left source.new)) }
     ensures fault { IfErr result (IsFaultOf ReadLog) }
-    ensures cause { FailsOnlyWith ReadLog result (S.failures source.old) (S.failures source.new) }
+    ensures cause { Blames ReadLog S.failures source.old source.new result }
 {
     let hint = source.hint();
     if workers > 1 && (LONG..=LONGEST).contains(&hint) {

@@ -1,19 +1,12 @@
 //! Recovery in memory: from a log and a store to the bytes of a new log and the new store.
 
-ghost use Rattle.std.specs.Prelude.{◌≡◌, ◌≤◌, ◌<◌, ◌+◌, ◌*◌, ◌^◌, ℕ, List, length, min, IfOk, OnOk, IfErr, MatchResult, IsOkUnless};
-ghost use Rattle.page.specs.declared.fault.Fault.{Fault};
+ghost use Rattle.std.specs.Prelude.{◌≡◌, ◌≤◌, ◌<◌, ◌+◌, ◌*◌, ◌^◌, ℕ, length, min, IfOk, OnOk, IfErr, IsOkUnless};
 ghost use Rattle.page.specs.declared.fault.Fault.TheVariants.{NoResource};
-ghost use Rattle.wal.specs.Records.{LogContent, history, last_lsn};
-ghost use Rattle.wal.specs.Reads.{Reads, spellings};
-ghost use Rattle.page.specs.Store.{StoreContent};
-ghost use Rattle.page.specs.File.{store_text, SpellsStore};
-ghost use Rattle.undo.specs.Appended.{appended_records, HaveUpdates, AreFit};
-ghost use Rattle.wal.specs.Meaning.{BasePages};
-ghost use Rattle.passes.specs.InPieces.{AreAlike};
-ghost use Rattle.recovery.specs.Recovery.{report_of, log_of, Decodes, ReadsAs, Recovers, AreLawful, Recovered, RecoveryCause};
+ghost use Rattle.wal.specs.Records.{history, last_lsn};
+ghost use Rattle.undo.specs.Appended.{HaveUpdates, AreFit};
+ghost use Rattle.recovery.specs.Recovery.{report_of, ForLawfulRead, ForRead, IsShortRestored, ReadCause, Remakes, RemakesLawful, RemakesRestart, RemakesRestored, UnlessMemory, appended_frames, frames_from};
 ghost use Rattle.restart.specs.Options.{AreInRange};
 ghost use Rattle.restart.specs.Outcome.{outcome_in};
-ghost use Rattle.restart.specs.Restart.{Restarts, Restores};
 
 use crate::Report;
 use page::{Fault, Store};
@@ -29,8 +22,7 @@ use wal::{Log, write_frame};
 fn tail_bytes(log: &Looked, appended: &[Appended]) -> u64
     requires told { HaveUpdates log.now appended.now }
     requires writable { AreFit log.now appended.now }
-    ensures { (lsn : ℕ) → result
-        ≡ min u64.MAX (length (spellings lsn (appended_records (history log.now) appended.now))) }
+    ensures { (lsn : ℕ) → result ≡ min u64.MAX (length (frames_from lsn log.now appended.now)) }
 {
     let mut bytes: u64 = 0;
     for entry in appended {
@@ -45,8 +37,7 @@ fn frames_of(alloc: Global, log: &Looked, appended: &[Appended]) -> Result<Vec<u
     requires told { HaveUpdates log.now appended.now }
     requires writable { AreFit log.now appended.now }
     requires few { length appended.now ≤ 2 * length log.now.records + 2 ^ 32 }
-    ensures frames { IfOk result (λ x. x.items ≡ spellings (last_lsn (history log.now) + 1)
-        (appended_records (history log.now) appended.now)) }
+    ensures frames { IfOk result (λ x. x.items ≡ appended_frames log.now appended.now) }
     ensures room { OnOk result (last_lsn (history log.now) + length appended.now < 2 ^ 64) }
     ensures err { IsOkUnless result NoResource }
 {
@@ -114,19 +105,9 @@ pub fn remade_of(
 
     // If the outcome is that of a restart of a whole log, which is like the records looked at, and
     // of a store: for any bytes that encode them.
-    ensures answer { IfOk result (λ x. (whole : LogContent) (log text : List ℕ)
-        (before : StoreContent) → AreAlike whole records.now outcome.appended.items
-        → Reads log whole torn → SpellsStore text before
-        → Restarts whole before (outcome_in (history whole) outcome)
-        → Recovers log text (log_of log x) (store_text x.store) x.report) }
-    ensures lawful { IfOk result (λ x. (whole : LogContent) (base : BasePages) (log : List ℕ)
-        (before : StoreContent) → AreAlike whole records.now outcome.appended.items
-        → Reads log whole torn → Restores base whole before (outcome_in (history whole) outcome)
-        → Recovered base whole before (log_of log x) (store_text x.store) x.report) }
-    ensures short { IfOk result (λ x. (whole : LogContent) (base : BasePages) (log : List ℕ)
-        (before : StoreContent) → AreAlike whole records.now outcome.appended.items
-        → Reads log whole torn → Restores base whole before (outcome_in (history whole) outcome)
-        → length x.frames.items ≤ 2 * length log) }
+    ensures answer { IfOk result (RemakesRestart records.now torn outcome) }
+    ensures lawful { IfOk result (RemakesRestored records.now torn outcome) }
+    ensures short { IfOk result (IsShortRestored records.now torn outcome) }
     ensures torn { IfOk result (λ x. x.report.torn ≡ torn) }
     ensures err { IsOkUnless result NoResource }
 {
@@ -157,19 +138,15 @@ pub fn remake<G: Gate, R: Threads + Sync>(
     requires { AreInRange options.now }
 
     // For the bytes of a log and its store that are lawful over any base pages.
-    ensures lawful { (base : BasePages) (log text : List ℕ) → ReadsAs log records.entry
-        → Decodes text decoded → (bytes : AreLawful base log text)
-        → MatchResult result (λ x. Recovered base bytes.decoded.read bytes.decoded.before
-        (log_of log x) (store_text x.store) x.report) (λ e. e ≡ NoResource) }
+    ensures lawful { ForLawfulRead records.entry decoded (λ x. UnlessMemory result
+        (RemakesLawful x)) }
 
     // On success.
-    ensures answer { IfOk result (λ x. (log text : List ℕ) → ReadsAs log records.entry
-        → Decodes text decoded
-        → Recovers log text (log_of log x) (store_text x.store) x.report) }
+    ensures answer { IfOk result (λ x. ForRead records.entry decoded (λ log text. Remakes log text
+        x)) }
 
     // On an error, its condition holds for the input, memory aside.
-    ensures cause { IfErr result (λ e. (log text : List ℕ) → ReadsAs log records.entry
-        → Decodes text decoded → RecoveryCause log text options.now e) }
+    ensures cause { IfErr result (ReadCause records.entry decoded options.now) }
 {
     let (records, torn) = records?;
     let before = decoded?;

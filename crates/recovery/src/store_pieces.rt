@@ -1,16 +1,15 @@
 //! A store that is read and written piece by piece: only one piece of its bytes is in memory.
 
-ghost use Rattle.std.specs.Prelude.{◌≡◌, ◌≤◌, ◌<◌, ◌++◌, ℕ, List, length, take, IfOk, IfErr, OnOk, OnErr, IsOkUnless};
+ghost use Rattle.std.specs.Prelude.{◌≡◌, ◌≤◌, ◌<◌, length, take, IfOk, IfErr, OnOk, OnErr, IsOkUnless};
 ghost use Rattle.std.specs.List.{flat_map};
-ghost use Rattle.std.specs.Io.KnownBytes.{Appends, Consumes, IsAtEnd, Keeps};
+ghost use Rattle.std.specs.Io.KnownBytes.{IsAtEnd, Keeps};
 ghost use Rattle.page.specs.declared.fault.Fault.TheVariants.{NoResource, ReadStore};
 ghost use Rattle.page.specs.File.{store_text};
 ghost use Rattle.page.specs.Image.{page_text};
 ghost use Rattle.device.specs.Failures.{Counts};
-ghost use Rattle.device.specs.Transfer.{TookBeginning};
-ghost use Rattle.recovery.specs.Recovery.{Decodes};
-ghost use Rattle.recovery.specs.Devices.{FailsOnlyWith, Gave, IsFaultOf, ReadsStore, AreOut};
+ghost use Rattle.recovery.specs.Devices.{IsFaultOf, ReadsStore, AreOut, IsDecodedBehind};
 ghost use Rattle.recovery.specs.declared.store_pieces.TheConstants.{PIECE};
+ghost use Rattle.recovery.specs.Calls.{Blames, ReadNext, Took, Began};
 
 use device::{Failed, Sink, Source, read_full, write_all};
 use page::{
@@ -43,11 +42,11 @@ pub struct DecodedStore {
 /// The next bytes of a store's source: as many as there is room for, fewer only at its end.
 fn read_piece<S: Source>(source: &mut S, room: &mut [u8]) -> Result<usize, Fault>
     ensures within { IfOk result (λ count. count ≤ length room.new) }
-    ensures read { IfOk result (λ count. Consumes (S.left source.old) (S.left source.new)
+    ensures read { IfOk result (λ count. ReadNext S.left source.old source.new
         (take count room.new)) }
     ensures end { IfOk result (λ count. count < length room.new → IsAtEnd (S.left source.new)) }
     ensures fault { IfErr result (λ e. e ≡ ReadStore) }
-    ensures cause { FailsOnlyWith ReadStore result (S.failures source.old) (S.failures source.new) }
+    ensures cause { Blames ReadStore S.failures source.old source.new result }
 {
     match read_full(source, room) {
         Ok(count) => Ok(count),
@@ -64,11 +63,10 @@ fn read_images<S: Source>(
 ) -> Result<DecodedStore, Fault>
     requires room { length room.old ≡ PIECE }
     requires header { length reader ≡ STORE_HEADER_BYTES }
-    ensures read { IfOk result (λ found. (behind : List ℕ)
-        × Gave (S.left source.old) behind × Decodes (reader ++ behind) found.store) }
+    ensures read { IfOk result (IsDecodedBehind reader (S.left source.old)) }
     ensures end { OnOk result (IsAtEnd (S.left source.new)) }
     ensures fault { IfErr result (IsFaultOf ReadStore) }
-    ensures cause { FailsOnlyWith ReadStore result (S.failures source.old) (S.failures source.new) }
+    ensures cause { Blames ReadStore S.failures source.old source.new result }
 {
     for _ in 0..u64::MAX {
         let count = read_piece(source, room)?;
@@ -90,8 +88,7 @@ pub fn read_store<S: Source>(
     room: &mut [u8],
 ) -> Result<DecodedStore, Fault>
     requires { length room.old ≡ PIECE }
-    ensures { ReadsStore (S.left source.old) (S.left source.new)
-        (S.failures source.old) (S.failures source.new) result }
+    ensures { ReadsStore S.Source source.old source.new result }
 {
     let mut header = [0; STORE_HEADER_BYTES];
     let count = read_piece(source, &mut header)?;
@@ -106,9 +103,8 @@ pub fn read_store<S: Source>(
 /// Writes the images of pages, a piece at a time.
 fn write_images<S: Sink>(sink: &mut S, pages: &[Page], room: &mut [u8]) -> Result<(), Failed>
     requires { length room.old ≡ PIECE }
-    ensures all { OnOk result (Appends (S.taken sink.old) (S.taken sink.new)
-        (flat_map page_text pages.now)) }
-    ensures beginning { OnErr result (TookBeginning (S.taken sink.old) (S.taken sink.new)
+    ensures all { OnOk result (Took S.Sink sink.old sink.new (flat_map page_text pages.now)) }
+    ensures beginning { OnErr result (Began S.Sink sink.old sink.new
         (flat_map page_text pages.now)) }
     ensures cause { Counts (S.failures sink.old) (S.failures sink.new) result }
     ensures unflushed { Keeps (S.flushed sink.old) (S.flushed sink.new) }
@@ -127,10 +123,8 @@ fn write_images<S: Sink>(sink: &mut S, pages: &[Page], room: &mut [u8]) -> Resul
 /// Writes a store to a sink, a piece at a time, and flushes it.
 pub fn write_store<S: Sink>(sink: &mut S, store: &Store, room: &mut [u8]) -> Result<(), Failed>
     requires { length room.old ≡ PIECE }
-    ensures all { OnOk result (AreOut (store_text store.now) (S.taken sink.old) (S.taken sink.new)
-        (S.flushed sink.old) (S.flushed sink.new)) }
-    ensures beginning { OnErr result
-        (TookBeginning (S.taken sink.old) (S.taken sink.new) (store_text store.now)) }
+    ensures all { OnOk result (AreOut S.Sink sink.old sink.new (store_text store.now)) }
+    ensures beginning { OnErr result (Began S.Sink sink.old sink.new (store_text store.now)) }
     ensures cause { Counts (S.failures sink.old) (S.failures sink.new) result }
 {
     let pages = store.pages.len() as u32;

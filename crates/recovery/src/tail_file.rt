@@ -1,12 +1,12 @@
 //! The file of a tail: what a recovery in place keeps on the disk while it continues the log. With
 //! it, a continuation that a power failure ended can be made again.
 
-ghost use Rattle.std.specs.Prelude.{◌≡◌, ◌↔◌, ◌+◌, ◌-◌, ◌<◌, ◌≤◌, ◌^◌, ◌++◌, ℕ, List, drop, length, take, IfSome, IsTrue, OnOk, OnErr, is_some, true};
+ghost use Rattle.std.specs.Prelude.{◌≡◌, ◌↔◌, ◌+◌, ◌-◌, ◌≤◌, ◌++◌, drop, length, take, IfSome, IsTrue, OnOk, OnErr, is_some, true};
 ghost use Rattle.std.specs.Int.{w64, from_be_bytes};
 ghost use Rattle.device.specs.Failures.{Counts};
-ghost use Rattle.device.specs.Transfer.{TookBeginning};
 ghost use Rattle.recovery.specs.Devices.{AreOut};
-ghost use Rattle.recovery.specs.TailFile.{sum_on, sum_of, end_of, head_of, front_of, tail_text};
+ghost use Rattle.recovery.specs.TailFile.{sum_on, sum_of, end_of, head_of, IfTailFile, file_front, file_text};
+ghost use Rattle.recovery.specs.Calls.{Began};
 
 use device::{Failed, Sink, write_all};
 
@@ -74,7 +74,8 @@ impl<'a> TailFile<'a> {
     /// The bytes before the frames.
     #[tactic(auto, unfolding(crate::specs::TailFile::head_of))]
     fn head(&self) -> [u8; HEAD_BYTES]
-        ensures { result ≡ head_of self.now.length self.now.kept (length self.now.frames.now) self.now.end }
+        ensures { result ≡ head_of self.now.length self.now.kept (length self.now.frames.now)
+            self.now.end }
     {
         let mut head = [0; HEAD_BYTES];
         head[..8].copy_from_slice(b"ARIESTL1");
@@ -87,8 +88,7 @@ impl<'a> TailFile<'a> {
 
     /// The sum of what comes before it.
     fn sum(&self) -> u64
-        ensures { result ≡ sum_of
-            (front_of self.now.length self.now.kept self.now.end self.now.frames.now) }
+        ensures { result ≡ sum_of (file_front self.now) }
     {
         sum_on(sum_on(SUM_OF_NONE, &self.head()), self.frames)
     }
@@ -98,10 +98,8 @@ impl<'a> TailFile<'a> {
     /// `Failed` if the sink failed. Its count of failures then rises by one, and it has taken a
     /// prefix of the file.
     pub fn write<S: Sink>(&self, sink: &mut S) -> Result<(), Failed>
-        ensures all { OnOk result (AreOut (tail_text self.now.length self.now.kept self.now.end self.now.frames.now) (S.taken sink.old) (S.taken sink.new)
-            (S.flushed sink.old) (S.flushed sink.new)) }
-        ensures beginning { OnErr result
-            (TookBeginning (S.taken sink.old) (S.taken sink.new) (tail_text self.now.length self.now.kept self.now.end self.now.frames.now)) }
+        ensures all { OnOk result (AreOut S.Sink sink.old sink.new (file_text self.now)) }
+        ensures beginning { OnErr result (Began S.Sink sink.old sink.new (file_text self.now)) }
         ensures cause { Counts (S.failures sink.old) (S.failures sink.new) result }
     {
         write_all(sink, &self.head())?;
@@ -113,11 +111,8 @@ impl<'a> TailFile<'a> {
     /// The file of a tail in these bytes; `None` if they are not a whole one, for example after a
     /// crash while it was written.
     pub fn read(bytes: &'a [u8]) -> Option<TailFile<'a>>
-        ensures found { IfSome result (λ file. bytes.entry.now
-            ≡ tail_text file.length file.kept file.end file.frames.now) }
-        ensures whole { (log kept end : ℕ) (frames : List ℕ) → log < 2 ^ 64 → kept < 2 ^ 64
-            → end < 2 ^ 64 → bytes.entry.now ≡ tail_text log kept end frames
-            → is_some result ≡ true }
+        ensures found { IfSome result (λ file. bytes.entry.now ≡ file_text file) }
+        ensures whole { IfTailFile bytes.entry.now (is_some result ≡ true) }
     {
         if bytes.len() < HEAD_BYTES + NUMBER_BYTES {
             return None;

@@ -1,9 +1,7 @@
 //! Recovery in memory without threads.
 
-ghost use Rattle.std.specs.Prelude.{◌≡◌, ◌-◌, ◌*◌, ◌≤◌, length, take, IfOk, IfErr, MatchResult};
-ghost use Rattle.page.specs.declared.fault.Fault.TheVariants.{NoResource};
-ghost use Rattle.wal.specs.Meaning.{BasePages};
-ghost use Rattle.recovery.specs.Recovery.{new_log, Recovers, AreLawful, Recovered, RecoveryCause};
+ghost use Rattle.std.specs.Prelude.{◌≡◌, ◌-◌, length, take, IfOk, IfErr};
+ghost use Rattle.recovery.specs.Recovery.{RecoveryCause, ForLawfulBytes, IsRecoveryOf, IsShort, RecoversLawful, UnlessMemory, one_worker};
 
 use crate::recovery::{Recovery, Remade, remade_of};
 use page::{Fault, decode_store, encode_store_into};
@@ -26,23 +24,18 @@ pub fn recovery_alone<'a>(
     mut store: Vec<u8>,
 ) -> Result<Recovery<'a>, Fault>
     // For the bytes of a log and its store that are lawful over any base pages.
-    ensures lawful { (base : BasePages) (bytes : AreLawful base log.now store.items)
-        → MatchResult result (λ x. Recovered base bytes.decoded.read bytes.decoded.before
-        (new_log x) x.store.items x.report) (λ e. e ≡ NoResource) }
+    ensures lawful { ForLawfulBytes log.now store.items (λ x. UnlessMemory result
+        (RecoversLawful x)) }
 
     // On success.
-    ensures answer { IfOk result (λ x. Recovers log.now store.items
-        (new_log x) x.store.items x.report) }
-    ensures kept { IfOk result (λ x. x.kept.now
-        ≡ take (length log.now - x.report.torn) log.now) }
+    ensures answer { IfOk result (IsRecoveryOf log.now store.items) }
+    ensures kept { IfOk result (λ x. x.kept.now ≡ take (length log.now - x.report.torn) log.now) }
 
     // What is appended to a lawful log takes at most twice its bytes.
-    ensures short { (base : BasePages) → AreLawful base log.now store.items
-        → IfOk result (λ x. length x.frames.items ≤ 2 * length log.now) }
+    ensures short { ForLawfulBytes log.now store.items (λ _. IfOk result (IsShort log.now)) }
 
     // On an error, its condition holds for the input, memory aside; valid options cause none.
-    ensures cause { IfErr result
-        (RecoveryCause log.now store.items (record { workers = 1; parts = 1 })) }
+    ensures cause { IfErr result (RecoveryCause log.now store.items one_worker) }
 {
     let (records, torn) = read_log(alloc, log)?;
     let before = decode_store(alloc, &store)?;

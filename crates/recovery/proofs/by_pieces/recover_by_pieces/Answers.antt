@@ -68,7 +68,7 @@ returns-in_err-end-clause-cause g c =
 pub returns-in_err-end-clause-left : goal.returns-in_err-end-clause-left
 returns-in_err-end-clause-left g c =
     let exit = err_from_is_err_and c.from_residual-in_err-end.result c.from_residual-in_err-end.ensures.1 in
-    rw (exit.1, exit.2) (λ log_text is. untouched _ _ _ _ _ c.in_err-end.field-0.0 c.in_err-end.ensures.named)
+    rw (exit.1, exit.2) (λ log_text is. untouched g.LW.Sink c.args.out_log.now g.SW.Sink c.args.out_store.now _ _ c.in_err-end.field-0.0 c.in_err-end.ensures.named)
 
 pub returns-in_err-write_in_place-clause-resumable : goal.returns-in_err-write_in_place-clause-resumable
 returns-in_err-write_in_place-clause-resumable g c = λ base log_text store_bytes is tells_store holds range bytes.
@@ -83,14 +83,12 @@ returns-in_err-write_in_place-clause-resumable g c = λ base log_text store_byte
     let file = c.file-file.result in
     let count = c.file-file.ensures.kept ∙ measured.kept_is in
     let frames_are = c.file-file.ensures.frames in
-    let stays = stays_as file.kept kept file.frames.now x.remade.frames.items (store_text x.remade.store) (g.LW.Sink.taken c.args.out_log.now) (g.LW.Sink.taken c.write_in_place.new.log)
-    (g.LW.Sink.flushed c.args.out_log.now) (g.LW.Sink.flushed c.write_in_place.new.log) (g.SW.Sink.taken c.args.out_store.now) (g.SW.Sink.taken c.write_in_place.new.store) c.in_err-write_in_place.field-0.0 count frames_are c.in_err-write_in_place.ensures.fault in
+    let stays = stays_as g.LW.Sink c.args.out_log.now c.write_in_place.new.log g.SW.Sink c.args.out_store.now c.write_in_place.new.store file.kept kept file.frames.now x.remade.frames.items (store_text x.remade.store) c.in_err-write_in_place.field-0.0 count frames_are c.in_err-write_in_place.ensures.fault in
     let same_store = told left text store_bytes read.store_read tells_store in
     let lawful_bytes = told_lawful log_text text log_text store_bytes read refl tells_store bytes in
     let recovered = c.in_ok-made.ensures.lawful base log_text text still decodes lawful_bytes in
     let after = g.LW.Sink.taken c.write_in_place.new.log in
-    let cut = stays_cut lawful_bytes kept x.remade.frames.items (store_text x.remade.store) x.remade.report made.recovers refl recovered.reads (g.LW.Sink.taken c.args.out_log.now) after
-    (g.LW.Sink.flushed c.args.out_log.now) (g.LW.Sink.flushed c.write_in_place.new.log) (g.SW.Sink.taken c.args.out_store.now) (g.SW.Sink.taken c.write_in_place.new.store) c.in_err-write_in_place.field-0.0
+    let cut = stays_cut lawful_bytes kept x.remade.frames.items (store_text x.remade.store) x.remade.report made.recovers refl recovered.reads g.LW.Sink c.args.out_log.now c.write_in_place.new.log g.SW.Sink c.args.out_store.now c.write_in_place.new.store c.in_err-write_in_place.field-0.0
     holds stays in
     on_err c.from_residual-in_err-write_in_place.result
     (subst (λ (s : List ℕ). HoldsCut base bytes.decoded.read bytes.decoded.before log_text s after) same_store cut)
@@ -111,9 +109,8 @@ returns-in_err-write_in_place-clause-left g c =
     let file = c.file-file.result in
     let count = c.file-file.ensures.kept ∙ measured.kept_is in
     let frames_are = c.file-file.ensures.frames in
-    let stays = stays_as file.kept kept file.frames.now x.remade.frames.items (store_text x.remade.store) (g.LW.Sink.taken c.args.out_log.now) (g.LW.Sink.taken c.write_in_place.new.log)
-    (g.LW.Sink.flushed c.args.out_log.now) (g.LW.Sink.flushed c.write_in_place.new.log) (g.SW.Sink.taken c.args.out_store.now) (g.SW.Sink.taken c.write_in_place.new.store) c.in_err-write_in_place.field-0.0 count frames_are c.in_err-write_in_place.ensures.fault in
-    left_in _ _ _ _ _ _ _ _ made c.in_err-write_in_place.field-0.0 stays)
+    let stays = stays_as g.LW.Sink c.args.out_log.now c.write_in_place.new.log g.SW.Sink c.args.out_store.now c.write_in_place.new.store file.kept kept file.frames.now x.remade.frames.items (store_text x.remade.store) c.in_err-write_in_place.field-0.0 count frames_are c.in_err-write_in_place.ensures.fault in
+    left_in g.LW.Sink c.args.out_log.now c.write_in_place.new.log g.SW.Sink c.args.out_store.now c.write_in_place.new.store made c.in_err-write_in_place.field-0.0 stays)
 
 pub returns-in_err-write_in_place-clause-tail_first : goal.returns-in_err-write_in_place-clause-tail_first
 returns-in_err-write_in_place-clause-tail_first g c = λ log_text is.
@@ -133,7 +130,7 @@ returns-in_err-write_in_place-clause-tail_first g c = λ log_text is.
     let tail = tail_made left log_text text x read measured recovers file.length file.kept file.end file.frames.now c.file-file.ensures.length c.file-file.ensures.kept end_is c.file-file.ensures.frames in
     elim c.write_in_place.ensures.tail_first [
       | inl same ↦ inl same
-      | inr out ↦ inr (made, has_tail made _ _ _ _ _ tail out)
+      | inr out ↦ inr (made, has_tail made g.T.Sink c.args.tail.now c.write_in_place.new.tail _ tail out)
     ]
 
 pub returns-in_err-write_in_place-clause-log_first : goal.returns-in_err-write_in_place-clause-log_first
@@ -151,7 +148,7 @@ returns-in_err-write_in_place-clause-log_first g c = λ log_text is.
     let frames_are = c.file-file.ensures.frames in
     elim c.write_in_place.ensures.log_first [
       | inl same ↦ inl same
-      | inr done ↦ inr (made, continued_as _ _ _ _ _ _ _ _ count frames_are done)
+      | inr done ↦ inr (made, continued_as _ _ _ _ _ _ _ count frames_are done)
     ]
 
 pub returns-clause-tail_first : goal.returns-clause-tail_first
@@ -172,7 +169,7 @@ returns-clause-tail_first g c = λ log_text is.
     let tail = tail_made left log_text text x read measured recovers file.length file.kept file.end file.frames.now c.file-file.ensures.length c.file-file.ensures.kept end_is c.file-file.ensures.frames in
     elim c.write_in_place.ensures.tail_first [
       | inl same ↦ inl same
-      | inr out ↦ inr (made, has_tail made _ _ _ _ _ tail out)
+      | inr out ↦ inr (made, has_tail made g.T.Sink c.args.tail.now c.write_in_place.new.tail _ tail out)
     ]
 
 pub returns-clause-log_first : goal.returns-clause-log_first
@@ -190,7 +187,7 @@ returns-clause-log_first g c = λ log_text is.
     let frames_are = c.file-file.ensures.frames in
     elim c.write_in_place.ensures.log_first [
       | inl same ↦ inl same
-      | inr done ↦ inr (made, continued_as _ _ _ _ _ _ _ _ count frames_are done)
+      | inr done ↦ inr (made, continued_as _ _ _ _ _ _ _ count frames_are done)
     ]
 
 pub returns-in_err-write_in_place-clause-log_source : goal.returns-in_err-write_in_place-clause-log_source
@@ -202,8 +199,7 @@ returns-in_err-write_in_place-clause-log_source g c =
     let last = c.in_ok-end.ensures.cause.innocent (ok_is_no_fault c.in_ok-end.end ReadLog) in
     let file = c.file-file.result in
     other_failed c.from_residual-in_err-write_in_place.result _ _ _
-    (stays_other c.from_residual-in_err-write_in_place.result file.kept file.frames.now (store_text c.in_ok-made.made.remade.store) (g.LW.Sink.taken c.args.out_log.now) (g.LW.Sink.taken c.write_in_place.new.log)
-    (g.LW.Sink.flushed c.args.out_log.now) (g.LW.Sink.flushed c.write_in_place.new.log) (g.SW.Sink.taken c.args.out_store.now) (g.SW.Sink.taken c.write_in_place.new.store) c.in_err-write_in_place.field-0.0
+    (stays_other c.from_residual-in_err-write_in_place.result g.LW.Sink c.args.out_log.now c.write_in_place.new.log g.SW.Sink c.args.out_store.now c.write_in_place.new.store file.kept file.frames.now (store_text c.in_ok-made.made.remade.store) c.in_err-write_in_place.field-0.0
     (rw (exit.1, exit.2) refl) c.in_err-write_in_place.ensures.fault) first (last ∙ then)
 
 pub returns-clause-log_source : goal.returns-clause-log_source
@@ -227,7 +223,7 @@ returns-clause-lawful g c = λ base log_text store_bytes is tells_store holds ra
     let file = c.file-file.result in
     let count = c.file-file.ensures.kept ∙ measured.kept_is in
     let frames_are = c.file-file.ensures.frames in
-    let done = continued_as _ _ _ _ _ _ _ _ count frames_are c.in_ok-write_in_place.ensures.log_done in
+    let done = continued_as _ _ _ _ _ _ _ count frames_are c.in_ok-write_in_place.ensures.log_done in
     record {
       new_log = log_of log_text x.remade;
       new_store = store_text x.remade.store;
@@ -238,7 +234,7 @@ returns-clause-lawful g c = λ base log_text store_bytes is tells_store holds ra
 
 pub returns-clause-interrupted : goal.returns-clause-interrupted
 returns-clause-interrupted g c = λ base log_text store_bytes is tells_store holds range bytes.
-    settled_in_place bytes _ _ _ _ (returns-clause-lawful g c base log_text store_bytes is tells_store holds range (cut_lawful bytes))
+    settled_in_place bytes _ _ _ _ _ (returns-clause-lawful g c base log_text store_bytes is tells_store holds range (cut_lawful bytes))
 
 pub returns-clause-answer : goal.returns-clause-answer
 returns-clause-answer g c = λ log_text is.
@@ -253,5 +249,5 @@ returns-clause-answer g c = λ log_text is.
     let file = c.file-file.result in
     let count = c.file-file.ensures.kept ∙ measured.kept_is in
     let frames_are = c.file-file.ensures.frames in
-    let done = continued_as _ _ _ _ _ _ _ _ count frames_are c.in_ok-write_in_place.ensures.log_done in
+    let done = continued_as _ _ _ _ _ _ _ count frames_are c.in_ok-write_in_place.ensures.log_done in
     record { made = made; report_is = refl; log_out = done.continued; store_out = c.in_ok-write_in_place.ensures.store_out.out }

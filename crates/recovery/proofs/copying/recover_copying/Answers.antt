@@ -43,7 +43,7 @@ returns-in_err-made-clause-out g c =
     (λ log_text is.
     let (text, read, decodes) = both_read {log_left = Some log_text} {log = log_text} c.in_ok-decoded.decoded refl c.in_ok-decoded.was c.read_store_first.ensures.read in
     let still = ap g.LR.Reread.text c.in_ok-decoded.ensures.log_unread ∙ is in
-    nothing_copied _ _ _ _ c.in_err-made.field-0.0 (c.in_err-made.ensures.named text decodes))
+    nothing_copied g.LW.Sink c.args.out_log.now g.SW.Sink c.args.out_store.now _ _ c.in_err-made.field-0.0 (c.in_err-made.ensures.named text decodes))
 
 pub returns-in_err-write_copied-clause-lawful : goal.returns-in_err-write_copied-clause-lawful
 returns-in_err-write_copied-clause-lawful g c = λ base log_text store_bytes is tells_store range bytes.
@@ -54,7 +54,7 @@ returns-in_err-write_copied-clause-lawful g c = λ base log_text store_bytes is 
     let later = still_told (g.LR.Reread.text c.read_store_first.new.log) (g.LR.Reread.text c.make_by_pieces.new.log) log_text c.in_ok-made.ensures.same still in
     let within : x.kept ≤ length log_text = omega (arith, measured.kept_is) in
     let leaves = c.in_err-write_copied.ensures.fault log_text later within in
-    rw (exit.1, exit.2) (copied_resource (take x.kept log_text ++ x.remade.frames.items) (store_text x.remade.store) (g.LW.Sink.taken c.args.out_log.now) (g.LW.Sink.taken c.write_copied.new.out_log) (g.SW.Sink.taken c.args.out_store.now) (g.SW.Sink.taken c.write_copied.new.out_store) c.in_err-write_copied.field-0.0 leaves)
+    rw (exit.1, exit.2) (copied_resource g.LW.Sink c.args.out_log.now c.write_copied.new.out_log g.SW.Sink c.args.out_store.now c.write_copied.new.out_store (take x.kept log_text ++ x.remade.frames.items) (store_text x.remade.store) c.in_err-write_copied.field-0.0 leaves)
 
 pub returns-in_err-write_copied-clause-interrupted : goal.returns-in_err-write_copied-clause-interrupted
 returns-in_err-write_copied-clause-interrupted g c = λ base log_text store_bytes is tells_store range bytes.
@@ -65,7 +65,7 @@ returns-in_err-write_copied-clause-interrupted g c = λ base log_text store_byte
     let later = still_told (g.LR.Reread.text c.read_store_first.new.log) (g.LR.Reread.text c.make_by_pieces.new.log) log_text c.in_ok-made.ensures.same still in
     let within : x.kept ≤ length log_text = omega (arith, measured.kept_is) in
     let leaves = c.in_err-write_copied.ensures.fault log_text later within in
-    rw (exit.1, exit.2) (copied_resource (take x.kept log_text ++ x.remade.frames.items) (store_text x.remade.store) (g.LW.Sink.taken c.args.out_log.now) (g.LW.Sink.taken c.write_copied.new.out_log) (g.SW.Sink.taken c.args.out_store.now) (g.SW.Sink.taken c.write_copied.new.out_store) c.in_err-write_copied.field-0.0 leaves)
+    rw (exit.1, exit.2) (copied_resource g.LW.Sink c.args.out_log.now c.write_copied.new.out_log g.SW.Sink c.args.out_store.now c.write_copied.new.out_store (take x.kept log_text ++ x.remade.frames.items) (store_text x.remade.store) c.in_err-write_copied.field-0.0 leaves)
 
 pub returns-in_err-write_copied-clause-cause : goal.returns-in_err-write_copied-clause-cause
 returns-in_err-write_copied-clause-cause g c =
@@ -78,7 +78,7 @@ returns-in_err-write_copied-clause-cause g c =
     let later = still_told (g.LR.Reread.text c.read_store_first.new.log) (g.LR.Reread.text c.make_by_pieces.new.log) log_text c.in_ok-made.ensures.same still in
     let within : x.kept ≤ length log_text = omega (arith, measured.kept_is) in
     let leaves = c.in_err-write_copied.ensures.fault log_text later within in
-    copied_cause (take x.kept log_text ++ x.remade.frames.items) (store_text x.remade.store) (g.LW.Sink.taken c.args.out_log.now) (g.LW.Sink.taken c.write_copied.new.out_log) (g.SW.Sink.taken c.args.out_store.now) (g.SW.Sink.taken c.write_copied.new.out_store) (Some log_text) (g.SR.Source.left c.args.store.now) c.args.options.now c.in_err-write_copied.field-0.0 leaves)
+    copied_cause g.LW.Sink c.args.out_log.now c.write_copied.new.out_log g.SW.Sink c.args.out_store.now c.write_copied.new.out_store (take x.kept log_text ++ x.remade.frames.items) (store_text x.remade.store) (Some log_text) (g.SR.Source.left c.args.store.now) c.args.options.now c.in_err-write_copied.field-0.0 leaves)
 
 pub returns-in_err-write_copied-clause-out : goal.returns-in_err-write_copied-clause-out
 returns-in_err-write_copied-clause-out g c =
@@ -93,7 +93,7 @@ returns-in_err-write_copied-clause-out g c =
     let (text, read, decodes) = both_read {log_left = Some log_text} {log = log_text} c.in_ok-decoded.decoded refl c.in_ok-decoded.was c.read_store_first.ensures.read in
     let leaves = c.in_err-write_copied.ensures.fault log_text later within in
     let made = makes_copy (g.SR.Source.left c.args.store.now) log_text text x read measured (c.in_ok-made.ensures.answer log_text text still decodes) in
-    copied_out (Some log_text) (g.SR.Source.left c.args.store.now) (g.LW.Sink.taken c.args.out_log.now) (g.LW.Sink.taken c.write_copied.new.out_log) (g.SW.Sink.taken c.args.out_store.now) (g.SW.Sink.taken c.write_copied.new.out_store) made c.in_err-write_copied.field-0.0 leaves)
+    copied_out g.LW.Sink c.args.out_log.now c.write_copied.new.out_log g.SW.Sink c.args.out_store.now c.write_copied.new.out_store made c.in_err-write_copied.field-0.0 leaves)
 
 pub returns-in_err-write_copied-clause-resumable : goal.returns-in_err-write_copied-clause-resumable
 returns-in_err-write_copied-clause-resumable g c = λ base log_text store_bytes is tells_store range bytes.
@@ -109,7 +109,7 @@ returns-in_err-write_copied-clause-resumable g c = λ base log_text store_bytes 
     subst (λ l. Recovered base bytes.decoded.read bytes.decoded.before l (store_text x.remade.store) x.remade.report) (copy_is (g.SR.Source.left c.args.store.now) log_text text x read measured (c.in_ok-made.ensures.answer log_text text still decodes))
     (c.in_ok-made.ensures.lawful base log_text text still decodes (told_lawful log_text text log_text store_bytes read refl tells_store bytes)) in
     rw (exit.1, exit.2)
-    (copied_cut (take x.kept log_text ++ x.remade.frames.items) (store_text x.remade.store) (g.LW.Sink.taken c.args.out_log.now) (g.LW.Sink.taken c.write_copied.new.out_log) (g.SW.Sink.taken c.args.out_store.now) (g.SW.Sink.taken c.write_copied.new.out_store) bytes recovered.reads c.in_err-write_copied.field-0.0 leaves)
+    (copied_cut g.LW.Sink c.args.out_log.now c.write_copied.new.out_log g.SW.Sink c.args.out_store.now c.write_copied.new.out_store (take x.kept log_text ++ x.remade.frames.items) (store_text x.remade.store) bytes recovered.reads c.in_err-write_copied.field-0.0 leaves)
 
 pub returns-in_err-write_copied-clause-log_out_first : goal.returns-in_err-write_copied-clause-log_out_first
 returns-in_err-write_copied-clause-log_out_first g c = λ log_text is.
@@ -154,7 +154,7 @@ returns-clause-lawful g c = λ base log_text store_bytes is tells_store range by
 
 pub returns-clause-interrupted : goal.returns-clause-interrupted
 returns-clause-interrupted g c = λ base log_text store_bytes is tells_store range bytes.
-    completed bytes _ _ _ _ _ (returns-clause-lawful g c base log_text store_bytes is tells_store range (cut_lawful bytes))
+    completed bytes _ _ _ _ _ _ _ (returns-clause-lawful g c base log_text store_bytes is tells_store range (cut_lawful bytes))
 
 pub returns-clause-answer : goal.returns-clause-answer
 returns-clause-answer g c = λ log_text is.

@@ -40,7 +40,7 @@ returns-in_err-remade-clause-out g c =
     let (text, read, decodes) = both_read c.in_ok-decoded.decoded c.in_ok-text.ensures.gave c.in_ok-decoded.was c.decode_both-records.ensures.store.read in
     let log = text_of c.in_ok-text.text in
     let reads = c.decode_both-records.ensures.log in
-    rw (exit.1, exit.2) (nothing_out _ _ _ _ log text c.args.options.now c.in_err-remade.field-0.0 (c.in_err-remade.ensures.cause log text reads decodes))
+    rw (exit.1, exit.2) (nothing_out g.LW.Sink c.args.out_log.now g.SW.Sink c.args.out_store.now _ _ log text c.args.options.now c.in_err-remade.field-0.0 (c.in_err-remade.ensures.cause log text reads decodes))
 
 pub returns-in_err-write_both-clause-out : goal.returns-in_err-write_both-clause-out
 returns-in_err-write_both-clause-out g c =
@@ -53,7 +53,7 @@ returns-in_err-write_both-clause-out g c =
     let is : log_of log remade ≡ new = ap (λ (kept : List ℕ). kept ++ remade.frames.items) (sym c.kept_of-kept.ensures) in
     let made : Makes (g.LR.Source.left c.args.log.now) (g.SR.Source.left c.args.store.now) =
     makes log text new (store_text remade.store) remade.report read (subst (λ l. Recovers log text l (store_text remade.store) remade.report) is (c.in_ok-remade.ensures.answer log text reads decodes)) in
-    rw (exit.1, exit.2) (left_out _ _ _ _ _ _ made c.in_err-write_both.field-0.0 c.in_err-write_both.ensures.fault)
+    rw (exit.1, exit.2) (left_out g.LW.Sink c.args.out_log.now c.write_both.new.log g.SW.Sink c.args.out_store.now c.write_both.new.store made c.in_err-write_both.field-0.0 c.in_err-write_both.ensures.fault)
 
 pub returns-in_err-write_both-clause-log_out_first : goal.returns-in_err-write_both-clause-log_out_first
 returns-in_err-write_both-clause-log_out_first g c =
@@ -81,7 +81,7 @@ returns-in_err-write_both-clause-resumable g c = λ base log_text store_bytes te
     let is : log_of log remade ≡ new = ap (λ (kept : List ℕ). kept ++ remade.frames.items) (sym c.kept_of-kept.ensures) in
     let recovered =
     subst (λ l. Recovered base bytes.decoded.read bytes.decoded.before l (store_text remade.store) remade.report) is (c.in_ok-remade.ensures.lawful base log text reads decodes (told_lawful log text log_text store_bytes read tells_log tells_store bytes)) in
-    rw (exit.1, exit.2) (leaves_cut bytes new recovered.reads (store_text remade.store) _ _ _ _ c.in_err-write_both.field-0.0 c.in_err-write_both.ensures.fault)
+    rw (exit.1, exit.2) (leaves_cut bytes new recovered.reads g.LW.Sink c.args.out_log.now c.write_both.new.log g.SW.Sink c.args.out_store.now c.write_both.new.store (store_text remade.store) c.in_err-write_both.field-0.0 c.in_err-write_both.ensures.fault)
 
 pub returns-in_err-write_both-clause-read_first : goal.returns-in_err-write_both-clause-read_first
 returns-in_err-write_both-clause-read_first g c =
@@ -111,7 +111,7 @@ returns-clause-lawful g c = λ base log_text store_bytes tells_log tells_store r
 
 pub returns-clause-interrupted : goal.returns-clause-interrupted
 returns-clause-interrupted g c = λ base log_text store_bytes tells_log tells_store range bytes.
-    completed bytes _ _ _ _ _ (returns-clause-lawful g c base log_text store_bytes tells_log tells_store range (cut_lawful bytes))
+    completed bytes _ _ _ _ _ _ _ (returns-clause-lawful g c base log_text store_bytes tells_log tells_store range (cut_lawful bytes))
 
 pub returns-clause-answer : goal.returns-clause-answer
 returns-clause-answer g c =

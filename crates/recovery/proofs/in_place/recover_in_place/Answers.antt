@@ -41,7 +41,7 @@ returns-in_err-remade-clause-left g c =
     let (text, read, decodes) = both_read c.in_ok-decoded.decoded c.in_ok-text.ensures.gave c.in_ok-decoded.was c.decode_both-records.ensures.store.read in
     let log = text_of c.in_ok-text.text in
     let reads = c.decode_both-records.ensures.log in
-    rw (exit.1, exit.2) (nothing_left _ _ _ _ _ log text c.args.options.now c.in_err-remade.field-0.0 (c.in_err-remade.ensures.cause log text reads decodes))
+    rw (exit.1, exit.2) (nothing_left g.LW.Sink c.args.out_log.now g.SW.Sink c.args.out_store.now _ _ log text c.args.options.now c.in_err-remade.field-0.0 (c.in_err-remade.ensures.cause log text reads decodes))
 
 pub returns-in_err-write_in_place-clause-tail_first : goal.returns-in_err-write_in_place-clause-tail_first
 returns-in_err-write_in_place-clause-tail_first g c =
@@ -68,7 +68,7 @@ returns-in_err-write_in_place-clause-tail_first g c =
     same_tail _ _ _ _ _ _ _ _ c.file_of-file.ensures.length count (c.file_of-file.ensures.end ∙ ap (λ (t : List ℕ). sum_of (end_of t)) c.kept_of-kept.ensures) frames_are in
     elim c.write_in_place.ensures.tail_first [
       | inl same ↦ inl same
-      | inr out ↦ inr (made, has_tail made _ _ _ _ _ tail out)
+      | inr out ↦ inr (made, has_tail made g.T.Sink c.args.tail.now c.write_in_place.new.tail _ tail out)
     ]
 
 pub returns-in_err-write_in_place-clause-log_first : goal.returns-in_err-write_in_place-clause-log_first
@@ -94,7 +94,7 @@ returns-in_err-write_in_place-clause-log_first g c =
     let frames_are = c.file_of-file.ensures.frames ∙ c.deref.ensures.value in
     elim c.write_in_place.ensures.log_first [
       | inl same ↦ inl same
-      | inr done ↦ inr (made, continued_as _ _ _ _ _ _ _ _ count frames_are done)
+      | inr done ↦ inr (made, continued_as _ _ _ _ _ _ _ count frames_are done)
     ]
 
 pub returns-in_err-write_in_place-clause-read_first : goal.returns-in_err-write_in_place-clause-read_first
@@ -126,7 +126,7 @@ returns-clause-tail_first g c =
     same_tail _ _ _ _ _ _ _ _ c.file_of-file.ensures.length count (c.file_of-file.ensures.end ∙ ap (λ (t : List ℕ). sum_of (end_of t)) c.kept_of-kept.ensures) frames_are in
     elim c.write_in_place.ensures.tail_first [
       | inl same ↦ inl same
-      | inr out ↦ inr (made, has_tail made _ _ _ _ _ tail out)
+      | inr out ↦ inr (made, has_tail made g.T.Sink c.args.tail.now c.write_in_place.new.tail _ tail out)
     ]
 
 pub returns-clause-log_first : goal.returns-clause-log_first
@@ -152,7 +152,7 @@ returns-clause-log_first g c =
     let frames_are = c.file_of-file.ensures.frames ∙ c.deref.ensures.value in
     elim c.write_in_place.ensures.log_first [
       | inl same ↦ inl same
-      | inr done ↦ inr (made, continued_as _ _ _ _ _ _ _ _ count frames_are done)
+      | inr done ↦ inr (made, continued_as _ _ _ _ _ _ _ count frames_are done)
     ]
 
 pub returns-clause-read_first : goal.returns-clause-read_first
@@ -181,9 +181,8 @@ returns-in_err-write_in_place-clause-left g c =
     let file = c.file_of-file.result in
     let count = kept_count file.kept remade.report.torn log _ c.file_of-file.ensures.kept c.kept_of-kept.ensures in
     let frames_are = c.file_of-file.ensures.frames ∙ c.deref.ensures.value in
-    let stays = stays_as file.kept kept file.frames.now remade.frames.items (store_text remade.store) (g.LW.Sink.taken c.args.out_log.now) (g.LW.Sink.taken c.write_in_place.new.log)
-    (g.LW.Sink.flushed c.args.out_log.now) (g.LW.Sink.flushed c.write_in_place.new.log) (g.SW.Sink.taken c.args.out_store.now) (g.SW.Sink.taken c.write_in_place.new.store) c.in_err-write_in_place.field-0.0 count frames_are c.in_err-write_in_place.ensures.fault in
-    rw (exit.1, exit.2) (left_in _ _ _ _ _ _ _ _ made c.in_err-write_in_place.field-0.0 stays)
+    let stays = stays_as g.LW.Sink c.args.out_log.now c.write_in_place.new.log g.SW.Sink c.args.out_store.now c.write_in_place.new.store file.kept kept file.frames.now remade.frames.items (store_text remade.store) c.in_err-write_in_place.field-0.0 count frames_are c.in_err-write_in_place.ensures.fault in
+    rw (exit.1, exit.2) (left_in g.LW.Sink c.args.out_log.now c.write_in_place.new.log g.SW.Sink c.args.out_store.now c.write_in_place.new.store made c.in_err-write_in_place.field-0.0 stays)
 
 pub returns-in_err-write_in_place-clause-resumable : goal.returns-in_err-write_in_place-clause-resumable
 returns-in_err-write_in_place-clause-resumable g c = λ base log_text store_bytes tells_log tells_store holds range bytes.
@@ -206,14 +205,12 @@ returns-in_err-write_in_place-clause-resumable g c = λ base log_text store_byte
     let file = c.file_of-file.result in
     let count = kept_count file.kept remade.report.torn log _ c.file_of-file.ensures.kept c.kept_of-kept.ensures in
     let frames_are = c.file_of-file.ensures.frames ∙ c.deref.ensures.value in
-    let stays = stays_as file.kept kept file.frames.now remade.frames.items (store_text remade.store) (g.LW.Sink.taken c.args.out_log.now) (g.LW.Sink.taken c.write_in_place.new.log)
-    (g.LW.Sink.flushed c.args.out_log.now) (g.LW.Sink.flushed c.write_in_place.new.log) (g.SW.Sink.taken c.args.out_store.now) (g.SW.Sink.taken c.write_in_place.new.store) c.in_err-write_in_place.field-0.0 count frames_are c.in_err-write_in_place.ensures.fault in
+    let stays = stays_as g.LW.Sink c.args.out_log.now c.write_in_place.new.log g.SW.Sink c.args.out_store.now c.write_in_place.new.store file.kept kept file.frames.now remade.frames.items (store_text remade.store) c.in_err-write_in_place.field-0.0 count frames_are c.in_err-write_in_place.ensures.fault in
     let same_log = told (g.LR.Source.left c.args.log.now) log log_text read.log_read tells_log in
     let same_store = told (g.SR.Source.left c.args.store.now) text store_bytes read.store_read tells_store in
     let lawful_bytes = told_lawful log text log_text store_bytes read tells_log tells_store bytes in
     let recovered = c.in_ok-remade.ensures.lawful base log text reads decodes lawful_bytes in
-    let cut = stays_cut lawful_bytes kept remade.frames.items (store_text remade.store) remade.report made.recovers refl recovered.reads (g.LW.Sink.taken c.args.out_log.now) (g.LW.Sink.taken c.write_in_place.new.log)
-    (g.LW.Sink.flushed c.args.out_log.now) (g.LW.Sink.flushed c.write_in_place.new.log) (g.SW.Sink.taken c.args.out_store.now) (g.SW.Sink.taken c.write_in_place.new.store) c.in_err-write_in_place.field-0.0
+    let cut = stays_cut lawful_bytes kept remade.frames.items (store_text remade.store) remade.report made.recovers refl recovered.reads g.LW.Sink c.args.out_log.now c.write_in_place.new.log g.SW.Sink c.args.out_store.now c.write_in_place.new.store c.in_err-write_in_place.field-0.0
     (holds ∙ ap (λ (t : List ℕ). Some t) (sym same_log)) stays in
     let after = g.LW.Sink.taken c.write_in_place.new.log in
     on_err c.from_residual-in_err-write_in_place.result
@@ -240,7 +237,7 @@ returns-clause-lawful g c = λ base log_text store_bytes tells_log tells_store h
     let file = c.file_of-file.result in
     let count = kept_count file.kept remade.report.torn log _ c.file_of-file.ensures.kept c.kept_of-kept.ensures in
     let frames_are = c.file_of-file.ensures.frames ∙ c.deref.ensures.value in
-    let done = continued_as _ _ _ _ _ _ _ _ count frames_are c.in_ok-write_in_place.ensures.log_done in
+    let done = continued_as _ _ _ _ _ _ _ count frames_are c.in_ok-write_in_place.ensures.log_done in
     let same_log = told (g.LR.Source.left c.args.log.now) log log_text read.log_read tells_log in
     let recovered = c.in_ok-remade.ensures.lawful base log text reads decodes (told_lawful log text log_text store_bytes read tells_log tells_store bytes) in
     record {
@@ -253,7 +250,7 @@ returns-clause-lawful g c = λ base log_text store_bytes tells_log tells_store h
 
 pub returns-clause-interrupted : goal.returns-clause-interrupted
 returns-clause-interrupted g c = λ base log_text store_bytes tells_log tells_store holds range bytes.
-    settled_in_place bytes _ _ _ _ (returns-clause-lawful g c base log_text store_bytes tells_log tells_store holds range (cut_lawful bytes))
+    settled_in_place bytes _ _ _ _ _ (returns-clause-lawful g c base log_text store_bytes tells_log tells_store holds range (cut_lawful bytes))
 
 pub returns-clause-answer : goal.returns-clause-answer
 returns-clause-answer g c =
@@ -276,5 +273,5 @@ returns-clause-answer g c =
     let file = c.file_of-file.result in
     let count = kept_count file.kept remade.report.torn log _ c.file_of-file.ensures.kept c.kept_of-kept.ensures in
     let frames_are = c.file_of-file.ensures.frames ∙ c.deref.ensures.value in
-    let done = continued_as _ _ _ _ _ _ _ _ count frames_are c.in_ok-write_in_place.ensures.log_done in
+    let done = continued_as _ _ _ _ _ _ _ count frames_are c.in_ok-write_in_place.ensures.log_done in
     record { made = made; report_is = refl; log_out = done.continued; store_out = c.in_ok-write_in_place.ensures.store_out.out }
