@@ -1,9 +1,10 @@
 -- What C gets of a fault (own).
-use Rattle.std.specs.Prelude.{◌≡◌, ◌<◌, ◌^◌, ◌⊎◌, ℕ, ⊤}
+use Rattle.std.specs.Prelude.{◌≡◌, ◌≢◌, ◌<◌, ◌^◌, ◌⊎◌, ℕ, ⊤}
 use Rattle.page.specs.Fault.{number_of}
 use Rattle.page.specs.declared.fault.Fault.{Fault}
 use Rattle.page.specs.declared.fault.Fault.TheVariants.{NoResource, ReadLog, ReadStore, WriteLog, WriteStore, BadLogHeader, BadLength, BadRecord, BadLsn, BadStoreHeader, StoreSize, BadPage, BadMaster, NoSuchPage, PageAheadOfLog, BrokenChain, BadParting, BadWorkers, Chain, AfterFinish, WrongCompensation, BeforeImage, DirtyWrite, EndTooEarly, PageImage, TransactionTable, DirtyTable, BadBase}
 use Rattle.aries_c.specs.declared.fault.Fault.{Fault as Told}
+use Rattle.aries_c.specs.declared.fault.TheConstants.{NO_ROOM, NOT_WRITABLE}
 
 -- the place that a fault carries, 0 if it carries none
 abbrev pub place_of : Fault → ℕ
@@ -65,6 +66,43 @@ not_writable = record { number = 65; place = 0 }
 abbrev pub IsOnlyMemory : Told → Type 0
 IsOnlyMemory told = (told ≡ done) ⊎ (told ≡ no_memory)
 
+-- nor except a lack of memory and a buffer that is too short
+abbrev pub IsOnlyMemoryOrRoom : Told → Type 0
+IsOnlyMemoryOrRoom told = (told ≡ done) ⊎ ((told ≡ no_memory) ⊎ (told ≡ no_room))
+
+-- memory was refused, or what is named is not writable, and this holds
+abbrev pub IsMemoryOrNotWritable : Type 0 → Told → Type 0
+IsMemoryOrNotWritable Holds told = (told ≡ no_memory) ⊎ ((told ≡ not_writable) × Holds)
+
+-- a buffer is too short, what is named is not there, or C gets a fault of which this holds
+abbrev pub TellsOrRefuses : (Fault → Type 0) → Told → Type 0
+TellsOrRefuses Holds told = (told ≡ no_room) ⊎ ((told ≡ not_writable) ⊎ Tells Holds told)
+
+-- BY THE NUMBER THAT A CALL RETURNS
+-- what holds if it succeeded
+abbrev pub OnDone : Told → Type 0 → Type 0
+OnDone told Holds = told.number ≡ 0 → Holds
+
+-- if it failed
+abbrev pub OnFailed : Told → Type 0 → Type 0
+OnFailed told Holds = told.number ≢ 0 → Holds
+
+-- if a buffer is too short
+abbrev pub OnNoRoom : Told → Type 0 → Type 0
+OnNoRoom told Holds = told.number ≡ NO_ROOM → Holds
+
+-- if it failed for another reason
+abbrev pub OnOtherFailure : Told → Type 0 → Type 0
+OnOtherFailure told Holds = told.number ≢ 0 → told.number ≢ NO_ROOM → Holds
+
+-- if what is named has no encoding, or is not there
+abbrev pub OnNotWritable : Told → Type 0 → Type 0
+OnNotWritable told Holds = told.number ≡ NOT_WRITABLE → Holds
+
+-- if it succeeded, or a buffer is too short
+abbrev pub OnMade : Told → Type 0 → Type 0
+OnMade told Holds = (told ≡ done) ⊎ (told ≡ no_room) → Holds
+
 -- BY ITS PLACE
 -- no place
 abbrev pub IsBare : Fault → Type 0
@@ -109,3 +147,11 @@ IsAtLsn fault = ⊥
 -- a fault of the library, whose page is a number of 32 bits
 abbrev pub IsFault : Fault → Type 0
 IsFault fault = IsBare fault ⊎ (IsAtLsn fault ⊎ IsOfPage fault)
+
+-- C gives the fault of this number and, unless it is one without a place, of this place
+abbrev pub NamesFault : Told → Type 0
+NamesFault told = (fault : Fault) × (number_of fault ≡ told.number) × (¬ IsBare fault → told_of fault ≡ told)
+
+-- C gives no fault of the library
+abbrev pub NamesNoFault : Told → Type 0
+NamesNoFault told = (fault : Fault) → IsFault fault → told ≢ told_of fault

@@ -54,6 +54,10 @@ pub record IsWritable (told : Told) (r : LogRecord) : Type 0 where
   pub whole : IsGivenWhole r
   pub fits : Fits r
 
+-- C gives no such record
+abbrev pub NamesNoRecord : Told → Type 0
+NamesNoRecord told = (r : LogRecord) → ¬ IsWritable told r
+
 -- the frame of the record that C gives, at its LSN
 abbrev pub IsFrame : Told → List ℕ → Type 0
 IsFrame told text = (r : LogRecord) × IsWritable told r × (0 < told.lsn) × (text ≡ frame r told.lsn)

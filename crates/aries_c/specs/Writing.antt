@@ -17,6 +17,18 @@ pub record LacksRoom (IsText : List ℕ → Type 0) (before : List ℕ) (told : 
   pub short : length before < length text
   pub length_is : told ≡ length text
 
+-- this holds of no text
+abbrev pub HasNoText : (List ℕ → Type 0) → Type 0
+HasNoText IsText = (text : List ℕ) → ¬ IsText text
+
+-- after its first places a buffer is as before
+abbrev pub KeepsRest : {T : Type 0} → (count : ℕ) → (before after : List T) → Type 0
+KeepsRest count before after = drop count after ≡ drop count before
+
+-- the buffer is too short for this text, and is as before
+abbrev pub LeavesShort : (text before after : List ℕ) → Type 0
+LeavesShort text before after = (length before < length text) × (after ≡ before)
+
 -- what a writer may return if it takes no memory, and if it does
 abbrev pub IsAnswer : Told → Type 0
 IsAnswer told = (told ≡ done) ⊎ ((told ≡ no_room) ⊎ (told ≡ not_writable))

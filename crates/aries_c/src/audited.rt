@@ -1,10 +1,9 @@
 //! The audit of bytes.
 
-ghost use Rattle.std.specs.Prelude.{◌≡◌, ◌≢◌};
 ghost use Rattle.wal.specs.Meaning.{no_base};
 ghost use Rattle.recovery.specs.Recovery.{AreLawful};
 ghost use Rattle.recovery.specs.Audit.{AuditFault, AreLawfulOver, AuditFaultOver};
-ghost use Rattle.aries_c.specs.Fault.{Tells, done, IsOnlyMemory};
+ghost use Rattle.aries_c.specs.Fault.{Tells, IsOnlyMemory, OnDone, OnFailed};
 
 use crate::Fault;
 use recovery::{audit_texts, audit_texts_over};
@@ -15,8 +14,8 @@ use std::alloc::Global;
 /// the number and the place of the fault of [`audit_texts`]: the first broken law.
 #[unsafe(no_mangle)]
 pub extern "C" fn aries_audit(alloc: Global, log: &[u8], store: &[u8]) -> Fault
-    ensures ok { result.number ≡ 0 → AreLawful no_base log.now store.now }
-    ensures fault { result.number ≢ 0 → Tells (AuditFault log.now store.now) result }
+    ensures ok { OnDone result (AreLawful no_base log.now store.now) }
+    ensures fault { OnFailed result (Tells (AuditFault log.now store.now) result) }
     // For lawful bytes the only error is a lack of memory.
     ensures lawful { AreLawful no_base log.now store.now → IsOnlyMemory result }
 {
@@ -31,8 +30,8 @@ pub extern "C" fn aries_audit(alloc: Global, log: &[u8], store: &[u8]) -> Fault
 /// Otherwise the result is the number and the place of the fault of [`audit_texts_over`].
 #[unsafe(no_mangle)]
 pub extern "C" fn aries_audit_from(alloc: Global, log: &[u8], store: &[u8], base: &[u8]) -> Fault
-    ensures ok { result.number ≡ 0 → AreLawfulOver log.now store.now base.now }
-    ensures fault { result.number ≢ 0 → Tells (AuditFaultOver log.now store.now base.now) result }
+    ensures ok { OnDone result (AreLawfulOver log.now store.now base.now) }
+    ensures fault { OnFailed result (Tells (AuditFaultOver log.now store.now base.now) result) }
     // For lawful bytes the only error is a lack of memory.
     ensures lawful { AreLawfulOver log.now store.now base.now → IsOnlyMemory result }
 {

@@ -1,11 +1,11 @@
 //! The tables of a checkpoint end as C reads and writes them.
 
-ghost use Rattle.std.specs.Prelude.{◌≡◌, ◌≢◌, ◌≤◌, ℕ, List, IfOk, IfErr, ◌⊎◌, length, map};
+ghost use Rattle.std.specs.Prelude.{◌≡◌, ◌≢◌, ◌≤◌, IfOk, IfErr, length, map};
 ghost use Rattle.wal.specs.declared.record.State.{State as Content};
 ghost use Rattle.wal.specs.Records.{TableEntry};
 ghost use Rattle.wal.specs.Content.{entry_of};
-ghost use Rattle.aries_c.specs.Fault.{no_memory, not_writable};
-ghost use Rattle.aries_c.specs.Tables.{state_number, told_entry, told_dirty, Fills};
+ghost use Rattle.aries_c.specs.Fault.{no_memory, not_writable, IsMemoryOrNotWritable};
+ghost use Rattle.aries_c.specs.Tables.{state_number, told_entry, told_dirty, Fills, NamesNoTable};
 
 use crate::Fault;
 use std::alloc::Global;
@@ -119,8 +119,7 @@ fn entry_named(entry: &Entry) -> Result<(u32, wal::Entry), Fault>
 /// The entries that C gives.
 pub fn entries_named(alloc: Global, entries: &[Entry]) -> Result<Vec<(u32, wal::Entry)>, Fault>
     ensures found { IfOk result (λ x. map told_entry (map entry_of x.items) ≡ entries.now) }
-    ensures err { IfErr result (λ e. (e ≡ no_memory) ⊎ ((e ≡ not_writable)
-        × ((table : List TableEntry) → map told_entry table ≢ entries.now))) }
+    ensures err { IfErr result (IsMemoryOrNotWritable (NamesNoTable entries.now)) }
 {
     let mut named = Vec::with_capacity(alloc, entries.len())?;
     for entry in entries {

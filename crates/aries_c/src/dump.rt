@@ -1,13 +1,12 @@
 //! The records of a log, for a dump.
 
-ghost use Rattle.std.specs.Prelude.{◌≡◌, ◌≢◌, ◌+◌, ◌-◌, ◌<◌, ◌≤◌, ◌⊎◌, ℕ, List, length, drop, max, min, slice_index_or, Some, IfSome, IfNone};
-ghost use Rattle.wal.specs.Records.{TableEntry, LogContent, CheckpointEnd, history, last_lsn, base_lsn, record_at};
-ghost use Rattle.wal.specs.Reads.{Reads, Cause};
-ghost use Rattle.aries_c.specs.declared.fault.TheConstants.{NO_ROOM, NOT_WRITABLE};
-ghost use Rattle.aries_c.specs.declared.record.Record.{Record as Told};
-ghost use Rattle.aries_c.specs.Fault.{Tells, no_room, not_writable};
-ghost use Rattle.aries_c.specs.Tables.{HasTables, NamesCounts, Fills, told_entry, told_dirty};
-ghost use Rattle.aries_c.specs.Dump.{TellsRecord, first_asked, Dumps};
+ghost use Rattle.std.specs.Prelude.{◌≡◌, ◌+◌, ◌-◌, ◌<◌, length, min, IfSome, IfNone};
+ghost use Rattle.wal.specs.Records.{history, last_lsn, base_lsn};
+ghost use Rattle.wal.specs.Reads.{Cause};
+ghost use Rattle.aries_c.specs.Fault.{Tells, TellsOrRefuses, OnDone, OnFailed, OnNoRoom, OnOtherFailure, OnNotWritable};
+ghost use Rattle.aries_c.specs.Tables.{HasTables, IsEndAt, HasNoTables, TellsTables, TablesExceed};
+ghost use Rattle.aries_c.specs.Writing.{KeepsRest};
+ghost use Rattle.aries_c.specs.Dump.{TellsEach, DumpsBytes};
 
 use crate::checkpoint::{fill_dirty, fill_entries};
 use crate::{DirtyPage, Entry, Fault, Record, Tables};
@@ -30,9 +29,8 @@ pub struct Read {
 fn fill(log: &Log, from: u64, out: &mut [Record]) -> usize
     requires { base_lsn (history log.now) < from }
     ensures given { result ≡ min (length out.old) ((last_lsn (history log.now) + 1) - from) }
-    ensures each { (i : ℕ) (d : Told) → i < result
-        → TellsRecord (history log.now) (from + i) (slice_index_or out.new i d) }
-    ensures behind { drop result out.new ≡ drop result out.old }
+    ensures each { TellsEach (history log.now) from result out.new }
+    ensures behind { KeepsRest result out.old out.new }
 {
     let left = log.next_lsn().saturating_sub(from);
     let given = out.len().min(left as usize);
@@ -56,10 +54,9 @@ pub extern "C" fn aries_records(
     out: &mut [Record],
     read: &mut Read,
 ) -> Fault
-    ensures dumps { result.number ≡ 0 → (content : LogContent) × (torn : ℕ)
-        × Reads log.now content torn × Dumps content torn first out.old out.new read.new }
-    ensures fault { result.number ≢ 0 → Tells (Cause log.now) result }
-    ensures kept { result.number ≢ 0 → (out.new ≡ out.old) × (read.new ≡ read.old) }
+    ensures dumps { OnDone result (DumpsBytes log.now first out.old out.new read.new) }
+    ensures fault { OnFailed result (Tells (Cause log.now) result) }
+    ensures kept { OnFailed result ((out.new ≡ out.old) × (read.new ≡ read.old)) }
 {
     match read_log(alloc, log) {
         Ok((log, torn)) => {
@@ -78,10 +75,8 @@ pub extern "C" fn aries_records(
 
 /// The LSN of the begin record, and the tables, of the checkpoint end at an LSN.
 fn tables_at<'a>(log: &Log<'a>, lsn: u64) -> Option<(u64, TransactionTable<'a>, DirtyTable<'a>)>
-    ensures found { IfSome result (λ x. record_at (history log.now) lsn
-        ≡ Some (CheckpointEnd x.0 x.1 x.2)) }
-    ensures none { IfNone result ((begin : ℕ) (entries : List TableEntry) (pages : List (ℕ × ℕ))
-        → record_at (history log.now) lsn ≢ Some (CheckpointEnd begin entries pages)) }
+    ensures found { IfSome result (λ x. IsEndAt (history log.now) lsn x.0 x.1 x.2) }
+    ensures none { IfNone result (HasNoTables (IsEndAt (history log.now) lsn)) }
 {
     match log.get(lsn)? {
         RecordView::CheckpointEnd {
@@ -113,22 +108,15 @@ pub extern "C" fn aries_checkpoint(
     dirty: &mut [DirtyPage],
     tables: &mut Tables,
 ) -> Fault
-    ensures tables { result.number ≡ 0 → (begin : ℕ) × (entries : List TableEntry)
-        × (pages : List (ℕ × ℕ)) × HasTables log.now lsn begin entries pages
-        × NamesCounts begin entries pages tables.new
-        × Fills told_entry entries transactions.old transactions.new
-        × Fills told_dirty pages dirty.old dirty.new }
-    ensures no_room { result.number ≡ NO_ROOM → (begin : ℕ) × (entries : List TableEntry)
-        × (pages : List (ℕ × ℕ)) × HasTables log.now lsn begin entries pages
-        × NamesCounts begin entries pages tables.new
-        × ((length transactions.old < length entries) ⊎ (length dirty.old < length pages)) }
-    ensures none { result.number ≡ NOT_WRITABLE → (begin : ℕ) (entries : List TableEntry)
-        (pages : List (ℕ × ℕ)) → ¬ HasTables log.now lsn begin entries pages }
-    ensures fault { result.number ≢ 0 → (result ≡ no_room) ⊎ ((result ≡ not_writable)
-        ⊎ Tells (Cause log.now) result) }
-    ensures kept { result.number ≢ 0
-        → (transactions.new ≡ transactions.old) × (dirty.new ≡ dirty.old) }
-    ensures untold { result.number ≢ 0 → result.number ≢ NO_ROOM → tables.new ≡ tables.old }
+    ensures tables { OnDone result
+        (TellsTables log.now lsn transactions.old transactions.new dirty.old dirty.new tables.new) }
+    ensures no_room { OnNoRoom result
+        (TablesExceed log.now lsn transactions.old dirty.old tables.new) }
+    ensures none { OnNotWritable result (HasNoTables (HasTables log.now lsn)) }
+    ensures fault { OnFailed result (TellsOrRefuses (Cause log.now) result) }
+    ensures kept { OnFailed result
+        ((transactions.new ≡ transactions.old) × (dirty.new ≡ dirty.old)) }
+    ensures untold { OnOtherFailure result (tables.new ≡ tables.old) }
 {
     let log = match read_log(alloc, log) {
         Ok((log, _)) => log,

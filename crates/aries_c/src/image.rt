@@ -1,10 +1,10 @@
 //! Values as C reads and writes them.
 
-ghost use Rattle.std.specs.Prelude.{◌≡◌, ◌≤◌, length, option_map, IfOk, IfErr, IfSome, Some, None};
-ghost use Rattle.page.specs.Image.{Image as Content, FitsSlot};
+ghost use Rattle.std.specs.Prelude.{◌≡◌, ◌≤◌, length, option_map, IfOk, IfErr, IfSome, Some, None, OnErr};
+ghost use Rattle.page.specs.Image.{FitsSlot};
 ghost use Rattle.page.specs.declared.sizes.TheConstants.{VALUE_BYTES};
 ghost use Rattle.aries_c.specs.Fault.{not_writable};
-ghost use Rattle.aries_c.specs.Image.{NamesImage};
+ghost use Rattle.aries_c.specs.Image.{NamesImage, NamesNoImage};
 
 use crate::Fault;
 use page::{VALUE_BYTES, Value};
@@ -71,8 +71,7 @@ impl Image {
         ensures found { IfOk result (NamesImage self.now) }
         ensures fits { IfOk result FitsSlot }
         ensures err { IfErr result (λ e. e ≡ not_writable) }
-        ensures only { IfErr result (λ _. (image : Content) → NamesImage self.now image
-            → FitsSlot image → ⊥) }
+        ensures only { OnErr result (NamesNoImage self.now) }
     {
         if self.length == ABSENT {
             return Ok(None);

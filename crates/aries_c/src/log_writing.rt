@@ -1,14 +1,13 @@
 //! What an engine writes of a log: its header, and the frames of its records.
 
-ghost use Rattle.std.specs.Prelude.{◌≡◌, ◌≢◌, ◌<◌, ◌≤◌, ℕ, List, ◌⊎◌, IfOk, IfErr};
+ghost use Rattle.std.specs.Prelude.{◌≡◌, ◌<◌, IfOk, IfErr};
 ghost use Rattle.wal.specs.Spelling.{Fits, frame};
 ghost use Rattle.wal.specs.Content.{content};
-ghost use Rattle.aries_c.specs.declared.fault.TheConstants.{NO_ROOM, NOT_WRITABLE};
-ghost use Rattle.aries_c.specs.Fault.{no_memory, not_writable};
+ghost use Rattle.aries_c.specs.Fault.{IsMemoryOrNotWritable, OnDone, OnFailed, OnNoRoom, OnOtherFailure, OnNotWritable};
 ghost use Rattle.aries_c.specs.LogHeader.{IsLogHeader};
 ghost use Rattle.aries_c.specs.Record.{IsFrame};
-ghost use Rattle.aries_c.specs.Tables.{IsEndFrame};
-ghost use Rattle.aries_c.specs.Writing.{Wrote, LacksRoom, IsAnswer, IsAnswerOrMemory};
+ghost use Rattle.aries_c.specs.Tables.{IsEndFrame, HasNoEndFrame};
+ghost use Rattle.aries_c.specs.Writing.{Wrote, LacksRoom, IsAnswer, IsAnswerOrMemory, HasNoText};
 
 use crate::checkpoint::{dirty_named, entries_named};
 use crate::record::with_spelling;
@@ -27,15 +26,13 @@ pub extern "C" fn aries_write_log_header(
     out: &mut [u8],
     told: &mut usize,
 ) -> Fault
-    ensures written { result.number ≡ 0
-        → Wrote (IsLogHeader version base_lsn) out.old out.new told.new }
-    ensures no_room { result.number ≡ NO_ROOM
-        → LacksRoom (IsLogHeader version base_lsn) out.old told.new }
-    ensures not_writable { result.number ≡ NOT_WRITABLE
-        → (text : List ℕ) → ¬ IsLogHeader version base_lsn text }
+    ensures written { OnDone result
+        (Wrote (IsLogHeader version base_lsn) out.old out.new told.new) }
+    ensures no_room { OnNoRoom result (LacksRoom (IsLogHeader version base_lsn) out.old told.new) }
+    ensures not_writable { OnNotWritable result (HasNoText (IsLogHeader version base_lsn)) }
     ensures answer { IsAnswer result }
-    ensures kept { result.number ≢ 0 → out.new ≡ out.old }
-    ensures untold { result.number ≡ NOT_WRITABLE → told.new ≡ told.old }
+    ensures kept { OnFailed result (out.new ≡ out.old) }
+    ensures untold { OnNotWritable result (told.new ≡ told.old) }
 {
     match version {
         1 if base_lsn == 0 => put(&plain_header(), out, told),
@@ -49,7 +46,7 @@ fn frame_of(alloc: Global, logged: &wal::Record, lsn: u64) -> Result<Vec<u8>, Fa
     requires { Fits (content logged.now) }
     ensures found { IfOk result (λ text. text.items ≡ frame (content logged.now) lsn) }
     ensures lsn { IfOk result (λ _. 0 < lsn) }
-    ensures err { IfErr result (λ e. (e ≡ no_memory) ⊎ ((e ≡ not_writable) × (lsn ≡ 0))) }
+    ensures err { IfErr result (IsMemoryOrNotWritable (lsn ≡ 0)) }
 {
     if lsn == 0 {
         return Err(Fault::not_writable());
@@ -68,12 +65,12 @@ pub extern "C" fn aries_write_record(
     out: &mut [u8],
     told: &mut usize,
 ) -> Fault
-    ensures written { result.number ≡ 0 → Wrote (IsFrame named.now) out.old out.new told.new }
-    ensures no_room { result.number ≡ NO_ROOM → LacksRoom (IsFrame named.now) out.old told.new }
-    ensures not_writable { result.number ≡ NOT_WRITABLE → (text : List ℕ) → ¬ IsFrame named.now text }
+    ensures written { OnDone result (Wrote (IsFrame named.now) out.old out.new told.new) }
+    ensures no_room { OnNoRoom result (LacksRoom (IsFrame named.now) out.old told.new) }
+    ensures not_writable { OnNotWritable result (HasNoText (IsFrame named.now)) }
     ensures answer { IsAnswerOrMemory result }
-    ensures kept { result.number ≢ 0 → out.new ≡ out.old }
-    ensures untold { result.number ≢ 0 → result.number ≢ NO_ROOM → told.new ≡ told.old }
+    ensures kept { OnFailed result (out.new ≡ out.old) }
+    ensures untold { OnOtherFailure result (told.new ≡ told.old) }
 {
     match record_frame(alloc, named) {
         Ok(frame) => put(&frame, out, told),
@@ -84,8 +81,7 @@ pub extern "C" fn aries_write_record(
 /// The frame of the record that C gives.
 fn record_frame(alloc: Global, named: &Record) -> Result<Vec<u8>, Fault>
     ensures found { IfOk result (λ text. IsFrame named.now text.items) }
-    ensures err { IfErr result (λ e. (e ≡ no_memory)
-        ⊎ ((e ≡ not_writable) × ((text : List ℕ) → ¬ IsFrame named.now text))) }
+    ensures err { IfErr result (IsMemoryOrNotWritable (HasNoText (IsFrame named.now))) }
 {
     let record = named.writable()?;
     frame_of(alloc, &record, named.lsn)
@@ -101,8 +97,8 @@ fn end_frame(
 ) -> Result<Vec<u8>, Fault>
     ensures found { IfOk result (λ text.
         IsEndFrame lsn begin transactions.now dirty.now text.items) }
-    ensures err { IfErr result (λ e. (e ≡ no_memory) ⊎ ((e ≡ not_writable)
-        × ((text : List ℕ) → ¬ IsEndFrame lsn begin transactions.now dirty.now text))) }
+    ensures err { IfErr result
+        (IsMemoryOrNotWritable (HasNoEndFrame lsn begin transactions.now dirty.now)) }
 {
     let end = wal::Record::CheckpointEnd {
         begin,
@@ -126,15 +122,15 @@ pub extern "C" fn aries_write_checkpoint_end(
     out: &mut [u8],
     told: &mut usize,
 ) -> Fault
-    ensures written { result.number ≡ 0
-        → Wrote (IsEndFrame lsn begin transactions.now dirty.now) out.old out.new told.new }
-    ensures no_room { result.number ≡ NO_ROOM
-        → LacksRoom (IsEndFrame lsn begin transactions.now dirty.now) out.old told.new }
-    ensures not_writable { result.number ≡ NOT_WRITABLE
-        → (text : List ℕ) → ¬ IsEndFrame lsn begin transactions.now dirty.now text }
+    ensures written { OnDone result
+        (Wrote (IsEndFrame lsn begin transactions.now dirty.now) out.old out.new told.new) }
+    ensures no_room { OnNoRoom result
+        (LacksRoom (IsEndFrame lsn begin transactions.now dirty.now) out.old told.new) }
+    ensures not_writable { OnNotWritable result
+        (HasNoEndFrame lsn begin transactions.now dirty.now) }
     ensures answer { IsAnswerOrMemory result }
-    ensures kept { result.number ≢ 0 → out.new ≡ out.old }
-    ensures untold { result.number ≢ 0 → result.number ≢ NO_ROOM → told.new ≡ told.old }
+    ensures kept { OnFailed result (out.new ≡ out.old) }
+    ensures untold { OnOtherFailure result (told.new ≡ told.old) }
 {
     match end_frame(alloc, lsn, begin, transactions, dirty) {
         Ok(frame) => put(&frame, out, told),

@@ -1,13 +1,11 @@
 //! A store's header, and the images of its pages.
 
-ghost use Rattle.std.specs.Prelude.{◌≡◌, ◌≢◌, ◌<◌, ◌≤◌, ℕ, List, IfOk, IfErr, length};
-ghost use Rattle.page.specs.declared.page.Page.{Page as Content};
+ghost use Rattle.std.specs.Prelude.{◌≡◌, ◌<◌, IfOk, IfErr, OnErr};
 ghost use Rattle.page.specs.declared.fault.Fault.TheVariants.{BadPage};
-ghost use Rattle.page.specs.Image.{FitsPage, SpellsPage};
-ghost use Rattle.aries_c.specs.declared.fault.TheConstants.{NO_ROOM, NOT_WRITABLE};
-ghost use Rattle.aries_c.specs.Fault.{done, told_of, not_writable};
-ghost use Rattle.aries_c.specs.Pages.{NamesPage, IsStoreHeader, IsPageImage};
-ghost use Rattle.aries_c.specs.Writing.{Wrote, LacksRoom, IsAnswer};
+ghost use Rattle.page.specs.Image.{SpellsPage};
+ghost use Rattle.aries_c.specs.Fault.{told_of, not_writable, OnDone, OnFailed, OnNoRoom, OnNotWritable};
+ghost use Rattle.aries_c.specs.Pages.{NamesPage, IsStoreHeader, IsPageImage, NamesNoPage, TellsPage, HasNoPage};
+ghost use Rattle.aries_c.specs.Writing.{Wrote, LacksRoom, IsAnswer, HasNoText};
 
 use crate::room::put;
 use crate::{Fault, Image};
@@ -42,8 +40,7 @@ impl Page {
     fn page(&self) -> Result<page::Page, Fault>
         ensures found { IfOk result (NamesPage self.now) }
         ensures err { IfErr result (λ e. e ≡ not_writable) }
-        ensures only { IfErr result (λ _. (page : Content) → NamesPage self.now page
-            → FitsPage page → ⊥) }
+        ensures only { OnErr result (NamesNoPage self.now) }
     {
         let mut slots: [Option<Value>; SLOTS] = [None; SLOTS];
         for (i, image) in self.slots.iter().enumerate() {
@@ -66,15 +63,12 @@ pub extern "C" fn aries_write_store_header(
     out: &mut [u8],
     told: &mut usize,
 ) -> Fault
-    ensures written { result.number ≡ 0
-        → Wrote (IsStoreHeader pages master) out.old out.new told.new }
-    ensures no_room { result.number ≡ NO_ROOM
-        → LacksRoom (IsStoreHeader pages master) out.old told.new }
-    ensures not_writable { result.number ≡ NOT_WRITABLE
-        → (text : List ℕ) → ¬ IsStoreHeader pages master text }
+    ensures written { OnDone result (Wrote (IsStoreHeader pages master) out.old out.new told.new) }
+    ensures no_room { OnNoRoom result (LacksRoom (IsStoreHeader pages master) out.old told.new) }
+    ensures not_writable { OnNotWritable result (HasNoText (IsStoreHeader pages master)) }
     ensures answer { IsAnswer result }
-    ensures kept { result.number ≢ 0 → out.new ≡ out.old }
-    ensures untold { result.number ≡ NOT_WRITABLE → told.new ≡ told.old }
+    ensures kept { OnFailed result (out.new ≡ out.old) }
+    ensures untold { OnNotWritable result (told.new ≡ told.old) }
 {
     if pages == 0 || pages as usize > PAGES {
         return Fault::not_writable();
@@ -86,13 +80,12 @@ pub extern "C" fn aries_write_store_header(
 /// 49 to 254; 64: the buffer is too short.
 #[unsafe(no_mangle)]
 pub extern "C" fn aries_write_page(page: &Page, out: &mut [u8], told: &mut usize) -> Fault
-    ensures written { result.number ≡ 0 → Wrote (IsPageImage page.now) out.old out.new told.new }
-    ensures no_room { result.number ≡ NO_ROOM → LacksRoom (IsPageImage page.now) out.old told.new }
-    ensures not_writable { result.number ≡ NOT_WRITABLE
-        → (text : List ℕ) → ¬ IsPageImage page.now text }
+    ensures written { OnDone result (Wrote (IsPageImage page.now) out.old out.new told.new) }
+    ensures no_room { OnNoRoom result (LacksRoom (IsPageImage page.now) out.old told.new) }
+    ensures not_writable { OnNotWritable result (HasNoText (IsPageImage page.now)) }
     ensures answer { IsAnswer result }
-    ensures kept { result.number ≢ 0 → out.new ≡ out.old }
-    ensures untold { result.number ≡ NOT_WRITABLE → told.new ≡ told.old }
+    ensures kept { OnFailed result (out.new ≡ out.old) }
+    ensures untold { OnNotWritable result (told.new ≡ told.old) }
 {
     match page.page() {
         Ok(page) => put(&encode_page(&page), out, told),
@@ -104,11 +97,10 @@ pub extern "C" fn aries_write_page(page: &Page, out: &mut [u8], told: &mut usize
 /// the page number, and `page` is left as it is.
 #[unsafe(no_mangle)]
 pub extern "C" fn aries_read_page(bytes: &[u8], number: u32, page: &mut Page) -> Fault
-    ensures read { result.number ≡ 0 → (content : Content) × SpellsPage bytes.now content
-        × (content.number ≡ number) × NamesPage page.new content }
-    ensures bad { result.number ≢ 0 → (result ≡ told_of (BadPage number))
-        × ((content : Content) → SpellsPage bytes.now content → content.number ≢ number) }
-    ensures kept { result.number ≢ 0 → page.new ≡ page.old }
+    ensures read { OnDone result (TellsPage bytes.now number page.new) }
+    ensures bad { OnFailed result
+        ((result ≡ told_of (BadPage number)) × HasNoPage bytes.now number) }
+    ensures kept { OnFailed result (page.new ≡ page.old) }
 {
     match page_in(bytes, number) {
         Ok(read) => {
@@ -122,8 +114,7 @@ pub extern "C" fn aries_read_page(bytes: &[u8], number: u32, page: &mut Page) ->
 /// The page of this number that the bytes encode.
 fn page_in(bytes: &[u8], number: u32) -> Result<page::Page, page::Fault>
     ensures found { IfOk result (λ page. SpellsPage bytes.now page × (page.number ≡ number)) }
-    ensures bad { IfErr result (λ e. (e ≡ BadPage number)
-        × ((page : Content) → SpellsPage bytes.now page → page.number ≢ number)) }
+    ensures bad { IfErr result (λ e. (e ≡ BadPage number) × HasNoPage bytes.now number) }
 {
     if bytes.len() != PAGE_BYTES {
         return Err(page::Fault::BadPage(number));

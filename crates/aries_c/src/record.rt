@@ -1,11 +1,10 @@
 //! Records as C reads and writes them.
 
 ghost use Rattle.std.specs.Prelude.{◌≡◌, IfOk, IfErr, OnOk, OnErr};
-ghost use Rattle.wal.specs.Records.{LogRecord};
 ghost use Rattle.wal.specs.Spelling.{Fits};
 ghost use Rattle.wal.specs.Content.{content, shown};
 ghost use Rattle.aries_c.specs.Fault.{not_writable};
-ghost use Rattle.aries_c.specs.Record.{Names, IsGivenWhole, IsWritable};
+ghost use Rattle.aries_c.specs.Record.{Names, IsGivenWhole, IsWritable, NamesNoRecord};
 
 use crate::{Fault, Image};
 use wal::RecordView;
@@ -119,7 +118,7 @@ impl Record {
         ensures names { IfOk result (λ r. Names self.now (content r)) }
         ensures whole { IfOk result (λ r. IsGivenWhole (content r)) }
         ensures err { IfErr result (λ e. e ≡ not_writable) }
-        ensures only { IfErr result (λ _. (r : LogRecord) → IsWritable self.now r → ⊥) }
+        ensures only { OnErr result (NamesNoRecord self.now) }
     {
         let tx = self.tx;
         let prev = self.prev;
@@ -153,7 +152,7 @@ impl Record {
     pub fn writable(&self) -> Result<wal::Record, Fault>
         ensures found { IfOk result (λ r. IsWritable self.now (content r)) }
         ensures err { IfErr result (λ e. e ≡ not_writable) }
-        ensures only { IfErr result (λ _. (r : LogRecord) → IsWritable self.now r → ⊥) }
+        ensures only { OnErr result (NamesNoRecord self.now) }
     {
         with_spelling(self.named()?)
     }

@@ -1,16 +1,10 @@
 //! Recovery from bytes to bytes.
 
-ghost use Rattle.std.specs.Prelude.{◌≡◌, ◌≢◌, ◌-◌, ◌*◌, ◌++◌, ◌<◌, ◌≤◌, ◌⊎◌, length, take, drop, IfOk, IfErr, MatchResult};
-ghost use Rattle.page.specs.declared.fault.Fault.TheVariants.{NoResource};
-ghost use Rattle.page.specs.File.{store_text};
-ghost use Rattle.wal.specs.Meaning.{BasePages};
-ghost use Rattle.wal.specs.Reads.{log_text};
-ghost use Rattle.wal.specs.Store.{store_out};
-ghost use Rattle.wal.specs.Tail.{with_tail};
-ghost use Rattle.recovery.specs.Recovery.{Recovers, Recovered as AreRecovered, AreLawful, AreCut, RecoveryCause, new_log as log_made};
-ghost use Rattle.aries_c.specs.declared.fault.TheConstants.{NO_ROOM};
-ghost use Rattle.aries_c.specs.Fault.{Tells, done, no_memory, no_room};
-ghost use Rattle.aries_c.specs.Recovered.{log_in_buffers, new_store, report_told, TellsLengths, IsShort};
+ghost use Rattle.std.specs.Prelude.{◌≡◌, ◌-◌, ◌++◌, ◌≤◌, length, take, drop, IfOk, IfErr};
+ghost use Rattle.recovery.specs.Recovery.{Recovers, new_log as log_made};
+ghost use Rattle.aries_c.specs.Fault.{Tells, IsOnlyMemoryOrRoom, OnDone, OnFailed, OnNoRoom, OnOtherFailure, OnMade};
+ghost use Rattle.aries_c.specs.Recovered.{report_told, TellsLengths, IsShort, RecoversIn, IfLawful, RestoresBytes, RestoresIn, HasShortFrames, HasShortTail, ResumesLog, ResumesStore, CauseAlone};
+ghost use Rattle.aries_c.specs.Writing.{KeepsRest};
 
 use crate::Fault;
 use crate::room::copy_to;
@@ -78,16 +72,12 @@ fn copy_numbers(numbers: &[u32], out: &mut [u32])
 
 /// What is made of a log and a store in these bytes, in the caller's thread.
 fn recovery_in<'a>(alloc: Global, log: &'a [u8], store: &[u8]) -> Result<Recovery<'a>, page::Fault>
-    ensures lawful { (base : BasePages) (bytes : AreLawful base log.now store.now)
-        → MatchResult result (λ x. AreRecovered base bytes.decoded.read bytes.decoded.before
-        (log_made x) x.store.items x.report) (λ e. e ≡ NoResource) }
+    ensures lawful { RestoresBytes log.now store.now result }
     ensures answer { IfOk result (λ x. Recovers log.now store.now
         (log_made x) x.store.items x.report) }
-    ensures cause { IfErr result (RecoveryCause log.now store.now (record { workers = 1; parts = 1 })) }
-    ensures kept { IfOk result (λ x. x.kept.now
-        ≡ take (length log.now - x.report.torn) log.now) }
-    ensures short { (base : BasePages) → AreLawful base log.now store.now
-        → IfOk result (λ x. length x.frames.items ≤ 2 * length log.now) }
+    ensures cause { IfErr result (CauseAlone log.now store.now) }
+    ensures kept { IfOk result (λ x. x.kept.now ≡ take (length log.now - x.report.torn) log.now) }
+    ensures short { IfLawful log.now store.now (IfOk result (HasShortFrames log.now)) }
 {
     let store = Vec::from_slice(alloc, store)?;
     recovery_alone(alloc, log, store)
@@ -113,44 +103,34 @@ pub extern "C" fn aries_recover(
     made: &mut Recovered,
 ) -> Fault
     // On success.
-    ensures answer { result.number ≡ 0 → Recovers log.now store.now
-        (log_in_buffers log.now tail.new made.new) (new_store out_store.new made.new)
-        (report_told made.new (take made.new.in_doubt in_doubt.new)) }
+    ensures answer { RecoversIn log.now store.now tail.new out_store.new
+        in_doubt.new made.new result }
 
     // For the bytes of a log and its store that are lawful over any base pages.
-    ensures lawful { (base : BasePages) (bytes : AreLawful base log.now store.now)
-        → result.number ≡ 0 → AreRecovered base bytes.decoded.read bytes.decoded.before
-        (log_in_buffers log.now tail.new made.new) (new_store out_store.new made.new)
-        (report_told made.new (take made.new.in_doubt in_doubt.new)) }
-    ensures lawful_refused { (base : BasePages) → AreLawful base log.now store.now
-        → (result ≡ done) ⊎ ((result ≡ no_memory) ⊎ (result ≡ no_room)) }
+    ensures lawful { RestoresIn log.now store.now tail.new out_store.new
+        in_doubt.new made.new result }
+    ensures lawful_refused { IfLawful log.now store.now (IsOnlyMemoryOrRoom result) }
     // The tail of a lawful log takes at most twice its bytes.
-    ensures lawful_tail { (base : BasePages) → AreLawful base log.now store.now
-        → (result ≡ done) ⊎ (result ≡ no_room) → made.new.tail_length ≤ 2 * length log.now }
+    ensures lawful_tail { IfLawful log.now store.now
+        (OnMade result (HasShortTail log.now made.new)) }
 
     // For what an interrupted recovery of them may leave: what that recovery would have made.
-    ensures interrupted_log { (base : BasePages) (bytes : AreCut base log.now store.now)
-        → result.number ≡ 0 → log_in_buffers log.now tail.new made.new
-        ≡ log_text (with_tail bytes.first.decoded.read) }
-    ensures interrupted_store { (base : BasePages) (bytes : AreCut base log.now store.now)
-        → result.number ≡ 0 → new_store out_store.new made.new
-        ≡ store_text (store_out base bytes.first.decoded.read bytes.first.decoded.before) }
+    ensures interrupted_log { ResumesLog log.now store.now tail.new made.new result }
+    ensures interrupted_store { ResumesStore log.now store.now out_store.new made.new result }
 
     // On an error, its condition holds, or a buffer is shorter than what a recovery makes.
-    ensures cause { result.number ≢ 0 → result.number ≢ NO_ROOM
-        → Tells (RecoveryCause log.now store.now (record { workers = 1; parts = 1 })) result }
-    ensures lengths { result.number ≡ NO_ROOM → TellsLengths log.now store.now made.new }
-    ensures short { result.number ≡ NO_ROOM
-        → IsShort made.new tail.old out_store.old in_doubt.old }
+    ensures cause { OnOtherFailure result (Tells (CauseAlone log.now store.now) result) }
+    ensures lengths { OnNoRoom result (TellsLengths log.now store.now made.new) }
+    ensures short { OnNoRoom result (IsShort made.new tail.old out_store.old in_doubt.old) }
 
     // What it leaves.
-    ensures behind { result.number ≡ 0
-        → (drop made.new.tail_length tail.new ≡ drop made.new.tail_length tail.old)
-        × (drop made.new.store_length out_store.new ≡ drop made.new.store_length out_store.old)
-        × (drop made.new.in_doubt in_doubt.new ≡ drop made.new.in_doubt in_doubt.old) }
-    ensures kept { result.number ≢ 0 → (tail.new ≡ tail.old)
-        × (out_store.new ≡ out_store.old) × (in_doubt.new ≡ in_doubt.old) }
-    ensures untold { result.number ≢ 0 → result.number ≢ NO_ROOM → made.new ≡ made.old }
+    ensures behind { OnDone result
+        (KeepsRest made.new.tail_length tail.old tail.new
+        × KeepsRest made.new.store_length out_store.old out_store.new
+        × KeepsRest made.new.in_doubt in_doubt.old in_doubt.new) }
+    ensures kept { OnFailed result
+        ((tail.new ≡ tail.old) × (out_store.new ≡ out_store.old) × (in_doubt.new ≡ in_doubt.old)) }
+    ensures untold { OnOtherFailure result (made.new ≡ made.old) }
 {
     let recovery = match recovery_in(alloc, log, store) {
         Ok(recovery) => recovery,

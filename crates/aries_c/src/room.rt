@@ -1,8 +1,8 @@
 //! Buffers of the caller.
 
-ghost use Rattle.std.specs.Prelude.{◌≡◌, ◌≢◌, ◌<◌, ◌≤◌, ◌++◌, drop, length};
-ghost use Rattle.aries_c.specs.Fault.{no_room};
-ghost use Rattle.aries_c.specs.Writing.{IsAnswer};
+ghost use Rattle.std.specs.Prelude.{◌≡◌, ◌≤◌, ◌++◌, drop, length};
+ghost use Rattle.aries_c.specs.Fault.{no_room, OnDone, OnFailed};
+ghost use Rattle.aries_c.specs.Writing.{IsAnswer, LeavesShort};
 
 use crate::Fault;
 
@@ -10,11 +10,9 @@ use crate::Fault;
 /// is too short it is left as it is, and the number is 64.
 pub fn put(text: &[u8], out: &mut [u8], told: &mut usize) -> Fault
     ensures told { told.new ≡ length text.now }
-    ensures written { result.number ≡ 0
-        → out.new ≡ text.now ++ drop (length text.now) out.old }
+    ensures written { OnDone result (out.new ≡ text.now ++ drop (length text.now) out.old) }
     ensures answer { IsAnswer result }
-    ensures short { result.number ≢ 0
-        → (result ≡ no_room) × (length out.old < length text.now) × (out.new ≡ out.old) }
+    ensures short { OnFailed result ((result ≡ no_room) × LeavesShort text.now out.old out.new) }
 {
     *told = text.len();
     if out.len() < text.len() {

@@ -1,11 +1,10 @@
 //! The text of a fault.
 
-ghost use Rattle.std.specs.Prelude.{◌≡◌, ◌≢◌, ◌<◌, ◌≤◌, IfSome, IfNone, drop, length};
+ghost use Rattle.std.specs.Prelude.{◌≡◌, ◌≢◌, ◌<◌, ◌≤◌, IfSome, IfNone, length};
 ghost use Rattle.page.specs.declared.fault.Fault.{Fault as Content};
 ghost use Rattle.page.specs.Fault.{number_of};
-ghost use Rattle.aries_c.specs.declared.fault.TheConstants.{NO_ROOM, NOT_WRITABLE};
-ghost use Rattle.aries_c.specs.Fault.{place_of, told_of, IsFault, IsBare, IsAtLsn, IsOfPage};
-ghost use Rattle.aries_c.specs.Writing.{IsAnswerOrMemory};
+ghost use Rattle.aries_c.specs.Fault.{place_of, IsBare, IsAtLsn, IsOfPage, OnDone, OnFailed, OnNoRoom, OnOtherFailure, OnNotWritable, NamesFault, NamesNoFault};
+ghost use Rattle.aries_c.specs.Writing.{IsAnswerOrMemory, KeepsRest};
 
 use crate::Fault;
 use crate::room::put;
@@ -36,8 +35,7 @@ fn bare_fault(number: u32) -> Option<page::Fault>
 
 /// The fault with this number at this offset or LSN, if it is one with such a place.
 fn fault_at(number: u32, place: u64) -> Option<page::Fault>
-    ensures found { IfSome result (λ fault. (number_of fault ≡ number)
-        × (place_of fault ≡ place)) }
+    ensures found { IfSome result (λ fault. (number_of fault ≡ number) × (place_of fault ≡ place)) }
     ensures none { IfNone result ((fault : Content) → IsAtLsn fault → number_of fault ≢ number) }
 {
     match number {
@@ -58,8 +56,7 @@ fn fault_at(number: u32, place: u64) -> Option<page::Fault>
 
 /// The fault with this number of this page, if it is one of a page.
 fn fault_of_page(number: u32, page: u32) -> Option<page::Fault>
-    ensures found { IfSome result (λ fault. (number_of fault ≡ number)
-        × (place_of fault ≡ page)) }
+    ensures found { IfSome result (λ fault. (number_of fault ≡ number) × (place_of fault ≡ page)) }
     ensures none { IfNone result ((fault : Content) → IsOfPage fault → number_of fault ≢ number) }
 {
     match number {
@@ -75,7 +72,7 @@ fn fault_of_page(number: u32, page: u32) -> Option<page::Fault>
 fn fault_in(told: &Fault) -> Option<page::Fault>
     ensures found { IfSome result (λ fault. number_of fault ≡ told.now.number) }
     ensures place { IfSome result (λ fault. ¬ IsBare fault → place_of fault ≡ told.now.place) }
-    ensures none { IfNone result ((fault : Content) → IsFault fault → told.now ≢ told_of fault) }
+    ensures none { IfNone result (NamesNoFault told.now) }
 {
     if let Some(fault) = bare_fault(told.number) {
         return Some(fault);
@@ -102,17 +99,14 @@ pub extern "C" fn aries_fault_text(
     out: &mut [u8],
     told: &mut usize,
 ) -> Fault
-    ensures named { result.number ≡ 0 → (content : Content)
-        × (number_of content ≡ fault.now.number)
-        × (¬ IsBare content → told_of content ≡ fault.now) }
-    ensures written { result.number ≡ 0 → (told.new ≤ length out.old)
-        × (drop told.new out.new ≡ drop told.new out.old) }
-    ensures no_room { result.number ≡ NO_ROOM → length out.old < told.new }
-    ensures not_writable { result.number ≡ NOT_WRITABLE
-        → (content : Content) → IsFault content → fault.now ≢ told_of content }
+    ensures named { OnDone result (NamesFault fault.now) }
+    ensures written { OnDone result
+        ((told.new ≤ length out.old) × KeepsRest told.new out.old out.new) }
+    ensures no_room { OnNoRoom result (length out.old < told.new) }
+    ensures not_writable { OnNotWritable result (NamesNoFault fault.now) }
     ensures answer { IsAnswerOrMemory result }
-    ensures kept { result.number ≢ 0 → out.new ≡ out.old }
-    ensures untold { result.number ≢ 0 → result.number ≢ NO_ROOM → told.new ≡ told.old }
+    ensures kept { OnFailed result (out.new ≡ out.old) }
+    ensures untold { OnOtherFailure result (told.new ≡ told.old) }
 {
     let Some(fault) = fault_in(fault) else {
         return Fault::not_writable();
