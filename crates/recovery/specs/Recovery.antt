@@ -124,10 +124,6 @@ ForLawfulRead records decoded P =
     (base : BasePages) (log store : List ℕ) → ReadsAs log records → Decodes store decoded → (bytes : AreLawful base log store)
     → P (record { base = base; log = log; store = store; bytes = bytes })
 
--- P is true of the value, or the error is a lack of memory
-abbrev pub UnlessMemory : {T : Type 0} → Result T Fault → (T → Type 0) → Type 0
-UnlessMemory answer P = MatchResult answer P (λ e. e ≡ NoResource)
-
 -- the new log is the log and its tail, the new store what the winners leave; the transactions in doubt are reported, and stay so; a restart
 -- on both appends nothing and leaves the store as it is
 pub record Recovered (base : BasePages) (read : LogContent) (before : StoreContent) (new_log new_store : List ℕ) (report : ReportContent) : Type 0 where
@@ -200,7 +196,3 @@ RecoveryCause log store options e =
 -- the error of the bytes for which the decoders return these results
 abbrev pub ReadCause : Result (LogContent × ℕ) Fault → Result StoreContent Fault → Options → Fault → Type 0
 ReadCause records decoded options e = ForRead records decoded (λ log store. RecoveryCause log store options e)
-
--- valid options, which cause no error
-abbrev pub one_worker : Options
-one_worker = record { workers = 1; parts = 1 }

@@ -4,9 +4,10 @@ ghost use Rattle.std.specs.Prelude.{◌≡◌, ◌≤◌, ◌<◌, ◌+◌, ◌*
 ghost use Rattle.page.specs.declared.fault.Fault.TheVariants.{NoResource};
 ghost use Rattle.wal.specs.Records.{history, last_lsn};
 ghost use Rattle.undo.specs.Appended.{HaveUpdates, AreFit};
-ghost use Rattle.recovery.specs.Recovery.{report_of, ForLawfulRead, ForRead, IsShortRestored, ReadCause, Remakes, RemakesLawful, RemakesRestart, RemakesRestored, UnlessMemory, appended_frames, frames_from};
+ghost use Rattle.recovery.specs.Recovery.{report_of, ForLawfulRead, ForRead, IsShortRestored, ReadCause, Remakes, RemakesLawful, RemakesRestart, RemakesRestored, appended_frames, frames_from};
 ghost use Rattle.restart.specs.Options.{AreInRange};
 ghost use Rattle.restart.specs.Outcome.{outcome_in};
+ghost use Rattle.restart.specs.Results.{UnlessMemory};
 
 use crate::Report;
 use page::{Fault, Store};

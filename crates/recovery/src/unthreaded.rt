@@ -1,7 +1,9 @@
 //! Recovery in memory without threads.
 
 ghost use Rattle.std.specs.Prelude.{◌≡◌, ◌-◌, length, take, IfOk, IfErr};
-ghost use Rattle.recovery.specs.Recovery.{RecoveryCause, ForLawfulBytes, IsRecoveryOf, IsShort, RecoversLawful, UnlessMemory, one_worker};
+ghost use Rattle.recovery.specs.Recovery.{RecoveryCause, ForLawfulBytes, IsRecoveryOf, IsShort, RecoversLawful};
+ghost use Rattle.restart.specs.Options.{one_worker};
+ghost use Rattle.restart.specs.Results.{UnlessMemory};
 
 use crate::recovery::{Recovery, Remade, remade_of};
 use page::{Fault, decode_store, encode_store_into};
