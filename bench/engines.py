@@ -54,7 +54,7 @@ def berkeley(folder, size):
     begin = time.monotonic()
     run(["db5.3_recover", "-h", home])
     seconds = time.monotonic() - begin
-    print(f"Berkeley DB: {int(made[1]) / 1e6:.0f} MB, {made[2]} updates: {seconds:.2f} s")
+    print(f"Berkeley DB: {int(made[1]) / 1e6:.0f} MB, {int(made[2]):,} updates: {seconds:.2f} s")
 
 
 def postgres(folder, size):
@@ -86,7 +86,7 @@ def postgres(folder, size):
     with open(log, encoding="utf-8") as file:
         redo = re.findall(r"redo done at .* elapsed: ([\d.]+) s", file.read())[-1]
     run([*start, "stop"], **quiet)
-    print(f"PostgreSQL: {int(made[2]) / 1e6:.0f} MB, {made[1]} updates: redo {redo} s, until it accepts work {seconds:.2f} s")
+    print(f"PostgreSQL: {int(made[2]) / 1e6:.0f} MB, {int(made[1]):,} updates: redo {redo} s, until it accepts work {seconds:.2f} s")
 
 
 def main():
