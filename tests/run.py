@@ -20,6 +20,7 @@ import tempfile
 sys.dont_write_bytecode = True  # no folder of it beside the tests
 from borrow import check_borrow
 from chosen import check_chosen
+from clauses import check_clauses
 from contracts import check_contracts
 from dump import check_dump
 from edits import check_edits
@@ -382,6 +383,7 @@ def main():
     tally = Tally()
     check_documents(tally)
     check_contracts(tally)
+    check_clauses(tally)
     check_pages(tally)
     check_edits(tally)
     ways = run([sys.executable, os.path.join(TOP, "bench/way.py")])
