@@ -182,7 +182,7 @@ FEW = ['nothing fails', 'no checkpoint', 'updates and commits alone are read']
 WAYS = [
     ('recover, 3 records', 308, 'aries_cli/main.rt:main', FEW + ['a recovery', 'new files', 'in pieces', 'one worker']),
     ('recover in place, 3 records', 340, 'aries_cli/main.rt:main', FEW + ['a recovery', 'in place', 'in pieces', 'one worker']),
-    ('recover in memory, 3 records, 1 worker', 267, 'aries_cli/main.rt:main', FEW + ['a recovery', 'new files', 'in memory', 'one worker']),
+    ('recover in memory, 3 records, 1 worker', 268, 'aries_cli/main.rt:main', FEW + ['a recovery', 'new files', 'in memory', 'one worker']),
     ('recover in memory, 3 records, 4 workers', 303, 'aries_cli/main.rt:main',
      FEW + ['a recovery', 'new files', 'in memory', 'several workers', 'a short log']),
     ('recover in memory, 100 MB with a checkpoint, 4 workers', 355, 'aries_cli/main.rt:main',

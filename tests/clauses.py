@@ -16,7 +16,7 @@ sys.dont_write_bytecode = True  # no folder of it beside the tests
 from program import TOP, text_of
 
 LONGEST = 100
-KEPT = {"recovery": 42, "restart": 3, "undo": 4, "aries_c": 6}
+KEPT = {"recovery": 34, "restart": 0, "undo": 0, "aries_c": 3}
 
 
 def end_of(text, at):

@@ -31,6 +31,7 @@ from pages import check_pages
 from pieces import check_order, check_pieces
 from program import ARIES, LARGE_ROWS, SMALL_ROWS, TOP, Row, Tally, bytes_of, has_printed, has_refused, in_doubt, library_of, run, text_of
 from prose import check_prose
+from sizes import check_sizes
 from spoiled import check_spoiled
 
 ROW_RUNNER = os.path.join(TOP, "crates/rows/out/rows")
@@ -376,6 +377,12 @@ def check_instructions(tally):
     return [line for line in ran.stdout.splitlines() if "KEEP" in line]
 
 
+def check_profile(tally):
+    """The first crate with the limits of another profile: its numbers keep what the proofs need."""
+    ran = run([sys.executable, os.path.join(TOP, "profiles/build.py"), "wide", "page"], text=True)
+    tally.say("page is proved with the wide profile", ran.returncode == 0, ran.stdout + ran.stderr)
+
+
 def main():
     for program in (ARIES, ROW_RUNNER):
         if not os.path.exists(program):
@@ -384,10 +391,12 @@ def main():
     check_documents(tally)
     check_contracts(tally)
     check_clauses(tally)
+    check_sizes(tally)
     check_pages(tally)
     check_edits(tally)
     ways = run([sys.executable, os.path.join(TOP, "bench/way.py")])
     tally.say("no way through the crates is longer than it is to be", ways.returncode == 0, ways.stdout)
+    check_profile(tally)
     asked = check_prose(tally) + check_instructions(tally)
     with tempfile.TemporaryDirectory(prefix="aries-tests-") as room:
         check_large_rows(tally, room)

@@ -9,6 +9,7 @@ use Rattle.wal.specs.declared.record.Entry.{Entry}
 use Rattle.wal.specs.Content.{entry_of}
 use Rattle.analysis.specs.Tables.{entry_at}
 use Rattle.analysis.specs.Steps.{those_kept, kept_entry, held_entry, AreKept, IsMoved, HasNoneAbove}
+use Rattle.analysis.specs.declared.kept.TheConstants.{PLACES}
 
 abbrev pub Slots : Type 0
 Slots = List (Option (ℕ × Entry))
@@ -21,16 +22,16 @@ kept_own : (t : ℕ) (p : ℕ × Entry) (other : Option TableEntry) → p.0 ≡ 
 kept_own t p other e = ap (λ b. cond b (Some (entry_of (t, p.1))) other) (eq-eqb p.0 t e)
 
 -- by what is kept at the place
-pub held_by : (t : ℕ) (kept : Slots) (entries : List (ℕ × Entry)) (place : ℕ) (o : Option (ℕ × Entry)) → t % 256 ≡ place → get_or kept place None ≡ o → held_entry t kept entries ≡ kept_entry t o (entry_at t entries)
+pub held_by : (t : ℕ) (kept : Slots) (entries : List (ℕ × Entry)) (place : ℕ) (o : Option (ℕ × Entry)) → t % PLACES ≡ place → get_or kept place None ≡ o → held_entry t kept entries ≡ kept_entry t o (entry_at t entries)
 held_by t kept entries place o at is = ap (λ x. kept_entry t x (entry_at t entries)) (ap (λ i. get_or kept i None) at ∙ is)
 
-pub held_none : (t : ℕ) (kept : Slots) (entries : List (ℕ × Entry)) (place : ℕ) → t % 256 ≡ place → get_or kept place None ≡ None → held_entry t kept entries ≡ entry_at t entries
+pub held_none : (t : ℕ) (kept : Slots) (entries : List (ℕ × Entry)) (place : ℕ) → t % PLACES ≡ place → get_or kept place None ≡ None → held_entry t kept entries ≡ entry_at t entries
 held_none t kept entries place at is = held_by t kept entries place None at is
 
-pub held_other : (t : ℕ) (kept : Slots) (entries : List (ℕ × Entry)) (place : ℕ) (p : ℕ × Entry) → t % 256 ≡ place → get_or kept place None ≡ Some p → (t ≡ p.0 → ⊥) → held_entry t kept entries ≡ entry_at t entries
+pub held_other : (t : ℕ) (kept : Slots) (entries : List (ℕ × Entry)) (place : ℕ) (p : ℕ × Entry) → t % PLACES ≡ place → get_or kept place None ≡ Some p → (t ≡ p.0 → ⊥) → held_entry t kept entries ≡ entry_at t entries
 held_other t kept entries place p at is ne = held_by t kept entries place (Some p) at is ∙ kept_other t p (entry_at t entries) ne
 
-pub held_own : (t : ℕ) (kept : Slots) (entries : List (ℕ × Entry)) (place : ℕ) (p : ℕ × Entry) → t % 256 ≡ place → get_or kept place None ≡ Some p → p.0 ≡ t → held_entry t kept entries ≡ Some (entry_of (t, p.1))
+pub held_own : (t : ℕ) (kept : Slots) (entries : List (ℕ × Entry)) (place : ℕ) (p : ℕ × Entry) → t % PLACES ≡ place → get_or kept place None ≡ Some p → p.0 ≡ t → held_entry t kept entries ≡ Some (entry_of (t, p.1))
 held_own t kept entries place p at is own = held_by t kept entries place (Some p) at is ∙ kept_own t p (entry_at t entries) own
 
 -- nothing is kept at first
@@ -39,11 +40,11 @@ empty_at zero k = refl
 empty_at (suc n) zero = refl
 empty_at (suc n) (suc k) = empty_at n k
 
-pub none_held : (t : ℕ) (entries : List (ℕ × Entry)) → held_entry t (replicate 256 None) entries ≡ entry_at t entries
-none_held t entries = held_none t (replicate 256 None) entries (t % 256) refl (empty_at 256 (t % 256))
+pub none_held : (t : ℕ) (entries : List (ℕ × Entry)) → held_entry t (replicate PLACES None) entries ≡ entry_at t entries
+none_held t entries = held_none t (replicate PLACES None) entries (t % PLACES) refl (empty_at PLACES (t % PLACES))
 
-pub none_kept : AreKept (replicate 256 None)
-none_kept place p is = absurd (none (sym (empty_at 256 place) ∙ is))
+pub none_kept : AreKept (replicate PLACES None)
+none_kept place p is = absurd (none (sym (empty_at PLACES place) ∙ is))
   where
     none : {X : Type 0} {x : X} → None ≡ Some x → ⊥
     none e = cc
@@ -51,7 +52,7 @@ none_kept place p is = absurd (none (sym (empty_at 256 place) ∙ is))
 -- THE LIST of the entries that are kept, and those of the table
 -- kept from a place on
 abbrev AreKeptFrom : ℕ → Slots → Type 0
-AreKeptFrom from kept = (i : ℕ) (p : ℕ × Entry) → get_or kept i None ≡ Some p → p.0 % 256 ≡ from + i
+AreKeptFrom from kept = (i : ℕ) (p : ℕ × Entry) → get_or kept i None ≡ Some p → p.0 % PLACES ≡ from + i
 
 kept_later : (from : ℕ) (o : Option (ℕ × Entry)) (kept : Slots) → AreKeptFrom from (o ∷ kept) → AreKeptFrom (from + 1) kept
 kept_later from o kept are i p is = are (suc i) p is ∙ omega arith
@@ -61,15 +62,15 @@ another_first : (t : ℕ) (p : ℕ × Entry) (entries : List (ℕ × Entry)) →
 another_first t p entries ne = ap (λ b. cond b (Some (entry_of p)) (entry_at t entries)) (ne_eqb p.0 t ne)
 
 -- none is of a transaction whose place is in front
-none_behind : (t from : ℕ) (kept : Slots) (entries : List (ℕ × Entry)) → t % 256 < from → AreKeptFrom from kept → entry_at t (those_kept kept ++ entries) ≡ entry_at t entries
+none_behind : (t from : ℕ) (kept : Slots) (entries : List (ℕ × Entry)) → t % PLACES < from → AreKeptFrom from kept → entry_at t (those_kept kept ++ entries) ≡ entry_at t entries
 none_behind t from [] entries lt are = refl
 none_behind t from (None ∷ kept) entries lt are = none_behind t (from + 1) kept entries (omega (arith, lt)) (kept_later from None kept are)
 none_behind t from (Some p ∷ kept) entries lt are =
-    let at : p.0 % 256 ≡ from + 0 = are 0 p refl in
-    another_first t p (those_kept kept ++ entries) (λ e. omega (arith, lt, at, ap (λ n. n % 256) e))
+    let at : p.0 % PLACES ≡ from + 0 = are 0 p refl in
+    another_first t p (those_kept kept ++ entries) (λ e. omega (arith, lt, at, ap (λ n. n % PLACES) e))
     ∙ none_behind t (from + 1) kept entries (omega (arith, lt)) (kept_later from (Some p) kept are)
 
-held_from : (t from i : ℕ) (kept : Slots) (entries : List (ℕ × Entry)) → t % 256 ≡ from + i → AreKeptFrom from kept → entry_at t (those_kept kept ++ entries) ≡ kept_entry t (get_or kept i None) (entry_at t entries)
+held_from : (t from i : ℕ) (kept : Slots) (entries : List (ℕ × Entry)) → t % PLACES ≡ from + i → AreKeptFrom from kept → entry_at t (those_kept kept ++ entries) ≡ kept_entry t (get_or kept i None) (entry_at t entries)
 held_from t from i [] entries at are = refl
 held_from t from zero (None ∷ kept) entries at are = none_behind t (from + 1) kept entries (omega (arith, at)) (kept_later from None kept are)
 held_from t from zero (Some p ∷ kept) entries at are =
@@ -81,39 +82,39 @@ held_from t from zero (Some p ∷ kept) entries at are =
     ]
 held_from t from (suc i) (None ∷ kept) entries at are = held_from t (from + 1) i kept entries (omega (arith, at)) (kept_later from None kept are)
 held_from t from (suc i) (Some p ∷ kept) entries at are =
-    let place : p.0 % 256 ≡ from + 0 = are 0 p refl in
-    another_first t p (those_kept kept ++ entries) (λ e. omega (arith, at, place, ap (λ n. n % 256) e))
+    let place : p.0 % PLACES ≡ from + 0 = are 0 p refl in
+    another_first t p (those_kept kept ++ entries) (λ e. omega (arith, at, place, ap (λ n. n % PLACES) e))
     ∙ held_from t (from + 1) i kept entries (omega (arith, at)) (kept_later from (Some p) kept are)
 
 pub held_is : (t : ℕ) (kept : Slots) (entries : List (ℕ × Entry)) → AreKept kept → entry_at t (those_kept kept ++ entries) ≡ held_entry t kept entries
-held_is t kept entries are = held_from t 0 (t % 256) kept entries (omega arith) (λ i p is. are i p is ∙ omega arith)
+held_is t kept entries are = held_from t 0 (t % PLACES) kept entries (omega arith) (λ i p is. are i p is ∙ omega arith)
 
 -- MOVED
-pub moved_none : (tx : ℕ) (kept : Slots) (entries : List (ℕ × Entry)) → get_or kept (tx % 256) None ≡ None → IsMoved tx kept entries entries
-moved_none tx kept entries is = record { here = λ t ne at. sym (held_none t kept entries (tx % 256) at is); elsewhere = λ t ne. refl }
+pub moved_none : (tx : ℕ) (kept : Slots) (entries : List (ℕ × Entry)) → get_or kept (tx % PLACES) None ≡ None → IsMoved tx kept entries entries
+moved_none tx kept entries is = record { here = λ t ne at. sym (held_none t kept entries (tx % PLACES) at is); elsewhere = λ t ne. refl }
 
-pub moved_own : (tx : ℕ) (kept : Slots) (entries : List (ℕ × Entry)) (p : ℕ × Entry) → get_or kept (tx % 256) None ≡ Some p → p.0 ≡ tx → IsMoved tx kept entries entries
-moved_own tx kept entries p is own = record { here = λ t ne at. sym (held_other t kept entries (tx % 256) p at is (λ e. ne (e ∙ own))); elsewhere = λ t ne. refl }
+pub moved_own : (tx : ℕ) (kept : Slots) (entries : List (ℕ × Entry)) (p : ℕ × Entry) → get_or kept (tx % PLACES) None ≡ Some p → p.0 ≡ tx → IsMoved tx kept entries entries
+moved_own tx kept entries p is own = record { here = λ t ne at. sym (held_other t kept entries (tx % PLACES) p at is (λ e. ne (e ∙ own))); elsewhere = λ t ne. refl }
 
-pub moved_other : (tx : ℕ) (kept : Slots) (old new : List (ℕ × Entry)) (p : ℕ × Entry) → AreKept kept → get_or kept (tx % 256) None ≡ Some p
+pub moved_other : (tx : ℕ) (kept : Slots) (old new : List (ℕ × Entry)) (p : ℕ × Entry) → AreKept kept → get_or kept (tx % PLACES) None ≡ Some p
     → ((t : ℕ) → entry_at t new ≡ cond (eqb p.0 t) (Some (entry_of (t, p.1))) (entry_at t old)) → IsMoved tx kept old new
 moved_other tx kept old new p are is put = record {
-  here = λ t ne at. put t ∙ sym (held_by t kept old (tx % 256) (Some p) at is);
+  here = λ t ne at. put t ∙ sym (held_by t kept old (tx % PLACES) (Some p) at is);
   elsewhere = λ t ne.
-      put t ∙ ap (λ b. cond b (Some (entry_of (t, p.1))) (entry_at t old)) (ne_eqb p.0 t (λ e. ne (ap (λ n. n % 256) (sym e) ∙ are (tx % 256) p is)));
+      put t ∙ ap (λ b. cond b (Some (entry_of (t, p.1))) (entry_at t old)) (ne_eqb p.0 t (λ e. ne (ap (λ n. n % PLACES) (sym e) ∙ are (tx % PLACES) p is)));
 }
 
 -- KEPT
-pub within : (tx : ℕ) (kept : Slots) → length kept ≡ 256 → tx % 256 < length kept
-within tx kept count = let some : 0 < 256 = omega arith in omega (arith, count, mod-lt tx some)
+pub within : (tx : ℕ) (kept : Slots) → length kept ≡ PLACES → tx % PLACES < length kept
+within tx kept count = let some : 0 < PLACES = omega arith in omega (arith, count, mod-lt tx some)
 
-pub keep_are : (tx : ℕ) (entry : Entry) (kept : Slots) → length kept ≡ 256 → AreKept kept → AreKept (set kept (tx % 256) (Some (tx, entry)))
+pub keep_are : (tx : ℕ) (entry : Entry) (kept : Slots) → length kept ≡ PLACES → AreKept kept → AreKept (set kept (tx % PLACES) (Some (tx, entry)))
 keep_are tx entry kept count are place p is =
-    elim (cases_eq place (tx % 256)) [
+    elim (cases_eq place (tx % PLACES)) [
       | inl e ↦
-          (let own : Some (tx, entry) ≡ Some p = sym (get_or-set_same kept (tx % 256) (Some (tx, entry)) None (within tx kept count)) ∙ (ap (λ i. get_or (set kept (tx % 256) (Some (tx, entry))) i None) (sym e) ∙ is) in
-          ap (λ n. n % 256) (sym (number own)) ∙ sym e)
-      | inr ne ↦ are place p (sym (get_or-set_other kept (tx % 256) place (Some (tx, entry)) None ne) ∙ is)
+          (let own : Some (tx, entry) ≡ Some p = sym (get_or-set_same kept (tx % PLACES) (Some (tx, entry)) None (within tx kept count)) ∙ (ap (λ i. get_or (set kept (tx % PLACES) (Some (tx, entry))) i None) (sym e) ∙ is) in
+          ap (λ n. n % PLACES) (sym (number own)) ∙ sym e)
+      | inr ne ↦ are place p (sym (get_or-set_other kept (tx % PLACES) place (Some (tx, entry)) None ne) ∙ is)
     ]
   where
     number : {a b : ℕ × Entry} → Some a ≡ Some b → a.0 ≡ b.0
@@ -129,35 +130,35 @@ forget_are place kept lt are other p is =
     none : None ≡ Some p → ⊥
     none e = cc
 
-pub keep_held : (tx : ℕ) (entry : Entry) (kept : Slots) (old new : List (ℕ × Entry)) → length kept ≡ 256 → IsMoved tx kept old new → (t : ℕ)
-    → held_entry t (set kept (tx % 256) (Some (tx, entry))) new ≡ cond (eqb tx t) (Some (entry_of (t, entry))) (held_entry t kept old)
+pub keep_held : (tx : ℕ) (entry : Entry) (kept : Slots) (old new : List (ℕ × Entry)) → length kept ≡ PLACES → IsMoved tx kept old new → (t : ℕ)
+    → held_entry t (set kept (tx % PLACES) (Some (tx, entry))) new ≡ cond (eqb tx t) (Some (entry_of (t, entry))) (held_entry t kept old)
 keep_held tx entry kept old new count moved t =
-    let now = set kept (tx % 256) (Some (tx, entry)) in
-    let there : get_or now (tx % 256) None ≡ Some (tx, entry) = get_or-set_same kept (tx % 256) (Some (tx, entry)) None (within tx kept count) in
+    let now = set kept (tx % PLACES) (Some (tx, entry)) in
+    let there : get_or now (tx % PLACES) None ≡ Some (tx, entry) = get_or-set_same kept (tx % PLACES) (Some (tx, entry)) None (within tx kept count) in
     elim (cases_eq t tx) [
-      | inl e ↦ held_own t now new (tx % 256) (tx, entry) (ap (λ n. n % 256) e) there (sym e) ∙ sym (ap (λ b. cond b (Some (entry_of (t, entry))) (held_entry t kept old)) (eq-eqb tx t (sym e)))
+      | inl e ↦ held_own t now new (tx % PLACES) (tx, entry) (ap (λ n. n % PLACES) e) there (sym e) ∙ sym (ap (λ b. cond b (Some (entry_of (t, entry))) (held_entry t kept old)) (eq-eqb tx t (sym e)))
       | inr ne ↦
           (let off : cond (eqb tx t) (Some (entry_of (t, entry))) (held_entry t kept old) ≡ held_entry t kept old = ap (λ b. cond b (Some (entry_of (t, entry))) (held_entry t kept old)) (ne_eqb tx t (λ e. ne (sym e))) in
-          elim (cases_eq (t % 256) (tx % 256)) [
-            | inl at ↦ held_other t now new (tx % 256) (tx, entry) at there ne ∙ (moved.here t ne at ∙ sym off)
+          elim (cases_eq (t % PLACES) (tx % PLACES)) [
+            | inl at ↦ held_other t now new (tx % PLACES) (tx, entry) at there ne ∙ (moved.here t ne at ∙ sym off)
             | inr far ↦
-                (ap (λ x. kept_entry t x (entry_at t new)) (get_or-set_other kept (tx % 256) (t % 256) (Some (tx, entry)) None far)
-                ∙ (ap (kept_entry t (get_or kept (t % 256) None)) (moved.elsewhere t far) ∙ sym off))
+                (ap (λ x. kept_entry t x (entry_at t new)) (get_or-set_other kept (tx % PLACES) (t % PLACES) (Some (tx, entry)) None far)
+                ∙ (ap (kept_entry t (get_or kept (t % PLACES) None)) (moved.elsewhere t far) ∙ sym off))
           ])
     ]
 
 -- FORGOTTEN
-pub forget_other : (tx : ℕ) (kept : Slots) (p : ℕ × Entry) → length kept ≡ 256 → get_or kept (tx % 256) None ≡ Some p → p.0 ≡ tx → (t : ℕ) (entries : List (ℕ × Entry)) → (t ≡ tx → ⊥)
-    → held_entry t (set kept (tx % 256) None) entries ≡ held_entry t kept entries
+pub forget_other : (tx : ℕ) (kept : Slots) (p : ℕ × Entry) → length kept ≡ PLACES → get_or kept (tx % PLACES) None ≡ Some p → p.0 ≡ tx → (t : ℕ) (entries : List (ℕ × Entry)) → (t ≡ tx → ⊥)
+    → held_entry t (set kept (tx % PLACES) None) entries ≡ held_entry t kept entries
 forget_other tx kept p count is own t entries ne =
-    let now = set kept (tx % 256) None in
-    elim (cases_eq (t % 256) (tx % 256)) [
-      | inl at ↦ held_none t now entries (tx % 256) at (get_or-set_same kept (tx % 256) None None (within tx kept count)) ∙ sym (held_other t kept entries (tx % 256) p at is (λ e. ne (e ∙ own)))
-      | inr far ↦ ap (λ x. kept_entry t x (entry_at t entries)) (get_or-set_other kept (tx % 256) (t % 256) None None far)
+    let now = set kept (tx % PLACES) None in
+    elim (cases_eq (t % PLACES) (tx % PLACES)) [
+      | inl at ↦ held_none t now entries (tx % PLACES) at (get_or-set_same kept (tx % PLACES) None None (within tx kept count)) ∙ sym (held_other t kept entries (tx % PLACES) p at is (λ e. ne (e ∙ own)))
+      | inr far ↦ ap (λ x. kept_entry t x (entry_at t entries)) (get_or-set_other kept (tx % PLACES) (t % PLACES) None None far)
     ]
 
-pub forget_own : (tx : ℕ) (kept : Slots) → length kept ≡ 256 → (entries : List (ℕ × Entry)) → held_entry tx (set kept (tx % 256) None) entries ≡ entry_at tx entries
-forget_own tx kept count entries = held_none tx (set kept (tx % 256) None) entries (tx % 256) refl (get_or-set_same kept (tx % 256) None None (within tx kept count))
+pub forget_own : (tx : ℕ) (kept : Slots) → length kept ≡ PLACES → (entries : List (ℕ × Entry)) → held_entry tx (set kept (tx % PLACES) None) entries ≡ entry_at tx entries
+forget_own tx kept count entries = held_none tx (set kept (tx % PLACES) None) entries (tx % PLACES) refl (get_or-set_same kept (tx % PLACES) None None (within tx kept count))
 
 -- taken from both, it is in neither
 pub removed : (t tx : ℕ) (kept left : Slots) (old new : List (ℕ × Entry)) → ((t : ℕ) (entries : List (ℕ × Entry)) → (t ≡ tx → ⊥) → held_entry t left entries ≡ held_entry t kept entries)
@@ -168,7 +169,7 @@ removed t tx kept left old new other own gone =
           (ap (λ n. held_entry n left new) e ∙ (own new ∙ (gone tx ∙ (ap (λ b. cond b None (entry_at tx old)) (eq-eqb tx tx refl) ∙ sym (ap (λ b. cond b None (held_entry t kept old)) (eq-eqb tx t (sym e)))))))
       | inr ne ↦
           (let off = ne_eqb tx t (λ e. ne (sym e)) in
-          other t new ne ∙ (ap (kept_entry t (get_or kept (t % 256) None)) (gone t ∙ ap (λ b. cond b None (entry_at t old)) off) ∙ sym (ap (λ b. cond b None (held_entry t kept old)) off)))
+          other t new ne ∙ (ap (kept_entry t (get_or kept (t % PLACES) None)) (gone t ∙ ap (λ b. cond b None (entry_at t old)) off) ∙ sym (ap (λ b. cond b None (held_entry t kept old)) off)))
     ]
 
 -- what is not there is not taken away
@@ -196,7 +197,7 @@ none_above_removed tx highest old new gone up t above small =
 -- up to a place the table has what it must have
 pub record IsBackTo (place : ℕ) (kept : Slots) (first now : List (ℕ × Entry)) : Type 0 where
   pub same : (t : ℕ) → held_entry t kept now ≡ held_entry t kept first
-  pub back : (t : ℕ) → t % 256 < place → entry_at t now ≡ held_entry t kept first
+  pub back : (t : ℕ) → t % PLACES < place → entry_at t now ≡ held_entry t kept first
 
 pub back_begun : (kept : Slots) (first : List (ℕ × Entry)) → IsBackTo 0 kept first first
 back_begun kept first = record { same = λ t. refl; back = λ t lt. absurd (omega arith) }
@@ -204,7 +205,7 @@ back_begun kept first = record { same = λ t. refl; back = λ t lt. absurd (omeg
 pub back_none : (place : ℕ) (kept : Slots) (first now : List (ℕ × Entry)) → get_or kept place None ≡ None → IsBackTo place kept first now → IsBackTo (place + 1) kept first now
 back_none place kept first now is before = record {
   same = before.same;
-  back = λ t lt. elim (cases_eq (t % 256) place) [
+  back = λ t lt. elim (cases_eq (t % PLACES) place) [
     | inl at ↦ sym (held_none t kept now place at is) ∙ before.same t
     | inr ne ↦ before.back t (omega (arith, lt, ne))
   ];
@@ -214,15 +215,15 @@ pub back_put : (place : ℕ) (kept : Slots) (first now new : List (ℕ × Entry)
     → ((t : ℕ) → entry_at t new ≡ cond (eqb p.0 t) (Some (entry_of (t, p.1))) (entry_at t now)) → IsBackTo place kept first now → IsBackTo (place + 1) kept first new
 back_put place kept first now new p are is put before = record {
   same = λ t. same t ∙ before.same t;
-  back = λ t lt. elim (cases_eq (t % 256) place) [
+  back = λ t lt. elim (cases_eq (t % PLACES) place) [
     | inl at ↦ put t ∙ (sym (held_by t kept now place (Some p) at is) ∙ before.same t)
-    | inr ne ↦ put t ∙ (ap (λ b. cond b (Some (entry_of (t, p.1))) (entry_at t now)) (ne_eqb p.0 t (λ e. ne (ap (λ n. n % 256) (sym e) ∙ are place p is))) ∙ before.back t (omega (arith, lt, ne)))
+    | inr ne ↦ put t ∙ (ap (λ b. cond b (Some (entry_of (t, p.1))) (entry_at t now)) (ne_eqb p.0 t (λ e. ne (ap (λ n. n % PLACES) (sym e) ∙ are place p is))) ∙ before.back t (omega (arith, lt, ne)))
   ];
 }
   where
     same : (t : ℕ) → held_entry t kept new ≡ held_entry t kept now
     same t =
         elim (cases_eq t p.0) [
-          | inl e ↦ (let at : t % 256 ≡ place = ap (λ n. n % 256) e ∙ are place p is in held_own t kept new place p at is (sym e) ∙ sym (held_own t kept now place p at is (sym e)))
-          | inr ne ↦ ap (kept_entry t (get_or kept (t % 256) None)) (put t ∙ ap (λ b. cond b (Some (entry_of (t, p.1))) (entry_at t now)) (ne_eqb p.0 t (λ e. ne (sym e))))
+          | inl e ↦ (let at : t % PLACES ≡ place = ap (λ n. n % PLACES) e ∙ are place p is in held_own t kept new place p at is (sym e) ∙ sym (held_own t kept now place p at is (sym e)))
+          | inr ne ↦ ap (kept_entry t (get_or kept (t % PLACES) None)) (put t ∙ ap (λ b. cond b (Some (entry_of (t, p.1))) (entry_at t now)) (ne_eqb p.0 t (λ e. ne (sym e))))
         ]

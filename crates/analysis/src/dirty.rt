@@ -20,7 +20,7 @@ use std::collections::BTreeMap;
 use wal::Log;
 
 /// The first page from this one on that is below `count` and not known; `count` if there is none.
-fn first_unknown(known: &[bool; PAGES], from: usize, count: usize) -> usize
+fn first_unknown(known: &[bool], from: usize, count: usize) -> usize
     ensures { (page : ℕ) → from ≤ page → page < result
         → slice_index_or known.now page false ≡ true }
 {
@@ -34,7 +34,7 @@ fn first_unknown(known: &[bool; PAGES], from: usize, count: usize) -> usize
 
 /// Whether each page below `stop` is known, if there is a `stop`. All pages below `whole` are
 /// known; `whole` grows as far as that is found.
-fn are_known(known: &[bool; PAGES], whole: &mut usize, stop: Option<usize>) -> bool
+fn are_known(known: &[bool], whole: &mut usize, stop: Option<usize>) -> bool
     ensures known { (page : ℕ) → whole.old ≤ page → page < whole.new
         → slice_index_or known.now page false ≡ true }
     ensures all { IsTrue result → (count : ℕ) × (stop ≡ Some count) × (count ≤ whole.new) }
@@ -48,6 +48,15 @@ fn are_known(known: &[bool; PAGES], whole: &mut usize, stop: Option<usize>) -> b
     }
 }
 
+/// A flag for each page of the largest store, for a page that is known. None is. The only error is
+/// `NoResource`.
+pub fn no_page_known(alloc: Global) -> Result<Vec<bool>, Fault>
+    ensures listed { IfOk result (λ known. (dirty : List (ℕ × ℕ)) → AreListed known.items dirty) }
+    ensures err { IsOkUnless result NoResource }
+{
+    Ok(vec![in alloc; false; PAGES]?)
+}
+
 /// Looks at the records after the LSN `from` for what they do to the dirty page table: at all of
 /// them, or, if there is a `stop`, until each page below it is listed. Returns the LSN up to which
 /// it has looked. Pages that are known are listed.
@@ -56,7 +65,7 @@ pub fn scan_pages(
     from: u64,
     stop: Option<usize>,
     dirty: &mut BTreeMap<u32, u64>,
-    known: &mut [bool; PAGES],
+    known: &mut [bool],
 ) -> Result<u64, Fault>
     requires from { base_lsn (history log.now) ≤ from }
     requires listed { AreListed known.old dirty.old.entries }
@@ -83,6 +92,7 @@ pub fn scan_pages(
 /// Adds to the table of the checkpoint that `master` names the later dirty pages that redo needs,
 /// for a store with this many pages. Returns the LSN from which redo begins.
 fn list_pages(
+    alloc: Global,
     log: &Log,
     master: u64,
     count: usize,
@@ -96,7 +106,7 @@ fn list_pages(
     ensures err { IsOkUnless result NoResource }
 {
     let first = log.base() + 1;
-    let mut known = [false; PAGES];
+    let mut known = no_page_known(alloc)?;
     let upto = scan_pages(log, master.max(log.base()), Some(count), dirty, &mut known)?;
     let redo_lsn = redo_lsn_of(first, dirty);
     if 1 <= redo_lsn && redo_lsn <= upto {
@@ -121,7 +131,7 @@ pub fn analyse_pages(alloc: Global, log: &Log, master: u64, count: usize) -> Res
     ensures fault { IfErr result (BaseFault master (history log.now)) }
 {
     let (_, mut dirty) = checkpoint_tables(alloc, log, master)?;
-    let redo_lsn = list_pages(log, master, count, &mut dirty)?;
+    let redo_lsn = list_pages(alloc, log, master, count, &mut dirty)?;
     // For the proof: the keys ascend.
     let _in_order = dirty.iter();
     Ok(Tables {
@@ -139,7 +149,7 @@ pub fn analyse_all_pages(alloc: Global, log: &Log, master: u64) -> Result<Tables
     ensures fault { IfErr result (BaseFault master (history log.now)) }
 {
     let (_, base) = checkpoint_tables(alloc, log, master)?;
-    let mut scan = PageScan::begin(base);
+    let mut scan = PageScan::begin(alloc, base)?;
     scan.pass(log, master)?;
     let dirty = scan.finish();
     let redo_lsn = redo_lsn_of(log.base() + 1, &dirty);

@@ -1,6 +1,6 @@
 //! The dirty page table while a log is read, piece after piece.
 
-ghost use Rattle.std.specs.Prelude.{◌≡◌, ℕ, Option, OnOk, IsOkUnless};
+ghost use Rattle.std.specs.Prelude.{◌≡◌, ℕ, Option, IfOk, OnOk, IsOkUnless};
 ghost use Rattle.page.specs.declared.fault.Fault.TheVariants.{NoResource};
 ghost use Rattle.wal.specs.Records.{LogRecord, History, history, last_lsn, base_lsn, ◌▸▸◌};
 ghost use Rattle.wal.specs.Glances.{glance_of};
@@ -8,9 +8,10 @@ ghost use Rattle.wal.specs.Redo.{rec_lsn_of};
 ghost use Rattle.analysis.specs.Tables.{analysed_rec_lsn};
 ghost use Rattle.analysis.specs.Steps.{rec_lsn_after};
 
-use crate::dirty::scan_pages;
+use crate::dirty::{no_page_known, scan_pages};
 use crate::scan::note_page;
-use page::{Fault, PAGES};
+use page::Fault;
+use std::alloc::Global;
 use std::collections::BTreeMap;
 use std::marker::Model;
 use wal::{Glance, Log};
@@ -21,7 +22,7 @@ use wal::{Glance, Log};
 #[derive(Drop)]
 pub struct PageScan {
     dirty: BTreeMap<u32, u64>,
-    known: [bool; PAGES],
+    known: Vec<bool>,
 }
 
 impl Model for PageScan {
@@ -32,19 +33,18 @@ impl Model for PageScan {
 
     ghost view = { λ s. s.dirty.entries };
 
-    ghost invariant = { λ s. AreListed s.known s.dirty.entries };
+    ghost invariant = { λ s. AreListed s.known.items s.dirty.entries };
 }
 
 impl PageScan {
-    /// The scan before the first piece, with these pages to begin from.
-    #[inline(always)]
-    pub fn begin(dirty: BTreeMap<u32, u64>) -> PageScan
-        ensures { result ≡ dirty.entries }
+    /// The scan before the first piece, with these pages to begin from. The only error is
+    /// `NoResource`, if memory was refused.
+    pub fn begin(alloc: Global, dirty: BTreeMap<u32, u64>) -> Result<PageScan, Fault>
+        ensures ok { IfOk result (λ scan. scan ≡ dirty.entries) }
+        ensures err { IsOkUnless result NoResource }
     {
-        PageScan {
-            dirty,
-            known: [false; PAGES],
-        }
+        let known = no_page_known(alloc)?;
+        Ok(PageScan { dirty, known })
     }
 
     /// Notes in the table what the record at an LSN does to it. The record is given at a glance.

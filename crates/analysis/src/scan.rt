@@ -10,7 +10,7 @@ ghost use Rattle.analysis.specs.Tables.{entry_at, analysed_entry, analysed_rec_l
 ghost use Rattle.analysis.specs.Steps.{prepared_from, entry_seen, rec_lsn_after, AreListed, held_entry, AreKept, HasNoneAbove};
 
 use crate::kept::{PLACES, entry_in, finish, keep};
-use page::{Fault, PAGES};
+use page::Fault;
 use std::collections::BTreeMap;
 use wal::{Entry, Glance, State};
 
@@ -82,27 +82,27 @@ fn list_page(dirty: &mut BTreeMap<u32, u64>, page: u32, lsn: u64) -> Result<(), 
 }
 
 /// Whether a page is known.
-pub fn is_known(known: &[bool; PAGES], page: usize) -> bool
+pub fn is_known(known: &[bool], page: usize) -> bool
     ensures { result ≡ slice_index_or known.now page false }
 {
-    page < PAGES && known[page]
+    page < known.len() && known[page]
 }
 
-/// Notes that a page is known, if it is below `PAGES`.
-fn note_known(known: &mut [bool; PAGES], page: u32)
+/// Notes that a page is known, if there is a flag for it.
+fn note_known(known: &mut [bool], page: u32)
     ensures { known.new ≡ slice_set known.old page true }
 {
     let place = page as usize;
-    if place < PAGES {
+    if place < known.len() {
         known[place] = true;
     }
 }
 
-/// Lists a page with this RecLSN, if it is not listed. The table is searched once for a page below
-/// `PAGES`: after that the page is known to be listed.
+/// Lists a page with this RecLSN, if it is not listed. The table is searched once for a page
+/// with a flag: after that the page is known to be listed.
 fn list_unknown(
     dirty: &mut BTreeMap<u32, u64>,
-    known: &mut [bool; PAGES],
+    known: &mut [bool],
     page: u32,
     lsn: u64,
 ) -> Result<(), Fault>
@@ -123,7 +123,7 @@ fn list_unknown(
 /// What a record does to the dirty page table.
 pub fn note_page(
     dirty: &mut BTreeMap<u32, u64>,
-    known: &mut [bool; PAGES],
+    known: &mut [bool],
     glance: Glance,
     lsn: u64,
 ) -> Result<(), Fault>

@@ -20,6 +20,7 @@ use crate::page_scan::PageScan;
 use crate::pass::redo_lsn_of;
 use crate::transaction_scan::TransactionScan;
 use page::Fault;
+use std::alloc::Global;
 use std::collections::BTreeMap;
 use std::marker::Model;
 use wal::{Entry, Glance, Log};
@@ -45,18 +46,24 @@ impl TableScan {
     /// The scan before the first piece, with the tables of the checkpoint that the master names, as
     /// [`CheckpointScan`](crate::CheckpointScan) finds them. The first piece may begin at any
     /// record up to the one after the checkpoint's begin record: earlier records do nothing to the
-    /// tables.
-    pub fn begin(transactions: BTreeMap<u32, Entry>, dirty: BTreeMap<u32, u64>) -> TableScan
-        ensures begun { (m : ℕ) (whole log : History)
+    /// tables. The only error is `NoResource`, if memory was refused.
+    pub fn begin(
+        alloc: Global,
+        transactions: BTreeMap<u32, Entry>,
+        dirty: BTreeMap<u32, u64>,
+    ) -> Result<TableScan, Fault>
+        ensures begun { IfOk result (λ scan. (m : ℕ) (whole log : History)
             → IsBase m whole transactions.entries dirty.entries → ComesBefore m log
-            → HasAnalysed m whole log result }
+            → HasAnalysed m whole log scan) }
         ensures no_transaction_0 { entry_at 0 transactions.entries ≡ None
-            → entry_at 0 result.entries ≡ None }
+            → IfOk result (λ scan. entry_at 0 scan.entries ≡ None) }
+        ensures err { IsOkUnless result NoResource }
     {
-        TableScan {
+        let pages = PageScan::begin(alloc, dirty)?;
+        Ok(TableScan {
             transactions: TransactionScan::begin(transactions),
-            pages: PageScan::begin(dirty),
-        }
+            pages,
+        })
     }
 
     /// Notes in both tables what the record at an LSN does to them. The record is given at a

@@ -66,7 +66,7 @@ not_writable = record { number = 65; place = 0 }
 abbrev pub IsOnlyMemory : Told → Type 0
 IsOnlyMemory told = (told ≡ done) ⊎ (told ≡ no_memory)
 
--- nor except a lack of memory and a buffer that is too short
+-- the call has no error except a lack of memory and a buffer that is too short
 abbrev pub IsOnlyMemoryOrRoom : Told → Type 0
 IsOnlyMemoryOrRoom told = (told ≡ done) ⊎ ((told ≡ no_memory) ⊎ (told ≡ no_room))
 

@@ -1,7 +1,7 @@
 -- Pages as C reads and writes them, and what is written of a store (own).
 use Rattle.std.specs.Prelude.{◌≡◌, ◌≢◌, ℕ, ◌<◌, ◌≤◌, List, slice_index_or}
 use Rattle.page.specs.declared.page.Page.{Page}
-use Rattle.page.specs.declared.sizes.TheConstants.{PAGES, SLOTS}
+use Rattle.page.specs.declared.profile.TheConstants.{PAGES, SLOTS}
 use Rattle.page.specs.Image.{Image, FitsPage, SpellsPage, page_text}
 use Rattle.page.specs.File.{store_header}
 use Rattle.aries_c.specs.declared.image.Image.{Image as ToldImage}
@@ -26,7 +26,7 @@ TellsPage bytes number told = (page : Page) × SpellsPage bytes page × (page.nu
 abbrev pub HasNoPage : (bytes : List ℕ) → (number : ℕ) → Type 0
 HasNoPage bytes number = (page : Page) → SpellsPage bytes page → page.number ≢ number
 
--- the header of a store of 1 to 4,096 pages
+-- the header of a store of 1 to `PAGES` pages
 abbrev pub IsStoreHeader : (pages master : ℕ) → List ℕ → Type 0
 IsStoreHeader pages master text = (0 < pages) × (pages ≤ PAGES) × (text ≡ store_header pages master)
 

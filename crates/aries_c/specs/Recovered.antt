@@ -1,15 +1,12 @@
 -- What C gets of a recovery (own).
-use Rattle.std.specs.Prelude.{◌≡◌, ℕ, ◌+◌, ◌-◌, ◌*◌, ◌<◌, ◌≤◌, ◌⊎◌, List, ◌++◌, Result, MatchResult, length, take}
-use Rattle.page.specs.declared.fault.Fault.{Fault}
-use Rattle.page.specs.declared.fault.Fault.TheVariants.{NoResource}
+use Rattle.std.specs.Prelude.{◌≡◌, ℕ, ◌+◌, ◌-◌, ◌*◌, ◌<◌, ◌≤◌, ◌⊎◌, List, ◌++◌, length, take}
 use Rattle.page.specs.File.{store_text}
 use Rattle.wal.specs.Meaning.{BasePages}
 use Rattle.wal.specs.Reads.{log_text}
 use Rattle.wal.specs.Store.{store_out}
 use Rattle.wal.specs.Tail.{with_tail}
-use Rattle.recovery.specs.declared.recovery.Recovery.{Recovery}
 use Rattle.recovery.specs.Text.{ReportContent}
-use Rattle.recovery.specs.Recovery.{Recovers, Recovered as AreRecovered, AreLawful, AreCut, RecoveryCause, new_log as log_made}
+use Rattle.recovery.specs.Recovery.{Recovers, Recovered as AreRecovered, AreLawful, AreCut}
 use Rattle.aries_c.specs.declared.fault.Fault.{Fault as Told}
 use Rattle.aries_c.specs.declared.recovered.Recovered.{Recovered}
 use Rattle.aries_c.specs.Fault.{OnDone}
@@ -58,21 +55,13 @@ RecoversIn log store tail out_store in_doubt made told =
 abbrev pub IfLawful : (log store : List ℕ) → Type 0 → Type 0
 IfLawful log store Holds = (base : BasePages) → AreLawful base log store → Holds
 
--- over any base pages over which they are lawful: a recovery restores them, unless memory is refused
-abbrev pub RestoresBytes : (log store : List ℕ) → Result Recovery Fault → Type 0
-RestoresBytes log store result = (base : BasePages) (bytes : AreLawful base log store)
-    → MatchResult result (λ x. AreRecovered base bytes.decoded.read bytes.decoded.before (log_made x) x.store.items x.report) (λ e. e ≡ NoResource)
-
--- and if the call succeeded, C gets that
+-- if they are lawful over any base pages, and the call succeeded, C gets what a recovery of them restores
 abbrev pub RestoresIn : (log store tail out_store in_doubt : List ℕ) → Recovered → Told → Type 0
 RestoresIn log store tail out_store in_doubt made told = (base : BasePages) (bytes : AreLawful base log store)
     → OnDone told (AreRecovered base bytes.decoded.read bytes.decoded.before
     (log_in_buffers log tail made) (new_store out_store made) (report_told made (take made.in_doubt in_doubt)))
 
--- the frames that are appended take at most twice the bytes of the log
-abbrev pub HasShortFrames : (log : List ℕ) → Recovery → Type 0
-HasShortFrames log x = length x.frames.items ≤ 2 * length log
-
+-- the tail takes at most twice the bytes of the log
 abbrev pub HasShortTail : (log : List ℕ) → Recovered → Type 0
 HasShortTail log made = made.tail_length ≤ 2 * length log
 
@@ -81,11 +70,7 @@ abbrev pub ResumesLog : (log store tail : List ℕ) → Recovered → Told → T
 ResumesLog log store tail made told = (base : BasePages) (bytes : AreCut base log store)
     → OnDone told (log_in_buffers log tail made ≡ log_text (with_tail bytes.first.decoded.read))
 
--- and its store
+-- and the store that it would have made
 abbrev pub ResumesStore : (log store out_store : List ℕ) → Recovered → Told → Type 0
 ResumesStore log store out_store made told = (base : BasePages) (bytes : AreCut base log store)
     → OnDone told (new_store out_store made ≡ store_text (store_out base bytes.first.decoded.read bytes.first.decoded.before))
-
--- ERRORS. The error of a recovery of these bytes in the caller's thread, memory aside.
-abbrev pub CauseAlone : (log store : List ℕ) → Fault → Type 0
-CauseAlone log store e = RecoveryCause log store (record { workers = 1; parts = 1 }) e

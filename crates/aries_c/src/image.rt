@@ -2,18 +2,17 @@
 
 ghost use Rattle.std.specs.Prelude.{◌≡◌, ◌≤◌, length, option_map, IfOk, IfErr, IfSome, Some, None, OnErr};
 ghost use Rattle.page.specs.Image.{FitsSlot};
-ghost use Rattle.page.specs.declared.sizes.TheConstants.{VALUE_BYTES};
+ghost use Rattle.page.specs.declared.profile.TheConstants.{VALUE_BYTES};
 ghost use Rattle.aries_c.specs.Fault.{not_writable};
 ghost use Rattle.aries_c.specs.Image.{NamesImage, NamesNoImage};
 
 use crate::Fault;
 use page::{VALUE_BYTES, Value};
+use wal::ABSENT;
 
-/// The length that means an absent value.
-const ABSENT: u8 = 255;
-
-/// What a slot holds: the length of a value, 0 to 48, and its bytes at the front; or the length
-/// 255, for an absent value. Bytes after a value are not looked at.
+/// What a slot holds: the length of a value, at most [`VALUE_BYTES`], and its bytes at the front;
+/// or [`ABSENT`] in place of the length, for an absent value. Bytes after a value are not looked
+/// at.
 #[repr(C)]
 #[derive(Clone, Copy)]
 pub struct Image {
@@ -66,7 +65,8 @@ impl Image {
         }
     }
 
-    /// The value that C gives; not writable if its length is 49 to 254.
+    /// The value that C gives; not writable if its length is above [`VALUE_BYTES`] and not
+    /// [`ABSENT`].
     pub fn value(&self) -> Result<Option<Value>, Fault>
         ensures found { IfOk result (NamesImage self.now) }
         ensures fits { IfOk result FitsSlot }

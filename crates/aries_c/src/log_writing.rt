@@ -92,17 +92,17 @@ fn end_frame(
     alloc: Global,
     lsn: u64,
     begin: u64,
-    transactions: &[Entry],
+    entries: &[Entry],
     dirty: &[DirtyPage],
 ) -> Result<Vec<u8>, Fault>
     ensures found { IfOk result (λ text.
-        IsEndFrame lsn begin transactions.now dirty.now text.items) }
+        IsEndFrame lsn begin entries.now dirty.now text.items) }
     ensures err { IfErr result
-        (IsMemoryOrNotWritable (HasNoEndFrame lsn begin transactions.now dirty.now)) }
+        (IsMemoryOrNotWritable (HasNoEndFrame lsn begin entries.now dirty.now)) }
 {
     let end = wal::Record::CheckpointEnd {
         begin,
-        transactions: entries_named(alloc, transactions)?,
+        transactions: entries_named(alloc, entries)?,
         dirty: dirty_named(alloc, dirty)?,
     };
     let end = with_spelling(end)?;
@@ -110,8 +110,9 @@ fn end_frame(
 }
 
 /// Writes the frame of a checkpoint end, at its LSN, to the front of a buffer: the LSN of its begin
-/// record, and its tables, of at most 1,024 and 4,096 entries in ascending order of transaction and
-/// of page. 65: it has no encoding; 64: the buffer is too short; 1: memory was refused.
+/// record, and its tables, of at most [`page::TRANSACTIONS`] and [`page::PAGES`] entries in
+/// ascending order of transaction and of page. 65: it has no encoding; 64: the buffer is too short;
+/// 1: memory was refused.
 #[unsafe(no_mangle)]
 pub extern "C" fn aries_write_checkpoint_end(
     alloc: Global,

@@ -11,7 +11,7 @@ use crate::room::put;
 use crate::{Fault, Image};
 use page::{PAGE_BYTES, PAGES, SLOTS, Value, decode_page, encode_page, store_header};
 
-/// A page: its number from 0, its PageLSN, 0 for none, and what its 16 slots hold.
+/// A page: its number from 0, its PageLSN, 0 for none, and what its slots hold.
 #[repr(C)]
 #[derive(Clone, Copy)]
 pub struct Page {
@@ -54,8 +54,8 @@ impl Page {
     }
 }
 
-/// Writes a store's header, 24 bytes, to the front of a buffer: its page count, 1 to 4,096, and its
-/// master LSN, 0 for none. 65: the page count is out of range; 64: the buffer is too short.
+/// Writes a store's header to the front of a buffer: its page count, 1 to [`PAGES`], and its master
+/// LSN, 0 for none. 65: the page count is out of range; 64: the buffer is too short.
 #[unsafe(no_mangle)]
 pub extern "C" fn aries_write_store_header(
     pages: u32,
@@ -76,8 +76,8 @@ pub extern "C" fn aries_write_store_header(
     put(&store_header(pages, master), out, told)
 }
 
-/// Writes the image of a page, 1,024 bytes, to the front of a buffer. 65: the length of a slot is
-/// 49 to 254; 64: the buffer is too short.
+/// Writes the image of a page, [`PAGE_BYTES`] bytes, to the front of a buffer. 65: a slot holds
+/// neither an absent value nor one of at most `VALUE_BYTES` bytes; 64: the buffer is too short.
 #[unsafe(no_mangle)]
 pub extern "C" fn aries_write_page(page: &Page, out: &mut [u8], told: &mut usize) -> Fault
     ensures written { OnDone result (Wrote (IsPageImage page.now) out.old out.new told.new) }

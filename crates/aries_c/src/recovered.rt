@@ -1,9 +1,9 @@
 //! Recovery from bytes to bytes.
 
 ghost use Rattle.std.specs.Prelude.{◌≡◌, ◌-◌, ◌++◌, ◌≤◌, length, take, drop, IfOk, IfErr};
-ghost use Rattle.recovery.specs.Recovery.{Recovers, new_log as log_made};
+ghost use Rattle.recovery.specs.Recovery.{RestoresBytes, IsRecoveryOf, IsShort as HasShortFrames, CauseAlone};
 ghost use Rattle.aries_c.specs.Fault.{Tells, IsOnlyMemoryOrRoom, OnDone, OnFailed, OnNoRoom, OnOtherFailure, OnMade};
-ghost use Rattle.aries_c.specs.Recovered.{report_told, TellsLengths, IsShort, RecoversIn, IfLawful, RestoresBytes, RestoresIn, HasShortFrames, HasShortTail, ResumesLog, ResumesStore, CauseAlone};
+ghost use Rattle.aries_c.specs.Recovered.{report_told, TellsLengths, IsShort, RecoversIn, IfLawful, RestoresIn, HasShortTail, ResumesLog, ResumesStore};
 ghost use Rattle.aries_c.specs.Writing.{KeepsRest};
 
 use crate::Fault;
@@ -73,8 +73,7 @@ fn copy_numbers(numbers: &[u32], out: &mut [u32])
 /// What is made of a log and a store in these bytes, in the caller's thread.
 fn recovery_in<'a>(alloc: Global, log: &'a [u8], store: &[u8]) -> Result<Recovery<'a>, page::Fault>
     ensures lawful { RestoresBytes log.now store.now result }
-    ensures answer { IfOk result (λ x. Recovers log.now store.now
-        (log_made x) x.store.items x.report) }
+    ensures answer { IfOk result (IsRecoveryOf log.now store.now) }
     ensures cause { IfErr result (CauseAlone log.now store.now) }
     ensures kept { IfOk result (λ x. x.kept.now ≡ take (length log.now - x.report.torn) log.now) }
     ensures short { IfLawful log.now store.now (IfOk result (HasShortFrames log.now)) }
@@ -124,12 +123,13 @@ pub extern "C" fn aries_recover(
     ensures short { OnNoRoom result (IsShort made.new tail.old out_store.old in_doubt.old) }
 
     // What it leaves.
-    ensures behind { OnDone result
-        (KeepsRest made.new.tail_length tail.old tail.new
-        × KeepsRest made.new.store_length out_store.old out_store.new
-        × KeepsRest made.new.in_doubt in_doubt.old in_doubt.new) }
-    ensures kept { OnFailed result
-        ((tail.new ≡ tail.old) × (out_store.new ≡ out_store.old) × (in_doubt.new ≡ in_doubt.old)) }
+    ensures after_tail { OnDone result (KeepsRest made.new.tail_length tail.old tail.new) }
+    ensures after_store { OnDone result
+        (KeepsRest made.new.store_length out_store.old out_store.new) }
+    ensures after_doubt { OnDone result (KeepsRest made.new.in_doubt in_doubt.old in_doubt.new) }
+    ensures kept_tail { OnFailed result (tail.new ≡ tail.old) }
+    ensures kept_store { OnFailed result (out_store.new ≡ out_store.old) }
+    ensures kept_doubt { OnFailed result (in_doubt.new ≡ in_doubt.old) }
     ensures untold { OnOtherFailure result (made.new ≡ made.old) }
 {
     let recovery = match recovery_in(alloc, log, store) {

@@ -11,6 +11,7 @@ use Rattle.audit.specs.declared.finish_table.Block.{Block}
 use Rattle.audit.specs.declared.block_index.BlockIndex.{BlockIndex}
 use Rattle.audit.specs.BlockIndex.{IsKept}
 use Rattle.audit.specs.Finished.{block_in, finish_in, place_of, empty_block, with_finish, AreDistinct, IsIndexOf}
+use Rattle.audit.specs.declared.finish_table.TheConstants.{BLOCK}
 
 -- WHERE A BLOCK STANDS
 later : (o : Option ℕ) (p : ℕ) → option_map suc o ≡ Some p → (q : ℕ) × (o ≡ Some q) × (suc q ≡ p)
@@ -37,7 +38,7 @@ place_is (b ∷ blocks) n p e =
           (record { within = omega (arith, below.within); number = below.number; finishes = λ d. rw (ne_eqb b.number n ne) (below.finishes d) }))
     ]
 
-pub none_is : (blocks : List Block) (n : ℕ) → place_of blocks n ≡ None → block_in blocks n ≡ replicate 16 None
+pub none_is : (blocks : List Block) (n : ℕ) → place_of blocks n ≡ None → block_in blocks n ≡ replicate BLOCK None
 none_is [] n e = refl
 none_is (b ∷ blocks) n e =
     elim (cases_eq b.number n) [
@@ -103,7 +104,7 @@ block_push (c ∷ blocks) m n =
     ]
 
 pub finish_push : (blocks : List Block) (m t : ℕ) → finish_in (blocks ++ empty_block m ∷ []) t ≡ finish_in blocks t
-finish_push blocks m t = ap (λ (b : List (Option Finish)). get_or b (t % 16) None) (block_push blocks m (t / 16))
+finish_push blocks m t = ap (λ (b : List (Option Finish)). get_or b (t % BLOCK) None) (block_push blocks m (t / BLOCK))
 
 -- a new number is found after the others
 pub place_new : (blocks : List Block) (m : ℕ) → place_of blocks m ≡ None → place_of (blocks ++ empty_block m ∷ []) m ≡ Some (length blocks)
@@ -189,32 +190,32 @@ module _ (blocks : List Block) (p : ℕ) (b : Block) where
   }
 
 -- how one more transaction has finished is noted in its block
-noted_here : (finishes : List (Option Finish)) (tx t : ℕ) (finish : Finish) → length finishes ≡ 16 → tx / 16 ≡ t / 16
-    → get_or (set finishes (tx % 16) (Some finish)) (t % 16) None ≡ cond (eqb tx t) (Some finish) (get_or finishes (t % 16) None)
+noted_here : (finishes : List (Option Finish)) (tx t : ℕ) (finish : Finish) → length finishes ≡ BLOCK → tx / BLOCK ≡ t / BLOCK
+    → get_or (set finishes (tx % BLOCK) (Some finish)) (t % BLOCK) None ≡ cond (eqb tx t) (Some finish) (get_or finishes (t % BLOCK) None)
 noted_here finishes tx t finish count e =
     elim (cases_eq tx t) [
       | inl same ↦
-          get_or-set_at finishes (tx % 16) (t % 16) (Some finish) None (ap (λ n. n % 16) (sym same)) (omega (arith, count))
-          ∙ sym (ap (λ b. cond b (Some finish) (get_or finishes (t % 16) None)) (eq-eqb tx t same))
+          get_or-set_at finishes (tx % BLOCK) (t % BLOCK) (Some finish) None (ap (λ n. n % BLOCK) (sym same)) (omega (arith, count))
+          ∙ sym (ap (λ b. cond b (Some finish) (get_or finishes (t % BLOCK) None)) (eq-eqb tx t same))
       | inr ne ↦
-          get_or-set_other finishes (tx % 16) (t % 16) (Some finish) None (λ r. ne (omega (arith, r, e)))
-          ∙ sym (ap (λ b. cond b (Some finish) (get_or finishes (t % 16) None)) (ne_eqb tx t ne))
+          get_or-set_other finishes (tx % BLOCK) (t % BLOCK) (Some finish) None (λ r. ne (omega (arith, r, e)))
+          ∙ sym (ap (λ b. cond b (Some finish) (get_or finishes (t % BLOCK) None)) (ne_eqb tx t ne))
     ]
 
-pub finish_noted : (blocks : List Block) (p tx : ℕ) (finish : Finish) (d : Block) → place_of blocks (tx / 16) ≡ Some p → length (get_or blocks p d).finishes ≡ 16 → (t : ℕ)
-    → finish_in (set blocks p (with_finish (get_or blocks p d) (tx % 16) finish)) t ≡ cond (eqb tx t) (Some finish) (finish_in blocks t)
+pub finish_noted : (blocks : List Block) (p tx : ℕ) (finish : Finish) (d : Block) → place_of blocks (tx / BLOCK) ≡ Some p → length (get_or blocks p d).finishes ≡ BLOCK → (t : ℕ)
+    → finish_in (set blocks p (with_finish (get_or blocks p d) (tx % BLOCK) finish)) t ≡ cond (eqb tx t) (Some finish) (finish_in blocks t)
 finish_noted blocks p tx finish d is count t =
-    let after : Block = with_finish (get_or blocks p d) (tx % 16) finish in
-    let at = place_is blocks (tx / 16) p is in
-    let read = λ (x : List (Option Finish)). get_or x (t % 16) None in
-    elim (cases_eq (tx / 16) (t / 16)) [
+    let after : Block = with_finish (get_or blocks p d) (tx % BLOCK) finish in
+    let at = place_is blocks (tx / BLOCK) p is in
+    let read = λ (x : List (Option Finish)). get_or x (t % BLOCK) None in
+    elim (cases_eq (tx / BLOCK) (t / BLOCK)) [
       | inl e ↦
-          (let here : place_of (set blocks p after) (t / 16) ≡ Some p = place_set blocks p after d (t / 16) refl ∙ (ap (place_of blocks) (sym e) ∙ is) in
-          let put : (get_or (set blocks p after) p d).finishes ≡ set (get_or blocks p d).finishes (tx % 16) (Some finish) = ap (λ (b : Block). b.finishes) (get_or-set_at blocks p p after d refl at.within) in
-          let new : block_in (set blocks p after) (t / 16) ≡ set (get_or blocks p d).finishes (tx % 16) (Some finish) = (place_is (set blocks p after) (t / 16) p here).finishes d ∙ put in
-          let old : block_in blocks (t / 16) ≡ (get_or blocks p d).finishes = ap (block_in blocks) (sym e) ∙ at.finishes d in
+          (let here : place_of (set blocks p after) (t / BLOCK) ≡ Some p = place_set blocks p after d (t / BLOCK) refl ∙ (ap (place_of blocks) (sym e) ∙ is) in
+          let put : (get_or (set blocks p after) p d).finishes ≡ set (get_or blocks p d).finishes (tx % BLOCK) (Some finish) = ap (λ (b : Block). b.finishes) (get_or-set_at blocks p p after d refl at.within) in
+          let new : block_in (set blocks p after) (t / BLOCK) ≡ set (get_or blocks p d).finishes (tx % BLOCK) (Some finish) = (place_is (set blocks p after) (t / BLOCK) p here).finishes d ∙ put in
+          let old : block_in blocks (t / BLOCK) ≡ (get_or blocks p d).finishes = ap (block_in blocks) (sym e) ∙ at.finishes d in
           ap read new ∙ (noted_here (get_or blocks p d).finishes tx t finish count e ∙ ap (λ (x : List (Option Finish)). cond (eqb tx t) (Some finish) (read x)) (sym old)))
       | inr ne ↦
-          ap read (block_set_other blocks p after d (t / 16) refl (λ e. ne (sym (at.number d) ∙ e)))
-          ∙ sym (ap (λ b. cond b (Some finish) (finish_in blocks t)) (ne_eqb tx t (λ e. ne (ap (λ n. n / 16) e))))
+          ap read (block_set_other blocks p after d (t / BLOCK) refl (λ e. ne (sym (at.number d) ∙ e)))
+          ∙ sym (ap (λ b. cond b (Some finish) (finish_in blocks t)) (ne_eqb tx t (λ e. ne (ap (λ n. n / BLOCK) e))))
     ]

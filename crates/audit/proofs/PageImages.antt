@@ -1,5 +1,5 @@
 -- The law of a page, decided by the last writers of its cells.
-use Rattle.std.proofs.Common.{◌≡◌, ◌<◌, ◌≤◌, ◌+◌, ◌*◌, ◌&&◌, ℕ, suc, Bool, true, false, cond, List, [], length, get_or, set, None, refl, sym, ap, ap₂, ◌∙◌, inl, inr, arith, eqb, eqb-true, ltb, leb}
+use Rattle.std.proofs.Common.{◌-◌, ◌≡◌, ◌<◌, ◌≤◌, ◌+◌, ◌*◌, ◌&&◌, ℕ, suc, Bool, true, false, cond, List, [], length, get_or, set, None, refl, sym, ap, ap₂, ◌∙◌, inl, inr, arith, eqb, eqb-true, ltb, leb}
 use Rattle.std.proofs.lemmas.Bool.{cases_Bool, ltb-true, ltb-false, le-leb, lt-leb, and_parts, cases_lt}
 use Rattle.std.proofs.lemmas.List.FromFn.{get_or-map-range_with_len, length-map-range_with_len}
 use Rattle.std.proofs.lemmas.List.{ext_get_or, get_or_default}
@@ -16,6 +16,7 @@ use Rattle.audit.specs.Pages.{page_lsn, log_at, writers_after, KeepsPage}
 use Rattle.audit.proofs.Cells.{last_write_within, image_in_last}
 use Rattle.audit.proofs.Noting.{put_there, left_there}
 use Rattle.wal.proofs.Histories.{first_all, first_first, size_of_first_le, record_in_first, first_base}
+use Rattle.page.specs.declared.profile.TheConstants.{SLOTS}
 
 -- BEGINNINGS
 -- one more record, for a page whose PageLSN is k
@@ -50,8 +51,8 @@ module _ (pages : List Page) (log : History) (r : LogRecord) (lsn : ℕ) (at : l
       let same : p ≡ page = eqb-true p page (and_parts (eqb p page) (eqb s slot) w).0 in
       ap (λ n. ltb (last_lsn log) (page_lsn pages n)) (sym same) ∙ sym (le_is_lt (last_lsn log) lsn (page_lsn pages p) at) ∙ e
 
-  in_cell : (p s : ℕ) → ((page slot : ℕ) → writes page slot r ≡ (eqb p page && eqb s slot)) → p < length pages → s < 16
-      → KeepsWriters (length pages) (log_at pages (log ▸ r)) (cond (leb lsn (page_lsn pages p)) (set ws (16 * p + s) lsn) ws)
+  in_cell : (p s : ℕ) → ((page slot : ℕ) → writes page slot r ≡ (eqb p page && eqb s slot)) → p < length pages → s < SLOTS
+      → KeepsWriters (length pages) (log_at pages (log ▸ r)) (cond (leb lsn (page_lsn pages p)) (set ws (SLOTS * p + s) lsn) ws)
   in_cell p s on lp ls =
       elim (cases_Bool (leb lsn (page_lsn pages p))) [
         | inl b ↦
@@ -89,10 +90,10 @@ module _ (pages : List Page) (log : History) (r : LogRecord) (lsn : ℕ) (at : l
 pub writers_noted : (pages : List Page) (log : History) (r : LogRecord) (lsn : ℕ) (ws : List ℕ) → last_lsn log + 1 ≡ lsn → NamesPages (length pages) r → Fits r → KeepsWriters (length pages) (log_at pages log) ws
     → KeepsWriters (length pages) (log_at pages (log ▸ r)) (writers_after (page_lsn pages) ws (cell_of r) lsn)
 writers_noted pages log (Update u) lsn ws at named fits keeps =
-    let s : u.slot ≤ 15 = fits.slot in
+    let s : u.slot ≤ SLOTS - 1 = fits.slot in
     in_cell pages log (Update u) lsn at ws keeps u.page u.slot (λ page slot. refl) named (omega arith)
 writers_noted pages log (Compensation u) lsn ws at named fits keeps =
-    let s : u.slot ≤ 15 = fits.slot in
+    let s : u.slot ≤ SLOTS - 1 = fits.slot in
     in_cell pages log (Compensation u) lsn at ws keeps u.page u.slot (λ page slot. refl) named (omega arith)
 writers_noted pages log r lsn ws at named fits keeps = in_none pages log r lsn at ws keeps (λ page slot. refl)
 
@@ -106,7 +107,7 @@ write_low page slot lsn log =
 
 -- SLOTS
 module _ (base : BasePages) (log : History) (ws : List ℕ) (page : Page) (keeps : KeepsPage log ws page) where
-  value_left : (k : ℕ) → k < 16 → image_or (base.cells page.number k) (record_at log (get_or ws (16 * page.number + k) 0)) ≡ replay base (first page.lsn log) page.number k
+  value_left : (k : ℕ) → k < SLOTS → image_or (base.cells page.number k) (record_at log (get_or ws (SLOTS * page.number + k) 0)) ≡ replay base (first page.lsn log) page.number k
   value_left k lt =
       let w : ℕ = last_write page.number k (first page.lsn log) in
       let low : w ≤ page.lsn = write_low page.number k page.lsn log in
@@ -115,15 +116,15 @@ module _ (base : BasePages) (log : History) (ws : List ℕ) (page : Page) (keeps
       ∙ image_in_last base page.number k (first page.lsn log)
 
   abbrev pub AreLeft : Type 0
-  AreLeft = (k : ℕ) → k < 16 → get_or page.slots k None ≡ image_or (base.cells page.number k) (record_at log (get_or ws (16 * page.number + k) 0))
+  AreLeft = (k : ℕ) → k < SLOTS → get_or page.slots k None ≡ image_or (base.cells page.number k) (record_at log (get_or ws (SLOTS * page.number + k) 0))
 
-  slot_is : (k : ℕ) → k < 16 → get_or (slots_in (replay base (first page.lsn log)) page.number) k None ≡ replay base (first page.lsn log) page.number k
-  slot_is k lt = get_or-map-range_with_len (replay base (first page.lsn log) page.number) 0 16 k k None lt (omega arith)
+  slot_is : (k : ℕ) → k < SLOTS → get_or (slots_in (replay base (first page.lsn log)) page.number) k None ≡ replay base (first page.lsn log) page.number k
+  slot_is k lt = get_or-map-range_with_len (replay base (first page.lsn log) page.number) 0 SLOTS k k None lt (omega arith)
 
-  pub left_slots : length page.slots ≡ 16 → AreLeft → page.slots ≡ slots_in (replay base (first page.lsn log)) page.number
+  pub left_slots : length page.slots ≡ SLOTS → AreLeft → page.slots ≡ slots_in (replay base (first page.lsn log)) page.number
   left_slots len left =
-      ext_get_or None page.slots (slots_in (replay base (first page.lsn log)) page.number) (len ∙ sym (length-map-range_with_len (replay base (first page.lsn log) page.number) 0 16))
-      (λ k lt. let lt' : k < 16 = omega arith in left k lt' ∙ value_left k lt' ∙ sym (slot_is k lt'))
+      ext_get_or None page.slots (slots_in (replay base (first page.lsn log)) page.number) (len ∙ sym (length-map-range_with_len (replay base (first page.lsn log) page.number) 0 SLOTS))
+      (λ k lt. let lt' : k < SLOTS = omega arith in left k lt' ∙ value_left k lt' ∙ sym (slot_is k lt'))
 
   pub slots_left : page.slots ≡ slots_in (replay base (first page.lsn log)) page.number → AreLeft
   slots_left e k lt = ap (λ (xs : List Image). get_or xs k None) e ∙ slot_is k lt ∙ sym (value_left k lt)
@@ -134,7 +135,7 @@ pub keeps_page : (pages : List Page) (log : History) (ws : List ℕ) (i : ℕ) (
 keeps_page pages log ws i page is lt number keeps slot lt' =
     let blank : Page = record { number = 0; lsn = 0; slots = [] } in
     let lsn : page_lsn pages i ≡ page.lsn = ap (λ (p : Page). p.lsn) (get_or_default pages i blank page lt ∙ sym is) in
-    ap (λ n. get_or ws (16 * n + slot) 0) number
+    ap (λ n. get_or ws (SLOTS * n + slot) 0) number
     ∙ keeps.each i slot 0 lt lt'
     ∙ ap₂ (λ n k. last_write n slot (first k log)) (sym number) lsn
 

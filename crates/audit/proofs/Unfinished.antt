@@ -14,6 +14,7 @@ use Rattle.audit.specs.Statuses.{IsStatusOf}
 use Rattle.audit.specs.Unfinished.{unfinished_in, own_or, IsPlaced, IsOther}
 use Rattle.audit.specs.Standings.{IsStandingOf, standing_by}
 use Rattle.audit.proofs.StandingAfter.{finished_so}
+use Rattle.audit.specs.declared.unfinished_table.TheConstants.{PLACES}
 
 pub has_none : (t : ℕ) (log : History) → last_of t log ≡ 0 → has (is_of t) log ≡ false
 has_none t (start _) h = refl
@@ -62,13 +63,13 @@ present_unfinished links t log (Some s) finish h done = absurd (both_ways (finis
 
 -- so an unfinished transaction is at a place, or among the others
 found_there : (table : UnfinishedTable) (t : ℕ) (s : Status) → unfinished_in table t ≡ Some s → IsPlaced table t ⊎ IsOther table t
-found_there table t s e = by_place (get_or table.places (t % 1024) None) refl
+found_there table t s e = by_place (get_or table.places (t % PLACES) None) refl
   where
-    by_place : (o : Option (ℕ × Status)) → get_or table.places (t % 1024) None ≡ o → IsPlaced table t ⊎ IsOther table t
+    by_place : (o : Option (ℕ × Status)) → get_or table.places (t % PLACES) None ≡ o → IsPlaced table t ⊎ IsOther table t
     by_place None is = inr (ap is_some (sym (ap (λ o. own_or t o (get nat_cmp table.others t)) is) ∙ e))
     by_place (Some p) is =
         elim (cases_eq p.0 t) [
-          | inl own ↦ inl (t % 1024, p.1, mod-lt t (omega arith), is ∙ ap (λ n. Some (n, p.1)) own)
+          | inl own ↦ inl (t % PLACES, p.1, mod-lt t (omega arith), is ∙ ap (λ n. Some (n, p.1)) own)
           | inr ne ↦
               inr (ap is_some (sym (ap (λ o. own_or t o (get nat_cmp table.others t)) is ∙ ap (λ b. cond b (Some p.1) (get nat_cmp table.others t)) (ne_eqb p.0 t ne)) ∙ e))
         ]

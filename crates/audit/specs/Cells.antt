@@ -4,7 +4,7 @@ use Rattle.std.specs.Prelude.{Option, Some, None, ◌≡◌, ◌<◌, ◌+◌, �
 use Rattle.std.specs.Option.{option_map_or}
 use Rattle.wal.specs.Records.{LogRecord, History, start, ◌▸◌, last_lsn}
 use Rattle.wal.specs.Meaning.{BasePages, owner, change_of, image_of, writes, replay}
-use Rattle.page.specs.declared.sizes.TheConstants.{SLOTS}
+use Rattle.page.specs.declared.profile.TheConstants.{SLOTS}
 use Rattle.audit.specs.declared.cell.Cell.{Cell}
 
 -- the LSN of the last update or CLR in the cell, or 0

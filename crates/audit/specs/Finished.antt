@@ -1,18 +1,19 @@
--- How the finished transactions have finished, by blocks of 16 neighbours (own).
+-- How the finished transactions have finished, by blocks of `BLOCK` neighbours (own).
 use Rattle.std.specs.Prelude.{◌≡◌, ◌<◌, ℕ, suc, List, [], ◌∷◌, Option, Some, None, ◌==◌, ◌/◌, ◌%◌, if◌then◌else◌, length, option_map, replicate, slice_set, slice_index_or}
 use Rattle.audit.specs.declared.standing.Finish.{Finish}
 use Rattle.audit.specs.declared.finish_table.Block.{Block}
 use Rattle.audit.specs.declared.block_index.BlockIndex.{BlockIndex}
 use Rattle.audit.specs.BlockIndex.{IsKept}
+use Rattle.audit.specs.declared.finish_table.TheConstants.{BLOCK}
 
--- how the 16 transactions of the block with this number have finished; none has if there is no such block
+-- how the transactions of the block with this number have finished; none has if there is no such block
 abbrev pub block_in : List Block → ℕ → List (Option Finish)
-block_in [] number = replicate 16 None
+block_in [] number = replicate BLOCK None
 block_in (b ∷ blocks) number = if b.number == number then b.finishes else block_in blocks number
 
 -- how the transaction t has finished
 abbrev pub finish_in : List Block → ℕ → Option Finish
-finish_in blocks t = slice_index_or (block_in blocks (t / 16)) (t % 16) None
+finish_in blocks t = slice_index_or (block_in blocks (t / BLOCK)) (t % BLOCK) None
 
 -- the place of the block with this number
 abbrev pub place_of : List Block → ℕ → Option ℕ
@@ -21,7 +22,7 @@ place_of (b ∷ blocks) number = if b.number == number then Some 0 else option_m
 
 -- a block in which no transaction has finished
 abbrev pub empty_block : ℕ → Block
-empty_block number = record { number = number; finishes = replicate 16 None }
+empty_block number = record { number = number; finishes = replicate BLOCK None }
 
 -- the block after one more transaction has finished in this way
 abbrev pub with_finish : Block → (place : ℕ) → Finish → Block

@@ -4,7 +4,7 @@ use Rattle.page.specs.declared.page.Page.{Page}
 use Rattle.std.specs.Option.{option_map_or}
 use Rattle.wal.specs.Records.{History, first}
 use Rattle.audit.specs.Cells.{last_write}
-use Rattle.page.specs.declared.sizes.TheConstants.{SLOTS}
+use Rattle.page.specs.declared.profile.TheConstants.{SLOTS}
 
 -- the PageLSN of the page at a place
 abbrev pub page_lsn : List Page → ℕ → ℕ

@@ -14,7 +14,7 @@ ghost use Rattle.audit.specs.Statuses.{IsTop};
 ghost use Rattle.audit.specs.Standings.{newest_of, standing_in};
 ghost use Rattle.audit.specs.Cells.{HasCell};
 ghost use Rattle.audit.specs.Passing.{IsAuditStateOf};
-ghost use Rattle.page.specs.declared.sizes.TheConstants.{PAGES};
+ghost use Rattle.page.specs.declared.profile.TheConstants.{PAGES};
 
 use crate::cell::{Cell, note_cell, start_cells};
 use crate::standing::Standing;

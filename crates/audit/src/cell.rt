@@ -2,7 +2,7 @@
 
 ghost use Rattle.std.specs.Prelude.{◌≡◌, ◌≤◌, ◌*◌, ℕ, length, IfOk, IsOkUnless};
 ghost use Rattle.page.specs.declared.fault.Fault.TheVariants.{NoResource};
-ghost use Rattle.page.specs.declared.sizes.TheConstants.{PAGES, SLOTS};
+ghost use Rattle.page.specs.declared.profile.TheConstants.{PAGES, SLOTS};
 ghost use Rattle.wal.specs.Records.{start, history, base_lsn, last_lsn};
 ghost use Rattle.wal.specs.Pages.{base_pages};
 ghost use Rattle.wal.specs.Spelling.{Fits};

@@ -14,7 +14,7 @@ ghost use Rattle.audit.specs.Unfinished.{unfinished_in};
 ghost use Rattle.audit.specs.Cells.{HasCell, KeepsCells, cell_in};
 ghost use Rattle.audit.specs.declared.cell.Cell.{Cell};
 ghost use Rattle.audit.specs.Passing.{Begins, IsUpdateUndoneBy, IsFreeFor};
-ghost use Rattle.page.specs.declared.sizes.TheConstants.{SLOTS};
+ghost use Rattle.page.specs.declared.profile.TheConstants.{SLOTS};
 
 use crate::cell::Cell;
 use crate::standing::{Finish, Standing, is_finish_of};

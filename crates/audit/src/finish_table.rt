@@ -2,6 +2,7 @@
 
 ghost use Rattle.std.specs.Prelude.{◌≡◌, ◌==◌, ◌/◌, ◌%◌, ◌++◌, ◌∷◌, [], ℕ, Some, None, OnOk, OnErr, IfOk, IsOkUnless, if◌then◌else◌, length, slice_set, slice_index_or, option_map, take};
 ghost use Rattle.page.specs.declared.fault.Fault.TheVariants.{NoResource};
+ghost use Rattle.audit.specs.declared.finish_table.TheConstants.{BLOCK};
 ghost use Rattle.audit.specs.Finished.{finish_in, place_of, empty_block, with_finish, AreDistinct, IsIndexOf};
 
 use crate::block_index::BlockIndex;
@@ -18,6 +19,9 @@ const FIRST_BUCKETS: usize = 8;
 
 /// How many blocks a bucket of an index has on average when the index grows.
 const FULL: usize = 4;
+
+/// How many times as many buckets the index has after that.
+const GROWTH: usize = 4;
 
 /// How 16 transactions with neighbouring numbers have finished.
 #[derive(Clone, Copy)]
@@ -55,8 +59,8 @@ impl Model for FinishTable {
 /// Notes in its block how a transaction has finished.
 #[inline(always)]
 fn put(block: &mut Block, tx: u32, finish: Finish)
-    ensures count { length block.old.finishes ≡ 16 }
-    ensures put { block.new ≡ with_finish block.old (tx % 16) finish }
+    ensures count { length block.old.finishes ≡ BLOCK }
+    ensures put { block.new ≡ with_finish block.old (tx % BLOCK) finish }
 {
     block.finishes[tx as usize % BLOCK] = Some(finish);
 }
@@ -93,7 +97,7 @@ fn make_room(blocks: &Vec<Block>, index: &mut BlockIndex) -> Result<(), Fault>
 {
     let count = index.tags.len();
     if blocks.len() / FULL >= count {
-        let more = count.saturating_mul(2).max(FIRST_BUCKETS);
+        let more = count.saturating_mul(GROWTH).max(FIRST_BUCKETS);
         *index = index_of(*blocks.allocator(), blocks, more)?;
     }
     Ok(())

@@ -11,7 +11,7 @@ ghost use Rattle.wal.specs.Content.{shown};
 ghost use Rattle.audit.specs.Cells.{KeepsWriters, image_or};
 ghost use Rattle.audit.specs.Pages.{page_lsn, writers_after, log_at, KeepsPage};
 ghost use Rattle.audit.specs.FirstFault.{BrokenPage, PageLawFault};
-ghost use Rattle.page.specs.declared.sizes.TheConstants.{PAGES, SLOTS};
+ghost use Rattle.page.specs.declared.profile.TheConstants.{PAGES, SLOTS};
 
 use crate::base::{base_page_lsn, base_value};
 use crate::decide::is_value;

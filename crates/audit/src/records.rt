@@ -15,7 +15,7 @@ ghost use Rattle.audit.specs.Statuses.{IsTop};
 ghost use Rattle.audit.specs.Standings.{newest_of, standing_in};
 ghost use Rattle.audit.specs.Passing.{IsAuditStateOf, Begins};
 ghost use Rattle.audit.specs.FirstFault.{BrokenAt, AreSound, RecordFault};
-ghost use Rattle.page.specs.declared.sizes.TheConstants.{PAGES, SLOTS};
+ghost use Rattle.page.specs.declared.profile.TheConstants.{PAGES, SLOTS};
 
 use crate::audit_state::AuditState;
 use crate::cell::{AHEAD, look_ahead};

@@ -19,7 +19,8 @@ pub const PLACES: usize = 1024;
 /// What is known of each transaction that has a record and has not finished.
 #[derive(Drop)]
 pub struct UnfinishedTable {
-    /// At each place one transaction, with its number, or None. The place is the number modulo 1,024.
+    /// At each place one transaction, with its number, or None. The place is the number modulo
+    /// [`PLACES`].
     pub places: [Option<(u32, Status)>; PLACES],
     /// Those whose place another transaction had. One that is at its place now may still be here:
     /// then what is known of it is what is at its place.

@@ -13,6 +13,7 @@ use Rattle.board.specs.Claims.{times, total, places, draws, if_any, places_past,
 use Rattle.board.proofs.Times.{times-append, total_set, total_snoc, total_at, total_two}
 use Rattle.std.proofs.lemmas.Bool.{or_cases}
 use Rattle.board.proofs.Law.{S, M, if_any_cut, if_any_both, once, Live, Spent, Told, all_set, unchanged, flag-le}
+use Rattle.board.specs.declared.sizes.TheConstants.{SEATS, PARTS}
 
 -- a load of the stop word that notes nothing changes nothing
 pub looks : (p : Plan) (slots id : ℕ) (me : M) → Allows (KeepsRule p) slots id me p.ranges (λ n. n) (looked (step slots p.ranges 0 0 none) me)
@@ -132,7 +133,7 @@ pub joins : (p : Plan) (id : ℕ) (v : View) (by : ℕ) (w : View) → 0 < v.pla
 joins p id v by w lives lives' s kept at apart' that = whole p s kept id v at by w apart' that lives lives'
 
 -- the words at the start are 0
-pub opens : (p : Plan) (ws : List ℕ) → (p.parts ≤ 4096) × (0 < p.ranges) × (p.ranges ≤ 64) × (p.seats ≤ 64) → length ws ≡ p.ranges + 1 → ((r : ℕ) → slice_index ws r ≡ 0)
+pub opens : (p : Plan) (ws : List ℕ) → (p.parts ≤ PARTS) × (0 < p.ranges) × (p.ranges ≤ SEATS) × (p.seats ≤ SEATS) → length ws ≡ p.ranges + 1 → ((r : ℕ) → slice_index ws r ≡ 0)
     → KeepsRule p (opening ws [] (opened p))
 opens p ws sized rows none_yet = record {
   sized = sized;

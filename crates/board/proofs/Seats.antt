@@ -15,6 +15,7 @@ use Rattle.board.specs.Claims.{times, start, size, with_drawn, with_ended, unite
 use Rattle.board.specs.Seats.{IsSeat}
 use Rattle.std.proofs.Common.{replicate, take, Option, Some, None, is_some, IfNone}
 use Rattle.board.proofs.Times.{times-append, times_push_same, times_push_other, times_from_contains, contains_from_times, length_below}
+use Rattle.board.specs.declared.sizes.TheConstants.{SEATS}
 
 abbrev Tok : Type 0
 Tok = Token (Unit {0}) View
@@ -45,7 +46,7 @@ off : false ≡ true → ⊥
 off e = cc
 
 -- the seat of a new board
-pub first_seat : (t : Tok) (n : ℕ) (p : Plan) (flags : List Bool) → t.me ≡ (opened p, []) → p.seats ≡ n → 0 < n → n ≤ 64 → flags ≡ replicate 64 false → IsSeat (record { token = t; places = n; ended = flags })
+pub first_seat : (t : Tok) (n : ℕ) (p : Plan) (flags : List Bool) → t.me ≡ (opened p, []) → p.seats ≡ n → 0 < n → n ≤ SEATS → flags ≡ replicate SEATS false → IsSeat (record { token = t; places = n; ended = flags })
 first_seat t n p flags e size' lives few blank = record {
   no_slot = ap (λ m. m.1) e;
   some_place = lives;
@@ -55,7 +56,7 @@ first_seat t n p flags e size' lives few blank = record {
   below = λ x h. let a : times x t.me.0.drawn ≡ 0 = ap (λ m. times x m.0.drawn) e in absurd (omega arith);
   ended = λ r h.
       let a : times r t.me.0.ended ≡ 0 = ap (λ m. times r m.0.ended) e in
-      ((λ on. absurd (off (sym (ap (λ (l : List Bool). get_or l r false) blank ∙ no_flag 64 r) ∙ on))), (λ h. absurd (omega arith)));
+      ((λ on. absurd (off (sym (ap (λ (l : List Bool). get_or l r false) blank ∙ no_flag SEATS r) ∙ on))), (λ h. absurd (omega arith)));
 }
 
 -- sizes that a seat and its board share
@@ -87,7 +88,7 @@ module _ (s : Inside) (sits : IsSeat s) (t : Tok) (empty : t.me.1 ≡ s.token.me
   }
 
   -- a step found the end of range q
-  pub met : (q : ℕ) → length s.ended ≡ 64 → q < 64 → t.me.0 ≡ with_ended s.token.me.0 q → IsSeat (record { token = t; places = s.places; ended = slice_set s.ended q true })
+  pub met : (q : ℕ) → length s.ended ≡ SEATS → q < SEATS → t.me.0 ≡ with_ended s.token.me.0 q → IsSeat (record { token = t; places = s.places; ended = slice_set s.ended q true })
   met q long few e = record {
     no_slot = empty ∙ sits.no_slot;
     some_place = sits.some_place;
@@ -98,7 +99,7 @@ module _ (s : Inside) (sits : IsSeat s) (t : Tok) (empty : t.me.1 ≡ s.token.me
     ended = λ r h. subst (λ (v : View). (slice_index_or (slice_set s.ended q true) r false ≡ true) ↔ (0 < times r v.ended)) (sym e) (marks r h);
   }
     where
-      marks : (r : ℕ) → r < 64 → (slice_index_or (slice_set s.ended q true) r false ≡ true) ↔ (0 < times r (s.token.me.0.ended ++ q ∷ []))
+      marks : (r : ℕ) → r < SEATS → (slice_index_or (slice_set s.ended q true) r false ≡ true) ↔ (0 < times r (s.token.me.0.ended ++ q ∷ []))
       marks r h = dite (ℕ_discrete r q)
           (λ (same : r ≡ q).
           subst (λ (z : ℕ). (slice_index_or (slice_set s.ended q true) z false ≡ true) ↔ (0 < times z (s.token.me.0.ended ++ q ∷ []))) (sym same)
@@ -124,8 +125,8 @@ or_right true b e = refl
 or_right false b e = e
 
 -- two seats made one
-pub joined_seat : (s u : Inside) → IsSeat s → IsSeat u → (t : Tok) (flags : List Bool) → t.me ≡ (united s.token.me.0 u.token.me.0, s.token.me.1) → ((x : ℕ) → times x t.me.0.drawn ≤ 1) → t.me.0.places ≤ 64 → u.token.me.0.plan.parts ≡ s.token.me.0.plan.parts
-    → ((r : ℕ) → r < 64 → slice_index_or flags r false ≡ (slice_index_or s.ended r false || slice_index_or u.ended r false))
+pub joined_seat : (s u : Inside) → IsSeat s → IsSeat u → (t : Tok) (flags : List Bool) → t.me ≡ (united s.token.me.0 u.token.me.0, s.token.me.1) → ((x : ℕ) → times x t.me.0.drawn ≤ 1) → t.me.0.places ≤ SEATS → u.token.me.0.plan.parts ≡ s.token.me.0.plan.parts
+    → ((r : ℕ) → r < SEATS → slice_index_or flags r false ≡ (slice_index_or s.ended r false || slice_index_or u.ended r false))
     → IsSeat (record { token = t; places = s.places + u.places; ended = flags })
 joined_seat s u sits sits' t flags e one few parts or = record {
   no_slot = ap (λ m. m.1) e ∙ sits.no_slot;
@@ -147,10 +148,10 @@ joined_seat s u sits sits' t flags e one few parts or = record {
 }
 
 -- what a flag shows
-pub open_from_flag : (s : Inside) → IsSeat s → (r : ℕ) → r < 64 → slice_index_or s.ended r false ≡ false → Contains s.token.me.0.ended r → ⊥
+pub open_from_flag : (s : Inside) → IsSeat s → (r : ℕ) → r < SEATS → slice_index_or s.ended r false ≡ false → Contains s.token.me.0.ended r → ⊥
 open_from_flag s sits r few clear c = off (sym clear ∙ (sits.ended r few).1 (times_from_contains r s.token.me.0.ended c))
 
-pub ended_from_flag : (s : Inside) → IsSeat s → (r : ℕ) → r < 64 → slice_index_or s.ended r false ≡ true → Contains s.token.me.0.ended r
+pub ended_from_flag : (s : Inside) → IsSeat s → (r : ℕ) → r < SEATS → slice_index_or s.ended r false ≡ true → Contains s.token.me.0.ended r
 ended_from_flag s sits r few marked = contains_from_times r s.token.me.0.ended ((sits.ended r few).0 marked)
 
 pub if_none : (o : Option ℕ) (P : Type 0) → is_some o ≡ false → IfNone o P → P

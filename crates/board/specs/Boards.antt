@@ -2,6 +2,7 @@
 use Rattle.std.specs.Prelude.{◌≡◌, ◌+◌, ◌<◌, ◌≤◌}
 use Rattle.board.specs.declared.board.Board.TheInside.{Inside}
 use Rattle.board.specs.Drawn.{BoardId}
+use Rattle.board.specs.declared.sizes.TheConstants.{SEATS, PARTS}
 
 -- what contracts see of a board
 abbrev pub board_of : Inside → BoardId
@@ -14,4 +15,4 @@ pub record IsBoard (b : Inside) : Type 0 where
   pub same_plan : b.plan ≡ b.table.shared.key
   pub words : b.table.shared.table_id.words ≡ b.plan.ranges + 1
   pub no_slot : b.table.shared.table_id.slots ≡ 0
-  pub sized : (b.plan.parts ≤ 4096) × (0 < b.plan.ranges) × (b.plan.ranges ≤ 64) × (b.plan.seats ≤ 64)
+  pub sized : (b.plan.parts ≤ PARTS) × (0 < b.plan.ranges) × (b.plan.ranges ≤ SEATS) × (b.plan.seats ≤ SEATS)

@@ -8,6 +8,7 @@ use Rattle.atomic_table.specs.Table.{State, Me, Step}
 use Rattle.board.specs.declared.view.Plan.{Plan}
 use Rattle.board.specs.declared.view.View.{View}
 use Rattle.board.specs.Drawn.{AllEnded, range_start, range_size}
+use Rattle.board.specs.declared.sizes.TheConstants.{SEATS, PARTS}
 
 -- how often x is in the list
 abbrev pub times : ℕ → List ℕ → ℕ
@@ -56,7 +57,7 @@ Knows p words ended = (r : ℕ) → r < p.ranges → 0 < times r ended → size 
 -- Each number of a range whose step was made is once in the list of one seat, and each other number is in none; a word passes its range's
 -- size by at most the places of the seats that found its end; if a seat has seen a stop, some seat has stopped the board.
 pub record KeepsRule (p : Plan) (s : State ⊤ View) : Type 0 where
-  pub sized : (p.parts ≤ 4096) × (0 < p.ranges) × (p.ranges ≤ 64) × (p.seats ≤ 64)
+  pub sized : (p.parts ≤ PARTS) × (0 < p.ranges) × (p.ranges ≤ SEATS) × (p.seats ≤ SEATS)
   pub rows : length s.words ≡ p.ranges + 1
   pub all_places : total places s.views ≡ p.seats
   pub live : (id : ℕ) (v : View) → get_elem? s.views id ≡ some v → 0 < v.places → (v.plan ≡ p) × Knows p s.words v.ended
@@ -134,7 +135,7 @@ claimed st m n m' =
 
 -- a look at the stop word that notes nothing: it changes nothing, and shows that the seat's numbers are distinct and its places few
 abbrev pub looked : Step ⊤ → Own → ℕ → Own → Type 0
-looked st m n m' = (m' ≡ m) × ((x : ℕ) → times x m.0.drawn ≤ 1) × (m.0.places ≤ 64)
+looked st m n m' = (m' ≡ m) × ((x : ℕ) → times x m.0.drawn ≤ 1) × (m.0.places ≤ SEATS)
 
 -- a step on the stop word: the seat has stopped the board
 abbrev pub stop_set : Step ⊤ → Own → ℕ → Own → Type 0

@@ -3,10 +3,12 @@
 ghost use Rattle.std.specs.Prelude.{◌≡◌, ℕ, ◌+◌, ◌*◌, ◌<◌, ◌≤◌, [], ◌++◌, All, Contains, length, sum, IfOk, IfErr, true, false, ◌||◌, replicate};
 ghost use Rattle.board.specs.Drawn.{AreDistinct, AllEnded, AreFirstDrawn};
 ghost use Rattle.page.specs.declared.fault.Fault.TheVariants.{NoResource};
+ghost use Rattle.board.specs.declared.sizes.TheConstants.{PARTS, SEATS};
 
 use crate::ended::{either_of, no_ends};
 use crate::rule::{Both, ClaimRule, Look, OnePlace};
 use crate::seat::Seat;
+use crate::sizes::SEATS;
 use crate::tally::{Tally, words_of};
 use crate::view::{Plan, View};
 use atomic_table::Table;
@@ -41,16 +43,17 @@ impl Model for Board {
 }
 
 impl Board {
-    /// A board of `parts` numbers (at most 4,096) in `ranges` ranges (1 to 64), and a seat with all
-    /// its `seats` places (1 to 64). No number is drawn yet. The seat knows no range as ended, has
-    /// not stopped the board, and has seen no stop.
+    /// A board of `parts` numbers (at most [`PARTS`](crate::PARTS)) in `ranges` ranges (1 to
+    /// [`SEATS`](crate::SEATS)), and a seat with all its `seats` places (1 to `SEATS`). No number
+    /// is drawn yet. The seat knows no range as ended, has not stopped the board, and has seen no
+    /// stop.
     ///
     /// This is the only call that takes memory. It returns `NoResource` if memory is refused, and
     /// then nothing is left.
     pub fn new(alloc: Global, parts: u32, ranges: u32, seats: u32) -> Result<(Board, Seat), Fault>
-        requires parts { parts ≤ 4096 }
-        requires ranges { (1 ≤ ranges) × (ranges ≤ 64) }
-        requires seats { (1 ≤ seats) × (seats ≤ 64) }
+        requires parts { parts ≤ PARTS }
+        requires ranges { (1 ≤ ranges) × (ranges ≤ SEATS) }
+        requires seats { (1 ≤ seats) × (seats ≤ SEATS) }
         ensures err { IfErr result (λ f. f ≡ NoResource) }
         ensures board { IfOk result (λ r. (r.0.parts ≡ parts) × (r.0.ranges ≡ ranges)
             × (r.0.seats ≡ seats)) }
@@ -180,8 +183,8 @@ impl Board {
 }
 
 /// No step on any word yet.
-fn no_steps() -> [u64; 65]
-    ensures { result ≡ replicate 65 0 }
+fn no_steps() -> [u64; SEATS + 1]
+    ensures { result ≡ replicate (SEATS + 1) 0 }
 {
-    [0; 65]
+    [0; SEATS + 1]
 }

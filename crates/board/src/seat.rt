@@ -1,7 +1,9 @@
 //! A seat at a board.
 
 ghost use Rattle.std.specs.Prelude.{◌≡◌, ◌<◌, Contains, MatchBool};
+ghost use Rattle.board.specs.declared.sizes.TheConstants.{SEATS};
 
+use crate::sizes::SEATS;
 use crate::view::View;
 use atomic_table::Seat as Token;
 use std::marker::Model;
@@ -18,7 +20,7 @@ pub struct Seat {
     pub(crate) token: Token<(), View>,
     pub(crate) places: u32,
     /// A mark for each range that the seat knows as ended.
-    pub(crate) ended: [bool; 64],
+    pub(crate) ended: [bool; SEATS],
 }
 
 impl Model for Seat {
@@ -44,7 +46,7 @@ impl Seat {
 
     /// Whether the seat knows this range as ended.
     pub(crate) fn knows_ended(&self, range: u32) -> bool
-        requires { range < 64 }
+        requires { range < SEATS }
         ensures { MatchBool result (Contains self.now.ended range)
             (¬ Contains self.now.ended range) }
     {

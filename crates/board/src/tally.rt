@@ -2,7 +2,9 @@
 
 ghost use Rattle.std.specs.Prelude.{◌≡◌, ◌+◌, ◌<◌, ◌≤◌, length, slice_index, take};
 ghost use Rattle.std.specs.Slots.{slots_items, slots_len, IsFull};
+ghost use Rattle.board.specs.declared.sizes.TheConstants.{SEATS};
 
+use crate::sizes::SEATS;
 use atomic_table::Closed;
 use std::alloc::Global;
 use std::marker::Model;
@@ -11,7 +13,7 @@ use std::marker::Model;
 /// it as these counts and this flag (`TallyState`).
 #[derive(Drop)]
 pub struct Tally {
-    pub(crate) words: [u64; 64],
+    pub(crate) words: [u64; SEATS],
     pub(crate) ranges: u32,
     pub(crate) stopped: bool,
 }
@@ -19,12 +21,13 @@ pub struct Tally {
 impl Model for Tally {
     ghost use Rattle.std.specs.Prelude.{◌≤◌, take};
     ghost use Rattle.board.specs.Drawn.{TallyState};
+    ghost use Rattle.board.specs.declared.sizes.TheConstants.{SEATS};
 
     ghost Value = { TallyState };
 
     ghost view = { λ t. record { words = take t.ranges t.words; stopped = t.stopped } };
 
-    ghost invariant = { λ t. t.ranges ≤ 64 };
+    ghost invariant = { λ t. t.ranges ≤ SEATS };
 }
 
 impl Tally {
@@ -47,12 +50,12 @@ impl Tally {
 }
 
 /// The counts of steps on the first `ranges` words.
-pub(crate) fn words_of(closed: &Closed<(), Global>, ranges: u32) -> [u64; 64]
+pub(crate) fn words_of(closed: &Closed<(), Global>, ranges: u32) -> [u64; SEATS]
     requires full { IsFull closed.now.words }
-    requires ranges { (slots_len closed.now.words ≡ ranges + 1) × (ranges ≤ 64) }
+    requires ranges { (slots_len closed.now.words ≡ ranges + 1) × (ranges ≤ SEATS) }
     ensures { take ranges result ≡ take ranges (slots_items closed.now.words) }
 {
-    let mut words = [0; 64];
+    let mut words = [0; SEATS];
     for range in 0..ranges as usize {
         words[range] = closed.word(range);
     }

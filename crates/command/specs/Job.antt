@@ -8,7 +8,7 @@ use Rattle.words.specs.Flags.{IsFlagOf}
 use Rattle.command.specs.Line.{aries_line}
 use Rattle.restart.specs.Options.{AreInRange}
 use Rattle.restart.specs.declared.options.Options.{Options}
-use Rattle.page.specs.declared.sizes.TheConstants.{PAGES}
+use Rattle.redo.specs.declared.parting.TheConstants.{PARTS}
 use Rattle.redo.specs.declared.rounds.TheConstants.{WORKERS}
 
 -- its numbers are in their ranges
@@ -71,7 +71,7 @@ abbrev pub GivesOptions : (values : List Row) → Options → (may_be_one : Bool
 GivesOptions values options may_be_one =
     IsNumberOf values (codes "workers") WORKERS options.workers
     × (IsTrue may_be_one ↔ (first_of (codes "workers") values ≡ None))
-    × IsNumberOf values (codes "parts") PAGES options.parts
+    × IsNumberOf values (codes "parts") PARTS options.parts
 
 -- the values of the options give the job's numbers
 abbrev pub GivesNumbers : (values : List Row) → Job → Type 0

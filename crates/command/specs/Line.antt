@@ -4,7 +4,7 @@ use Rattle.clap.specs.Words.{App, Rule, Shape, Text, new_rule}
 use Rattle.clap.specs.Simple.{new_shape}
 use Rattle.clap.specs.declared.builder.value_parser.ValueParser.TheVariants.{Signed}
 use Rattle.words.specs.Flags.{flag_rule}
-use Rattle.page.specs.declared.sizes.TheConstants.{PAGES}
+use Rattle.redo.specs.declared.parting.TheConstants.{PARTS}
 use Rattle.redo.specs.declared.rounds.TheConstants.{WORKERS}
 
 -- `--name FILE`, which has to be given
@@ -39,7 +39,7 @@ recover_line = record (new_shape (codes "recover")) {
       ∷ flag_rule (codes "in-place")
       ∷ flag_rule (codes "replace")
       ∷ number_rule (codes "workers") WORKERS None
-      ∷ number_rule (codes "parts") PAGES (Some (codes "16"))
+      ∷ number_rule (codes "parts") PARTS (Some (codes "16"))
       ∷ flag_rule (codes "verbose")
       ∷ [];
 }

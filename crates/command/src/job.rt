@@ -16,8 +16,7 @@ ghost use Rattle.words.specs.declared.refusal.Refusal.TheVariants.{Memory};
 use crate::help;
 use clap::error::ErrorKind;
 use clap::{Arg, ArgMatches, Command, value_parser};
-use page::PAGES;
-use redo::WORKERS;
+use redo::{PARTS, WORKERS};
 use restart::Options;
 use std::alloc::{AllocError, Global};
 use words::{Refusal, flag_of, flag_option, no_command};
@@ -132,7 +131,7 @@ fn recover_command<'a>(alloc: Global) -> Result<Command<'a>, AllocError>
         .arg(number_option(
             alloc,
             "parts",
-            PAGES as u32,
+            PARTS,
             Some("16"),
             "Into how many parts the pages are divided, 1 to 4096",
         ))?
@@ -226,7 +225,7 @@ fn options_of(matches: &ArgMatches) -> (Options, bool)
 {
     let options = Options {
         workers: number_of(matches, "workers", WORKERS, 4),
-        parts: number_of(matches, "parts", PAGES as u32, 16),
+        parts: number_of(matches, "parts", PARTS, 16),
     };
     (options, matches.get_str("workers").is_none())
 }

@@ -9,7 +9,8 @@ use Rattle.page.specs.declared.fault.Fault.{Fault}
 use Rattle.page.specs.declared.fault.Fault.TheVariants.{NoResource, BadPage}
 use Rattle.page.specs.Store.{StoreContent}
 use Rattle.page.specs.declared.page.Page.{Page}
-use Rattle.page.specs.declared.sizes.TheConstants.{PAGE_BYTES, STORE_HEADER_BYTES}
+use Rattle.page.specs.declared.profile.TheConstants.{PAGE_BYTES}
+use Rattle.page.specs.declared.sizes.TheConstants.{STORE_HEADER_BYTES}
 use Rattle.dump.specs.declared.style.Style.{Style}
 use Rattle.dump.specs.declared.stop.Stop.{Stop}
 use Rattle.dump.specs.declared.stop.Stop.TheVariants as stop

@@ -4,7 +4,7 @@
 //! where in the buffer its text ends. So no part checks whether there is room for it.
 
 ghost use Rattle.std.specs.Prelude.{◌≡◌, ◌+◌, ◌≤◌, ◌++◌, IfSome, length, option_map, take, decimal};
-ghost use Rattle.page.specs.declared.sizes.TheConstants.{VALUE_BYTES};
+ghost use Rattle.page.specs.declared.profile.TheConstants.{VALUE_BYTES};
 ghost use Rattle.dump.specs.Line.{opening, closing, named, number_field, word_field, image_field};
 ghost use Rattle.dump.specs.declared.value.TheConstants.{IMAGE_ROOM};
 

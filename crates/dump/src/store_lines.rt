@@ -3,7 +3,7 @@
 ghost use Rattle.std.specs.Prelude.{ℕ, List, length, take, ◌+◌, ◌≤◌, ◌*◌, ◌/◌, ◌≡◌, ◌<◌, ◌++◌, ◌^◌, OnOk, IfErr};
 ghost use Rattle.std.specs.List.{flat_map};
 ghost use Rattle.std.specs.Io.KnownBytes.{Appends, Keeps};
-ghost use Rattle.page.specs.declared.sizes.TheConstants.{PAGES, PAGE_BYTES};
+ghost use Rattle.page.specs.declared.profile.TheConstants.{PAGES, PAGE_BYTES};
 ghost use Rattle.dump.specs.StoreLines.{store_line, store_lines, slot_name, slot_field, slot_fields, page_line, page_if_asked, ListsStore, IsLineOf, AreLinesOf, BeginsStore, BeginsPages, PrintsRest, PrintsFirstPages, ListsStoreToFault};
 ghost use Rattle.page.specs.File.{StoreFault};
 ghost use Rattle.page.specs.Images.{image_of};
@@ -13,12 +13,14 @@ use crate::choice::meets;
 use crate::line::{closing, put_number, put_number_field, put_opening, put_text};
 use crate::value::{IMAGE_ROOM, put_value};
 use crate::{Stop, Style};
-use page::{Fault, PAGE_BYTES, Page, SLOTS, Store, Value, decode_page, decode_store};
+use page::{
+    Fault, PAGE_BYTES, Page, SLOTS, STORE_HEADER_BYTES, Store, Value, decode_page, decode_store,
+};
 use std::alloc::{AllocError, Global};
 use std::io::Write;
 
 /// The offset in bytes of the image of the first page in a store.
-const FIRST_IMAGE: u64 = 24;
+const FIRST_IMAGE: u64 = STORE_HEADER_BYTES as u64;
 
 /// The most bytes that the line of a store's header takes, and that of a page before its slots;
 /// some more are kept free.

@@ -3,7 +3,7 @@
 ghost use Rattle.std.specs.Prelude.{◌≡◌, ◌+◌, ◌*◌, ◌≤◌, ◌<◌, ℕ, ◌++◌, IfSome, slice_index, length, option_map, take};
 ghost use Rattle.std.specs.List.{flat_map};
 ghost use Rattle.hex.specs.Hex.{encode_lower};
-ghost use Rattle.page.specs.declared.sizes.TheConstants.{VALUE_BYTES};
+ghost use Rattle.page.specs.declared.profile.TheConstants.{VALUE_BYTES};
 ghost use Rattle.dump.specs.Values.{IsPlain, escaped, value, image};
 ghost use Rattle.dump.specs.declared.value.TheConstants.{IMAGE_ROOM};
 

@@ -11,28 +11,29 @@ use Rattle.page.specs.declared.page.Page.{Page}
 use Rattle.page.specs.Image.{cells, directory, header, body, page_text, FitsPage, SpellsPage}
 use Rattle.page.specs.Images.{image_of, HasPage, SpellPages, FirstBadPage, PagesFault}
 use Rattle.page.specs.Pieces.{PagesSoFar}
-use Rattle.page.specs.File.{magic, store_header, BeginsWithHeader, SpellsStore}
+use Rattle.page.specs.File.{store_header, BeginsWithHeader, SpellsStore}
 use Rattle.page.specs.Store.{StoreContent}
 use Rattle.page.specs.declared.fault.Fault.{Fault}
 use Rattle.page.specs.declared.fault.Fault.TheVariants.{NoResource, BadPage}
 use Rattle.page.proofs.Slots.{length-directory, length-cells-le}
 use Rattle.page.proofs.Pages.{same_header}
-use Rattle.page.specs.declared.sizes.TheConstants.{CELLS_AT, PAGES, PAGE_BYTES, ROOM_BYTES}
+use Rattle.page.specs.declared.profile.TheConstants.{PAGES, PAGE_BYTES, STORE_MAGIC}
+use Rattle.page.specs.declared.sizes.TheConstants.{CELLS_AT, ROOM_BYTES, STORE_HEADER_BYTES}
 
 -- magic and numbers of a header
 pub record HasHeaderParts (mark numbers : List ℕ) (count master : ℕ) : Type 0 where
-  pub front : mark ≡ magic
+  pub front : mark ≡ STORE_MAGIC
   pub back : numbers ≡ header count master
 
-pub header_parts : (bytes front mark numbers : List ℕ) (count master : ℕ) → BeginsWithHeader bytes count master → front ≡ take 24 bytes → mark ≡ take 8 front → numbers ≡ drop 8 front
+pub header_parts : (bytes front mark numbers : List ℕ) (count master : ℕ) → BeginsWithHeader bytes count master → front ≡ take STORE_HEADER_BYTES bytes → mark ≡ take 8 front → numbers ≡ drop 8 front
     → HasHeaderParts mark numbers count master
 header_parts bytes front mark numbers count master h ef em en = record {
   front = em ∙ ap (take 8) (ef ∙ h.text);
   back = en ∙ ap (drop 8) (ef ∙ h.text);
 }
 
-pub header_whole : (bytes front mark numbers : List ℕ) (count blank master : ℕ) → front ≡ take 24 bytes → mark ≡ take 8 front → numbers ≡ drop 8 front
-    → mark ≡ magic → numbers ≡ to_be_bytes w32 count ++ to_be_bytes w32 blank ++ to_be_bytes w64 master → blank ≡ 0 → 0 < count → count ≤ PAGES → master < 2 ^ 64
+pub header_whole : (bytes front mark numbers : List ℕ) (count blank master : ℕ) → front ≡ take STORE_HEADER_BYTES bytes → mark ≡ take 8 front → numbers ≡ drop 8 front
+    → mark ≡ STORE_MAGIC → numbers ≡ to_be_bytes w32 count ++ to_be_bytes w32 blank ++ to_be_bytes w64 master → blank ≡ 0 → 0 < count → count ≤ PAGES → master < 2 ^ 64
     → BeginsWithHeader bytes count master
 header_whole bytes front mark numbers count blank master ef em en e n z some few small = record {
   text = sym ef ∙ sym (take-append-drop 8 front) ∙ ap₂ (λ (x y : List ℕ). x ++ y) (sym em ∙ e) (sym en ∙ n ∙ ap (λ m. to_be_bytes w32 count ++ to_be_bytes w32 m ++ to_be_bytes w64 master) z);
@@ -42,7 +43,7 @@ header_whole bytes front mark numbers count blank master ef em en e n z some few
 }
 
 -- what a reader of the header took is what is there
-pub one_header : (bytes front mark numbers : List ℕ) (count blank master other lsn : ℕ) → front ≡ take 24 bytes → mark ≡ take 8 front → numbers ≡ drop 8 front
+pub one_header : (bytes front mark numbers : List ℕ) (count blank master other lsn : ℕ) → front ≡ take STORE_HEADER_BYTES bytes → mark ≡ take 8 front → numbers ≡ drop 8 front
     → numbers ≡ to_be_bytes w32 count ++ to_be_bytes w32 blank ++ to_be_bytes w64 master → count < 2 ^ 32 → blank < 2 ^ 32 → master < 2 ^ 64
     → BeginsWithHeader bytes other lsn → (count ≡ other) × (blank ≡ 0) × (master ≡ lsn)
 one_header bytes front mark numbers count blank master other lsn ef em en n lc lz lm h =
@@ -133,18 +134,18 @@ first_bad images rest image i count pages so_far lt er ei none = record {
 
 pub store_header_of : (bytes : List ℕ) (store : StoreContent) → SpellsStore bytes store → BeginsWithHeader bytes (length store.pages) store.master
 store_header_of bytes store s = record {
-  text = ap (take 24) s.text ∙ take_at (store_header (length store.pages) store.master) (flat_map page_text store.pages) 24 refl;
+  text = ap (take STORE_HEADER_BYTES) s.text ∙ take_at (store_header (length store.pages) store.master) (flat_map page_text store.pages) STORE_HEADER_BYTES refl;
   some = s.fits.numbered.some;
   few = s.fits.numbered.few;
   small = s.fits.master;
 }
 
-pub store_pages_of : (bytes images : List ℕ) (store : StoreContent) → SpellsStore bytes store → images ≡ drop 24 bytes → SpellPages images (length store.pages) store.pages
+pub store_pages_of : (bytes images : List ℕ) (store : StoreContent) → SpellsStore bytes store → images ≡ drop STORE_HEADER_BYTES bytes → SpellPages images (length store.pages) store.pages
 store_pages_of bytes images store s e = record {
   number = refl;
   at_place = s.fits.numbered.at_place;
   fits = s.fits.pages;
-  text = e ∙ ap (drop 24) s.text ∙ drop_at (store_header (length store.pages) store.master) (flat_map page_text store.pages) 24 refl;
+  text = e ∙ ap (drop STORE_HEADER_BYTES) s.text ∙ drop_at (store_header (length store.pages) store.master) (flat_map page_text store.pages) STORE_HEADER_BYTES refl;
 }
 
 -- images that encode pages have no error except a lack of memory

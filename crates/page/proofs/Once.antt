@@ -14,7 +14,8 @@ use Rattle.page.proofs.Reading.{slot_inside}
 use Rattle.page.proofs.Pages.{page_parts, same_header, same_page}
 use Rattle.page.specs.File.{BeginsWithHeader, SpellsStore}
 use Rattle.page.proofs.Files.{image_inside, header_parts, store_header_of, store_pages_of}
-use Rattle.page.specs.declared.sizes.TheConstants.{CELLS_AT, VALUE_BYTES}
+use Rattle.page.specs.declared.profile.TheConstants.{VALUE_BYTES, SLOTS}
+use Rattle.page.specs.declared.sizes.TheConstants.{CELLS_AT, PAGE_HEADER_BYTES, DIRECTORY_BYTES, STORE_HEADER_BYTES}
 
 same_16 : (a b : ℕ) → a < 2 ^ 16 → b < 2 ^ 16 → to_be_bytes w16 a ≡ to_be_bytes w16 b → a ≡ b
 same_16 a b la lb e = sym (from_be_bytes-to_be_bytes_2 a la) ∙ ap (from_be_bytes w16) e ∙ from_be_bytes-to_be_bytes_2 b lb
@@ -37,7 +38,7 @@ one_slot entries bytes place (Some x) (Some y) some small a b =
     let whole_y : take (length y) bytes ≡ y = b.cell in
     ap (λ v. Some v) (sym whole_x ∙ ap (λ n. take n bytes) len ∙ whole_y)
 
-first_slots : (entries bytes : List ℕ) (xs ys : List Image) (i : ℕ) → SpellsSlots entries bytes xs → SpellsSlots entries bytes ys → i ≤ 16 → take i xs ≡ take i ys
+first_slots : (entries bytes : List ℕ) (xs ys : List Image) (i : ℕ) → SpellsSlots entries bytes xs → SpellsSlots entries bytes ys → i ≤ SLOTS → take i xs ≡ take i ys
 first_slots entries bytes xs ys zero a b le = refl
 first_slots entries bytes xs ys (suc i) a b le =
     let before = first_slots entries bytes xs ys i a b (omega arith) in
@@ -51,16 +52,16 @@ first_slots entries bytes xs ys (suc i) a b le =
     ap (λ n. take n xs) next ∙ take_more xs i None (omega (arith, a.count)) ∙ ap₂ (λ (front : List Image) slot. front ++ slot ∷ []) before same ∙ sym (take_more ys i None (omega (arith, b.count))) ∙ ap (λ n. take n ys) (sym next)
 
 one_slots : (entries bytes : List ℕ) (xs ys : List Image) → SpellsSlots entries bytes xs → SpellsSlots entries bytes ys → xs ≡ ys
-one_slots entries bytes xs ys a b = sym (take_all 16 xs (omega (arith, a.count))) ∙ first_slots entries bytes xs ys 16 a b (omega arith) ∙ take_all 16 ys (omega (arith, b.count))
+one_slots entries bytes xs ys a b = sym (take_all SLOTS xs (omega (arith, a.count))) ∙ first_slots entries bytes xs ys SLOTS a b (omega arith) ∙ take_all SLOTS ys (omega (arith, b.count))
 
 pub one_page : (bytes : List ℕ) (p q : Page) → SpellsPage bytes p → SpellsPage bytes q → p ≡ q
 one_page bytes p q a b =
-    let front = take 16 bytes in
-    let behind = drop 16 bytes in
-    let in_p = page_parts bytes front behind (take 64 behind) (drop 64 behind) p a refl refl refl refl in
-    let in_q = page_parts bytes front behind (take 64 behind) (drop 64 behind) q b refl refl refl refl in
+    let front = take PAGE_HEADER_BYTES bytes in
+    let behind = drop PAGE_HEADER_BYTES bytes in
+    let in_p = page_parts bytes front behind (take DIRECTORY_BYTES behind) (drop DIRECTORY_BYTES behind) p a refl refl refl refl in
+    let in_q = page_parts bytes front behind (take DIRECTORY_BYTES behind) (drop DIRECTORY_BYTES behind) q b refl refl refl refl in
     let numbers = same_header front p.number 0 p.lsn q.number q.lsn in_p.header a.fits.number (omega arith) a.fits.lsn in_q.header b.fits.number b.fits.lsn in
-    let slots = one_slots (take 64 behind) (drop 64 behind) p.slots q.slots in_p.slots in_q.slots in
+    let slots = one_slots (take DIRECTORY_BYTES behind) (drop DIRECTORY_BYTES behind) p.slots q.slots in_p.slots in_q.slots in
     same_page q p.number p.lsn p.slots numbers.0 numbers.2 slots
 
 pub one_pages : (images : List ℕ) (count : ℕ) (ps qs : List Page) → SpellPages images count ps → SpellPages images count qs → ps ≡ qs
@@ -78,7 +79,7 @@ same_store store master pages em ep = ap (λ m. store_of m pages) em ∙ ap (sto
 -- a header has one page count and one master
 pub same_numbers : (bytes : List ℕ) (count master other lsn : ℕ) → BeginsWithHeader bytes count master → BeginsWithHeader bytes other lsn → (count ≡ other) × (master ≡ lsn)
 same_numbers bytes count master other lsn a b =
-    let front = take 24 bytes in
+    let front = take STORE_HEADER_BYTES bytes in
     let in_a = header_parts bytes front (take 8 front) (drop 8 front) count master a refl refl refl in
     let in_b = header_parts bytes front (take 8 front) (drop 8 front) other lsn b refl refl refl in
     let numbers = same_header (drop 8 front) count 0 master other lsn in_a.back (omega (arith, a.few)) (omega arith) a.small in_b.back (omega (arith, b.few)) b.small in
@@ -87,6 +88,6 @@ same_numbers bytes count master other lsn a b =
 pub one_store : (bytes : List ℕ) (a b : StoreContent) → SpellsStore bytes a → SpellsStore bytes b → a ≡ b
 one_store bytes a b sa sb =
     let numbers = same_numbers bytes (length a.pages) a.master (length b.pages) b.master (store_header_of bytes a sa) (store_header_of bytes b sb) in
-    let images = drop 24 bytes in
+    let images = drop STORE_HEADER_BYTES bytes in
     let pages_a = subst (λ n. SpellPages images n a.pages) numbers.0 (store_pages_of bytes images a sa refl) in
     same_store b a.master a.pages numbers.1 (one_pages images (length b.pages) a.pages b.pages pages_a (store_pages_of bytes images b sb refl))

@@ -7,7 +7,7 @@ use Rattle.page.specs.Image.{Image, directory, header, body, SpellsPage}
 use Rattle.page.specs.Parts.{SpellsSlots}
 use Rattle.page.proofs.BigEndian.{same_32, same_64}
 use Rattle.page.proofs.Slots.{length-directory}
-use Rattle.page.specs.declared.sizes.TheConstants.{CELLS_AT}
+use Rattle.page.specs.declared.sizes.TheConstants.{CELLS_AT, PAGE_HEADER_BYTES, DIRECTORY_BYTES}
 
 -- header, directory and body of a page's encoding
 pub record HasParts (front entries rest : List ℕ) (page : Page) : Type 0 where
@@ -15,21 +15,21 @@ pub record HasParts (front entries rest : List ℕ) (page : Page) : Type 0 where
   pub slots : SpellsSlots entries rest page.slots
 
 pub page_parts : (bytes front behind entries rest : List ℕ) (page : Page) → SpellsPage bytes page
-    → front ≡ take 16 bytes → behind ≡ drop 16 bytes → entries ≡ take 64 behind → rest ≡ drop 64 behind → HasParts front entries rest page
+    → front ≡ take PAGE_HEADER_BYTES bytes → behind ≡ drop PAGE_HEADER_BYTES bytes → entries ≡ take DIRECTORY_BYTES behind → rest ≡ drop DIRECTORY_BYTES behind → HasParts front entries rest page
 page_parts bytes front behind entries rest page s ef eb ee er =
     let first = header page.number page.lsn in
     let second = directory CELLS_AT page.slots in
     let third = body page.slots in
     let text : bytes ≡ first ++ (second ++ third) = s.text ∙ append_assoc first second third in
-    let long : length second ≡ 64 = omega (arith, length-directory CELLS_AT page.slots, s.fits.slots) in
-    let after : behind ≡ second ++ third = eb ∙ ap (drop 16) text ∙ drop_at first (second ++ third) 16 refl in
+    let long : length second ≡ DIRECTORY_BYTES = omega (arith, length-directory CELLS_AT page.slots, s.fits.slots) in
+    let after : behind ≡ second ++ third = eb ∙ ap (drop PAGE_HEADER_BYTES) text ∙ drop_at first (second ++ third) PAGE_HEADER_BYTES refl in
     record {
-      header = ef ∙ ap (take 16) text ∙ take_at first (second ++ third) 16 refl;
+      header = ef ∙ ap (take PAGE_HEADER_BYTES) text ∙ take_at first (second ++ third) PAGE_HEADER_BYTES refl;
       slots = record {
         count = s.fits.slots;
         values = s.fits.values;
-        directory = ee ∙ ap (take 64) after ∙ take_at second third 64 long;
-        body = er ∙ ap (drop 64) after ∙ drop_at second third 64 long;
+        directory = ee ∙ ap (take DIRECTORY_BYTES) after ∙ take_at second third DIRECTORY_BYTES long;
+        body = er ∙ ap (drop DIRECTORY_BYTES) after ∙ drop_at second third DIRECTORY_BYTES long;
       };
     }
 

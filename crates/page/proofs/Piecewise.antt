@@ -8,7 +8,8 @@ use Rattle.page.specs.Pieces.{PagesSoFar, AreRead, IsSoFar}
 use Rattle.page.specs.File.{store_header, BeginsWithHeader, HasStoreHeader, SpellsStore, HasWrongSize, HasBadPage}
 use Rattle.page.proofs.Files.{pages_more, first_bad, pages_whole}
 use Rattle.page.proofs.Once.{store_of}
-use Rattle.page.specs.declared.sizes.TheConstants.{PAGES, PAGE_BYTES}
+use Rattle.page.specs.declared.profile.TheConstants.{PAGES, PAGE_BYTES}
+use Rattle.page.specs.declared.sizes.TheConstants.{STORE_HEADER_BYTES}
 
 -- ---- what came stays as it is when more comes
 
@@ -116,27 +117,27 @@ read_bad images rest image count pages l lt some ei none =
 
 -- ---- the bytes of a file
 
-header_stays : (bytes more : List ℕ) (count master : ℕ) → 24 ≤ length bytes → BeginsWithHeader bytes count master → BeginsWithHeader (bytes ++ more) count master
-header_stays bytes more count master le h = record { text = take-append-le 24 bytes more le ∙ h.text; some = h.some; few = h.few; small = h.small }
+header_stays : (bytes more : List ℕ) (count master : ℕ) → STORE_HEADER_BYTES ≤ length bytes → BeginsWithHeader bytes count master → BeginsWithHeader (bytes ++ more) count master
+header_stays bytes more count master le h = record { text = take-append-le STORE_HEADER_BYTES bytes more le ∙ h.text; some = h.some; few = h.few; small = h.small }
 
-header_stood : (bytes more : List ℕ) (count master : ℕ) → 24 ≤ length bytes → BeginsWithHeader (bytes ++ more) count master → BeginsWithHeader bytes count master
-header_stood bytes more count master le h = record { text = sym (take-append-le 24 bytes more le) ∙ h.text; some = h.some; few = h.few; small = h.small }
+header_stood : (bytes more : List ℕ) (count master : ℕ) → STORE_HEADER_BYTES ≤ length bytes → BeginsWithHeader (bytes ++ more) count master → BeginsWithHeader bytes count master
+header_stood bytes more count master le h = record { text = sym (take-append-le STORE_HEADER_BYTES bytes more le) ∙ h.text; some = h.some; few = h.few; small = h.small }
 
-pub so_far_more : (bytes more : List ℕ) (count master size next : ℕ) (pages new : List Page) (was_bad bad refused : Bool) → 24 ≤ length bytes → IsSoFar bytes count master pages size was_bad refused
-    → next ≡ min (size + length more) (2 ^ 64 - 1) → AreRead (drop 24 bytes ++ more) count new bad → IsSoFar (bytes ++ more) count master new next bad refused
+pub so_far_more : (bytes more : List ℕ) (count master size next : ℕ) (pages new : List Page) (was_bad bad refused : Bool) → STORE_HEADER_BYTES ≤ length bytes → IsSoFar bytes count master pages size was_bad refused
+    → next ≡ min (size + length more) (2 ^ 64 - 1) → AreRead (drop STORE_HEADER_BYTES bytes ++ more) count new bad → IsSoFar (bytes ++ more) count master new next bad refused
 so_far_more bytes more count master size next pages new was_bad bad refused le s e r = record {
   header = λ some. header_stays bytes more count master le (s.header some);
   none = λ kept z h. s.none kept z (h.0, h.1, header_stood bytes more h.0 h.1 le h.2);
   few = s.few;
   came = omega (arith, e, s.came, length-append bytes more);
-  read = subst (λ (t : List ℕ). AreRead t count new bad) (sym (drop-append-le 24 bytes more le)) r;
+  read = subst (λ (t : List ℕ). AreRead t count new bad) (sym (drop-append-le STORE_HEADER_BYTES bytes more le)) r;
 }
 
 -- only a header came
-pub so_far_first : (bytes : List ℕ) (count master : ℕ) (pages : List Page) (refused : Bool) → length bytes ≤ 24 → pages ≡ [] → (0 < count → BeginsWithHeader bytes count master)
+pub so_far_first : (bytes : List ℕ) (count master : ℕ) (pages : List Page) (refused : Bool) → length bytes ≤ STORE_HEADER_BYTES → pages ≡ [] → (0 < count → BeginsWithHeader bytes count master)
     → (refused ≡ false → count ≡ 0 → HasStoreHeader bytes → ⊥) → count ≤ PAGES → IsSoFar bytes count master pages (length bytes) false refused
 so_far_first bytes count master pages refused short e header none few =
-    let images : drop 24 bytes ≡ [] = drop_all 24 bytes short in
+    let images : drop STORE_HEADER_BYTES bytes ≡ [] = drop_all STORE_HEADER_BYTES bytes short in
     record {
       header = header;
       none = none;
@@ -158,10 +159,10 @@ so_far_first bytes count master pages refused short e header none few =
 -- ---- all bytes came
 
 -- as many as the header says
-right_size : (bytes : List ℕ) (count size : ℕ) → count ≤ PAGES → size ≡ min (length bytes) (2 ^ 64 - 1) → size ≡ 24 + PAGE_BYTES * count → length bytes ≡ 24 + PAGE_BYTES * count
+right_size : (bytes : List ℕ) (count size : ℕ) → count ≤ PAGES → size ≡ min (length bytes) (2 ^ 64 - 1) → size ≡ STORE_HEADER_BYTES + PAGE_BYTES * count → length bytes ≡ STORE_HEADER_BYTES + PAGE_BYTES * count
 right_size bytes count size few e right = omega (arith, few, e, right)
 
-pub is_wrong_size : (bytes : List ℕ) (count master : ℕ) (pages : List Page) (size : ℕ) (bad refused : Bool) → IsSoFar bytes count master pages size bad refused → 0 < count → (size ≡ 24 + PAGE_BYTES * count → ⊥) → HasWrongSize bytes
+pub is_wrong_size : (bytes : List ℕ) (count master : ℕ) (pages : List Page) (size : ℕ) (bad refused : Bool) → IsSoFar bytes count master pages size bad refused → 0 < count → (size ≡ STORE_HEADER_BYTES + PAGE_BYTES * count → ⊥) → HasWrongSize bytes
 is_wrong_size bytes count master pages size bad refused s some wrong = record {
   count = count;
   master = master;
@@ -169,7 +170,7 @@ is_wrong_size bytes count master pages size bad refused s some wrong = record {
   size = λ e. wrong (omega (arith, s.few, s.came, e));
 }
 
-pub is_bad_page : (bytes : List ℕ) (count master : ℕ) (pages : List Page) (size : ℕ) (bad refused : Bool) → IsSoFar bytes count master pages size bad refused → 0 < count → size ≡ 24 + PAGE_BYTES * count → bad ≡ true → HasBadPage bytes (length pages)
+pub is_bad_page : (bytes : List ℕ) (count master : ℕ) (pages : List Page) (size : ℕ) (bad refused : Bool) → IsSoFar bytes count master pages size bad refused → 0 < count → size ≡ STORE_HEADER_BYTES + PAGE_BYTES * count → bad ≡ true → HasBadPage bytes (length pages)
 is_bad_page bytes count master pages size bad refused s some right is = record {
   count = count;
   master = master;
@@ -178,18 +179,18 @@ is_bad_page bytes count master pages size bad refused s some right is = record {
   page = s.read.stopped is;
 }
 
-pub is_store : (bytes : List ℕ) (count master : ℕ) (pages : List Page) (size : ℕ) (bad refused : Bool) → IsSoFar bytes count master pages size bad refused → 0 < count → size ≡ 24 + PAGE_BYTES * count → bad ≡ false → SpellsStore bytes (store_of master pages)
+pub is_store : (bytes : List ℕ) (count master : ℕ) (pages : List Page) (size : ℕ) (bad refused : Bool) → IsSoFar bytes count master pages size bad refused → 0 < count → size ≡ STORE_HEADER_BYTES + PAGE_BYTES * count → bad ≡ false → SpellsStore bytes (store_of master pages)
 is_store bytes count master pages size bad refused s some right is =
     let header = s.header some in
     let long = right_size bytes count size s.few s.came right in
-    let images : length (drop 24 bytes) ≡ PAGE_BYTES * count = length-drop 24 bytes ∙ omega (arith, long) in
+    let images : length (drop STORE_HEADER_BYTES bytes) ≡ PAGE_BYTES * count = length-drop STORE_HEADER_BYTES bytes ∙ omega (arith, long) in
     let all : length pages ≡ count = omega (arith, images, s.read.going is) in
-    let spelled = pages_whole (drop 24 bytes) (length pages) count pages s.read.so_far all images in
+    let spelled = pages_whole (drop STORE_HEADER_BYTES bytes) (length pages) count pages s.read.so_far all images in
     record {
       fits = record {
         master = header.small;
         numbered = record { some = omega (arith, all, some); few = omega (arith, all, s.few); at_place = spelled.at_place };
         pages = spelled.fits;
       };
-      text = sym (take-append-drop 24 bytes) ∙ ap₂ (λ (x y : List ℕ). x ++ y) (header.text ∙ ap (λ n. store_header n master) (sym all)) spelled.text;
+      text = sym (take-append-drop STORE_HEADER_BYTES bytes) ∙ ap₂ (λ (x y : List ℕ). x ++ y) (header.text ∙ ap (λ n. store_header n master) (sym all)) spelled.text;
     }

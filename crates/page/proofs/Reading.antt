@@ -10,11 +10,12 @@ use Rattle.std.proofs.lemmas.List.Elements.{All-push, All-get_or}
 use Rattle.page.specs.Image.{Image, cell, cells, entry, directory, FitsSlot}
 use Rattle.page.specs.Parts.{BeginsWithSlot, SpellsSlots}
 use Rattle.page.proofs.Slots.{cells-append, directory-append, length-entry, length-directory, short_cell}
-use Rattle.page.specs.declared.sizes.TheConstants.{CELLS_AT, ROOM_BYTES, VALUE_BYTES}
+use Rattle.page.specs.declared.profile.TheConstants.{VALUE_BYTES, SLOTS}
+use Rattle.page.specs.declared.sizes.TheConstants.{CELLS_AT, ROOM_BYTES, DIRECTORY_BYTES}
 
 -- the first i slots are in front, their cells end here, and the bytes can encode no others
 pub record ReadSoFar (entries bytes : List ℕ) (i end : ℕ) (slots : List Image) : Type 0 where
-  pub count : length slots ≡ 16
+  pub count : length slots ≡ SLOTS
   pub here : end ≡ length (cells (take i slots))
   pub near : end ≤ VALUE_BYTES * i
   pub values : All FitsSlot (take i slots)
@@ -27,7 +28,7 @@ parts : (slots : List Image) (i : ℕ) (d : Image) → i < length slots → slot
 parts slots i d lt = sym (take-append-drop i slots) ∙ ap (λ (t : List Image). take i slots ++ t) (drop_more slots i d lt)
 
 -- bytes that encode slots have the entry and the cell of each slot at their places
-pub slot_inside : (entries bytes : List ℕ) (slots : List Image) (i : ℕ) (d : Image) → SpellsSlots entries bytes slots → i < 16
+pub slot_inside : (entries bytes : List ℕ) (slots : List Image) (i : ℕ) (d : Image) → SpellsSlots entries bytes slots → i < SLOTS
     → BeginsWithSlot (drop (4 * i) entries) (drop (length (cells (take i slots))) bytes) (CELLS_AT + length (cells (take i slots))) (get_or slots i d)
 slot_inside entries bytes slots i d s lt =
     let front = take i slots in
@@ -51,7 +52,7 @@ slot_inside entries bytes slots i d s lt =
     }
 
 -- bytes that encode other slots have at this place one that the reader takes too
-pub slot_there : (entries bytes at_entry at_cell : List ℕ) (i end : ℕ) (slots others : List Image) (d : Image) → ReadSoFar entries bytes i end slots → SpellsSlots entries bytes others → i < 16
+pub slot_there : (entries bytes at_entry at_cell : List ℕ) (i end : ℕ) (slots others : List Image) (d : Image) → ReadSoFar entries bytes i end slots → SpellsSlots entries bytes others → i < SLOTS
     → at_entry ≡ drop (4 * i) entries → at_cell ≡ drop end bytes
     → BeginsWithSlot at_entry at_cell (CELLS_AT + end) (get_or others i d)
 slot_there entries bytes at_entry at_cell i end slots others d so_far s lt e b =
@@ -66,7 +67,7 @@ slot_there entries bytes at_entry at_cell i end slots others d so_far s lt e b =
     }
 
 -- one more slot was read
-pub read_more : (entries bytes at_entry at_cell : List ℕ) (i end later : ℕ) (slots : List Image) (slot : Image) → ReadSoFar entries bytes i end slots → i < 16
+pub read_more : (entries bytes at_entry at_cell : List ℕ) (i end later : ℕ) (slots : List Image) (slot : Image) → ReadSoFar entries bytes i end slots → i < SLOTS
     → at_entry ≡ drop (4 * i) entries → at_cell ≡ drop end bytes
     → BeginsWithSlot at_entry at_cell (CELLS_AT + end) slot
     → ((other : Image) → BeginsWithSlot at_entry at_cell (CELLS_AT + end) other → ◌≡◌ {A = Option Image} (Some slot) (Some other))
@@ -93,7 +94,7 @@ read_more entries bytes at_entry at_cell i end later slots slot so_far lt ee eb 
     }
 
 -- all slots were read, and zeros are left
-pub read_all : (entries bytes left : List ℕ) (i end : ℕ) (slots : List Image) → ReadSoFar entries bytes i end slots → i ≡ 16 → length entries ≡ 64 → length bytes ≡ ROOM_BYTES
+pub read_all : (entries bytes left : List ℕ) (i end : ℕ) (slots : List Image) → ReadSoFar entries bytes i end slots → i ≡ SLOTS → length entries ≡ DIRECTORY_BYTES → length bytes ≡ ROOM_BYTES
     → left ≡ drop end bytes → left ≡ replicate (length left) 0 → SpellsSlots entries bytes slots
 read_all entries bytes left i end slots so_far e le lb el zeros =
     let all : take i slots ≡ slots = take_all i slots (omega (arith, so_far.count)) in
@@ -108,7 +109,7 @@ read_all entries bytes left i end slots so_far e le lb el zeros =
     }
 
 -- bytes that encode slots encode these, and have zeros after the last cell
-pub only_these : (entries bytes left : List ℕ) (i end : ℕ) (slots others : List Image) → ReadSoFar entries bytes i end slots → i ≡ 16 → left ≡ drop end bytes → SpellsSlots entries bytes others
+pub only_these : (entries bytes left : List ℕ) (i end : ℕ) (slots others : List Image) → ReadSoFar entries bytes i end slots → i ≡ SLOTS → left ≡ drop end bytes → SpellsSlots entries bytes others
     → (left ≡ replicate (length left) 0) × (slots ≡ others)
 only_these entries bytes left i end slots others so_far e el s =
     let all : take i others ≡ others = take_all i others (omega (arith, s.count)) in

@@ -3,7 +3,7 @@ use Rattle.std.proofs.Common.{◌≡◌, ℕ, ◌+◌, ◌*◌, ◌<◌, ◌≤�
 use Rattle.std.proofs.lemmas.List.{append-nil, length-append, take_more}
 use Rattle.std.proofs.lemmas.List.Elements.{All-head, All-tail}
 use Rattle.page.specs.Image.{Image, cell, cells, entry, directory, FitsSlot}
-use Rattle.page.specs.declared.sizes.TheConstants.{VALUE_BYTES}
+use Rattle.page.specs.declared.profile.TheConstants.{VALUE_BYTES}
 
 pub cells-append : (xs ys : List Image) → cells (xs ++ ys) ≡ cells xs ++ cells ys
 cells-append [] ys = refl

@@ -11,7 +11,8 @@ use Rattle.page.specs.Image.{Image, cell, cells, entry, directory, FitsSlot, pag
 use Rattle.page.specs.declared.page.Page.{Page}
 use Rattle.page.specs.Images.{AreImages}
 use Rattle.page.proofs.Slots.{cells_more, directory_more, length-entry, short_cell}
-use Rattle.page.specs.declared.sizes.TheConstants.{CELLS_AT, PAGE_BYTES, VALUE_BYTES}
+use Rattle.page.specs.declared.profile.TheConstants.{PAGE_BYTES, VALUE_BYTES}
+use Rattle.page.specs.declared.sizes.TheConstants.{CELLS_AT}
 
 -- the entries of the first i slots are in front, and the next cell has this place
 pub record Directed (slots : List Image) (i place : ℕ) (entries : List ℕ) : Type 0 where

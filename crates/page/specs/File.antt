@@ -1,5 +1,5 @@
 -- The only encoding of a store in bytes (own).
-use Rattle.std.specs.Prelude.{◌≡◌, ◌≢◌, ℕ, ◌+◌, ◌*◌, ◌<◌, ◌≤◌, ◌^◌, List, [], ◌∷◌, ◌++◌, All, length, take, drop, ⊤}
+use Rattle.std.specs.Prelude.{◌≡◌, ◌≢◌, ℕ, ◌+◌, ◌*◌, ◌<◌, ◌≤◌, ◌^◌, List, ◌++◌, All, length, take, drop, ⊤}
 use Rattle.std.specs.Int.{w32, w64, to_be_bytes}
 use Rattle.std.specs.List.{flat_map}
 use Rattle.page.specs.declared.fault.Fault.{Fault}
@@ -7,15 +7,12 @@ use Rattle.page.specs.declared.fault.Fault.TheVariants.{NoResource, BadStoreHead
 use Rattle.page.specs.Image.{page_text, FitsPage}
 use Rattle.page.specs.Images.{FirstBadPage}
 use Rattle.page.specs.Store.{StoreContent, AreNumbered}
-use Rattle.page.specs.declared.sizes.TheConstants.{PAGES, PAGE_BYTES, STORE_HEADER_BYTES}
-
--- "ARIESPG1"
-abbrev pub magic : List ℕ
-magic = 0x41 ∷ 0x52 ∷ 0x49 ∷ 0x45 ∷ 0x53 ∷ 0x50 ∷ 0x47 ∷ 0x31 ∷ []
+use Rattle.page.specs.declared.profile.TheConstants.{PAGES, PAGE_BYTES, STORE_MAGIC}
+use Rattle.page.specs.declared.sizes.TheConstants.{STORE_HEADER_BYTES}
 
 -- magic, page count, zero, master
 abbrev pub store_header : ℕ → ℕ → List ℕ
-store_header count master = magic ++ to_be_bytes w32 count ++ to_be_bytes w32 0 ++ to_be_bytes w64 master
+store_header count master = STORE_MAGIC ++ to_be_bytes w32 count ++ to_be_bytes w32 0 ++ to_be_bytes w64 master
 
 -- header, and the images of the pages in order
 abbrev pub store_text : StoreContent → List ℕ
@@ -32,7 +29,7 @@ pub record SpellsStore (bytes : List ℕ) (store : StoreContent) : Type 0 where
   pub fits : FitsStore store
   pub text : bytes ≡ store_text store
 
--- these bytes begin with a header that has this page count, 1 to 4,096, and this master
+-- these bytes begin with a header that has this page count, at most `PAGES`, and this master
 pub record BeginsWithHeader (bytes : List ℕ) (count master : ℕ) : Type 0 where
   pub text : take STORE_HEADER_BYTES bytes ≡ store_header count master
   pub some : 0 < count

@@ -1,8 +1,9 @@
--- The only encoding of a page in 1,024 bytes (own).
+-- The only encoding of a page in bytes (own).
 use Rattle.std.specs.Prelude.{◌≡◌, ℕ, ◌+◌, ◌-◌, ◌<◌, ◌≤◌, ◌^◌, List, [], ◌∷◌, ◌++◌, All, length, replicate, Option, Some, None, IfSome}
 use Rattle.std.specs.Int.{w16, w32, w64, to_be_bytes}
 use Rattle.page.specs.declared.page.Page.{Page}
-use Rattle.page.specs.declared.sizes.TheConstants.{SLOTS, VALUE_BYTES, CELLS_AT, ROOM_BYTES}
+use Rattle.page.specs.declared.profile.TheConstants.{SLOTS, VALUE_BYTES}
+use Rattle.page.specs.declared.sizes.TheConstants.{CELLS_AT, ROOM_BYTES}
 
 -- what a slot holds: nothing, or the bytes of a value
 abbrev pub Image : Type 0

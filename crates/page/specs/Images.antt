@@ -5,7 +5,7 @@ use Rattle.page.specs.declared.fault.Fault.{Fault}
 use Rattle.page.specs.declared.fault.Fault.TheVariants.{NoResource, BadPage}
 use Rattle.page.specs.declared.page.Page.{Page}
 use Rattle.page.specs.Image.{page_text, FitsPage, SpellsPage}
-use Rattle.page.specs.declared.sizes.TheConstants.{PAGE_BYTES}
+use Rattle.page.specs.declared.profile.TheConstants.{PAGE_BYTES}
 
 -- these bytes are the images of these pages, each of which has one
 pub record AreImages (images : List ℕ) (pages : List Page) : Type 0 where

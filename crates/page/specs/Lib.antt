@@ -6,4 +6,5 @@ pub mod Images
 pub mod Laws
 pub mod Parts
 pub mod Pieces
+pub mod Profile
 pub mod Store

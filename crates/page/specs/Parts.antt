@@ -1,7 +1,8 @@
 -- The parts of a page's image that the decoder reads one after the other (own).
 use Rattle.std.specs.Prelude.{◌≡◌, ℕ, List, All, length, take}
 use Rattle.page.specs.Image.{Image, cell, entry, directory, body, FitsSlot}
-use Rattle.page.specs.declared.sizes.TheConstants.{SLOTS, CELLS_AT}
+use Rattle.page.specs.declared.profile.TheConstants.{SLOTS}
+use Rattle.page.specs.declared.sizes.TheConstants.{CELLS_AT}
 
 -- these entries and bytes, from the entry and the place of a slot on, begin with the entry and the cell of this slot
 pub record BeginsWithSlot (entries bytes : List ℕ) (place : ℕ) (slot : Image) : Type 0 where

@@ -1,7 +1,7 @@
 -- A store whose bytes come piece by piece (own).
 use Rattle.std.specs.Prelude.{◌≡◌, ℕ, ◌+◌, ◌-◌, ◌*◌, ◌/◌, ◌%◌, ◌<◌, ◌≤◌, ◌^◌, List, ◌++◌, Bool, true, false, min, length, take}
 use Rattle.page.specs.declared.page.Page.{Page}
-use Rattle.page.specs.declared.sizes.TheConstants.{PAGES, PAGE_BYTES}
+use Rattle.page.specs.declared.profile.TheConstants.{PAGES, PAGE_BYTES}
 use Rattle.page.specs.Images.{HasPage, SpellPages, FirstBadPage}
 use Rattle.page.specs.File.{BeginsWithHeader, HasStoreHeader, images_of}
 

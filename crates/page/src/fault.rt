@@ -25,11 +25,13 @@ pub enum Fault {
     /// The writer of the store failed.
     #[error("writing the store failed")]
     WriteStore,
-    /// The first 8 bytes of the log are neither `ARIESLG1` nor `ARIESLG2`; or they are the latter,
-    /// and the log has fewer than 16 bytes or a base LSN above 9,223,372,036,854,775,807.
+    /// The log does not begin with the magic of version 1 or 2, [`LOG_MAGIC`](crate::LOG_MAGIC) or
+    /// [`BASED_LOG_MAGIC`](crate::BASED_LOG_MAGIC); or it has the second, but not all bytes of a
+    /// base LSN, or a base LSN above 9,223,372,036,854,775,807.
     #[error("bad log header")]
     BadLogHeader,
-    /// The length field of the frame at this offset is outside 9 to 70,681.
+    /// The length field of the frame at this offset is below 9, or above the length of a checkpoint
+    /// end with full tables.
     #[error("bad length at byte {0}")]
     BadLength(u64),
     /// The body of the frame at this offset does not encode a record with any LSN.
@@ -39,11 +41,12 @@ pub enum Fault {
     /// log's base LSN and the frame's number.
     #[error("bad LSN at byte {0}")]
     BadLsn(u64),
-    /// The store has fewer than 24 bytes, another magic, a page count outside 1 to 4,096, or a
-    /// reserved byte that is not zero.
+    /// The store has fewer bytes than a header, another magic than
+    /// [`STORE_MAGIC`](crate::STORE_MAGIC), a page count outside 1 to [`PAGES`](crate::PAGES), or
+    /// a reserved byte that is not zero.
     #[error("bad store header")]
     BadStoreHeader,
-    /// The store's length is not 24 + 1,024 x its page count.
+    /// The store's length is not that of a header and as many images as its page count says.
     #[error("bad store size")]
     StoreSize,
     /// The image at this page's place does not encode a page with this number. This is the lowest
@@ -64,11 +67,11 @@ pub enum Fault {
     /// not below the record that sent undo here.
     #[error("broken chain at LSN {0}")]
     BrokenChain(u64),
-    /// The number of pages or parts is outside 1 to 4,096, or the partition does not give each page
-    /// one of its parts.
+    /// The number of pages or of parts is out of its range, or the partition does not give each
+    /// page one of its parts.
     #[error("bad parting")]
     BadParting,
-    /// The number of workers is outside 1 to 64.
+    /// The number of workers is out of its range.
     #[error("bad worker count")]
     BadWorkers,
     /// The PrevLSN of the record at this LSN is not the last record of its transaction.

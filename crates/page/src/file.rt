@@ -2,26 +2,27 @@
 
 ghost use Rattle.std.specs.Prelude.{◌≡◌, ◌<◌, ◌*◌, ◌^◌, ℕ, IfSome, IfOk, IfErr, OnOk, OnErr, length};
 ghost use Rattle.page.specs.File.{store_header, store_text, FitsStore, BeginsWithHeader};
-ghost use Rattle.page.specs.declared.sizes.TheConstants.{PAGE_BYTES};
+ghost use Rattle.page.specs.declared.profile.TheConstants.{PAGE_BYTES};
 ghost use Rattle.page.specs.Images.{AreImages};
 
 use crate::image::put_page;
 use crate::numbers::numbers_at;
-use crate::sizes::{PAGE_BYTES, PAGES, STORE_HEADER_BYTES};
+use crate::profile::{PAGE_BYTES, PAGES, STORE_MAGIC};
+use crate::sizes::{MAGIC_BYTES, STORE_HEADER_BYTES};
 use crate::{Fault, Page, Store};
 use byteorder::{BigEndian, ByteOrder};
 use std::alloc::Global;
 
-/// The header of a store's file: the first 24 bytes of the encoding of a store with this page count
+/// The header of a store's file: the first bytes of the encoding of a store with this page count
 /// and master.
 pub fn store_header(count: u32, master: u64) -> [u8; STORE_HEADER_BYTES]
     ensures text { result ≡ store_header count master }
     ensures fits { master < 2 ^ 64 }
 {
     let mut header = [0; STORE_HEADER_BYTES];
-    header[..8].copy_from_slice(b"ARIESPG1");
-    BigEndian::write_u32(&mut header[8..], count);
-    BigEndian::write_u64(&mut header[16..], master);
+    header[..MAGIC_BYTES].copy_from_slice(&STORE_MAGIC);
+    BigEndian::write_u32(&mut header[MAGIC_BYTES..], count);
+    BigEndian::write_u64(&mut header[STORE_HEADER_BYTES - 8..], master);
     header
 }
 
@@ -37,10 +38,10 @@ pub fn encode_pages_into(pages: &[Page], images: &mut [u8])
     }
 }
 
-/// Replaces the bytes in the vector with the only encoding of a store: `ARIESPG1`, page count, four
-/// zeros, master, then the images of the pages in order. These are 24 + 1,024 x count bytes; all
-/// numbers are big endian. If the vector has this length already, no memory is taken. The only
-/// error is `NoResource`, if memory is refused; the vector then keeps its bytes.
+/// Replaces the bytes in the vector with the only encoding of a store: [`STORE_MAGIC`], page count,
+/// four zeros, master, then the images of the pages in order. All numbers are big endian. If the
+/// vector has this length already, no memory is taken. The only error is `NoResource`, if memory is
+/// refused; the vector then keeps its bytes.
 pub fn encode_store_into(store: &Store, bytes: &mut Vec<u8>) -> Result<(), Fault>
     ensures ok { OnOk result (bytes.new.items ≡ store_text store.now) }
     ensures fits { OnOk result (FitsStore store.now) }
@@ -77,8 +78,8 @@ pub fn header_at(bytes: &[u8]) -> Option<(u32, u64)>
         return None;
     }
     let (front, _) = bytes.split_at(STORE_HEADER_BYTES);
-    let (magic, numbers) = front.split_at(8);
-    if magic != b"ARIESPG1".as_slice() {
+    let (magic, numbers) = front.split_at(MAGIC_BYTES);
+    if magic != STORE_MAGIC.as_slice() {
         return None;
     }
     let (count, zero, master) = numbers_at(numbers);

@@ -1,14 +1,16 @@
-//! The image of a page: 1,024 bytes.
+//! The image of a page: [`PAGE_BYTES`] bytes.
 
 ghost use Rattle.std.specs.Prelude.{◌≡◌, ◌≢◌, ◌<◌, ◌≤◌, ◌^◌, ◌↔◌, ◌++◌, List, All, IsTrue, IfSome, IfOk, IfErr, length, take, replicate};
 ghost use Rattle.std.specs.Int.{w16, w32, w64, to_be_bytes};
 ghost use Rattle.page.specs.declared.page.Page.{Page};
 ghost use Rattle.page.specs.Image.{Image, entry, directory, header, body, page_text, FitsSlot, FitsPage, SpellsPage};
-ghost use Rattle.page.specs.declared.sizes.TheConstants.{SLOTS, PAGE_BYTES, DIRECTORY_BYTES, CELLS_AT, ROOM_BYTES};
+ghost use Rattle.page.specs.declared.profile.TheConstants.{SLOTS, PAGE_BYTES};
+ghost use Rattle.page.specs.declared.sizes.TheConstants.{DIRECTORY_BYTES, CELLS_AT, ROOM_BYTES};
 ghost use Rattle.page.specs.Parts.{BeginsWithSlot, SpellsSlots};
 
 use crate::numbers::numbers_at;
-use crate::sizes::{CELLS_AT, DIRECTORY_BYTES, PAGE_BYTES, PAGE_HEADER_BYTES, SLOTS, VALUE_BYTES};
+use crate::profile::{PAGE_BYTES, SLOTS, VALUE_BYTES};
+use crate::sizes::{CELLS_AT, DIRECTORY_BYTES, PAGE_HEADER_BYTES};
 use crate::{Fault, Page, Value};
 use byteorder::{BigEndian, ByteOrder};
 
@@ -57,7 +59,7 @@ fn put_cells(slots: &[Option<Value>; SLOTS], room: &mut [u8])
     room[end..].fill(0);
 }
 
-/// The first 16 bytes of a page's image.
+/// The header of a page's image.
 fn header(number: u32, lsn: u64) -> [u8; PAGE_HEADER_BYTES]
     ensures text { result ≡ header number lsn }
     ensures fits { (number < 2 ^ 32) × (lsn < 2 ^ 64) }
@@ -79,8 +81,8 @@ pub fn put_page(page: &Page, image: &mut [u8])
     put_cells(&page.slots, &mut image[CELLS_AT..]);
 }
 
-/// The only encoding of a page: page number, four zeros, PageLSN; 16 directory entries of offset
-/// and length; the present cells in slot order from byte 80 on; zeros. All numbers are big endian.
+/// The only encoding of a page: page number, four zeros, PageLSN; for each slot a directory entry
+/// of offset and length; the present cells in slot order; zeros. All numbers are big endian.
 pub fn encode_page(page: &Page) -> [u8; PAGE_BYTES]
     ensures text { result ≡ page_text page.now }
     ensures fits { FitsPage page.now }
@@ -158,7 +160,7 @@ fn slots_at(entries: &[u8], bytes: &[u8]) -> Option<[Option<Value>; SLOTS]>
     Some(slots)
 }
 
-/// The page of this number that these 1,024 bytes encode. `None` if they encode no such page.
+/// The page of this number that these bytes encode. `None` if they encode no such page.
 pub fn page_at(bytes: &[u8], number: u32) -> Option<Page>
     requires { length bytes.now ≡ PAGE_BYTES }
     ensures found { IfSome result (λ page. SpellsPage bytes.now page × (page.number ≡ number)) }

@@ -1,5 +1,6 @@
 //! Laws of the encodings, each as the contract of an empty function.
 
+ghost use Rattle.page.specs.Profile.{IsProfile};
 ghost use Rattle.page.specs.Laws.{OnePageSpelling, OneStoreSpelling, OneStoreFault, NoFaultOfAStore};
 
 /// The same bytes never encode two pages.
@@ -20,4 +21,9 @@ pub fn one_store_fault()
 /// Bytes that encode a store have no error, besides a lack of memory.
 pub fn no_fault_of_a_store()
     ensures { NoFaultOfAStore }
+{}
+
+/// The numbers of the profile keep what the proofs need.
+pub fn numbers_of_the_profile()
+    ensures { IsProfile }
 {}

@@ -1,12 +1,12 @@
 //! A page.
 
 ghost use Rattle.std.specs.Prelude.{◌≡◌, ◌<◌, None, slice_get, slice_set, replicate, Some};
-ghost use Rattle.page.specs.declared.sizes.TheConstants.{SLOTS};
+ghost use Rattle.page.specs.declared.profile.TheConstants.{SLOTS};
 
 use crate::Value;
-use crate::sizes::SLOTS;
+use crate::profile::SLOTS;
 
-/// A page: 16 slots, each absent or a value.
+/// A page: [`SLOTS`] slots, each absent or a value.
 #[derive(Clone, Copy)]
 pub struct Page {
     /// The page's number, from 0.

@@ -5,12 +5,14 @@ ghost use Rattle.std.specs.Vec.{vec_capacity};
 ghost use Rattle.page.specs.Store.{StoreContent};
 ghost use Rattle.page.specs.File.{SpellsStore, StoreFault};
 ghost use Rattle.page.specs.Pieces.{Reads};
-ghost use Rattle.page.specs.declared.sizes.TheConstants.{PAGES, PAGE_BYTES, STORE_HEADER_BYTES};
+ghost use Rattle.page.specs.declared.profile.TheConstants.{PAGES, PAGE_BYTES};
+ghost use Rattle.page.specs.declared.sizes.TheConstants.{STORE_HEADER_BYTES};
 
 use crate::came::Came;
 use crate::file::header_at;
 use crate::image::page_at;
-use crate::sizes::{PAGE_BYTES, STORE_HEADER_BYTES};
+use crate::profile::PAGE_BYTES;
+use crate::sizes::STORE_HEADER_BYTES;
 use crate::{Fault, Page, Store};
 use std::alloc::Global;
 use std::marker::Model;
@@ -79,7 +81,7 @@ impl Model for StoreReader {
 }
 
 impl StoreReader {
-    /// Begins with the first bytes of a store's file: the 24 bytes of the header, or all bytes if
+    /// Begins with the first bytes of a store's file: the bytes of the header, or all bytes if
     /// there are fewer. This call takes the memory for the pages. If memory is refused, or the
     /// header is not that of a store, later bytes can still be taken; `finish` returns the error.
     pub fn begin(alloc: Global, header: &[u8]) -> StoreReader

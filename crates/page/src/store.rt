@@ -3,8 +3,8 @@
 use crate::Page;
 use std::marker::Model;
 
-/// A store: 1 to 4,096 pages, each at the index of its number. Contracts see it as its master and
-/// the list of its pages.
+/// A store: 1 to [`PAGES`](crate::PAGES) pages, each at the index of its number. Contracts see it
+/// as its master and the list of its pages.
 #[derive(Drop)]
 pub struct Store {
     /// The LSN of the begin record of the checkpoint to restart from, 0 if there is none.

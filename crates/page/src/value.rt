@@ -1,14 +1,14 @@
 //! What a slot holds.
 
 ghost use Rattle.std.specs.Prelude.{◌≡◌, ◌≤◌, ◌-◌, ◌++◌, ℕ, List, length, take, replicate, IfSome, IsSome, ◌↔◌};
-ghost use Rattle.page.specs.declared.sizes.TheConstants.{VALUE_BYTES};
+ghost use Rattle.page.specs.declared.profile.TheConstants.{VALUE_BYTES};
 ghost use mathlib.Core.Path.{sym, ap, ap₂, ◌∙◌};
 
-use crate::sizes::VALUE_BYTES;
+use crate::profile::VALUE_BYTES;
 use std::marker::Model;
 
-/// A value of 0 to 48 bytes, kept in place: copying it takes no memory. Contracts see it as the
-/// list of its bytes.
+/// A value of 0 to [`VALUE_BYTES`] bytes, kept in place: copying it takes no memory. Contracts see
+/// it as the list of its bytes.
 #[derive(Clone, Copy)]
 pub struct Value {
     bytes: [u8; VALUE_BYTES],
@@ -28,7 +28,8 @@ impl Model for Value {
 }
 
 impl Value {
-    /// The value of these bytes. `None` if there are more than 48.
+    /// The value of these bytes. `None` if there are more than
+    /// [`VALUE_BYTES`].
     pub fn new(bytes: &[u8]) -> Option<Value>
         ensures found { IfSome result (λ v. v ≡ bytes.now) }
         ensures fits { IsSome result ↔ (length bytes.now ≤ VALUE_BYTES) }

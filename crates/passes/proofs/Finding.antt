@@ -12,18 +12,19 @@ use Rattle.pieces.specs.Pieces.{IsMark}
 use Rattle.pieces.proofs.Beginnings.{same_start}
 use Rattle.passes.specs.Marks.{AreInReach, AreFound}
 use Rattle.passes.proofs.Reached.{told}
+use Rattle.wal.specs.declared.sizes.TheConstants.{BASED_HEADER_BYTES}
 
 -- THE FIRST BYTES
 -- fewer than 16 were read only if there are no more
-pub first_bytes : (held : Option (List ℕ)) (text buffer : List ℕ) (count : ℕ) → held ≡ Some text → ReadsFrom held 0 count buffer → (count < 16 → EndsBy held (0 + count)) → count ≤ 16 → take count buffer ≡ take 16 text
+pub first_bytes : (held : Option (List ℕ)) (text buffer : List ℕ) (count : ℕ) → held ≡ Some text → ReadsFrom held 0 count buffer → (count < BASED_HEADER_BYTES → EndsBy held (0 + count)) → count ≤ BASED_HEADER_BYTES → take count buffer ≡ take BASED_HEADER_BYTES text
 first_bytes held text buffer count is reads ends le =
     let same : take count buffer ≡ take count text = told held text (λ t. take count buffer ≡ take count (drop 0 t)) is reads in
     same
-    ∙ elim (cases_lt count 16) [
+    ∙ elim (cases_lt count BASED_HEADER_BYTES) [
       | inl less ↦
           (let short : length text ≤ 0 + count = told held text (λ t. length t ≤ 0 + count) is (ends less) in
-          take_all count text (omega (arith, short)) ∙ sym (take_all 16 text (omega (arith, short, less))))
-      | inr all ↦ (let here : count ≡ 16 = omega (arith, all, le) in ap (λ n. take n text) here)
+          take_all count text (omega (arith, short)) ∙ sym (take_all BASED_HEADER_BYTES text (omega (arith, short, less))))
+      | inr all ↦ (let here : count ≡ BASED_HEADER_BYTES = omega (arith, all, le) in ap (λ n. take n text) here)
     ]
 
 -- THE MARKS SO FAR
@@ -40,7 +41,7 @@ found_first text room mark before none is = record {
 }
 
 pub found_more : (text : List ℕ) (room : ℕ) (marks : List Mark) (next end : Mark) (after : LogContent) → 0 < length marks → ((d : Mark) → end ≡ get_or marks (length marks - 1) d) → IsMark text after next
-    → next.offset ≤ end.offset + (room - 16) → 16 ≤ room → AreFoundSoFar text room marks → AreFoundSoFar text room (marks ++ next ∷ [])
+    → next.offset ≤ end.offset + (room - BASED_HEADER_BYTES) → BASED_HEADER_BYTES ≤ room → AreFoundSoFar text room marks → AreFoundSoFar text room (marks ++ next ∷ [])
 found_more text room marks next end after some end_is is within wide before =
     let size : length (marks ++ next ∷ []) ≡ suc (length marks) = omega (arith, length-append marks (next ∷ [])) in
     let last : (d : Mark) → get_or (marks ++ next ∷ []) (length marks) d ≡ next = λ d. get_or-append_seam marks next [] d in

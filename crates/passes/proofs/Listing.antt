@@ -7,7 +7,7 @@ use Rattle.page.specs.declared.fault.Fault.{Fault}
 use Rattle.page.specs.declared.fault.Fault.TheVariants.{NoResource, BadWorkers, NoSuchPage}
 use Rattle.page.specs.declared.page.Page.{Page}
 use Rattle.page.specs.Store.{AreNumbered}
-use Rattle.page.specs.declared.sizes.TheConstants.{SLOTS}
+use Rattle.page.specs.declared.profile.TheConstants.{SLOTS}
 use Rattle.wal.specs.Records.{LogRecord, TableEntry, LogContent, History, start, ◌▸◌, history, last_lsn, base_lsn, record_at}
 use Rattle.wal.specs.Meaning.{Cells, Change, change_of, effects, is_on, is_on_page, is_in_cell}
 use Rattle.wal.specs.Redo.{rec_lsn_of, is_redone, last_where, held_by, redo_of, applied}

@@ -5,7 +5,7 @@ use Rattle.wal.specs.Records.{LogRecord, lsn_before, LogContent, history, last_l
 use Rattle.wal.specs.Headers.{header_of}
 use Rattle.wal.specs.declared.header.LogStart.TheVariants.{Version2}
 use Rattle.wal.specs.Reads.{Reads, IsTorn, log_text}
-use Rattle.wal.specs.declared.sizes.TheConstants.{LONGEST_FRAME}
+use Rattle.wal.specs.declared.sizes.TheConstants.{LONGEST_FRAME, BASED_HEADER_BYTES}
 use Rattle.wal.proofs.Headers.{header_length}
 use Rattle.wal.proofs.Histories.{size_of_log}
 use Rattle.pieces.specs.declared.mark.Mark.{Mark}
@@ -36,7 +36,7 @@ torn_short tail (inl few) = omega (arith, few)
 torn_short tail (inr (some, low, high, short)) = omega (arith, high, short)
 
 -- as many bytes were read as there are
-read_within : (text room : List ℕ) (mark : Mark) (all : ℕ) → 16 ≤ all → all ≤ length room → mark.offset ≤ length text → take all room ≡ piece_text text mark (all - 16) → mark.offset + (all - 16) ≤ length text
+read_within : (text room : List ℕ) (mark : Mark) (all : ℕ) → BASED_HEADER_BYTES ≤ all → all ≤ length room → mark.offset ≤ length text → take all room ≡ piece_text text mark (all - BASED_HEADER_BYTES) → mark.offset + (all - BASED_HEADER_BYTES) ≤ length text
 read_within text room mark all some within low is =
     omega (
       arith,
@@ -45,9 +45,9 @@ read_within text room mark all some within low is =
       low,
       ap (λ (t : List ℕ). length t) is,
       length-take all room,
-      length-append (header_of (Version2 mark.lsn)) (take (all - 16) (drop mark.offset text)),
+      length-append (header_of (Version2 mark.lsn)) (take (all - BASED_HEADER_BYTES) (drop mark.offset text)),
       header_length (Version2 mark.lsn),
-      length-take (all - 16) (drop mark.offset text),
+      length-take (all - BASED_HEADER_BYTES) (drop mark.offset text),
       length-drop mark.offset text,
     )
 
@@ -72,10 +72,10 @@ some_record text before mark count torn piece long within is goes same =
       length-take mark.offset front,
     )
 
-pub room_takes : (text room : List ℕ) (before : LogContent) (mark : Mark) (all torn : ℕ) (piece : LogContent) → 16 + LONGEST_FRAME ≤ all → all ≤ length room → IsMark text before mark → take all room ≡ piece_text text mark (all - 16)
-    → ContinuesLog (take (mark.offset + (all - 16)) text) before mark (all - 16) piece torn → last_lsn (history piece) ≡ mark.lsn → ⊥
+pub room_takes : (text room : List ℕ) (before : LogContent) (mark : Mark) (all torn : ℕ) (piece : LogContent) → BASED_HEADER_BYTES + LONGEST_FRAME ≤ all → all ≤ length room → IsMark text before mark → take all room ≡ piece_text text mark (all - BASED_HEADER_BYTES)
+    → ContinuesLog (take (mark.offset + (all - BASED_HEADER_BYTES)) text) before mark (all - BASED_HEADER_BYTES) piece torn → last_lsn (history piece) ≡ mark.lsn → ⊥
 room_takes text room before mark all torn piece long within is piece_is goes same =
-    some_record text before mark (all - 16) torn piece (omega (arith, long)) (read_within text room mark all (omega (arith, long)) within is.within piece_is) is goes same
+    some_record text before mark (all - BASED_HEADER_BYTES) torn piece (omega (arith, long)) (read_within text room mark all (omega (arith, long)) within is.within piece_is) is goes same
 
 -- if the log has more records than those before the mark, more come
 pub one_more : (text : List ℕ) (whole before : LogContent) (mark : Mark) (end torn : ℕ) → IsBefore text whole before mark end → Reads text before torn → ⊥

@@ -12,6 +12,7 @@ use Rattle.pieces.specs.declared.mark.Mark.{Mark}
 use Rattle.pieces.specs.Pieces.{IsMark, piece_text, ContinuesLog}
 use Rattle.passes.specs.Marks.{Reaches, AreMarks, AreInReach}
 use Rattle.pieces.proofs.Beginnings.{records_begin, same_start}
+use Rattle.wal.specs.declared.sizes.TheConstants.{BASED_HEADER_BYTES}
 
 -- what holds for the bytes of a device
 pub told : (held : Option (List ℕ)) (text : List ℕ) (P : List ℕ → Type 0) → held ≡ Some text → IfSome held P → P text
@@ -74,7 +75,7 @@ keeps_on (Some xs) (Some ys) (Some zs) a b = b ∙ a
 
 -- the records up to the next mark fit in a room in reach
 pub reaches : (text : List ℕ) (whole : LogContent) (marks : List Mark) (asked room k : ℕ) (d : Mark) → room ≡ asked → AreMarks text whole marks → AreInReach asked marks → 0 < k → k < length marks
-    → Reaches text ((get_or marks (k - 1) d).offset + room - 16) (get_or marks k d).lsn
+    → Reaches text ((get_or marks (k - 1) d).offset + room - BASED_HEADER_BYTES) (get_or marks k d).lsn
 reaches text whole marks asked room k d same are reach some lt =
     let next : (k - 1) + 1 ≡ k = omega (arith, some) in
     let own = are.each k d lt in (

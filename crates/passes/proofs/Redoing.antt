@@ -31,6 +31,7 @@ use Rattle.passes.specs.declared.fault.PassFault.{PassFault}
 use Rattle.passes.specs.Marks.{IsResource, AreMarks, AreInReach, Reaches}
 use Rattle.passes.specs.Next.{IsBefore}
 use Rattle.passes.specs.Redoing.{RedoCause, AreTalliedUpTo}
+use Rattle.wal.specs.declared.sizes.TheConstants.{BASED_HEADER_BYTES}
 
 -- WHERE REDO BEGINS
 -- a mark of a log is between its base LSN and its last
@@ -125,9 +126,9 @@ pass_cause whole piece count redo_lsn e own before cause = absurd cause
 
 -- FETCHING
 -- the piece after the last mark before a record reaches the record, if the room is in reach
-pub reaches_next : (text : List ℕ) (whole : LogContent) (marks : List Mark) (asked room place : ℕ) (mark : Mark) (lsn : ℕ) → room ≡ asked → 16 ≤ asked → AreMarks text whole marks → AreInReach asked marks
+pub reaches_next : (text : List ℕ) (whole : LogContent) (marks : List Mark) (asked room place : ℕ) (mark : Mark) (lsn : ℕ) → room ≡ asked → BASED_HEADER_BYTES ≤ asked → AreMarks text whole marks → AreInReach asked marks
     → ((d : Mark) → mark ≡ get_or marks place d) → place < length marks → ((d : Mark) → place + 1 < length marks → lsn ≤ (get_or marks (place + 1) d).lsn) → lsn ≤ last_lsn (history whole)
-    → Reaches text (mark.offset + room - 16) lsn
+    → Reaches text (mark.offset + room - BASED_HEADER_BYTES) lsn
 reaches_next text whole marks asked room place mark lsn same wide are reach is lt next within =
     elim (cases_lt (place + 1) (length marks)) [
       | inl more ↦

@@ -244,7 +244,7 @@ pub fn tables_in_pieces<S: Reread>(
     let end = marks.end().lsn;
     let from = marks.at(marks.place_before(master));
     let (transactions, dirty) = checkpoint_tables(alloc, source, from, end, room, master)?;
-    let mut scan = TableScan::begin(transactions, dirty);
+    let mut scan = TableScan::begin(alloc, transactions, dirty)?;
     analyse_from(alloc, source, from, end, room, master, &mut scan)?;
     let tables = scan.finish(base)?;
     Ok(tables)

@@ -62,7 +62,7 @@ fn begin_scan(alloc: Global, store: &Store, base: u64) -> Result<ForwardScan, Fa
     let _ = &store.pages;
     // Analysis has not found the tables of the crash yet, so redo treats each page as dirty.
     let tallies = TallyScan::begin_listed(alloc, store, base + 1, base)?;
-    let tables = TableScan::begin(BTreeMap::new(alloc), BTreeMap::new(alloc));
+    let tables = TableScan::begin(alloc, BTreeMap::new(alloc), BTreeMap::new(alloc))?;
     Ok(ForwardScan {
         tables,
         tallies,

@@ -5,7 +5,7 @@ ghost use Rattle.std.specs.Io.KnownBytes.{Keeps};
 ghost use Rattle.std.specs.List.Sorted.{IsNonDecreasingBy};
 ghost use Rattle.page.specs.declared.page.Page.{Page};
 ghost use Rattle.page.specs.Store.{AreNumbered};
-ghost use Rattle.page.specs.declared.sizes.TheConstants.{SLOTS};
+ghost use Rattle.page.specs.declared.profile.TheConstants.{SLOTS};
 ghost use Rattle.wal.specs.Records.{LogContent, history, base_lsn, last_lsn};
 ghost use Rattle.wal.specs.Reads.{Reads};
 ghost use Rattle.wal.specs.declared.sizes.TheConstants.{BASED_HEADER_BYTES, LARGEST_BASE, LONGEST_FRAME};

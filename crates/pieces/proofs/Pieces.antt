@@ -8,7 +8,7 @@ use Rattle.page.specs.declared.fault.Fault.{Fault}
 use Rattle.page.specs.declared.fault.Fault.TheVariants.{NoResource, BadLogHeader, BadLength, BadRecord, BadLsn}
 use Rattle.wal.specs.declared.header.LogStart.{LogStart}
 use Rattle.wal.specs.declared.header.LogStart.TheVariants.{Version1, Version2}
-use Rattle.wal.specs.declared.sizes.TheConstants.{LARGEST_BASE}
+use Rattle.wal.specs.declared.sizes.TheConstants.{LARGEST_BASE, BASED_HEADER_BYTES}
 use Rattle.wal.specs.Records.{LogRecord, lsn_before, LogContent, history, last_lsn, base_lsn, ◌⧺◌}
 use Rattle.wal.specs.Headers.{header_of, header_bytes}
 use Rattle.wal.specs.Spelling.{body, frame, Fits}
@@ -50,10 +50,10 @@ fault_stays (BadLsn at) lsn offset bytes more (is, whole, r, n, fits, lt, same, 
 fault_stays e lsn offset bytes more h = absurd h
 
 -- WHAT IS MOVED: the offset in a fault
-fault_moved : (mark : Mark) (e : Fault) (lsn offset place : ℕ) (bytes : List ℕ) → place ≡ mark.offset + offset - 16 → HasFault e lsn offset bytes → HasFault (moved mark e) lsn place bytes
-fault_moved mark (BadLength at) lsn offset place bytes to h = (ap (λ n. mark.offset + n - 16) h.0 ∙ sym to, h.1, h.2)
-fault_moved mark (BadRecord at) lsn offset place bytes to h = (ap (λ n. mark.offset + n - 16) h.0 ∙ sym to, h.1, h.2)
-fault_moved mark (BadLsn at) lsn offset place bytes to (is, whole, r, n, fits, lt, same, wrong) = (ap (λ n. mark.offset + n - 16) is ∙ sym to, whole, r, n, fits, lt, same, wrong)
+fault_moved : (mark : Mark) (e : Fault) (lsn offset place : ℕ) (bytes : List ℕ) → place ≡ mark.offset + offset - BASED_HEADER_BYTES → HasFault e lsn offset bytes → HasFault (moved mark e) lsn place bytes
+fault_moved mark (BadLength at) lsn offset place bytes to h = (ap (λ n. mark.offset + n - BASED_HEADER_BYTES) h.0 ∙ sym to, h.1, h.2)
+fault_moved mark (BadRecord at) lsn offset place bytes to h = (ap (λ n. mark.offset + n - BASED_HEADER_BYTES) h.0 ∙ sym to, h.1, h.2)
+fault_moved mark (BadLsn at) lsn offset place bytes to (is, whole, r, n, fits, lt, same, wrong) = (ap (λ n. mark.offset + n - BASED_HEADER_BYTES) is ∙ sym to, whole, r, n, fits, lt, same, wrong)
 fault_moved mark e lsn offset place bytes to h = absurd h
 
 -- LISTS OF RECORDS
@@ -75,12 +75,12 @@ frames_long lsn (r ∷ rs) fits =
 
 -- THE FIRST MARK, by the first 16 bytes
 -- no record is in them
-pub first_is : (text bytes : List ℕ) (log : LogContent) (torn lsn : ℕ) → bytes ≡ take 16 text → Reads bytes log torn → lsn ≡ base_lsn (history log)
+pub first_is : (text bytes : List ℕ) (log : LogContent) (torn lsn : ℕ) → bytes ≡ take BASED_HEADER_BYTES text → Reads bytes log torn → lsn ≡ base_lsn (history log)
     → (before : LogContent) × (before.records ≡ []) × IsMark text before (record { lsn = lsn; offset = length bytes - torn })
 first_is text bytes log torn lsn is reads at =
     let front = log_text log in
     let parts : length bytes ≡ length front + torn = omega (arith, ap (λ (t : List ℕ). length t) reads.text, length-append front reads.tail, reads.torn_count) in
-    let short : length bytes ≤ 16 = omega (arith, ap (λ (t : List ℕ). length t) is, length-take 16 text) in
+    let short : length bytes ≤ BASED_HEADER_BYTES = omega (arith, ap (λ (t : List ℕ). length t) is, length-take BASED_HEADER_BYTES text) in
     let few : length log.records ≡ 0 =
     omega (
       arith,
@@ -93,7 +93,7 @@ first_is text bytes log torn lsn is reads at =
     ) in
     let none : log.records ≡ [] = nil_from_length log.records few in
     let own : take (length bytes - torn) text ≡ front =
-    sym (take-take (length bytes - torn) 16 text (omega (arith, short))) ∙ ap (take (length bytes - torn)) (sym is ∙ reads.text) ∙ take_at front reads.tail (length bytes - torn) (omega (arith, parts)) in (
+    sym (take-take (length bytes - torn) BASED_HEADER_BYTES text (omega (arith, short))) ∙ ap (take (length bytes - torn)) (sym is ∙ reads.text) ∙ take_at front reads.tail (length bytes - torn) (omega (arith, parts)) in (
       log,
       none,
       record {
@@ -107,7 +107,7 @@ first_is text bytes log torn lsn is reads at =
           few = reads.few;
         };
         lsn = omega (arith, at, base_of_log log, size_of_log log, few);
-        within = omega (arith, ap (λ (t : List ℕ). length t) is, length-take 16 text);
+        within = omega (arith, ap (λ (t : List ℕ). length t) is, length-take BASED_HEADER_BYTES text);
       },
     )
 
@@ -133,30 +133,30 @@ fault_front text bytes more e is h =
     }
 
 -- that they are not a header
-no_header : (text bytes : List ℕ) → bytes ≡ take 16 text → Cause bytes BadLogHeader → Cause text BadLogHeader
+no_header : (text bytes : List ℕ) → bytes ≡ take BASED_HEADER_BYTES text → Cause bytes BadLogHeader → Cause text BadLogHeader
 no_header text bytes is none = λ begins rest fits text_is.
-    none begins (take (16 - header_bytes begins) rest) fits
-    (let long : 16 ≡ length (header_of begins) + (16 - header_bytes begins) = omega (arith, header_length begins, at_most begins) in
-    is ∙ ap (take 16) text_is ∙ ap (λ n. take n (header_of begins ++ rest)) long ∙ take-append-add (header_of begins) rest (16 - header_bytes begins))
+    none begins (take (BASED_HEADER_BYTES - header_bytes begins) rest) fits
+    (let long : BASED_HEADER_BYTES ≡ length (header_of begins) + (BASED_HEADER_BYTES - header_bytes begins) = omega (arith, header_length begins, at_most begins) in
+    is ∙ ap (take BASED_HEADER_BYTES) text_is ∙ ap (λ n. take n (header_of begins ++ rest)) long ∙ take-append-add (header_of begins) rest (BASED_HEADER_BYTES - header_bytes begins))
   where
-    at_most : (begins : LogStart) → header_bytes begins ≤ 16
+    at_most : (begins : LogStart) → header_bytes begins ≤ BASED_HEADER_BYTES
     at_most Version1 = omega arith
     at_most (Version2 base) = omega arith
 
-pub first_cause : (text bytes : List ℕ) (e : Fault) → bytes ≡ take 16 text → Cause bytes e → Cause text e
+pub first_cause : (text bytes : List ℕ) (e : Fault) → bytes ≡ take BASED_HEADER_BYTES text → Cause bytes e → Cause text e
 first_cause text bytes NoResource is h = tt
 first_cause text bytes BadLogHeader is h = no_header text bytes is h
-first_cause text bytes (BadLength at) is h = fault_front text bytes (drop 16 text) (BadLength at) (sym (take-append-drop 16 text) ∙ ap (λ (t : List ℕ). t ++ drop 16 text) (sym is)) h
-first_cause text bytes (BadRecord at) is h = fault_front text bytes (drop 16 text) (BadRecord at) (sym (take-append-drop 16 text) ∙ ap (λ (t : List ℕ). t ++ drop 16 text) (sym is)) h
-first_cause text bytes (BadLsn at) is h = fault_front text bytes (drop 16 text) (BadLsn at) (sym (take-append-drop 16 text) ∙ ap (λ (t : List ℕ). t ++ drop 16 text) (sym is)) h
+first_cause text bytes (BadLength at) is h = fault_front text bytes (drop BASED_HEADER_BYTES text) (BadLength at) (sym (take-append-drop BASED_HEADER_BYTES text) ∙ ap (λ (t : List ℕ). t ++ drop BASED_HEADER_BYTES text) (sym is)) h
+first_cause text bytes (BadRecord at) is h = fault_front text bytes (drop BASED_HEADER_BYTES text) (BadRecord at) (sym (take-append-drop BASED_HEADER_BYTES text) ∙ ap (λ (t : List ℕ). t ++ drop BASED_HEADER_BYTES text) (sym is)) h
+first_cause text bytes (BadLsn at) is h = fault_front text bytes (drop BASED_HEADER_BYTES text) (BadLsn at) (sym (take-append-drop BASED_HEADER_BYTES text) ∙ ap (λ (t : List ℕ). t ++ drop BASED_HEADER_BYTES text) (sym is)) h
 first_cause text bytes e is h = absurd h.behind.fault
 
 -- THE ROOM: its header, and what was read after it
-pub piece_is : (held : Option (List ℕ)) (mark : Mark) (count : ℕ) (room : List ℕ) → take 16 room ≡ header_of (Version2 mark.lsn) → ReadsFrom held mark.offset count (drop 16 room)
-    → IfSome held (λ text. take (16 + count) room ≡ piece_text text mark (16 + count - 16))
+pub piece_is : (held : Option (List ℕ)) (mark : Mark) (count : ℕ) (room : List ℕ) → take BASED_HEADER_BYTES room ≡ header_of (Version2 mark.lsn) → ReadsFrom held mark.offset count (drop BASED_HEADER_BYTES room)
+    → IfSome held (λ text. take (BASED_HEADER_BYTES + count) room ≡ piece_text text mark (BASED_HEADER_BYTES + count - BASED_HEADER_BYTES))
 piece_is None mark count room header reads = tt
 piece_is (Some text) mark count room header reads =
-    take-add 16 count room ∙ ap₂ (λ (a b : List ℕ). a ++ b) header (reads ∙ ap (λ n. take n (drop mark.offset text)) (omega arith))
+    take-add BASED_HEADER_BYTES count room ∙ ap₂ (λ (a b : List ℕ). a ++ b) header (reads ∙ ap (λ n. take n (drop mark.offset text)) (omega arith))
 
 module _ (text : List ℕ) (before : LogContent) (mark : Mark) (is : IsMark text before mark) where
   abbrev first : ℕ
@@ -184,7 +184,7 @@ module _ (text : List ℕ) (before : LogContent) (mark : Mark) (is : IsMark text
     abbrev rest : List ℕ
     rest = take count (drop mark.offset text)
 
-    rest_length : length rest ≡ length bytes - 16
+    rest_length : length rest ≡ length bytes - BASED_HEADER_BYTES
     rest_length = omega (arith, ap (λ (t : List ℕ). length t) piece_is, length-append (header_of (Version2 mark.lsn)) rest, header_length (Version2 mark.lsn))
 
     -- the next bytes of the log, as many as the piece has
@@ -211,10 +211,10 @@ module _ (text : List ℕ) (before : LogContent) (mark : Mark) (is : IsMark text
       rest_is : rest ≡ frames ++ reads.tail
       rest_is = append_cancel_left (header_of (Version2 mark.lsn)) rest (frames ++ reads.tail) (sym piece_is ∙ piece_parts)
 
-      frames_length : length frames ≡ (length bytes - 16) - torn
+      frames_length : length frames ≡ (length bytes - BASED_HEADER_BYTES) - torn
       frames_length = omega (arith, ap (λ (t : List ℕ). length t) rest_is, length-append frames reads.tail, reads.torn_count, rest_length)
 
-      torn_within : torn ≤ length bytes - 16
+      torn_within : torn ≤ length bytes - BASED_HEADER_BYTES
       torn_within = omega (arith, ap (λ (t : List ℕ). length t) rest_is, length-append frames reads.tail, reads.torn_count, rest_length)
 
       each : AllByRecursion Fits (before.records ++ piece.records)
@@ -224,14 +224,14 @@ module _ (text : List ℕ) (before : LogContent) (mark : Mark) (is : IsMark text
       last_is = omega (arith, size_of_log (before ⧺ piece.records), size_of_log before, size_of_log piece, length-append before.records piece.records, is.lsn, ap lsn_before begins_is)
 
       -- the bytes up to the next mark
-      next_front : take (mark.offset + ((length bytes - 16) - torn)) text ≡ log_text (before ⧺ piece.records)
+      next_front : take (mark.offset + ((length bytes - BASED_HEADER_BYTES) - torn)) text ≡ log_text (before ⧺ piece.records)
       next_front =
-          take-add mark.offset ((length bytes - 16) - torn) text
+          take-add mark.offset ((length bytes - BASED_HEADER_BYTES) - torn) text
           ∙ ap₂ (λ (a b : List ℕ). a ++ b) front_is
-          (next_bytes ((length bytes - 16) - torn) (omega (arith, rest_length)) ∙ ap (take ((length bytes - 16) - torn)) rest_is ∙ take_at frames reads.tail ((length bytes - 16) - torn) frames_length)
+          (next_bytes ((length bytes - BASED_HEADER_BYTES) - torn) (omega (arith, rest_length)) ∙ ap (take ((length bytes - BASED_HEADER_BYTES) - torn)) rest_is ∙ take_at frames reads.tail ((length bytes - BASED_HEADER_BYTES) - torn) frames_length)
           ∙ text_more piece.records
 
-      pub goes_on : ContinuesLog text before mark (length bytes - 16) piece torn
+      pub goes_on : ContinuesLog text before mark (length bytes - BASED_HEADER_BYTES) piece torn
       goes_on = record {
         begins = begins_is;
         next = record {
@@ -251,7 +251,7 @@ module _ (text : List ℕ) (before : LogContent) (mark : Mark) (is : IsMark text
           tail = reads.tail;
           text =
               sym (take-append-drop mark.offset text)
-              ∙ ap₂ (λ (a b : List ℕ). a ++ b) front_is (sym (take_all (length bytes - 16) (drop mark.offset text) (omega (arith, length-drop mark.offset text, past))) ∙ next_bytes (length bytes - 16) (omega (arith, rest_length)) ∙ take_all (length bytes - 16) rest (omega (arith, rest_length)) ∙ rest_is)
+              ∙ ap₂ (λ (a b : List ℕ). a ++ b) front_is (sym (take_all (length bytes - BASED_HEADER_BYTES) (drop mark.offset text) (omega (arith, length-drop mark.offset text, past))) ∙ next_bytes (length bytes - BASED_HEADER_BYTES) (omega (arith, rest_length)) ∙ take_all (length bytes - BASED_HEADER_BYTES) rest (omega (arith, rest_length)) ∙ rest_is)
               ∙ sym (append_assoc (log_text before) frames reads.tail)
               ∙ ap (λ (t : List ℕ). t ++ reads.tail) (text_more piece.records);
           torn_tail = reads.torn_tail;
@@ -274,7 +274,7 @@ module _ (text : List ℕ) (before : LogContent) (mark : Mark) (is : IsMark text
         let begins_is : h.begins ≡ Version2 mark.lsn = one_start h.begins (Version2 mark.lsn) (drop (header_bytes h.begins) bytes) rest h.starts low (sym h.front ∙ piece_is) in
         let records = h.behind.records in
         let rest_is : rest ≡ spellings (mark.lsn + 1) records ++ h.behind.rest =
-        sym (header_dropped (Version2 mark.lsn) rest) ∙ ap (drop 16) (sym piece_is)
+        sym (header_dropped (Version2 mark.lsn) rest) ∙ ap (drop BASED_HEADER_BYTES) (sym piece_is)
         ∙ ap (λ b. drop (header_bytes b) bytes) (sym begins_is) ∙ h.behind.text ∙ ap (λ b. spellings (lsn_before b + 1) records ++ h.behind.rest) begins_is in
         let text_is : text ≡ header_of before.begins ++ (spellings first (before.records ++ records) ++ (h.behind.rest ++ more)) =
         sym (take-append-drop mark.offset text)
@@ -287,7 +287,7 @@ module _ (text : List ℕ) (before : LogContent) (mark : Mark) (is : IsMark text
         let number : lsn_before h.begins + 1 + length records ≡ first + length (before.records ++ records) =
         omega (arith, ap lsn_before begins_is, next_lsn, length-append before.records records) in
         let spelled : length (spellings (lsn_before h.begins + 1) records) ≡ length (spellings (mark.lsn + 1) records) = ap (λ b. length (spellings (lsn_before b + 1) records)) begins_is in
-        let place : header_bytes before.begins + length (spellings first (before.records ++ records)) ≡ mark.offset + (header_bytes h.begins + length (spellings (lsn_before h.begins + 1) records)) - 16 =
+        let place : header_bytes before.begins + length (spellings first (before.records ++ records)) ≡ mark.offset + (header_bytes h.begins + length (spellings (lsn_before h.begins + 1) records)) - BASED_HEADER_BYTES =
         omega (
           arith,
           spelled,

@@ -26,6 +26,7 @@ use Rattle.recovery.specs.ByPieces.{IsOfLog, fault_of, ReadingCause, IsMeasured}
 use Rattle.recovery.proofs.Bytes.{input_cause}
 use Rattle.recovery.proofs.Delivered.{device_cause, is_resource}
 use Rattle.recovery.proofs.InPlace.{same_tail}
+use Rattle.recovery.specs.declared.tail_file.TheConstants.{END_BYTES}
 
 -- WHAT IS KNOWN OF A DEVICE
 pub at_some : {A : Type 0} (P : A → Type 0) (o : Option A) (x : A) → o ≡ Some x → IfSome o P → P x
@@ -38,14 +39,14 @@ ends_short (Some xs) None n same few end = absurd same
 ends_short (Some xs) (Some ys) n same few end = omega (arith, few, end, ap (λ (t : List ℕ). length t) same)
 
 -- the end of what is kept, read again
-pub end_again : (kept offset count : ℕ) (text buffer rest : List ℕ) → offset ≡ kept - 4096 → kept ≤ length text → kept - offset ≤ count → count ≤ length buffer → length buffer ≡ kept - offset
+pub end_again : (kept offset count : ℕ) (text buffer rest : List ℕ) → offset ≡ kept - END_BYTES → kept ≤ length text → kept - offset ≤ count → count ≤ length buffer → length buffer ≡ kept - offset
     → take count buffer ≡ take count (drop offset text) → end_of (take count (buffer ++ rest)) ≡ end_of (take kept text)
 end_again kept offset count text buffer rest at within some few room same =
     let all : offset + count ≡ kept = omega (arith, at, some, few, room) in
     let came : take count (buffer ++ rest) ≡ take count buffer = take-append-le count buffer rest few in
     let size : length (take count buffer) ≡ count = omega (arith, length-take count buffer, few) in
-    let none : length (take count (buffer ++ rest)) - 4096 ≡ 0 = omega (arith, ap (λ (t : List ℕ). length t) came, size, at, all) in
-    let long : length (take kept text) - 4096 ≡ offset = omega (arith, length-take kept text, within, at) in
+    let none : length (take count (buffer ++ rest)) - END_BYTES ≡ 0 = omega (arith, ap (λ (t : List ℕ). length t) came, size, at, all) in
+    let long : length (take kept text) - END_BYTES ≡ offset = omega (arith, length-take kept text, within, at) in
     ap (λ n. drop n (take count (buffer ++ rest))) none
     ∙ came
     ∙ same

@@ -14,6 +14,7 @@ use Rattle.device.specs.Transfer.{TookBeginning}
 use Rattle.recovery.proofs.Delivered.{behind_front}
 use Rattle.recovery.proofs.Taken.{begins_longer}
 use Rattle.recovery.specs.TailFile.{sum_on, sum_of, end_of, head_of, front_of, tail_text}
+use Rattle.recovery.specs.declared.tail_file.TheConstants.{END_BYTES}
 
 -- THE SUM
 -- is continued with the bytes after
@@ -29,20 +30,20 @@ sum_more first sum next bytes i lt so_far is =
     ∙ sym (sum_on-append first (take i bytes) (get_or bytes i 0 ∷ [])) ∙ ap (sum_on first) (sym (take_more bytes i 0 lt))
 
 -- THE END of bytes that are in two parts
-pub end_parts : (front back : List ℕ) (b m f : ℕ) → b ≡ length back - 4096 → m ≡ 4096 - length (drop b back) → f ≡ length front - m
+pub end_parts : (front back : List ℕ) (b m f : ℕ) → b ≡ length back - END_BYTES → m ≡ END_BYTES - length (drop b back) → f ≡ length front - m
     → drop f front ++ drop b back ≡ end_of (front ++ back)
 end_parts front back b m f b_is m_is f_is =
     let len = length-drop b back in
     let both = length-append front back in
-    elim (cases_lt (length back) 4096) [
+    elim (cases_lt (length back) END_BYTES) [
       | inl few ↦
           (let none : b ≡ 0 = omega (arith, b_is, few) in
           let whole : drop b back ≡ back = ap (λ n. drop n back) none in
-          let n : length (front ++ back) - 4096 ≡ f = omega (arith, f_is, m_is, len, none, few, both) in
+          let n : length (front ++ back) - END_BYTES ≡ f = omega (arith, f_is, m_is, len, none, few, both) in
           let le : f ≤ length front = omega (arith, f_is) in
           ap (λ (t : List ℕ). drop f front ++ t) whole ∙ sym (drop-append-le f front back le) ∙ ap (λ k. drop k (front ++ back)) (sym n))
       | inr many ↦
-          (let n : length (front ++ back) - 4096 ≡ length front + b = omega (arith, b_is, many, both) in
+          (let n : length (front ++ back) - END_BYTES ≡ length front + b = omega (arith, b_is, many, both) in
           let all : length front ≤ f = omega (arith, f_is, m_is, len, b_is, many) in
           let gone : drop f front ≡ [] = nil_from_length (drop f front) (omega (arith, length-drop f front, all)) in
           ap (λ (t : List ℕ). t ++ drop b back) gone ∙ sym (drop-append-add front back b) ∙ ap (λ k. drop k (front ++ back)) (sym n))

@@ -60,11 +60,11 @@ abbrev pub IfDecoded : Result StoreContent Fault → Type 0 → Type 0
 IfDecoded decoded P = (store : List ℕ) → Decodes store decoded → P
 
 -- WHAT IS MADE of the bytes that a log's device holds, and of bytes that are those of the store
--- it is their recovery
+-- it is the recovery of these bytes
 abbrev pub IsMadeOf : (held : Option (List ℕ)) → (IsStore : List ℕ → Type 0) → Made → Type 0
 IsMadeOf held IsStore x = (log store : List ℕ) → held ≡ Some log → IsStore store → Remakes log store x.remade
 
--- this is their error, whatever the options are
+-- this is the error of these bytes, whatever the options are
 abbrev pub IsCauseOf : (held : Option (List ℕ)) → (IsStore : List ℕ → Type 0) → Fault → Type 0
 IsCauseOf held IsStore e =
     (log store : List ℕ) (options : Options) → held ≡ Some log → IsStore store → AreInRange options → ReadingCause log store options e

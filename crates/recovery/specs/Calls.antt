@@ -8,6 +8,8 @@ use Rattle.device.specs.declared.traits.Sink.{Ghosts as Sink}
 use Rattle.device.specs.Failures.{Counts}
 use Rattle.device.specs.Transfer.{TookBeginning, Flushes}
 use Rattle.device.specs.Reread.{EndsBy}
+use Rattle.passes.specs.declared.fault.PassFault.{PassFault}
+use Rattle.passes.specs.Marks.{failures_of_pass}
 use Rattle.recovery.specs.Devices.{FailsOnlyWith}
 
 -- FAILURES
@@ -24,6 +26,10 @@ BlamesSinks tail old_tail new_tail log old_log new_log answer =
 abbrev pub CountsSinks : {T L A E : Type 0} → (tail : Sink T) → (old new : T) → (log : Sink L) → (old new : L) → Result A E → Type 0
 CountsSinks tail old_tail new_tail log old_log new_log answer =
     Counts (tail.failures old_tail + log.failures old_log) (tail.failures new_tail + log.failures new_log) answer
+
+-- the device has failed this many times more, with what a pass has counted that stopped
+abbrev pub FailsMore : {D : Type 0} → (failures : D → ℕ) → (old new : D) → PassFault → (more : ℕ) → Type 0
+FailsMore failures old new stopped more = failures new + failures_of_pass stopped ≡ failures old + more
 
 -- A SOURCE
 -- these bytes came next, and were read

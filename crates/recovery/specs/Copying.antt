@@ -8,7 +8,7 @@ use Rattle.device.specs.declared.traits.Sink.{Ghosts as Sink}
 use Rattle.recovery.specs.declared.by_pieces.Made.{Made}
 use Rattle.recovery.specs.Recovery.{LawfulInput}
 use Rattle.recovery.specs.Devices.{AreOut, IsOut, Leaves, LeavesCut}
-use Rattle.recovery.specs.Calls.{ForKept}
+use Rattle.recovery.specs.Calls.{ForKept, ForPiece, Took, Began}
 
 -- why a log is not copied: its source or its sink failed, or the source no longer holds what it held
 abbrev pub IsOfCopying : Fault → Type 0
@@ -38,9 +38,17 @@ module _ {L : Type 0} (log : Sink L) (old new : L) (x : LawfulInput) where
   LeavesCutCopied e = LeavesCut log old new x e
 
 -- WHAT IS COPIED of a log's device, if it is known what that holds
--- if it holds so many bytes, the fault is its own or the sink's
+-- if it holds at least this many bytes, the fault is that of the log's device or of the sink
 abbrev pub IsCopyFault : (held : Option (List ℕ)) → (count : ℕ) → Fault → Type 0
 IsCopyFault held count e = (text : List ℕ) → held ≡ Some text → count ≤ length text → (e ≡ ReadLog) ⊎ (e ≡ WriteLog)
+
+-- a sink took its bytes from an offset on, as many as a buffer takes
+abbrev pub TookPiece : {D : Type 0} → (held : Option (List ℕ)) → (offset : ℕ) → (buffer : List ℕ) → (sink : Sink D) → (old new : D) → Type 0
+TookPiece held offset buffer sink old new = ForPiece held offset buffer (Took sink old new)
+
+-- it took a prefix of them
+abbrev pub TookPart : {D : Type 0} → (held : Option (List ℕ)) → (offset : ℕ) → (buffer : List ℕ) → (sink : Sink D) → (old new : D) → Type 0
+TookPart held offset buffer sink old new = ForPiece held offset buffer (Began sink old new)
 
 -- P is true of what is kept, followed by these frames, or by those that were made
 abbrev pub ForFront : (held : Option (List ℕ)) → (kept : ℕ) → (frames : List ℕ) → (List ℕ → Type 0) → Type 0
@@ -48,6 +56,14 @@ ForFront held kept frames P = ForKept held kept (λ front. P (front ++ frames))
 
 abbrev pub ForNewLog : (held : Option (List ℕ)) → Made → (List ℕ → Type 0) → Type 0
 ForNewLog held made P = ForFront held made.kept made.remade.frames.items P
+
+-- what is kept and these frames are written and flushed
+abbrev pub BothAreOut : {D : Type 0} → (held : Option (List ℕ)) → (kept : ℕ) → (frames : List ℕ) → (sink : Sink D) → (old new : D) → Type 0
+BothAreOut held kept frames sink old new = ForFront held kept frames (AreOut sink old new)
+
+-- a prefix of them is written
+abbrev pub Begins : {D : Type 0} → (held : Option (List ℕ)) → (kept : ℕ) → (frames : List ℕ) → (sink : Sink D) → (old new : D) → Type 0
+Begins held kept frames sink old new = ForFront held kept frames (Began sink old new)
 
 -- the copy is written and flushed
 abbrev pub CopyIsOut : {D : Type 0} → (held : Option (List ℕ)) → Made → (sink : Sink D) → (old new : D) → Type 0

@@ -1,6 +1,7 @@
 -- The bytes of a log that were read, in one part or in two (own).
 use Rattle.std.specs.Prelude.{◌≡◌, ℕ, ◌≤◌, List, [], ◌++◌, length, drop, Option}
 use Rattle.std.specs.Io.KnownBytes.{Consumes}
+use Rattle.wal.specs.declared.sizes.TheConstants.{LONGEST_FRAME}
 use Rattle.wal.specs.Reads.{Cause}
 use Rattle.wal.specs.Stretches.{BeginsLog}
 use Rattle.recovery.specs.declared.log_text.LogText.{LogText}
@@ -15,6 +16,14 @@ text_of text = text.front.items ++ drop text.from text.back.items
 pub record CameAfter {D : Type 0} (left : D → Option (List ℕ)) (old new : D) (first : ℕ) (bytes : List ℕ) : Type 0 where
   pub read : Consumes (left old) (left new) (drop first bytes)
   pub within : first ≤ length bytes
+
+-- all that it had left came after room for a frame
+abbrev pub CameLast : {D : Type 0} → (left : D → Option (List ℕ)) → (old new : D) → (bytes : List ℕ) → Type 0
+CameLast left old new bytes = CameAfter left old new LONGEST_FRAME bytes
+
+-- what follows the frames of a front, which end at `end`, and then the bytes of the back after its room for a frame
+abbrev pub rest_of : (end : ℕ) → (front back : List ℕ) → List ℕ
+rest_of end front back = drop end front ++ drop LONGEST_FRAME back
 
 -- what is known of them holds
 abbrev pub IsKnown : LogText → Known → Type 0

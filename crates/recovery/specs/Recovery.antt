@@ -21,7 +21,8 @@ use Rattle.restart.specs.declared.options.Options.{Options}
 use Rattle.recovery.specs.declared.recovery.Recovery.{Recovery}
 use Rattle.recovery.specs.declared.recovery.Remade.{Remade}
 use Rattle.recovery.specs.Text.{ReportContent}
-use Rattle.restart.specs.Options.{AreInRange, OptionsFault}
+use Rattle.restart.specs.Options.{AreInRange, OptionsFault, one_worker}
+use Rattle.restart.specs.Results.{UnlessMemory}
 
 -- what the bytes of a log and of a store are
 pub record Decoded (log store : List ℕ) : Type 0 where
@@ -145,6 +146,10 @@ RecoversLawful x made = Recovered x.base x.bytes.decoded.read x.bytes.decoded.be
 abbrev pub RemakesLawful : LawfulInput → Remade → Type 0
 RemakesLawful x made = Recovered x.base x.bytes.decoded.read x.bytes.decoded.before (log_of x.log made) (store_text made.store) made.report
 
+-- a recovery of these bytes restores them over any base pages over which they are lawful, unless memory is refused
+abbrev pub RestoresBytes : (log store : List ℕ) → Result Recovery Fault → Type 0
+RestoresBytes log store answer = ForLawfulBytes log store (λ x. UnlessMemory answer (RecoversLawful x))
+
 -- what is appended to a log takes at most twice its bytes
 abbrev pub IsShort : (log : List ℕ) → Recovery → Type 0
 IsShort log made = length made.frames.items ≤ 2 * length log
@@ -192,6 +197,10 @@ RecoveryCause log store options e =
     AreInRange options
     × (LogFault log e ⊎ ((read : LogContent) × (torn : ℕ) × Reads log read torn × StoreFault store e)
     ⊎ ((decoded : Decoded log store) × InputFault decoded.read decoded.before e))
+
+-- the error of a recovery of these bytes in the caller's thread
+abbrev pub CauseAlone : (log store : List ℕ) → Fault → Type 0
+CauseAlone log store e = RecoveryCause log store one_worker e
 
 -- the error of the bytes for which the decoders return these results
 abbrev pub ReadCause : Result (LogContent × ℕ) Fault → Result StoreContent Fault → Options → Fault → Type 0

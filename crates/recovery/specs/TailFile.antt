@@ -2,6 +2,7 @@
 use Rattle.std.specs.Prelude.{◌≡◌, ℕ, ◌-◌, ◌*◌, ◌%◌, ◌^◌, ◌<◌, List, [], ◌∷◌, ◌++◌, bit_xor, codes, drop, length}
 use Rattle.std.specs.Int.{w64, to_be_bytes}
 use Rattle.recovery.specs.declared.tail_file.TailFile.{TailFile}
+use Rattle.recovery.specs.declared.tail_file.TheConstants.{END_BYTES}
 
 -- FNV-1a of 64 bits (Fowler, Noll, Vo), continued over more bytes
 abbrev pub sum_on : ℕ → List ℕ → ℕ
@@ -11,9 +12,9 @@ sum_on sum (byte ∷ rest) = sum_on ((bit_xor sum byte * 0x0000_0100_0000_01b3) 
 abbrev pub sum_of : List ℕ → ℕ
 sum_of bytes = sum_on 0xcbf2_9ce4_8422_2325 bytes
 
--- the last 4,096 bytes, or all if there are fewer
+-- the last `END_BYTES`, or all if there are fewer
 abbrev pub end_of : List ℕ → List ℕ
-end_of bytes = drop (length bytes - 4096) bytes
+end_of bytes = drop (length bytes - END_BYTES) bytes
 
 -- this is the sum of the end of these bytes
 abbrev pub IsEndSum : ℕ → List ℕ → Type 0

@@ -9,10 +9,10 @@ ghost use Rattle.device.specs.Failures.{Counts};
 ghost use Rattle.restart.specs.Options.{OptionsFault};
 ghost use Rattle.recovery.specs.Devices.{AreOut, Completes, Delivers, ForCut, ForLawful, NewLogIsOut, OnceRead, UnlessDevice, Writes};
 ghost use Rattle.recovery.specs.ByPieces.{StoreFails, RereadCause};
-ghost use Rattle.recovery.specs.Copying.{IsOfCopying, CopyIsOut, ForFront, ForNewLog, IsCopyFault, IsOutCopied, LeavesCopy, LeavesCutCopied, StoreIsOut};
+ghost use Rattle.recovery.specs.Copying.{IsOfCopying, Begins, TookPart, BothAreOut, CopyIsOut, ForNewLog, IsCopyFault, IsOutCopied, LeavesCopy, LeavesCutCopied, StoreIsOut, TookPiece};
 ghost use Rattle.recovery.specs.declared.log_again.TheConstants.{ROOM};
 ghost use Rattle.recovery.specs.declared.store_pieces.TheConstants.{PIECE};
-ghost use Rattle.recovery.specs.Calls.{Blames, ForKept, ForPiece, ForText, IsStored, Took, Began};
+ghost use Rattle.recovery.specs.Calls.{Blames, ForKept, ForText, IsStored, Took, Began};
 ghost use Rattle.std.specs.Option.{ForSome};
 
 use crate::Report;
@@ -34,10 +34,10 @@ fn copy_piece<L: Reread, S: Sink>(
     room: &mut [u8],
 ) -> Result<(), Fault>
     requires { offset + length room.old ≤ 2 ^ 64 }
-    ensures all { OnOk result (ForPiece (L.text log.old) offset room.old
-        (Took S.Sink sink.old sink.new)) }
-    ensures beginning { OnErr result
-        (ForPiece (L.text log.old) offset room.old (Began S.Sink sink.old sink.new)) }
+    ensures all { OnOk result
+        (TookPiece (L.text log.old) offset room.old S.Sink sink.old sink.new) }
+    ensures prefix { OnErr result
+        (TookPart (L.text log.old) offset room.old S.Sink sink.old sink.new) }
     ensures fault { IfErr result (IsCopyFault (L.text log.old) (offset + length room.old)) }
     ensures named { IfErr result IsOfCopying }
     ensures same { Keeps (L.text log.old) (L.text log.new) }
@@ -66,7 +66,7 @@ fn copy_kept<L: Reread, S: Sink>(
 ) -> Result<(), Fault>
     requires { length room.old ≡ ROOM }
     ensures all { OnOk result (ForKept (L.text log.old) kept (Took S.Sink sink.old sink.new)) }
-    ensures beginning { OnErr result (ForKept (L.text log.old) kept
+    ensures prefix { OnErr result (ForKept (L.text log.old) kept
         (Began S.Sink sink.old sink.new)) }
     ensures fault { IfErr result (IsCopyFault (L.text log.old) kept) }
     ensures named { IfErr result IsOfCopying }
@@ -86,7 +86,7 @@ fn copy_kept<L: Reread, S: Sink>(
 /// Writes frames to a sink, after the bytes that it took before, and flushes it.
 fn write_frames<S: Sink>(sink: &mut S, frames: &[u8]) -> Result<(), Failed>
     ensures all { OnOk result (AreOut S.Sink sink.old sink.new frames.now) }
-    ensures beginning { OnErr result (Began S.Sink sink.old sink.new frames.now) }
+    ensures prefix { OnErr result (Began S.Sink sink.old sink.new frames.now) }
     ensures cause { Counts (S.failures sink.old) (S.failures sink.new) result }
 {
     write_all(sink, frames)?;
@@ -104,9 +104,9 @@ fn write_copy<L: Reread, S: Sink>(
 ) -> Result<(), Fault>
     requires { length room.old ≡ ROOM }
     ensures all { OnOk result
-        (ForFront (L.text log.old) kept frames.now (AreOut S.Sink sink.old sink.new)) }
-    ensures beginning { OnErr result
-        (ForFront (L.text log.old) kept frames.now (Began S.Sink sink.old sink.new)) }
+        (BothAreOut (L.text log.old) kept frames.now S.Sink sink.old sink.new) }
+    ensures prefix { OnErr result
+        (Begins (L.text log.old) kept frames.now S.Sink sink.old sink.new) }
     ensures flushed { OnOk result (IsStored S.Sink sink.old sink.new) }
     ensures fault { IfErr result (IsCopyFault (L.text log.old) kept) }
     ensures named { IfErr result IsOfCopying }

@@ -5,13 +5,12 @@ ghost use Rattle.std.specs.Prelude.{◌≡◌, ◌≢◌, ◌≤◌, ◌<◌, �
 ghost use Rattle.std.specs.Io.KnownBytes.{IsAtEnd, Keeps};
 ghost use Rattle.device.specs.Reread.{ReadsFrom};
 ghost use Rattle.page.specs.declared.fault.Fault.TheVariants.{NoResource, ReadLog, ReadStore};
-ghost use Rattle.passes.specs.Marks.{failures_of_pass};
 ghost use Rattle.recovery.specs.Devices.{IsFaultOf, IsDecoded};
 ghost use Rattle.recovery.specs.TailFile.{IsEndSum};
 ghost use Rattle.recovery.specs.ByPieces.{IsOfLog, fault_of, StoreFails, IsLog, LogCause};
 ghost use Rattle.recovery.specs.declared.log_again.TheConstants.{ROOM};
 ghost use Rattle.recovery.specs.declared.store_pieces.TheConstants.{PIECE};
-ghost use Rattle.recovery.specs.Calls.{Blames, ForKept, IsShortAtEnd};
+ghost use Rattle.recovery.specs.Calls.{Blames, FailsMore, ForKept, IsShortAtEnd};
 ghost use Rattle.std.specs.Option.{ForSome};
 
 use crate::store_pieces::{DecodedStore, read_store};
@@ -20,9 +19,14 @@ use device::{Failed, Reread, Source, read_full_at};
 use page::Fault;
 use passes::{PassFault, find_marks};
 use std::alloc::Global;
+use wal::{BASED_HEADER_BYTES, LONGEST_FRAME};
 
-/// How many bytes of a log are in memory at once: 256 KiB of frames, and a header before them.
-pub const ROOM: usize = 262_160;
+/// How many bytes of frames are read at once: 256 KiB, or so many times 256 KiB that the longest
+/// frame fits.
+const FRAMES: usize = (1 << 18) * (1 + LONGEST_FRAME / (1 << 18));
+
+/// How many bytes of a log are in memory at once: the frames, and a header before them.
+pub const ROOM: usize = BASED_HEADER_BYTES + FRAMES;
 
 /// A log that is read in pieces has fewer bytes than the sum of this and the length of the room.
 const LONGEST_LOG: u64 = 1 << 63;
@@ -113,10 +117,8 @@ pub fn fault_after<L: Reread>(log: &mut L, stopped: PassFault, room: &mut [u8]) 
     requires { length room.old ≡ ROOM }
     ensures fault { (result ≡ ReadLog) ⊎ (result ≡ fault_of stopped) }
     // The pass may have counted a failure already.
-    ensures blamed { result ≡ ReadLog
-        → L.failures log.new + failures_of_pass stopped ≡ L.failures log.old + 1 }
-    ensures innocent { result ≢ ReadLog
-        → L.failures log.new + failures_of_pass stopped ≡ L.failures log.old }
+    ensures blamed { result ≡ ReadLog → FailsMore L.failures log.old log.new stopped 1 }
+    ensures innocent { result ≢ ReadLog → FailsMore L.failures log.old log.new stopped 0 }
 {
     first_fault(log, fault_of(stopped), room)
 }
@@ -160,8 +162,9 @@ pub fn check_log<L: Reread>(alloc: Global, log: &mut L, room: &mut [u8]) -> Resu
     Ok(())
 }
 
-/// The sum of the last 4,096 of the bytes of a log that are kept, or of all if there are fewer.
-/// They are read again: `BadLsn` with their offset if the device no longer holds them all.
+/// The sum of the last [`END_BYTES`](crate::tail_file::END_BYTES) of a log that are kept, or of all
+/// if there are fewer. They are read again: `BadLsn` with their offset if the device no longer
+/// holds them all.
 pub fn sum_of_kept<L: Reread>(log: &mut L, kept: u64, room: &mut [u8]) -> Result<u64, Fault>
     requires { length room.old ≡ ROOM }
     ensures sum { IfOk result (λ sum. ForKept (L.text log.old) kept (IsEndSum sum)) }

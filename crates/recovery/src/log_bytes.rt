@@ -50,7 +50,8 @@ impl<'a> LogBytes<'a> {
         self.front.len() as u64 + self.back.len() as u64
     }
 
-    /// The sum of the last 4,096 of them, or of all if there are fewer.
+    /// The sum of the last [`END_BYTES`](crate::tail_file::END_BYTES) of them, or of all if there
+    /// are fewer.
     pub fn sum_of_end(&self) -> u64
         ensures { result ≡ sum_of (end_of self.now) }
     {

@@ -7,7 +7,7 @@ ghost use Rattle.page.specs.declared.fault.Fault.TheVariants.{NoResource, ReadLo
 ghost use Rattle.wal.specs.Reads.{Cause};
 ghost use Rattle.wal.specs.Stretches.{BeginsCut};
 ghost use Rattle.wal.specs.declared.sizes.TheConstants.{BASED_HEADER_BYTES, LONGEST_FRAME};
-ghost use Rattle.recovery.specs.LogText.{text_of, CameAfter, IsLogText};
+ghost use Rattle.recovery.specs.LogText.{text_of, rest_of, CameAfter, CameLast, IsLogText};
 ghost use Rattle.recovery.specs.Recovery.{ReadsAs};
 ghost use Rattle.recovery.specs.Devices.{Gave, IsFaultOf};
 ghost use Rattle.recovery.specs.Calls.{Blames, ReadNext};
@@ -162,8 +162,7 @@ fn move_rest(front: &mut Vec<u8>, end: usize, back: &mut Vec<u8>) -> usize
     requires short { length front.old.items < end + LONGEST_FRAME }
     requires room { LONGEST_FRAME ≤ length back.old.items }
     ensures front { front.new.items ≡ take end front.old.items }
-    ensures back { drop result back.new.items
-        ≡ drop end front.old.items ++ drop LONGEST_FRAME back.old.items }
+    ensures back { drop result back.new.items ≡ rest_of end front.old.items back.old.items }
     ensures within { result ≤ length back.new.items }
 {
     let (_, rest) = front.split_at(end);
@@ -188,8 +187,7 @@ fn first_beside_rest<S: Source, R: Threads + Sync>(
     ensures frames { IfOk result.0 (BeginsCut front.now) }
     ensures short { IfOk result.0 (λ first. length front.now < first.end + LONGEST_FRAME) }
     ensures no_log { IfErr result.0 (λ e. (more : List ℕ) → Cause (front.now ++ more) e) }
-    ensures read { OnOk result.1 (CameAfter S.left source.old source.new
-        LONGEST_FRAME back.new.items) }
+    ensures read { OnOk result.1 (CameLast S.left source.old source.new back.new.items) }
     ensures end { OnOk result.1 (IsAtEnd (S.left source.new)) }
     ensures fault { IfErr result.1 (IsFaultOf ReadLog) }
     ensures cause { Blames ReadLog S.failures source.old source.new result.1 }
@@ -202,8 +200,8 @@ fn first_beside_rest<S: Source, R: Threads + Sync>(
     { first_frames(rt, alloc, front, threads) };
     let mut read = || -> Result<(), Fault>
         requires { LONGEST_FRAME ≤ length back.now.items }
-        ensures read { OnOk result (CameAfter S.left source.entry.now source.exit.now LONGEST_FRAME
-            back.exit.now.items) }
+        ensures read { OnOk result
+            (CameLast S.left source.entry.now source.exit.now back.exit.now.items) }
         ensures end { OnOk result (IsAtEnd (S.left source.exit.now)) }
         ensures fault { IfErr result (IsFaultOf ReadLog) }
         ensures cause { Blames ReadLog S.failures source.entry.now source.exit.now result }

@@ -36,7 +36,7 @@ fn sum_on(sum: u64, bytes: &[u8]) -> u64
     sum
 }
 
-/// The sum of the last 4,096 bytes of a log that is in two parts, or of all if there are fewer.
+/// The sum of the last [`END_BYTES`] of a log that is in two parts, or of all if there are fewer.
 pub fn sum_of_end(front: &[u8], back: &[u8]) -> u64
     ensures { result ≡ sum_of (end_of (front.now ++ back.now)) }
 {
@@ -63,7 +63,7 @@ pub struct TailFile<'a> {
     pub length: u64,
     /// How many of them are kept: all but those of the torn tail.
     pub kept: u64,
-    /// The sum of the last 4,096 bytes that are kept, or of all if there are fewer: the log to
+    /// The sum of the last [`END_BYTES`] that are kept, or of all if there are fewer: the log to
     /// which the tail belongs ends with them.
     pub end: u64,
     /// The frames that come after them.

@@ -1,9 +1,7 @@
 //! Recovery in memory without threads.
 
 ghost use Rattle.std.specs.Prelude.{◌≡◌, ◌-◌, length, take, IfOk, IfErr};
-ghost use Rattle.recovery.specs.Recovery.{RecoveryCause, ForLawfulBytes, IsRecoveryOf, IsShort, RecoversLawful};
-ghost use Rattle.restart.specs.Options.{one_worker};
-ghost use Rattle.restart.specs.Results.{UnlessMemory};
+ghost use Rattle.recovery.specs.Recovery.{ForLawfulBytes, RestoresBytes, IsRecoveryOf, IsShort, CauseAlone};
 
 use crate::recovery::{Recovery, Remade, remade_of};
 use page::{Fault, decode_store, encode_store_into};
@@ -26,8 +24,7 @@ pub fn recovery_alone<'a>(
     mut store: Vec<u8>,
 ) -> Result<Recovery<'a>, Fault>
     // For the bytes of a log and its store that are lawful over any base pages.
-    ensures lawful { ForLawfulBytes log.now store.items (λ x. UnlessMemory result
-        (RecoversLawful x)) }
+    ensures lawful { RestoresBytes log.now store.items result }
 
     // On success.
     ensures answer { IfOk result (IsRecoveryOf log.now store.items) }
@@ -37,7 +34,7 @@ pub fn recovery_alone<'a>(
     ensures short { ForLawfulBytes log.now store.items (λ _. IfOk result (IsShort log.now)) }
 
     // On an error, its condition holds for the input, memory aside; valid options cause none.
-    ensures cause { IfErr result (RecoveryCause log.now store.items one_worker) }
+    ensures cause { IfErr result (CauseAlone log.now store.items) }
 {
     let (records, torn) = read_log(alloc, log)?;
     let before = decode_store(alloc, &store)?;

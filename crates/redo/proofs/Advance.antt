@@ -15,6 +15,7 @@ use Rattle.wal.specs.Meaning.{Change, change_of, effects, writes, is_on, image_o
 use Rattle.wal.specs.Redo.{is_redone, slots_in, held_by, last_where, applied}
 use Rattle.redo.specs.Changes.{RedoPage, page_named, redo_page_at, put, changed_by, advance}
 use Rattle.redo.proofs.Slots.{set-tabulated, map-same, same_below}
+use Rattle.page.specs.declared.profile.TheConstants.{SLOTS}
 
 -- a record that is redone has an LSN above the image's
 pub redone_above : (rec_lsn : Option ℕ) (redo_lsn k n : ℕ) → is_redone rec_lsn redo_lsn k n ≡ true → k < n
@@ -61,7 +62,7 @@ module _ (rec_lsn : Option ℕ) (redo_lsn : ℕ) (log : History) (r : LogRecord)
       let same_cells : (s : ℕ) → effects (λ n _. is_redone rec_lsn redo_lsn image.lsn n) (held_by image) (log ▸ r) image.number s ≡ effects (λ n _. is_redone rec_lsn redo_lsn image.lsn n) (held_by image) log image.number s =
       λ s. ap (λ b. cond b (image_of r) (effects (λ n _. is_redone rec_lsn redo_lsn image.lsn n) (held_by image) log image.number s)) (none s) in
       let same_slots : slots_in (effects (λ n _. is_redone rec_lsn redo_lsn image.lsn n) (held_by image) (log ▸ r)) image.number ≡ slots_in (effects (λ n _. is_redone rec_lsn redo_lsn image.lsn n) (held_by image) log) image.number =
-      map-same (effects (λ n _. is_redone rec_lsn redo_lsn image.lsn n) (held_by image) (log ▸ r) image.number) (effects (λ n _. is_redone rec_lsn redo_lsn image.lsn n) (held_by image) log image.number) (range_with_len 0 16) (fun_ext same_cells) in
+      map-same (effects (λ n _. is_redone rec_lsn redo_lsn image.lsn n) (held_by image) (log ▸ r) image.number) (effects (λ n _. is_redone rec_lsn redo_lsn image.lsn n) (held_by image) log image.number) (range_with_len 0 SLOTS) (fun_ext same_cells) in
       ap₂ (λ n xs. record { page = record { number = image.number; lsn = n; slots = xs }; rec_lsn = rec_lsn; applied = applied rec_lsn redo_lsn image (log ▸ r) }) same_lsn same_slots
       ∙ ap (λ a. record { page = record { number = image.number; lsn = last_where (is_redone rec_lsn redo_lsn image.lsn) image.number image.lsn log; slots = slots_in (effects (λ n _. is_redone rec_lsn redo_lsn image.lsn n) (held_by image) log) image.number }; rec_lsn = rec_lsn; applied = a }) same_count
 
@@ -94,11 +95,11 @@ module _ (rec_lsn : Option ℕ) (redo_lsn : ℕ) (log : History) (r : LogRecord)
         let mine : effects (λ n _. is_redone rec_lsn redo_lsn image.lsn n) (held_by image) (log ▸ r) image.number slot ≡ value =
         (let f : eqb slot slot ≡ true = eq-eqb slot slot refl in rw (puts.writes_is image.number slot, here, f, lacking) puts.image_is) in
         let new_slots : set (slots_in (effects (λ n _. is_redone rec_lsn redo_lsn image.lsn n) (held_by image) log) image.number) slot value ≡ slots_in (effects (λ n _. is_redone rec_lsn redo_lsn image.lsn n) (held_by image) (log ▸ r)) image.number =
-        dite (dec_lt slot 16)
-        (λ lt. set-tabulated (effects (λ n _. is_redone rec_lsn redo_lsn image.lsn n) (held_by image) log image.number) (effects (λ n _. is_redone rec_lsn redo_lsn image.lsn n) (held_by image) (log ▸ r) image.number) 16 slot value lt other mine)
+        dite (dec_lt slot SLOTS)
+        (λ lt. set-tabulated (effects (λ n _. is_redone rec_lsn redo_lsn image.lsn n) (held_by image) log image.number) (effects (λ n _. is_redone rec_lsn redo_lsn image.lsn n) (held_by image) (log ▸ r) image.number) SLOTS slot value lt other mine)
         (λ ge.
         set_past (slots_in (effects (λ n _. is_redone rec_lsn redo_lsn image.lsn n) (held_by image) log) image.number) slot value
-        (omega (arith, length-map-range_with_len (effects (λ n _. is_redone rec_lsn redo_lsn image.lsn n) (held_by image) log image.number) 0 16))
+        (omega (arith, length-map-range_with_len (effects (λ n _. is_redone rec_lsn redo_lsn image.lsn n) (held_by image) log image.number) 0 SLOTS))
         ∙ sym (same_below (effects (λ n _. is_redone rec_lsn redo_lsn image.lsn n) (held_by image) (log ▸ r)) (effects (λ n _. is_redone rec_lsn redo_lsn image.lsn n) (held_by image) log) image.number (λ s lt. other s (λ e. omega arith)))) in
         ap₂ (λ n xs. record { page = record { number = image.number; lsn = n; slots = xs }; rec_lsn = rec_lsn; applied = applied rec_lsn redo_lsn image (log ▸ r) }) new_lsn (sym new_slots)
         ∙ ap (λ a. record { page = record { number = image.number; lsn = suc (last_lsn log); slots = set (slots_in (effects (λ n _. is_redone rec_lsn redo_lsn image.lsn n) (held_by image) log) image.number) slot value }; rec_lsn = rec_lsn; applied = a }) one_more

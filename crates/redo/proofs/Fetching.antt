@@ -20,6 +20,7 @@ use Rattle.redo.specs.Wanted.{IsWanted, slot_in, HoldAllBut}
 use Rattle.redo.proofs.Reading.{contains_one}
 use Rattle.redo.proofs.Tallies.{held_none, held_some, slot_after, slots_count}
 use Rattle.redo.proofs.LastRecords.{in_slot}
+use Rattle.page.specs.declared.profile.TheConstants.{SLOTS}
 
 -- BEFORE THE FIRST IS FETCHED
 pub none_fetched : (log : History) (tallies : List Tally) (wanted : List Wanted) (images : List Page) → ((w : Wanted) → IsWanted tallies w → Contains wanted w) → HoldAllBut log tallies wanted images images
@@ -120,7 +121,7 @@ fetched_one whole piece tallies w rest images pages new own one le ahead below s
 
 -- AT THE END
 pub finished_all : (whole : History) (tallies : List Tally) (rest : List Wanted) (images pages : List Page) (upto k : ℕ) (t : Tally) (d : Page) → LastsAreWithin upto tallies → HoldAllBut whole tallies rest images pages
-    → All (λ (w : Wanted). upto < w.lsn) rest → length pages ≡ length tallies → k < length pages → length (get_or pages k d).slots ≡ 16 → length (get_or tallies k t).lasts ≡ 16
+    → All (λ (w : Wanted). upto < w.lsn) rest → length pages ≡ length tallies → k < length pages → length (get_or pages k d).slots ≡ SLOTS → length (get_or tallies k t).lasts ≡ SLOTS
     → record { number = (get_or tallies k t).number; lsn = (get_or tallies k t).lsn; slots = (get_or pages k d).slots } ≡ finished_page whole (get_or tallies k t) (get_or images k d)
 finished_all whole tallies rest images pages upto k t d lasts all behind count lt slots_are lasts_are =
     let tally = get_or tallies k t in
@@ -128,13 +129,13 @@ finished_all whole tallies rest images pages upto k t d lasts all behind count l
     let stored : k < length images = omega (arith, all.count, lt) in
     let page_is : image_at pages k ≡ get_or pages k d = get_or_default pages k _ d lt in
     let image_is : image_at images k ≡ get_or images k d = get_or_default images k _ d stored in
-    let same : length (get_or images k d).slots ≡ 16 = ap (λ (p : Page). length p.slots) (sym image_is) ∙ (sym (all.slots k stored) ∙ (ap (λ (p : Page). length p.slots) page_is ∙ slots_are)) in
+    let same : length (get_or images k d).slots ≡ SLOTS = ap (λ (p : Page). length p.slots) (sym image_is) ∙ (sym (all.slots k stored) ∙ (ap (λ (p : Page). length p.slots) page_is ∙ slots_are)) in
     let after = slots_after whole tally.lasts (get_or images k d).slots in
-    let long : length after ≡ 16 = slots_count whole tally.lasts (get_or images k d).slots (lasts_are ∙ sym same) ∙ same in
+    let long : length after ≡ SLOTS = slots_count whole tally.lasts (get_or images k d).slots (lasts_are ∙ sym same) ∙ same in
     let slots : (get_or pages k d).slots ≡ after =
     ext_get_or None (get_or pages k d).slots after (slots_are ∙ sym long)
     (λ slot less.
-    let small : slot < 16 = omega (arith, less, slots_are) in
+    let small : slot < SLOTS = omega (arith, less, slots_are) in
     ap (λ (p : Page). get_or p.slots slot None) (sym page_is)
     ∙ (all.held k slot tally stored (slice_get-get_or tallies k t within) small (λ has. (let past = All-contains (λ (w : Wanted). upto < w.lsn) rest (in_slot k slot (get_or tally.lasts slot 0)) behind has in omega (arith, past, lasts k slot t within)))
     ∙ (ap (λ (p : Page). held_after whole (get_or tally.lasts slot 0) (get_or p.slots slot None)) image_is

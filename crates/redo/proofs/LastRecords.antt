@@ -9,6 +9,7 @@ use Rattle.redo.specs.declared.tally.Tally.{Tally}
 use Rattle.redo.specs.declared.wanted.Wanted.{Wanted}
 use Rattle.redo.specs.Passing.{StandAtNumbers}
 use Rattle.redo.specs.Wanted.{IsLastIn, IsWanted}
+use Rattle.page.specs.declared.profile.TheConstants.{SLOTS}
 
 -- SLOT BY SLOT
 -- others, and the last records in the slots below this one
@@ -45,7 +46,7 @@ same_last page lasts slot w last e =
     ap (λ n. record { lsn = n; page = w.page; slot = w.slot }) (lsn_is page lasts w last ∙ ap (λ i. get_or lasts i 0) e)
     ∙ (ap (λ p. record { lsn = get_or lasts slot 0; page = p; slot = w.slot }) last.page_is ∙ ap (λ i. record { lsn = get_or lasts slot 0; page = page; slot = i }) e)
 
-pub slot_some : (page : ℕ) (lasts : List ℕ) (old : List Wanted) (slot lsn : ℕ) (items : List Wanted) → length lasts ≡ 16 → slot < 16 → lsn ≡ get_or lasts slot 0 → lsn ≢ 0 → HoldsBelow page lasts old slot items
+pub slot_some : (page : ℕ) (lasts : List ℕ) (old : List Wanted) (slot lsn : ℕ) (items : List Wanted) → length lasts ≡ SLOTS → slot < SLOTS → lsn ≡ get_or lasts slot 0 → lsn ≢ 0 → HoldsBelow page lasts old slot items
     → HoldsBelow page lasts old (slot + 1) (items ++ in_slot page slot lsn ∷ [])
 slot_some page lasts old slot lsn items count lt is some before w =
     let one = in_slot page slot lsn in
@@ -65,7 +66,7 @@ slot_some page lasts old slot lsn items count lt is some before w =
     )
 
 -- in all slots
-pub all_slots : (page : ℕ) (lasts : List ℕ) (old : List Wanted) (slot : ℕ) (items : List Wanted) → 16 ≤ slot → HoldsBelow page lasts old slot items → (w : Wanted) → Contains items w ↔ (Contains old w ⊎ IsLastIn page lasts w)
+pub all_slots : (page : ℕ) (lasts : List ℕ) (old : List Wanted) (slot : ℕ) (items : List Wanted) → SLOTS ≤ slot → HoldsBelow page lasts old slot items → (w : Wanted) → Contains items w ↔ (Contains old w ⊎ IsLastIn page lasts w)
 all_slots page lasts old slot items all before w = (
   λ has. elim ((before w).0 has) [ inl x ↦ inl x | inr x ↦ inr x.0 ],
   λ one. elim one [ inl x ↦ (before w).1 (inl x) | inr x ↦ (before w).1 (inr (x, omega (arith, x.small, all))) ],

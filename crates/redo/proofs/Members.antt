@@ -13,7 +13,7 @@ use Rattle.std.specs.List.{range_with_len}
 use Rattle.std.proofs.lemmas.List.FromFn.{length-map-range_with_len, map-range_with_len_more}
 use Rattle.std.proofs.lemmas.List.Elements.{All-map}
 use Rattle.std.proofs.Math.Nat.{mod-lt}
-use Rattle.redo.specs.Parting.{AreMembers, AreLists, IsSize, IsDealt, PartingFault, NumberFault, by_number}
+use Rattle.redo.specs.Parting.{AreMembers, AreLists, ArePages, AreParts, IsDealt, PartingFault, NumberFault, by_number}
 use Rattle.redo.proofs.Reading.{get_more, get_last, get_split, get_same}
 
 module _ (part_of place_of : List ℕ) (x page place : ℕ) (count : length place_of ≡ page) (given : slice_get part_of page ≡ Some x) where
@@ -87,7 +87,7 @@ low_next page part k old new is low =
 pub number_more : (parts page : ℕ) → by_number page parts ++ (page % parts) ∷ [] ≡ by_number (page + 1) parts
 number_more parts page = sym (map-range_with_len_more (λ p. p % parts) 0 page page (omega arith))
 
-pub number_dealt : (pages parts : ℕ) → IsSize pages → IsSize parts → IsDealt pages parts (by_number pages parts)
+pub number_dealt : (pages parts : ℕ) → ArePages pages → AreParts parts → IsDealt pages parts (by_number pages parts)
 number_dealt pages parts a b = record {
   pages_fit = a;
   parts_fit = b;

@@ -4,13 +4,14 @@ use Rattle.std.proofs.lemmas.Bool.{cases_eq}
 use Rattle.std.proofs.lemmas.List.{get_or-set_same, get_or-set_other}
 use Rattle.redo.specs.declared.note.Note.{Note}
 use Rattle.redo.specs.Notes.{note_of, notes_of, notes_at}
+use Rattle.page.specs.declared.profile.TheConstants.{SLOTS}
 
 -- IN ONE NUMBER
-pub note_there : (n : Note) → n.slot < 16 → note_of n.lsn (16 * n.place + n.slot) ≡ n
+pub note_there : (n : Note) → n.slot < SLOTS → note_of n.lsn (SLOTS * n.place + n.slot) ≡ n
 note_there n small =
-    let place : (16 * n.place + n.slot) / 16 ≡ n.place = omega arith in
-    let slot : (16 * n.place + n.slot) % 16 ≡ n.slot = omega arith in
-    ap (λ p. record { lsn = n.lsn; place = p; slot = (16 * n.place + n.slot) % 16 }) place ∙ ap (λ s. record { lsn = n.lsn; place = n.place; slot = s }) slot
+    let place : (SLOTS * n.place + n.slot) / SLOTS ≡ n.place = omega arith in
+    let slot : (SLOTS * n.place + n.slot) % SLOTS ≡ n.slot = omega arith in
+    ap (λ p. record { lsn = n.lsn; place = p; slot = (SLOTS * n.place + n.slot) % SLOTS }) place ∙ ap (λ s. record { lsn = n.lsn; place = n.place; slot = s }) slot
 
 pub notes_count : (lsns cells : List ℕ) → length cells ≡ length lsns → length (notes_of lsns cells) ≡ length lsns
 notes_count [] cells same = refl

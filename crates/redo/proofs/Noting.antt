@@ -20,6 +20,7 @@ use Rattle.redo.specs.Inputs.{InputContent}
 use Rattle.redo.specs.Routes.{ExistWithin, NoteFault, RouteFault}
 use Rattle.redo.proofs.Routes.{lsns_none}
 use Rattle.redo.proofs.Replay.{lsns_more, page_of_cell}
+use Rattle.page.specs.declared.profile.TheConstants.{SLOTS}
 
 -- nothing is noted before the first
 pub none_noted : (input : InputContent) (part_of : List ℕ) (from part : ℕ) → base_lsn (history input.log) ≤ from → lsns_where (on_part part_of part) from (first from (history input.log)) ≡ []
@@ -68,7 +69,7 @@ module _ (input : InputContent) (from seen : ℕ) (r : LogRecord) (low : base_ls
 
 -- THE NOTES
 -- a slot is one of 16
-pub small_slot : (r : LogRecord) (page slot : ℕ) → Fits r → cell_of r ≡ Some (page, slot) → slot < 16
+pub small_slot : (r : LogRecord) (page slot : ℕ) → Fits r → cell_of r ≡ Some (page, slot) → slot < SLOTS
 small_slot (Update u) page slot fits e = let is : u.slot ≡ slot = ap (λ (x : ℕ × ℕ). x.1) (same_Some _ _ e) in omega (arith, is, fits.slot)
 small_slot (Compensation c) page slot fits e = let is : c.slot ≡ slot = ap (λ (x : ℕ × ℕ). x.1) (same_Some _ _ e) in omega (arith, is, fits.slot)
 small_slot r page slot fits e = absurd (cc)

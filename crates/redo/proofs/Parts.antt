@@ -15,6 +15,7 @@ use Rattle.redo.specs.Parted.{PartedContent}
 use Rattle.redo.specs.Parts.{redo_page_in, image_at, numbers_of, IsUpTo, IsWhollyRedone, HasPart}
 use Rattle.redo.proofs.Advance.{advance_number, advance_count}
 use Rattle.redo.proofs.Replay.{image_number, member_image}
+use Rattle.page.specs.declared.profile.TheConstants.{SLOTS}
 
 -- RECORD BY RECORD
 step_number : (log : History) (redo_lsn lsn : ℕ) (p : RedoPage) → (step log redo_lsn p lsn).page.number ≡ p.page.number
@@ -71,7 +72,7 @@ module _ (parted : PartedContent) (part : ℕ) (numbered : AreNumbered parted.in
       record {
         image = image_at parted.input.images m;
         there = ap (slice_get parted.input.images) number ∙ slice_get-get_or parted.input.images m (image_at parted.input.images m) within
-            ∙ ap Some (get_or_default parted.input.images m (image_at parted.input.images m) (record { number = m; lsn = 0; slots = replicate 16 None }) within);
+            ∙ ap Some (get_or_default parted.input.images m (image_at parted.input.images m) (record { number = m; lsn = 0; slots = replicate SLOTS None }) within);
         redone = is ∙ ap (λ h. redo_page_in parted.input h (image_at parted.input.images m)) (first_all (last_lsn (history parted.input.log)) (history parted.input.log) (omega arith));
       }
 

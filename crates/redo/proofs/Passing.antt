@@ -23,6 +23,7 @@ use Rattle.redo.proofs.Stretches.{skipped_within, skipped_from, skipped_of_piece
 use Rattle.redo.proofs.Replay.{skips_none}
 use Rattle.redo.proofs.Noting.{exist_on}
 use Rattle.redo.proofs.OnePass.{one_more, numbers_of_tallies, few}
+use Rattle.page.specs.declared.profile.TheConstants.{SLOTS}
 
 -- A RECORD COUNTED
 counted_number : (redo_lsn lsn slot : ℕ) (t : Tally) → (counted redo_lsn lsn slot t).number ≡ t.number
@@ -113,7 +114,7 @@ module _ (images : List Page) (tables : TablesContent) (tallies : List Tally) (a
       record {
         numbered = numbers_of_tallies (input_over log images tables) numbered base tallies up;
         few = few (input_over log images tables) numbered base tallies up (omega arith) (omega arith);
-        lasts = λ k slot t lt. omega (arith, ap (λ xs. get_or xs slot 0) (are.each k t (omega (arith, lt, are.count))).none ∙ zeros 16 slot);
+        lasts = λ k slot t lt. omega (arith, ap (λ xs. get_or xs slot 0) (are.each k t (omega (arith, lt, are.count))).none ∙ zeros SLOTS slot);
       }
 
 -- A PIECE

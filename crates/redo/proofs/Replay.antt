@@ -26,6 +26,7 @@ use Rattle.redo.proofs.Reading.{get_same}
 use Rattle.redo.proofs.Routes.{lsns_none}
 use Rattle.redo.proofs.Stretches.{skipped_within}
 use Rattle.redo.proofs.Advance.{advanced, advance_had, advance_elsewhere, advance_count}
+use Rattle.page.specs.declared.profile.TheConstants.{SLOTS}
 
 -- a cell names its page
 pub page_of_cell : (r : LogRecord) (page slot : ℕ) → cell_of r ≡ Some (page, slot) → page_named r ≡ Some page
@@ -45,11 +46,11 @@ off_part part_of part redo_lsn lsn r p here off =
     false≢true (sym off ∙ given))
 
 -- the image itself, before any record
-pub image_begun : (input : InputContent) (base : ℕ) (image : Page) → length image.slots ≡ 16 → redo_page_in input (start base) image ≡ record { page = image; rec_lsn = rec_lsn_of image.number input.dirty; applied = 0 }
+pub image_begun : (input : InputContent) (base : ℕ) (image : Page) → length image.slots ≡ SLOTS → redo_page_in input (start base) image ≡ record { page = image; rec_lsn = rec_lsn_of image.number input.dirty; applied = 0 }
 image_begun input base image count =
     let slots : slots_in (held_by image) image.number ≡ image.slots =
-    ext_get_or None (slots_in (held_by image) image.number) image.slots (length-map-range_with_len (held_by image image.number) 0 16 ∙ sym count)
-    (λ k lt. get_or-map-range_with_len (held_by image image.number) 0 16 k k None (omega (arith, length-map-range_with_len (held_by image image.number) 0 16)) (omega arith)) in
+    ext_get_or None (slots_in (held_by image) image.number) image.slots (length-map-range_with_len (held_by image image.number) 0 SLOTS ∙ sym count)
+    (λ k lt. get_or-map-range_with_len (held_by image image.number) 0 SLOTS k k None (omega (arith, length-map-range_with_len (held_by image image.number) 0 SLOTS)) (omega arith)) in
     ap (λ xs. record { page = record { number = image.number; lsn = image.lsn; slots = xs }; rec_lsn = rec_lsn_of image.number input.dirty; applied = 0 }) slots
 
 -- A STRETCH
@@ -173,7 +174,7 @@ found_first lsn log from le k r e = sym (record_in_first lsn log k (omega (arith
 
 -- an image has its number
 pub image_number : (images : List Page) (number : ℕ) → AreNumbered images → number < length images → (image_at images number).number ≡ number
-image_number images number numbered lt = numbered.at_place number (record { number = number; lsn = 0; slots = replicate 16 None }) lt
+image_number images number numbered lt = numbered.at_place number (record { number = number; lsn = 0; slots = replicate SLOTS None }) lt
 
 module _ (parted : PartedContent) (part : ℕ) (numbered : AreNumbered parted.input.images) (dealt : length parted.parting.part_of ≡ length parted.input.images) (fits : last_lsn (history parted.input.log) < 2 ^ 64) where
   -- a member has an image

@@ -4,6 +4,7 @@ use Rattle.std.proofs.lemmas.Bool.{cases_eq}
 use Rattle.std.specs.List.{range_with_len}
 use Rattle.std.proofs.lemmas.List.{get_or-set_same, get_or-set_other, length-set}
 use Rattle.std.proofs.lemmas.List.FromFn.{fill_by_all, get_or-map-range_with_len, length-map-range_with_len}
+use Rattle.page.specs.declared.profile.TheConstants.{SLOTS}
 
 pub set-tabulated : {X : Type 0} (f g : ℕ → X) (n j : ℕ) (y : X) → j < n → ((k : ℕ) → k ≢ j → g k ≡ f k) → g j ≡ y → set (map f (range_with_len 0 n)) j y ≡ map g (range_with_len 0 n)
 set-tabulated f g n j y lt others here =
@@ -22,8 +23,8 @@ pub map-same : {X : Type 0} (f g : ℕ → X) (xs : List ℕ) → f ≡ g → ma
 map-same f g xs e = ap (λ h. map h xs) e
 
 -- the slots of a page depend only on its 16 cells
-pub same_below : {X : Type 0} (f g : ℕ → ℕ → X) (page : ℕ) → ((slot : ℕ) → slot < 16 → f page slot ≡ g page slot) → map (λ slot. f page slot) (range_with_len 0 16) ≡ map (λ slot. g page slot) (range_with_len 0 16)
-same_below f g page h = from 0 16 (λ slot lt. h slot (omega (arith, lt)))
+pub same_below : {X : Type 0} (f g : ℕ → ℕ → X) (page : ℕ) → ((slot : ℕ) → slot < SLOTS → f page slot ≡ g page slot) → map (λ slot. f page slot) (range_with_len 0 SLOTS) ≡ map (λ slot. g page slot) (range_with_len 0 SLOTS)
+same_below f g page h = from 0 SLOTS (λ slot lt. h slot (omega (arith, lt)))
   where
     from : (a n : ℕ) → ((slot : ℕ) → slot < a + n → f page slot ≡ g page slot) → map (λ slot. f page slot) (range_with_len a n) ≡ map (λ slot. g page slot) (range_with_len a n)
     from a zero h = refl

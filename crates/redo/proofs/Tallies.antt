@@ -18,6 +18,7 @@ use Rattle.redo.specs.Routes.{Stands}
 use Rattle.redo.specs.Parts.{numbers_of, redo_page_in, image_at, resolved}
 use Rattle.redo.proofs.Alone.{alone_within, put_alone}
 use Rattle.redo.proofs.Replay.{image_begun, page_of_cell}
+use Rattle.page.specs.declared.profile.TheConstants.{SLOTS}
 
 -- no record is at the LSN 0
 pub positive : (log : History) (lsn : ℕ) (r : LogRecord) → record_at log lsn ≡ Some r → eqb lsn 0 ≡ false
@@ -106,11 +107,11 @@ counted_alone input place_of (q ∷ qs) new n stands is =
     ∙ ap (λ o. map (advance_by input.redo_lsn n.lsn o) ps) (sym stands.there)
 
 -- AT THE BEGINNING
-pub begun_page : (input : InputContent) (base number : ℕ) (rec_lsn : Option ℕ) → (image_at input.images number).number ≡ number → length (image_at input.images number).slots ≡ 16 → rec_lsn ≡ rec_lsn_of number input.dirty
-    → resolved input (record { number = number; lsn = (image_at input.images number).lsn; rec_lsn = rec_lsn; applied = 0; lasts = replicate 16 0 }) ≡ redo_page_in input (start base) (image_at input.images number)
+pub begun_page : (input : InputContent) (base number : ℕ) (rec_lsn : Option ℕ) → (image_at input.images number).number ≡ number → length (image_at input.images number).slots ≡ SLOTS → rec_lsn ≡ rec_lsn_of number input.dirty
+    → resolved input (record { number = number; lsn = (image_at input.images number).lsn; rec_lsn = rec_lsn; applied = 0; lasts = replicate SLOTS 0 }) ≡ redo_page_in input (start base) (image_at input.images number)
 begun_page input base number rec_lsn own count listed =
     let image = image_at input.images number in
-    let slots : slots_after (history input.log) (replicate 16 0) image.slots ≡ image.slots =
+    let slots : slots_after (history input.log) (replicate SLOTS 0) image.slots ≡ image.slots =
     ap (λ n. slots_after (history input.log) (replicate n 0) image.slots) (sym count) ∙ slots_none (history input.log) image.slots in
     ap (λ xs. record { page = record { number = number; lsn = image.lsn; slots = xs }; rec_lsn = rec_lsn; applied = 0 }) slots
     ∙ (ap (λ n. record { page = record { number = n; lsn = image.lsn; slots = image.slots }; rec_lsn = rec_lsn; applied = 0 }) (sym own)

@@ -8,7 +8,7 @@ use Rattle.wal.specs.Meaning.{Change, change_of, cell_of, image_in}
 use Rattle.wal.specs.Redo.{is_redone, redo_of, applied}
 use Rattle.redo.specs.declared.tally.Tally.{Tally}
 use Rattle.redo.specs.declared.note.Note.{Note}
-use Rattle.page.specs.declared.sizes.TheConstants.{SLOTS}
+use Rattle.page.specs.declared.profile.TheConstants.{SLOTS}
 
 -- the page that an update or a CLR is on
 abbrev pub page_named : LogRecord → Option ℕ

@@ -2,7 +2,7 @@
 use Rattle.std.specs.Prelude.{◌≡◌, ℕ, ◌/◌, ◌%◌, List, [], ◌∷◌, length, slice_index_or}
 use Rattle.redo.specs.declared.note.Note.{Note}
 use Rattle.redo.specs.declared.note.NoteList.TheInside.{Inside}
-use Rattle.page.specs.declared.sizes.TheConstants.{SLOTS}
+use Rattle.page.specs.declared.profile.TheConstants.{SLOTS}
 
 -- the note of a cell that is given as one number: SLOTS times the place, plus the slot
 abbrev pub note_of : (lsn cell : ℕ) → Note

@@ -6,7 +6,8 @@ use Rattle.page.specs.declared.fault.Fault.{Fault}
 use Rattle.page.specs.declared.fault.Fault.TheVariants.{NoResource, BadParting}
 use Rattle.redo.specs.declared.parting.Parting.TheInside.{Inside}
 use Rattle.redo.specs.Lists.{list_at}
-use Rattle.page.specs.declared.sizes.TheConstants.{PAGES}
+use Rattle.page.specs.declared.profile.TheConstants.{PAGES}
+use Rattle.redo.specs.declared.parting.TheConstants.{PARTS}
 
 -- how many parts there are, the part of each page, and each page's place among the pages of its part
 pub record PartingContent : Type 0 where
@@ -14,14 +15,18 @@ pub record PartingContent : Type 0 where
   pub part_of : List ℕ
   pub place_of : List ℕ
 
--- the numbers of pages, and of parts, that a partition may have
-abbrev pub IsSize : ℕ → Type 0
-IsSize n = (1 ≤ n) × (n ≤ PAGES)
+-- the numbers of pages that a partition may have
+abbrev pub ArePages : ℕ → Type 0
+ArePages n = (1 ≤ n) × (n ≤ PAGES)
+
+-- the numbers of parts that it may have
+abbrev pub AreParts : ℕ → Type 0
+AreParts n = (1 ≤ n) × (n ≤ PARTS)
 
 -- each page is given one of the parts
 pub record IsDealt (pages parts : ℕ) (part_of : List ℕ) : Type 0 where
-  pub pages_fit : IsSize pages
-  pub parts_fit : IsSize parts
+  pub pages_fit : ArePages pages
+  pub parts_fit : AreParts parts
   pub count : length part_of ≡ pages
   pub below : All (λ part. part < parts) part_of
 
@@ -65,5 +70,5 @@ by_number pages parts = map (λ page. page % parts) (range_with_len 0 pages)
 -- the error of such a partition, memory aside
 abbrev pub NumberFault : ℕ → ℕ → Fault → Type 0
 NumberFault pages parts NoResource = ⊤
-NumberFault pages parts BadParting = (IsSize pages × IsSize parts) → ⊥
+NumberFault pages parts BadParting = (ArePages pages × AreParts parts) → ⊥
 NumberFault pages parts e = ⊥

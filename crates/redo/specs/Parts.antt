@@ -12,7 +12,7 @@ use Rattle.redo.specs.Parting.{PartingContent, AreMembers}
 use Rattle.redo.specs.Changes.{RedoPage, redo_page_at, finished_page}
 use Rattle.redo.specs.Inputs.{InputContent}
 use Rattle.redo.specs.Parted.{PartedContent}
-use Rattle.page.specs.declared.sizes.TheConstants.{SLOTS}
+use Rattle.page.specs.declared.profile.TheConstants.{SLOTS}
 
 -- the numbers of pages
 abbrev pub numbers_of : List RedoPage → List ℕ

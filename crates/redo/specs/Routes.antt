@@ -14,7 +14,7 @@ use Rattle.redo.specs.Notes.{notes_at}
 use Rattle.redo.specs.Changes.{NamesBelow, on_part, lsns_where, lsn_in, IsNote}
 use Rattle.redo.specs.Inputs.{InputContent}
 use Rattle.redo.specs.Parted.{PartedContent}
-use Rattle.page.specs.declared.sizes.TheConstants.{SLOTS}
+use Rattle.page.specs.declared.profile.TheConstants.{SLOTS}
 
 -- THE FIRST ROUND
 -- the LSN up to which redo does not look at records

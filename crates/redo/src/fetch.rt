@@ -3,7 +3,7 @@
 ghost use Rattle.std.specs.Prelude.{◌≡◌, ℕ, ◌<◌, ◌≤◌, List, All, length, take, drop, slice_set, slice_index_or};
 ghost use Rattle.std.specs.List.Sorted.{IsNonDecreasingBy};
 ghost use Rattle.page.specs.declared.page.Page.{Page};
-ghost use Rattle.page.specs.declared.sizes.TheConstants.{SLOTS};
+ghost use Rattle.page.specs.declared.profile.TheConstants.{SLOTS};
 ghost use Rattle.wal.specs.Records.{History, history, record_at, last_lsn};
 ghost use Rattle.wal.specs.Meaning.{image_in};
 ghost use Rattle.tables.specs.Pieces.{IsPieceOf};

@@ -6,7 +6,7 @@ ghost use Rattle.page.specs.declared.page.Page.{Page};
 ghost use Rattle.wal.specs.Records.{history, record_at};
 ghost use Rattle.redo.specs.Changes.{slots_after, finished_page};
 ghost use Rattle.redo.specs.declared.tally.Tally.{Tally};
-ghost use Rattle.page.specs.declared.sizes.TheConstants.{SLOTS};
+ghost use Rattle.page.specs.declared.profile.TheConstants.{SLOTS};
 
 use crate::tally::Tally;
 use page::{Page, SLOTS, Value};

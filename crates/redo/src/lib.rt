@@ -27,7 +27,7 @@ mod watch;
 pub use fetch::fetch_from;
 pub use gate::{Gate, OpenGate};
 pub use laws::{no_fault_of_redo, one_redo_fault};
-pub use parting::Parting;
+pub use parting::{PARTS, Parting};
 pub use redone::Redone;
 pub use rounds::{WORKERS, are_workers, redo, redo_in_place};
 pub use tally_scan::TallyScan;

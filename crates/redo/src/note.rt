@@ -2,9 +2,9 @@
 
 ghost use Rattle.std.specs.Prelude.{◌≡◌, ◌<◌, [], ◌∷◌, ◌++◌, length, slice_index_or, IfOk, OnOk, IsOkUnless};
 ghost use Rattle.page.specs.declared.fault.Fault.TheVariants.{NoResource};
-ghost use Rattle.page.specs.declared.sizes.TheConstants.{PAGES, SLOTS};
+ghost use Rattle.page.specs.declared.profile.TheConstants.{PAGES, SLOTS};
 
-use page::{Fault, SLOTS};
+use page::{CellNumber, Fault, SLOTS};
 use std::alloc::Global;
 use std::marker::Model;
 
@@ -13,16 +13,16 @@ use std::marker::Model;
 #[derive(Clone, Copy)]
 pub struct Note {
     pub lsn: u64,
-    pub place: u16,
+    pub place: CellNumber,
     pub slot: u8,
 }
 
-/// Notes in 10 bytes each. Besides its LSN each has a number for its cell: `SLOTS` times the place,
-/// plus the slot. Contracts see the list of the notes.
+/// Notes in few bytes: besides its LSN each has a number for its cell, which is `SLOTS` times the
+/// place, plus the slot. Contracts see the list of the notes.
 #[derive(Drop)]
 pub struct NoteList {
     lsns: Vec<u64>,
-    cells: Vec<u16>,
+    cells: Vec<CellNumber>,
 }
 
 impl Model for NoteList {
@@ -65,8 +65,8 @@ impl NoteList {
         let cell = self.cells[index];
         Note {
             lsn: self.lsns[index],
-            place: cell / SLOTS as u16,
-            slot: (cell % SLOTS as u16) as u8,
+            place: cell / SLOTS as CellNumber,
+            slot: (cell % SLOTS as CellNumber) as u8,
         }
     }
 
@@ -78,7 +78,7 @@ impl NoteList {
         ensures err { IsOkUnless result NoResource }
     {
         self.cells
-            .push(SLOTS as u16 * note.place + note.slot as u16)?;
+            .push(SLOTS as CellNumber * note.place + note.slot as CellNumber)?;
         match self.lsns.push(note.lsn) {
             Ok(()) => Ok(()),
             Err(_) => {

@@ -11,7 +11,7 @@ ghost use Rattle.redo.specs.Routes.{AreRoutes, Stands};
 ghost use Rattle.redo.specs.Parts.{IsUpTo, IsWhollyRedone, HasPart, numbers_of, redo_page_in, image_at, resolved};
 ghost use Rattle.redo.specs.Passing.{IsBegunIn};
 ghost use Rattle.redo.specs.declared.tally.Tally.{Tally};
-ghost use Rattle.page.specs.declared.sizes.TheConstants.{SLOTS};
+ghost use Rattle.page.specs.declared.profile.TheConstants.{SLOTS};
 
 use crate::gate::Entered;
 use crate::input::{PartedInput, RedoInput};

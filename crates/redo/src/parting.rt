@@ -4,22 +4,25 @@ ghost use Rattle.std.specs.Prelude.{◌≡◌, ℕ, ◌+◌, ◌%◌, ◌<◌, �
 ghost use Rattle.std.specs.List.{slice_get, range_with_len};
 ghost use Rattle.page.specs.declared.fault.Fault.TheVariants.{NoResource};
 ghost use Rattle.redo.specs.Lists.{list_at};
-ghost use Rattle.redo.specs.Parting.{IsSize, IsDealt, PartingFault, AreMembers, AreLists, by_number, NumberFault};
-ghost use Rattle.page.specs.declared.sizes.TheConstants.{PAGES};
+ghost use Rattle.redo.specs.Parting.{ArePages, AreParts, IsDealt, PartingFault, AreMembers, AreLists, by_number, NumberFault};
+ghost use Rattle.page.specs.declared.profile.TheConstants.{PAGES};
 
 use crate::lists::{empty_lists, len_at, push_to};
-use page::{Fault, PAGES};
+use page::{CellNumber, Fault, PAGES};
 use std::alloc::Global;
 use std::marker::Model;
 
-/// Which part each page of a store belongs to: 1 to 4,096 pages in 1 to 4,096 parts. The pages of
-/// one part are redone by one worker. Contracts see how many parts there are, the part of each
-/// page, and each page's place among those of its part.
+/// How many parts a partition has at most.
+pub const PARTS: u32 = board::PARTS;
+
+/// Which part each page of a store belongs to: 1 to [`page::PAGES`] pages in 1 to [`PARTS`] parts.
+/// The pages of one part are redone by one worker. Contracts see how many parts there are, the part
+/// of each page, and each page's place among those of its part.
 #[derive(Drop)]
 pub struct Parting {
     parts: u32,
     part_of: Vec<u32>,
-    place_of: Vec<u16>,
+    place_of: Vec<CellNumber>,
     members: Vec<Vec<u32>>,
 }
 
@@ -41,7 +44,11 @@ fn are_below(parts: u32, part_of: &[u32]) -> bool
 }
 
 /// The pages of each part, and each page's place among them.
-fn index(alloc: Global, parts: u32, part_of: &[u32]) -> Result<(Vec<u16>, Vec<Vec<u32>>), Fault>
+fn index(
+    alloc: Global,
+    parts: u32,
+    part_of: &[u32],
+) -> Result<(Vec<CellNumber>, Vec<Vec<u32>>), Fault>
     requires { IsDealt (length part_of.now) parts part_of.now }
     ensures places { IfOk result (λ x. length x.0.items ≡ length part_of.now) }
     ensures count { IfOk result (λ x. length x.1.items ≡ parts) }
@@ -54,31 +61,38 @@ fn index(alloc: Global, parts: u32, part_of: &[u32]) -> Result<(Vec<u16>, Vec<Ve
     for page in 0..part_of.len() {
         let part = part_of[page] as usize;
         let place = len_at(&members, part);
-        place_of.push(place as u16)?;
+        place_of.push(place as CellNumber)?;
         push_to(&mut members, part, page as u32)?;
     }
     Ok((place_of, members))
 }
 
 impl Parting {
-    /// Whether a partition can have this number of pages, or of parts: 1 to `page::PAGES`.
-    pub fn can_have(count: u32) -> bool
-        ensures { IsTrue result ↔ IsSize count }
+    /// Whether a partition can have this number of pages: 1 to [`page::PAGES`].
+    pub fn can_have_pages(count: u32) -> bool
+        ensures { IsTrue result ↔ ArePages count }
     {
         (1..=PAGES as u32).contains(&count)
     }
 
+    /// Whether a partition can have this number of parts: 1 to [`PARTS`].
+    pub fn can_have_parts(count: u32) -> bool
+        ensures { IsTrue result ↔ AreParts count }
+    {
+        (1..=PARTS).contains(&count)
+    }
+
     /// The partition of `pages` pages into `parts` parts that gives page p the part `part_of[p]`.
     ///
-    /// Errors: [`Fault::BadParting`] if `pages` or `parts` is outside 1 to 4,096, if there is not
-    /// one entry for each page, or if an entry is not below `parts`; [`Fault::NoResource`] if
-    /// memory was refused.
+    /// Errors: [`Fault::BadParting`] if `pages` is outside 1 to [`page::PAGES`] or `parts` outside
+    /// 1 to [`PARTS`], if there is not one entry for each page, or if an entry is not below
+    /// `parts`; [`Fault::NoResource`] if memory was refused.
     pub fn new(alloc: Global, pages: u32, parts: u32, part_of: &[u32]) -> Result<Parting, Fault>
         ensures ok { IfOk result (λ p. (p.parts ≡ parts) × (p.part_of ≡ part_of.now)) }
         ensures dealt { OnOk result (IsDealt pages parts part_of.now) }
         ensures fault { IfErr result (PartingFault pages parts part_of.now) }
     {
-        if !Parting::can_have(pages) || !Parting::can_have(parts) {
+        if !Parting::can_have_pages(pages) || !Parting::can_have_parts(parts) {
             return Err(Fault::BadParting);
         }
         if part_of.len() != pages as usize || !are_below(parts, part_of) {
@@ -95,14 +109,14 @@ impl Parting {
 
     /// The partition that gives page p the part p modulo `parts`.
     ///
-    /// Errors: [`Fault::BadParting`] if `pages` or `parts` is outside 1 to 4,096;
-    /// [`Fault::NoResource`] if memory was refused.
+    /// Errors: [`Fault::BadParting`] if `pages` is outside 1 to [`page::PAGES`] or `parts` outside
+    /// 1 to [`PARTS`]; [`Fault::NoResource`] if memory was refused.
     pub fn by_number(alloc: Global, pages: u32, parts: u32) -> Result<Parting, Fault>
         ensures ok { IfOk result (λ p. (p.parts ≡ parts) × (p.part_of ≡ by_number pages parts)) }
-        ensures sizes { OnOk result (IsSize pages × IsSize parts) }
+        ensures sizes { OnOk result (ArePages pages × AreParts parts) }
         ensures fault { IfErr result (NumberFault pages parts) }
     {
-        if !Parting::can_have(pages) || !Parting::can_have(parts) {
+        if !Parting::can_have_pages(pages) || !Parting::can_have_parts(parts) {
             return Err(Fault::BadParting);
         }
         let mut part_of = Vec::new(alloc);
@@ -122,7 +136,7 @@ impl Parting {
     /// How many parts there are.
     pub fn parts(&self) -> u32
         ensures parts { result ≡ self.now.parts }
-        ensures few { IsSize result }
+        ensures few { AreParts result }
         ensures below { All (λ part. part < self.now.parts) self.now.part_of }
     {
         self.parts
@@ -138,10 +152,10 @@ impl Parting {
     }
 
     /// A page's place among those of its part.
-    pub(crate) fn place_of(&self, page: u32) -> u16
+    pub(crate) fn place_of(&self, page: u32) -> CellNumber
         requires { page < length self.now.place_of }
         ensures place { slice_get self.now.place_of page ≡ Some result }
-        ensures low { result < 4096 }
+        ensures low { result < PAGES }
     {
         self.place_of[page as usize]
     }

@@ -24,7 +24,7 @@ use tables::Tables;
 use wal::Log;
 
 /// How many workers redo has at most.
-pub const WORKERS: u32 = 64;
+pub const WORKERS: u32 = board::SEATS as u32;
 
 /// Whether redo may have this number of workers: 1 to [`WORKERS`].
 pub fn are_workers(workers: u32) -> bool

@@ -7,7 +7,7 @@ ghost use Rattle.wal.specs.Glances.{glance_of};
 ghost use Rattle.redo.specs.Notes.{notes_at};
 ghost use Rattle.redo.specs.Changes.{NamesBelow, on_part, lsn_in, IsNote};
 ghost use Rattle.redo.specs.Routes.{IsRoute, AreRoutes, ExistWithin, RouteFault, IsSeen, NoteFault, IfRoute, IfEach, RoundFault, boundary_in};
-ghost use Rattle.page.specs.declared.sizes.TheConstants.{PAGES, SLOTS};
+ghost use Rattle.page.specs.declared.profile.TheConstants.{PAGES, SLOTS};
 
 use crate::Parting;
 use crate::input::{PartedInput, RedoInput};

@@ -3,7 +3,7 @@
 ghost use Rattle.std.specs.Prelude.{◌≡◌, ◌+◌, ◌<◌, ◌^◌, length, replicate};
 ghost use Rattle.wal.specs.Redo.{is_redone};
 ghost use Rattle.redo.specs.Changes.{counted};
-ghost use Rattle.page.specs.declared.sizes.TheConstants.{SLOTS};
+ghost use Rattle.page.specs.declared.profile.TheConstants.{SLOTS};
 
 use page::SLOTS;
 

@@ -16,7 +16,7 @@ ghost use Rattle.redo.specs.Wanted.{IsWanted, HoldAllBut};
 ghost use Rattle.redo.specs.declared.tally.Tally.{Tally};
 ghost use Rattle.redo.specs.declared.wanted.Wanted.{Wanted};
 ghost use Rattle.redo.specs.Changes.{NamesBelow, finished_page};
-ghost use Rattle.page.specs.declared.sizes.TheConstants.{SLOTS};
+ghost use Rattle.page.specs.declared.profile.TheConstants.{SLOTS};
 ghost use Rattle.page.specs.declared.page.Page.{Page};
 
 use crate::fetch::set_page_lsns;

@@ -34,6 +34,7 @@ use Rattle.restart.specs.Outcome.{OutcomeContent}
 use Rattle.undo.specs.Undone.{undone_page}
 use Rattle.undo.proofs.UndonePages.{no_effects, no_last}
 use Rattle.restart.specs.Restart.{IsFirstAhead, AheadFault, ForwardFault, clrs_in, ends_in, IsRedone, RollsBack, IsSettled, Restores}
+use Rattle.page.specs.declared.profile.TheConstants.{SLOTS}
 
 some_none : {X : Type 0} {x : X} → Some x ≡ None → ⊥
 some_none e = cc
@@ -66,10 +67,10 @@ undone_replayed : (base : BasePages) (log : History) (xs : List LogRecord) (page
 undone_replayed base log xs page =
     let image : Page = replayed_page base log page in
     let undone : Cells = effects (λ lsn _. ltb (last_lsn log) lsn) (held_by image) (log ▸▸ xs) in
-    let held : (slot : ℕ) → slot < 16 → undone page slot ≡ replay base (log ▸▸ xs) page slot =
+    let held : (slot : ℕ) → slot < SLOTS → undone page slot ≡ replay base (log ▸▸ xs) page slot =
     λ slot lt. effects_on base (last_lsn log) page slot (held_by image) log xs (omega arith)
     (no_effects (last_lsn log) (held_by image) log page slot (omega arith) ∙ slot_held (replay base log) page slot lt) in
-    let sixteen : length image.slots ≡ 16 = length-map-range_with_len (λ slot. replay base log page slot) 0 16 in
+    let sixteen : length image.slots ≡ SLOTS = length-map-range_with_len (λ slot. replay base log page slot) 0 SLOTS in
     ap₂ (λ l s. record { number = page; lsn = l; slots = s })
     (last_after base (last_lsn log) page image.lsn log xs (omega arith) (no_last (last_lsn log) page image.lsn log (omega arith)))
     (ap (λ n. map (λ slot. undone page slot) (range_with_len 0 n)) sixteen ∙ same_slots undone (replay base (log ▸▸ xs)) page held)

@@ -60,6 +60,10 @@ abbrev pub AheadFault : LogContent → List Page → Fault → Type 0
 AheadFault log pages (PageAheadOfLog number) = IsFirstAhead log pages number
 AheadFault log pages e = ⊥
 
+-- P is true of each log whose last record has this LSN
+abbrev pub ForLast : (last : ℕ) → (LogContent → Type 0) → Type 0
+ForLast last P = (log : LogContent) → last_lsn (history log) ≡ last → P log
+
 -- THE OUTCOME
 abbrev pub clrs_in : List LogRecord → ℕ
 clrs_in records = length (filter is_clr records)
@@ -102,7 +106,7 @@ AreEntriesOf log master entries = AreTransactionsOf log master (map entry_of ent
 
 -- by the dirty pages only, whatever the transactions:
 -- what redo has made of a log and a store; the tables are looked at only for their pages, and for where redo begins
-pub record ArePagesRedone (log : LogContent) (before : StoreContent) (pages : TablesContent) (redone : Redone) : Type 0 where
+pub record RedoesPages (log : LogContent) (before : StoreContent) (pages : TablesContent) (redone : Redone) : Type 0 where
   pub are : AreDirtyPagesOf log before.master pages.dirty pages.redo_lsn
   pub exist : AllExist log (length before.pages) pages.redo_lsn
   pub redone_pages : redone.pages.items ≡ map (redone_page log pages) before.pages
@@ -163,6 +167,10 @@ abbrev pub RestoresWith : {A : Type 0} → (A → OutcomeContent) → LogContent
 RestoresWith outcome log before parting workers result =
     (base : BasePages) → Lawful base log before → AreSettings (length before.pages) parting workers
     → UnlessMemory result (λ x. Restores base log before (outcome x))
+
+-- and what is returned has the appended records in compact form
+abbrev pub RestoresInBrief : LogContent → StoreContent → PartingContent → (workers : ℕ) → Result (Outcome Appended) Fault → Type 0
+RestoresInBrief log before parting workers result = RestoresWith (outcome_in (history log)) log before parting workers result
 
 -- ERRORS
 -- analysis finds tables of which this holds

@@ -7,7 +7,7 @@ ghost use Rattle.std.specs.Option.{ForSome};
 ghost use Rattle.wal.specs.Records.{history};
 ghost use Rattle.wal.specs.Undo.{entry_for};
 ghost use Rattle.analysis.specs.Tables.{BaseFault, entry_at};
-ghost use Rattle.restart.specs.Restart.{AreSettings, NoneAhead, IsRedone, ArePagesRedone, AreEntriesOf, FindsTrueTables, ForwardFault, InputFault};
+ghost use Rattle.restart.specs.Restart.{AreSettings, NoneAhead, IsRedone, RedoesPages, AreEntriesOf, FindsTrueTables, ForwardFault, InputFault};
 
 use analysis::{analyse_pages, analyse_transactions, join_tables};
 use page::{Fault, Store};
@@ -56,7 +56,7 @@ fn side_by_side<G: Gate, R: Threads + Sync>(
         (λ found. AreEntriesOf log.now store.master found.entries) }
     ensures no_transaction_0 { IfOk result.0 (λ found. entry_at 0 found.entries ≡ None) }
     ensures no_base { IfErr result.0 (BaseFault store.master (history log.now)) }
-    ensures redone { IfOk result.1 (λ x. ArePagesRedone log.now store x.0 x.1) }
+    ensures redone { IfOk result.1 (λ x. RedoesPages log.now store x.0 x.1) }
     ensures fault { IfErr result.1 (ForwardFault log.now store workers) }
 {
     let master = store.master;
@@ -73,7 +73,7 @@ fn side_by_side<G: Gate, R: Threads + Sync>(
             (λ s. AreSettings (length s.pages) parting.now workers) }
         requires ready { is_some given ≡ true }
         ensures redone { ForSome given.entry
-            (λ s. IfOk result (λ x. ArePagesRedone log.entry.now s x.0 x.1)) }
+            (λ s. IfOk result (λ x. RedoesPages log.entry.now s x.0 x.1)) }
         ensures fault { ForSome given.entry
             (λ s. IfErr result (ForwardFault log.entry.now s workers)) }
     {

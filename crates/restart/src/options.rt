@@ -10,14 +10,15 @@ use redo::{Parting, are_workers};
 /// The options of a restart. What it writes does not depend on them.
 #[derive(Clone, Copy, Debug, PartialEq, Eq)]
 pub struct Options {
-    /// How many threads redo the pages, 1 to 64.
+    /// How many threads redo the pages, 1 to [`redo::WORKERS`].
     pub workers: u32,
-    /// Into how many parts the pages are divided, 1 to 4,096: page p goes to part p modulo parts.
+    /// Into how many parts the pages are divided, 1 to [`redo::PARTS`]: page p goes to part p
+    /// modulo parts.
     pub parts: u32,
 }
 
-/// Returns an error for options out of their ranges: [`Fault::BadWorkers`] if `workers` is outside
-/// 1 to 64, then [`Fault::BadParting`] if `parts` is outside 1 to 4,096.
+/// Returns an error for options out of their ranges: [`Fault::BadWorkers`] if `workers` is, then
+/// [`Fault::BadParting`] if `parts` is.
 pub fn check_options(options: &Options) -> Result<(), Fault>
     ensures ok { OnOk result (AreInRange options.now) }
     ensures fault { IfErr result (OptionsFault options.now) }
@@ -26,7 +27,7 @@ pub fn check_options(options: &Options) -> Result<(), Fault>
     if !are_workers(options.workers) {
         return Err(Fault::BadWorkers);
     }
-    if !Parting::can_have(options.parts) {
+    if !Parting::can_have_parts(options.parts) {
         return Err(Fault::BadParting);
     }
     Ok(())

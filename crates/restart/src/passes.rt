@@ -2,12 +2,12 @@
 
 ghost use Rattle.std.specs.Prelude.{◌≡◌, ◌≤◌, ◌+◌, ◌*◌, ◌^◌, All, length, IfOk, OnOk, IfErr};
 ghost use Rattle.page.specs.Store.{AreNumbered};
-ghost use Rattle.wal.specs.Records.{LogContent, history, last_lsn};
+ghost use Rattle.wal.specs.Records.{history};
 ghost use Rattle.undo.specs.Appended.{HaveUpdates, AreFit};
 ghost use Rattle.undo.specs.Enough.{AppendsAlike};
 ghost use Rattle.undo.specs.Undone.{HasNoTransaction0, AreWritable};
 ghost use Rattle.restart.specs.Outcome.{outcome_of, outcome_in};
-ghost use Rattle.restart.specs.Restart.{AreSettings, SettingsFault, AheadFault, IsCount, clrs_in, ends_in, Restarts, RestoresWith, RestartsOnWhole, RestoresWhole, FailsOnWhole, RestartFault};
+ghost use Rattle.restart.specs.Restart.{AreSettings, SettingsFault, AheadFault, ForLast, IsCount, clrs_in, ends_in, Restarts, RestoresWith, RestoresInBrief, RestartsOnWhole, RestoresWhole, FailsOnWhole, RestartFault};
 ghost use Rattle.restart.specs.Results.{IsErrWhen};
 
 use crate::doubt::in_doubt;
@@ -42,8 +42,7 @@ fn check_settings(store: &Store, parting: &Parting, workers: u32) -> Result<(), 
 /// `last`, the LSN of the log's last record.
 pub fn check_lsns(last: u64, pages: &[Page]) -> Result<(), Fault>
     ensures ok { OnOk result (All (λ page. page.lsn ≤ last) pages.now) }
-    ensures fault { (log : LogContent) → last_lsn (history log) ≡ last
-        → IfErr result (AheadFault log pages.now) }
+    ensures fault { ForLast last (λ log. IfErr result (AheadFault log pages.now)) }
 {
     for page in pages {
         if page.lsn > last {
@@ -137,8 +136,7 @@ pub fn restart_in_place<G: Gate, R: Threads + Sync>(
 ) -> Result<BriefOutcome, Fault>
     // For a lawful log and its store, over any base pages: the log's tail and the store that the
     // winners leave.
-    ensures lawful { RestoresWith (outcome_in (history log.now))
-        log.now store parting.now workers result }
+    ensures lawful { RestoresInBrief log.now store parting.now workers result }
 
     // On success: what analysis, redo and undo make of log and store, and no error condition holds.
     ensures restarts { IfOk result (λ x. Restarts log.now store (outcome_in (history log.now) x)) }

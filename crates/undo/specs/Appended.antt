@@ -63,5 +63,5 @@ abbrev pub UndoesInBrief : LogContent → TablesContent → (given : List Page) 
 UndoesInBrief log tables given made = RolledBackInBrief log tables given made.0.items made.1.items
 
 -- these compact records are the log's tail
-abbrev pub AppendsTailInBrief : LogContent → Vec Page Global × Vec Appended Global → Type 0
-AppendsTailInBrief log made = TellTail log made.1.items
+abbrev pub HasTailInBrief : LogContent → Vec Page Global × Vec Appended Global → Type 0
+HasTailInBrief log made = TellTail log made.1.items

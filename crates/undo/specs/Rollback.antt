@@ -140,6 +140,10 @@ pub record Compensated (u : UpdateRecord) (last count prev : ℕ) (before after 
   pub goes_on : prev ≡ u.prev
   pub appended : after ≡ before ++ record_for (λ _. last) (Undo u) ∷ []
 
+-- each update that a compact record names is still in the log
+abbrev pub KeepsUpdates : LogContent → (before after : Vec Appended Global) → Type 0
+KeepsUpdates log before after = Preserves (HaveUpdates log) before.items after.items
+
 -- the same for the update at an LSN, with the CLR in compact form
 abbrev pub Undoes : LogContent → (update_lsn last : ℕ) → (pages : List Page) → (before after : Vec Appended Global) → (prev : ℕ) → Type 0
 Undoes log update_lsn last pages before after prev =
@@ -192,8 +196,8 @@ pub record IsTaken (log : LogContent) (tables : TablesContent) (given : List Pag
   pub taken : Taken update_lsn l (turn_at before) (loser_at r)
 
 -- its update is undone, and it is resolved again
-abbrev pub UndoesNewest : LogContent → ℕ → Loser → (old : Rollback) → (before : List Page) → (new : Rollback) → (after : List Page) → Type 0
-UndoesNewest log update_lsn l old before new after =
+abbrev pub UndoesAt : LogContent → ℕ → Loser → (old : Rollback) → (before : List Page) → (new : Rollback) → (after : List Page) → Type 0
+UndoesAt log update_lsn l old before new after =
     (tables : TablesContent) (given : List Page) → IsTaken log tables given update_lsn l old before → IsRolling log tables given new after
 
 -- all that was left is undone

@@ -6,8 +6,8 @@ ghost use Rattle.page.specs.Store.{AreNumbered};
 ghost use Rattle.wal.specs.Records.{history, record_at, last_lsn};
 ghost use Rattle.tables.specs.Tables.{losers_in};
 ghost use Rattle.undo.specs.Undone.{UndoesLosers, AppendsTail, most_appended, IsLawfulCrash, RollbackFault, HasNoTransaction0, AreWritable};
-ghost use Rattle.undo.specs.Appended.{IsUpdate, HaveUpdates, AreFit, UndoesInBrief, AppendsTailInBrief};
-ghost use Rattle.undo.specs.Rollback.{Preserves, loser_at, ForUpdateAt, IsUpdateAt, Undoes, KeepsUndone, CompensationFault, WaitBelow, AreOthers, WaitOnce, AreUpdates, UndoesNewest, HasUndoneAll, AppendsAtMost, StopsUndo, StopsRollback};
+ghost use Rattle.undo.specs.Appended.{IsUpdate, HaveUpdates, AreFit, UndoesInBrief, HasTailInBrief};
+ghost use Rattle.undo.specs.Rollback.{Preserves, loser_at, ForUpdateAt, IsUpdateAt, Undoes, KeepsUndone, KeepsUpdates, CompensationFault, WaitBelow, AreOthers, WaitOnce, AreUpdates, UndoesAt, HasUndoneAll, AppendsAtMost, StopsUndo, StopsRollback};
 
 use crate::appended::{Appended, records_of};
 use crate::looked::{Looked, Place};
@@ -33,8 +33,7 @@ fn compensate(
         (Undoes log.now update_lsn last pages.old appended.old appended.new) }
     ensures pages { OnOk result
         (KeepsUndone log.now appended.old pages.old appended.new pages.new) }
-    ensures updates { OnOk result
-        (Preserves (HaveUpdates log.now) appended.old.items appended.new.items) }
+    ensures updates { OnOk result (KeepsUpdates log.now appended.old appended.new) }
     ensures writable { OnOk result
         (Preserves (AreFit log.now) appended.old.items appended.new.items) }
     ensures counted { ForUpdateAt (history log.now) update_lsn (λ u. 0 < u.tx) }
@@ -69,30 +68,30 @@ impl Rollback {
     fn undo_at(
         &mut self,
         log: &Looked,
-        update_lsn: u64,
+        update: u64,
         loser: Loser,
         pages: &mut [Page],
     ) -> Result<(), Fault>
-        requires update { IsUpdateAt (history log.now) loser.tx update_lsn }
+        requires update { IsUpdateAt (history log.now) loser.tx update }
         requires room { vec_len self.old.appended ≤ 2 * length log.now.records + 2 ^ 32 }
         requires updates { AreUpdates log.now self.old }
         requires others { AreOthers loser.tx (loser_at self.old) }
         ensures undoes { OnOk result
-            (UndoesNewest log.now update_lsn loser self.old pages.old self.new pages.new) }
+            (UndoesAt log.now update loser self.old pages.old self.new pages.new) }
         ensures updates { OnOk result (Preserves (AreUpdates log.now) self.old self.new) }
         ensures once { OnOk result (Preserves WaitOnce (loser_at self.old) (loser_at self.new)) }
         ensures falls { OnOk result
-            (Preserves (WaitBelow update_lsn) (loser_at self.old) (loser_at self.new)) }
+            (Preserves (WaitBelow update) (loser_at self.old) (loser_at self.new)) }
         ensures few { OnOk result (AppendsAtMost 2 self.old self.new) }
-        ensures fault { IfErr result (StopsUndo log.now update_lsn loser self.old pages.old) }
+        ensures fault { IfErr result (StopsUndo log.now update loser self.old pages.old) }
     {
         let lsn = log.next_lsn() + self.appended.len() as u64;
-        let prev = compensate(log, update_lsn, loser.last, lsn, &mut self.appended, pages)?;
+        let prev = compensate(log, update, loser.last, lsn, &mut self.appended, pages)?;
         let rest = Loser {
             tx: loser.tx,
             last: lsn,
         };
-        self.resolve(log, rest, update_lsn, prev)
+        self.resolve(log, rest, update, prev)
     }
 
     /// Undoes all that is left, the newest update first.
@@ -135,7 +134,7 @@ pub fn undo_in_brief(
 
     // For a lawful log and its store, with true tables: the log's tail, unless memory runs out.
     ensures tail { IsLawfulCrash log.now tables.now pages.items
-        → IfOk result (AppendsTailInBrief log.now) }
+        → IfOk result (HasTailInBrief log.now) }
     ensures lawful { IsLawfulCrash log.now tables.now pages.items → IsOkUnless result NoResource }
 {
     let mut rollback = Rollback::of_losers(alloc, log, tables)?;

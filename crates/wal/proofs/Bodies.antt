@@ -1,5 +1,5 @@
 -- A record that is read is the record that was written, and what was written is read again.
-use Rattle.std.proofs.Common.{◌≡◌, ℕ, ◌^◌, ◌<◌, ◌≤◌, eqb, eqb-true, List, [], ◌∷◌, ◌++◌, length, Some, refl, sym, ap, ap₂, subst, ◌∙◌, append_assoc, inl, inr}
+use Rattle.std.proofs.Common.{◌-◌, ◌≡◌, ℕ, ◌^◌, ◌<◌, ◌≤◌, eqb, eqb-true, List, [], ◌∷◌, ◌++◌, length, Some, refl, sym, ap, ap₂, subst, ◌∙◌, append_assoc, inl, inr}
 use Rattle.std.specs.Int.{w32, w64, to_be_bytes}
 use Rattle.std.proofs.lemmas.List.{append-nil, nil_from_length}
 use Rattle.std.proofs.lemmas.Option.{same_Some}
@@ -11,8 +11,7 @@ use Rattle.page.proofs.BigEndian.{AreBytes}
 use Rattle.wal.proofs.Fields.{AreBytes-rest, bind_some, guard_ended, Takes, Takes-then, first_of_all, field32, field64, slot_field, image_field, plain_field}
 use Rattle.wal.proofs.TableFields.{transactions_field, dirties_field}
 use Rattle.page.specs.Image.{FitsSlot}
-use Rattle.page.specs.declared.sizes.TheConstants.{PAGES}
-use Rattle.wal.specs.declared.sizes.TheConstants.{TRANSACTIONS}
+use Rattle.page.specs.declared.profile.TheConstants.{PAGES, TRANSACTIONS, SLOTS}
 
 -- a record of this kind was read
 abbrev pub Read : ℕ → List ℕ → LogRecord × List ℕ → Type 0
@@ -31,7 +30,7 @@ unfolding update_at
 update_takes bytes x fits e =
     let a = first_of_all plain_at plain FitsPlain plain_field bytes _ x fits e in
     let b = first_of_all (number_at w32) (to_be_bytes w32) (λ n. n < 2 ^ 32) field32 a.rest _ x a.takes.rest_fits a.after in
-    let c = first_of_all slot_at (λ slot. slot ∷ []) (λ slot. slot ≤ 15) slot_field b.rest _ x b.takes.rest_fits b.after in
+    let c = first_of_all slot_at (λ slot. slot ∷ []) (λ slot. slot ≤ SLOTS - 1) slot_field b.rest _ x b.takes.rest_fits b.after in
     let d = first_of_all image_at image FitsSlot image_field c.rest _ x c.takes.rest_fits c.after in
     let f = first_of_all image_at image FitsSlot image_field d.rest _ x d.takes.rest_fits d.after in
     let u : UpdateRecord = record { tx = a.value.tx; prev = a.value.prev; page = b.value; slot = c.value; before = d.value; after = f.value } in
@@ -47,7 +46,7 @@ unfolding compensation_at
 compensation_takes bytes x fits e =
     let a = first_of_all plain_at plain FitsPlain plain_field bytes _ x fits e in
     let b = first_of_all (number_at w32) (to_be_bytes w32) (λ n. n < 2 ^ 32) field32 a.rest _ x a.takes.rest_fits a.after in
-    let c = first_of_all slot_at (λ slot. slot ∷ []) (λ slot. slot ≤ 15) slot_field b.rest _ x b.takes.rest_fits b.after in
+    let c = first_of_all slot_at (λ slot. slot ∷ []) (λ slot. slot ≤ SLOTS - 1) slot_field b.rest _ x b.takes.rest_fits b.after in
     let d = first_of_all (number_at w64) (to_be_bytes w64) (λ n. n < 2 ^ 64) field64 c.rest _ x c.takes.rest_fits c.after in
     let f = first_of_all image_at image FitsSlot image_field d.rest _ x d.takes.rest_fits d.after in
     let u : CompensationRecord = record { tx = a.value.tx; prev = a.value.prev; page = b.value; slot = c.value; undo_next = d.value; image = f.value } in

@@ -1,5 +1,5 @@
 -- A field that is read is the field that was written, and what was written is read again.
-use Rattle.std.proofs.Common.{◌≡◌, ℕ, zero, suc, ◌^◌, ◌<◌, ◌≤◌, Bool, true, false, cond, ltb, eqb, eqb-true, ne_eqb, List, [], ◌∷◌, ◌++◌, length, take, drop, Option, Some, None, refl, sym, ap, subst, ◌∙◌, append_assoc, arith, inl, inr}
+use Rattle.std.proofs.Common.{◌-◌, ◌≡◌, ℕ, zero, suc, ◌^◌, ◌<◌, ◌≤◌, Bool, true, false, cond, ltb, eqb, eqb-true, ne_eqb, List, [], ◌∷◌, ◌++◌, length, take, drop, Option, Some, None, refl, sym, ap, subst, ◌∙◌, append_assoc, arith, inl, inr}
 use Rattle.std.specs.Int.{Width, w32, w64, byte_len, from_be_bytes, to_be_bytes}
 use Rattle.std.proofs.lemmas.Bool.{ltb-false, le-ltb}
 use Rattle.std.proofs.lemmas.List.{take_at, drop_at, take-append-drop, length-append, length-take}
@@ -11,7 +11,8 @@ use Rattle.wal.specs.Records.{PlainRecord}
 use Rattle.wal.specs.Spelling.{image, plain, FitsPlain}
 use Rattle.wal.specs.Reading.{◌>>=◌, number_at, tx_at, slot_at, image_at, plain_at}
 use Rattle.wal.proofs.Loop.{chosen}
-use Rattle.page.specs.declared.sizes.TheConstants.{VALUE_BYTES}
+use Rattle.page.specs.declared.profile.TheConstants.{VALUE_BYTES, SLOTS}
+use Rattle.wal.specs.declared.sizes.TheConstants.{ABSENT}
 
 pub AreBytes-rest : (b : ℕ) (bytes : List ℕ) → AreBytes (b ∷ bytes) → AreBytes bytes
 AreBytes-rest b bytes h i = h (suc i)
@@ -126,14 +127,14 @@ tx_field = record {
       rw (field32.again n rest fits.1, e) refl;
 }
 
-slot_takes : (bytes : List ℕ) (x : ℕ × List ℕ) → AreBytes bytes → slot_at bytes ≡ Some x → Takes bytes (x.0 ∷ []) x.1 × (x.0 ≤ 15)
+slot_takes : (bytes : List ℕ) (x : ℕ × List ℕ) → AreBytes bytes → slot_at bytes ≡ Some x → Takes bytes (x.0 ∷ []) x.1 × (x.0 ≤ SLOTS - 1)
 unfolding slot_at
 slot_takes [] x fits e = absurd cc
 slot_takes (slot ∷ rest) x fits e =
-    let g = guard_some (ltb 15 slot) (slot, rest) x e in
-    subst (λ (y : ℕ × List ℕ). Takes (slot ∷ rest) (y.0 ∷ []) y.1 × (y.0 ≤ 15)) g.1 (record { parts = refl; rest_fits = AreBytes-rest slot rest fits }, ltb-false _ _ g.0)
+    let g = guard_some (ltb (SLOTS - 1) slot) (slot, rest) x e in
+    subst (λ (y : ℕ × List ℕ). Takes (slot ∷ rest) (y.0 ∷ []) y.1 × (y.0 ≤ SLOTS - 1)) g.1 (record { parts = refl; rest_fits = AreBytes-rest slot rest fits }, ltb-false _ _ g.0)
 
-pub slot_field : IsField slot_at (λ slot. slot ∷ []) (λ slot. slot ≤ 15)
+pub slot_field : IsField slot_at (λ slot. slot ∷ []) (λ slot. slot ≤ SLOTS - 1)
 unfolding slot_at
 slot_field = record {
   takes = slot_takes;
@@ -145,9 +146,9 @@ unfolding image_at
 image_takes [] x fits e = absurd cc
 image_takes (size ∷ rest) x fits e =
     let there = AreBytes-rest size rest fits in
-    elim (chosen (eqb size 255) _ _ _ e) [
+    elim (chosen (eqb size ABSENT) _ _ _ e) [
       | inl p ↦
-          (let none : Takes (size ∷ rest) (image None) rest × FitsSlot None = (record { parts = ap (λ s. s ∷ rest) (eqb-true size 255 p.0); rest_fits = there }, tt) in
+          (let none : Takes (size ∷ rest) (image None) rest × FitsSlot None = (record { parts = ap (λ s. s ∷ rest) (eqb-true size ABSENT p.0); rest_fits = there }, tt) in
           subst (λ (y : Image × List ℕ). Takes (size ∷ rest) (image y.0) y.1 × FitsSlot y.0) (same_Some (None, rest) x p.1) none)
       | inr p ↦
           elim (chosen (ltb VALUE_BYTES size) _ _ _ p.1) [
@@ -166,7 +167,7 @@ image_again : (o : Image) (rest : List ℕ) → FitsSlot o → image_at (image o
 unfolding image_at
 image_again None rest h = refl
 image_again (Some value) rest h =
-    let not_absent : eqb (length value) 255 ≡ false = ne_eqb _ _ (λ z. omega (arith, z, h)) in
+    let not_absent : eqb (length value) ABSENT ≡ false = ne_eqb _ _ (λ z. omega (arith, z, h)) in
     let low : ltb VALUE_BYTES (length value) ≡ false = le-ltb _ _ h in
     let long : ltb (length (value ++ rest)) (length value) ≡ false = le-ltb _ _ (omega (arith, length-append value rest)) in
     rw (not_absent, low, long, take_at value rest (length value) refl, drop_at value rest (length value) refl) refl

@@ -16,6 +16,7 @@ use Rattle.wal.specs.Stretches.{AreFrames, AreFirst}
 use Rattle.wal.proofs.Headers.{start_small, start_again, header_length, header_room, header_taken}
 use Rattle.wal.proofs.Whole.{next_fault}
 use Rattle.wal.proofs.Stretches.{frames_spelled}
+use Rattle.wal.specs.declared.sizes.TheConstants.{BASED_HEADER_BYTES}
 
 -- the length that a frame says, and its body
 length_stays : (bytes more : List ℕ) → 4 ≤ length bytes → length_of (bytes ++ more) ≡ length_of bytes
@@ -44,7 +45,7 @@ fault_stays (BadLsn place) lsn offset bytes more (at, whole, r, n, fits, lt, sam
 fault_stays e lsn offset bytes more h = absurd h
 
 -- that there is no header, if there are bytes enough for one
-pub no_header : (bytes more : List ℕ) → 16 ≤ length bytes → start_at bytes ≡ None → (begins : LogStart) (rest : List ℕ) → FitsStart begins → bytes ++ more ≢ header_of begins ++ rest
+pub no_header : (bytes more : List ℕ) → BASED_HEADER_BYTES ≤ length bytes → start_at bytes ≡ None → (begins : LogStart) (rest : List ℕ) → FitsStart begins → bytes ++ more ≢ header_of begins ++ rest
 no_header bytes more long none begins rest fits text =
     let n = header_bytes begins in
     let within : n ≤ length bytes = omega (arith, long, at_most begins) in
@@ -53,7 +54,7 @@ no_header bytes more long none begins rest fits text =
     let both : None ≡ Some begins = sym none ∙ ap start_at whole ∙ start_again begins (drop n bytes) fits in
     absurd cc
   where
-    at_most : (start : LogStart) → header_bytes start ≤ 16
+    at_most : (start : LogStart) → header_bytes start ≤ BASED_HEADER_BYTES
     at_most Version1 = omega arith
     at_most (Version2 base) = omega arith
 

@@ -10,12 +10,13 @@ use Rattle.std.proofs.lemmas.Option.{same_Some}
 use Rattle.page.proofs.BigEndian.{AreBytes, AreBytes-drop}
 use Rattle.wal.specs.declared.header.LogStart.{LogStart}
 use Rattle.wal.specs.declared.header.LogStart.TheVariants.{Version1, Version2}
-use Rattle.wal.specs.declared.sizes.TheConstants.{LARGEST_BASE}
+use Rattle.wal.specs.declared.sizes.TheConstants.{LARGEST_BASE, BASED_HEADER_BYTES}
 use Rattle.wal.specs.Records.{lsn_before}
-use Rattle.wal.specs.Headers.{magic_1, magic_2, header_of, header_bytes, FitsStart, start_at}
+use Rattle.wal.specs.Headers.{header_of, header_bytes, FitsStart, start_at}
 use Rattle.wal.specs.Reading.{◌>>=◌, number_at}
 use Rattle.wal.proofs.Loop.{chosen}
 use Rattle.wal.proofs.Fields.{field64, first_of_all}
+use Rattle.page.specs.declared.profile.TheConstants.{LOG_MAGIC, BASED_LOG_MAGIC}
 
 pub start_small : (begins : LogStart) → FitsStart begins → lsn_before begins < 2 ^ 63
 start_small Version1 h = omega arith
@@ -62,22 +63,22 @@ pub record Header (bytes : List ℕ) (begins : LogStart) : Type 0 where
   pub fits : FitsStart begins
   pub front : bytes ≡ header_of begins ++ drop (header_bytes begins) bytes
 
-version_1 : (bytes : List ℕ) → starts_with eqb bytes magic_1 ≡ true → Header bytes Version1
-version_1 bytes e = record { fits = tt; front = (starts_is Decides-eqb bytes magic_1 (starts_with eqb bytes magic_1) refl).0 e }
+version_1 : (bytes : List ℕ) → starts_with eqb bytes LOG_MAGIC ≡ true → Header bytes Version1
+version_1 bytes e = record { fits = tt; front = (starts_is Decides-eqb bytes LOG_MAGIC (starts_with eqb bytes LOG_MAGIC) refl).0 e }
 
-version_2 : (bytes : List ℕ) (base : ℕ) (rest : List ℕ) → starts_with eqb bytes magic_2 ≡ true → drop 8 bytes ≡ to_be_bytes w64 base ++ rest → base ≤ LARGEST_BASE → Header bytes (Version2 base)
+version_2 : (bytes : List ℕ) (base : ℕ) (rest : List ℕ) → starts_with eqb bytes BASED_LOG_MAGIC ≡ true → drop 8 bytes ≡ to_be_bytes w64 base ++ rest → base ≤ LARGEST_BASE → Header bytes (Version2 base)
 version_2 bytes base rest e number le =
-    let magic : bytes ≡ magic_2 ++ drop 8 bytes = (starts_is Decides-eqb bytes magic_2 (starts_with eqb bytes magic_2) refl).0 e in
-    let text : bytes ≡ header_of (Version2 base) ++ rest = magic ∙ ap (λ (t : List ℕ). magic_2 ++ t) number ∙ sym (append_assoc magic_2 (to_be_bytes w64 base) rest) in
-    record { fits = le; front = text ∙ ap (λ (t : List ℕ). header_of (Version2 base) ++ t) (sym (ap (drop 16) text ∙ header_dropped (Version2 base) rest)) }
+    let magic : bytes ≡ BASED_LOG_MAGIC ++ drop 8 bytes = (starts_is Decides-eqb bytes BASED_LOG_MAGIC (starts_with eqb bytes BASED_LOG_MAGIC) refl).0 e in
+    let text : bytes ≡ header_of (Version2 base) ++ rest = magic ∙ ap (λ (t : List ℕ). BASED_LOG_MAGIC ++ t) number ∙ sym (append_assoc BASED_LOG_MAGIC (to_be_bytes w64 base) rest) in
+    record { fits = le; front = text ∙ ap (λ (t : List ℕ). header_of (Version2 base) ++ t) (sym (ap (drop BASED_HEADER_BYTES) text ∙ header_dropped (Version2 base) rest)) }
 
 pub header_taken : (bytes : List ℕ) (begins : LogStart) → AreBytes bytes → start_at bytes ≡ Some begins → Header bytes begins
 unfolding start_at
 header_taken bytes begins fits e =
-    elim (chosen (starts_with eqb bytes magic_1) _ _ _ e) [
+    elim (chosen (starts_with eqb bytes LOG_MAGIC) _ _ _ e) [
       | inl p ↦ subst (Header bytes) (same_Some Version1 begins p.1) (version_1 bytes p.0)
       | inr p ↦
-          elim (chosen (starts_with eqb bytes magic_2) _ _ _ p.1) [
+          elim (chosen (starts_with eqb bytes BASED_LOG_MAGIC) _ _ _ p.1) [
             | inl q ↦
                 (let number = first_of_all (number_at w64) (to_be_bytes w64) (λ n. n < 2 ^ 64) field64 (drop 8 bytes) (λ x. low_start x.0) begins (AreBytes-drop 8 bytes fits) q.1 in
                 elim (chosen (ltb LARGEST_BASE number.value) None (Some (Version2 number.value)) (Some begins) number.after) [

@@ -2,7 +2,7 @@
 use Rattle.std.proofs.Common.{◌≡◌, ℕ, false, eqb, List, length, ◌≤◌, Option, Some, None, Bor, refl, sym, subst, rules}
 use Rattle.std.specs.Prelude.{option_map, IfSome}
 use Rattle.page.specs.Image.{FitsSlot}
-use Rattle.page.specs.declared.sizes.TheConstants.{VALUE_BYTES}
+use Rattle.page.specs.declared.profile.TheConstants.{VALUE_BYTES}
 use Rattle.wal.specs.Records.{LogRecord, Update, Compensation}
 use Rattle.wal.specs.Meaning.{image_of, image_in}
 use Rattle.wal.specs.Spelling.{Fits}

@@ -11,6 +11,7 @@ use Rattle.wal.specs.Redo.{slots_in}
 use Rattle.wal.specs.Pages.{PageLaw}
 use Rattle.wal.specs.Theorems.{replayed_page}
 use Rattle.wal.proofs.Histories.{record_last, record_more, record_within, first_older}
+use Rattle.page.specs.declared.profile.TheConstants.{SLOTS}
 
 -- CELLS
 -- what writes to a cell is on its page
@@ -20,16 +21,16 @@ writes_on page slot (Compensation c) e = (and_parts (eqb c.page page) (eqb c.slo
 writes_on page slot r e = absurd (false≢true e)
 
 -- the slots of a page depend only on its 16 cells
-pub same_slots : (f g : Cells) (page : ℕ) → ((slot : ℕ) → slot < 16 → f page slot ≡ g page slot) → slots_in f page ≡ slots_in g page
-same_slots f g page h = from 0 16 (λ slot lt. h slot (omega (arith, lt)))
+pub same_slots : (f g : Cells) (page : ℕ) → ((slot : ℕ) → slot < SLOTS → f page slot ≡ g page slot) → slots_in f page ≡ slots_in g page
+same_slots f g page h = from 0 SLOTS (λ slot lt. h slot (omega (arith, lt)))
   where
     from : (a n : ℕ) → ((slot : ℕ) → slot < a + n → f page slot ≡ g page slot) → map (λ slot. f page slot) (range_with_len a n) ≡ map (λ slot. g page slot) (range_with_len a n)
     from a zero h = refl
     from a (suc n) h = ap₂ (λ (x : Image) (xs : List Image). x ∷ xs) (h a (omega arith)) (from (a + 1) n (λ slot lt. h slot (omega (arith, lt))))
 
 -- what a slot of a made page holds
-pub slot_held : (f : Cells) (page slot : ℕ) → slot < 16 → slice_index_or (slots_in f page) slot None ≡ f page slot
-slot_held f page slot lt = get_or-map-range_with_len (λ s. f page s) 0 16 slot slot None lt (omega arith)
+pub slot_held : (f : Cells) (page slot : ℕ) → slot < SLOTS → slice_index_or (slots_in f page) slot None ≡ f page slot
+slot_held f page slot lt = get_or-map-range_with_len (λ s. f page s) 0 SLOTS slot slot None lt (omega arith)
 
 -- THE LAST RECORD ON A PAGE
 pub last_on_within : (base : BasePages) (page : ℕ) (log : History) → BaseLaw base log → last_on base page log ≤ last_lsn log

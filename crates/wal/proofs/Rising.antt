@@ -9,8 +9,7 @@ use Rattle.wal.specs.declared.record.Entry.{Entry}
 use Rattle.wal.specs.Records.{tx_in, page_in}
 use Rattle.wal.specs.Content.{entry_of}
 use Rattle.wal.specs.Spelling.{FitsEntry, FitsDirty, FitsTable, IsRising}
-use Rattle.page.specs.declared.sizes.TheConstants.{PAGES}
-use Rattle.wal.specs.declared.sizes.TheConstants.{TRANSACTIONS}
+use Rattle.page.specs.declared.profile.TheConstants.{PAGES, TRANSACTIONS}
 
 -- each number is smaller than the next, and the first is at least `low`
 abbrev pub RisesFrom : ℕ → List ℕ → Type 0

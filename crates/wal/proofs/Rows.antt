@@ -1,6 +1,6 @@
 -- The definitions on worked examples.
 use Rattle.std.proofs.lemmas.Bool.{both_ways, false≢true, or_from, and_right}
-use Rattle.std.proofs.Common.{eqb, ne_eqb, sym, ◌∙◌, ◌&&◌, ◌||◌, true, false, inl, inr, ◌≢◌, ◌<◌, ℕ, zero, suc, ◌≡◌, ◌≤◌, [], ◌∷◌, ◌++◌, List, Some, None, refl, arith}
+use Rattle.std.proofs.Common.{◌-◌, eqb, ne_eqb, sym, ◌∙◌, ◌&&◌, ◌||◌, true, false, inl, inr, ◌≢◌, ◌<◌, ℕ, zero, suc, ◌≡◌, ◌≤◌, [], ◌∷◌, ◌++◌, List, Some, None, refl, arith}
 use Rattle.std.specs.Prelude.{replicate, take, slice_index_or}
 use Rattle.std.proofs.lemmas.List.Elements.{All-from_recursion}
 use Rattle.std.proofs.lemmas.Option.{same_Some}
@@ -25,6 +25,7 @@ use Rattle.wal.specs.Spelling.{frame, Fits}
 use Rattle.wal.specs.Theorems.{GoesOn}
 use Rattle.wal.proofs.Histories.{record_above, each_found}
 use Rattle.wal.proofs.CutBytes.{cuts_settle}
+use Rattle.page.specs.declared.profile.TheConstants.{SLOTS}
 
 abbrev pub a : Image
 a = Some (97 ∷ [])
@@ -129,7 +130,7 @@ one_commit_text = refl
 -- ---- pages
 
 abbrev pub holding : ℕ → Image → Page
-holding lsn value = record { number = 0; lsn = lsn; slots = value ∷ replicate 15 None }
+holding lsn value = record { number = 0; lsn = lsn; slots = value ∷ replicate (SLOTS - 1) None }
 
 abbrev pub store_of : ℕ → Page → StoreContent
 store_of master page = record { master = master; pages = page ∷ [] }

@@ -15,8 +15,7 @@ use Rattle.wal.proofs.Loop.{chosen}
 use Rattle.wal.proofs.Rising.{RisesFrom, rises_rising, rising_from_0}
 use Rattle.page.proofs.BigEndian.{AreBytes}
 use Rattle.wal.proofs.Fields.{AreBytes-rest, bind_some, Takes, Takes-then, IsField, first_of_all, field32, field64, FitsTx, tx_field}
-use Rattle.page.specs.declared.sizes.TheConstants.{PAGES}
-use Rattle.wal.specs.declared.sizes.TheConstants.{TRANSACTIONS}
+use Rattle.page.specs.declared.profile.TheConstants.{PAGES, TRANSACTIONS}
 
 -- ---- entries
 

@@ -25,7 +25,7 @@ use Rattle.wal.proofs.TableFields.{table_length}
 use Rattle.wal.proofs.Headers.{start_small, header_dropped, header_room, start_again, no_start, Header, header_taken}
 use Rattle.wal.proofs.Histories.{size_of_log}
 use Rattle.page.specs.Image.{FitsSlot}
-use Rattle.page.specs.declared.sizes.TheConstants.{VALUE_BYTES}
+use Rattle.page.specs.declared.profile.TheConstants.{VALUE_BYTES}
 use Rattle.wal.specs.declared.sizes.TheConstants.{LARGEST_BODY}
 
 bind_ok : {A B : Type 0} (r : Result A Fault) (f : A → Result B Fault) (y : B) → (r >>= f) ≡ Ok y → (x : A) × (r ≡ Ok x) × (f x ≡ Ok y)

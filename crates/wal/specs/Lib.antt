@@ -1,3 +1,4 @@
+pub mod Profile
 pub mod Records
 pub mod Meaning
 pub mod Laws

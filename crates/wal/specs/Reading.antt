@@ -1,13 +1,13 @@
 -- Reading the body of a frame from left to right: a record and its LSN, or None if the bytes encode no record.
-use Rattle.std.specs.Prelude.{◌≡◌, ℕ, zero, suc, ◌+◌, ◌*◌, ◌≤◌, ◌<◌, true, List, [], ◌∷◌, length, take, drop, map, Option, Some, None, nat_lt, ◌==◌, if◌then◌else◌, is_some, option_map, unwrap_or}
+use Rattle.std.specs.Prelude.{◌≡◌, ℕ, zero, suc, ◌+◌, ◌-◌, ◌*◌, ◌≤◌, ◌<◌, true, List, [], ◌∷◌, length, take, drop, map, Option, Some, None, nat_lt, ◌==◌, if◌then◌else◌, is_some, option_map, unwrap_or}
 use Rattle.std.specs.List.{range_with_len}
 use Rattle.std.specs.Int.{Width, w32, w64, byte_len, from_be_bytes}
 use Rattle.page.specs.Image.{Image}
 use Rattle.wal.specs.declared.record.State.{State}
 use Rattle.wal.specs.declared.record.State.TheVariants.{Active, Aborting, Prepared}
 use Rattle.wal.specs.Records.{PlainRecord, TableEntry, tx_in, page_in, LogRecord, Update, Compensation, Commit, Abort, End, Prepare, CheckpointBegin, CheckpointEnd}
-use Rattle.page.specs.declared.sizes.TheConstants.{PAGES, VALUE_BYTES}
-use Rattle.wal.specs.declared.sizes.TheConstants.{DIRTY_BYTES, ENTRY_BYTES, TRANSACTIONS}
+use Rattle.page.specs.declared.profile.TheConstants.{PAGES, VALUE_BYTES, TRANSACTIONS, SLOTS}
+use Rattle.wal.specs.declared.sizes.TheConstants.{DIRTY_BYTES, ENTRY_BYTES, ABSENT}
 
 infixl 10 ◌>>=◌
 abbrev pub ◌>>=◌ : {A B : Type 0} → Option A → (A → Option B) → Option B
@@ -24,16 +24,16 @@ tx_at bytes = do
   tx ← number_at w32 bytes
   if tx.0 == 0 then None else Some (tx.0, tx.1)
 
--- a slot is at most 15
+-- a slot is below `SLOTS`
 unfoldable pub slot_at : List ℕ → Option (ℕ × List ℕ)
 slot_at [] = None
-slot_at (slot ∷ rest) = if nat_lt 15 slot then None else Some (slot, rest)
+slot_at (slot ∷ rest) = if nat_lt (SLOTS - 1) slot then None else Some (slot, rest)
 
--- 255 for absent, or the length of a value that is not too long, and that many bytes
+-- `ABSENT`, or the length of a value that is not too long, and that many bytes
 unfoldable pub image_at : List ℕ → Option (Image × List ℕ)
 image_at [] = None
 image_at (size ∷ rest) =
-    if size == 255 then Some (None, rest)
+    if size == ABSENT then Some (None, rest)
     else if nat_lt VALUE_BYTES size then None
     else if nat_lt (length rest) size then None
     else Some (Some (take size rest), drop size rest)

@@ -5,7 +5,7 @@ use Rattle.page.specs.declared.page.Page.{Page}
 use Rattle.page.specs.Image.{Image}
 use Rattle.wal.specs.Records.{History, start, ◌▸◌, last_lsn}
 use Rattle.wal.specs.Meaning.{Cells, effects, is_on}
-use Rattle.page.specs.declared.sizes.TheConstants.{SLOTS}
+use Rattle.page.specs.declared.profile.TheConstants.{SLOTS}
 
 -- the RecLSN of a page, if it is listed in a dirty page table
 abbrev pub rec_lsn_of : ℕ → List (ℕ × ℕ) → Option ℕ

@@ -1,17 +1,17 @@
 -- The only encoding of each record, and which records have one (own).
-use Rattle.std.specs.Prelude.{ℕ, ◌<◌, ◌≤◌, ◌^◌, List, [], ◌∷◌, ◌++◌, length, map, flat_map, Some, None, ⊤}
+use Rattle.std.specs.Prelude.{ℕ, ◌-◌, ◌<◌, ◌≤◌, ◌^◌, List, [], ◌∷◌, ◌++◌, length, map, flat_map, Some, None, ⊤}
 use Rattle.std.specs.List.{AllByRecursion}
 use Rattle.std.specs.Int.{w32, w64, to_be_bytes}
 use Rattle.page.specs.Image.{Image, FitsSlot}
 use Rattle.wal.specs.declared.record.State.{State}
 use Rattle.wal.specs.declared.record.State.TheVariants.{Active, Aborting, Prepared}
 use Rattle.wal.specs.Records.{TableEntry, tx_in, page_in, UpdateRecord, CompensationRecord, PlainRecord, LogRecord, Update, Compensation, Commit, Abort, End, Prepare, CheckpointBegin, CheckpointEnd}
-use Rattle.page.specs.declared.sizes.TheConstants.{PAGES}
-use Rattle.wal.specs.declared.sizes.TheConstants.{TRANSACTIONS}
+use Rattle.page.specs.declared.profile.TheConstants.{PAGES, TRANSACTIONS, SLOTS}
+use Rattle.wal.specs.declared.sizes.TheConstants.{ABSENT}
 
--- 255 if it is absent, otherwise the length and the bytes
+-- `ABSENT` if it is absent, otherwise the length and the bytes
 abbrev pub image : Image → List ℕ
-image None = 255 ∷ []
+image None = ABSENT ∷ []
 image (Some value) = length value ∷ value
 
 abbrev pub plain : PlainRecord → List ℕ
@@ -82,7 +82,7 @@ pub record FitsUpdate (u : UpdateRecord) : Type 0 where
   pub tx : u.tx < 2 ^ 32
   pub prev : u.prev < 2 ^ 64
   pub page : u.page < 2 ^ 32
-  pub slot : u.slot ≤ 15
+  pub slot : u.slot ≤ SLOTS - 1
   pub before : FitsSlot u.before
   pub after : FitsSlot u.after
 
@@ -91,7 +91,7 @@ pub record FitsCompensation (c : CompensationRecord) : Type 0 where
   pub tx : c.tx < 2 ^ 32
   pub prev : c.prev < 2 ^ 64
   pub page : c.page < 2 ^ 32
-  pub slot : c.slot ≤ 15
+  pub slot : c.slot ≤ SLOTS - 1
   pub undo_next : c.undo_next < 2 ^ 64
   pub image : FitsSlot c.image
 

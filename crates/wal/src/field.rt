@@ -8,6 +8,7 @@ ghost use Rattle.wal.specs.Content.{entry_of, Keeps};
 ghost use Rattle.page.specs.Image.{FitsSlot};
 
 use crate::record::{Entry, State};
+use crate::sizes::ABSENT;
 use page::{SLOTS, VALUE_BYTES, Value};
 use std::alloc::{AllocError, Allocator};
 
@@ -75,7 +76,7 @@ pub fn image_at(bytes: &[u8]) -> Option<(Option<&[u8]>, &[u8])>
     match bytes {
         [] => None,
         [size, rest @ ..] => {
-            if *size == 255 {
+            if *size == ABSENT {
                 return Some((None, rest));
             }
             if *size as usize > VALUE_BYTES {
@@ -164,7 +165,7 @@ pub fn put_image<A: Allocator>(
     ensures kept { Keeps out.old.items out.new.items }
 {
     match value {
-        None => out.push(255)?,
+        None => out.push(ABSENT)?,
         Some(value) => {
             let value = value.as_slice();
             out.push(value.len() as u8)?;

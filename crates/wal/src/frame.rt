@@ -16,10 +16,9 @@ use crate::field::{
 use crate::frame_size::body_len;
 use crate::head::FrameHead;
 use crate::record::Record;
-use crate::sizes::TRANSACTIONS;
 use crate::view;
 use crate::view::{DirtyTable, RecordView, TransactionTable};
-use page::{Fault, PAGES};
+use page::{Fault, PAGES, TRANSACTIONS};
 use std::alloc::{AllocError, Allocator};
 
 #[inline(always)]

@@ -1,7 +1,7 @@
 //! How many bytes the frame of a record takes.
 
 ghost use Rattle.std.specs.Prelude.{◌≡◌, ◌≤◌, ◌+◌, ℕ, IfSome, length, option_map};
-ghost use Rattle.page.specs.declared.sizes.TheConstants.{VALUE_BYTES};
+ghost use Rattle.page.specs.declared.profile.TheConstants.{VALUE_BYTES};
 ghost use Rattle.wal.specs.Content.{content, shown};
 ghost use Rattle.wal.specs.Spelling.{Fits, body, frame, image as spelling};
 

@@ -7,6 +7,7 @@ ghost use Rattle.wal.specs.declared.header.LogStart.TheVariants.{Version1, Versi
 
 use crate::field::u64_at;
 use crate::sizes::{BASED_HEADER_BYTES, HEADER_BYTES, LARGEST_BASE};
+use page::{BASED_LOG_MAGIC, LOG_MAGIC};
 
 /// How a log file begins: the version of its format, and the LSN after which its records come.
 #[derive(Clone, Copy)]
@@ -49,7 +50,7 @@ impl LogStart {
 pub fn plain_header() -> [u8; HEADER_BYTES]
     ensures { result ≡ header_of Version1 }
 {
-    *b"ARIESLG1"
+    LOG_MAGIC
 }
 
 /// The header of a log in version 2 with this base LSN, which must be at most
@@ -58,7 +59,7 @@ pub fn based_header(base: u64) -> [u8; BASED_HEADER_BYTES]
     ensures { result ≡ header_of (Version2 base) }
 {
     let mut header = [0; BASED_HEADER_BYTES];
-    header[..HEADER_BYTES].copy_from_slice(b"ARIESLG2");
+    header[..HEADER_BYTES].copy_from_slice(&BASED_LOG_MAGIC);
     header[HEADER_BYTES..].copy_from_slice(&base.to_be_bytes());
     header
 }
@@ -70,10 +71,10 @@ pub fn based_header(base: u64) -> [u8; BASED_HEADER_BYTES]
 pub fn start_at(bytes: &[u8]) -> Option<LogStart>
     ensures { result ≡ start_at bytes.now }
 {
-    if bytes.starts_with(b"ARIESLG1") {
+    if bytes.starts_with(&LOG_MAGIC) {
         return Some(LogStart::Version1);
     }
-    if !bytes.starts_with(b"ARIESLG2") {
+    if !bytes.starts_with(&BASED_LOG_MAGIC) {
         return None;
     }
     let (_, rest) = bytes.split_at(HEADER_BYTES);

@@ -1,5 +1,6 @@
 //! Laws of logs. Each function is a law: what it ensures follows from the definitions only.
 
+ghost use Rattle.wal.specs.Profile.{IsLogProfile};
 ghost use Rattle.wal.specs.Reads.{OneReading, OneLogFault, NoFaultOfALog};
 ghost use Rattle.wal.specs.Theorems.{LawfulByRecord, HopsMeetPending, ReplayIsWinners, TailSettles, LosersEnd, CutsResume, RedoReplays, RedoSuffices, UndoIsTail, TableTellsDoubt, StoreSettles, RestartGoesOn, CutsSettle, CutsCompose};
 
@@ -93,4 +94,9 @@ pub fn cuts_settle()
 /// A cut of what a restart continues to from a cut is a cut of the first log and store.
 pub fn cuts_compose()
     ensures { CutsCompose }
+{}
+
+/// The numbers of the profile keep what logs need.
+pub fn numbers_of_a_log()
+    ensures { IsLogProfile }
 {}

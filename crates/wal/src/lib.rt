@@ -35,11 +35,12 @@ pub use glance::Glance;
 pub use header::{LogStart, based_header, plain_header};
 pub use laws::{
     cuts_compose, cuts_resume, cuts_settle, hops_meet_pending, lawful_by_record, losers_end,
-    no_fault_of_a_log, one_log_fault, one_reading, redo_replays, redo_suffices, replay_is_winners,
-    restart_goes_on, store_settles, table_tells_doubt, tail_settles, undo_is_tail,
+    no_fault_of_a_log, numbers_of_a_log, one_log_fault, one_reading, redo_replays, redo_suffices,
+    replay_is_winners, restart_goes_on, store_settles, table_tells_doubt, tail_settles,
+    undo_is_tail,
 };
 pub use log::{Log, first_frames, read_log, read_log_behind, read_log_by};
 pub use record::{Entry, Record, State};
-pub use sizes::{BASED_HEADER_BYTES, LARGEST_BASE, LONGEST_FRAME, TRANSACTIONS};
+pub use sizes::{ABSENT, BASED_HEADER_BYTES, LARGEST_BASE, LONGEST_FRAME};
 pub use stretch::Stretch;
 pub use view::{DirtyTable, RecordView, TransactionTable, value_of};

@@ -232,9 +232,11 @@ fn split_header<'a>(
 ///
 /// Errors. The first one in the bytes is returned; an offset is that of a frame's length field:
 /// - NoResource: memory for the offsets was refused.
-/// - BadLogHeader: the bytes begin neither with `ARIESLG1`, which is version 1, nor with `ARIESLG2`
-///   and 8 bytes of a base LSN of at most 9,223,372,036,854,775,807, which is version 2.
-/// - BadLength(offset): a complete length field is outside 9 to 70,681.
+/// - BadLogHeader: the bytes begin neither with [`page::LOG_MAGIC`], which is version 1, nor with
+///   [`page::BASED_LOG_MAGIC`] and 8 bytes of a base LSN of at most 9,223,372,036,854,775,807, which
+///   is version 2.
+/// - BadLength(offset): a complete length field is below 9, or above the length of a checkpoint end
+///   with full tables.
 /// - BadRecord(offset): a complete body does not encode a record with any LSN.
 /// - BadLsn(offset): the body encodes a record, but its LSN is not the sum of the base LSN and the
 ///   frame's number from 1.

@@ -4,12 +4,10 @@ ghost use Rattle.std.specs.Prelude.{◌≡◌, ◌<◌, ◌≤◌, ◌^◌, true
 ghost use Rattle.wal.specs.Records.{tx_in, page_in};
 ghost use Rattle.wal.specs.Spelling.{Fits, FitsPlain, FitsEntry, FitsDirty, FitsTable, IsRising};
 ghost use Rattle.wal.specs.Content.{entry_of, content};
-ghost use Rattle.page.specs.declared.sizes.TheConstants.{PAGES};
-ghost use Rattle.wal.specs.declared.sizes.TheConstants.{TRANSACTIONS};
+ghost use Rattle.page.specs.declared.profile.TheConstants.{PAGES, TRANSACTIONS};
 ghost use Rattle.page.specs.Image.{FitsSlot};
 
-use crate::sizes::TRANSACTIONS;
-use page::{PAGES, SLOTS, VALUE_BYTES, Value};
+use page::{PAGES, SLOTS, TRANSACTIONS, VALUE_BYTES, Value};
 
 /// The state of a transaction in a transaction table.
 #[derive(Clone, Copy, Debug, PartialEq, Eq)]
@@ -91,9 +89,9 @@ pub enum Record {
 }
 
 impl Record {
-    /// Whether it has an encoding: a transaction number is at least 1 and a slot at most 15. The
-    /// tables of a checkpoint end have at most 1,024 and 4,096 entries, in ascending order of
-    /// number.
+    /// Whether it has an encoding: a transaction number is at least 1 and a slot below [`SLOTS`].
+    /// The tables of a checkpoint end have at most [`TRANSACTIONS`] and [`PAGES`] entries, in
+    /// ascending order of number.
     pub fn is_writable(&self) -> bool
         ensures { result ≡ true ↔ Fits (content self.now) }
     {
@@ -137,7 +135,7 @@ fn is_plain(tx: u32, prev: u64) -> bool
 }
 
 fn is_cell(page: u32, slot: u8) -> bool
-    ensures { result ≡ true ↔ (page < 2 ^ 32) × (slot ≤ 15) }
+    ensures { result ≡ true ↔ (page < 2 ^ 32) × (slot < SLOTS) }
 {
     (slot as usize) < SLOTS
 }

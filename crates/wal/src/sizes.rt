@@ -1,13 +1,9 @@
 //! How large the body of a frame and the tables of a checkpoint are.
 
-use page::PAGES;
-
-/// How many entries the transaction table of a checkpoint has at most. Its dirty page table has at
-/// most one for each page.
-pub const TRANSACTIONS: usize = 1024;
+use page::{MAGIC_BYTES, PAGES, TRANSACTIONS};
 
 /// How many bytes the header of a log takes in version 1: its magic.
-pub const HEADER_BYTES: usize = 8;
+pub const HEADER_BYTES: usize = MAGIC_BYTES;
 
 /// How many bytes the header of a log takes in version 2: its magic and the base LSN.
 pub const BASED_HEADER_BYTES: usize = HEADER_BYTES + LSN_BYTES;
@@ -17,6 +13,9 @@ pub const LARGEST_BASE: u64 = 9_223_372_036_854_775_807;
 
 /// How many bytes an LSN takes.
 pub const LSN_BYTES: usize = 8;
+
+/// The byte in place of the length of a value that is absent.
+pub const ABSENT: u8 = 255;
 
 /// How many bytes a cell takes: page and slot.
 pub const CELL_BYTES: usize = 5;

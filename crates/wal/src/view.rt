@@ -7,7 +7,7 @@ ghost use Rattle.wal.specs.Reading.{entry_at, dirty_at, table_at, entries_in, Ar
 ghost use Rattle.wal.specs.Spelling.{Fits};
 ghost use Rattle.wal.specs.Content.{entry_of, content, shown};
 ghost use Rattle.page.specs.declared.fault.Fault.TheVariants.{NoResource};
-ghost use Rattle.page.specs.declared.sizes.TheConstants.{VALUE_BYTES};
+ghost use Rattle.page.specs.declared.profile.TheConstants.{VALUE_BYTES};
 
 use crate::field::{dirty_at, entry_at};
 use crate::record::{Entry, Record};
@@ -305,7 +305,8 @@ impl<'a> RecordView<'a> {
     }
 }
 
-/// The value of an image that a view borrows; an image of a log has at most 48 bytes.
+/// The value of an image that a view borrows; an image of a log has at most
+/// [`page::VALUE_BYTES`] bytes.
 pub fn value_of(image: Option<&[u8]>) -> Option<Value>
     requires { IfSome image (λ bytes. length bytes.now ≤ VALUE_BYTES) }
     ensures { result ≡ option_map (λ bytes. bytes.now) image.entry }

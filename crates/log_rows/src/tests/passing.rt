@@ -40,7 +40,7 @@ fn checkpoint_by(alloc: Global, pieces: &[Vec<u8>], master: u64) -> Result<Maps,
 fn tables_by(alloc: Global, pieces: &[Vec<u8>], master: u64) -> Result<Maps, Fault> {
     let (transactions, dirty) = checkpoint_by(alloc, pieces, master)?;
     let mut transactions = TransactionScan::begin(transactions);
-    let mut pages = PageScan::begin(dirty);
+    let mut pages = PageScan::begin(alloc, dirty)?;
     for bytes in pieces {
         let (piece, _) = read_log(alloc, bytes)?;
         transactions.pass(&piece, master)?;

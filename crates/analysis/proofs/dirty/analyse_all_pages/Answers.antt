@@ -15,7 +15,7 @@ returns-clause-pages c =
       dirty = base.dirty;
       base = base.base;
       pages = λ p. ap (rec_lsn_of p) c.finish-dirty.ensures ∙ c.in_ok-pass.ensures.pages p
-          ∙ ap (λ o. analysed_rec_lsn p c.args.master o log) (ap (rec_lsn_of p) c.begin-scan.ensures ∙ base.pages_are p);
+          ∙ ap (λ o. analysed_rec_lsn p c.args.master o log) (ap (rec_lsn_of p) c.in_ok-scan.ensures.ok ∙ base.pages_are p);
       pages_rise = pages_rise found c.iter-in_order.ensures.ordered;
       begins = c.redo_lsn_of-redo_lsn.ensures ∙ ap (λ n. redo_lsn_of n found) (omega (arith, c.base.ensures.is));
     }

@@ -4,11 +4,7 @@ use Rattle.wal.specs.Redo.{rec_lsn_of}
 use Rattle.analysis.specs.Tables.{redo_lsn_of, AreAllListed, ServesRedo}
 use Rattle.analysis.proofs.Scanned.{at_first}
 use Rattle.analysis.proofs.NoFurther.{serves}
-use Rattle.analysis.proofs.Maps.{none_known}
 use Rattle.analysis.proofs.dirty.list_pages.Goals as goal
-
-pub scan_pages-requires-clause-listed : goal.scan_pages-requires-clause-listed
-scan_pages-requires-clause-listed c = λ page noted. none_known 4096 page noted
 
 pub returns-then-redo_lsn-upto-clause-pages : goal.returns-then-redo_lsn-upto-clause-pages
 returns-then-redo_lsn-upto-clause-pages c = λ transactions pages base same rising.

@@ -6,20 +6,21 @@ use Rattle.analysis.specs.Tables.{entry_at}
 use Rattle.analysis.specs.Steps.{state_in, undo_next_of_entry, held_entry}
 use Rattle.analysis.proofs.Keeping.{held_none, held_other}
 use Rattle.analysis.proofs.kept.entry_in.Goals.{in-Some+else-own-tx, in_default}
+use Rattle.analysis.specs.declared.kept.TheConstants.{PLACES}
 use Rattle.analysis.proofs.kept.entry_in.Goals as goal
 
 in_table_some : (c : goal.After-result-1) → held_entry c.args.tx c.args.kept.now c.args.transactions.now.entries ≡ entry_at c.args.tx c.args.transactions.now.entries
 in_table_some c =
     elim c.match-kept-tx.branch [
-      | in-Some+else-own-tx w ↦ held_other c.args.tx c.args.kept.now c.args.transactions.now.entries (c.args.tx % 256) (w.in-Some.own, w.in-Some.entry) refl w.in-Some.is (λ e. w.if-own-tx.false (sym e))
-      | in_default w ↦ held_none c.args.tx c.args.kept.now c.args.transactions.now.entries (c.args.tx % 256) refl w.in_default.is
+      | in-Some+else-own-tx w ↦ held_other c.args.tx c.args.kept.now c.args.transactions.now.entries (c.args.tx % PLACES) (w.in-Some.own, w.in-Some.entry) refl w.in-Some.is (λ e. w.if-own-tx.false (sym e))
+      | in_default w ↦ held_none c.args.tx c.args.kept.now c.args.transactions.now.entries (c.args.tx % PLACES) refl w.in_default.is
     ]
 
 in_table_none : (c : goal.In-None) → held_entry c.args.tx c.args.kept.now c.args.transactions.now.entries ≡ entry_at c.args.tx c.args.transactions.now.entries
 in_table_none c =
     elim c.match-kept-tx.branch [
-      | in-Some+else-own-tx w ↦ held_other c.args.tx c.args.kept.now c.args.transactions.now.entries (c.args.tx % 256) (w.in-Some.own, w.in-Some.entry) refl w.in-Some.is (λ e. w.if-own-tx.false (sym e))
-      | in_default w ↦ held_none c.args.tx c.args.kept.now c.args.transactions.now.entries (c.args.tx % 256) refl w.in_default.is
+      | in-Some+else-own-tx w ↦ held_other c.args.tx c.args.kept.now c.args.transactions.now.entries (c.args.tx % PLACES) (w.in-Some.own, w.in-Some.entry) refl w.in-Some.is (λ e. w.if-own-tx.false (sym e))
+      | in_default w ↦ held_none c.args.tx c.args.kept.now c.args.transactions.now.entries (c.args.tx % PLACES) refl w.in_default.is
     ]
 
 pub returns-in-Some-get-clause-state : goal.returns-in-Some-get-clause-state

@@ -2,6 +2,7 @@ use Rattle.std.proofs.Common.{◌+◌, ◌<◌, sym, subst, arith}
 use Rattle.std.proofs.Math.Nat.{mod-lt}
 use Rattle.analysis.proofs.Keeping.{IsBackTo, back_none, back_put}
 use Rattle.analysis.proofs.kept.put_back.Goals.{in-Some+in_ok-put, in_default}
+use Rattle.analysis.specs.declared.kept.TheConstants.{PLACES}
 use Rattle.analysis.proofs.kept.put_back.Goals as goal
 
 pub loop-place-preserved : goal.loop-place-preserved
@@ -19,5 +20,5 @@ loop-place-preserved c =
 
 pub returns-clause-ok : goal.returns-clause-ok
 returns-clause-ok c = λ t.
-    let some : 0 < 256 = omega arith in
+    let some : 0 < PLACES = omega arith in
     c.loop-place.invariant.back t (let lt = mod-lt t some in omega (arith, lt, c.loop-place-test.false))

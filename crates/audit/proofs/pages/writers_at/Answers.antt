@@ -11,6 +11,7 @@ use Rattle.audit.proofs.Noting.{page_below, cell_below}
 use Rattle.audit.proofs.Passing.{written_back}
 use Rattle.page.specs.declared.page.Page.{Page}
 use Rattle.audit.proofs.PageImages.{writers_noted, writers_all}
+use Rattle.page.specs.declared.profile.TheConstants.{SLOTS}
 use Rattle.audit.proofs.pages.writers_at.Goals as goal
 
 pub note_writer-requires-clause-page : goal.note_writer-requires-clause-page
@@ -49,8 +50,8 @@ loop-lsn-init c =
     (record {
       size_is = ap length (c.in_ok-writers.ensures.items_if_clones_equal (λ y e. e)) ∙ length-replicate _ _;
       each = λ page slot d lt small.
-          ap (λ (xs : List ℕ). get_or xs (16 * page + slot) d) (c.in_ok-writers.ensures.items_if_clones_equal (λ y e. e))
-          ∙ get_or-replicate (16 * length c.args.pages.now) (16 * page + slot) 0 d (omega (arith, lt, small));
+          ap (λ (xs : List ℕ). get_or xs (SLOTS * page + slot) d) (c.in_ok-writers.ensures.items_if_clones_equal (λ y e. e))
+          ∙ get_or-replicate (SLOTS * length c.args.pages.now) (SLOTS * page + slot) 0 d (omega (arith, lt, small));
     })
 
 pub returns-clause-ok : goal.returns-clause-ok

@@ -3,7 +3,7 @@ use Rattle.page.specs.Image.{cell, FitsSlot}
 use Rattle.page.proofs.Writing.{directed_more}
 use Rattle.page.proofs.image.put_directory.Goals as goal
 use Rattle.page.proofs.image.put_directory.Goals.{in-Some, in_default}
-use Rattle.page.specs.declared.sizes.TheConstants.{VALUE_BYTES}
+use Rattle.page.specs.declared.profile.TheConstants.{VALUE_BYTES}
 
 pub loop-i-preserved : goal.loop-i-preserved
 loop-i-preserved c =

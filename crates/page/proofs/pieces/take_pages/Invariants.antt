@@ -3,7 +3,7 @@ use Rattle.std.specs.Vec.{vec_capacity}
 use Rattle.page.specs.Pieces.{AreRead}
 use Rattle.page.proofs.Piecewise.{IsLeft}
 use Rattle.page.proofs.pieces.take_pages.Given as goal
-use Rattle.page.specs.declared.sizes.TheConstants.{PAGE_BYTES}
+use Rattle.page.specs.declared.profile.TheConstants.{PAGE_BYTES}
 
 abbrev pub invariant-loop-rest : goal.invariant-loop-rest
 invariant-loop-rest l = (l.count ≤ vec_capacity l.pages) ×

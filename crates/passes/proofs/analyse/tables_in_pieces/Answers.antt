@@ -1,4 +1,4 @@
-use Rattle.std.proofs.Common.{◌≡◌, ◌≤◌, ℕ, List, Some, subst, sym, ap, ◌∙◌}
+use Rattle.std.proofs.Common.{◌+◌, ◌≡◌, ◌≤◌, ℕ, List, Some, subst, sym, ap, ◌∙◌}
 use Rattle.std.proofs.lemmas.Result.{err_from_is_err_and}
 use Rattle.wal.specs.Records.{LogContent, history, last_lsn, base_lsn}
 use Rattle.wal.specs.Reads.{Reads}
@@ -9,6 +9,7 @@ use Rattle.passes.proofs.Forward.{none_at, comes_before}
 use Rattle.passes.proofs.Nexts.{tables_resource}
 use Rattle.passes.proofs.Reached.{marked, still_told}
 use Rattle.passes.proofs.analyse.tables_in_pieces.Given.{Over}
+use Rattle.wal.specs.declared.sizes.TheConstants.{BASED_HEADER_BYTES, LONGEST_FRAME}
 use Rattle.passes.proofs.analyse.tables_in_pieces.Goals as goal
 
 pub returns-in_err-transactions-clause-fault : goal.returns-in_err-transactions-clause-fault
@@ -28,7 +29,7 @@ returns-in_err-analyse_from-clause-fault g c =
     let own = marked text whole c.args.marks.now c.place_before.result c.at-from.result c.at-from.ensures.at c.place_before.ensures.within are in
     tables_resource c.args.master whole c.in_err-analyse_from.field-0.0
     (c.in_err-analyse_from.ensures.fault text whole own.0 torn (still_told (g.S.Reread.text c.args.source.now) (g.S.Reread.text c.checkpoint_tables.new.source) text c.in_ok-transactions.ensures.same is) reads
-    (ap (λ (m : Mark). m.lsn) (c.end-end.ensures.end c.end-end.result) ∙ are.last c.end-end.result) own.1 (subst (λ n. 70701 ≤ n) (sym c.checkpoint_tables.auto.room) long)))
+    (ap (λ (m : Mark). m.lsn) (c.end-end.ensures.end c.end-end.result) ∙ are.last c.end-end.result) own.1 (subst (λ n. BASED_HEADER_BYTES + LONGEST_FRAME ≤ n) (sym c.checkpoint_tables.auto.room) long)))
 
 -- what both scans have found when all pieces are read
 analysed : (g : Over) (c : goal.In_ok-tables g) (text : List ℕ) (whole : LogContent) (torn : ℕ) → g.S.Reread.text c.args.source.now ≡ Some text → Reads text whole torn → AreMarks text whole c.args.marks.now
@@ -37,7 +38,7 @@ analysed g c text whole torn is reads are =
     let own = marked text whole c.args.marks.now c.place_before.result c.at-from.result c.at-from.ensures.at c.place_before.ensures.within are in
     let end : c.end-end.result.lsn ≡ last_lsn (history whole) = ap (λ (m : Mark). m.lsn) (c.end-end.ensures.end c.end-end.result) ∙ are.last c.end-end.result in
     c.in_ok-analyse_from.ensures.analysed text whole own.0 torn (still_told (g.S.Reread.text c.args.source.now) (g.S.Reread.text c.checkpoint_tables.new.source) text c.in_ok-transactions.ensures.same is) reads end own.1
-    (c.begin-scan.ensures.begun c.args.master (history whole) (history own.0)
+    (c.in_ok-scan.ensures.begun c.args.master (history whole) (history own.0)
     (c.in_ok-transactions.ensures.base text whole own.0 torn is reads end own.1
     (none_at text whole own.0 torn c.place_before.result c.args.master c.at-from.result c.args.marks.now reads are own.1 c.at-from.ensures.at c.place_before.ensures.before))
     (comes_before text whole own.0 torn c.place_before.result c.args.master c.at-from.result c.args.marks.now reads are own.1 c.at-from.ensures.at c.place_before.ensures.before))

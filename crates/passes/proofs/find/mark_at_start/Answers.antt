@@ -3,11 +3,12 @@ use Rattle.std.proofs.lemmas.List.{take-append-le}
 use Rattle.std.proofs.lemmas.Result.{err_from_is_err_and}
 use Rattle.device.specs.Reread.{EndsBy, ReadsFrom}
 use Rattle.passes.proofs.Finding.{first_bytes}
+use Rattle.wal.specs.declared.sizes.TheConstants.{BASED_HEADER_BYTES}
 use Rattle.passes.proofs.find.mark_at_start.Goals as goal
 
 -- the room begins with the bytes that were read
-front : (held : Option (List ℕ)) (text buffer rest : List ℕ) (count : ℕ) → held ≡ Some text → ReadsFrom held 0 count buffer → (count < 16 → EndsBy held (0 + count)) → count ≤ length buffer → length buffer ≤ 16
-    → take count (buffer ++ rest) ≡ take 16 text
+front : (held : Option (List ℕ)) (text buffer rest : List ℕ) (count : ℕ) → held ≡ Some text → ReadsFrom held 0 count buffer → (count < BASED_HEADER_BYTES → EndsBy held (0 + count)) → count ≤ length buffer → length buffer ≤ BASED_HEADER_BYTES
+    → take count (buffer ++ rest) ≡ take BASED_HEADER_BYTES text
 front held text buffer rest count is reads ends within small =
     take-append-le count buffer rest within ∙ first_bytes held text buffer count is reads ends (omega (arith, within, small))
 
@@ -16,12 +17,12 @@ returns-in_err-mark-clause-fault g c =
     let exit = err_from_is_err_and c.from_residual-in_err-mark.result c.from_residual-in_err-mark.ensures.1 in
     rw (exit.1, exit.2)
     (λ text is.
-    let size : length c.read_full_at.new.buffer ≡ 16 = omega (arith, c.read_full_at.auto.buffer, length-take 16 c.args.room.now, c.requires.room) in
+    let size : length c.read_full_at.new.buffer ≡ BASED_HEADER_BYTES = omega (arith, c.read_full_at.auto.buffer, length-take BASED_HEADER_BYTES c.args.room.now, c.requires.room) in
     c.in_err-mark.ensures.fault text
-    (front (g.S.Reread.text c.args.source.now) text c.read_full_at.new.buffer (drop 16 c.args.room.now) c.in_ok-count.count is c.in_ok-count.ensures.bytes (λ less. c.in_ok-count.ensures.end (omega (arith, less, size))) c.in_ok-count.ensures.within (omega (arith, size))))
+    (front (g.S.Reread.text c.args.source.now) text c.read_full_at.new.buffer (drop BASED_HEADER_BYTES c.args.room.now) c.in_ok-count.count is c.in_ok-count.ensures.bytes (λ less. c.in_ok-count.ensures.end (omega (arith, less, size))) c.in_ok-count.ensures.within (omega (arith, size))))
 
 pub returns-clause-mark : goal.returns-clause-mark
 returns-clause-mark g c = λ text is.
-    let size : length c.read_full_at.new.buffer ≡ 16 = omega (arith, c.read_full_at.auto.buffer, length-take 16 c.args.room.now, c.requires.room) in
+    let size : length c.read_full_at.new.buffer ≡ BASED_HEADER_BYTES = omega (arith, c.read_full_at.auto.buffer, length-take BASED_HEADER_BYTES c.args.room.now, c.requires.room) in
     c.in_ok-mark.ensures.mark text
-    (front (g.S.Reread.text c.args.source.now) text c.read_full_at.new.buffer (drop 16 c.args.room.now) c.in_ok-count.count is c.in_ok-count.ensures.bytes (λ less. c.in_ok-count.ensures.end (omega (arith, less, size))) c.in_ok-count.ensures.within (omega (arith, size)))
+    (front (g.S.Reread.text c.args.source.now) text c.read_full_at.new.buffer (drop BASED_HEADER_BYTES c.args.room.now) c.in_ok-count.count is c.in_ok-count.ensures.bytes (λ less. c.in_ok-count.ensures.end (omega (arith, less, size))) c.in_ok-count.ensures.within (omega (arith, size)))

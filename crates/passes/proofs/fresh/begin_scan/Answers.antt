@@ -8,7 +8,7 @@ use Rattle.passes.proofs.fresh.begin_scan.Goals as goal
 
 pub returns-clause-analysed : goal.returns-clause-analysed
 returns-clause-analysed c = λ whole log before.
-    c.begin-tables.ensures.begun 0 whole log
+    c.in_ok-tables.ensures.begun 0 whole log
     (record {
       transactions = [];
       dirty = [];

@@ -1,4 +1,4 @@
-use Rattle.std.proofs.Common.{◌≡◌, ◌≤◌, List, length, sym, ap, ◌∙◌, subst}
+use Rattle.std.proofs.Common.{◌+◌, ◌≡◌, ◌≤◌, List, length, sym, ap, ◌∙◌, subst}
 use Rattle.std.proofs.lemmas.Result.{err_from_is_err_and}
 use Rattle.page.specs.declared.page.Page.{Page}
 use Rattle.page.specs.Store.{StoreContent}
@@ -13,6 +13,7 @@ use Rattle.passes.specs.Tables.{TablesCause}
 use Rattle.passes.proofs.InPieces.{none_ahead, is_redone, ahead_fault, tables_alone, tables_fault, redo_alone_in_pieces, redo_fault_in_pieces, memory_alone, same_marks, in_pieces_fault, text_fault}
 use Rattle.passes.proofs.Nexts.{log_alone}
 use Rattle.passes.proofs.Reached.{still_told}
+use Rattle.wal.specs.declared.sizes.TheConstants.{BASED_HEADER_BYTES, LONGEST_FRAME}
 use Rattle.passes.proofs.in_pieces.go_by_passes.Goals as goal
 
 pub returns-in_err-marks-clause-lawful : goal.returns-in_err-marks-clause-lawful
@@ -59,7 +60,7 @@ returns-in_err-tables-clause-lawful g c =
     let still = still_told (g.S.Reread.text c.args.source.now) (g.S.Reread.text c.find_marks.new.source) text c.in_ok-marks.ensures.same is in
     let are = same_marks text (length c.args.room.now) torn c.in_ok-marks.torn c.in_ok-marks.marks whole (c.in_ok-marks.ensures.found text is) reads in
     tables_alone whole c.args.store base lawful e
-    (subst (λ m. TablesCause m whole e) kept (c.in_err-tables.ensures.fault text whole torn still reads are (subst (λ n. 70701 ≤ n) (sym c.find_marks.auto.room) c.requires.room))))
+    (subst (λ m. TablesCause m whole e) kept (c.in_err-tables.ensures.fault text whole torn still reads are (subst (λ n. BASED_HEADER_BYTES + LONGEST_FRAME ≤ n) (sym c.find_marks.auto.room) c.requires.room))))
 
 pub returns-in_err-tables-clause-fault : goal.returns-in_err-tables-clause-fault
 returns-in_err-tables-clause-fault g c =
@@ -75,7 +76,7 @@ returns-in_err-tables-clause-fault g c =
     (ap (λ (m : Mark). m.lsn) (c.end.ensures.end c.end.result) ∙ found.are.last c.end.result) c.in_ok-check_lsns.ensures.ok in
     in_pieces_fault text whole c.in_ok-marks.torn c.args.store found.reads e
     (tables_fault whole c.args.store none e
-    (subst (λ m. TablesCause m whole e) kept (c.in_err-tables.ensures.fault text whole c.in_ok-marks.torn still found.reads found.are (subst (λ n. 70701 ≤ n) (sym c.find_marks.auto.room) c.requires.room)))))
+    (subst (λ m. TablesCause m whole e) kept (c.in_err-tables.ensures.fault text whole c.in_ok-marks.torn still found.reads found.are (subst (λ n. BASED_HEADER_BYTES + LONGEST_FRAME ≤ n) (sym c.find_marks.auto.room) c.requires.room)))))
 
 pub returns-in_err-redone-clause-lawful : goal.returns-in_err-redone-clause-lawful
 returns-in_err-redone-clause-lawful g c =
@@ -90,7 +91,7 @@ returns-in_err-redone-clause-lawful g c =
     let are = same_marks text (length c.args.room.now) torn c.in_ok-marks.torn c.in_ok-marks.marks whole found reads in
     let room = sym (c.tables_in_pieces.auto.room ∙ c.find_marks.auto.room) in
     redo_alone_in_pieces whole c.args.store base lawful tables.redo_lsn e
-    (c.in_err-redone.ensures.fault text whole torn now reads are (subst (λ n. 70701 ≤ n) room c.requires.room) (subst (λ n. AreInReach n c.in_ok-marks.marks) room found.reach)))
+    (c.in_err-redone.ensures.fault text whole torn now reads are (subst (λ n. BASED_HEADER_BYTES + LONGEST_FRAME ≤ n) room c.requires.room) (subst (λ n. AreInReach n c.in_ok-marks.marks) room found.reach)))
 
 pub returns-in_err-redone-clause-fault : goal.returns-in_err-redone-clause-fault
 returns-in_err-redone-clause-fault g c =
@@ -110,7 +111,7 @@ returns-in_err-redone-clause-fault g c =
     let are : AreTablesOf whole c.args.store.master tables = subst (λ m. AreTablesOf whole m tables) kept (c.in_ok-tables.ensures.tables text whole c.in_ok-marks.torn still found.reads found.are) in
     in_pieces_fault text whole c.in_ok-marks.torn c.args.store found.reads e
     (redo_fault_in_pieces whole c.args.store none tables are e
-    (c.in_err-redone.ensures.fault text whole c.in_ok-marks.torn now found.reads found.are (subst (λ n. 70701 ≤ n) room c.requires.room) (subst (λ n. AreInReach n c.in_ok-marks.marks) room found.reach))))
+    (c.in_err-redone.ensures.fault text whole c.in_ok-marks.torn now found.reads found.are (subst (λ n. BASED_HEADER_BYTES + LONGEST_FRAME ≤ n) room c.requires.room) (subst (λ n. AreInReach n c.in_ok-marks.marks) room found.reach))))
 
 pub returns-clause-redone : goal.returns-clause-redone
 returns-clause-redone g c = λ text whole torn is reads.

@@ -9,6 +9,7 @@ use Rattle.redo.proofs.LastRecords.{in_slot}
 use Rattle.passes.specs.Marks.{Reaches}
 use Rattle.passes.proofs.Reached.{keeps_same, keeps_on, still_told, marked}
 use Rattle.passes.proofs.Redoing.{reaches_next, all_ahead}
+use Rattle.wal.specs.declared.sizes.TheConstants.{BASED_HEADER_BYTES}
 use Rattle.passes.proofs.repeat.fetch_in_pieces.Goals as goal
 
 pub loop-taken-init : goal.loop-taken-init
@@ -60,7 +61,7 @@ returns-in_err-taken-clause-fault g c =
     ap (λ ws. get_or ws 0 (in_slot 0 0 0)) (take_all (length wanted - taken) (drop taken wanted) (omega (arith, length-drop taken wanted)))
     ∙ (get_or-drop taken wanted 0 (in_slot 0 0 0) ∙ ap (λ k. get_or wanted k (in_slot 0 0 0)) (omega arith)) in
     c.in_err-taken.ensures.fault text whole own.0 torn (in_slot 0 0 0) (still_told (g.S.Reread.text c.args.source.now) (g.S.Reread.text c.loop-taken.source) text inv.same is) reads own.1
-    (subst (λ (w : Wanted). Reaches text (c.at-mark.result.offset + length c.loop-taken.room - 16) w.lsn) (sym first_is)
+    (subst (λ (w : Wanted). Reaches text (c.at-mark.result.offset + length c.loop-taken.room - BASED_HEADER_BYTES) w.lsn) (sym first_is)
     (reaches_next text whole c.args.marks.now (length c.args.room.now) (length c.loop-taken.room) c.place_before.result c.at-mark.result first.lsn inv.room c.requires.room marks reach c.at-mark.ensures.at c.place_before.ensures.within
     c.place_before.ensures.next (omega (arith, c.if-wanted-taken.true, within)))))
 

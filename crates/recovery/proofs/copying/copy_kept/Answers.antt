@@ -37,10 +37,10 @@ loop-offset-preserved g c =
       log_sink = c.in_ok-copy_piece.ensures.log_sink.innocent (ok_is_no_fault _ WriteLog) ∙ inv.log_sink;
     }
 
-pub returns-in_err-copy_piece-clause-beginning : goal.returns-in_err-copy_piece-clause-beginning
-returns-in_err-copy_piece-clause-beginning g c = on_err c.from_residual.result (λ text is within.
+pub returns-in_err-copy_piece-clause-prefix : goal.returns-in_err-copy_piece-clause-prefix
+returns-in_err-copy_piece-clause-prefix g c = on_err c.from_residual.result (λ text is within.
     let inv = c.loop-offset.invariant in
     let wanted = c.min-wanted.result in
     let still = still_told (g.L.Reread.text c.args.log.now) (g.L.Reread.text c.loop-offset.log) text inv.same is in
     copied_part (g.S.Sink.taken c.args.sink.now) (g.S.Sink.taken c.loop-offset.sink) (g.S.Sink.taken c.copy_piece.new.sink) c.loop-offset.offset _ text (inv.copied text is) c.args.kept
-    (omega (arith, length-take wanted c.loop-offset.room, c.min-wanted.ensures, c.loop-offset-test.true)) (c.in_err-copy_piece.ensures.beginning text still))
+    (omega (arith, length-take wanted c.loop-offset.room, c.min-wanted.ensures, c.loop-offset-test.true)) (c.in_err-copy_piece.ensures.prefix text still))

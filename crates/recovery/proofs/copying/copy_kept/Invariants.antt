@@ -1,12 +1,13 @@
 -- The bytes up to the offset are copied, the source holds what it held, and no device has failed.
 use Rattle.std.proofs.Common.{◌≡◌, ◌≤◌, ◌-◌, List, ℕ, length, take, Some}
 use Rattle.std.specs.Io.KnownBytes.{Appends, Keeps}
+use Rattle.recovery.specs.declared.log_again.TheConstants.{ROOM}
 use Rattle.recovery.proofs.copying.copy_kept.Given as goal
 
 abbrev pub invariant-loop-offset : goal.invariant-loop-offset
 invariant-loop-offset g l =
     record {
-      room : length l.room ≡ 262160;
+      room : length l.room ≡ ROOM;
       within : l.offset ≤ l.kept;
       same : Keeps (g.L.Reread.text l.fn.log) (g.L.Reread.text l.log);
       copied : (text : List ℕ) → g.L.Reread.text l.fn.log ≡ Some text → Appends (g.S.Sink.taken l.fn.sink) (g.S.Sink.taken l.sink) (take l.offset text);

@@ -1,12 +1,13 @@
 -- The device holds the same bytes, and has not failed.
 use Rattle.std.proofs.Common.{◌≡◌, ◌-◌, length}
 use Rattle.std.specs.Io.KnownBytes.{Keeps}
+use Rattle.recovery.specs.declared.log_again.TheConstants.{ROOM}
 use Rattle.recovery.proofs.log_again.read_through.Given as goal
 
 abbrev pub invariant-loop-offset : goal.invariant-loop-offset
 invariant-loop-offset g l =
     record {
-      room : length l.room ≡ 262160;
+      room : length l.room ≡ ROOM;
       same : Keeps (g.L.Reread.text l.fn.log) (g.L.Reread.text l.log);
       failures : g.L.Source.failures l.log ≡ g.L.Source.failures l.fn.log;
     }

@@ -10,7 +10,7 @@ use Rattle.page.proofs.Files.{length-page_text, length-pieces}
 use Rattle.recovery.proofs.Taken.{begins_longer}
 use Rattle.recovery.proofs.Delivered.{behind_front}
 use Rattle.recovery.proofs.store_pieces.write_images.Goals as goal
-use Rattle.page.specs.declared.sizes.TheConstants.{PAGE_BYTES}
+use Rattle.page.specs.declared.profile.TheConstants.{PAGE_BYTES}
 
 pub returns-in_err-write_all-clause-beginning : goal.returns-in_err-write_all-clause-beginning
 returns-in_err-write_all-clause-beginning g c =

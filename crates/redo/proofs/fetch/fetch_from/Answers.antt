@@ -9,6 +9,7 @@ use Rattle.redo.specs.declared.wanted.Wanted.{Wanted}
 use Rattle.redo.specs.Wanted.{HoldAllBut}
 use Rattle.redo.proofs.LastRecords.{in_slot}
 use Rattle.redo.proofs.Fetching.{with_image, fetched_one}
+use Rattle.page.specs.declared.profile.TheConstants.{SLOTS}
 use Rattle.redo.proofs.fetch.fetch_from.Goals as goal
 
 pub returns-then-record-last-clause-rest : goal.returns-then-record-last-clause-rest
@@ -28,7 +29,7 @@ loop-taken-preserved c =
     let w = get_or wanted taken (in_slot 0 0 0) in
     let le : w.lsn ≤ last_lsn piece = omega (arith, c.if-record-last.false, c.last-last.ensures) in
     let below : w.page < length pages = omega (arith, c.requires.pages taken (in_slot 0 0 0) lt, c.loop-taken.invariant.0) in
-    let slots : length (image_at pages w.page).slots ≡ 16 = ap (λ (p : Page). length p.slots) (get_or_default pages w.page _ _ below) ∙ c.put_image.ensures.slots in (
+    let slots : length (image_at pages w.page).slots ≡ SLOTS = ap (λ (p : Page). length p.slots) (get_or_default pages w.page _ _ below) ∙ c.put_image.ensures.slots in (
       length-set pages w.page c.put_image.new.page ∙ c.loop-taken.invariant.0,
       λ k d less.
           elim (cases_lt k taken) [

@@ -8,13 +8,14 @@ use Rattle.redo.specs.Changes.{held_after, slots_after}
 use Rattle.redo.proofs.Tallies.{slot_after, slots_count, held_none, held_some}
 use Rattle.redo.proofs.finish.fill.Invariants.{AreFilled}
 use Rattle.redo.proofs.finish.fill.Goals.{then-lasts-slot-ne0, else-lasts-slot-ne0}
+use Rattle.page.specs.declared.profile.TheConstants.{SLOTS}
 use Rattle.redo.proofs.finish.fill.Goals as goal
 
 pub loop-slot-init : goal.loop-slot-init
 loop-slot-init c = (c.told-slots, λ k lt. absurd (omega arith), λ k le. refl)
 
 -- one slot is filled
-filled : (log : History) (lasts : List ℕ) (before now : List Image) (i : ℕ) (x : Image) → i < 16 → AreFilled log lasts before i now
+filled : (log : History) (lasts : List ℕ) (before now : List Image) (i : ℕ) (x : Image) → i < SLOTS → AreFilled log lasts before i now
     → x ≡ get_or (slots_after log lasts before) i None → AreFilled log lasts before (i + 1) (set now i x)
 filled log lasts before now i x lt at is = (
   length-set now i x ∙ at.0,
@@ -46,7 +47,7 @@ loop-slot-preserved c =
     let before = c.args.slots.now in
     let now = c.loop-slot.slots in
     let i = c.loop-slot.slot in
-    let lt : i < 16 = c.loop-slot-test.true in
+    let lt : i < SLOTS = c.loop-slot-test.true in
     let there : get_or (slots_after log lasts before) i None ≡ held_after log (get_or lasts i 0) (get_or before i None) =
     slot_after log lasts before i (omega (arith, c.told-lasts)) (omega (arith, c.told-slots)) in
     elim c.if-lasts-slot-ne0.branch [

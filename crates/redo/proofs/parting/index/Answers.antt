@@ -6,6 +6,7 @@ use Rattle.redo.specs.Lists.{list_at}
 use Rattle.redo.specs.Parting.{AreLists}
 use Rattle.redo.proofs.Reading.{written_back}
 use Rattle.redo.proofs.Members.{dealt, none_dealt, low_next}
+use Rattle.page.specs.declared.profile.TheConstants.{PAGES}
 use Rattle.redo.proofs.parting.index.Goals as goal
 
 pub loop-page-init : goal.loop-page-init
@@ -15,7 +16,7 @@ loop-page-init c =
       made.count,
       subst (λ places. AreLists c.args.part_of.now places c.in_ok-members.members.items) (sym c.new-place_of.ensures.items) (none_dealt c.args.part_of.now c.in_ok-members.members.items made.empty),
       (λ part. omega (arith, ap (λ (xs : List ℕ). length xs) (made.empty part))),
-      subst (All (λ place. place < 4096)) (sym c.new-place_of.ensures.items) (λ k d less. absurd (omega arith)),
+      subst (All (λ place. place < PAGES)) (sym c.new-place_of.ensures.items) (λ k d less. absurd (omega arith)),
     )
 
 pub loop-page-preserved : goal.loop-page-preserved
@@ -38,7 +39,7 @@ loop-page-preserved c =
       ap (λ (xs : List (Vec ℕ Global)). length xs) same ∙ (count ∙ omega (arith, c.loop-page.members.ok.0, old.1)),
       subst (AreLists part_of c.push.new.self.items) (sym same) (subst (λ ps. AreLists part_of ps lists) (sym places) step),
       (λ k. subst (λ (xs : List (Vec ℕ Global)). length (list_at xs k) ≤ page + 1) (sym same) (low_next page part k (list_at c.loop-page.members.items k) (list_at lists k) (more k) (old.3 k))),
-      subst (All (λ place. place < 4096)) (sym places) (All-push (λ place. place < 4096) c.loop-page.place_of.items place old.4 (omega (arith, old.3 part, at, c.requires.pages_fit.1, c.loop-page-test.true))),
+      subst (All (λ place. place < PAGES)) (sym places) (All-push (λ place. place < PAGES) c.loop-page.place_of.items place old.4 (omega (arith, old.3 part, at, c.requires.pages_fit.1, c.loop-page-test.true))),
     )
 
 pub overflow_cast-place : goal.overflow_cast-place

@@ -4,7 +4,7 @@ use Rattle.wal.specs.Content.{entry_of}
 use Rattle.wal.specs.Records.{history}
 use Rattle.analysis.specs.Tables.{AreTransactionsOf, BaseFault}
 use Rattle.analysis.proofs.Halves.{both_halves}
-use Rattle.restart.specs.Restart.{ArePagesRedone, ForwardFault}
+use Rattle.restart.specs.Restart.{RedoesPages, ForwardFault}
 use Rattle.restart.proofs.Restored.{base_alone, pages_alone}
 use Rattle.restart.proofs.Causes.{base_fault, pages_fault}
 use Rattle.restart.proofs.forward.go_forward.Goals as goal
@@ -45,8 +45,8 @@ returns-clause-redone g c =
     let found = map entry_of c.in_ok-transactions.transactions.entries in
     let some : AreTransactionsOf c.args.log.now c.args.store.master found =
     IfOk-at_ok (λ found. AreTransactionsOf c.args.log.now c.args.store.master (map entry_of found.entries)) c.in_ok-transactions.was c.side_by_side-transactions.ensures.transactions in
-    let made : ArePagesRedone c.args.log.now c.args.store c.in_ok-pages.pages c.in_ok-pages.redone =
-    IfOk-at_ok (λ x. ArePagesRedone c.args.log.now c.args.store x.0 x.1) c.in_ok-pages.was c.side_by_side-transactions.ensures.redone in
+    let made : RedoesPages c.args.log.now c.args.store c.in_ok-pages.pages c.in_ok-pages.redone =
+    IfOk-at_ok (λ x. RedoesPages c.args.log.now c.args.store x.0 x.1) c.in_ok-pages.was c.side_by_side-transactions.ensures.redone in
     rw c.join_tables.ensures.parts
     (record {
       are = both_halves c.args.log.now c.args.store.master found c.in_ok-pages.pages some made.are;
@@ -60,4 +60,4 @@ pub returns-clause-lawful : goal.returns-clause-lawful
 returns-clause-lawful g c = λ base lawful.
     c.join_tables.ensures.lawful base c.args.log.now c.args.store lawful
     (IfOk-at_ok (λ found. AreTransactionsOf c.args.log.now c.args.store.master (map entry_of found.entries)) c.in_ok-transactions.was c.side_by_side-transactions.ensures.transactions)
-    (IfOk-at_ok (λ x. ArePagesRedone c.args.log.now c.args.store x.0 x.1) c.in_ok-pages.was c.side_by_side-transactions.ensures.redone).are
+    (IfOk-at_ok (λ x. RedoesPages c.args.log.now c.args.store x.0 x.1) c.in_ok-pages.was c.side_by_side-transactions.ensures.redone).are

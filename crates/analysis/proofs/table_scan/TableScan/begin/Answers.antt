@@ -6,6 +6,6 @@ use Rattle.analysis.proofs.table_scan.TableScan.begin.Goals as goal
 
 pub returns-clause-begun : goal.returns-clause-begun
 returns-clause-begun c = λ m whole log base before.
-    analysed_none m whole log (record { entries = c.begin.result; pages = c.begin-2.result })
-    (subst (λ (es : List (ℕ × Entry)). IsBase m whole es c.begin-2.result) (sym c.begin.ensures)
-    (subst (λ (ps : List (ℕ × ℕ)). IsBase m whole c.args.transactions.entries ps) (sym c.begin-2.ensures) base)) before
+    analysed_none m whole log (record { entries = c.begin-2.result; pages = c.in_ok-pages.pages })
+    (subst (λ (es : List (ℕ × Entry)). IsBase m whole es c.in_ok-pages.pages) (sym c.begin-2.ensures)
+    (subst (λ (ps : List (ℕ × ℕ)). IsBase m whole c.args.transactions.entries ps) (sym c.in_ok-pages.ensures.ok) base)) before

@@ -3,6 +3,7 @@ use Rattle.board.specs.Claims.{size, times, with_drawn}
 use Rattle.board.proofs.Claims.{claims}
 use Rattle.board.proofs.Seats.{times_from_not, not_from_times, size_path, start_path, drew, met, few_drawn}
 use Rattle.board.specs.declared.view.View.{View}
+use Rattle.board.specs.declared.sizes.TheConstants.{SEATS}
 use Rattle.board.proofs.board.Board.claim.Goals as goal
 
 pub fetch_add-found-requires : goal.fetch_add-found-requires
@@ -51,7 +52,7 @@ invariant_of-seat-else-found-size c =
     let ranges = ap (λ h. h.board.ranges) c.seat.view_is ∙ ap (λ b. b.ranges) c.requires.board in
     let size' = size_path v.plan c.args.self.now.parts c.args.self.now.ranges c.args.range parts ranges in
     let past : size v.plan c.args.range ≤ c.fetch_add-found.result = let a = c.if-found-size.false in let b = c.range-start.ensures.size in omega arith in
-    let few : c.args.range < 64 = let a = ap (λ b. b.ranges) c.self.view_is in let b = c.self.invariant.sized in let d = ap (λ q. q.ranges) c.self.invariant.same_plan in omega (arith, c.requires.range) in
+    let few : c.args.range < SEATS = let a = ap (λ b. b.ranges) c.self.view_is in let b = c.self.invariant.sized in let d = ap (λ q. q.ranges) c.self.invariant.same_plan in omega (arith, c.requires.range) in
     met c.seat.inside c.seat.invariant c.fetch_add-found.new.seat c.fetch_add-found.ensures.2.0 c.args.range c.seat.told few (c.fetch_add-found.ensures.2.2 past)
 
 pub returns-then-found-size-clause-room : goal.returns-then-found-size-clause-room

@@ -3,6 +3,7 @@ use Rattle.board.specs.Claims.{times}
 use Rattle.board.proofs.Times.{distinct_from_times}
 use Rattle.board.proofs.Places.{joins, looks}
 use Rattle.board.proofs.Seats.{joined_seat}
+use Rattle.board.specs.declared.sizes.TheConstants.{SEATS}
 use Rattle.board.proofs.board.Board.join.Goals as goal
 
 pub join_seat-requires : goal.join_seat-requires
@@ -31,7 +32,7 @@ pub invariant_of-result : goal.invariant_of-result
 invariant_of-result c =
     joined_seat c.first.inside c.second.inside c.first.invariant c.second.invariant c.load.new.seat c.either_of.result (c.load.ensures.2.0 ∙ c.join_seat.ensures.2)
     (λ x. subst (λ m. times x m.0.drawn ≤ 1) (sym c.load.ensures.2.0) (c.load.ensures.2.1 x))
-    (subst (λ m. m.0.places ≤ 64) (sym c.load.ensures.2.0) c.load.ensures.2.2)
+    (subst (λ m. m.0.places ≤ SEATS) (sym c.load.ensures.2.0) c.load.ensures.2.2)
     (ap (λ h. h.board.parts) c.second.view_is ∙ (ap (λ b. b.parts) (c.requires.board.1 ∙ sym c.requires.board.0) ∙ sym (ap (λ h. h.board.parts) c.first.view_is)))
     c.either_of.ensures
 

@@ -1,7 +1,7 @@
 use Rattle.std.proofs.Common.{◌≡◌, ◌≤◌, ◌-◌, ◌++◌, ℕ, List, length, take, drop, replicate, arith, ap, ◌∙◌}
 use Rattle.std.proofs.lemmas.List.{take_at, drop-replicate}
 use Rattle.page.proofs.value.Value.new.Goals as goal
-use Rattle.page.specs.declared.sizes.TheConstants.{VALUE_BYTES}
+use Rattle.page.specs.declared.profile.TheConstants.{VALUE_BYTES}
 
 padded : (x : List ℕ) (n : ℕ) → n ≤ VALUE_BYTES → length x ≡ n → x ++ drop n (replicate VALUE_BYTES 0) ≡ take n (x ++ drop n (replicate VALUE_BYTES 0)) ++ replicate (VALUE_BYTES - n) 0
 padded x n h e = rw (take_at x (drop n (replicate VALUE_BYTES 0)) n e, drop-replicate {X = ℕ} n VALUE_BYTES 0)

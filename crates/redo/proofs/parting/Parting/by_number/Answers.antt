@@ -13,5 +13,5 @@ returns-clause-fault c =
     let pages = c.args.pages in
     let parts = c.args.parts in
     let whole : c.deref.result.now ≡ by_number pages parts = c.deref.ensures.value ∙ (c.loop-page.invariant ∙ ap (λ n. by_number n parts) (omega (arith, c.loop-page.auto.page-end, c.loop-page-test.false))) in
-    let dealt : IsDealt pages parts c.deref.result.now = subst (IsDealt pages parts) (sym whole) (number_dealt pages parts (c.can_have.ensures.0 c.if-not-can_have.false) (c.can_have-else-not-can_have.ensures.0 c.if-not-can_have-2.false)) in
+    let dealt : IsDealt pages parts c.deref.result.now = subst (IsDealt pages parts) (sym whole) (number_dealt pages parts (c.can_have_pages.ensures.0 c.if-not-can_have_pages.false) (c.can_have_parts.ensures.0 c.if-not-can_have_parts.false)) in
     if_err c.new.result (λ e cause. number_fault pages parts c.deref.result.now e dealt cause) c.new.ensures.fault

@@ -17,10 +17,10 @@ pub overflow_add-lsn : goal.overflow_add-lsn
 overflow_add-lsn c = omega (arith, c.requires.room, c.next_lsn.ensures.next, c.next_lsn.ensures.low, c.next_lsn.ensures.room, c.len.ensures, size_of_log c.args.log.now, base_of_log c.args.log.now)
 
 pub resolve-requires-clause-positive : goal.resolve-requires-clause-positive
-resolve-requires-clause-positive c = update_positive (history c.args.log.now) c.args.loser.tx c.args.update_lsn c.requires.update
+resolve-requires-clause-positive c = update_positive (history c.args.log.now) c.args.loser.tx c.args.update c.requires.update
 
 pub resolve-requires-clause-within : goal.resolve-requires-clause-within
-resolve-requires-clause-within c = omega (arith, update_within (history c.args.log.now) c.args.loser.tx c.args.update_lsn c.requires.update, size_of_log c.args.log.now)
+resolve-requires-clause-within c = omega (arith, update_within (history c.args.log.now) c.args.loser.tx c.args.update c.requires.update, size_of_log c.args.log.now)
 
 pub returns-in_err-prev-clause-fault : goal.returns-in_err-prev-clause-fault
 returns-in_err-prev-clause-fault c =
@@ -31,8 +31,8 @@ returns-in_err-prev-clause-fault c =
     rw (exit.1, exit.2)
     (λ tables given at.
     let count : length c.args.pages.now ≡ length given = ap length at.rolling.pages_are ∙ length-map given (undone_page log before) in
-    missing_page log (losers_in tables) (length given) (turn_at at.before) _ before c.args.update_lsn c.args.loser at.taken at.rolling.left fault
-    (subst (λ n. CompensationFault log c.args.update_lsn n fault) count c.in_err-prev.ensures.fault))
+    missing_page log (losers_in tables) (length given) (turn_at at.before) _ before c.args.update c.args.loser at.taken at.rolling.left fault
+    (subst (λ n. CompensationFault log c.args.update n fault) count c.in_err-prev.ensures.fault))
 
 pub returns-clause-undoes : goal.returns-clause-undoes
 returns-clause-undoes c =
@@ -51,13 +51,13 @@ returns-clause-undoes c =
     record {
       numbered = rolling.numbered;
       left =
-          undone_rolling log (losers_in tables) (length given) (turn_at at.before) _ before c.args.update_lsn c.args.loser at.taken rolling.left u c.requires.update.found exists
+          undone_rolling log (losers_in tables) (length given) (turn_at at.before) _ before c.args.update c.args.loser at.taken rolling.left u c.requires.update.found exists
           _ (c.next_lsn.result + c.len.result) c.in_ok-prev.prev between after
           (omega (arith, c.next_lsn.ensures.next, c.len.ensures, size_of_log c.args.log.now, length-map c.args.self.now.appended.items (record_of log), c.args.self.now.appended.ok.0))
           done.goes_on done.appended resolves.resolved;
       updates = resolves.updates (c.in_ok-prev.ensures.updates rolling.updates);
-      exist = pages_named log (length given) _ c.args.update_lsn c.in_ok-prev.prev _ _ u c.args.loser.last before between after exists done.appended resolves.resolved rolling.exist;
-      pages_are = pages_kept log _ c.args.update_lsn c.in_ok-prev.prev _ _ between after given c.compensate.new.pages resolves.resolved (c.in_ok-prev.ensures.pages given rolling.numbered rolling.pages_are);
+      exist = pages_named log (length given) _ c.args.update c.in_ok-prev.prev _ _ u c.args.loser.last before between after exists done.appended resolves.resolved rolling.exist;
+      pages_are = pages_kept log _ c.args.update c.in_ok-prev.prev _ _ between after given c.compensate.new.pages resolves.resolved (c.in_ok-prev.ensures.pages given rolling.numbered rolling.pages_are);
       writable = λ none. resolves.writable some (c.in_ok-prev.ensures.writable (rolling.writable none));
     })
     c.resolve.ensures.ok
@@ -72,13 +72,13 @@ returns-clause-fault c =
     (λ e h tables given at.
     let count : length c.args.pages.now ≡ length given = ap length at.rolling.pages_are ∙ length-map given (undone_page log before) in
     let exists : u.page < length given = omega (arith, done.exists, count) in
-    broken_walk log (losers_in tables) (length given) (turn_at at.before) _ before c.args.update_lsn c.args.loser at.taken at.rolling.left u c.requires.update.found exists c.in_ok-prev.prev done.goes_on e h)
+    broken_walk log (losers_in tables) (length given) (turn_at at.before) _ before c.args.update c.args.loser at.taken at.rolling.left u c.requires.update.found exists c.in_ok-prev.prev done.goes_on e h)
     c.resolve.ensures.fault
 
 pub returns-clause-once : goal.returns-clause-once
 returns-clause-once c =
     on_ok_weaker c.resolve.result
-    (λ resolves. resolved_once (history c.args.log.now) _ c.args.update_lsn c.in_ok-prev.prev _ _ _ _ resolves.resolved c.requires.others)
+    (λ resolves. resolved_once (history c.args.log.now) _ c.args.update c.in_ok-prev.prev _ _ _ _ resolves.resolved c.requires.others)
     c.resolve.ensures.ok
 
 pub returns-clause-few : goal.returns-clause-few
@@ -89,7 +89,7 @@ returns-clause-few c =
     (λ resolves.
     omega (
       arith,
-      resolved_few log _ c.args.update_lsn c.in_ok-prev.prev _ _ (appended_records log c.compensate.new.appended.items) (appended_records log c.resolve.new.self.appended.items) resolves.resolved,
+      resolved_few log _ c.args.update c.in_ok-prev.prev _ _ (appended_records log c.compensate.new.appended.items) (appended_records log c.resolve.new.self.appended.items) resolves.resolved,
       one_more (appended_records log c.args.self.now.appended.items) (appended_records log c.compensate.new.appended.items) _ done.appended,
       length-map c.args.self.now.appended.items (record_of log),
       length-map c.compensate.new.appended.items (record_of log),

@@ -3,7 +3,7 @@ use Rattle.std.proofs.lemmas.Option.{same_Some}
 use Rattle.std.proofs.lemmas.Result.{err_from_is_err_and}
 use Rattle.page.specs.Store.{StoreContent}
 use Rattle.analysis.specs.Tables.{ServesRedo}
-use Rattle.restart.specs.Restart.{ArePagesRedone, ForwardFault}
+use Rattle.restart.specs.Restart.{RedoesPages, ForwardFault}
 use Rattle.restart.proofs.Served.{served}
 use Rattle.restart.proofs.forward.fn.side_by_side.redo.Goals as goal
 
@@ -32,13 +32,13 @@ returns g c =
     let count : c.len.result ≡ length c.store.inside.pages.items = c.len.ensures ∙ c.store.inside.pages.ok.0 in
     let serves : ServesRedo log store.master (length store.pages) tables.dirty tables.redo_lsn =
     subst (λ (s : StoreContent). ServesRedo log s.master (length s.pages) tables.dirty tables.redo_lsn) c.store.view_is (subst (λ n. ServesRedo log c.store.inside.master n tables.dirty tables.redo_lsn) count c.in_ok-tables-in-Some.ensures.pages) in
-    let redone : ArePagesRedone log store tables c.in_ok-redone-in-Some.redone = record {
+    let redone : RedoesPages log store tables c.in_ok-redone-in-Some.redone = record {
       are = served log store.master (length store.pages) tables.dirty tables.redo_lsn serves made.exist;
       exist = made.exist;
       redone_pages = made.pages;
       applied = made.applied;
     } in
     record {
-      redone = λ before given. subst (λ (s : StoreContent). ArePagesRedone log s tables c.in_ok-redone-in-Some.redone) (same_Some _ _ (sym c.in-Some.is ∙ (c.take.ensures.value ∙ given))) redone;
+      redone = λ before given. subst (λ (s : StoreContent). RedoesPages log s tables c.in_ok-redone-in-Some.redone) (same_Some _ _ (sym c.in-Some.is ∙ (c.take.ensures.value ∙ given))) redone;
       fault = λ before given. tt;
     }

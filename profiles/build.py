@@ -1,0 +1,83 @@
+#!/usr/bin/env python3
+"""Proves and builds the crates with the limits of another profile.
+
+usage: profiles/build.py NAME           proves all crates of the programs and of the C library, and builds both programs
+       profiles/build.py NAME CRATE..   proves these crates, and those that they use
+
+The tracked files are copied to out/NAME; what an earlier run proved there is kept. The profile, `profiles/NAME.profile`, takes the place of
+`crates/page/src/profile.rt`, and nothing else is changed. The last line says which crates are proved; the status is 1 if one is not.
+"""
+import os
+import shutil
+import subprocess
+import sys
+
+TOP = os.path.dirname(os.path.dirname(os.path.abspath(__file__)))
+PROGRAMS = ("aries_cli", "aries_dump")
+PROFILE = "crates/page/src/profile.rt"
+
+
+def crates_below(names):
+    """These crates and those that they use, each after those that it uses."""
+    with open(os.path.join(TOP, "crates.txt"), encoding="utf-8") as file:
+        lines = [line.split(":") for line in file if not line.startswith("#") and ":" in line]
+    uses = {head.split()[0]: below.split() for head, below in lines}
+    ordered = []
+
+    def add(name):
+        if name in uses and name not in ordered:
+            for below in uses[name]:
+                add(below)
+            ordered.append(name)
+
+    for name in names:
+        add(name)
+    return ordered
+
+
+def copy_to(folder, profile):
+    """Copies what differs, so that a later run proves only that again."""
+    tracked = subprocess.run(["git", "ls-files", "-z", "crates", "crates.txt", "HANDLES"], cwd=TOP, capture_output=True, check=True, text=True)
+    for path in filter(None, tracked.stdout.split("\0")):
+        source = profile if path == PROFILE else os.path.join(TOP, path)
+        target = os.path.join(folder, path)
+        with open(source, "rb") as file:
+            text = file.read()
+        if os.path.exists(target):
+            with open(target, "rb") as file:
+                if file.read() == text:
+                    continue
+        os.makedirs(os.path.dirname(target), exist_ok=True)
+        shutil.copyfile(source, target)
+
+
+def is_proved(folder, crate):
+    ran = subprocess.run(["rt", "check"], cwd=os.path.join(folder, "crates", crate), capture_output=True, text=True)
+    says = (ran.stdout + ran.stderr).strip().split("\n")
+    proved = ran.returncode == 0 and any(line.startswith("logic=proved") for line in says)
+    print(f"{crate}: {'proved' if proved else 'NOT PROVED'}", flush=True)
+    if not proved:
+        print("\n".join(line for line in says if "error" in line or "not proved" in line), flush=True)
+    return proved
+
+
+def main():
+    if len(sys.argv) < 2:
+        sys.exit(__doc__)
+    name, wanted = sys.argv[1], sys.argv[2:]
+    profile = os.path.join(TOP, "profiles", f"{name}.profile")
+    folder = os.path.join(TOP, "out", name)
+    copy_to(folder, profile)
+    crates = crates_below(wanted or [*PROGRAMS, "aries_c"])
+    proved = []
+    for crate in crates:
+        if not is_proved(folder, crate):
+            sys.exit(f"{len(proved)} of {len(crates)} crates are proved with the profile {name}: {' '.join(proved)}")
+        proved.append(crate)
+    for program in () if wanted else PROGRAMS:
+        subprocess.run(["rt", "run", "--", "--version"], cwd=os.path.join(folder, "crates", program), check=True)
+    print(f"all {len(crates)} crates are proved with the profile {name}: {' '.join(proved)}")
+
+
+if __name__ == "__main__":
+    main()
