@@ -7,11 +7,12 @@
  *
  * MEMORY. All buffers belong to the caller. A pointer must not be null, even if its length is 0. A buffer that is
  * written must not overlap another, and no other thread may change a buffer while a call runs. A call keeps no state,
- * and frees what it allocates before it returns. Any number of threads may call at once. A signal handler may not call.
+ * and frees what it allocates before it returns. Any number of threads may call at once. A signal handler must
+ * not call the library.
  *
  * RESULTS. Each call returns a struct aries_fault. Number 0 is success. With any other number the buffers are
  * unchanged. What else a call writes (a length, counts, the lengths of a recovery) is unchanged too, except with
- * ARIES_NO_ROOM: then it says how long the buffers have to be.
+ * ARIES_NO_ROOM: then these results say how long the buffers have to be.
  *
  * PROCESSOR. x86-64 with SSSE3 and SSE4.1. The library does not check that the processor has these; the programs do.
  *
@@ -71,7 +72,8 @@ struct aries_recovered {
 };
 
 /*
- * Recovers a store from its log. The results are, each at the front of its buffer, whose other bytes are unchanged:
+ * Recovers a store from its log. Each result is at the front of its buffer; the other bytes of the buffer are unchanged.
+ * The results are:
  *
  * - the tail, of made->tail_length bytes. The new log is the first log_length - made->torn bytes of the log, and the
  *   tail;
@@ -97,15 +99,16 @@ struct aries_fault aries_recover(const uint8_t *log, size_t log_length, const ui
 /* AUDIT */
 
 /*
- * Checks whether a log, with or without a torn tail, and a store keep the rules of docs/DEFINITIONS.md, if all pages
- * were empty before the log's first record. Number 0 if and only if they do, except that memory can be refused (1).
- * Otherwise the fault is 6 to 12 for bytes that are not a log or a store, or the first broken rule: 13 to 15, 20 to 28.
+ * Checks whether a log, with or without a torn tail, and a store keep the rules of docs/DEFINITIONS.md, assuming that
+ * all pages were empty before the log's first record. Number 0 if and only if they do, except that memory can be refused
+ * (1). Otherwise the fault is 6 to 12 for bytes that are not a log or a store, or the first broken rule: 13 to 15, 20 to
+ * 28.
  */
 struct aries_fault aries_audit(const uint8_t *log, size_t log_length, const uint8_t *store, size_t store_length);
 
 /*
- * The same, if the pages held before the log's first record what a base store holds. Further faults: 10 to 12 for the
- * base store, checked after the store; and 29.
+ * The same, assuming that before the log's first record the pages held what a base store holds. Further faults: 10 to 12
+ * for the base store, checked after the store; and 29.
  */
 struct aries_fault aries_audit_from(const uint8_t *log, size_t log_length, const uint8_t *store, size_t store_length,
                                     const uint8_t *base, size_t base_length);
