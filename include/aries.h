@@ -5,6 +5,9 @@
  * The library is proved: the contracts in crates/aries_c promise what each call does. That this header fits the library
  * is tested, not proved.
  *
+ * LINKING. The library takes memory by three symbols, which -laries_heap defines with malloc. An engine with a heap of
+ * its own defines its own three. Calls need little stack: one of 32 KB was enough for a log of 100 MB.
+ *
  * MEMORY. All buffers belong to the caller. A pointer must not be null, even if its length is 0. A buffer that is
  * written must not overlap another, and no other thread may change a buffer while a call runs. A call keeps no state,
  * and frees what it allocates before it returns. Any number of threads may call at once. A signal handler must
@@ -56,7 +59,7 @@ struct aries_fault {
 
 /* RECOVERY */
 
-/* What a recovery found and did, and the lengths of its results. */
+/* What a recovery found and did, and the lengths of its results. It may grow, at its end, with a new version only. */
 struct aries_recovered {
     uint64_t records;      /* whole records of the log */
     uint64_t torn;         /* bytes of its torn tail, which is dropped */
@@ -116,7 +119,7 @@ struct aries_fault aries_audit_from(const uint8_t *log, size_t log_length, const
 /*
  * Writes the text of a fault, for example `dirty write at LSN 7`, to the front of out: *length bytes, without a 0 at
  * the end. ARIES_NOT_WRITABLE: no fault has this number (so for 0, 19, 64 and 65), or the place of a fault of a page is
- * not a page number. Also 1 and 64.
+ * above 2^32 - 1. Also 1 and 64.
  */
 struct aries_fault aries_fault_text(const struct aries_fault *fault, uint8_t *out, size_t room, size_t *length);
 
