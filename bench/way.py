@@ -14,7 +14,9 @@ import os, re, sys
 from collections import defaultdict, deque
 
 CRATES = os.path.join(os.path.dirname(os.path.dirname(os.path.abspath(__file__))), 'crates')
+# the crates that no run of these ways goes through: tests, and the journal
 TESTS = {'base_rows', 'log_rows', 'core_rows', 'redo_rows', 'restart_rows', 'recovery_rows', 'rows', 'workloads'}
+JOURNAL = {'journal', 'journal_recovery', 'journal_rows', 'journal_times'}
 
 # what a method stands for in a file (or in all files of a crate: `crate/`), where std has one of that name too
 METHODS = '''
@@ -154,8 +156,8 @@ CUTS = {
         analysis/base.rt:transactions_of analysis/base.rt:dirty_pages_of passes/in_pieces.rt:go_by_passes''',
     'updates and commits alone are read': '''wal/frame.rt:compensation_at wal/next.rt:compensation_end wal/glance.rt:compensation_glance
         wal/image.rt:compensation_image
-        analysis/scan.rt:prepared wal/field.rt:put_entries wal/field.rt:put_dirties wal/field.rt:put_entry
-        wal/field.rt:put_dirty wal/field.rt:put_state''',
+        analysis/scan.rt:prepared wal/field.rt:put_entries wal/field.rt:put_dirties wal/field.rt:entry_bytes
+        wal/field.rt:put_dirty wal/field.rt:dirty_bytes wal/field.rt:state_code''',
     'a recovery': 'aries/files.rt:audit_files aries/files.rt:read_file aries/program.rt:run_audit command/job.rt:audit_job',
     'new files': '''aries/in_place.rt recovery/in_place.rt recovery/tail_file.rt aries/program.rt:run_in_place
         aries/program.rt:text_of LogBytes::sum_of_end''',
@@ -185,7 +187,7 @@ WAYS = [
     ('recover in memory, 3 records, 1 worker', 268, 'aries_cli/main.rt:main', FEW + ['a recovery', 'new files', 'in memory', 'one worker']),
     ('recover in memory, 3 records, 4 workers', 303, 'aries_cli/main.rt:main',
      FEW + ['a recovery', 'new files', 'in memory', 'several workers', 'a short log']),
-    ('recover in memory, 100 MB with a checkpoint, 4 workers', 355, 'aries_cli/main.rt:main',
+    ('recover in memory, 100 MB with a checkpoint, 4 workers', 356, 'aries_cli/main.rt:main',
      ['nothing fails', 'a recovery', 'new files', 'in memory', 'several workers', 'a long log']),
     ('aries_recover (C)', 165, 'aries_c/recovered.rt:aries_recover', FEW + ['no threads']),
     ('audit, with a checkpoint', 232, 'aries_cli/main.rt:main', ['nothing fails', 'an audit']),
@@ -233,7 +235,7 @@ class Function:
 
 def read_all():
     files = [os.path.join(crate, os.path.relpath(os.path.join(folder, name), os.path.join(CRATES, crate, 'src')))
-             for crate in sorted(os.listdir(CRATES)) if crate not in TESTS
+             for crate in sorted(os.listdir(CRATES)) if crate not in TESTS | JOURNAL
              for folder, _, names in os.walk(os.path.join(CRATES, crate, 'src'))
              for name in sorted(names) if name.endswith('.rt')]
     return files, [Function(file, *found) for file in files for found in functions_of(file)]

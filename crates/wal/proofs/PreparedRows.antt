@@ -3,6 +3,7 @@ use Rattle.std.proofs.Common.{ℕ, ◌≡◌, ◌<◌, ◌&&◌, ◌||◌, ◌++
 use Rattle.std.specs.Prelude.{filter}
 use Rattle.std.proofs.lemmas.Bool.{false≢true}
 use Rattle.std.proofs.lemmas.List.Elements.{All-from_recursion}
+use Rattle.page.specs.declared.profile.TheConstants.{LOG_MAGIC}
 use Rattle.page.specs.declared.page.Page.{Page}
 use Rattle.wal.specs.declared.record.State.TheVariants.{Prepared, Aborting}
 use Rattle.wal.specs.Records.{TableEntry, LogRecord, Prepare, CheckpointBegin, CheckpointEnd, LogContent, history}
@@ -59,7 +60,7 @@ prepared_numbers = refl
 
 -- 66 bytes
 prepared_text : log_text prepared ≡
-    (0x41 ∷ 0x52 ∷ 0x49 ∷ 0x45 ∷ 0x53 ∷ 0x4c ∷ 0x47 ∷ 0x31 ∷ [])
+    LOG_MAGIC
     ++ (0 ∷ 0 ∷ 0 ∷ 0x1d ∷ 1 ∷ 0 ∷ 0 ∷ 0 ∷ 0 ∷ 0 ∷ 0 ∷ 0 ∷ 1 ∷ 0 ∷ 0 ∷ 0 ∷ 1 ∷ 0 ∷ 0 ∷ 0 ∷ 0 ∷ 0 ∷ 0 ∷ 0 ∷ 0 ∷ 0 ∷ 0 ∷ 0 ∷ 0 ∷ 0 ∷ 0xff ∷ 1 ∷ 0x61 ∷ [])
     ++ (0 ∷ 0 ∷ 0 ∷ 0x15 ∷ 8 ∷ 0 ∷ 0 ∷ 0 ∷ 0 ∷ 0 ∷ 0 ∷ 0 ∷ 2 ∷ 0 ∷ 0 ∷ 0 ∷ 1 ∷ 0 ∷ 0 ∷ 0 ∷ 0 ∷ 0 ∷ 0 ∷ 0 ∷ 1 ∷ [])
 prepared_text = refl

@@ -25,7 +25,7 @@ use Rattle.wal.specs.Spelling.{frame, Fits}
 use Rattle.wal.specs.Theorems.{GoesOn}
 use Rattle.wal.proofs.Histories.{record_above, each_found}
 use Rattle.wal.proofs.CutBytes.{cuts_settle}
-use Rattle.page.specs.declared.profile.TheConstants.{SLOTS}
+use Rattle.page.specs.declared.profile.TheConstants.{SLOTS, LOG_MAGIC}
 
 abbrev pub a : Image
 a = Some (97 ∷ [])
@@ -122,7 +122,7 @@ two_losers_lawful = (
 
 -- 66 bytes
 one_commit_text : log_text (L (U 1 0 0 None a ∷ K 1 1 ∷ [])) ≡
-    (0x41 ∷ 0x52 ∷ 0x49 ∷ 0x45 ∷ 0x53 ∷ 0x4c ∷ 0x47 ∷ 0x31 ∷ [])
+    LOG_MAGIC
     ++ (0 ∷ 0 ∷ 0 ∷ 0x1d ∷ 1 ∷ 0 ∷ 0 ∷ 0 ∷ 0 ∷ 0 ∷ 0 ∷ 0 ∷ 1 ∷ 0 ∷ 0 ∷ 0 ∷ 1 ∷ 0 ∷ 0 ∷ 0 ∷ 0 ∷ 0 ∷ 0 ∷ 0 ∷ 0 ∷ 0 ∷ 0 ∷ 0 ∷ 0 ∷ 0 ∷ 0xff ∷ 1 ∷ 0x61 ∷ [])
     ++ (0 ∷ 0 ∷ 0 ∷ 0x15 ∷ 3 ∷ 0 ∷ 0 ∷ 0 ∷ 0 ∷ 0 ∷ 0 ∷ 0 ∷ 2 ∷ 0 ∷ 0 ∷ 0 ∷ 1 ∷ 0 ∷ 0 ∷ 0 ∷ 0 ∷ 0 ∷ 0 ∷ 0 ∷ 1 ∷ [])
 one_commit_text = refl

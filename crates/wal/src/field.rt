@@ -1,6 +1,6 @@
 //! The fields of a record in bytes: numbers, transaction numbers, slots, images.
 
-ghost use Rattle.std.specs.Prelude.{◌≡◌, ◌++◌, OnOk, length, map, option_map, ◌<◌, ◌^◌};
+ghost use Rattle.std.specs.Prelude.{◌≡◌, ◌++◌, ◌∷◌, [], OnOk, length, map, option_map, ◌<◌, ◌^◌};
 ghost use Rattle.std.specs.Int.{w32, w64, to_be_bytes};
 ghost use Rattle.wal.specs.Reading.{number_at, tx_at, slot_at, image_at, plain_at, state_at, entry_at, dirty_at};
 ghost use Rattle.wal.specs.Spelling.{image, state as state_text, entry as entry_text, dirty_page, table};
@@ -8,7 +8,7 @@ ghost use Rattle.wal.specs.Content.{entry_of, Keeps};
 ghost use Rattle.page.specs.Image.{FitsSlot};
 
 use crate::record::{Entry, State};
-use crate::sizes::ABSENT;
+use crate::sizes::{ABSENT, DIRTY_BYTES, ENTRY_BYTES, LSN_BYTES};
 use page::{SLOTS, VALUE_BYTES, Value};
 use std::alloc::{AllocError, Allocator};
 
@@ -175,30 +175,39 @@ pub fn put_image<A: Allocator>(
     Ok(())
 }
 
-#[tactic(auto, using(crate::proofs::Keeping::keeps_same, crate::proofs::Keeping::keeps_if))]
-fn put_state<A: Allocator>(out: &mut Vec<u8, A>, state: State) -> Result<(), AllocError>
-    ensures ok { OnOk result (out.new.items ≡ out.old.items ++ state_text state) }
-    ensures kept { Keeps out.old.items out.new.items }
+/// The number of a state in a table.
+fn state_code(state: State) -> u8
+    ensures { result ∷ [] ≡ state_text state }
 {
-    let code = match state {
+    match state {
         State::Active => 0,
         State::Aborting => 1,
         State::Prepared => 2,
-    };
-    out.push(code)?;
-    Ok(())
+    }
 }
 
-#[tactic(auto, using(crate::proofs::Keeping::keeps_same, crate::proofs::Keeping::keeps_then, crate::proofs::Keeping::keeps_if))]
-fn put_entry<A: Allocator>(out: &mut Vec<u8, A>, tx: u32, entry: Entry) -> Result<(), AllocError>
-    ensures ok { OnOk result (out.new.items ≡ out.old.items ++ entry_text (entry_of (tx, entry))) }
-    ensures kept { Keeps out.old.items out.new.items }
+/// The bytes of a transaction's entry in a transaction table.
+#[inline(always)]
+pub fn entry_bytes(tx: u32, entry: Entry) -> [u8; ENTRY_BYTES]
+    ensures { result ≡ entry_text (entry_of (tx, entry)) }
 {
-    out.extend_from_slice(&tx.to_be_bytes())?;
-    put_state(out, entry.state)?;
-    out.extend_from_slice(&entry.last.to_be_bytes())?;
-    out.extend_from_slice(&entry.undo_next.to_be_bytes())?;
-    Ok(())
+    let mut bytes = [0; ENTRY_BYTES];
+    bytes[..4].copy_from_slice(&tx.to_be_bytes());
+    bytes[4] = state_code(entry.state);
+    bytes[5..5 + LSN_BYTES].copy_from_slice(&entry.last.to_be_bytes());
+    bytes[5 + LSN_BYTES..].copy_from_slice(&entry.undo_next.to_be_bytes());
+    bytes
+}
+
+/// The bytes of a page's entry in a dirty page table.
+#[inline(always)]
+pub fn dirty_bytes(page: u32, rec_lsn: u64) -> [u8; DIRTY_BYTES]
+    ensures { result ≡ dirty_page (page, rec_lsn) }
+{
+    let mut bytes = [0; DIRTY_BYTES];
+    bytes[..4].copy_from_slice(&page.to_be_bytes());
+    bytes[4..].copy_from_slice(&rec_lsn.to_be_bytes());
+    bytes
 }
 
 #[tactic(auto, using(crate::proofs::Keeping::keeps_same, crate::proofs::Keeping::keeps_then, crate::proofs::Keeping::keeps_if))]
@@ -213,7 +222,7 @@ pub fn put_entries<A: Allocator>(
 {
     out.extend_from_slice(&(entries.len() as u32).to_be_bytes())?;
     for (tx, entry) in entries {
-        put_entry(out, *tx, *entry)?;
+        out.extend_from_slice(&entry_bytes(*tx, *entry))?;
     }
     Ok(())
 }
@@ -223,8 +232,7 @@ fn put_dirty<A: Allocator>(out: &mut Vec<u8, A>, page: u32, rec_lsn: u64) -> Res
     ensures ok { OnOk result (out.new.items ≡ out.old.items ++ dirty_page (page, rec_lsn)) }
     ensures kept { Keeps out.old.items out.new.items }
 {
-    out.extend_from_slice(&page.to_be_bytes())?;
-    out.extend_from_slice(&rec_lsn.to_be_bytes())?;
+    out.extend_from_slice(&dirty_bytes(page, rec_lsn))?;
     Ok(())
 }
 

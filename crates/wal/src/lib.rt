@@ -30,8 +30,10 @@ mod view;
 
 pub use body::Body;
 pub use change::Change;
+pub use field::{dirty_bytes, entry_bytes};
 pub use frame::write_frame;
 pub use glance::Glance;
+pub use head::FrameHead;
 pub use header::{LogStart, based_header, plain_header};
 pub use laws::{
     cuts_compose, cuts_resume, cuts_settle, hops_meet_pending, lawful_by_record, losers_end,
@@ -41,6 +43,9 @@ pub use laws::{
 };
 pub use log::{Log, first_frames, read_log, read_log_behind, read_log_by};
 pub use record::{Entry, Record, State};
-pub use sizes::{ABSENT, BASED_HEADER_BYTES, LARGEST_BASE, LONGEST_FRAME};
+pub use sizes::{
+    ABSENT, BASED_HEADER_BYTES, CELL_HEAD, CHECKPOINT_FRAME, DIRTY_BYTES, ENTRY_BYTES,
+    LARGEST_BASE, LONGEST_FRAME, LSN_BYTES, PLAIN_FRAME, SMALLEST_FRAME,
+};
 pub use stretch::Stretch;
 pub use view::{DirtyTable, RecordView, TransactionTable, value_of};
