@@ -336,8 +336,9 @@ def documents():
 
 
 def is_readme_code_tested():
-    """Whether each part of the code in README stands in a file whose function the tests of `recovery_rows` call."""
-    tested, shown = text_of("crates/recovery_rows/src/in_memory.rt"), re.findall(r"```rust\n(.*?)```", text_of("README.md"), re.S)
+    """Whether each part of the code in README is in a file whose function the tests of its crate call."""
+    tested = text_of("crates/recovery_rows/src/in_memory.rt") + text_of("crates/journal_rows/src/tests/readme.rt")
+    shown = re.findall(r"```rust\n(.*?)```", text_of("README.md"), re.S)
     return bool(shown) and all(part.strip() in tested for code in shown for part in code.split("\n\n"))
 
 

@@ -15,7 +15,7 @@ import sys
 sys.dont_write_bytecode = True  # no folder of it beside the tests
 from program import TOP, text_of
 
-TESTS = {"base_rows", "log_rows", "core_rows", "redo_rows", "restart_rows", "recovery_rows", "rows", "workloads", "checks"}
+TESTS = {"base_rows", "log_rows", "core_rows", "redo_rows", "restart_rows", "recovery_rows", "journal_rows", "journal_times", "rows", "workloads", "checks"}
 
 # The sizes of the default profile, what is made of them, and their neighbours.
 NUMBERS = {4095, 4096, 4097, 1023, 1024, 1025, 15, 16, 17, 47, 48, 49, 64, 80, 255, 848, 944, 70681, 70685, 70697, 70701, 262144, 262160}
@@ -36,6 +36,7 @@ OTHER = {
     "dump/src/log_lines.rt": {80: "bytes of a line"},
     "dump/src/record.rt": {16: "bytes of a name"},
     "dump_command/proofs/job/lsn_of/Answers.antt": {64: "bits of an LSN"},
+    "journal/src/owned.rt": {1024: "pending updates that there is room for at first"},
     "page/proofs/BigEndian.antt": {16: "bytes of three numbers"},
     "page/specs/Fault.antt": {15: "the number of a fault", 16: "the same", 17: "the same"},
     "page/src/fault.rt": {15: "the number of a fault", 16: "the same", 17: "the same"},

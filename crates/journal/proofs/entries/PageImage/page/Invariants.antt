@@ -1,0 +1,10 @@
+use Rattle.std.proofs.Common.{◌≡◌, length, take, map}
+use Rattle.page.specs.declared.profile.TheConstants.{SLOTS}
+use Rattle.journal.specs.Arrays.{image_of}
+use Rattle.journal.proofs.entries.PageImage.page.Given as goal
+
+abbrev pub invariant-loop-i : goal.invariant-loop-i
+invariant-loop-i l = record {
+  size : length l.slots ≡ SLOTS;
+  same : take l.i l.slots ≡ map image_of (take l.i l.self.slots);
+}

@@ -1,0 +1,98 @@
+use Rattle.std.proofs.Common.{◌≡◌, true, map, ◌<◌, ◌+◌, ◌*◌, ◌^◌, ℕ, None, List, length, get_or, set, take, sym, ap, subst, ◌∙◌, arith, length-append}
+use Rattle.std.proofs.lemmas.Result.{err_from_is_err_and}
+use Rattle.page.specs.Image.{Image as Content}
+use Rattle.wal.specs.Records.{LogRecord, Update}
+use Rattle.wal.specs.Meaning.{last_of, replay}
+use Rattle.wal.specs.Spelling.{Fits, frame, image}
+use Rattle.journal.specs.declared.entries.TransactionEntry.{TransactionEntry}
+use Rattle.journal.specs.declared.entries.PendingEntry.{PendingEntry}
+use Rattle.journal.specs.declared.entries.PageEntry.{PageEntry}
+use Rattle.journal.specs.declared.table.Need.TheVariants.{Working}
+use Rattle.journal.specs.Refusals.{allows, EntryRefused, CellRefused, UpdateRefused}
+use Rattle.journal.specs.Runs.{log_of}
+use Rattle.journal.specs.Transactions.{IsFreeFor}
+use Rattle.journal.specs.Arrays.{state_of, kept_of, page_state_of, image_of, IsTable, IsRoomMade}
+use Rattle.journal.specs.Writing.{IsWritten}
+use Rattle.journal.specs.State.{update_by}
+use Rattle.journal.proofs.Refused.{update_refused, cell_refused}
+use Rattle.journal.proofs.Journals.{no_entry, kept_is, updated_is, value_is}
+use Rattle.journal.proofs.operations.update.Goals as goal
+
+pub returns-in_err-place-clause-refused : goal.returns-in_err-place-clause-refused
+returns-in_err-place-clause-refused c =
+    let exit = err_from_is_err_and c.from_residual-in_err-place.result c.from_residual-in_err-place.ensures.1 in
+    let ts : List TransactionEntry = c.args.transactions.now in
+    let e : take c.in_ok-count.count ts ≡ take c.args.head.now.transactions ts = ap (λ n. take n ts) c.in_ok-count.ensures.ok in
+    rw (exit.1, exit.2) (λ base run h.
+    let xs = take c.args.head.now.pending c.args.pending.now in
+    let table = subst IsTable (sym e) h.arrays.used.table in
+    update_refused base run c.args.head.now.last c.args.head.now.next _ (map page_state_of c.args.pages.now) h.holds c.args.tx c.args.page c.args.slot c.args.after.now _ (length c.args.out.now) c.args.head.now ts c.args.pending.now c.in_err-place.field-0.0
+    (subst (λ (zs : List TransactionEntry). EntryRefused Working (kept_of zs xs) c.args.tx c.in_err-place.field-0.0) e (c.in_err-place.ensures.err xs table)))
+
+pub returns-in_err-before-clause-refused : goal.returns-in_err-before-clause-refused
+returns-in_err-before-clause-refused c =
+    let exit = err_from_is_err_and c.from_residual-in_err-before.result c.from_residual-in_err-before.ensures.1 in
+    let ts : List TransactionEntry = c.args.transactions.now in
+    let e : take c.in_ok-count.count ts ≡ take c.args.head.now.transactions ts = ap (λ n. take n ts) c.in_ok-count.ensures.ok in
+    rw (exit.1, exit.2) (λ base run h.
+    let xs = take c.args.head.now.pending c.args.pending.now in
+    let table = subst IsTable (sym e) h.arrays.used.table in
+    cell_refused base run c.args.head.now.last c.args.head.now.next _ (map page_state_of c.args.pages.now) h.holds c.args.tx c.args.page c.args.slot c.args.after.now _ (length c.args.out.now) c.args.head.now ts c.args.pending.now c.in_err-before.field-0.0
+    (subst (λ (zs : List TransactionEntry). CellRefused (map page_state_of c.args.pages.now) (kept_of zs xs) c.args.tx c.args.page c.args.slot c.in_err-before.field-0.0) e (c.in_err-before.ensures.err xs table)))
+
+pub returns-clause-ok : goal.returns-clause-ok
+returns-clause-ok c = λ base run h.
+    let ts : List TransactionEntry = c.args.transactions.now in
+    let ps : List PendingEntry = c.args.pending.now in
+    let pages : List PageEntry = c.args.pages.now in
+    let tx : ℕ = c.args.tx in
+    let place : ℕ = c.in_ok-place.place in
+    let n : ℕ = c.args.head.now.transactions in
+    let e : take c.in_ok-count.count ts ≡ take n ts = ap (λ n. take n ts) c.in_ok-count.ensures.ok in
+    let within : place < length (take n ts) = subst (λ (xs : List TransactionEntry). place < length xs) e c.in_ok-place.ensures.within in
+    let found : (get_or (take n ts) place no_entry).tx ≡ tx = subst (λ (xs : List TransactionEntry). (get_or xs place no_entry).tx ≡ tx) e (c.in_ok-place.ensures.found no_entry) in
+    let allowed = subst (λ (xs : List TransactionEntry). allows Working (state_of (get_or xs place no_entry).state) ≡ true) e (c.in_ok-place.ensures.allowed no_entry) in
+    let prev : (get_or (take c.in_ok-count.count ts) place no_entry).last ≡ (get_or (take n ts) place no_entry).last = ap (λ (xs : List TransactionEntry). (get_or xs place no_entry).last) e in
+    let table = subst IsTable (sym e) h.arrays.used.table in
+    let made : IsRoomMade (take n ts) c.args.head.now.pending c.in_ok-top.top ps c.room_for_one.new.pending =
+    subst (λ (zs : List TransactionEntry). IsRoomMade zs c.args.head.now.pending c.in_ok-top.top ps c.room_for_one.new.pending) e (c.in_ok-top.ensures.kept table) in
+    let fits = subst (λ k. Fits (Update (record { tx = tx; prev = k; page = c.args.page; slot = c.args.slot; before = image_of c.in_ok-before.before; after = image_of c.args.after.now }))) prev c.put_update-size.ensures.fits in
+    let enough = subst (λ n. c.args.head.now.last + 2 + 2 * n + c.args.head.now.pending < 2 ^ 64) c.in_ok-count.ensures.ok c.in_ok-reserve.ensures.ok in
+    let pushed = c.note_update.ensures.pending ∙ ap (λ k. set c.room_for_one.new.pending c.in_ok-top.top (record { lsn = c.in_ok-lsn.lsn; prev = k; tx = tx; page = c.args.page; slot = c.args.slot; before = c.in_ok-before.before })) prev in
+    updated_is base run c.args.head.now ts pages ps h tx place within found c.in_ok-top.top c.room_for_one.new.pending c.in_ok-top.ensures.within c.room_for_one.auto.pending made
+    c.in_ok-lsn.lsn c.in_ok-lsn.ensures.ok c.in_ok-lsn.ensures.few c.args.page c.args.slot c.in_ok-before.before c.args.after.now c.note_update.new.transactions c.note_update.new.pending c.change_cell.new.pages enough
+    (c.note_update.ensures.transaction no_entry) pushed c.change_cell.ensures c.in_ok-before.ensures.page c.in_ok-before.ensures.slot c.in_ok-before.ensures.value
+    (λ zs d t. subst (λ (xs : List TransactionEntry). IsFreeFor (kept_of xs zs) (get_or (get_or (map page_state_of pages) c.args.page d).writers c.args.slot None) tx) e (c.in_ok-before.ensures.free zs d table))
+    allowed fits
+
+pub returns-clause-written : goal.returns-clause-written
+returns-clause-written c = λ base run h.
+    let ts : List TransactionEntry = c.args.transactions.now in
+    let ps : List PendingEntry = c.args.pending.now in
+    let pages : List PageEntry = c.args.pages.now in
+    let tx : ℕ = c.args.tx in
+    let place : ℕ = c.in_ok-place.place in
+    let n : ℕ = c.args.head.now.transactions in
+    let e : take c.in_ok-count.count ts ≡ take n ts = ap (λ n. take n ts) c.in_ok-count.ensures.ok in
+    let within : place < length (take n ts) = subst (λ (xs : List TransactionEntry). place < length xs) e c.in_ok-place.ensures.within in
+    let found : (get_or (take n ts) place no_entry).tx ≡ tx = subst (λ (xs : List TransactionEntry). (get_or xs place no_entry).tx ≡ tx) e (c.in_ok-place.ensures.found no_entry) in
+    let last : (get_or (take c.in_ok-count.count ts) place no_entry).last ≡ last_of tx (log_of run) =
+    ap (λ (xs : List TransactionEntry). (get_or xs place no_entry).last) e ∙ (h.holds.transactions.each tx _ (kept_is base run c.args.head.now ts pages ps h tx place within found)).last in
+    let before : image_of c.in_ok-before.before ≡ replay base (log_of run) c.args.page c.args.slot = value_is base run c.args.head.now ts pages ps h c.args.page c.args.slot c.in_ok-before.ensures.page c.in_ok-before.ensures.slot (image_of c.in_ok-before.before) c.in_ok-before.ensures.value in
+    let r : ℕ → Content → LogRecord = λ k b. Update (record { tx = tx; prev = k; page = c.args.page; slot = c.args.slot; before = b; after = image_of c.args.after.now }) in
+    let one = subst (λ k. IsWritten (r k (image_of c.in_ok-before.before)) c.in_ok-lsn.lsn c.args.out.now c.put_update-size.new.out c.put_update-size.result) last c.put_update-size.ensures.written in
+    let two = subst (λ b. IsWritten (r (last_of tx (log_of run)) b) c.in_ok-lsn.lsn c.args.out.now c.put_update-size.new.out c.put_update-size.result) before one in
+    subst (λ k. IsWritten (r (last_of tx (log_of run)) (replay base (log_of run) c.args.page c.args.slot)) k c.args.out.now c.put_update-size.new.out c.put_update-size.result) c.in_ok-lsn.ensures.ok two
+
+pub returns-in_err-room_for-clause-refused : goal.returns-in_err-room_for-clause-refused
+returns-in_err-room_for-clause-refused c =
+    let exit = err_from_is_err_and c.from_residual-in_err-room_for.result c.from_residual-in_err-room_for.ensures.1 in
+    let ts : List TransactionEntry = c.args.transactions.now in
+    let short = c.in_err-room_for.ensures.short in
+    rw (exit.1, exit.2) (λ base run h.
+    let before : image_of c.in_ok-before.before ≡ replay base (log_of run) c.args.page c.args.slot = value_is base run c.args.head.now ts c.args.pages.now c.args.pending.now h c.args.page c.args.slot c.in_ok-before.ensures.page c.in_ok-before.ensures.slot (image_of c.in_ok-before.before) c.in_ok-before.ensures.value in
+    let same : length (image (image_of c.in_ok-before.before)) ≡ length (image (replay base (log_of run) c.args.page c.args.slot)) = ap (λ b. length (image b)) before in
+    let size : c.update_size.result ≡ length (frame (update_by base run c.args.tx c.args.page c.args.slot (image_of c.args.after.now)) (c.args.head.now.last + 1)) =
+    omega (arith, c.update_size.ensures.size, same, length-append (image (replay base (log_of run) c.args.page c.args.slot)) (image (image_of c.args.after.now))) in
+    subst (UpdateRefused run c.args.tx c.args.page c.args.slot c.args.after.now (length (frame (update_by base run c.args.tx c.args.page c.args.slot (image_of c.args.after.now)) (c.args.head.now.last + 1))) (length c.args.out.now) c.args.head.now ts c.args.pending.now)
+    (sym c.in_err-room_for.ensures.err) (size, omega (arith, short, size)))

@@ -1,0 +1,28 @@
+use Rattle.std.proofs.lemmas.List.{with_items_is, places}
+use Rattle.std.proofs.Common.{rules, ◌++◌, refl, ◌-◌, ℕ, List, length, take, ap, sym, subst, arith}
+use borrow.Rule.Slice.PartMut.{post_of}
+use Rattle.wal.specs.Records.{Abort}
+use Rattle.journal.specs.declared.entries.TransactionEntry.{TransactionEntry}
+use Rattle.journal.specs.declared.owned.Journal.TheInside.{Inside}
+use Rattle.journal.specs.Arrays.{OwesLess}
+use Rattle.journal.specs.State.{IsJournal, plain_by}
+use Rattle.journal.specs.JournalState.{Keeps}
+use Rattle.journal.specs.Owned.{seen}
+use Rattle.journal.proofs.Kept.{journal_of, keeps_more, enough_left}
+use Rattle.journal.proofs.owned.Journal.abort.Goals as goal
+
+pub returns-clause-ok : goal.returns-clause-ok
+returns-clause-ok c = λ base run k.
+    let a : Inside = c.self.inside in
+    let k' : Keeps base run (seen a) = subst (Keeps base run) (sym c.self.view_is) k in
+    let same = c.deref_mut.ensures.value in
+    let h = subst (λ (z : List TransactionEntry). IsJournal base run a.head z a.pages.items a.pending.items) (sym same) (journal_of base run a c.self.invariant k') in
+    let of = c.in_ok-size.ensures in
+    let less = subst (λ (z : List TransactionEntry). OwesLess (take a.head.transactions z) (take a.head.pending a.pending.items) (take c.abort.new.head.transactions c.abort.new.transactions) (take c.abort.new.head.pending a.pending.items)) same (of.owes base run a.pages.items a.pending.items h) in
+    let ts_is = with_items_is a.transactions c.abort.new.transactions (search (rules, places)) in
+    let rest : List ℕ = post_of a.length (length c.deref_mut-2.result.now - a.length) c.deref_mut-2.result.now in
+    let now_is = with_items_is a.buffer (take a.length c.deref_mut-2.result.now ++ (c.abort.new.out ++ rest)) (search (rules, places)) in
+    keeps_more base run a c.self.invariant k' c.abort.new.head c.abort.new.transactions _ a.pages.items _ a.pending.items _ c.deref_mut-2.result.now _ c.abort.new.out rest _ c.in_ok-size.size c.saturating_sub-self-inside.result
+    ts_is refl refl now_is (ap (take a.length) c.deref_mut-2.ensures.value) (let e = ap length c.deref_mut-2.ensures.value in omega (arith, e, c.self.invariant.buffer))
+    (Abort (plain_by run c.args.tx)) (of.ok base run a.pages.items a.pending.items h) (of.written base run a.pages.items a.pending.items h) of.lsn
+    (enough_left _ _ _ _ c.in_ok-size.size a.reserved c.saturating_sub-self-inside.result less k'.enough (omega (arith, of.short)) c.saturating_sub-self-inside.ensures)

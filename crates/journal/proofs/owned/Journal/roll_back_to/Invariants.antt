@@ -1,0 +1,8 @@
+use Rattle.wal.specs.Meaning.{BasePages}
+use Rattle.journal.specs.Runs.{Run}
+use Rattle.journal.specs.JournalState.{Keeps}
+use Rattle.journal.proofs.Rolled.{Rolled}
+use Rattle.journal.proofs.owned.Journal.roll_back_to.Given as goal
+
+abbrev pub invariant-loop : goal.invariant-loop
+invariant-loop l = (base : BasePages) (run : Run) → Keeps base run l.fn.self → Rolled base run l.tx l.savepoint l.counter l.newest l.self

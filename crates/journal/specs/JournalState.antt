@@ -1,0 +1,78 @@
+-- What a journal keeps, against its run (own).
+use Rattle.std.specs.Prelude.{⊤, ◌≡◌, ◌<◌, ◌≤◌, ◌-◌, ◌+◌, ◌*◌, ◌^◌, ℕ, List, [], ◌∷◌, ◌++◌, map, drop}
+use Rattle.wal.specs.Records.{LogRecord, End, LogContent, TableEntry, CheckpointBegin, lsn_before, up_to, history, last_lsn}
+use Rattle.wal.specs.Meaning.{BasePages, pending}
+use Rattle.wal.specs.Reads.{spellings, log_text}
+use Rattle.journal.specs.declared.entries.Head.{Head}
+use Rattle.journal.specs.declared.entries.TransactionEntry.{TransactionEntry}
+use Rattle.journal.specs.declared.entries.PageEntry.{PageEntry}
+use Rattle.journal.specs.declared.entries.PendingEntry.{PendingEntry}
+use Rattle.journal.specs.Runs.{Run, appended, log_before, content_of, log_of, AreTrueTables}
+use Rattle.journal.specs.declared.framing.TheConstants.{LONGEST_UNDO}
+use Rattle.journal.specs.Arrays.{kept_of, page_state_of, AreUsed, owed}
+use Rattle.journal.specs.Taken.{run_taken}
+use Rattle.journal.specs.Rollbacks.{newest_of, all_appended}
+use Rattle.journal.specs.State.{Agrees, IsUndo, plain_by}
+
+-- JOURNAL STATE. The entries that are in use, the frames that were not taken, the LSN up to which they were, and how many bytes of room
+-- there are for the frames of rollbacks.
+pub record JournalState : Type 0 where
+  pub head : Head
+  pub transactions : List TransactionEntry
+  pub pages : List PageEntry
+  pub pending : List PendingEntry
+  pub frames : List ℕ
+  pub taken : ℕ
+  pub room : ℕ
+
+-- the frames of the records of a log after an LSN
+abbrev pub frames_after : (lsn : ℕ) → LogContent → List ℕ
+frames_after lsn log = spellings (lsn + 1) (drop (lsn - lsn_before log.begins) log.records)
+
+-- KEEPS. It is the state of a journal of this run over these base pages; and the LSNs and the room do for all rollbacks.
+pub record Keeps (base : BasePages) (run : Run) (j : JournalState) : Type 0 where
+  pub agrees : Agrees base run j.head.last j.head.next (kept_of j.transactions j.pending) (map page_state_of j.pages)
+  pub used : AreUsed j.head.next j.transactions j.pending
+  pub some : 0 < j.head.next
+  pub lsns : j.head.last + owed j.transactions j.pending < 2 ^ 64
+  pub enough : LONGEST_UNDO * (owed j.transactions j.pending + 1) ≤ j.room
+  pub opened : last_lsn (history (log_before run)) ≤ j.taken
+  pub within : j.taken ≤ j.head.last
+  pub frames_are : j.frames ≡ frames_after j.taken (content_of run)
+
+-- the journal of a run is now that of the run and this record
+abbrev pub Appends : (before after : JournalState) → (BasePages → Run → LogRecord) → Type 0
+Appends before after r = (base : BasePages) (run : Run) → Keeps base run before → Keeps base (appended run (r base run)) after
+
+-- the same journal, of each run of which it was the journal
+abbrev pub StaysKept : (before after : JournalState) → Type 0
+StaysKept before after = (base : BasePages) (run : Run) → Keeps base run before → Keeps base run after
+
+-- UNDO. The newest pending update of the transaction was undone by one CLR.
+abbrev pub Undoes : (before after : JournalState) → (tx : ℕ) → Type 0
+Undoes before after tx = (base : BasePages) (run : Run) → Keeps base run before → (r : LogRecord) × IsUndo run tx r × Keeps base (appended run r) after
+
+-- ROLLBACK to a savepoint: these records are CLRs of updates of a transaction after an LSN, each of the newest one that is pending
+abbrev pub AreUndos : Run → (tx savepoint : ℕ) → List LogRecord → Type 0
+AreUndos run tx savepoint [] = ⊤
+AreUndos run tx savepoint (r ∷ rs) = (savepoint < newest_of (pending tx (log_of run))) × IsUndo run tx r × AreUndos (appended run r) tx savepoint rs
+
+-- they were appended, and no update after that LSN is pending any more
+abbrev pub RollsBackTo : (before after : JournalState) → (tx savepoint : ℕ) → Type 0
+RollsBackTo before after tx savepoint = (base : BasePages) (run : Run) → Keeps base run before
+    → (rs : List LogRecord) × AreUndos run tx savepoint rs × (newest_of (pending tx (log_of (all_appended run rs))) ≤ savepoint) × Keeps base (all_appended run rs) after
+
+-- all updates of a transaction were undone, and its end was appended
+abbrev pub RollsBackAll : (before after : JournalState) → (tx : ℕ) → Type 0
+RollsBackAll before after tx = (base : BasePages) (run : Run) → Keeps base run before
+    → (rs : List LogRecord) × AreUndos run tx 0 rs × Keeps base (appended (all_appended run rs) (End (plain_by (all_appended run rs) tx))) after
+
+-- CHECKPOINT. Its begin and its end, with true tables, were appended.
+abbrev pub TakesCheckpoint : (before after : JournalState) → Type 0
+TakesCheckpoint before after = (base : BasePages) (run : Run) → Keeps base run before
+    → (entries : List TableEntry) × (dirty : List (ℕ × ℕ)) × AreTrueTables base (appended run CheckpointBegin) (before.head.last + 1) entries dirty
+    × Keeps base (run_taken run (before.head.last + 1) entries dirty) after
+
+-- FRAMES. The bytes of a log up to the LSN up to which the frames were taken, followed by the frames, are the bytes of the log.
+abbrev pub FramesAreLog : Type 0
+FramesAreLog = (base : BasePages) (run : Run) (j : JournalState) → Keeps base run j → log_text (up_to j.taken (content_of run)) ++ j.frames ≡ log_text (content_of run)

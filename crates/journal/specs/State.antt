@@ -1,0 +1,53 @@
+-- What a journal keeps, and what its run says (own).
+use Rattle.std.specs.Prelude.{◌≡◌, ℕ, List, take, map, Option}
+use Rattle.wal.specs.Records.{LogRecord, Update, Compensation, last_lsn}
+use Rattle.wal.specs.Records.{CompensationRecord, PlainRecord}
+use Rattle.wal.specs.Meaning.{BasePages, replay, last_of}
+use Rattle.wal.specs.Laws.{Compensates}
+use Rattle.page.specs.Image.{Image}
+use Rattle.journal.specs.declared.entries.Head.{Head}
+use Rattle.journal.specs.declared.entries.TransactionEntry.{TransactionEntry}
+use Rattle.journal.specs.declared.entries.PendingEntry.{PendingEntry}
+use Rattle.journal.specs.declared.entries.PageEntry.{PageEntry}
+use Rattle.journal.specs.Runs.{Run, log_of, IsRun}
+use Rattle.journal.specs.Transactions.{Transaction, AreTransactions}
+use Rattle.journal.specs.PageStates.{PageState, ArePageStates}
+use Rattle.journal.specs.Arrays.{kept_of, page_state_of, AreArrays, HasReserve}
+
+-- What is kept of the log, the transactions and the pages is what the run says, in whatever form it is kept.
+pub record Agrees (base : BasePages) (run : Run) (last next : ℕ) (kept : ℕ → Option Transaction) (pages : List PageState) : Type 0 where
+  pub runs : IsRun base run
+  pub last_is : last ≡ last_lsn (log_of run)
+  pub transactions : AreTransactions (log_of run) next kept
+  pub pages_are : ArePageStates base run pages
+
+-- JOURNAL of this run over these base pages: what these arrays keep, in their first entries, is what the run says; and the LSNs suffice for
+-- each rollback.
+pub record IsJournal (base : BasePages) (run : Run) (head : Head) (ts : List TransactionEntry) (pages : List PageEntry) (ps : List PendingEntry) : Type 0 where
+  pub holds : Agrees base run head.last head.next (kept_of (take head.transactions ts) (take head.pending ps)) (map page_state_of pages)
+  pub arrays : AreArrays head ts ps
+  pub reserve : HasReserve head ts ps
+
+-- WHAT IS APPENDED
+-- an update, with what the log says of its transaction and its cell
+abbrev pub update_by : BasePages → Run → (tx page slot : ℕ) → Image → LogRecord
+update_by base run tx page slot after = Update (record {
+  tx = tx;
+  prev = last_of tx (log_of run);
+  page = page;
+  slot = slot;
+  before = replay base (log_of run) page slot;
+  after = after;
+})
+
+-- the CLR of a transaction's newest pending update
+pub record IsUndo (run : Run) (tx : ℕ) (r : LogRecord) : Type 0 where
+  pub clr : CompensationRecord
+  pub is : r ≡ Compensation clr
+  pub own : clr.tx ≡ tx
+  pub prev : clr.prev ≡ last_of tx (log_of run)
+  pub undoes : Compensates (log_of run) clr
+
+-- the fields of a commit, an abort, an end or a prepare
+abbrev pub plain_by : Run → ℕ → PlainRecord
+plain_by run tx = record { tx = tx; prev = last_of tx (log_of run) }

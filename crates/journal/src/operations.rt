@@ -1,0 +1,538 @@
+//! The operations of transactions that have begun.
+
+ghost use Rattle.std.specs.Prelude.{◌≡◌, ◌≢◌, ◌<◌, ◌≤◌, ◌+◌, ◌*◌, ◌^◌, ℕ, true, false, is_some, List, None, IfSome, IfOk, OnOk, OnErr, IfErr, IsOkUnless, length, slice_index_or, map, take};
+ghost use Rattle.page.specs.declared.profile.TheConstants.{SLOTS};
+ghost use Rattle.wal.specs.declared.sizes.TheConstants.{PLAIN_FRAME};
+ghost use Rattle.wal.specs.Records.{LogRecord, Commit, Abort, End, Prepare};
+ghost use Rattle.wal.specs.Meaning.{BasePages, pending as pending_lsns};
+ghost use Rattle.wal.specs.Spelling.{frame};
+ghost use Rattle.journal.specs.declared.refusal.Refusal.TheVariants.{LogFull, NoFrameRoom};
+ghost use Rattle.journal.specs.declared.table.Need.TheVariants.{Working, NotAborting, NotPrepared};
+ghost use Rattle.journal.specs.declared.entries.PendingEntry.{PendingEntry};
+ghost use Rattle.journal.specs.declared.entries.PageEntry.{PageEntry};
+ghost use Rattle.journal.specs.Runs.{Run, appended, log_of};
+ghost use Rattle.journal.specs.Rollbacks.{newest_of, CanUndo};
+ghost use Rattle.journal.specs.PageStates.{PageState};
+ghost use Rattle.journal.specs.Arrays.{image_of, page_state_of, unless_0, kept_of, IsTable, OwesLess};
+ghost use Rattle.journal.specs.Writing.{IsWritten};
+ghost use Rattle.journal.specs.declared.framing.TheConstants.{LONGEST_CHANGE, LONGEST_UNDO};
+ghost use Rattle.journal.specs.Refusals.{IsNotRoom, StepRefused, RefusedFor, PrepareRefused, UpdateRefused, UndoRefused, EndRefused, CellRefused};
+ghost use Rattle.journal.specs.Transactions.{IsFreeFor};
+ghost use Rattle.journal.specs.State.{IsJournal, update_by, IsUndo, plain_by};
+
+use crate::entries::{Head, PageEntry, PendingEntry, TransactionEntry};
+use crate::framing::{compensation_size, put_compensation, put_plain, put_update, update_size};
+use crate::image::Image;
+use crate::page_entry::{change_cell, is_cell};
+use crate::refusal::Refusal;
+use crate::table::{
+    Need, bound, find, finish, newest, note_state, note_undo, note_update, place_for, room_for_one,
+    used,
+};
+use page::SLOTS;
+use wal::PLAIN_FRAME;
+
+/// The LSN after this one. The only error is `LogFull`, if there is none.
+pub fn next_lsn(last: u64) -> Result<u64, Refusal>
+    ensures ok { IfOk result (λ lsn. lsn ≡ last + 1) }
+    ensures few { IfOk result (λ lsn. lsn < 2 ^ 64) }
+    ensures err { IsOkUnless result LogFull }
+    ensures full { OnErr result (last + 1 ≡ 2 ^ 64) }
+{
+    match last.checked_add(1) {
+        Some(lsn) => Ok(lsn),
+        None => Err(Refusal::LogFull),
+    }
+}
+
+/// The sum of `last`, `more`, twice `count`, and `held`; `None` if no LSN is so large.
+fn sum_of(last: u64, more: u64, count: usize, held: usize) -> Option<u64>
+    ensures sum { IfSome result (λ n. n ≡ last + more + 2 * count + held) }
+    ensures large { result ≡ None → 2 ^ 64 ≤ last + more + 2 * count + held }
+{
+    let twice = count.checked_mul(2)?;
+    let owed = twice.checked_add(held)?;
+    let all = (owed as u64).checked_add(more)?;
+    all.checked_add(last)
+}
+
+/// Checks that there are LSNs for this many more records, and for the rollback of `count`
+/// transactions with `held` pending updates. The only error is `LogFull`.
+pub fn reserve(last: u64, more: u64, count: usize, held: usize) -> Result<(), Refusal>
+    ensures ok { OnOk result (last + more + 2 * count + held < 2 ^ 64) }
+    ensures err { IsOkUnless result LogFull }
+    ensures full { OnErr result (2 ^ 64 ≤ last + more + 2 * count + held) }
+{
+    match sum_of(last, more, count, held) {
+        Some(_) => Ok(()),
+        None => Err(Refusal::LogFull),
+    }
+}
+
+/// Checks that the buffer has room for a frame of this size. The only error is `NoFrameRoom`.
+pub fn room_for(frame: &[u8], size: usize) -> Result<(), Refusal>
+    ensures ok { OnOk result (size ≤ length frame.now) }
+    ensures err { IsOkUnless result (NoFrameRoom size) }
+    ensures short { OnErr result (length frame.now < size) }
+{
+    if frame.len() < size {
+        return Err(Refusal::NoFrameRoom(size));
+    }
+    Ok(())
+}
+
+/// Whether the last writer of a cell, 0 for none, is another unfinished transaction.
+fn is_other(entries: &[TransactionEntry], writer: u32, tx: u32) -> bool
+    ensures held { result ≡ true → (ps : List PendingEntry) → IsTable entries.now
+        → (0 < writer) × (writer ≢ tx) × (is_some (kept_of entries.now ps writer) ≡ true) }
+    ensures free { result ≡ false → (ps : List PendingEntry) → IsTable entries.now
+        → IsFreeFor (kept_of entries.now ps) (unless_0 writer) tx }
+{
+    if writer == 0 || writer == tx {
+        return false;
+    }
+    find(entries, writer).is_some()
+}
+
+/// What a cell holds, if this transaction may update it. Errors: `NoSuchPage`, `NoSuchSlot`, and
+/// `Held` if its last writer is another unfinished transaction.
+fn value_for(
+    pages: &[PageEntry],
+    entries: &[TransactionEntry],
+    tx: u32,
+    page: u32,
+    slot: u8,
+) -> Result<Image, Refusal>
+    ensures page { OnOk result (page < length pages.now) }
+    ensures slot { OnOk result (slot < SLOTS) }
+    ensures value { IfOk result (λ v. (d : PageState) → image_of v
+        ≡ slice_index_or (slice_index_or (map page_state_of pages.now) page d).page.slots slot None) }
+    ensures free { OnOk result ((ps : List PendingEntry) (d : PageState) → IsTable entries.now
+        → IsFreeFor (kept_of entries.now ps)
+        (slice_index_or (slice_index_or (map page_state_of pages.now) page d).writers slot None) tx) }
+    ensures kind { IfErr result IsNotRoom }
+    ensures err { IfErr result (λ e. (ps : List PendingEntry) → IsTable entries.now
+        → CellRefused (map page_state_of pages.now) (kept_of entries.now ps) tx page slot e) }
+{
+    if page as usize >= pages.len() {
+        return Err(Refusal::NoSuchPage);
+    }
+    if slot as usize >= SLOTS {
+        return Err(Refusal::NoSuchSlot);
+    }
+    let (image, writer) = pages[page as usize].cell(slot);
+    if is_other(entries, writer, tx) {
+        return Err(Refusal::Held(writer));
+    }
+    Ok(image)
+}
+
+/// A transaction puts an image into a slot of a page: appends an update record, whose LSN is
+/// `head.last` after the call. Writes its frame to the front of `out`, and returns the frame's
+/// length in bytes, at most 128. The bytes of `out` after the frame are unchanged.
+///
+/// An update that was accepted can be undone: LSNs for that are reserved.
+///
+/// Refused, and nothing changes:
+/// - BadImage: the length of the image is 49 to 254.
+/// - LogFull: too few LSNs are left for two more records and the rollback of all that may be
+///   unfinished.
+/// - BadArrays: an array is shorter than the head says.
+/// - UnknownTransaction: no transaction with this number has begun and not finished.
+/// - Forbidden: the transaction is aborting or prepared.
+/// - NoSuchPage, NoSuchSlot: there is no such cell.
+/// - Held: another unfinished transaction, with this number, has an update or a CLR in the cell.
+/// - NoFrameRoom: `out` is shorter than the frame, which takes this many bytes.
+/// - NoPendingRoom: the array of pending updates is full, and each of them may still be undone.
+pub fn update(
+    head: &mut Head,
+    transactions: &mut [TransactionEntry],
+    pages: &mut [PageEntry],
+    pending: &mut [PendingEntry],
+    tx: u32,
+    page: u32,
+    slot: u8,
+    after: &Image,
+    out: &mut [u8],
+) -> Result<usize, Refusal>
+    ensures ok { OnOk result ((base : BasePages) (run : Run)
+        → IsJournal base run head.old transactions.old pages.old pending.old
+        → IsJournal base (appended run (update_by base run tx page slot (image_of after.now)))
+        head.new transactions.new pages.new pending.new) }
+    ensures written { IfOk result (λ size. (base : BasePages) (run : Run)
+        → IsJournal base run head.old transactions.old pages.old pending.old
+        → IsWritten (update_by base run tx page slot (image_of after.now)) (head.old.last + 1)
+        out.old out.new size) }
+    ensures size { IfOk result (λ size. size ≤ length out.old) }
+    ensures short { IfOk result (λ size. size ≤ LONGEST_CHANGE) }
+    ensures enough { LONGEST_CHANGE ≤ length out.old → IfErr result IsNotRoom }
+    ensures count { head.new.transactions ≡ head.old.transactions }
+    ensures updates { OnOk result (head.new.pending ≤ length pending.old) }
+    ensures lsn { OnOk result (head.new.last ≡ head.old.last + 1) }
+    ensures unforced { head.new.written ≡ head.old.written }
+    ensures head { OnErr result (head.new ≡ head.old) }
+    ensures transactions { OnErr result (transactions.new ≡ transactions.old) }
+    ensures pages { OnErr result (pages.new ≡ pages.old) }
+    ensures pending { OnErr result (pending.new ≡ pending.old) }
+    ensures out { OnErr result (out.new ≡ out.old) }
+    ensures refused { IfErr result (λ e. (base : BasePages) (run : Run)
+        → IsJournal base run head.old transactions.old pages.old pending.old
+        → UpdateRefused run tx page slot after.now
+        (length (frame (update_by base run tx page slot (image_of after.now)) (head.old.last + 1)))
+        (length out.old) head.old transactions.old pending.old e) }
+{
+    if !after.is_valid() {
+        return Err(Refusal::BadImage);
+    }
+    let lsn = next_lsn(head.last)?;
+    let count = used(head.transactions, transactions.len())?;
+    reserve(head.last, 2, count, head.pending)?;
+    let entries = &transactions[..count];
+    let place = place_for(entries, tx, Need::Working)?;
+    let prev = entries[place].last;
+    let before = value_for(pages, entries, tx, page, slot)?;
+    room_for(out, update_size(&before, after))?;
+    let top = room_for_one(entries, pending, head.pending)?;
+    let size = put_update(out, lsn, tx, prev, page, slot, &before, after);
+    let update = PendingEntry {
+        lsn,
+        prev,
+        tx,
+        page,
+        slot,
+        before,
+    };
+    note_update(transactions, place, pending, top, &update);
+    change_cell(pages, tx, page, slot, after, lsn);
+    head.pending = top + 1;
+    head.last = lsn;
+    Ok(size)
+}
+
+/// Undoes the newest pending update of an active or aborting transaction: puts the before image
+/// back, and appends a CLR, whose LSN is `head.last` after the call. Writes its frame to the front
+/// of `out`, and returns the frame's length in bytes, at most 87. The transaction still holds the
+/// cell.
+///
+/// Refused, and nothing changes:
+/// - UnknownTransaction: no transaction with this number has begun and not finished.
+/// - Forbidden: the transaction is prepared. It has to abort first.
+/// - NothingToUndo: the transaction has no pending update.
+/// - NoFrameRoom: `out` is shorter than the frame, which takes this many bytes.
+/// - BadArrays, LogFull: the arrays are not those of a journal.
+pub fn undo(
+    head: &mut Head,
+    transactions: &mut [TransactionEntry],
+    pages: &mut [PageEntry],
+    pending: &mut [PendingEntry],
+    tx: u32,
+    out: &mut [u8],
+) -> Result<usize, Refusal>
+    ensures ok { IfOk result (λ size. (base : BasePages) (run : Run)
+        → IsJournal base run head.old transactions.old pages.old pending.old
+        → (r : LogRecord) × IsUndo run tx r
+        × IsJournal base (appended run r) head.new transactions.new pages.new pending.new
+        × IsWritten r (head.old.last + 1) out.old out.new size) }
+    ensures size { IfOk result (λ size. size ≤ length out.old) }
+    ensures owes { OnOk result ((base : BasePages) (run : Run)
+        → IsJournal base run head.old transactions.old pages.old pending.old
+        → OwesLess (take head.old.transactions transactions.old) (take head.old.pending pending.old)
+        (take head.new.transactions transactions.new) (take head.new.pending pending.new)) }
+    ensures short { IfOk result (λ size. size ≤ LONGEST_UNDO) }
+    ensures enough { LONGEST_UNDO ≤ length out.old → IfErr result IsNotRoom }
+    ensures count { head.new.transactions ≡ head.old.transactions }
+    ensures updates { head.new.pending ≡ head.old.pending }
+    ensures lsn { OnOk result (head.new.last ≡ head.old.last + 1) }
+    ensures unforced { head.new.written ≡ head.old.written }
+    ensures head { OnErr result (head.new ≡ head.old) }
+    ensures transactions { OnErr result (transactions.new ≡ transactions.old) }
+    ensures pages { OnErr result (pages.new ≡ pages.old) }
+    ensures pending { OnErr result (pending.new ≡ pending.old) }
+    ensures out { OnErr result (out.new ≡ out.old) }
+    ensures refused { IfErr result (λ e. (base : BasePages) (run : Run)
+        → IsJournal base run head.old transactions.old pages.old pending.old
+        → UndoRefused run tx (length out.old) e) }
+{
+    let count = used(head.transactions, transactions.len())?;
+    let _count = used(head.pending, pending.len())?;
+    let entries = &transactions[..count];
+    let place = place_for(entries, tx, Need::NotPrepared)?;
+    let prev = entries[place].last;
+    let below = bound(entries[place], head.pending);
+    let Some(top) = newest(&pending[..below], tx) else {
+        return Err(Refusal::NothingToUndo);
+    };
+    let lsn = next_lsn(head.last)?;
+    let undone = pending[top];
+    if !is_cell(pages, undone.page, undone.slot) {
+        return Err(Refusal::BadArrays);
+    }
+    room_for(out, compensation_size(&undone.before))?;
+    let size = put_compensation(
+        out,
+        lsn,
+        tx,
+        prev,
+        undone.page,
+        undone.slot,
+        undone.prev,
+        &undone.before,
+    );
+    note_undo(transactions, place, pending, top, lsn, undone.prev);
+    change_cell(pages, tx, undone.page, undone.slot, &undone.before, lsn);
+    head.last = lsn;
+    Ok(size)
+}
+
+/// An active or prepared transaction commits: appends a commit record, whose LSN is `head.last`
+/// after the call. Writes its frame to the front of `out`, and returns the frame's length, 25
+/// bytes. The transaction has finished, and its cells are free. It needs no end record. The commit
+/// is durable when the log is on the disk up to this LSN.
+///
+/// Refused, and nothing changes:
+/// - UnknownTransaction: no transaction with this number has begun and not finished.
+/// - Forbidden: the transaction is aborting.
+/// - NoFrameRoom: `out` has fewer than 25 bytes.
+/// - BadArrays, LogFull: the arrays are not those of a journal.
+pub fn commit(
+    head: &mut Head,
+    transactions: &mut [TransactionEntry],
+    tx: u32,
+    out: &mut [u8],
+) -> Result<usize, Refusal>
+    ensures ok { OnOk result ((base : BasePages) (run : Run) (pages : List PageEntry)
+        (pending : List PendingEntry)
+        → IsJournal base run head.old transactions.old pages pending
+        → IsJournal base (appended run (Commit (plain_by run tx))) head.new transactions.new pages
+        pending) }
+    ensures written { IfOk result (λ size. (base : BasePages) (run : Run) (pages : List PageEntry)
+        (pending : List PendingEntry)
+        → IsJournal base run head.old transactions.old pages pending
+        → IsWritten (Commit (plain_by run tx)) (head.old.last + 1) out.old out.new size) }
+    ensures size { IfOk result (λ size. size ≤ length out.old) }
+    ensures owes { OnOk result ((base : BasePages) (run : Run) (pages : List PageEntry)
+        (pending : List PendingEntry)
+        → IsJournal base run head.old transactions.old pages pending
+        → OwesLess (take head.old.transactions transactions.old) (take head.old.pending pending)
+        (take head.new.transactions transactions.new) (take head.new.pending pending)) }
+    ensures short { IfOk result (λ size. size ≡ PLAIN_FRAME) }
+    ensures enough { PLAIN_FRAME ≤ length out.old → IfErr result IsNotRoom }
+    ensures count { head.new.transactions ≤ head.old.transactions }
+    ensures updates { head.new.pending ≡ head.old.pending }
+    ensures lsn { OnOk result (head.new.last ≡ head.old.last + 1) }
+    ensures unforced { head.new.written ≡ head.old.written }
+    ensures head { OnErr result (head.new ≡ head.old) }
+    ensures transactions { OnErr result (transactions.new ≡ transactions.old) }
+    ensures out { OnErr result (out.new ≡ out.old) }
+    ensures refused { IfErr result (λ e. (base : BasePages) (run : Run) (pages : List PageEntry)
+        (pending : List PendingEntry)
+        → IsJournal base run head.old transactions.old pages pending
+        → RefusedFor NotAborting run tx PLAIN_FRAME (length out.old) e) }
+{
+    let count = used(head.transactions, transactions.len())?;
+    let place = place_for(&transactions[..count], tx, Need::NotAborting)?;
+    let lsn = next_lsn(head.last)?;
+    room_for(out, PLAIN_FRAME)?;
+    put_plain(out, lsn, 3, tx, transactions[place].last);
+    finish(transactions, place, count);
+    head.transactions = count - 1;
+    head.last = lsn;
+    Ok(PLAIN_FRAME)
+}
+
+/// An active or prepared transaction aborts: appends an abort record, whose LSN is `head.last`
+/// after the call. Writes its frame to the front of `out`, and returns the frame's length, 25
+/// bytes. From then on the transaction can only be undone and end. A prepared transaction has to
+/// abort before it is undone; an active one need not.
+///
+/// Refused, and nothing changes:
+/// - UnknownTransaction: no transaction with this number has begun and not finished.
+/// - Forbidden: the transaction is aborting already.
+/// - NoFrameRoom: `out` has fewer than 25 bytes.
+/// - BadArrays, LogFull: the arrays are not those of a journal.
+pub fn abort(
+    head: &mut Head,
+    transactions: &mut [TransactionEntry],
+    tx: u32,
+    out: &mut [u8],
+) -> Result<usize, Refusal>
+    ensures ok { OnOk result ((base : BasePages) (run : Run) (pages : List PageEntry)
+        (pending : List PendingEntry)
+        → IsJournal base run head.old transactions.old pages pending
+        → IsJournal base (appended run (Abort (plain_by run tx))) head.new transactions.new pages
+        pending) }
+    ensures written { IfOk result (λ size. (base : BasePages) (run : Run) (pages : List PageEntry)
+        (pending : List PendingEntry)
+        → IsJournal base run head.old transactions.old pages pending
+        → IsWritten (Abort (plain_by run tx)) (head.old.last + 1) out.old out.new size) }
+    ensures size { IfOk result (λ size. size ≤ length out.old) }
+    ensures owes { OnOk result ((base : BasePages) (run : Run) (pages : List PageEntry)
+        (pending : List PendingEntry)
+        → IsJournal base run head.old transactions.old pages pending
+        → OwesLess (take head.old.transactions transactions.old) (take head.old.pending pending)
+        (take head.new.transactions transactions.new) (take head.new.pending pending)) }
+    ensures short { IfOk result (λ size. size ≡ PLAIN_FRAME) }
+    ensures enough { PLAIN_FRAME ≤ length out.old → IfErr result IsNotRoom }
+    ensures count { head.new.transactions ≡ head.old.transactions }
+    ensures updates { head.new.pending ≡ head.old.pending }
+    ensures lsn { OnOk result (head.new.last ≡ head.old.last + 1) }
+    ensures unforced { head.new.written ≡ head.old.written }
+    ensures head { OnErr result (head.new ≡ head.old) }
+    ensures transactions { OnErr result (transactions.new ≡ transactions.old) }
+    ensures out { OnErr result (out.new ≡ out.old) }
+    ensures refused { IfErr result (λ e. (base : BasePages) (run : Run) (pages : List PageEntry)
+        (pending : List PendingEntry)
+        → IsJournal base run head.old transactions.old pages pending
+        → RefusedFor NotAborting run tx PLAIN_FRAME (length out.old) e) }
+{
+    let count = used(head.transactions, transactions.len())?;
+    let place = place_for(&transactions[..count], tx, Need::NotAborting)?;
+    let lsn = next_lsn(head.last)?;
+    room_for(out, PLAIN_FRAME)?;
+    put_plain(out, lsn, 4, tx, transactions[place].last);
+    note_state(transactions, place, 1, lsn);
+    head.last = lsn;
+    Ok(PLAIN_FRAME)
+}
+
+/// An active or aborting transaction without pending updates ends: appends an end record, whose LSN
+/// is `head.last` after the call. Writes its frame to the front of `out`, and returns the frame's
+/// length, 25 bytes. The transaction has finished, and its cells are free.
+///
+/// Refused, and nothing changes:
+/// - UnknownTransaction: no transaction with this number has begun and not finished.
+/// - Forbidden: the transaction is prepared.
+/// - StillPending: the transaction has pending updates.
+/// - NoFrameRoom: `out` has fewer than 25 bytes.
+/// - BadArrays, LogFull: the arrays are not those of a journal.
+pub fn end(
+    head: &mut Head,
+    transactions: &mut [TransactionEntry],
+    pending: &[PendingEntry],
+    tx: u32,
+    out: &mut [u8],
+) -> Result<usize, Refusal>
+    ensures ok { OnOk result ((base : BasePages) (run : Run) (pages : List PageEntry)
+        → IsJournal base run head.old transactions.old pages pending.now
+        → IsJournal base (appended run (End (plain_by run tx))) head.new transactions.new pages
+        pending.now) }
+    ensures written { IfOk result (λ size. (base : BasePages) (run : Run) (pages : List PageEntry)
+        → IsJournal base run head.old transactions.old pages pending.now
+        → IsWritten (End (plain_by run tx)) (head.old.last + 1) out.old out.new size) }
+    ensures size { IfOk result (λ size. size ≤ length out.old) }
+    ensures owes { OnOk result ((base : BasePages) (run : Run) (pages : List PageEntry)
+        → IsJournal base run head.old transactions.old pages pending.now
+        → OwesLess (take head.old.transactions transactions.old) (take head.old.pending pending.now)
+        (take head.new.transactions transactions.new) (take head.new.pending pending.now)) }
+    ensures short { IfOk result (λ size. size ≡ PLAIN_FRAME) }
+    ensures enough { PLAIN_FRAME ≤ length out.old → IfErr result IsNotRoom }
+    ensures count { head.new.transactions ≤ head.old.transactions }
+    ensures updates { head.new.pending ≡ head.old.pending }
+    ensures lsn { OnOk result (head.new.last ≡ head.old.last + 1) }
+    ensures unforced { head.new.written ≡ head.old.written }
+    ensures head { OnErr result (head.new ≡ head.old) }
+    ensures transactions { OnErr result (transactions.new ≡ transactions.old) }
+    ensures out { OnErr result (out.new ≡ out.old) }
+    ensures refused { IfErr result (λ e. (base : BasePages) (run : Run) (pages : List PageEntry)
+        → IsJournal base run head.old transactions.old pages pending.now
+        → EndRefused run tx (length out.old) e) }
+{
+    let count = used(head.transactions, transactions.len())?;
+    let _count = used(head.pending, pending.len())?;
+    let place = place_for(&transactions[..count], tx, Need::NotPrepared)?;
+    let below = bound(transactions[place], head.pending);
+    if newest(&pending[..below], tx).is_some() {
+        return Err(Refusal::StillPending);
+    }
+    let lsn = next_lsn(head.last)?;
+    room_for(out, PLAIN_FRAME)?;
+    put_plain(out, lsn, 5, tx, transactions[place].last);
+    finish(transactions, place, count);
+    head.transactions = count - 1;
+    head.last = lsn;
+    Ok(PLAIN_FRAME)
+}
+
+/// An active transaction prepares to commit: appends a prepare record, whose LSN is `head.last`
+/// after the call. Writes its frame to the front of `out`, and returns the frame's length, 25
+/// bytes. From then on the transaction can only commit or abort, and holds its cells until it has
+/// finished. It is in doubt after a crash if the log is on the disk up to this LSN.
+///
+/// Refused, and nothing changes:
+/// - LogFull: too few LSNs are left for one more record and the rollback of all that may be
+///   unfinished.
+/// - BadArrays: the array is shorter than the head says.
+/// - UnknownTransaction: no transaction with this number has begun and not finished.
+/// - Forbidden: the transaction is aborting, or prepared already.
+/// - NoFrameRoom: `out` has fewer than 25 bytes.
+pub fn prepare(
+    head: &mut Head,
+    transactions: &mut [TransactionEntry],
+    tx: u32,
+    out: &mut [u8],
+) -> Result<usize, Refusal>
+    ensures ok { OnOk result ((base : BasePages) (run : Run) (pages : List PageEntry)
+        (pending : List PendingEntry)
+        → IsJournal base run head.old transactions.old pages pending
+        → IsJournal base (appended run (Prepare (plain_by run tx))) head.new transactions.new pages
+        pending) }
+    ensures written { IfOk result (λ size. (base : BasePages) (run : Run) (pages : List PageEntry)
+        (pending : List PendingEntry)
+        → IsJournal base run head.old transactions.old pages pending
+        → IsWritten (Prepare (plain_by run tx)) (head.old.last + 1) out.old out.new size) }
+    ensures size { IfOk result (λ size. size ≤ length out.old) }
+    ensures short { IfOk result (λ size. size ≡ PLAIN_FRAME) }
+    ensures enough { PLAIN_FRAME ≤ length out.old → IfErr result IsNotRoom }
+    ensures count { head.new.transactions ≡ head.old.transactions }
+    ensures updates { head.new.pending ≡ head.old.pending }
+    ensures lsn { OnOk result (head.new.last ≡ head.old.last + 1) }
+    ensures unforced { head.new.written ≡ head.old.written }
+    ensures head { OnErr result (head.new ≡ head.old) }
+    ensures transactions { OnErr result (transactions.new ≡ transactions.old) }
+    ensures out { OnErr result (out.new ≡ out.old) }
+    ensures refused { IfErr result (λ e. (base : BasePages) (run : Run) (pages : List PageEntry)
+        (pending : List PendingEntry)
+        → IsJournal base run head.old transactions.old pages pending
+        → PrepareRefused run tx head.old (length out.old) e) }
+{
+    let lsn = next_lsn(head.last)?;
+    let count = used(head.transactions, transactions.len())?;
+    reserve(head.last, 1, count, head.pending)?;
+    let place = place_for(&transactions[..count], tx, Need::Working)?;
+    room_for(out, PLAIN_FRAME)?;
+    put_plain(out, lsn, 8, tx, transactions[place].last);
+    note_state(transactions, place, 2, lsn);
+    head.last = lsn;
+    Ok(PLAIN_FRAME)
+}
+
+/// The LSN of the newest pending update of a transaction, 0 if it has none.
+///
+/// Errors: UnknownTransaction and Forbidden, as those of [`undo`].
+pub fn newest_pending(
+    head: &Head,
+    transactions: &[TransactionEntry],
+    pending: &[PendingEntry],
+    tx: u32,
+) -> Result<u64, Refusal>
+    ensures newest { IfOk result (λ lsn. (base : BasePages) (run : Run) (pages : List PageEntry)
+        → IsJournal base run head.now transactions.now pages pending.now
+        → lsn ≡ newest_of (pending_lsns tx (log_of run))) }
+    ensures free { OnOk result ((base : BasePages) (run : Run) (pages : List PageEntry)
+        → IsJournal base run head.now transactions.now pages pending.now → CanUndo run tx) }
+    ensures few { OnOk result ((base : BasePages) (run : Run) (pages : List PageEntry)
+        → IsJournal base run head.now transactions.now pages pending.now
+        → length (pending_lsns tx (log_of run)) ≤ head.now.pending) }
+    ensures refused { IfErr result (λ e. (base : BasePages) (run : Run) (pages : List PageEntry)
+        → IsJournal base run head.now transactions.now pages pending.now
+        → StepRefused NotPrepared run tx e) }
+{
+    let count = used(head.transactions, transactions.len())?;
+    let _count = used(head.pending, pending.len())?;
+    let place = place_for(&transactions[..count], tx, Need::NotPrepared)?;
+    let below = bound(transactions[place], head.pending);
+    match newest(&pending[..below], tx) {
+        Some(top) => Ok(pending[top].lsn),
+        None => Ok(0),
+    }
+}

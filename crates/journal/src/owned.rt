@@ -1,0 +1,664 @@
+//! `Journal`: a journal that owns its arrays, and keeps the frames until they are taken.
+
+ghost use Rattle.std.specs.Prelude.{◌≡◌, ◌≤◌, ◌<◌, ◌+◌, ◌*◌, ◌⊎◌, ℕ, [], ◌++◌, max, length, take, false, OnOk, OnErr, IfOk, IfErr, IfSome, Option, None, IsOkUnless};
+ghost use Rattle.page.specs.declared.profile.TheConstants.{TRANSACTIONS};
+ghost use Rattle.wal.specs.Records.{Commit, Abort, End, Prepare, last_lsn, history};
+ghost use Rattle.wal.specs.Meaning.{BasePages, is_of, has, pending};
+ghost use Rattle.wal.specs.Headers.{FitsStart};
+ghost use Rattle.wal.specs.Pages.{base_pages};
+ghost use Rattle.journal.specs.declared.refusal.Refusal.TheVariants.{NoResource, NoSuchLsn};
+ghost use Rattle.journal.specs.declared.framing.TheConstants.{LONGEST_UNDO};
+ghost use Rattle.journal.specs.declared.table.Need.TheVariants.{NotAborting, NotPrepared};
+ghost use Rattle.journal.specs.declared.entries.TransactionEntry.{TransactionEntry};
+ghost use Rattle.journal.specs.declared.entries.PendingEntry.{PendingEntry};
+ghost use Rattle.journal.specs.Arrays.{kept_of, IsTable, AllLive};
+ghost use Rattle.journal.specs.Runs.{Run, reported, opened, empty_log, MayOpen, log_of};
+ghost use Rattle.journal.specs.State.{update_by, plain_by};
+ghost use Rattle.journal.specs.PageStates.{IsCurrent};
+ghost use Rattle.journal.specs.Rollbacks.{newest_of, CanUndo};
+ghost use Rattle.journal.specs.Opened.{OwnNewRefused, OwnOpenRefused, OpenRefusedFor};
+ghost use Rattle.journal.specs.Refusals.{CancelRefused, ReportRefused, PageToWriteRefused, StepRefused, OwnBeginRefused, OwnUpdateRefused, OwnPrepareRefused, OwnUndoRefused, OwnEndRefused, OwnCheckpointRefused};
+ghost use Rattle.journal.specs.JournalState.{JournalState, Keeps, Appends, StaysKept, Undoes, TakesCheckpoint, RollsBackTo, RollsBackAll};
+
+use crate::checkpoints::LONGEST_CHECKPOINT;
+use crate::entries::{Head, PageEntry, PendingEntry, TransactionEntry};
+use crate::framing::{LONGEST_CHANGE, LONGEST_UNDO};
+use crate::image::Image;
+use crate::refusal::Refusal;
+use crate::table::count_live;
+use crate::{beginning, checkpoints, disk, opening, operations, reopening};
+use page::{Page, Store, TRANSACTIONS, Value};
+use std::alloc::Global;
+use std::marker::Model;
+use wal::{Log, LogStart, PLAIN_FRAME};
+
+/// How many pending updates a journal has room for at first.
+const PENDING: usize = 1024;
+
+/// How often the array of pending updates is made twice as long at most.
+const WIDENINGS: usize = 50;
+
+/// The part of an engine that writes the log: what it keeps of the log, of the transactions that have
+/// not finished, and of the pages. What it appends is lawful.
+///
+/// An accepted update can always be rolled back: the LSNs and the room for that are set aside when the
+/// update is appended.
+#[derive(Drop)]
+pub struct Journal {
+    head: Head,
+    transactions: Vec<TransactionEntry>,
+    pages: Vec<PageEntry>,
+    pending: Vec<PendingEntry>,
+    /// The frames that were not taken, followed by room for more.
+    buffer: Vec<u8>,
+    /// How many bytes of frames there are.
+    length: usize,
+    /// How many bytes after them are for the frames of rollbacks.
+    reserved: usize,
+    /// The LSN up to which the frames were taken.
+    taken: u64,
+}
+
+impl Model for Journal {
+    ghost use Rattle.journal.specs.JournalState.{JournalState};
+
+    ghost Value = { JournalState };
+
+    ghost use Rattle.journal.specs.Owned.{seen, IsWithin};
+
+    ghost view = { seen };
+
+    ghost invariant = { IsWithin };
+}
+
+/// How many bytes the frames take at most by which all that may be unfinished is rolled back, and
+/// one more.
+fn rollback_bytes(pending: usize) -> Option<usize>
+    ensures { IfSome result (λ n. n ≡ LONGEST_UNDO * (2 * TRANSACTIONS + 1 + pending)) }
+{
+    let records = pending.checked_add(2 * TRANSACTIONS + 1)?;
+    records.checked_mul(LONGEST_UNDO)
+}
+
+/// Makes room in the buffer after the bytes that are filled: this many, and those of all rollbacks.
+/// Returns how many bytes these take. The only error is `NoResource`.
+fn make_room(
+    buffer: &mut Vec<u8>,
+    filled: usize,
+    more: usize,
+    pending: usize,
+) -> Result<usize, Refusal>
+    requires { filled ≤ length buffer.old.items }
+    ensures enough { IfOk result (λ n. filled + more + n ≤ length buffer.new.items) }
+    ensures rollback { IfOk result (λ n. n ≡ LONGEST_UNDO * (2 * TRANSACTIONS + 1 + pending)) }
+    ensures kept { take filled buffer.new.items ≡ take filled buffer.old.items }
+    ensures larger { length buffer.old.items ≤ length buffer.new.items }
+    ensures err { IsOkUnless result NoResource }
+{
+    let Some(rollback) = rollback_bytes(pending) else {
+        return Err(Refusal::NoResource);
+    };
+    let Some(first) = filled.checked_add(more) else {
+        return Err(Refusal::NoResource);
+    };
+    let Some(size) = first.checked_add(rollback) else {
+        return Err(Refusal::NoResource);
+    };
+    if size > buffer.len() {
+        buffer.resize(size, 0)?;
+    }
+    Ok(rollback)
+}
+
+/// Makes room for one pending update more than these, if the array is full and more than half of it
+/// is needed. The only error is `NoResource`.
+fn make_pending_room(
+    entries: &[TransactionEntry],
+    pending: &mut Vec<PendingEntry>,
+    held: usize,
+) -> Result<(), Refusal>
+    ensures kept { (n : ℕ) → n ≤ length pending.old.items
+        → take n pending.new.items ≡ take n pending.old.items }
+    ensures larger { length pending.old.items ≤ length pending.new.items }
+    ensures ok { OnOk result (0 < length pending.old.items → IsTable entries.now
+        → (held < length pending.new.items) ⊎ (AllLive entries.now pending.old.items → ⊥)) }
+    ensures err { IsOkUnless result NoResource }
+{
+    let size = pending.len();
+    if held < size || count_live(entries, pending) <= size / 2 {
+        return Ok(());
+    }
+    let Some(more) = held.checked_mul(2) else {
+        return Err(Refusal::NoResource);
+    };
+    if more > size {
+        pending.resize(more, PendingEntry::blank())?;
+    }
+    Ok(())
+}
+
+/// An array of blank entries for each of so many pages.
+fn blank_pages(alloc: Global, count: usize) -> Result<Vec<PageEntry>, Refusal>
+    ensures size { IfOk result (λ pages. length pages.items ≡ count) }
+    ensures err { IsOkUnless result NoResource }
+{
+    let pages = vec![in alloc; PageEntry::blank(); count]?;
+    Ok(pages)
+}
+
+impl Journal {
+    /// The LSN of the last record of the log, or its base LSN.
+    pub fn last_lsn(&self) -> u64
+        ensures { result ≡ self.now.head.last }
+    {
+        self.head.last
+    }
+
+    /// The transactions that have begun and not finished, in ascending order of number.
+    pub fn unfinished(&self) -> &[TransactionEntry]
+        ensures { result.now ≡ self.now.transactions }
+    {
+        &self.transactions[..self.head.transactions]
+    }
+
+    /// The frames of the records after those that `frames_taken` reported: the next bytes of the log.
+    pub fn frames(&self) -> &[u8]
+        ensures { result.now ≡ self.now.frames }
+    {
+        &self.buffer[..self.length]
+    }
+
+    /// All frames were taken: they are in the log's file, or in a buffer of the engine. `frames` is empty
+    /// after it.
+    pub fn frames_taken(&mut self)
+        ensures kept { StaysKept self.old self.new }
+        ensures none { self.new.frames ≡ [] }
+        ensures taken { self.new.taken ≡ self.old.head.last }
+        ensures head { self.new.head ≡ self.old.head }
+    {
+        self.taken = self.head.last;
+        self.length = 0;
+    }
+
+    /// The log is on the disk up to this LSN, which need not be the last one.
+    ///
+    /// The only error is NoSuchLsn, after which the journal is unchanged: the frames of this LSN were not
+    /// taken.
+    pub fn log_written(&mut self, lsn: u64) -> Result<(), Refusal>
+        ensures ok { OnOk result (StaysKept self.old self.new) }
+        ensures written { OnOk result (self.new.head.written ≡ max self.old.head.written lsn) }
+        ensures kept { OnErr result (self.new ≡ self.old) }
+        ensures err { IsOkUnless result NoSuchLsn }
+        ensures refused { OnErr result (self.old.taken < lsn) }
+    {
+        if lsn > self.taken {
+            return Err(Refusal::NoSuchLsn);
+        }
+        self.head.written = self.head.written.max(lsn);
+        Ok(())
+    }
+
+    /// The page with this number as the log has made it so far. `None` if there is no such page.
+    pub fn page(&self, number: u32) -> Option<Page>
+        ensures current { IfSome result (λ page. (base : BasePages) (run : Run)
+            → Keeps base run self.now → IsCurrent base run number page) }
+        ensures none { result ≡ None → length self.now.pages ≤ number }
+    {
+        let pages = self.pages.as_slice();
+        if number as usize >= pages.len() {
+            return None;
+        }
+        Some(pages[number as usize].page.page())
+    }
+
+    /// The page with this number, as the log has made it so far. It may be written to the disk, since the
+    /// log is there up to its PageLSN.
+    ///
+    /// Errors:
+    /// - NoSuchPage: there is no such page.
+    /// - LogNotWritten: `log_written` has not reported the page's PageLSN, which is this, or a larger one.
+    pub fn page_to_write(&self, number: u32) -> Result<Page, Refusal>
+        ensures current { IfOk result (λ page. (base : BasePages) (run : Run)
+            → Keeps base run self.now → IsCurrent base run number page) }
+        ensures ahead { IfOk result (λ page. (base : BasePages) (run : Run)
+            → Keeps base run self.now → page.lsn ≤ self.now.head.written) }
+        ensures refused { IfErr result (λ e. (base : BasePages) (run : Run)
+            → Keeps base run self.now
+            → PageToWriteRefused base run self.now.head.written number e) }
+    {
+        disk::page_to_write(&self.head, &self.pages, number)?;
+        match self.page(number) {
+            Some(page) => Ok(page),
+            None => Err(Refusal::NoSuchPage),
+        }
+    }
+
+    /// The page with this number and this PageLSN was written. It need not be the newest image.
+    ///
+    /// Errors, after which the journal is unchanged:
+    /// - NoSuchPage: there is no such page.
+    /// - NoSuchLsn: the page's PageLSN is below this one.
+    pub fn page_written(&mut self, number: u32, page_lsn: u64) -> Result<(), Refusal>
+        ensures ok { OnOk result ((base : BasePages) (run : Run) → Keeps base run self.old
+            → Keeps base (reported run number page_lsn) self.new) }
+        ensures frames { self.new.frames ≡ self.old.frames }
+        ensures head { self.new.head ≡ self.old.head }
+        ensures kept { OnErr result (self.new ≡ self.old) }
+        ensures refused { IfErr result (λ e. (base : BasePages) (run : Run)
+            → Keeps base run self.old → ReportRefused base run number page_lsn e) }
+    {
+        disk::page_written(&mut self.pages, number, page_lsn)?;
+        Ok(())
+    }
+
+    /// A transaction that has no record leaves, and no record is appended. Its number is not given to
+    /// another transaction.
+    ///
+    /// Errors, after which the journal is unchanged:
+    /// - UnknownTransaction: no transaction of this number is unfinished.
+    /// - HasRecords: the log has a record of it, so it has to commit or to be rolled back.
+    pub fn cancel(&mut self, tx: u32) -> Result<(), Refusal>
+        ensures ok { OnOk result (StaysKept self.old self.new) }
+        ensures frames { self.new.frames ≡ self.old.frames }
+        ensures kept { OnErr result (self.new ≡ self.old) }
+        ensures refused { IfErr result (λ e. (base : BasePages) (run : Run)
+            → Keeps base run self.old
+            → CancelRefused run (kept_of self.old.transactions self.old.pending) tx e) }
+    {
+        beginning::cancel(&mut self.head, &mut self.transactions, tx)?;
+        Ok(())
+    }
+
+    /// Opens the journal of a new log, which begins in this way and has no record. The pages of the store
+    /// become the base pages of the log, and are on the disk.
+    ///
+    /// Errors:
+    /// - HasMaster: the store's master is not 0, so it names a checkpoint of another log.
+    /// - PageAhead: a page has a PageLSN above the base LSN.
+    /// - NoResource: memory was refused.
+    pub fn new(alloc: Global, begins: LogStart, store: &Store) -> Result<Journal, Refusal>
+        requires { FitsStart begins }
+        ensures ok { IfOk result (Keeps (base_pages store.now.pages)
+            (opened (empty_log begins) store.now)) }
+        ensures none { IfOk result (λ j. j.frames ≡ []) }
+        ensures no_master { OnOk result (store.now.master ≡ 0) }
+        ensures refused { IfErr result (OwnNewRefused begins store.now) }
+    {
+        let transactions = vec![in alloc; TransactionEntry::blank(); TRANSACTIONS]?;
+        let pending = vec![in alloc; PendingEntry::blank(); PENDING]?;
+        let mut pages = blank_pages(alloc, store.pages.len())?;
+        let mut buffer = Vec::new(alloc);
+        let rollback = make_room(&mut buffer, 0, 0, PENDING)?;
+        let head = opening::new(begins, store, &mut pages)?;
+        Ok(Journal {
+            head,
+            transactions,
+            pages,
+            pending,
+            buffer,
+            length: 0,
+            reserved: rollback,
+            taken: head.last,
+        })
+    }
+
+    /// Opens the journal that continues a log, with room for so many pending updates.
+    fn open_with(alloc: Global, log: &Log, store: &Store, room: usize) -> Result<Journal, Refusal>
+        requires { 0 < room }
+        ensures ok { IfOk result (λ j. (base : BasePages) → MayOpen base log.now store.now
+            → Keeps base (opened log.now store.now) j) }
+        ensures none { IfOk result (λ j. j.frames ≡ []) }
+        ensures refused { IfErr result (λ e. (base : BasePages) → MayOpen base log.now store.now
+            → OwnOpenRefused log.now store.now room e) }
+    {
+        let mut transactions = vec![in alloc; TransactionEntry::blank(); TRANSACTIONS]?;
+        let mut pending = vec![in alloc; PendingEntry::blank(); room]?;
+        let mut pages = blank_pages(alloc, store.pages.len())?;
+        let mut buffer = Vec::new(alloc);
+        let rollback = make_room(&mut buffer, 0, 0, room)?;
+        let head = reopening::open(log, store, &mut transactions, &mut pages, &mut pending)?;
+        Ok(Journal {
+            head,
+            transactions,
+            pages,
+            pending,
+            buffer,
+            length: 0,
+            reserved: rollback,
+            taken: head.last,
+        })
+    }
+
+    /// Opens the journal that continues a log. The log and the store must be lawful, and each page must
+    /// have all that the log made of it: a recovery leaves them like this. Both must be on the disk.
+    /// Transactions that are unfinished in the log, such as those in doubt, keep their numbers and states,
+    /// and hold their cells.
+    ///
+    /// Errors:
+    /// - TooManyTransactions: after some record more transactions were unfinished than a checkpoint can
+    ///   list.
+    /// - NoNumber: a transaction has the largest number, so that none is left.
+    /// - PageBehind: the PageLSN of this page is not the LSN of the last record on it.
+    /// - NothingToUndo: the log is not lawful: a CLR in it undoes nothing.
+    /// - LogFull: too few LSNs are left for the rollback of what is unfinished.
+    /// - NoResource: memory was refused.
+    pub fn open(alloc: Global, log: &Log, store: &Store) -> Result<Journal, Refusal>
+        ensures ok { IfOk result (λ j. (base : BasePages) → MayOpen base log.now store.now
+            → Keeps base (opened log.now store.now) j) }
+        ensures none { IfOk result (λ j. j.frames ≡ []) }
+        ensures refused { IfErr result (λ e. (base : BasePages) → MayOpen base log.now store.now
+            → OpenRefusedFor log.now store.now e) }
+    {
+        let mut room = PENDING;
+        for _ in 0..WIDENINGS {
+            match Journal::open_with(alloc, log, store, room) {
+                Ok(journal) => return Ok(journal),
+                Err(Refusal::NoPendingRoom) => room = room.saturating_mul(2),
+                Err(refusal) => return Err(refusal),
+            }
+        }
+        Err(Refusal::NoResource)
+    }
+
+    /// A transaction begins. Returns its number, from 1, which no transaction in the log has. No record
+    /// is appended.
+    ///
+    /// Errors, after which the journal is unchanged:
+    /// - TooManyTransactions: as many transactions are unfinished as a checkpoint can list.
+    /// - NoNumber: all numbers are used.
+    /// - LogFull: too few LSNs are left for the rollback of what may be unfinished.
+    /// - NoResource: memory was refused.
+    pub fn begin(&mut self) -> Result<u32, Refusal>
+        ensures ok { OnOk result (StaysKept self.old self.new) }
+        ensures fresh { IfOk result (λ tx. (base : BasePages) (run : Run) → Keeps base run self.old
+            → has (is_of tx) (log_of run) ≡ false) }
+        ensures frames { self.new.frames ≡ self.old.frames }
+        ensures kept { OnErr result (self.new ≡ self.old) }
+        ensures refused { IfErr result (λ e. (base : BasePages) (run : Run)
+            → Keeps base run self.old → OwnBeginRefused self.old.head e) }
+    {
+        let rollback = make_room(&mut self.buffer, self.length, 0, self.pending.len())?;
+        let tx = beginning::begin(&mut self.head, &mut self.transactions)?;
+        self.reserved = rollback;
+        Ok(tx)
+    }
+
+    /// An active transaction changes a slot of a page to hold this value, or none: an update is appended.
+    /// Returns its LSN.
+    ///
+    /// Errors, after which the journal is unchanged:
+    /// - UnknownTransaction: no transaction of this number is unfinished.
+    /// - Forbidden: the transaction is aborting or prepared.
+    /// - NoSuchPage, NoSuchSlot: there is no such page or slot.
+    /// - Held: another unfinished transaction, of this number, has an update or a CLR in the cell.
+    /// - LogFull: too few LSNs are left for the rollback of what is unfinished.
+    /// - NoResource: memory was refused.
+    pub fn update(
+        &mut self,
+        tx: u32,
+        page: u32,
+        slot: u8,
+        after: Option<Value>,
+    ) -> Result<u64, Refusal>
+        ensures ok { OnOk result (Appends self.old self.new
+            (λ base run. update_by base run tx page slot after)) }
+        ensures lsn { IfOk result (λ lsn. lsn ≡ self.old.head.last + 1) }
+        ensures kept { OnErr result (self.new ≡ self.old) }
+        ensures refused { IfErr result (λ e. (base : BasePages) (run : Run)
+            → Keeps base run self.old → OwnUpdateRefused run tx page slot self.old.head e) }
+    {
+        let entries = &self.transactions[..self.head.transactions];
+        make_pending_room(entries, &mut self.pending, self.head.pending)?;
+        let rollback = make_room(
+            &mut self.buffer,
+            self.length,
+            LONGEST_CHANGE,
+            self.pending.len(),
+        )?;
+        let size = operations::update(
+            &mut self.head,
+            &mut self.transactions,
+            &mut self.pages,
+            &mut self.pending,
+            tx,
+            page,
+            slot,
+            &Image::of(&after),
+            &mut self.buffer[self.length..],
+        )?;
+        self.length += size;
+        self.reserved = rollback;
+        Ok(self.head.last)
+    }
+
+    /// Undoes the newest pending update of a transaction: a CLR is appended. Returns its LSN. ARIES,
+    /// section 4.2 (partial rollback). It is never refused for memory or for an LSN.
+    ///
+    /// Errors, after which the journal is unchanged:
+    /// - UnknownTransaction: no transaction of this number is unfinished.
+    /// - Forbidden: the transaction is prepared.
+    /// - NothingToUndo: no update of it is pending.
+    pub fn undo_last(&mut self, tx: u32) -> Result<u64, Refusal>
+        ensures ok { OnOk result (Undoes self.old self.new tx) }
+        ensures lsn { IfOk result (λ lsn. lsn ≡ self.old.head.last + 1) }
+        ensures kept { OnErr result (self.new ≡ self.old) }
+        ensures refused { IfErr result (λ e. (base : BasePages) (run : Run)
+            → Keeps base run self.old → OwnUndoRefused run tx e) }
+    {
+        let size = operations::undo(
+            &mut self.head,
+            &mut self.transactions,
+            &mut self.pages,
+            &mut self.pending,
+            tx,
+            &mut self.buffer[self.length..],
+        )?;
+        self.length += size;
+        self.reserved = self.reserved.saturating_sub(size);
+        Ok(self.head.last)
+    }
+
+    /// The LSN of the newest pending update of a transaction, 0 if it has none.
+    fn newest_pending(&self, tx: u32) -> Result<u64, Refusal>
+        ensures newest { IfOk result (λ lsn. (base : BasePages) (run : Run)
+            → Keeps base run self.now → lsn ≡ newest_of (pending tx (log_of run))) }
+        ensures free { OnOk result ((base : BasePages) (run : Run) → Keeps base run self.now
+            → CanUndo run tx) }
+        ensures few { OnOk result ((base : BasePages) (run : Run) → Keeps base run self.now
+            → length (pending tx (log_of run)) ≤ self.now.head.pending) }
+        ensures refused { IfErr result (λ e. (base : BasePages) (run : Run)
+            → Keeps base run self.now → StepRefused NotPrepared run tx e) }
+    {
+        operations::newest_pending(&self.head, &self.transactions, &self.pending, tx)
+    }
+
+    /// Rolls a transaction back to a savepoint, which is an LSN: each pending update of it with a larger
+    /// LSN is undone by a CLR, the newest first. ARIES, section 4.2 (partial rollback). It is never refused
+    /// for memory or for an LSN.
+    ///
+    /// Errors, after which the journal is unchanged:
+    /// - UnknownTransaction: no transaction of this number is unfinished.
+    /// - Forbidden: the transaction is prepared.
+    pub fn roll_back_to(&mut self, tx: u32, savepoint: u64) -> Result<(), Refusal>
+        ensures ok { OnOk result (RollsBackTo self.old self.new tx savepoint) }
+        ensures kept { OnErr result ((base : BasePages) (run : Run) → Keeps base run self.old
+            → self.new ≡ self.old) }
+        ensures refused { IfErr result (λ e. (base : BasePages) (run : Run)
+            → Keeps base run self.old → StepRefused NotPrepared run tx e) }
+    {
+        let mut newest = self.newest_pending(tx)?;
+        let most = self.head.pending;
+        for _ in 0..most {
+            if newest <= savepoint {
+                return Ok(());
+            }
+            self.undo_last(tx)?;
+            newest = self.newest_pending(tx)?;
+        }
+        Ok(())
+    }
+
+    /// Rolls a transaction back: each pending update of it is undone by a CLR, the newest first, and then
+    /// it ends. Returns the LSN of its end record. ARIES, section 4.2 (total rollback). It is never refused
+    /// for memory or for an LSN.
+    ///
+    /// Errors, after which the journal is unchanged:
+    /// - UnknownTransaction: no transaction of this number is unfinished.
+    /// - Forbidden: the transaction is prepared: it has to commit or to abort first.
+    pub fn roll_back(&mut self, tx: u32) -> Result<u64, Refusal>
+        ensures ok { OnOk result (RollsBackAll self.old self.new tx) }
+        ensures kept { OnErr result ((base : BasePages) (run : Run) → Keeps base run self.old
+            → self.new ≡ self.old) }
+        ensures refused { IfErr result (λ e. (base : BasePages) (run : Run)
+            → Keeps base run self.old → StepRefused NotPrepared run tx e) }
+    {
+        if self.newest_pending(tx)? > 0 {
+            self.roll_back_to(tx, 0)?;
+        }
+        let lsn = self.end(tx)?;
+        Ok(lsn)
+    }
+
+    /// A transaction that is active or prepared commits: it has finished, and its cells are free. A
+    /// commit is appended, and its LSN is returned. The transaction is committed for good when the log is
+    /// on the disk up to this LSN. It is never refused for memory or for an LSN.
+    ///
+    /// Errors, after which the journal is unchanged:
+    /// - UnknownTransaction: no transaction of this number is unfinished.
+    /// - Forbidden: the transaction is aborting.
+    pub fn commit(&mut self, tx: u32) -> Result<u64, Refusal>
+        ensures ok { OnOk result (Appends self.old self.new
+            (λ base run. Commit (plain_by run tx))) }
+        ensures lsn { IfOk result (λ lsn. lsn ≡ self.old.head.last + 1) }
+        ensures kept { OnErr result (self.new ≡ self.old) }
+        ensures refused { IfErr result (λ e. (base : BasePages) (run : Run)
+            → Keeps base run self.old → StepRefused NotAborting run tx e) }
+    {
+        let size = operations::commit(
+            &mut self.head,
+            &mut self.transactions,
+            tx,
+            &mut self.buffer[self.length..],
+        )?;
+        self.length += size;
+        self.reserved = self.reserved.saturating_sub(size);
+        Ok(self.head.last)
+    }
+
+    /// A transaction that is active or prepared begins to abort: an abort is appended, and its LSN is
+    /// returned. After it the transaction can only be rolled back. It is never refused for memory or for
+    /// an LSN.
+    ///
+    /// Errors, after which the journal is unchanged:
+    /// - UnknownTransaction: no transaction of this number is unfinished.
+    /// - Forbidden: the transaction is aborting already.
+    pub fn abort(&mut self, tx: u32) -> Result<u64, Refusal>
+        ensures ok { OnOk result (Appends self.old self.new (λ base run. Abort (plain_by run tx))) }
+        ensures lsn { IfOk result (λ lsn. lsn ≡ self.old.head.last + 1) }
+        ensures kept { OnErr result (self.new ≡ self.old) }
+        ensures refused { IfErr result (λ e. (base : BasePages) (run : Run)
+            → Keeps base run self.old → StepRefused NotAborting run tx e) }
+    {
+        let size = operations::abort(
+            &mut self.head,
+            &mut self.transactions,
+            tx,
+            &mut self.buffer[self.length..],
+        )?;
+        self.length += size;
+        self.reserved = self.reserved.saturating_sub(size);
+        Ok(self.head.last)
+    }
+
+    /// A transaction without a pending update ends: it has finished, and its cells are free. An end
+    /// record is appended, and its LSN is returned. It is never refused for memory or for an LSN.
+    ///
+    /// Errors, after which the journal is unchanged:
+    /// - UnknownTransaction: no transaction of this number is unfinished.
+    /// - Forbidden: the transaction is prepared.
+    /// - StillPending: an update of it is pending.
+    pub fn end(&mut self, tx: u32) -> Result<u64, Refusal>
+        ensures ok { OnOk result (Appends self.old self.new (λ base run. End (plain_by run tx))) }
+        ensures lsn { IfOk result (λ lsn. lsn ≡ self.old.head.last + 1) }
+        ensures kept { OnErr result (self.new ≡ self.old) }
+        ensures refused { IfErr result (λ e. (base : BasePages) (run : Run)
+            → Keeps base run self.old → OwnEndRefused run tx e) }
+    {
+        let size = operations::end(
+            &mut self.head,
+            &mut self.transactions,
+            &self.pending,
+            tx,
+            &mut self.buffer[self.length..],
+        )?;
+        self.length += size;
+        self.reserved = self.reserved.saturating_sub(size);
+        Ok(self.head.last)
+    }
+
+    /// An active transaction prepares to commit: a prepare is appended, and its LSN is returned. When the
+    /// log is on the disk up to this LSN, the transaction survives a crash in doubt. It keeps its cells
+    /// until `commit`, or `abort` and `roll_back`.
+    ///
+    /// Errors, after which the journal is unchanged:
+    /// - UnknownTransaction: no transaction of this number is unfinished.
+    /// - Forbidden: the transaction is aborting, or prepared already.
+    /// - LogFull: too few LSNs are left for the rollback of what is unfinished.
+    /// - NoResource: memory was refused.
+    pub fn prepare(&mut self, tx: u32) -> Result<u64, Refusal>
+        ensures ok { OnOk result (Appends self.old self.new
+            (λ base run. Prepare (plain_by run tx))) }
+        ensures lsn { IfOk result (λ lsn. lsn ≡ self.old.head.last + 1) }
+        ensures kept { OnErr result (self.new ≡ self.old) }
+        ensures refused { IfErr result (λ e. (base : BasePages) (run : Run)
+            → Keeps base run self.old → OwnPrepareRefused run tx self.old.head e) }
+    {
+        let rollback = make_room(
+            &mut self.buffer,
+            self.length,
+            PLAIN_FRAME,
+            self.pending.len(),
+        )?;
+        let size = operations::prepare(
+            &mut self.head,
+            &mut self.transactions,
+            tx,
+            &mut self.buffer[self.length..],
+        )?;
+        self.length += size;
+        self.reserved = rollback;
+        Ok(self.head.last)
+    }
+
+    /// Takes a checkpoint: a begin record and an end record are appended. Returns their LSNs. The first one may
+    /// be the store's master when the log is on the disk up to the second one, and all pages that
+    /// `page_written` reported before are on the disk too.
+    ///
+    /// Errors, after which the journal is unchanged:
+    /// - LogFull: too few LSNs are left for the rollback of what is unfinished.
+    /// - NoResource: memory was refused.
+    pub fn checkpoint(&mut self) -> Result<(u64, u64), Refusal>
+        ensures ok { OnOk result (TakesCheckpoint self.old self.new) }
+        ensures begin { IfOk result (λ lsns. lsns.0 ≡ self.old.head.last + 1) }
+        ensures end { IfOk result (λ lsns. lsns.1 ≡ self.old.head.last + 2) }
+        ensures kept { OnErr result (self.new ≡ self.old) }
+        ensures refused { IfErr result (λ e. (base : BasePages) (run : Run)
+            → Keeps base run self.old → OwnCheckpointRefused self.old.head e) }
+    {
+        let rollback = make_room(
+            &mut self.buffer,
+            self.length,
+            LONGEST_CHECKPOINT,
+            self.pending.len(),
+        )?;
+        let size = checkpoints::checkpoint(
+            &mut self.head,
+            &self.transactions,
+            &self.pages,
+            &mut self.buffer[self.length..],
+        )?;
+        self.length += size;
+        self.reserved = rollback;
+        Ok((self.head.last - 1, self.head.last))
+    }
+}

@@ -1,0 +1,308 @@
+//! The arrays of transactions and of pending updates.
+
+ghost use Rattle.std.specs.Prelude.{◌≡◌, ◌≢◌, ◌<◌, ◌≤◌, ◌+◌, ◌-◌, ℕ, List, Some, None, true, false, All, IfOk, IfErr, IfSome, OnOk, OnErr, IsOkUnless, length, slice_index_or, slice_set, take, filter, is_some};
+ghost use Rattle.std.specs.List.{remove};
+ghost use Rattle.journal.specs.declared.refusal.Refusal.TheVariants.{BadArrays};
+ghost use Rattle.journal.specs.declared.entries.TransactionEntry.{TransactionEntry};
+ghost use Rattle.journal.specs.declared.entries.PendingEntry.{PendingEntry};
+ghost use Rattle.journal.specs.Refusals.{allows, EntryRefused, IsNotRoom};
+ghost use Rattle.journal.specs.Arrays.{state_of, kept_of, IsTable, is_live, AllLive, IsRoomMade, IsNoRoom, bound_of, updated, undone, in_state, without_owner};
+
+use crate::entries::{PendingEntry, TransactionEntry};
+use crate::refusal::Refusal;
+use wal::State;
+
+/// The states in which a transaction may do an operation.
+#[derive(Clone, Copy)]
+pub enum Need {
+    /// Active.
+    Working,
+    /// Active or prepared.
+    NotAborting,
+    /// Active or aborting.
+    NotPrepared,
+}
+
+impl Need {
+    /// Whether this state is one of them.
+    fn allows(self, state: State) -> bool
+        ensures { result ≡ allows self state }
+    {
+        match state {
+            State::Active => true,
+            State::Aborting => match self {
+                Need::Working => false,
+                Need::NotAborting => false,
+                Need::NotPrepared => true,
+            },
+            State::Prepared => match self {
+                Need::Working => false,
+                Need::NotAborting => true,
+                Need::NotPrepared => false,
+            },
+        }
+    }
+}
+
+/// The state with this number: 0 active, 1 aborting; any other number, prepared.
+pub fn state_named(number: u8) -> State
+    ensures { result ≡ state_of number }
+{
+    if number == 0 {
+        State::Active
+    } else if number == 1 {
+        State::Aborting
+    } else {
+        State::Prepared
+    }
+}
+
+/// Returns `count` if an array of this length has as many entries. The only error is `BadArrays`,
+/// if it has fewer.
+pub fn used(count: usize, length: usize) -> Result<usize, Refusal>
+    ensures ok { IfOk result (λ n. n ≡ count) }
+    ensures within { IfOk result (λ n. n ≤ length) }
+    ensures err { IsOkUnless result BadArrays }
+    ensures bad { OnErr result (length < count) }
+{
+    if count > length {
+        return Err(Refusal::BadArrays);
+    }
+    Ok(count)
+}
+
+/// The place of the transaction with this number, if the array has it. The entries must be in
+/// ascending order of number.
+pub fn find(entries: &[TransactionEntry], tx: u32) -> Option<usize>
+    ensures within { IfSome result (λ i. i < length entries.now) }
+    ensures found { IfSome result (λ i. (d : TransactionEntry)
+        → (slice_index_or entries.now i d).tx ≡ tx) }
+    ensures none { IsTable entries.now → result ≡ None
+        → All (λ e. e.tx ≢ tx) entries.now }
+{
+    let mut low = 0;
+    let mut high = entries.len();
+    'search: while low < high {
+        let middle = low + (high - low) / 2;
+        let own = entries[middle].tx;
+        if own == tx {
+            return Some(middle);
+        }
+        if own < tx {
+            low = middle + 1;
+        } else {
+            high = middle;
+        }
+    }
+    None
+}
+
+/// The place of this transaction, if its state allows the operation. Errors: `UnknownTransaction`
+/// if the array does not have it, or its number is 0; `Forbidden` with its state.
+pub fn place_for(entries: &[TransactionEntry], tx: u32, need: Need) -> Result<usize, Refusal>
+    ensures within { IfOk result (λ i. i < length entries.now) }
+    ensures found { IfOk result (λ i. (d : TransactionEntry)
+        → (slice_index_or entries.now i d).tx ≡ tx) }
+    ensures some { OnOk result (0 < tx) }
+    ensures allowed { IfOk result (λ i. (d : TransactionEntry)
+        → allows need (state_of (slice_index_or entries.now i d).state) ≡ true) }
+    ensures kind { IfErr result IsNotRoom }
+    ensures err { IfErr result (λ e. (ps : List PendingEntry) → IsTable entries.now
+        → EntryRefused need (kept_of entries.now ps) tx e) }
+{
+    if tx == 0 {
+        return Err(Refusal::UnknownTransaction);
+    }
+    let Some(place) = find(entries, tx) else {
+        return Err(Refusal::UnknownTransaction);
+    };
+    let state = state_named(entries[place].state);
+    if !need.allows(state) {
+        return Err(Refusal::Forbidden(state));
+    }
+    Ok(place)
+}
+
+/// The newest pending update of a transaction is before this place, if `held` entries are in use.
+/// If its UndoNxtLSN is 0, it has no pending update, and the place is 0.
+pub fn bound(entry: TransactionEntry, held: usize) -> usize
+    ensures { result ≡ bound_of entry held }
+{
+    if entry.undo_next == 0 {
+        0
+    } else {
+        entry.below.min(held)
+    }
+}
+
+/// The place of the newest update of a transaction; `None` if none of these updates is its own.
+pub fn newest(pending: &[PendingEntry], tx: u32) -> Option<usize>
+    ensures within { IfSome result (λ i. i < length pending.now) }
+    ensures found { IfSome result (λ i. (d : PendingEntry)
+        → (slice_index_or pending.now i d).tx ≡ tx) }
+    ensures above { IfSome result (λ i. (k : ℕ) (d : PendingEntry) → i < k
+        → k < length pending.now → (slice_index_or pending.now k d).tx ≢ tx) }
+    ensures none { result ≡ None → All (λ p. p.tx ≢ tx) pending.now }
+{
+    let mut rest = pending.len();
+    'scan: while rest > 0 {
+        rest -= 1;
+        if pending[rest].tx == tx {
+            return Some(rest);
+        }
+    }
+    None
+}
+
+/// Whether the array has the transaction with this number.
+fn is_listed(entries: &[TransactionEntry], tx: u32) -> bool
+    ensures { IsTable entries.now → (p : PendingEntry) → p.tx ≡ tx
+        → result ≡ is_live entries.now p }
+{
+    find(entries, tx).is_some()
+}
+
+/// How many of these updates are still needed.
+pub fn count_live(entries: &[TransactionEntry], pending: &[PendingEntry]) -> usize
+    ensures few { result ≤ length pending.now }
+    ensures all { IsTable entries.now → AllLive entries.now pending.now
+        → result ≡ length pending.now }
+{
+    let mut count = 0;
+    for held in pending {
+        if is_listed(entries, held.tx) {
+            count += 1;
+        }
+    }
+    count
+}
+
+/// The place of the first update that is not needed any more: the array of transactions does not
+/// have its transaction.
+fn first_dead(entries: &[TransactionEntry], pending: &[PendingEntry]) -> Option<usize>
+    ensures within { IfSome result (λ i. i < length pending.now) }
+    ensures dead { IfSome result (λ i. IsTable entries.now → (d : PendingEntry)
+        → is_live entries.now (slice_index_or pending.now i d) ≡ false) }
+    ensures before { IfSome result (λ i. IsTable entries.now
+        → AllLive entries.now (take i pending.now)) }
+    ensures none { result ≡ None → IsTable entries.now → AllLive entries.now pending.now }
+{
+    for place in 0..pending.len() {
+        if !is_listed(entries, pending[place].tx) {
+            return Some(place);
+        }
+    }
+    None
+}
+
+/// Removes the updates that are not needed any more, the first of which is at the place `dead`.
+/// Returns how many are left. These are at the front, in the same order.
+fn compact(entries: &[TransactionEntry], pending: &mut [PendingEntry], dead: usize) -> usize
+    requires { dead < length pending.old }
+    ensures within { result < length pending.old }
+    ensures kept { IsTable entries.now → AllLive entries.now (take dead pending.old)
+        → ((d : PendingEntry) → is_live entries.now (slice_index_or pending.old dead d) ≡ false)
+        → take result pending.new ≡ filter (is_live entries.now) pending.old }
+{
+    let mut kept = dead;
+    for place in dead + 1..pending.len() {
+        let update = pending[place];
+        if is_listed(entries, update.tx) {
+            pending[kept] = update;
+            kept += 1;
+        }
+    }
+    kept
+}
+
+/// The place for one more pending update. If the array is full, the updates that are not needed any
+/// more are removed first. The errors, after which nothing is changed: `NoPendingRoom` if the array
+/// is full and each update is needed; `BadArrays` if it has fewer than `count` entries.
+pub fn room_for_one(
+    entries: &[TransactionEntry],
+    pending: &mut [PendingEntry],
+    count: usize,
+) -> Result<usize, Refusal>
+    ensures within { IfOk result (λ top. top < length pending.old) }
+    ensures kept { IfOk result (λ top. IsTable entries.now
+        → IsRoomMade entries.now count top pending.old pending.new) }
+    ensures err { OnErr result (pending.new ≡ pending.old) }
+    ensures causes { IfErr result (IsNoRoom entries.now count pending.old) }
+{
+    if count < pending.len() {
+        return Ok(count);
+    }
+    if count > pending.len() {
+        return Err(Refusal::BadArrays);
+    }
+    let Some(dead) = first_dead(entries, pending) else {
+        return Err(Refusal::NoPendingRoom);
+    };
+    Ok(compact(entries, pending, dead))
+}
+
+/// Notes an update of the transaction at `place`: it becomes the pending update at `top`.
+pub fn note_update(
+    transactions: &mut [TransactionEntry],
+    place: usize,
+    pending: &mut [PendingEntry],
+    top: usize,
+    update: &PendingEntry,
+)
+    requires place { place < length transactions.old }
+    requires top { top < length pending.old }
+    ensures transaction { (d : TransactionEntry) → transactions.new ≡ slice_set transactions.old place
+        (updated (slice_index_or transactions.old place d) update.now.lsn (top + 1)) }
+    ensures pending { pending.new ≡ slice_set pending.old top update.now }
+{
+    let entry = &mut transactions[place];
+    entry.last = update.lsn;
+    entry.undo_next = update.lsn;
+    entry.below = top + 1;
+    pending[top] = *update;
+}
+
+/// Notes that the record with this LSN undid the pending update at `top`, which is one of the
+/// transaction at `place`.
+pub fn note_undo(
+    transactions: &mut [TransactionEntry],
+    place: usize,
+    pending: &mut [PendingEntry],
+    top: usize,
+    lsn: u64,
+    undo_next: u64,
+)
+    requires place { place < length transactions.old }
+    requires top { top < length pending.old }
+    ensures transaction { (d : TransactionEntry) → transactions.new ≡ slice_set transactions.old place
+        (undone (slice_index_or transactions.old place d) lsn undo_next top) }
+    ensures pending { (d : PendingEntry) → pending.new ≡ slice_set pending.old top
+        (without_owner (slice_index_or pending.old top d)) }
+{
+    let entry = &mut transactions[place];
+    entry.last = lsn;
+    entry.undo_next = undo_next;
+    entry.below = top;
+    pending[top].tx = 0;
+}
+
+/// Notes that the record with this LSN put the transaction at `place` into the state with this
+/// number.
+pub fn note_state(transactions: &mut [TransactionEntry], place: usize, state: u8, lsn: u64)
+    requires { place < length transactions.old }
+    ensures { (d : TransactionEntry) → transactions.new ≡ slice_set transactions.old place
+        (in_state (slice_index_or transactions.old place d) state lsn) }
+{
+    let entry = &mut transactions[place];
+    entry.last = lsn;
+    entry.state = state;
+}
+
+/// Removes the transaction at this place from the first `count`. The others keep their order.
+pub fn finish(transactions: &mut [TransactionEntry], place: usize, count: usize)
+    requires place { place < count }
+    requires count { count ≤ length transactions.old }
+    ensures { take (count - 1) transactions.new ≡ remove (take count transactions.old) place }
+{
+    transactions[place..count].rotate_left(1);
+}
