@@ -9,7 +9,7 @@ use Rattle.std.proofs.lemmas.Grind.{get_or-set_at}
 use Rattle.audit.specs.declared.finish_table.Block.{Block}
 use Rattle.audit.specs.declared.block_index.BlockIndex.{BlockIndex}
 use Rattle.audit.specs.BlockIndex.{hash_of, home_of, tag_of, has_at, bucket_of, tag_at, place_at, IsFull, IsEntry, IsKept}
-use Rattle.audit.specs.Finished.{place_of, AreDistinct, IsIndexOf}
+use Rattle.audit.specs.Finished.{place_of, empty_block, AreDistinct, IsIndexOf}
 use Rattle.audit.proofs.Finished.{place_is}
 
 pub tag_is_taken : (hash : ℕ) → tag_of hash ≢ 0
@@ -139,7 +139,7 @@ module _ (blocks : List Block) (number place : ℕ) where
   -- a block with the number is at the place of the number
   pub found_at : AreDistinct blocks → has_at blocks number place ≡ true → Some place ≡ place_of blocks number
   found_at distinct has =
-      let none : Block = record { number = 0; finishes = [] } in
+      let none : Block = empty_block 0 in
       let at = at_is has none in
       sym (ap (place_of blocks) (sym at.1) ∙ distinct place none at.0)
 
@@ -151,7 +151,7 @@ none_found blocks index number is missing = by (place_of blocks number) refl
     by : (o : Option ℕ) → place_of blocks number ≡ o → None ≡ place_of blocks number
     by None e = sym e
     by (Some p) e =
-        let none : Block = record { number = 0; finishes = [] } in
+        let none : Block = empty_block 0 in
         let at = place_is blocks number p e in
         let has : has_at blocks number p ≡ true = is_at blocks number p none at.within (at.number none) in
         let kept : IsKept index number p = subst (λ n. IsKept index n p) (at.number none) (is.kept p none at.within) in

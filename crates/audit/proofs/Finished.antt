@@ -1,5 +1,5 @@
 -- Blocks of finished transactions, found by their numbers.
-use Rattle.std.proofs.Common.{◌≡◌, ◌≢◌, ◌<◌, ◌≤◌, ℕ, zero, suc, Bool, true, false, cond, eqb, List, [], ◌∷◌, ◌++◌, Option, Some, None, length, get_or, set, take, replicate, refl, sym, ap, ◌∙◌, subst, inl, inr, arith, eq-eqb, ne_eqb, length-append}
+use Rattle.std.proofs.Common.{◌≡◌, ◌≢◌, ◌<◌, ◌≤◌, ℕ, zero, suc, Bool, true, false, cond, eqb, List, [], ◌∷◌, ◌++◌, Option, Some, None, length, get_or, set, take, refl, sym, ap, ◌∙◌, subst, inl, inr, arith, eq-eqb, ne_eqb, length-append}
 use Rattle.std.specs.Prelude.{option_map, ◌/◌, ◌%◌}
 use Rattle.std.proofs.lemmas.Bool.{cases_Bool, cases_eq, cases_lt}
 use Rattle.std.proofs.lemmas.List.{length-set, length-take, get_or-take, get_or-set_other, get_or_append_left, get_or_push}
@@ -7,10 +7,12 @@ use Rattle.std.proofs.lemmas.Grind.{get_or-set_at}
 use Rattle.std.proofs.lemmas.Option.{same_Some}
 use Rattle.wal.specs.Checkpoint.{or_else}
 use Rattle.audit.specs.declared.standing.Finish.{Finish}
+use Rattle.audit.specs.declared.finishes.Finishes.{Finishes}
 use Rattle.audit.specs.declared.finish_table.Block.{Block}
 use Rattle.audit.specs.declared.block_index.BlockIndex.{BlockIndex}
 use Rattle.audit.specs.BlockIndex.{IsKept}
-use Rattle.audit.specs.Finished.{block_in, finish_in, place_of, empty_block, with_finish, AreDistinct, IsIndexOf}
+use Rattle.audit.specs.Finishes.{finish_at, no_finishes, IsNoted}
+use Rattle.audit.specs.Finished.{block_in, finish_in, place_of, empty_block, AreDistinct, IsIndexOf}
 use Rattle.audit.specs.declared.finish_table.TheConstants.{BLOCK}
 
 -- WHERE A BLOCK STANDS
@@ -38,7 +40,7 @@ place_is (b ∷ blocks) n p e =
           (record { within = omega (arith, below.within); number = below.number; finishes = λ d. rw (ne_eqb b.number n ne) (below.finishes d) }))
     ]
 
-pub none_is : (blocks : List Block) (n : ℕ) → place_of blocks n ≡ None → block_in blocks n ≡ replicate BLOCK None
+pub none_is : (blocks : List Block) (n : ℕ) → place_of blocks n ≡ None → block_in blocks n ≡ no_finishes
 none_is [] n e = refl
 none_is (b ∷ blocks) n e =
     elim (cases_eq b.number n) [
@@ -104,7 +106,7 @@ block_push (c ∷ blocks) m n =
     ]
 
 pub finish_push : (blocks : List Block) (m t : ℕ) → finish_in (blocks ++ empty_block m ∷ []) t ≡ finish_in blocks t
-finish_push blocks m t = ap (λ (b : List (Option Finish)). get_or b (t % BLOCK) None) (block_push blocks m (t / BLOCK))
+finish_push blocks m t = ap (λ (x : Finishes). finish_at x (t % BLOCK)) (block_push blocks m (t / BLOCK))
 
 -- a new number is found after the others
 pub place_new : (blocks : List Block) (m : ℕ) → place_of blocks m ≡ None → place_of (blocks ++ empty_block m ∷ []) m ≡ Some (length blocks)
@@ -162,7 +164,7 @@ module _ (blocks : List Block) (p : ℕ) (b : Block) where
       of : (bs : List Block) (i : ℕ) → b.number ≡ (get_or bs i d).number → block_in (set bs i b) n ≡ block_in bs n
       of [] i same = refl
       of (c ∷ bs) zero same = rw (ne_eqb b.number n ne, ne_eqb c.number n (λ e. ne (same ∙ e))) refl
-      of (c ∷ bs) (suc i) same = ap (λ (x : List (Option Finish)). cond (eqb c.number n) c.finishes x) (of bs i same)
+      of (c ∷ bs) (suc i) same = ap (λ (x : Finishes). cond (eqb c.number n) c.finishes x) (of bs i same)
 
   pub distinct_set : (e : Block) → b.number ≡ (get_or blocks p e).number → p < length blocks → AreDistinct blocks → AreDistinct (set blocks p b)
   distinct_set e same within distinct q d lt =
@@ -190,32 +192,28 @@ module _ (blocks : List Block) (p : ℕ) (b : Block) where
   }
 
 -- how one more transaction has finished is noted in its block
-noted_here : (finishes : List (Option Finish)) (tx t : ℕ) (finish : Finish) → length finishes ≡ BLOCK → tx / BLOCK ≡ t / BLOCK
-    → get_or (set finishes (tx % BLOCK) (Some finish)) (t % BLOCK) None ≡ cond (eqb tx t) (Some finish) (get_or finishes (t % BLOCK) None)
-noted_here finishes tx t finish count e =
+same_place : (tx t : ℕ) → tx / BLOCK ≡ t / BLOCK → eqb (tx % BLOCK) (t % BLOCK) ≡ eqb tx t
+same_place tx t e =
     elim (cases_eq tx t) [
-      | inl same ↦
-          get_or-set_at finishes (tx % BLOCK) (t % BLOCK) (Some finish) None (ap (λ n. n % BLOCK) (sym same)) (omega (arith, count))
-          ∙ sym (ap (λ b. cond b (Some finish) (get_or finishes (t % BLOCK) None)) (eq-eqb tx t same))
-      | inr ne ↦
-          get_or-set_other finishes (tx % BLOCK) (t % BLOCK) (Some finish) None (λ r. ne (omega (arith, r, e)))
-          ∙ sym (ap (λ b. cond b (Some finish) (get_or finishes (t % BLOCK) None)) (ne_eqb tx t ne))
+      | inl same ↦ eq-eqb (tx % BLOCK) (t % BLOCK) (ap (λ n. n % BLOCK) same) ∙ sym (eq-eqb tx t same)
+      | inr ne ↦ ne_eqb (tx % BLOCK) (t % BLOCK) (λ r. ne (omega (arith, r, e))) ∙ sym (ne_eqb tx t ne)
     ]
 
-pub finish_noted : (blocks : List Block) (p tx : ℕ) (finish : Finish) (d : Block) → place_of blocks (tx / BLOCK) ≡ Some p → length (get_or blocks p d).finishes ≡ BLOCK → (t : ℕ)
-    → finish_in (set blocks p (with_finish (get_or blocks p d) (tx % BLOCK) finish)) t ≡ cond (eqb tx t) (Some finish) (finish_in blocks t)
-finish_noted blocks p tx finish d is count t =
-    let after : Block = with_finish (get_or blocks p d) (tx % BLOCK) finish in
+pub finish_noted : (blocks : List Block) (p tx : ℕ) (finish : Finish) (d after : Block) → place_of blocks (tx / BLOCK) ≡ Some p → after.number ≡ (get_or blocks p d).number
+    → IsNoted (get_or blocks p d).finishes (tx % BLOCK) finish after.finishes → (t : ℕ) → finish_in (set blocks p after) t ≡ cond (eqb tx t) (Some finish) (finish_in blocks t)
+finish_noted blocks p tx finish d after is same noted t =
     let at = place_is blocks (tx / BLOCK) p is in
-    let read = λ (x : List (Option Finish)). get_or x (t % BLOCK) None in
+    let read = λ (x : Finishes). finish_at x (t % BLOCK) in
     elim (cases_eq (tx / BLOCK) (t / BLOCK)) [
       | inl e ↦
-          (let here : place_of (set blocks p after) (t / BLOCK) ≡ Some p = place_set blocks p after d (t / BLOCK) refl ∙ (ap (place_of blocks) (sym e) ∙ is) in
-          let put : (get_or (set blocks p after) p d).finishes ≡ set (get_or blocks p d).finishes (tx % BLOCK) (Some finish) = ap (λ (b : Block). b.finishes) (get_or-set_at blocks p p after d refl at.within) in
-          let new : block_in (set blocks p after) (t / BLOCK) ≡ set (get_or blocks p d).finishes (tx % BLOCK) (Some finish) = (place_is (set blocks p after) (t / BLOCK) p here).finishes d ∙ put in
+          (let here : place_of (set blocks p after) (t / BLOCK) ≡ Some p = place_set blocks p after d (t / BLOCK) same ∙ (ap (place_of blocks) (sym e) ∙ is) in
+          let put : (get_or (set blocks p after) p d).finishes ≡ after.finishes = ap (λ (b : Block). b.finishes) (get_or-set_at blocks p p after d refl at.within) in
+          let new : block_in (set blocks p after) (t / BLOCK) ≡ after.finishes = (place_is (set blocks p after) (t / BLOCK) p here).finishes d ∙ put in
           let old : block_in blocks (t / BLOCK) ≡ (get_or blocks p d).finishes = ap (block_in blocks) (sym e) ∙ at.finishes d in
-          ap read new ∙ (noted_here (get_or blocks p d).finishes tx t finish count e ∙ ap (λ (x : List (Option Finish)). cond (eqb tx t) (Some finish) (read x)) (sym old)))
+          ap read new
+          ∙ (noted (t % BLOCK) (omega arith)
+          ∙ (ap (λ b. cond b (Some finish) (read (get_or blocks p d).finishes)) (same_place tx t e) ∙ ap (λ (x : Finishes). cond (eqb tx t) (Some finish) (read x)) (sym old))))
       | inr ne ↦
-          ap read (block_set_other blocks p after d (t / BLOCK) refl (λ e. ne (sym (at.number d) ∙ e)))
+          ap read (block_set_other blocks p after d (t / BLOCK) same (λ e. ne (sym (at.number d) ∙ (sym same ∙ e))))
           ∙ sym (ap (λ b. cond b (Some finish) (finish_in blocks t)) (ne_eqb tx t (λ e. ne (ap (λ n. n / BLOCK) e))))
     ]

@@ -13,4 +13,5 @@ pub mod Kept
 pub mod OneFault
 pub mod Over
 pub mod BlockIndex
+pub mod FinishBits
 pub mod Finished

@@ -1,6 +1,7 @@
 pub mod Statuses
 pub mod Unfinished
 pub mod BlockIndex
+pub mod Finishes
 pub mod Finished
 pub mod Standings
 pub mod Cells

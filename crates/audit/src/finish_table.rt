@@ -1,11 +1,14 @@
-//! The finished transactions: 2 to 4 bytes each, if their numbers are close together.
+//! The finished transactions: half a byte each, and 1 to 3 bytes with the index, if their numbers are
+//! close together.
 
-ghost use Rattle.std.specs.Prelude.{◌≡◌, ◌==◌, ◌/◌, ◌%◌, ◌++◌, ◌∷◌, [], ℕ, Some, None, OnOk, OnErr, IfOk, IsOkUnless, if◌then◌else◌, length, slice_set, slice_index_or, option_map, take};
+ghost use Rattle.std.specs.Prelude.{◌≡◌, ◌==◌, ◌/◌, ◌%◌, ◌++◌, ◌∷◌, [], ℕ, Some, None, OnOk, OnErr, IfOk, IsOkUnless, if◌then◌else◌, length, slice_index_or, option_map, take};
 ghost use Rattle.page.specs.declared.fault.Fault.TheVariants.{NoResource};
 ghost use Rattle.audit.specs.declared.finish_table.TheConstants.{BLOCK};
-ghost use Rattle.audit.specs.Finished.{finish_in, place_of, empty_block, with_finish, AreDistinct, IsIndexOf};
+ghost use Rattle.audit.specs.Finishes.{IsNoted};
+ghost use Rattle.audit.specs.Finished.{finish_in, place_of, empty_block, AreDistinct, IsIndexOf};
 
 use crate::block_index::BlockIndex;
+use crate::finishes::Finishes;
 use crate::standing::Finish;
 use page::Fault;
 use std::alloc::Global;
@@ -23,13 +26,13 @@ const FULL: usize = 4;
 /// How many times as many buckets the index has after that.
 const GROWTH: usize = 4;
 
-/// How 16 transactions with neighbouring numbers have finished.
+/// How 16 transactions with neighbouring numbers have finished, in 8 bytes.
 #[derive(Clone, Copy)]
 pub struct Block {
     /// Their numbers divided by 16.
     pub number: u32,
-    /// By the last four bits of their numbers; None for one that has not finished.
-    pub finishes: [Option<Finish>; BLOCK],
+    /// How each has finished; its place is the last four bits of its number.
+    pub finishes: Finishes,
 }
 
 /// How each finished transaction has finished. They are in blocks of 16 with neighbouring numbers:
@@ -59,10 +62,10 @@ impl Model for FinishTable {
 /// Notes in its block how a transaction has finished.
 #[inline(always)]
 fn put(block: &mut Block, tx: u32, finish: Finish)
-    ensures count { length block.old.finishes ≡ BLOCK }
-    ensures put { block.new ≡ with_finish block.old (tx % BLOCK) finish }
+    ensures number { block.new.number ≡ block.old.number }
+    ensures noted { IsNoted block.old.finishes (tx % BLOCK) finish block.new.finishes }
 {
-    block.finishes[tx as usize % BLOCK] = Some(finish);
+    block.finishes = block.finishes.with_finish(tx % BLOCK as u32, finish);
 }
 
 /// A place as an index keeps it. The only error is `NoResource`, if the place is too large for an
@@ -112,7 +115,7 @@ fn push_block(blocks: &mut Vec<Block>, number: u32) -> Result<(), Fault>
 {
     blocks.push(Block {
         number,
-        finishes: [None; BLOCK],
+        finishes: Finishes::none(),
     })?;
     Ok(())
 }
@@ -172,7 +175,7 @@ impl FinishTable {
         ensures { result ≡ finish_in self.now tx }
     {
         match self.find(tx / BLOCK as u32) {
-            Some(place) => self.blocks[place].finishes[tx as usize % BLOCK],
+            Some(place) => self.blocks[place].finishes.get(tx % BLOCK as u32),
             None => None,
         }
     }

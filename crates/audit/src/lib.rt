@@ -8,6 +8,7 @@ mod cell;
 mod decide;
 mod dirty;
 mod finish_table;
+mod finishes;
 mod laws;
 mod master;
 mod pages;

@@ -48,7 +48,7 @@ fn first_fault(alloc: Global, log: &Log, base: &[Page], store: &Store) -> Result
 /// Whether a log and a store are lawful over empty pages: an ARIES system that began with empty
 /// pages can have left them. Ok if and only if they are, a lack of memory aside. Neither is
 /// changed. Time is near linear in both. Memory is 8 bytes a record, 1 KiB a page, and about 50
-/// bytes for a transaction until it has finished. A finished transaction takes 2 to 4 bytes if
+/// bytes for a transaction until it has finished. A finished transaction takes 1 to 3 bytes if
 /// finished transactions have neighbouring numbers.
 ///
 /// The first error in this order is returned. First those of the records in LSN order, each with

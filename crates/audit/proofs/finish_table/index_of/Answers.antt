@@ -1,8 +1,8 @@
-use Rattle.std.proofs.Common.{◌≡◌, ◌<◌, ℕ, List, [], None, take, get_or, length, refl, sym, subst, arith}
+use Rattle.std.proofs.Common.{◌≡◌, ◌<◌, ℕ, List, None, take, get_or, length, refl, sym, subst, arith}
 use Rattle.std.proofs.lemmas.List.{take_more, length-take-le}
 use Rattle.audit.specs.declared.finish_table.Block.{Block}
 use Rattle.audit.specs.BlockIndex.{IsKept}
-use Rattle.audit.specs.Finished.{place_of, IsIndexOf}
+use Rattle.audit.specs.Finished.{place_of, empty_block, IsIndexOf}
 use Rattle.audit.proofs.Finished.{none_before, distinct_take, index_push}
 use Rattle.audit.proofs.finish_table.index_of.Goals as goal
 
@@ -10,7 +10,7 @@ pub loop-place-preserved : goal.loop-place-preserved
 loop-place-preserved c =
     let blocks : List Block = c.args.blocks.now in
     let at : ℕ = c.loop-place.place in
-    let none : Block = record { number = 0; finishes = [] } in
+    let none : Block = empty_block 0 in
     let b : Block = get_or blocks at none in
     let lt : at < length blocks = omega arith in
     let new : place_of (take at blocks) b.number ≡ None = none_before blocks b.number at at (c.requires at none lt) (omega arith) in
