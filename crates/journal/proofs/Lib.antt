@@ -18,6 +18,7 @@ pub mod Fitting
 pub mod Listed
 pub mod TablesFit
 pub mod Opened
+pub mod Archive
 pub mod TakenTables
 pub mod Operating
 pub mod Tables
@@ -33,11 +34,14 @@ pub mod Held
 pub mod Continued
 pub mod Writers
 pub mod Refused
+pub mod Holders
 pub mod Journals
 pub mod Canceled
 pub mod TakenRows
 pub mod TakenText
 pub mod Rows
+pub mod RowsOfLives
+pub mod RowsOfRules
 pub mod Kept
 pub mod OwnRefused
 pub mod Rollbacks

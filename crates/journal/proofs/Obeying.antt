@@ -22,12 +22,9 @@ touches_has t page slot (log ▸ r) w =
       | inr i ↦ or_right (is_of t r) (has (is_of t) log) (touches_has t page slot log i)
     ]
 
-module _ (base : BasePages) (log : History) (lawful : IsLawful base log) (next : ℕ) (kept : ℕ → Option Transaction) (h : AreTransactions log next kept) (tx : ℕ) (x : Transaction) (was : kept tx ≡ Some x) where
-  own : IsTransaction log tx x
-  own = h.each tx x was
-
+module _ (base : BasePages) (log : History) (lawful : IsLawful base log) (next : ℕ) (kept : ℕ → Option Transaction) (h : AreTransactions log next kept) (tx : ℕ) where
   -- if the last writer of a cell is this transaction, or has finished, no other one holds the cell
-  free_strict : (u : UpdateRecord) → u.tx ≡ tx → (o : Option ℕ) → last_writer u.page u.slot log ≡ o → IsFreeFor kept o tx → Strictness log (Update u)
+  pub free_strict : (u : UpdateRecord) → u.tx ≡ tx → (o : Option ℕ) → last_writer u.page u.slot log ≡ o → IsFreeFor kept o tx → Strictness log (Update u)
   free_strict u e None is f = strict_from_holder base log lawful u (λ t held_by. let p : last_writer u.page u.slot log ≡ Some t = holder_wrote u.page u.slot t log held_by in absurd (cc))
   free_strict u e (Some w) is f =
       strict_from_holder base log lawful u
@@ -40,6 +37,10 @@ module _ (base : BasePages) (log : History) (lawful : IsLawful base log) (next :
         | inr i ↦ absurd (both_ways (finished t log) holds.0 (h.others t (ap kept (sym same) ∙ i) (touches_has t u.page u.slot log holds.1)))
       ])
 
+module _ (base : BasePages) (log : History) (lawful : IsLawful base log) (next : ℕ) (kept : ℕ → Option Transaction) (h : AreTransactions log next kept) (tx : ℕ) (x : Transaction) (was : kept tx ≡ Some x) where
+  own : IsTransaction log tx x
+  own = h.each tx x was
+
   pub update_obeys : (page slot : ℕ) (after : Image) → x.entry.state ≡ Active → IsFreeFor kept (last_writer page slot log) tx
       → Obeys base log (Update (record { tx = tx; prev = last_of tx log; page = page; slot = slot; before = replay base log page slot; after = after }))
   update_obeys page slot after active free =
@@ -50,7 +51,7 @@ module _ (base : BasePages) (log : History) (lawful : IsLawful base log) (next :
         finish = (own.unfinished, flags.0, flags.1);
         compensation = tt;
         before = refl;
-        strict = free_strict u refl (last_writer page slot log) refl free;
+        strict = free_strict base log lawful next kept h tx u refl (last_writer page slot log) refl free;
       }
 
   pub clr_obeys : (c : CompensationRecord) → c.tx ≡ tx → c.prev ≡ last_of tx log → Compensates log c → x.entry.state ≢ Prepared → Obeys base log (Compensation c)

@@ -13,6 +13,7 @@ use Rattle.page.specs.Store.{AreNumbered}
 use Rattle.wal.specs.declared.header.LogStart.{LogStart}
 use Rattle.wal.specs.declared.header.LogStart.TheVariants.{Version1, Version2}
 use Rattle.wal.specs.Headers.{FitsStart}
+use Rattle.wal.specs.declared.sizes.TheConstants.{LARGEST_BASE}
 use Rattle.wal.specs.Records.{History, start, lsn_before}
 use Rattle.wal.specs.Meaning.{BasePages, BaseLaw}
 use Rattle.wal.specs.Redo.{slots_in}
@@ -23,6 +24,15 @@ use Rattle.journal.specs.Transactions.{Transaction}
 use Rattle.journal.specs.Runs.{new_run, MayOpen}
 use Rattle.journal.specs.PageStates.{first_page_state, IsPageState, ArePageStates}
 use Rattle.journal.specs.State.{Agrees}
+
+-- a base LSN that is small enough, as a number
+pub starts_low : (begins : LogStart) → lsn_before begins ≤ LARGEST_BASE → FitsStart begins
+starts_low Version1 h = tt
+starts_low (Version2 base) h = h
+
+pub low_start : (begins : LogStart) → FitsStart begins → lsn_before begins ≤ LARGEST_BASE
+low_start Version1 h = omega arith
+low_start (Version2 base) h = h
 
 start_small : (begins : LogStart) → FitsStart begins → lsn_before begins < 2 ^ 64
 start_small Version1 h = omega arith

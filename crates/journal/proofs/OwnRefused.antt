@@ -57,6 +57,7 @@ own_begin head room e is h = absurd h
 pub own_new : (begins : LogStart) (store : StoreContent) (room : ℕ) (e : Refusal) → room ≡ length store.pages → NewRefused begins store room e → OwnNewRefused begins store e
 own_new begins store room BadArrays is h = absurd (h is)
 own_new begins store room HasMaster is h = h
+own_new begins store room LogFull is h = h
 own_new begins store room PageAhead is h = h
 own_new begins store room e is h = absurd h
 

@@ -26,7 +26,7 @@ use Rattle.journal.specs.declared.entries.PendingEntry.{PendingEntry}
 use Rattle.journal.specs.Runs.{Run, count_of, log_of}
 use Rattle.journal.specs.Transactions.{IsPending, lsn_in, IsNewest}
 use Rattle.journal.specs.State.{Agrees}
-use Rattle.journal.specs.Refusals.{StepRefused, allows, EntryRefused, RefusedFor, PrepareRefused, UpdateRefused, UndoRefused, EndRefused, CellRefused}
+use Rattle.journal.specs.Refusals.{StepRefused, allows, EntryRefused, RefusedFor, PrepareRefused, UpdateRefused, UndoRefused, EndRefused, CellMissing, CellRefused, IsNotRoom}
 use Rattle.journal.proofs.Runs.{run_named}
 use Rattle.journal.proofs.Fitting.{each_fits}
 use Rattle.journal.proofs.Transactions.{none_pending, stack_push}
@@ -50,14 +50,25 @@ not_of_zero CheckpointBegin f = refl
 not_of_zero (CheckpointEnd begin ts d) f = refl
 not_of_zero r f = false_from_ne_true (is_of 0 r) (λ e. (let some = f.some_tx in let zero_is = eqb-true _ 0 e in omega (arith, some, zero_is)))
 
-none_of_zero : (log : History) → EachRecord Fits log → has (is_of 0) log ≡ false
+pub none_of_zero : (log : History) → EachRecord Fits log → has (is_of 0) log ≡ false
 none_of_zero (start base) h = refl
 none_of_zero (log ▸ r) h =
     or_from (is_of 0 r) (has (is_of 0) log) (not_of_zero r (h (suc (last_lsn log)) r (record_last log r))) (none_of_zero log (λ n x f. h n x (record_more log r n x f)))
 
-some_of : {T : Type 0} (o : Option T) → is_some o ≡ true → (x : T) × (o ≡ Some x)
+pub some_of : {T : Type 0} (o : Option T) → is_some o ≡ true → (x : T) × (o ≡ Some x)
 some_of None e = absurd (cc)
 some_of (Some x) e = (x, refl)
+
+-- a cell that is missing may not be updated
+pub cell_missing : (pages : List PageState) (kept : ℕ → Option Transaction) (count tx page slot : ℕ) (e : Refusal) → length pages ≡ count → CellMissing count page slot e → CellRefused pages kept tx page slot e
+cell_missing pages kept count tx page slot NoSuchPage is r = omega (arith, r, is)
+cell_missing pages kept count tx page slot NoSuchSlot is r = r
+cell_missing pages kept count tx page slot e is r = absurd r
+
+pub missing_kind : (count page slot : ℕ) (e : Refusal) → CellMissing count page slot e → IsNotRoom e
+missing_kind count page slot NoSuchPage r = tt
+missing_kind count page slot NoSuchSlot r = tt
+missing_kind count page slot e r = absurd r
 
 -- A TRANSACTION THAT IS NOT KEPT is not unfinished
 module _ (base : BasePages) (run : Run) (last next : ℕ) (kept : ℕ → Option Transaction) (pages : List PageState) (h : Agrees base run last next kept pages) where
@@ -103,7 +114,7 @@ module _ (base : BasePages) (run : Run) (last next : ℕ) (kept : ℕ → Option
   end_refused tx room e r = absurd r
 
   -- A CELL
-  holds : (other page slot : ℕ) (d : PageState) → (x : Transaction) × (kept other ≡ Some x) → page < length pages → slot < SLOTS → get_or (get_or pages page d).writers slot None ≡ Some other
+  pub holds : (other page slot : ℕ) (d : PageState) → (x : Transaction) × (kept other ≡ Some x) → page < length pages → slot < SLOTS → get_or (get_or pages page d).writers slot None ≡ Some other
       → (is_unfinished other (log_of run) ≡ true) × (touches other page slot (log_of run) ≡ true)
   holds other page slot d k page_is slot_is wrote =
       let log : History = log_of run in

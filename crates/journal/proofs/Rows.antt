@@ -21,7 +21,7 @@ use Rattle.journal.specs.Traces.{Trace, opens, appends, forces, writes, syncs, r
 use Rattle.journal.proofs.Crash.{crash_is_lawful, crash_recovers}
 use Rattle.journal.proofs.Traces.{engine_survives, newest_lies}
 
-one_page : (page : Page) → page.number ≡ 0 → AreNumbered (page ∷ [])
+pub one_page : (page : Page) → page.number ≡ 0 → AreNumbered (page ∷ [])
 one_page page e = record { some = omega arith; few = omega arith; at_place = at_place }
   where
     at_place : (i : ℕ) (d : Page) → i < 1 → (slice_index_or (page ∷ []) i d).number ≡ i
@@ -32,7 +32,7 @@ one_page page e = record { some = omega arith; few = omega arith; at_place = at_
 abbrev begun : Run
 begun = new_run Version1 (holding 0 None ∷ [])
 
-begun_is : IsRun no_base begun
+pub begun_is : IsRun no_base begun
 begun_is = record {
   lawful = record {
     based = λ page. omega arith;
@@ -52,7 +52,7 @@ begun_is = record {
 abbrev updated : Run
 updated = appended begun (U 1 0 0 None a)
 
-update_follows : MayFollow no_base begun (U 1 0 0 None a)
+pub update_follows : MayFollow no_base begun (U 1 0 0 None a)
 update_follows = record {
   obeys = record { chain = refl; finish = (refl, refl, refl); compensation = tt; before = refl; strict = λ other n w. absurd (false≢true w) };
   fits = record { some_tx = omega arith; tx = omega arith; prev = omega arith; page = omega arith; slot = omega arith; before = tt; after = omega arith };
@@ -61,14 +61,14 @@ update_follows = record {
   tables = tt;
 }
 
-updated_is : IsRun no_base updated
+pub updated_is : IsRun no_base updated
 updated_is = (begun_is, update_follows)
 
 -- and commits
 abbrev with_commit : Run
 with_commit = appended updated (K 1 1)
 
-with_commit_is : IsRun no_base with_commit
+pub with_commit_is : IsRun no_base with_commit
 with_commit_is = (
   updated_is,
   record { obeys = record { chain = refl; finish = (refl, refl); compensation = tt; before = tt; strict = tt }; fits = record { some_tx = omega arith; tx = omega arith; prev = omega arith }; few = omega arith; names_pages = tt; tables = tt },
@@ -180,13 +180,13 @@ checkpoint_unended m = (let named = m.named in cc)
 abbrev cleaned : Run
 cleaned = appended (appended (reported updated 0 1) CheckpointBegin) (CheckpointEnd 2 one_active [])
 
-abbrev cleaned_log : LogContent
+abbrev pub cleaned_log : LogContent
 cleaned_log = L (U 1 0 0 None a ∷ CheckpointBegin ∷ CheckpointEnd 2 one_active [] ∷ [])
 
 older : IsMaster no_base cleaned cleaned_log (holding 0 None ∷ []) 2 → ⊥
 older m = (let told_then : 1 ≤ 0 = All-head (λ (page : Page). on_disk no_base (run_at 2 cleaned) page.number ≤ page.lsn) (holding 0 None) [] m.not_older in omega (arith, told_then))
 
-older_unlawful : DirtyLaw (log_of cleaned) 2 0 0 (rec_lsn_of 0 []) → ⊥
+pub older_unlawful : DirtyLaw (log_of cleaned) 2 0 0 (rec_lsn_of 0 []) → ⊥
 older_unlawful law =
     elim (law.covers 1 (U 1 0 0 None a) (omega arith) refl refl) [
       | inl old ↦ omega (arith, old)
@@ -194,20 +194,20 @@ older_unlawful law =
     ]
 
 -- AN ENGINE updates, forces the log, writes the page, and stops: recovery undoes the update.
-abbrev opening : Trace
+abbrev pub opening : Trace
 opening = opens (L []) (store_of 0 (holding 0 None))
 
 abbrev wrote : Trace
 wrote = writes (forces (appends opening (U 1 0 0 None a)) 1) (holding 1 a)
 
-wrote_keeps : KeepsRules no_base wrote
+pub wrote_keeps : KeepsRules no_base wrote
 wrote_keeps = ((tt, omega arith), record { there = omega arith; was_current = record { moment = 1; from = omega arith; is = refl }; ahead = omega arith; covered = λ s l. inl (ap (λ (x : StoreContent). x.master) l) })
 
 wrote_survives : slice_index_or (slice_index_or (store_out no_base (left_log wrote 1) (newest_store wrote)).pages 0 (holding 0 None)).slots 0 None ≡ None
 wrote_survives = (engine_survives no_base wrote 1 (newest_store wrote) updated_is wrote_keeps (omega arith) (omega arith) (newest_lies wrote)).recovers.holds 0 0 (holding 0 None) (omega arith) (omega arith)
 
 -- it commits, and forces the commit: the value is there, whether the page was written or not
-abbrev made_durable : Trace
+abbrev pub made_durable : Trace
 made_durable = forces (appends (appends opening (U 1 0 0 None a)) (K 1 1)) 2
 
 made_durable_is : committed 1 (history (left_log made_durable 2)) ≡ true
@@ -234,7 +234,7 @@ clean_then zero lt = record { range = λ rec_lsn e. absurd (cc); covers = covers
     covers (suc (suc (suc n))) r le f on = absurd (omega (arith, le))
 clean_then (suc page) lt = absurd (omega arith)
 
-cleaned_is : IsRun no_base cleaned
+pub cleaned_is : IsRun no_base cleaned
 cleaned_is = (
   (updated_is, record { obeys = record { chain = tt; finish = tt; compensation = tt; before = tt; strict = tt }; fits = tt; few = omega arith; names_pages = tt; tables = tt }),
   record {
@@ -253,7 +253,7 @@ cleaned_is = (
 abbrev mastered : Trace
 mastered = sets_master (forces (appends (syncs (appends (reports wrote 0 1) CheckpointBegin)) (CheckpointEnd 2 one_active [])) 3) 2
 
-mastered_keeps : KeepsRules no_base mastered
+pub mastered_keeps : KeepsRules no_base mastered
 mastered_keeps = (
   ((wrote_keeps, omega arith), omega arith),
   inr (record {

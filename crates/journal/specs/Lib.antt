@@ -5,6 +5,7 @@ pub mod Files
 pub mod Transactions
 pub mod PageStates
 pub mod Traces
+pub mod Holders
 pub mod Listed
 pub mod Refusals
 pub mod Arrays

@@ -5,6 +5,7 @@ use Rattle.page.specs.declared.page.Page.{Page}
 use Rattle.page.specs.declared.profile.TheConstants.{TRANSACTIONS}
 use Rattle.page.specs.Store.{StoreContent}
 use Rattle.wal.specs.declared.header.LogStart.{LogStart}
+use Rattle.wal.specs.Headers.{FitsStart}
 use Rattle.wal.specs.Records.{History, LogContent, history, first, last_lsn, lsn_before}
 use Rattle.wal.specs.Meaning.{is_of, has, pending}
 use Rattle.wal.specs.Tail.{unfinished_of}
@@ -12,10 +13,12 @@ use Rattle.journal.specs.declared.refusal.Refusal.{Refusal}
 use Rattle.journal.specs.declared.refusal.Refusal.TheVariants.{BadArrays, HasMaster, PageAhead, PageBehind, TooManyTransactions, NoPendingRoom, NoNumber, LogFull, NoResource}
 use Rattle.journal.specs.PageStates.{IsUpToDate}
 
--- a new one: the array of pages has another length than the store, the store has a master, or a page has a PageLSN above the base LSN
+-- a new one: the array of pages has another length than the store, the store has a master, the base LSN is too large for a log, or a page has
+-- a PageLSN above it
 abbrev pub NewRefused : LogStart → StoreContent → (room : ℕ) → Refusal → Type 0
 NewRefused begins store room BadArrays = room ≢ length store.pages
 NewRefused begins store room HasMaster = store.master ≢ 0
+NewRefused begins store room LogFull = FitsStart begins → ⊥
 NewRefused begins store room PageAhead = All (λ (page : Page). page.lsn ≤ lsn_before begins) store.pages → ⊥
 NewRefused begins store room _ = ⊥
 

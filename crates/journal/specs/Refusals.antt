@@ -115,6 +115,12 @@ abbrev pub LogWrittenRefused : Run → (lsn : ℕ) → Refusal → Type 0
 LogWrittenRefused run lsn NoSuchLsn = last_lsn (log_of run) < lsn
 LogWrittenRefused run lsn _ = ⊥
 
+-- there is no such cell among so many pages
+abbrev pub CellMissing : (count page slot : ℕ) → Refusal → Type 0
+CellMissing count page slot NoSuchPage = count ≤ page
+CellMissing count page slot NoSuchSlot = SLOTS ≤ slot
+CellMissing count page slot _ = ⊥
+
 -- there is no such cell, or another transaction that is kept wrote it last
 abbrev pub CellRefused : List PageState → (kept : ℕ → Option Transaction) → (tx page slot : ℕ) → Refusal → Type 0
 CellRefused pages kept tx page slot NoSuchPage = length pages ≤ page

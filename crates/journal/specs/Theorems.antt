@@ -1,14 +1,17 @@
 -- What is proved about runs and crashes from the definitions only (own).
-use Rattle.std.specs.Prelude.{◌≡◌, ◌<◌, ◌^◌, ℕ, true, Some, is_some, length, slice_index_or, None}
+use Rattle.std.specs.Prelude.{◌≡◌, ◌≤◌, ◌<◌, ◌^◌, ℕ, List, true, Some, is_some, length, slice_index_or, None}
 use Rattle.page.specs.declared.page.Page.{Page}
 use Rattle.page.specs.declared.profile.TheConstants.{SLOTS}
 use Rattle.page.specs.Store.{StoreContent}
+use Rattle.wal.specs.declared.header.LogStart.TheVariants.{Version2}
+use Rattle.wal.specs.declared.sizes.TheConstants.{LARGEST_BASE}
+use Rattle.wal.specs.Pages.{base_pages}
 use Rattle.wal.specs.Records.{LogRecord, LogContent, history, last_lsn, record_at}
 use Rattle.wal.specs.Meaning.{BasePages, committed, is_of, change_of, winners}
 use Rattle.wal.specs.Tail.{with_tail}
 use Rattle.wal.specs.Store.{Lawful, store_out}
 use Rattle.wal.specs.Theorems.{Settled}
-use Rattle.journal.specs.Runs.{Run, log_of, MayOpen, IsRun}
+use Rattle.journal.specs.Runs.{Run, log_of, MayOpen, IsRun, empty_log}
 use Rattle.journal.specs.Crash.{Crashed}
 
 -- CRASH LAW. What is on the disk when the engine stops, at any moment, is lawful.
@@ -35,3 +38,14 @@ CrashRecovers = (base : BasePages) (run : Run) (lsn : ℕ) (log : LogContent) (s
 abbrev pub RestartReopens : Type 0
 RestartReopens = (base : BasePages) (run : Run) (lsn : ℕ) (log : LogContent) (store : StoreContent)
     → IsRun base run → Crashed base run lsn log store → last_lsn (history (with_tail log)) < 2 ^ 64 → MayOpen base (with_tail log) (store_out base log store)
+
+-- ARCHIVE. The master is set to 0, and then a new log, which begins where the old one ends, takes its place. A journal may be opened with
+-- what is there before, between and after these steps; and a recovery of the new log changes no page.
+pub record MayArchive (base : BasePages) (log : LogContent) (pages : List Page) : Type 0 where
+  pub without_master : MayOpen base log (record { master = 0; pages = pages })
+  pub with_new_log : MayOpen (base_pages pages) (empty_log (Version2 (last_lsn (history log)))) (record { master = 0; pages = pages })
+  pub unchanged : (store_out (base_pages pages) (empty_log (Version2 (last_lsn (history log)))) (record { master = 0; pages = pages })).pages ≡ pages
+
+abbrev pub ArchiveReopens : Type 0
+ArchiveReopens = (base : BasePages) (log : LogContent) (store : StoreContent)
+    → MayOpen base log store → last_lsn (history log) ≤ LARGEST_BASE → MayArchive base log store.pages

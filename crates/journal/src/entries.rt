@@ -78,13 +78,14 @@ pub struct PageImage {
 #[repr(C)]
 #[derive(Clone, Copy)]
 pub struct PageEntry {
-    /// The page as the log has made it so far.
-    pub page: PageImage,
     /// RecLSN: the disk is known to have all changes of the page before this LSN. 0 if it is known
     /// to have all of them.
     pub rec_lsn: u64,
     /// For each slot, the transaction of its last update or CLR in the log; 0 if there is none.
     pub writers: [u32; SLOTS],
+    /// The page as the log has made it so far. It comes last: so its PageLSN and the other fields, which
+    /// an update changes, are in two lines of the processor's cache.
+    pub page: PageImage,
 }
 
 impl TransactionEntry {
@@ -130,13 +131,13 @@ impl PageEntry {
     /// [`open`](crate::open).
     pub fn blank() -> PageEntry {
         PageEntry {
+            rec_lsn: 0,
+            writers: [0; SLOTS],
             page: PageImage {
                 lsn: 0,
                 number: 0,
                 slots: [Image::absent(); SLOTS],
             },
-            rec_lsn: 0,
-            writers: [0; SLOTS],
         }
     }
 }

@@ -1,7 +1,7 @@
 //! Laws of the journal. Each function is a law: what it ensures follows from the definitions only.
 
 ghost use Rattle.journal.specs.JournalState.{FramesAreLog};
-ghost use Rattle.journal.specs.Theorems.{CrashIsLawful, CrashRecovers, RestartReopens};
+ghost use Rattle.journal.specs.Theorems.{ArchiveReopens, CrashIsLawful, CrashRecovers, RestartReopens};
 ghost use Rattle.journal.specs.Files.{FileReads};
 ghost use Rattle.journal.specs.Lives.{LivesSurvive};
 ghost use Rattle.journal.specs.Rollbacks.{CanRollBack, JournalCanRollBack};
@@ -27,6 +27,12 @@ pub fn crash_recovers()
 /// A journal can be opened with what a restart left, if its LSNs are in range.
 pub fn restart_reopens()
     ensures { RestartReopens }
+{}
+
+/// A journal can be opened with what an archive leaves, and with what is there between its steps. A
+/// recovery of the new log changes no page.
+pub fn archive_reopens()
+    ensures { ArchiveReopens }
 {}
 
 /// An engine that keeps the rules may stop at any moment. Then a recovery leaves exactly the

@@ -30,12 +30,12 @@ pub use disk::{log_written, page_to_write, page_written};
 pub use entries::{Head, PageEntry, PageImage, PendingEntry, TransactionEntry};
 pub use image::Image;
 pub use laws::{
-    can_roll_back, checkpoint_may_be_master, crash_is_lawful, crash_recovers,
+    archive_reopens, can_roll_back, checkpoint_may_be_master, crash_is_lawful, crash_recovers,
     current_may_be_written, earlier_may_be_written, engine_survives, file_reads, forced_file_reads,
     frames_are_log, journal_can_roll_back, lives_survive, restart_reopens, synced_may_be_master,
 };
 pub use opening::new;
-pub use operations::{abort, commit, end, newest_pending, prepare, undo, update};
+pub use operations::{abort, commit, end, holder, newest_pending, prepare, undo, update};
 pub use owned::Journal;
 pub use refusal::Refusal;
 pub use reopening::open;

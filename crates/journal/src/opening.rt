@@ -3,7 +3,6 @@
 ghost use Rattle.std.specs.Prelude.{◌≡◌, ◌≢◌, ◌≤◌, ◌↔◌, List, All, IsTrue, IfOk, OnOk, IfErr, OnErr, length, map};
 ghost use Rattle.page.specs.declared.profile.TheConstants.{SLOTS};
 ghost use Rattle.wal.specs.Records.{lsn_before};
-ghost use Rattle.wal.specs.Headers.{FitsStart};
 ghost use Rattle.wal.specs.Pages.{base_pages};
 ghost use Rattle.journal.specs.declared.entries.TransactionEntry.{TransactionEntry};
 ghost use Rattle.journal.specs.declared.entries.PendingEntry.{PendingEntry};
@@ -16,7 +15,7 @@ ghost use Rattle.journal.specs.State.{IsJournal};
 use crate::entries::{Head, PageEntry, PageImage};
 use crate::refusal::Refusal;
 use page::{Page, SLOTS, Store, Value};
-use wal::LogStart;
+use wal::{LARGEST_BASE, LogStart};
 
 // Nothing happens here: it tells the prover how many slots a page has.
 fn know_slots(slots: &[Option<Value>; SLOTS])
@@ -66,9 +65,9 @@ fn are_up_to(pages: &[Page], lsn: u64) -> bool
 /// Errors, after which `pages` is unchanged:
 /// - BadArrays: `pages` has not as many entries as the store has pages.
 /// - HasMaster: the store's master is not 0, so it names a checkpoint of another log.
+/// - LogFull: the base LSN is larger than that of a log can be.
 /// - PageAhead: a page has a PageLSN above the base LSN.
 pub fn new(begins: LogStart, store: &Store, pages: &mut [PageEntry]) -> Result<Head, Refusal>
-    requires { FitsStart begins }
     ensures ok { IfOk result (λ head. (ts : List TransactionEntry) (ps : List PendingEntry)
         → IsJournal (base_pages store.now.pages) (opened (empty_log begins) store.now)
         head ts pages.new ps) }
@@ -84,6 +83,9 @@ pub fn new(begins: LogStart, store: &Store, pages: &mut [PageEntry]) -> Result<H
         return Err(Refusal::HasMaster);
     }
     let base = begins.base();
+    if base > LARGEST_BASE {
+        return Err(Refusal::LogFull);
+    }
     if !are_up_to(&store.pages, base) {
         return Err(Refusal::PageAhead);
     }

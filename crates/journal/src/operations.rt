@@ -10,14 +10,15 @@ ghost use Rattle.journal.specs.declared.refusal.Refusal.TheVariants.{LogFull, No
 ghost use Rattle.journal.specs.declared.table.Need.TheVariants.{Working, NotAborting, NotPrepared};
 ghost use Rattle.journal.specs.declared.entries.PendingEntry.{PendingEntry};
 ghost use Rattle.journal.specs.declared.entries.PageEntry.{PageEntry};
-ghost use Rattle.journal.specs.Runs.{Run, appended, log_of};
+ghost use Rattle.journal.specs.Runs.{Run, appended, count_of, log_of};
 ghost use Rattle.journal.specs.Rollbacks.{newest_of, CanUndo};
 ghost use Rattle.journal.specs.PageStates.{PageState};
 ghost use Rattle.journal.specs.Arrays.{image_of, page_state_of, unless_0, kept_of, IsTable, OwesLess};
 ghost use Rattle.journal.specs.Writing.{IsWritten};
 ghost use Rattle.journal.specs.declared.framing.TheConstants.{LONGEST_CHANGE, LONGEST_UNDO};
-ghost use Rattle.journal.specs.Refusals.{IsNotRoom, StepRefused, RefusedFor, PrepareRefused, UpdateRefused, UndoRefused, EndRefused, CellRefused};
+ghost use Rattle.journal.specs.Refusals.{IsNotRoom, StepRefused, RefusedFor, PrepareRefused, UpdateRefused, UndoRefused, EndRefused, CellMissing, CellRefused};
 ghost use Rattle.journal.specs.Transactions.{IsFreeFor};
+ghost use Rattle.journal.specs.Holders.{IsHolder};
 ghost use Rattle.journal.specs.State.{IsJournal, update_by, IsUndo, plain_by};
 
 use crate::entries::{Head, PageEntry, PendingEntry, TransactionEntry};
@@ -94,18 +95,38 @@ fn is_other(entries: &[TransactionEntry], writer: u32, tx: u32) -> bool
     find(entries, writer).is_some()
 }
 
+/// What a cell holds, and the transaction of its last update or CLR, 0 for none. The errors are
+/// `NoSuchPage` and `NoSuchSlot`.
+fn cell_at<'a>(pages: &'a [PageEntry], page: u32, slot: u8) -> Result<(&'a Image, u32), Refusal>
+    ensures page { OnOk result (page < length pages.now) }
+    ensures slot { OnOk result (slot < SLOTS) }
+    ensures value { IfOk result (λ c. (d : PageState) → image_of c.0.now
+        ≡ slice_index_or (slice_index_or (map page_state_of pages.now) page d).page.slots slot None) }
+    ensures writer { IfOk result (λ c. (d : PageState) → unless_0 c.1
+        ≡ slice_index_or (slice_index_or (map page_state_of pages.now) page d).writers slot None) }
+    ensures err { IfErr result (CellMissing (length pages.now) page slot) }
+{
+    if page as usize >= pages.len() {
+        return Err(Refusal::NoSuchPage);
+    }
+    if slot as usize >= SLOTS {
+        return Err(Refusal::NoSuchSlot);
+    }
+    Ok(pages[page as usize].cell(slot))
+}
+
 /// What a cell holds, if this transaction may update it. Errors: `NoSuchPage`, `NoSuchSlot`, and
 /// `Held` if its last writer is another unfinished transaction.
-fn value_for(
-    pages: &[PageEntry],
+fn value_for<'a>(
+    pages: &'a [PageEntry],
     entries: &[TransactionEntry],
     tx: u32,
     page: u32,
     slot: u8,
-) -> Result<Image, Refusal>
+) -> Result<&'a Image, Refusal>
     ensures page { OnOk result (page < length pages.now) }
     ensures slot { OnOk result (slot < SLOTS) }
-    ensures value { IfOk result (λ v. (d : PageState) → image_of v
+    ensures value { IfOk result (λ v. (d : PageState) → image_of v.now
         ≡ slice_index_or (slice_index_or (map page_state_of pages.now) page d).page.slots slot None) }
     ensures free { OnOk result ((ps : List PendingEntry) (d : PageState) → IsTable entries.now
         → IsFreeFor (kept_of entries.now ps)
@@ -114,17 +135,40 @@ fn value_for(
     ensures err { IfErr result (λ e. (ps : List PendingEntry) → IsTable entries.now
         → CellRefused (map page_state_of pages.now) (kept_of entries.now ps) tx page slot e) }
 {
-    if page as usize >= pages.len() {
-        return Err(Refusal::NoSuchPage);
-    }
-    if slot as usize >= SLOTS {
-        return Err(Refusal::NoSuchSlot);
-    }
-    let (image, writer) = pages[page as usize].cell(slot);
+    let (image, writer) = cell_at(pages, page, slot)?;
     if is_other(entries, writer, tx) {
         return Err(Refusal::Held(writer));
     }
     Ok(image)
+}
+
+/// The unfinished transaction that holds a cell: it has an update or a CLR there. `None` if no
+/// transaction holds it.
+///
+/// Errors:
+/// - NoSuchPage, NoSuchSlot: there is no such cell.
+/// - BadArrays: an array is shorter than the head says.
+pub fn holder(
+    head: &Head,
+    transactions: &[TransactionEntry],
+    pages: &[PageEntry],
+    page: u32,
+    slot: u8,
+) -> Result<Option<u32>, Refusal>
+    ensures held { IfOk result (λ holder. (base : BasePages) (run : Run) (ps : List PendingEntry)
+        → IsJournal base run head.now transactions.now pages.now ps
+        → IsHolder run page slot holder) }
+    ensures refused { IfErr result (λ e. (base : BasePages) (run : Run) (ps : List PendingEntry)
+        → IsJournal base run head.now transactions.now pages.now ps
+        → CellMissing (count_of run) page slot e) }
+{
+    let count = used(head.transactions, transactions.len())?;
+    let (_, writer) = cell_at(pages, page, slot)?;
+    if is_other(&transactions[..count], writer, 0) {
+        Ok(Some(writer))
+    } else {
+        Ok(None)
+    }
 }
 
 /// A transaction puts an image into a slot of a page: appends an update record, whose LSN is
@@ -191,16 +235,16 @@ pub fn update(
     let place = place_for(entries, tx, Need::Working)?;
     let prev = entries[place].last;
     let before = value_for(pages, entries, tx, page, slot)?;
-    room_for(out, update_size(&before, after))?;
+    room_for(out, update_size(before, after))?;
     let top = room_for_one(entries, pending, head.pending)?;
-    let size = put_update(out, lsn, tx, prev, page, slot, &before, after);
+    let size = put_update(out, lsn, tx, prev, page, slot, before, after);
     let update = PendingEntry {
         lsn,
         prev,
         tx,
         page,
         slot,
-        before,
+        before: *before,
     };
     note_update(transactions, place, pending, top, &update);
     change_cell(pages, tx, page, slot, after, lsn);

@@ -4,7 +4,6 @@ ghost use Rattle.std.specs.Prelude.{◌≡◌, ◌≤◌, ◌<◌, ◌+◌, ◌*
 ghost use Rattle.page.specs.declared.profile.TheConstants.{TRANSACTIONS};
 ghost use Rattle.wal.specs.Records.{Commit, Abort, End, Prepare, last_lsn, history};
 ghost use Rattle.wal.specs.Meaning.{BasePages, is_of, has, pending};
-ghost use Rattle.wal.specs.Headers.{FitsStart};
 ghost use Rattle.wal.specs.Pages.{base_pages};
 ghost use Rattle.journal.specs.declared.refusal.Refusal.TheVariants.{NoResource, NoSuchLsn};
 ghost use Rattle.journal.specs.declared.framing.TheConstants.{LONGEST_UNDO};
@@ -12,12 +11,13 @@ ghost use Rattle.journal.specs.declared.table.Need.TheVariants.{NotAborting, Not
 ghost use Rattle.journal.specs.declared.entries.TransactionEntry.{TransactionEntry};
 ghost use Rattle.journal.specs.declared.entries.PendingEntry.{PendingEntry};
 ghost use Rattle.journal.specs.Arrays.{kept_of, IsTable, AllLive};
-ghost use Rattle.journal.specs.Runs.{Run, reported, opened, empty_log, MayOpen, log_of};
+ghost use Rattle.journal.specs.Runs.{Run, reported, opened, empty_log, MayOpen, count_of, log_of};
 ghost use Rattle.journal.specs.State.{update_by, plain_by};
 ghost use Rattle.journal.specs.PageStates.{IsCurrent};
 ghost use Rattle.journal.specs.Rollbacks.{newest_of, CanUndo};
 ghost use Rattle.journal.specs.Opened.{OwnNewRefused, OwnOpenRefused, OpenRefusedFor};
-ghost use Rattle.journal.specs.Refusals.{CancelRefused, ReportRefused, PageToWriteRefused, StepRefused, OwnBeginRefused, OwnUpdateRefused, OwnPrepareRefused, OwnUndoRefused, OwnEndRefused, OwnCheckpointRefused};
+ghost use Rattle.journal.specs.Holders.{IsHolder};
+ghost use Rattle.journal.specs.Refusals.{CellMissing, CancelRefused, ReportRefused, PageToWriteRefused, StepRefused, OwnBeginRefused, OwnUpdateRefused, OwnPrepareRefused, OwnUndoRefused, OwnEndRefused, OwnCheckpointRefused};
 ghost use Rattle.journal.specs.JournalState.{JournalState, Keeps, Appends, StaysKept, Undoes, TakesCheckpoint, RollsBackTo, RollsBackAll};
 
 use crate::checkpoints::LONGEST_CHECKPOINT;
@@ -25,7 +25,7 @@ use crate::entries::{Head, PageEntry, PendingEntry, TransactionEntry};
 use crate::framing::{LONGEST_CHANGE, LONGEST_UNDO};
 use crate::image::Image;
 use crate::refusal::Refusal;
-use crate::table::count_live;
+use crate::table::has_dead;
 use crate::{beginning, checkpoints, disk, opening, operations, reopening};
 use page::{Page, Store, TRANSACTIONS, Value};
 use std::alloc::Global;
@@ -57,6 +57,8 @@ pub struct Journal {
     reserved: usize,
     /// The LSN up to which the frames were taken.
     taken: u64,
+    /// How many pending updates were needed when the array of them was last full.
+    needed: usize,
 }
 
 impl Model for Journal {
@@ -110,12 +112,13 @@ fn make_room(
     Ok(rollback)
 }
 
-/// Makes room for one pending update more than these, if the array is full and more than half of it
-/// is needed. The only error is `NoResource`.
+/// Makes the array of pending updates twice as long if it is full and each of them is needed, or more
+/// than half of it was needed when it was full before. The only error is `NoResource`.
 fn make_pending_room(
     entries: &[TransactionEntry],
     pending: &mut Vec<PendingEntry>,
     held: usize,
+    needed: usize,
 ) -> Result<(), Refusal>
     ensures kept { (n : ℕ) → n ≤ length pending.old.items
         → take n pending.new.items ≡ take n pending.old.items }
@@ -125,16 +128,27 @@ fn make_pending_room(
     ensures err { IsOkUnless result NoResource }
 {
     let size = pending.len();
-    if held < size || count_live(entries, pending) <= size / 2 {
+    if held < size {
+        return Ok(());
+    }
+    if needed <= size / 2 && has_dead(entries, pending) {
         return Ok(());
     }
     let Some(more) = held.checked_mul(2) else {
         return Err(Refusal::NoResource);
     };
-    if more > size {
-        pending.resize(more, PendingEntry::blank())?;
-    }
+    pending.resize(more, PendingEntry::blank())?;
     Ok(())
+}
+
+/// How many pending updates were needed when the array was last full. So many were before an update;
+/// there were `held` entries in use before it, and `now` are in use. If these are not more, the array
+/// was full, and only what is needed was kept.
+fn needed_after(needed: usize, held: usize, now: usize) -> usize
+    ensures full { now ≤ held → result ≡ now }
+    ensures same { held < now → result ≡ needed }
+{
+    if now <= held { now } else { needed }
 }
 
 /// An array of blank entries for each of so many pages.
@@ -159,6 +173,20 @@ impl Journal {
         ensures { result.now ≡ self.now.transactions }
     {
         &self.transactions[..self.head.transactions]
+    }
+
+    /// The unfinished transaction that holds a cell: it has an update or a CLR there, and no other
+    /// transaction may update the cell. `None` if no transaction holds it.
+    ///
+    /// Errors:
+    /// - NoSuchPage, NoSuchSlot: there is no such page or slot.
+    pub fn holder(&self, page: u32, slot: u8) -> Result<Option<u32>, Refusal>
+        ensures held { IfOk result (λ holder. (base : BasePages) (run : Run)
+            → Keeps base run self.now → IsHolder run page slot holder) }
+        ensures refused { IfErr result (λ e. (base : BasePages) (run : Run)
+            → Keeps base run self.now → CellMissing (count_of run) page slot e) }
+    {
+        operations::holder(&self.head, &self.transactions, &self.pages, page, slot)
     }
 
     /// The frames of the records after those that `frames_taken` reported: the next bytes of the log.
@@ -274,10 +302,10 @@ impl Journal {
     ///
     /// Errors:
     /// - HasMaster: the store's master is not 0, so it names a checkpoint of another log.
+    /// - LogFull: the base LSN is larger than that of a log can be.
     /// - PageAhead: a page has a PageLSN above the base LSN.
     /// - NoResource: memory was refused.
     pub fn new(alloc: Global, begins: LogStart, store: &Store) -> Result<Journal, Refusal>
-        requires { FitsStart begins }
         ensures ok { IfOk result (Keeps (base_pages store.now.pages)
             (opened (empty_log begins) store.now)) }
         ensures none { IfOk result (λ j. j.frames ≡ []) }
@@ -299,6 +327,7 @@ impl Journal {
             length: 0,
             reserved: rollback,
             taken: head.last,
+            needed: 0,
         })
     }
 
@@ -326,6 +355,7 @@ impl Journal {
             length: 0,
             reserved: rollback,
             taken: head.last,
+            needed: 0,
         })
     }
 
@@ -408,7 +438,8 @@ impl Journal {
             → Keeps base run self.old → OwnUpdateRefused run tx page slot self.old.head e) }
     {
         let entries = &self.transactions[..self.head.transactions];
-        make_pending_room(entries, &mut self.pending, self.head.pending)?;
+        let held = self.head.pending;
+        make_pending_room(entries, &mut self.pending, held, self.needed)?;
         let rollback = make_room(
             &mut self.buffer,
             self.length,
@@ -426,6 +457,7 @@ impl Journal {
             &Image::of(&after),
             &mut self.buffer[self.length..],
         )?;
+        self.needed = needed_after(self.needed, held, self.head.pending);
         self.length += size;
         self.reserved = rollback;
         Ok(self.head.last)

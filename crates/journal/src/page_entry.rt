@@ -71,14 +71,14 @@ impl PageEntry {
     }
 
     /// What a slot holds, and the transaction of its last update or CLR, 0 for none.
-    pub fn cell(&self, slot: u8) -> (Image, u32)
+    pub fn cell(&self, slot: u8) -> (&Image, u32)
         requires { slot < SLOTS }
-        ensures image { image_of result.0
+        ensures image { image_of result.0.now
             ≡ slice_index_or (page_state_of self.now).page.slots slot None }
         ensures writer { unless_0 result.1 ≡ slice_index_or (page_state_of self.now).writers slot None }
     {
         know_slots(&self.page.slots, &self.writers);
-        (self.page.slots[slot as usize], self.writers[slot as usize])
+        (&self.page.slots[slot as usize], self.writers[slot as usize])
     }
 
     /// Notes that the image with this PageLSN is on the disk.

@@ -49,7 +49,8 @@ pub enum Refusal {
     /// The arrays are not those of a journal: one is shorter than it must be, or the array of pages
     /// has not as many entries as the store has pages.
     BadArrays,
-    /// The LSNs that are left are reserved for the rollback of the unfinished transactions.
+    /// The LSNs that are left are reserved for the rollback of the unfinished transactions; or a new
+    /// log's base LSN is larger than that of a log can be.
     LogFull,
     /// Memory was refused.
     NoResource,

@@ -71,9 +71,26 @@ pub fn used(count: usize, length: usize) -> Result<usize, Refusal>
     Ok(count)
 }
 
-/// The place of the transaction with this number, if the array has it. The entries must be in
-/// ascending order of number.
-pub fn find(entries: &[TransactionEntry], tx: u32) -> Option<usize>
+/// The place of the transaction with this number, if the array has it and each number from it to the
+/// last one: transactions that began after it have not finished.
+fn place_in_turn(entries: &[TransactionEntry], tx: u32) -> Option<usize>
+    ensures within { IfSome result (λ i. i < length entries.now) }
+    ensures found { IfSome result (λ i. (d : TransactionEntry)
+        → (slice_index_or entries.now i d).tx ≡ tx) }
+{
+    let newest = entries.last()?;
+    let younger = newest.tx.checked_sub(tx)? as usize;
+    let place = (entries.len() - 1).checked_sub(younger)?;
+    if entries[place].tx == tx {
+        Some(place)
+    } else {
+        None
+    }
+}
+
+/// The place of the transaction with this number, if the array has it, by bisection. The entries must
+/// be in ascending order of number.
+fn place_among(entries: &[TransactionEntry], tx: u32) -> Option<usize>
     ensures within { IfSome result (λ i. i < length entries.now) }
     ensures found { IfSome result (λ i. (d : TransactionEntry)
         → (slice_index_or entries.now i d).tx ≡ tx) }
@@ -95,6 +112,21 @@ pub fn find(entries: &[TransactionEntry], tx: u32) -> Option<usize>
         }
     }
     None
+}
+
+/// The place of the transaction with this number, if the array has it. The entries must be in
+/// ascending order of number.
+pub fn find(entries: &[TransactionEntry], tx: u32) -> Option<usize>
+    ensures within { IfSome result (λ i. i < length entries.now) }
+    ensures found { IfSome result (λ i. (d : TransactionEntry)
+        → (slice_index_or entries.now i d).tx ≡ tx) }
+    ensures none { IsTable entries.now → result ≡ None
+        → All (λ e. e.tx ≢ tx) entries.now }
+{
+    match place_in_turn(entries, tx) {
+        Some(place) => Some(place),
+        None => place_among(entries, tx),
+    }
 }
 
 /// The place of this transaction, if its state allows the operation. Errors: `UnknownTransaction`
@@ -162,21 +194,6 @@ fn is_listed(entries: &[TransactionEntry], tx: u32) -> bool
     find(entries, tx).is_some()
 }
 
-/// How many of these updates are still needed.
-pub fn count_live(entries: &[TransactionEntry], pending: &[PendingEntry]) -> usize
-    ensures few { result ≤ length pending.now }
-    ensures all { IsTable entries.now → AllLive entries.now pending.now
-        → result ≡ length pending.now }
-{
-    let mut count = 0;
-    for held in pending {
-        if is_listed(entries, held.tx) {
-            count += 1;
-        }
-    }
-    count
-}
-
 /// The place of the first update that is not needed any more: the array of transactions does not
 /// have its transaction.
 fn first_dead(entries: &[TransactionEntry], pending: &[PendingEntry]) -> Option<usize>
@@ -193,6 +210,13 @@ fn first_dead(entries: &[TransactionEntry], pending: &[PendingEntry]) -> Option<
         }
     }
     None
+}
+
+/// Whether some of these updates are not needed any more.
+pub fn has_dead(entries: &[TransactionEntry], pending: &[PendingEntry]) -> bool
+    ensures { result ≡ true → IsTable entries.now → AllLive entries.now pending.now → ⊥ }
+{
+    first_dead(entries, pending).is_some()
 }
 
 /// Removes the updates that are not needed any more, the first of which is at the place `dead`.

@@ -1,8 +1,12 @@
 -- The files that an engine leaves when it stops (own).
-use Rattle.std.specs.Prelude.{◌≡◌, ◌≤◌, ℕ, List}
+use Rattle.std.specs.Prelude.{◌≡◌, ◌≤◌, ℕ, List, Option, Some}
+use Rattle.std.specs.Io.KnownBytes.{Appends}
 use Rattle.page.specs.File.{SpellsStore}
 use Rattle.page.specs.Store.{StoreContent}
 use Rattle.wal.specs.Meaning.{BasePages}
+use Rattle.device.specs.declared.traits.Sink.{Ghosts as Sink}
+use Rattle.restart.specs.declared.options.Options.{Options}
+use Rattle.restart.specs.Options.{AreInRange}
 use Rattle.recovery.specs.Recovery.{Recovered, AreLawful}
 use Rattle.recovery.specs.Text.{ReportContent}
 use Rattle.journal.specs.Runs.{log_of, IsRun}
@@ -45,3 +49,18 @@ pub record HasLasting (base : BasePages) (t : Trace) (there : StoreContent) (log
 
 abbrev pub LeftIsLawful : Type 0
 LeftIsLawful = (base : BasePages) (t : Trace) (log store : List ℕ) (left : IsLeft base t log store) → HasLasting base t left.there log store
+
+-- OVER DEVICES
+-- P is true of what an engine left, if it is known what the sources have left, and the options are in range
+abbrev pub ForLeft : (log_left store_left : Option (List ℕ)) → Options → (BasePages → Trace → StoreContent → List ℕ → Type 0) → Type 0
+ForLeft log_left store_left options P =
+    (base : BasePages) (t : Trace) (log store : List ℕ) → log_left ≡ Some log → store_left ≡ Some store → AreInRange options
+    → (left : IsLeft base t log store) → P base t left.there log
+
+-- the log's sink and the store's, each before and after the call, took the files of a survivor
+pub record DeliversSurvivor {L S : Type 0} (log : Sink L) (log_old log_new : L) (store : Sink S) (store_old store_new : S) (base : BasePages) (t : Trace) (there : StoreContent) (file : List ℕ) (report : ReportContent) : Type 0 where
+  pub new_log : List ℕ
+  pub new_store : List ℕ
+  pub survivor : IsSurvivor base t there file new_log new_store report
+  pub log_out : Appends (log.taken log_old) (log.taken log_new) new_log
+  pub store_out : Appends (store.taken store_old) (store.taken store_new) new_store

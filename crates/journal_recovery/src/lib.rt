@@ -8,11 +8,16 @@ ghost use Rattle.page.specs.declared.fault.Fault.TheVariants.{NoResource};
 ghost use Rattle.wal.specs.Meaning.{BasePages};
 ghost use Rattle.recovery.specs.Recovery.{new_log};
 ghost use Rattle.journal.specs.Traces.{Trace};
-ghost use Rattle.journal_recovery.specs.Left.{IsLeft, IsSurvivor, LeftIsLawful};
+ghost use Rattle.recovery.specs.Devices.{UnlessDevice};
+ghost use Rattle.journal_recovery.specs.Left.{IsLeft, IsSurvivor, LeftIsLawful, ForLeft, DeliversSurvivor};
 
+use device::{Sink, Source};
 use page::Fault;
-use recovery::{Recovery, recovery_alone};
+use recovery::{Recovery, Report, recover, recovery_alone};
+use redo::Gate;
+use restart::Options;
 use std::alloc::Global;
+use std::thread::Threads;
 
 /// Recovers a store from its log, both in memory and without threads. If an engine that keeps the
 /// rules left both files when it stopped, the only error is `NoResource`. It is
@@ -27,6 +32,33 @@ pub fn recover_crashed<'a>(
         (λ e. e ≡ NoResource) }
 {
     recovery_alone(alloc, log, store)
+}
+
+/// Recovers a store from its log as [`recover_crashed`] does, over devices and with threads: it is
+/// [`recover`](recovery::recover). If an engine that keeps the rules left both files when it stopped,
+/// the only errors are a lack of memory or of a thread, and those of the devices.
+pub fn recover_crashed_devices<
+    LR: Source,
+    SR: Source,
+    LW: Sink,
+    SW: Sink,
+    G: Gate,
+    R: Threads + Sync,
+>(
+    rt: &R,
+    alloc: Global,
+    log: &mut LR,
+    store: &mut SR,
+    out_log: &mut LW,
+    out_store: &mut SW,
+    options: &Options,
+    gate: &G,
+) -> Result<Report, Fault>
+    ensures { ForLeft (LR.left log.old) (SR.left store.old) options.now (λ base t there file.
+        UnlessDevice result (DeliversSurvivor LW.Sink out_log.old out_log.new
+        SW.Sink out_store.old out_store.new base t there file)) }
+{
+    recover(rt, alloc, log, store, out_log, out_store, options, gate)
 }
 
 /// What an engine leaves when it stops, at any moment, is lawful. That is the premise of every

@@ -5,7 +5,7 @@ use journal::{Journal, Refusal};
 use page::{Fault, Page, Store, Value, decode_store, encode_page, store_header};
 use std::alloc::Global;
 use std::test::Fail;
-use wal::{LogStart, plain_header, read_log};
+use wal::{LARGEST_BASE, LogStart, plain_header, read_log};
 
 /// How many pages there are.
 const COUNT: u32 = 3;
@@ -92,6 +92,17 @@ fn new_refuses_a_master(rt: HostRuntime) -> Result<(), Fail> {
     check(refused(opened) == Some(Refusal::HasMaster), "master")
 }
 
+#[test]
+fn new_refuses_too_large_a_base(rt: HostRuntime) -> Result<(), Fail> {
+    let store = empty_store(rt.alloc(), 0)?;
+    let base = LARGEST_BASE;
+    let largest = Journal::new(rt.alloc(), LogStart::Version2 { base }, &store);
+    check(largest.is_ok(), "the largest base LSN")?;
+    let base = LARGEST_BASE + 1;
+    let larger = Journal::new(rt.alloc(), LogStart::Version2 { base }, &store);
+    check(refused(larger) == Some(Refusal::LogFull), "a larger one")
+}
+
 /// A journal after two transactions, of which the first committed. The first changed page 0, and
 /// the second page 1. If `often`, the frames are taken after each record, otherwise at the end.
 /// Returns the log's bytes too.
@@ -162,6 +173,26 @@ fn a_page_waits_for_its_log(rt: HostRuntime) -> Result<(), Fail> {
         (
             unwritten(&journal, 1) == Some(Refusal::LogNotWritten(3)),
             "page 1",
+        ),
+    ])
+}
+
+#[test]
+fn a_cell_is_held_until_the_end(rt: HostRuntime) -> Result<(), Fail> {
+    let (journal, _) = two_transactions(rt.alloc(), false)?;
+    let second = journal.unfinished().first().map(|entry| entry.tx);
+    check_all(&[
+        (second.is_some(), "the second transaction is unfinished"),
+        (journal.holder(0, 5).ok() == Some(None), "after a commit"),
+        (journal.holder(1, 5).ok() == Some(second), "after an update"),
+        (journal.holder(1, 4).ok() == Some(None), "another cell"),
+        (
+            journal.holder(COUNT, 0).err() == Some(Refusal::NoSuchPage),
+            "no such page",
+        ),
+        (
+            journal.holder(0, 16).err() == Some(Refusal::NoSuchSlot),
+            "no such slot",
         ),
     ])
 }

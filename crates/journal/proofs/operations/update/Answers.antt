@@ -56,11 +56,11 @@ returns-clause-ok c = λ base run h.
     let table = subst IsTable (sym e) h.arrays.used.table in
     let made : IsRoomMade (take n ts) c.args.head.now.pending c.in_ok-top.top ps c.room_for_one.new.pending =
     subst (λ (zs : List TransactionEntry). IsRoomMade zs c.args.head.now.pending c.in_ok-top.top ps c.room_for_one.new.pending) e (c.in_ok-top.ensures.kept table) in
-    let fits = subst (λ k. Fits (Update (record { tx = tx; prev = k; page = c.args.page; slot = c.args.slot; before = image_of c.in_ok-before.before; after = image_of c.args.after.now }))) prev c.put_update-size.ensures.fits in
+    let fits = subst (λ k. Fits (Update (record { tx = tx; prev = k; page = c.args.page; slot = c.args.slot; before = image_of c.in_ok-before.before.now; after = image_of c.args.after.now }))) prev c.put_update-size.ensures.fits in
     let enough = subst (λ n. c.args.head.now.last + 2 + 2 * n + c.args.head.now.pending < 2 ^ 64) c.in_ok-count.ensures.ok c.in_ok-reserve.ensures.ok in
-    let pushed = c.note_update.ensures.pending ∙ ap (λ k. set c.room_for_one.new.pending c.in_ok-top.top (record { lsn = c.in_ok-lsn.lsn; prev = k; tx = tx; page = c.args.page; slot = c.args.slot; before = c.in_ok-before.before })) prev in
+    let pushed = c.note_update.ensures.pending ∙ ap (λ k. set c.room_for_one.new.pending c.in_ok-top.top (record { lsn = c.in_ok-lsn.lsn; prev = k; tx = tx; page = c.args.page; slot = c.args.slot; before = c.in_ok-before.before.now })) prev in
     updated_is base run c.args.head.now ts pages ps h tx place within found c.in_ok-top.top c.room_for_one.new.pending c.in_ok-top.ensures.within c.room_for_one.auto.pending made
-    c.in_ok-lsn.lsn c.in_ok-lsn.ensures.ok c.in_ok-lsn.ensures.few c.args.page c.args.slot c.in_ok-before.before c.args.after.now c.note_update.new.transactions c.note_update.new.pending c.change_cell.new.pages enough
+    c.in_ok-lsn.lsn c.in_ok-lsn.ensures.ok c.in_ok-lsn.ensures.few c.args.page c.args.slot c.in_ok-before.before.now c.args.after.now c.note_update.new.transactions c.note_update.new.pending c.change_cell.new.pages enough
     (c.note_update.ensures.transaction no_entry) pushed c.change_cell.ensures c.in_ok-before.ensures.page c.in_ok-before.ensures.slot c.in_ok-before.ensures.value
     (λ zs d t. subst (λ (xs : List TransactionEntry). IsFreeFor (kept_of xs zs) (get_or (get_or (map page_state_of pages) c.args.page d).writers c.args.slot None) tx) e (c.in_ok-before.ensures.free zs d table))
     allowed fits
@@ -78,9 +78,9 @@ returns-clause-written c = λ base run h.
     let found : (get_or (take n ts) place no_entry).tx ≡ tx = subst (λ (xs : List TransactionEntry). (get_or xs place no_entry).tx ≡ tx) e (c.in_ok-place.ensures.found no_entry) in
     let last : (get_or (take c.in_ok-count.count ts) place no_entry).last ≡ last_of tx (log_of run) =
     ap (λ (xs : List TransactionEntry). (get_or xs place no_entry).last) e ∙ (h.holds.transactions.each tx _ (kept_is base run c.args.head.now ts pages ps h tx place within found)).last in
-    let before : image_of c.in_ok-before.before ≡ replay base (log_of run) c.args.page c.args.slot = value_is base run c.args.head.now ts pages ps h c.args.page c.args.slot c.in_ok-before.ensures.page c.in_ok-before.ensures.slot (image_of c.in_ok-before.before) c.in_ok-before.ensures.value in
+    let before : image_of c.in_ok-before.before.now ≡ replay base (log_of run) c.args.page c.args.slot = value_is base run c.args.head.now ts pages ps h c.args.page c.args.slot c.in_ok-before.ensures.page c.in_ok-before.ensures.slot (image_of c.in_ok-before.before.now) c.in_ok-before.ensures.value in
     let r : ℕ → Content → LogRecord = λ k b. Update (record { tx = tx; prev = k; page = c.args.page; slot = c.args.slot; before = b; after = image_of c.args.after.now }) in
-    let one = subst (λ k. IsWritten (r k (image_of c.in_ok-before.before)) c.in_ok-lsn.lsn c.args.out.now c.put_update-size.new.out c.put_update-size.result) last c.put_update-size.ensures.written in
+    let one = subst (λ k. IsWritten (r k (image_of c.in_ok-before.before.now)) c.in_ok-lsn.lsn c.args.out.now c.put_update-size.new.out c.put_update-size.result) last c.put_update-size.ensures.written in
     let two = subst (λ b. IsWritten (r (last_of tx (log_of run)) b) c.in_ok-lsn.lsn c.args.out.now c.put_update-size.new.out c.put_update-size.result) before one in
     subst (λ k. IsWritten (r (last_of tx (log_of run)) (replay base (log_of run) c.args.page c.args.slot)) k c.args.out.now c.put_update-size.new.out c.put_update-size.result) c.in_ok-lsn.ensures.ok two
 
@@ -90,8 +90,8 @@ returns-in_err-room_for-clause-refused c =
     let ts : List TransactionEntry = c.args.transactions.now in
     let short = c.in_err-room_for.ensures.short in
     rw (exit.1, exit.2) (λ base run h.
-    let before : image_of c.in_ok-before.before ≡ replay base (log_of run) c.args.page c.args.slot = value_is base run c.args.head.now ts c.args.pages.now c.args.pending.now h c.args.page c.args.slot c.in_ok-before.ensures.page c.in_ok-before.ensures.slot (image_of c.in_ok-before.before) c.in_ok-before.ensures.value in
-    let same : length (image (image_of c.in_ok-before.before)) ≡ length (image (replay base (log_of run) c.args.page c.args.slot)) = ap (λ b. length (image b)) before in
+    let before : image_of c.in_ok-before.before.now ≡ replay base (log_of run) c.args.page c.args.slot = value_is base run c.args.head.now ts c.args.pages.now c.args.pending.now h c.args.page c.args.slot c.in_ok-before.ensures.page c.in_ok-before.ensures.slot (image_of c.in_ok-before.before.now) c.in_ok-before.ensures.value in
+    let same : length (image (image_of c.in_ok-before.before.now)) ≡ length (image (replay base (log_of run) c.args.page c.args.slot)) = ap (λ b. length (image b)) before in
     let size : c.update_size.result ≡ length (frame (update_by base run c.args.tx c.args.page c.args.slot (image_of c.args.after.now)) (c.args.head.now.last + 1)) =
     omega (arith, c.update_size.ensures.size, same, length-append (image (replay base (log_of run) c.args.page c.args.slot)) (image (image_of c.args.after.now))) in
     subst (UpdateRefused run c.args.tx c.args.page c.args.slot c.args.after.now (length (frame (update_by base run c.args.tx c.args.page c.args.slot (image_of c.args.after.now)) (c.args.head.now.last + 1))) (length c.args.out.now) c.args.head.now ts c.args.pending.now)

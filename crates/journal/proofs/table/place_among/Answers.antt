@@ -1,7 +1,7 @@
 use Rattle.std.proofs.Common.{◌+◌, ◌-◌, ◌/◌, ◌<◌, ℕ, List, length, arith}
 use Rattle.journal.specs.declared.entries.TransactionEntry.{TransactionEntry}
 use Rattle.journal.proofs.Tables.{rises_to}
-use Rattle.journal.proofs.table.find.Goals as goal
+use Rattle.journal.proofs.table.place_among.Goals as goal
 
 blank : TransactionEntry
 blank = record { last = 0; undo_next = 0; below = 0; tx = 0; state = 0 }

@@ -1,7 +1,7 @@
 use Rattle.std.proofs.Common.{◌≤◌, ◌<◌, ◌-◌, ℕ, length, get_or}
 use Rattle.journal.specs.declared.entries.TransactionEntry.{TransactionEntry}
 use Rattle.journal.specs.Arrays.{IsTable}
-use Rattle.journal.proofs.table.find.Given as goal
+use Rattle.journal.proofs.table.place_among.Given as goal
 
 abbrev pub invariant-search : goal.invariant-search
 invariant-search l = record {
