@@ -250,6 +250,329 @@ struct aries_fault aries_write_page(const struct aries_page *page, uint8_t *out,
 /* Reads the page with this number from its image. If the bytes are not its image: 12, with this number as place. */
 struct aries_fault aries_read_page(const uint8_t *image, size_t image_length, uint32_t number, struct aries_page *page);
 
+/*
+ * JOURNAL
+ *
+ * A journal writes the log for an engine. It keeps the pages, the transactions that have not finished, and the updates
+ * that may still be undone. Each call appends the right record, or is refused. So the log is always lawful, and after a
+ * crash at any moment a recovery leaves exactly the effects of the committed transactions and of those in doubt, if the
+ * engine keeps three rules:
+ *
+ * - It appends the frames to the log in the order in which the calls returned them.
+ * - It writes a page only if aries_journal_page_to_write allows it; it writes the whole page, as it is in `pages`, and
+ *   never over a newer image.
+ * - It reports only what is on the disk. The master is 0, or the LSN of the begin record of a checkpoint whose end
+ *   record is on the disk, together with each page that was reported before the checkpoint.
+ *
+ * MEMORY OF A JOURNAL. It is a struct aries_journal and three arrays, which belong to the caller: of transactions, of
+ * pages, and of pending updates. All calls on a journal take the same arrays with the same lengths, and only these
+ * calls change them. The caller may read them: pages[n].page is page n as it is now. There are as many page entries as
+ * the store has pages, and 1 to 1,024 transaction entries. The array of pending updates limits how many updates can be
+ * undone at a time. When it is full, an update first removes the entries that nobody needs any more; with twice the
+ * room that is needed this costs little. Only aries_journal_new and aries_journal_open allocate memory. No call reads
+ * the log again. If arrays are passed that are not those of a journal, what a call does is not specified; but it
+ * returns, and touches no memory outside its arguments.
+ *
+ * FRAMES. A call that appends records writes their frames, *length bytes, to the front of out, and leaves the other
+ * bytes unchanged. An update takes at most 128 bytes, an undo at most 87, a turn 25, and a checkpoint 42 and 21 for
+ * each transaction and 12 for each page. journal->last is the LSN of the last record.
+ *
+ * REFUSALS. With any number but 0, all that was passed is unchanged, except that ARIES_NO_ROOM sets *length to the
+ * bytes that are needed, and that the arrays of aries_journal_open must not be used. LSNs for a commit and a rollback
+ * are reserved, so neither is refused because LSNs are lacking.
+ */
+struct aries_journal {
+    uint64_t last;       /* the LSN of the last record; the base LSN if there is none */
+    uint64_t written;    /* the log is known to be on the disk up to this LSN */
+    size_t transactions; /* how many transaction entries are in use */
+    size_t pending;      /* how many entries for pending updates are in use */
+    uint32_t next;       /* the number of the next transaction */
+};
+
+/* A transaction that has begun and not finished. The entries are in ascending order of tx. */
+struct aries_transaction_entry {
+    uint64_t last;      /* LastLSN, 0 for none */
+    uint64_t undo_next; /* UndoNxtLSN, 0 for none */
+    size_t below;       /* the entries for its pending updates are before this one */
+    uint32_t tx;        /* its number, from 1 */
+    uint8_t state;      /* 0 active, 1 aborting, 2 prepared */
+};
+
+/* A page. */
+struct aries_page_entry {
+    uint64_t rec_lsn;       /* RecLSN, 0 if the disk has all changes of the page */
+    uint32_t writers[16];   /* for each slot the transaction that changed it last, 0 for none */
+    struct aries_page page; /* the page as it is now */
+};
+
+/* An update that may still be undone. */
+struct aries_pending_entry {
+    uint64_t lsn;              /* its LSN */
+    uint64_t prev;             /* its PrevLSN */
+    uint32_t tx;               /* its transaction, 0 after it was undone */
+    uint32_t page;             /* the page that it changed */
+    uint8_t slot;              /* the slot that it changed */
+    struct aries_image before; /* what the slot held before */
+};
+
+/*
+ * Numbers of refusals. `place` is the state with ARIES_FORBIDDEN, the other transaction with ARIES_HELD, the PageLSN
+ * with ARIES_LOG_NOT_WRITTEN, the page with ARIES_PAGE_BEHIND, and 0 with all others.
+ */
+enum {
+    ARIES_UNKNOWN_TRANSACTION = 70,   /* no transaction with this number has begun and not finished */
+    ARIES_FORBIDDEN = 71,             /* the state of the transaction forbids the call */
+    ARIES_NO_SUCH_PAGE = 72,          /* the store has no page with this number */
+    ARIES_NO_SUCH_SLOT = 73,          /* the slot is above 15 */
+    ARIES_HELD = 74,                  /* another unfinished transaction has changed the slot */
+    ARIES_NOTHING_TO_UNDO = 75,       /* the transaction has no pending update; in open: the log is not lawful */
+    ARIES_STILL_PENDING = 76,         /* the transaction has pending updates, and cannot end */
+    ARIES_TOO_MANY_TRANSACTIONS = 77, /* all transaction entries are in use, or 1,024 */
+    ARIES_NO_NUMBER = 78,             /* the transaction numbers are used up */
+    ARIES_NO_SUCH_LSN = 79,           /* the LSN is above that of the last record, or above the PageLSN of the page */
+    ARIES_LOG_NOT_WRITTEN = 80,       /* the log must be on the disk up to the PageLSN first */
+    ARIES_NO_PENDING_ROOM = 81,       /* all entries for pending updates are in use, and each is needed */
+    ARIES_LOG_FULL = 82,              /* the LSNs that are left are reserved for commits and rollbacks */
+    ARIES_BAD_ARRAYS = 83,            /* the arrays are not those of a journal */
+    ARIES_HAS_RECORDS = 84,           /* the transaction has a record: commit it, or roll it back */
+    ARIES_HAS_MASTER = 85,            /* the master of the store is not 0 */
+    ARIES_PAGE_AHEAD = 86,            /* a page has a PageLSN above the base LSN */
+    ARIES_PAGE_BEHIND = 87            /* a page is not up to date: recover first */
+};
+
+/*
+ * Opens the journal of a new log over the pages of a store. The version and the base LSN are as for
+ * aries_write_log_header. The master of the store must be 0. 65: no such version or base LSN; 10 to 12 for the store;
+ * 83: the store has another number of pages; 85; 86; 1.
+ */
+struct aries_fault aries_journal_new(uint32_t version, uint64_t base_lsn, const uint8_t *store, size_t store_length,
+                                     struct aries_journal *journal, struct aries_page_entry *pages,
+                                     size_t pages_count);
+
+/*
+ * Opens the journal that continues a log. The log and the store must be those that a recovery leaves, and must be on
+ * the disk. Transactions in doubt keep their numbers, are prepared, and hold their slots. 6 to 9 for the log; 65: it
+ * has a torn tail; 10 to 12 for the store; 83: the store has another number of pages; 87; 75, 77, 78, 81, 82: see
+ * above; 1.
+ */
+struct aries_fault aries_journal_open(const uint8_t *log, size_t log_length, const uint8_t *store, size_t store_length,
+                                      struct aries_journal *journal, struct aries_transaction_entry *transactions,
+                                      size_t transactions_count, struct aries_page_entry *pages, size_t pages_count,
+                                      struct aries_pending_entry *pending, size_t pending_count);
+
+/* Begins a transaction, and sets *tx to its number, which no record of the log has. Appends no record. 77, 78, 82. */
+struct aries_fault aries_journal_begin(struct aries_journal *journal, struct aries_transaction_entry *transactions,
+                                       size_t transactions_count, uint32_t *tx);
+
+/* A transaction without a record, which only read, leaves. Appends no record. 70, 84. */
+struct aries_fault aries_journal_cancel(struct aries_journal *journal, struct aries_transaction_entry *transactions,
+                                        size_t transactions_count, uint32_t tx);
+
+/* Changes a slot to `after`: appends an update. 70 to 74, 81, 82, 64; 65: the length of `after` is 49 to 254. */
+struct aries_fault aries_journal_update(struct aries_journal *journal, struct aries_transaction_entry *transactions,
+                                        size_t transactions_count, struct aries_page_entry *pages, size_t pages_count,
+                                        struct aries_pending_entry *pending, size_t pending_count, uint32_t tx,
+                                        uint32_t page, uint8_t slot, const struct aries_image *after, uint8_t *out,
+                                        size_t room, size_t *length);
+
+/*
+ * Undoes the newest pending update of a transaction: puts the image before it back, and appends a CLR. The transaction
+ * still holds the slot. 70; 71: it is prepared, and has to abort first; 75; 64.
+ */
+struct aries_fault aries_journal_undo(struct aries_journal *journal, struct aries_transaction_entry *transactions,
+                                      size_t transactions_count, struct aries_page_entry *pages, size_t pages_count,
+                                      struct aries_pending_entry *pending, size_t pending_count, uint32_t tx,
+                                      uint8_t *out, size_t room, size_t *length);
+
+/*
+ * Appends a record of this kind: ARIES_COMMIT (not if the transaction is aborting); ARIES_ABORT (neither), after which
+ * it can only be undone and end; ARIES_END (not if it is prepared, or has pending updates); ARIES_PREPARE (only if it
+ * is active), after which it can only commit or abort. After a commit or an end the transaction has finished. 70, 71,
+ * 64; 76 for an end; 82 for a prepare; 65: another kind.
+ */
+struct aries_fault aries_journal_turn(struct aries_journal *journal, struct aries_transaction_entry *transactions,
+                                      size_t transactions_count, const struct aries_pending_entry *pending,
+                                      size_t pending_count, uint32_t tx, uint8_t kind, uint8_t *out, size_t room,
+                                      size_t *length);
+
+/*
+ * Sets *lsn to the LSN of the newest pending update of a transaction, 0 if there is none. To roll back to a savepoint,
+ * which is the value of journal->last when it was set, undo while this LSN is above it. To roll back wholly, undo while
+ * it is above 0, and end. 70; 71: the transaction is prepared.
+ */
+struct aries_fault aries_journal_newest(const struct aries_journal *journal,
+                                        const struct aries_transaction_entry *transactions, size_t transactions_count,
+                                        const struct aries_pending_entry *pending, size_t pending_count, uint32_t tx,
+                                        uint64_t *lsn);
+
+/*
+ * Takes a checkpoint: appends its begin record, with the LSN journal->last - 1, and its end record. Sync the store, and
+ * the log up to the end record, before the LSN of the begin record becomes the master. 82, 64.
+ */
+struct aries_fault aries_journal_checkpoint(struct aries_journal *journal,
+                                            const struct aries_transaction_entry *transactions,
+                                            size_t transactions_count, const struct aries_page_entry *pages,
+                                            size_t pages_count, uint8_t *out, size_t room, size_t *length);
+
+/* Reports that the log is on the disk up to this LSN, which need not be the last. 79. */
+struct aries_fault aries_journal_log_written(struct aries_journal *journal, uint64_t lsn);
+
+/* Checks that pages[page].page may be written to the store. Its image is made by aries_write_page. 72, 80. */
+struct aries_fault aries_journal_page_to_write(const struct aries_journal *journal,
+                                               const struct aries_page_entry *pages, size_t pages_count,
+                                               uint32_t page);
+
+/* Reports that the image of a page with this PageLSN was written to the store. It need not be the newest. 72, 79. */
+struct aries_fault aries_journal_page_written(struct aries_page_entry *pages, size_t pages_count, uint32_t page,
+                                              uint64_t page_lsn);
+
+/*
+ * ENGINE
+ *
+ * The same calls with one struct, which holds a journal and its arrays with their lengths. Set the pointers and the
+ * counts, then open it. These functions are in this header, and are tested, not proved. They need C99 or C++.
+ */
+#if defined(__cplusplus) || (defined(__STDC_VERSION__) && __STDC_VERSION__ >= 199901L)
+struct aries_engine {
+    struct aries_journal journal;
+    struct aries_transaction_entry *transactions;
+    size_t transactions_count;
+    struct aries_page_entry *pages;
+    size_t pages_count;
+    struct aries_pending_entry *pending;
+    size_t pending_count;
+};
+
+/* aries_journal_new. */
+static inline struct aries_fault aries_engine_new(struct aries_engine *engine, uint32_t version, uint64_t base_lsn,
+                                                  const uint8_t *store, size_t store_length)
+{
+    return aries_journal_new(version, base_lsn, store, store_length, &engine->journal, engine->pages,
+                             engine->pages_count);
+}
+
+/* aries_journal_open. */
+static inline struct aries_fault aries_engine_open(struct aries_engine *engine, const uint8_t *log, size_t log_length,
+                                                   const uint8_t *store, size_t store_length)
+{
+    return aries_journal_open(log, log_length, store, store_length, &engine->journal, engine->transactions,
+                              engine->transactions_count, engine->pages, engine->pages_count, engine->pending,
+                              engine->pending_count);
+}
+
+/* aries_journal_begin. */
+static inline struct aries_fault aries_engine_begin(struct aries_engine *engine, uint32_t *tx)
+{
+    return aries_journal_begin(&engine->journal, engine->transactions, engine->transactions_count, tx);
+}
+
+/* aries_journal_cancel. */
+static inline struct aries_fault aries_engine_cancel(struct aries_engine *engine, uint32_t tx)
+{
+    return aries_journal_cancel(&engine->journal, engine->transactions, engine->transactions_count, tx);
+}
+
+/* aries_journal_update. */
+static inline struct aries_fault aries_engine_update(struct aries_engine *engine, uint32_t tx, uint32_t page,
+                                                     uint8_t slot, const struct aries_image *after, uint8_t *out,
+                                                     size_t room, size_t *length)
+{
+    return aries_journal_update(&engine->journal, engine->transactions, engine->transactions_count, engine->pages,
+                                engine->pages_count, engine->pending, engine->pending_count, tx, page, slot, after,
+                                out, room, length);
+}
+
+/* aries_journal_undo. */
+static inline struct aries_fault aries_engine_undo(struct aries_engine *engine, uint32_t tx, uint8_t *out, size_t room,
+                                                   size_t *length)
+{
+    return aries_journal_undo(&engine->journal, engine->transactions, engine->transactions_count, engine->pages,
+                              engine->pages_count, engine->pending, engine->pending_count, tx, out, room, length);
+}
+
+/* aries_journal_turn: ARIES_COMMIT, ARIES_ABORT, ARIES_END or ARIES_PREPARE. */
+static inline struct aries_fault aries_engine_turn(struct aries_engine *engine, uint32_t tx, uint8_t kind, uint8_t *out,
+                                                   size_t room, size_t *length)
+{
+    return aries_journal_turn(&engine->journal, engine->transactions, engine->transactions_count, engine->pending,
+                              engine->pending_count, tx, kind, out, room, length);
+}
+
+/* aries_journal_newest. */
+static inline struct aries_fault aries_engine_newest(const struct aries_engine *engine, uint32_t tx, uint64_t *lsn)
+{
+    return aries_journal_newest(&engine->journal, engine->transactions, engine->transactions_count, engine->pending,
+                                engine->pending_count, tx, lsn);
+}
+
+/*
+ * Rolls a transaction back to a savepoint, which is the value of journal.last when it was set: undoes its pending
+ * updates with a larger LSN, the newest first. *length is always the bytes of the CLRs that were written to out.
+ * ARIES_NO_ROOM: out is full; append these bytes to the log, and call again. 128 bytes of room are enough to go on. 70,
+ * 71, 64.
+ */
+static inline struct aries_fault aries_engine_roll_back_to(struct aries_engine *engine, uint32_t tx, uint64_t savepoint,
+                                                           uint8_t *out, size_t room, size_t *length)
+{
+    uint64_t newest = 0;
+    struct aries_fault fault = aries_engine_newest(engine, tx, &newest);
+    *length = 0;
+    while (fault.number == ARIES_OK && newest > savepoint) {
+        size_t added = 0;
+        fault = aries_engine_undo(engine, tx, out + *length, room - *length, &added);
+        if (fault.number == ARIES_OK) {
+            *length += added;
+            fault = aries_engine_newest(engine, tx, &newest);
+        }
+    }
+    return fault;
+}
+
+/*
+ * Rolls a transaction back wholly: undoes its pending updates, and ends it. *length and ARIES_NO_ROOM as above. A
+ * prepared transaction has to abort first. 70, 71, 64.
+ */
+static inline struct aries_fault aries_engine_roll_back(struct aries_engine *engine, uint32_t tx, uint8_t *out,
+                                                        size_t room, size_t *length)
+{
+    size_t added = 0;
+    struct aries_fault fault = aries_engine_roll_back_to(engine, tx, 0, out, room, length);
+    if (fault.number != ARIES_OK)
+        return fault;
+    fault = aries_engine_turn(engine, tx, ARIES_END, out + *length, room - *length, &added);
+    if (fault.number == ARIES_OK)
+        *length += added;
+    return fault;
+}
+
+/* aries_journal_checkpoint. */
+static inline struct aries_fault aries_engine_checkpoint(struct aries_engine *engine, uint8_t *out, size_t room,
+                                                         size_t *length)
+{
+    return aries_journal_checkpoint(&engine->journal, engine->transactions, engine->transactions_count, engine->pages,
+                                    engine->pages_count, out, room, length);
+}
+
+/* aries_journal_log_written. */
+static inline struct aries_fault aries_engine_log_written(struct aries_engine *engine, uint64_t lsn)
+{
+    return aries_journal_log_written(&engine->journal, lsn);
+}
+
+/* aries_journal_page_to_write. */
+static inline struct aries_fault aries_engine_page_to_write(const struct aries_engine *engine, uint32_t page)
+{
+    return aries_journal_page_to_write(&engine->journal, engine->pages, engine->pages_count, page);
+}
+
+/* aries_journal_page_written. */
+static inline struct aries_fault aries_engine_page_written(struct aries_engine *engine, uint32_t page,
+                                                           uint64_t page_lsn)
+{
+    return aries_journal_page_written(engine->pages, engine->pages_count, page, page_lsn);
+}
+#endif
+
 #ifdef __cplusplus
 }
 #endif

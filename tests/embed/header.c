@@ -94,8 +94,9 @@ static void check_headers(void) {
     need(lacks_room(aries_write_store_header(ARIES_PAGES, 0, out, 23, &length)) && length == 24);
 }
 
+static const uint8_t update[] = "\0\0\0\x1d\1\0\0\0\0\0\0\0\1\0\0\0\1\0\0\0\0\0\0\0\0\0\0\0\0\0\xff\1" "a";
+
 static void check_frames(void) {
-    static const uint8_t update[] = "\0\0\0\x1d\1\0\0\0\0\0\0\0\1\0\0\0\1\0\0\0\0\0\0\0\0\0\0\0\0\0\xff\1" "a";
     static const uint8_t clr[] =
         "\0\0\0\x24\2\0\0\0\0\0\0\0\3\0\0\0\4\0\0\0\0\0\0\0\5\0\0\0\6\7\0\0\0\0\0\0\0\x08\1" "b";
     struct aries_record record = {.lsn = 1, .tx = 1, .kind = ARIES_UPDATE, .before = ABSENT, .after = A};
@@ -325,6 +326,55 @@ static void check_audits(void) {
     need(is_fault(aries_audit_from(log.bytes, log.length, store.bytes, store.length, base.bytes, base.length), 29, 0));
 }
 
+/* A journal and its arrays. */
+static struct aries_journal journal;
+static struct aries_transaction_entry transactions[2];
+static struct aries_page_entry pages[1];
+static struct aries_pending_entry pending[2];
+
+/* The journal makes the update above, writes its page, and undoes it. */
+static void check_journal(void) {
+    uint8_t out[128];
+    size_t length = 0;
+    uint64_t lsn = 0;
+    uint32_t tx = 0;
+    need(is_done(aries_journal_begin(&journal, transactions, 2, &tx)) && tx == 1);
+    need(is_done(aries_journal_update(&journal, transactions, 2, pages, 1, pending, 2, tx, 0, 0, &A, out, sizeof out,
+        &length)));
+    need(length == sizeof update - 1 && memcmp(out, update, length) == 0);
+    need(journal.last == 1 && journal.written == 0 && journal.transactions == 1 && journal.pending == 1);
+    need(journal.next == 2 && transactions[0].tx == 1 && transactions[0].state == 0);
+    need(transactions[0].last == 1 && transactions[0].undo_next == 1 && transactions[0].below == 1);
+    need(pages[0].rec_lsn == 1 && pages[0].writers[0] == 1 && pages[0].writers[1] == 0);
+    need(pages[0].page.lsn == 1 && pages[0].page.number == 0 && is_image(&pages[0].page.slots[0], &A));
+    need(pending[0].lsn == 1 && pending[0].prev == 0 && pending[0].tx == 1 && pending[0].page == 0);
+    need(pending[0].slot == 0 && is_image(&pending[0].before, &ABSENT));
+    need(is_fault(aries_journal_page_to_write(&journal, pages, 1, 0), ARIES_LOG_NOT_WRITTEN, 1));
+    need(is_done(aries_journal_log_written(&journal, 1)) && journal.written == 1);
+    need(is_done(aries_journal_page_to_write(&journal, pages, 1, 0)));
+    need(is_done(aries_journal_page_written(pages, 1, 0, 1)) && pages[0].rec_lsn == 0);
+    need(is_done(aries_journal_newest(&journal, transactions, 2, pending, 2, tx, &lsn)) && lsn == 1);
+    need(is_done(aries_journal_undo(&journal, transactions, 2, pages, 1, pending, 2, tx, out, 128, &length)));
+    need(length == 39 && journal.last == 2 && is_image(&pages[0].page.slots[0], &ABSENT));
+    need(is_done(aries_journal_checkpoint(&journal, transactions, 2, pages, 1, out, 128, &length)));
+    need(length == 42 + 21 + 12 && journal.last == 4);
+    need(is_done(aries_journal_turn(&journal, transactions, 2, pending, 2, tx, ARIES_END, out, 128, &length)));
+    need(length == 25 && journal.last == 5 && journal.transactions == 0);
+    need(is_done(aries_journal_begin(&journal, transactions, 2, &tx)) && tx == 2);
+    need(is_done(aries_journal_cancel(&journal, transactions, 2, tx)) && journal.transactions == 0);
+}
+
+static void check_journals(void) {
+    struct text log = {.length = 0}, store = {.length = 0};
+    make_store(&store, 0, &ABSENT);
+    need(is_done(aries_journal_new(1, 0, store.bytes, store.length, &journal, pages, 1)));
+    check_journal();
+    begin_log(&log, 1, 0);
+    need(is_done(aries_journal_open(log.bytes, log.length, store.bytes, store.length, &journal, transactions, 2, pages,
+        1, pending, 2)));
+    check_journal();
+}
+
 static void check_texts(void) {
     struct aries_fault fault = {.number = 24, .place = 7};
     uint8_t out[64] = {0};
@@ -352,6 +402,7 @@ int main(void) {
     check_pages();
     check_recovery();
     check_audits();
+    check_journals();
     check_texts();
     return first_failed < 255 ? first_failed : 255;
 }

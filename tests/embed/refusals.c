@@ -52,7 +52,15 @@ static struct outs {
     struct aries_record records[8];
     struct aries_entry transactions[8];
     struct aries_dirty dirty[8];
+    struct aries_journal journal;
+    struct aries_transaction_entry unfinished[2];
+    struct aries_page_entry pages[1];
+    struct aries_pending_entry pending[2];
 } outs;
+
+/* A log that a journal may continue, and its store, which a journal of a new log may begin with. */
+static uint8_t ended_log[256], ended_store[2048];
+static size_t ended_length;
 
 static const struct aries_entry TRANSACTIONS[1] = {{.last = 2, .undo_next = 1, .tx = 1, .state = 2}};
 static const struct aries_dirty DIRTY[1] = {{.rec_lsn = 1, .page = 0}};
@@ -98,8 +106,17 @@ static struct aries_fault do_fault_text(void) {
     return aries_fault_text(&fault, outs.tail, sizeof outs.tail, &length);
 }
 
+static struct aries_fault do_journal_new(void) {
+    return aries_journal_new(2, 9, ended_store, store_length, &outs.journal, outs.pages, 1);
+}
+
+static struct aries_fault do_journal_open(void) {
+    return aries_journal_open(ended_log, ended_length, ended_store, store_length, &outs.journal, outs.unfinished, 2,
+        outs.pages, 1, outs.pending, 2);
+}
+
 static struct aries_fault (*const calls[])(void) = {do_recover, do_audit, do_audit_from, do_records, do_checkpoint,
-    do_write_record, do_write_checkpoint_end, do_fault_text};
+    do_write_record, do_write_checkpoint_end, do_fault_text, do_journal_new, do_journal_open};
 
 static void add(const struct aries_record *record) {
     size_t length = 0;
@@ -123,6 +140,22 @@ static void make_files(void) {
     aries_write_store_header(1, 3, store_bytes, sizeof store_bytes, &store_length);
     aries_write_page(&page, store_bytes + store_length, sizeof store_bytes - store_length, &length);
     store_length += length;
+}
+
+/* Transaction 1 is unfinished: it changes a slot of the page. */
+static void make_ended_files(void) {
+    const struct aries_image a = {.length = 1, .bytes = "a"};
+    struct aries_record record = {.lsn = 1, .tx = 1, .kind = ARIES_UPDATE, .after = a};
+    struct aries_page page = {.number = 0, .lsn = 1};
+    size_t length = 0;
+    record.before.length = ARIES_ABSENT;
+    aries_write_log_header(1, 0, ended_log, sizeof ended_log, &ended_length);
+    aries_write_record(&record, ended_log + ended_length, sizeof ended_log - ended_length, &length);
+    ended_length += length;
+    for (size_t slot = 0; slot < ARIES_SLOTS; slot++) page.slots[slot].length = ARIES_ABSENT;
+    page.slots[0] = a;
+    aries_write_store_header(1, 0, ended_store, sizeof ended_store, &length);
+    aries_write_page(&page, ended_store + length, sizeof ended_store - length, &length);
 }
 
 /* What the call answers while this growth is refused, 0 for none. */
@@ -152,6 +185,7 @@ static bool is_right(struct aries_fault (*call)(void)) {
 
 int main(void) {
     make_files();
+    make_ended_files();
     for (size_t i = 0; i < sizeof calls / sizeof calls[0]; i++)
         if (!is_right(calls[i])) return (int)i + 1;
     return 0;

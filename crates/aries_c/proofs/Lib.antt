@@ -1,3 +1,4 @@
 pub mod Buffers
+pub mod Done
 pub mod Entries
 pub mod Places

@@ -1,6 +1,8 @@
 pub mod Dump
 pub mod Fault
 pub mod Image
+pub mod JournalCalls
+pub mod Journaling
 pub mod LogHeader
 pub mod Pages
 pub mod Record

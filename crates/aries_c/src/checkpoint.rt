@@ -41,7 +41,7 @@ pub struct Tables {
 }
 
 /// The number of a state.
-fn state_number(state: State) -> u8
+pub fn state_number(state: State) -> u8
     ensures { result ≡ state_number state }
 {
     match state {

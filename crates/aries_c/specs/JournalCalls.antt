@@ -1,0 +1,84 @@
+-- What the calls on a journal promise, for each run of which the arrays of their caller are the journal (own).
+use Rattle.std.specs.Prelude.{◌≡◌, ◌<◌, ◌≤◌, ℕ, true, false, is_some, None, List, length, take}
+use Rattle.wal.specs.Meaning.{BasePages, is_of, has, last_on, pending}
+use Rattle.journal.specs.declared.table.Need.TheVariants.{NotPrepared}
+use Rattle.journal.specs.declared.entries.Head.{Head}
+use Rattle.journal.specs.declared.entries.TransactionEntry.{TransactionEntry}
+use Rattle.journal.specs.declared.entries.PendingEntry.{PendingEntry}
+use Rattle.journal.specs.declared.entries.PageEntry.{PageEntry}
+use Rattle.journal.specs.Runs.{Run, reported, count_of, log_of}
+use Rattle.journal.specs.Arrays.{kept_of}
+use Rattle.journal.specs.Rollbacks.{newest_of}
+use Rattle.journal.specs.Refusals.{BeginRefused, CancelRefused, StepRefused, ReportRefused, LogWrittenRefused, PageToWriteRefused}
+use Rattle.journal.specs.State.{IsJournal}
+use Rattle.aries_c.specs.declared.fault.Fault.{Fault as Told}
+use Rattle.aries_c.specs.Fault.{OnDone, OnFailed}
+use Rattle.aries_c.specs.Journaling.{Refuses}
+
+-- BEGIN AND CANCEL. The struct and the transactions, before and after, are those of a journal of the same run
+abbrev pub KeepsRun : Head → List TransactionEntry → Head → List TransactionEntry → Told → Type 0
+KeepsRun head ts after after_ts told = OnDone told (
+    (base : BasePages) (run : Run) (pages : List PageEntry) (ps : List PendingEntry) → IsJournal base run head ts pages ps → IsJournal base run after after_ts pages ps)
+
+-- a transaction of this number has begun
+abbrev pub HasBegun : Head → List TransactionEntry → Head → List TransactionEntry → (tx : ℕ) → Told → Type 0
+HasBegun head ts after after_ts tx told = OnDone told (
+    (base : BasePages) (run : Run) (pages : List PageEntry) (ps : List PendingEntry) → IsJournal base run head ts pages ps
+    → is_some (kept_of (take after.transactions after_ts) (take after.pending ps) tx) ≡ true)
+
+-- no record of the log has this number
+abbrev pub IsFresh : Head → List TransactionEntry → (tx : ℕ) → Told → Type 0
+IsFresh head ts tx told = OnDone told (
+    (base : BasePages) (run : Run) (pages : List PageEntry) (ps : List PendingEntry) → IsJournal base run head ts pages ps → has (is_of tx) (log_of run) ≡ false)
+
+abbrev pub BeginFails : Head → List TransactionEntry → Told → Type 0
+BeginFails head ts told = OnFailed told (
+    (base : BasePages) (run : Run) (pages : List PageEntry) (ps : List PendingEntry) → IsJournal base run head ts pages ps → Refuses (BeginRefused head (length ts)) told)
+
+-- a transaction of this number is not kept any more
+abbrev pub IsGone : Head → List TransactionEntry → Head → List TransactionEntry → (tx : ℕ) → Told → Type 0
+IsGone head ts after after_ts tx told = OnDone told (
+    (base : BasePages) (run : Run) (pages : List PageEntry) (ps : List PendingEntry) → IsJournal base run head ts pages ps
+    → kept_of (take after.transactions after_ts) (take after.pending ps) tx ≡ None)
+
+abbrev pub CancelFails : Head → List TransactionEntry → (tx : ℕ) → Told → Type 0
+CancelFails head ts tx told = OnFailed told (
+    (base : BasePages) (run : Run) (pages : List PageEntry) (ps : List PendingEntry) → IsJournal base run head ts pages ps
+    → Refuses (CancelRefused run (kept_of (take head.transactions ts) (take head.pending ps)) tx) told)
+
+-- THE NEWEST pending update of a transaction
+abbrev pub IsNewest : Head → List TransactionEntry → List PendingEntry → (tx lsn : ℕ) → Told → Type 0
+IsNewest head ts ps tx lsn told = OnDone told (
+    (base : BasePages) (run : Run) (pages : List PageEntry) → IsJournal base run head ts pages ps → lsn ≡ newest_of (pending tx (log_of run)))
+
+abbrev pub NewestFails : Head → List TransactionEntry → List PendingEntry → (tx : ℕ) → Told → Type 0
+NewestFails head ts ps tx told = OnFailed told (
+    (base : BasePages) (run : Run) (pages : List PageEntry) → IsJournal base run head ts pages ps → Refuses (StepRefused NotPrepared run tx) told)
+
+-- THE LOG is reported. Before and after, the struct is that of a journal of the same run
+abbrev pub StaysJournal : (before after : Head) → Type 0
+StaysJournal before after =
+    (base : BasePages) (run : Run) (ts : List TransactionEntry) (pages : List PageEntry) (ps : List PendingEntry) → IsJournal base run before ts pages ps → IsJournal base run after ts pages ps
+
+abbrev pub LogWrittenFails : Head → (lsn : ℕ) → Told → Type 0
+LogWrittenFails head lsn told = OnFailed told (
+    (base : BasePages) (run : Run) (ts : List TransactionEntry) (pages : List PageEntry) (ps : List PendingEntry) → IsJournal base run head ts pages ps → Refuses (LogWrittenRefused run lsn) told)
+
+-- A PAGE: the log is known to be on the disk up to its PageLSN (write-ahead)
+abbrev pub IsLogAhead : Head → List PageEntry → (page : ℕ) → Told → Type 0
+IsLogAhead head pages page told = OnDone told (
+    (base : BasePages) (run : Run) (ts : List TransactionEntry) (ps : List PendingEntry) → IsJournal base run head ts pages ps
+    → (page < count_of run) × (last_on base page (log_of run) ≤ head.written))
+
+abbrev pub PageToWriteFails : Head → List PageEntry → (page : ℕ) → Told → Type 0
+PageToWriteFails head pages page told = OnFailed told (
+    (base : BasePages) (run : Run) (ts : List TransactionEntry) (ps : List PendingEntry) → IsJournal base run head ts pages ps → Refuses (PageToWriteRefused base run head.written page) told)
+
+-- its image with this PageLSN is reported: the pages are those of a journal of the run with the report
+abbrev pub Reports : (before after : List PageEntry) → (page lsn : ℕ) → Told → Type 0
+Reports before after page lsn told = OnDone told (
+    (base : BasePages) (run : Run) (head : Head) (ts : List TransactionEntry) (ps : List PendingEntry) → IsJournal base run head ts before ps → IsJournal base (reported run page lsn) head ts after ps)
+
+abbrev pub ReportFails : List PageEntry → (page lsn : ℕ) → Told → Type 0
+ReportFails pages page lsn told = OnFailed told (
+    (base : BasePages) (run : Run) (head : Head) (ts : List TransactionEntry) (ps : List PendingEntry) → IsJournal base run head ts pages ps → Refuses (ReportRefused base run page lsn) told)

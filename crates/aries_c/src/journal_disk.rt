@@ -1,0 +1,91 @@
+//! The checkpoints of a journal, and what it gets to know of the disk.
+
+ghost use Rattle.std.specs.Prelude.{◌≡◌, ◌≤◌, ◌+◌, ℕ, List, max, length};
+ghost use Rattle.wal.specs.Records.{TableEntry, CheckpointBegin};
+ghost use Rattle.wal.specs.Meaning.{BasePages};
+ghost use Rattle.journal.specs.declared.entries.PendingEntry.{PendingEntry};
+ghost use Rattle.journal.specs.Runs.{Run, appended, AreTrueTables};
+ghost use Rattle.journal.specs.Writing.{Begins};
+ghost use Rattle.journal.specs.Taken.{checkpoint_text, run_taken, CheckpointRefused};
+ghost use Rattle.journal.specs.declared.checkpoints.TheConstants.{LONGEST_CHECKPOINT};
+ghost use Rattle.journal.specs.State.{IsJournal};
+ghost use Rattle.aries_c.specs.Fault.{OnDone, OnFailed};
+ghost use Rattle.aries_c.specs.Journaling.{RefusesFrame};
+ghost use Rattle.aries_c.specs.JournalCalls.{StaysJournal, LogWrittenFails, IsLogAhead, PageToWriteFails, Reports, ReportFails};
+
+use crate::Fault;
+use crate::refusal::{answer, frame_answer};
+use journal::{Head, PageEntry, TransactionEntry};
+
+/// Takes a checkpoint, as [`journal::checkpoint`] does: its begin record has the LSN before
+/// `journal.last`, and its end record has `journal.last`. Both frames are written to the front of
+/// `out`, and their length in bytes to `told`. 64: `out` is too short, and `told` has the
+/// length.
+#[unsafe(no_mangle)]
+pub extern "C" fn aries_journal_checkpoint(
+    journal: &mut Head,
+    transactions: &[TransactionEntry],
+    pages: &[PageEntry],
+    out: &mut [u8],
+    told: &mut usize,
+) -> Fault
+    ensures ok { OnDone result ((base : BasePages) (run : Run) (ps : List PendingEntry)
+        → IsJournal base run journal.old transactions.now pages.now ps
+        → (entries : List TableEntry) × (dirty : List (ℕ × ℕ))
+        × AreTrueTables base (appended run CheckpointBegin) (journal.old.last + 1) entries dirty
+        × IsJournal base (run_taken run (journal.old.last + 1) entries dirty)
+        journal.new transactions.now pages.now ps
+        × Begins (checkpoint_text (journal.old.last + 1) entries dirty) out.old out.new
+        × (told.new ≡ length (checkpoint_text (journal.old.last + 1) entries dirty))) }
+    ensures short { OnDone result (told.new ≤ LONGEST_CHECKPOINT) }
+    ensures lsn { OnDone result (journal.new.last ≡ journal.old.last + 2) }
+    ensures journal { OnFailed result (journal.new ≡ journal.old) }
+    ensures out { OnFailed result (out.new ≡ out.old) }
+    ensures refused { OnFailed result ((base : BasePages) (run : Run) (ps : List PendingEntry)
+        → IsJournal base run journal.old transactions.now pages.now ps
+        → RefusesFrame (CheckpointRefused base run journal.old (length out.old))
+        result told.old told.new) }
+{
+    let written = journal::checkpoint(journal, transactions, pages, out);
+    frame_answer(written, told)
+}
+
+/// Reports that the log is on the disk up to this LSN, as [`journal::log_written`] does.
+#[unsafe(no_mangle)]
+pub extern "C" fn aries_journal_log_written(journal: &mut Head, lsn: u64) -> Fault
+    ensures ok { StaysJournal journal.old journal.new }
+    ensures written { OnDone result (journal.new.written ≡ max journal.old.written lsn) }
+    ensures journal { OnFailed result (journal.new ≡ journal.old) }
+    ensures refused { LogWrittenFails journal.old lsn result }
+{
+    answer(journal::log_written(journal, lsn))
+}
+
+/// Checks that a page, as it is now, may be written to the store, as [`journal::page_to_write`]
+/// does.
+#[unsafe(no_mangle)]
+pub extern "C" fn aries_journal_page_to_write(
+    journal: &Head,
+    pages: &[PageEntry],
+    page: u32,
+) -> Fault
+    ensures ahead { IsLogAhead journal.now pages.now page result }
+    ensures refused { PageToWriteFails journal.now pages.now page result }
+{
+    answer(journal::page_to_write(journal, pages, page))
+}
+
+/// Reports that the image of a page with this PageLSN was written to the store, as
+/// [`journal::page_written`] does.
+#[unsafe(no_mangle)]
+pub extern "C" fn aries_journal_page_written(
+    pages: &mut [PageEntry],
+    page: u32,
+    page_lsn: u64,
+) -> Fault
+    ensures ok { Reports pages.old pages.new page page_lsn result }
+    ensures pages { OnFailed result (pages.new ≡ pages.old) }
+    ensures refused { ReportFails pages.old page page_lsn result }
+{
+    answer(journal::page_written(pages, page, page_lsn))
+}
