@@ -1,6 +1,6 @@
 #!/usr/bin/env python3
-"""Runs the proved library as a program in C has it: every call of the header, the worked rows, a bank that is killed,
-what is installed, and the wrapper in Rust.
+"""Runs the proved library as a program in C has it: every call of the header, a journal that crashes, the worked rows,
+a bank that is killed, what is installed, and the wrapper in Rust.
 
 usage: tests/embed.py [--backend llvm|rattle|both] [--library FOLDER] [--kills N]
        at the top of the repository, behind `rt ci` and `tests/run.py`
@@ -155,15 +155,38 @@ def check_refusals(tally, toolchain, archive, how):
     tally.say(f"each growth of memory refused in turn{how}", status == 0, f"call {status}")
 
 
+# The tests of the journal, how often each runs less by valgrind, and what that is told: one compares the padding of structs too.
+JOURNAL_TESTS = (("journal", "61", ()), ("journal_refusals", "300", ("--undef-value-errors=no",)))
+
+
+def check_journal(tally, toolchain, archive, how):
+    """A journal at each crash, what it refuses, and calls on arrays of random bytes."""
+    for name, less, flags in JOURNAL_TESTS:
+        source = os.path.join(TOP, f"tests/embed/{name}.c")
+        program = toolchain.program(name, [source], archive, toolchain.flags())
+        ran = program and run([program], text=True)
+        tally.say(f"{name}.c{how}", bool(ran) and ran.returncode == 0, ran and ran.stdout)
+        if program and shutil.which("valgrind"):
+            ran = run(["valgrind", "-q", "--error-exitcode=2", *flags, program, less], text=True)
+            tally.say(f"{name}.c by valgrind{how}", ran.returncode == 0, ran.stdout + ran.stderr)
+
+
+# The languages, and what a compiler is told for them.
+C_LANGUAGES = ("c89", "c99", "c11", "c17", "c2x")
+CPP_LANGUAGES = ("c++98", "c++11", "c++14", "c++17", "c++20", "c++2b")
+
+
 def check_names(tally, toolchain):
-    tested = text_of("tests/embed/header.c")
+    tested = "".join(text_of(f"tests/embed/{name}.c") for name in ("header", "journal", "journal_refusals"))
     missing = sorted(name for name in names_of_the_header() if not re.search(rf"\b{name}\b", tested))
-    tally.say("the test of the header has all its names", not missing, missing)
+    tally.say("the tests of the header have all its names", not missing, missing)
     source = toolchain.at("header.cc")
     with open(source, "w") as file:
         file.write('#include "aries.h"\n')
-    flags = ["-x", "c++", "-std=c++17", "-nostdinc", "-isystem", toolchain.at("plain")]
-    tally.say("the header in C++", toolchain.compiled(source, *flags) is not None)
+    for language in C_LANGUAGES + CPP_LANGUAGES:
+        kind = "c++" if language in CPP_LANGUAGES else "c"
+        flags = ["-x", kind, f"-std={language}", "-Wpedantic", "-nostdinc", "-isystem", toolchain.at("plain")]
+        tally.say(f"the header in {language}", toolchain.compiled(source, *flags) is not None)
 
 
 # The rows.
@@ -369,6 +392,7 @@ def main():
             if archive:
                 check_header(tally, toolchain, archive, how)
                 check_refusals(tally, toolchain, archive, how)
+                check_journal(tally, toolchain, archive, how)
                 check_rows(tally, toolchain, archive, how)
         first = next(iter(made.values()))
         if first:

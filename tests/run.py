@@ -1,8 +1,9 @@
 #!/usr/bin/env python3
 """Runs the proved programs as they are: on rows of real size, on logs that are read in two parts, on the small rows in version 2, with threads counted, with
-files that are missing or stand already, with wrong lines, with --verbose, in place with kills and power cuts, in pieces and in memory, with each byte of a row
-another one, with prints that fail, and with each growth of memory refused in turn. And looks whether the documents and the man pages are true of them, whether each wrong body that the prover must refuse can still be
-applied, and whether a workload takes more instructions than it may.
+files that are missing or stand already, with wrong lines, with --verbose, in place with kills and power cuts, after an engine was killed or lost power, in
+pieces and in memory, with each byte of a row another one, with prints that fail, and with each growth of memory refused in turn. And looks whether the documents
+and the man pages are true of them, whether each wrong body that the prover must refuse can still be applied, and whether a workload takes more instructions than
+it may.
 
 usage: tests/run.py        at the top of the repository, behind `rt ci`, which builds the programs
 
@@ -24,6 +25,7 @@ from clauses import check_clauses
 from contracts import check_contracts
 from dump import check_dump
 from edits import check_edits
+from engine import ENGINE, check_engine
 from in_place import check_in_place
 from long_logs import LARGEST_BASE, check_long_logs, long_row
 from operate import check_operation
@@ -385,7 +387,7 @@ def check_profile(tally):
 
 
 def main():
-    for program in (ARIES, ROW_RUNNER):
+    for program in (ARIES, ENGINE, ROW_RUNNER):
         if not os.path.exists(program):
             sys.exit(f"{program} is missing: `rt ci` builds it")
     tally = Tally()
@@ -409,6 +411,7 @@ def main():
         check_words(tally, room)
         check_operation(tally, room)
         check_in_place(tally, room)
+        check_engine(tally, room)
         check_pieces(tally, room)
         check_order(tally, room, library_of(room, "watch_calls"))
         check_spoiled(tally, room)

@@ -15,7 +15,8 @@ import sys
 sys.dont_write_bytecode = True  # no folder of it beside the tests
 from program import TOP, text_of
 
-TESTS = {"base_rows", "log_rows", "core_rows", "redo_rows", "restart_rows", "recovery_rows", "journal_rows", "journal_times", "rows", "workloads", "checks"}
+TESTS = {"base_rows", "log_rows", "core_rows", "redo_rows", "restart_rows", "recovery_rows", "journal_rows", "crash_rows", "journal_times",
+         "engine", "rows", "workloads", "checks", "seeded"}
 
 # The sizes of the default profile, what is made of them, and their neighbours.
 NUMBERS = {4095, 4096, 4097, 1023, 1024, 1025, 15, 16, 17, 47, 48, 49, 64, 80, 255, 848, 944, 70681, 70685, 70697, 70701, 262144, 262160}
@@ -23,7 +24,9 @@ NUMBERS = {4095, 4096, 4097, 1023, 1024, 1025, 15, 16, 17, 47, 48, 49, 64, 80, 2
 OTHER = {
     "aries/src/files.rt": {16: "MiB of a short log"},
     "aries_c/specs/Fault.antt": {64: "the number of a fault"},
+    "aries_c/specs/Journaling.antt": {80: "the number of a refusal"},
     "aries_c/src/fault.rt": {64: "the number of a fault"},
+    "aries_c/src/refusal.rt": {80: "the number of a refusal"},
     "aries_c/src/text.rt": {15: "the number of a fault", 16: "the same", 17: "the same"},
     "audit/src/finish_table.rt": {16: "transactions of a block"},
     "audit/src/unfinished_table.rt": {1024: "places of the table"},
