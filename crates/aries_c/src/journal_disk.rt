@@ -18,9 +18,8 @@ use crate::refusal::{answer, frame_answer};
 use journal::{Head, PageEntry, TransactionEntry};
 
 /// Takes a checkpoint, as [`journal::checkpoint`] does: its begin record has the LSN before
-/// `journal.last`, and its end record has `journal.last`. Both frames are written to the front of
-/// `out`, and their length in bytes to `told`. 64: `out` is too short, and `told` has the
-/// length.
+/// `journal.last`, and its end record has `journal.last`. Writes both frames to the front of `out`,
+/// and their length in bytes to `told`. 64: `out` is too short; `told` gets the length all the same.
 #[unsafe(no_mangle)]
 pub extern "C" fn aries_journal_checkpoint(
     journal: &mut Head,

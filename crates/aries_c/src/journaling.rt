@@ -62,9 +62,9 @@ pub extern "C" fn aries_journal_cancel(
     answer(journal::cancel(journal, transactions, tx))
 }
 
-/// A transaction puts an image into a slot of a page, as by [`journal::update`]. The frame of the
-/// update is written to the front of `out`, and its length in bytes to `told`. 64: `out` is too
-/// short, and `told` has the length.
+/// A transaction puts an image into a slot of a page, as by [`journal::update`]. Writes the frame
+/// of the update to the front of `out`, and the frame's length in bytes to `told`. 64: `out` is
+/// too short; `told` gets the length all the same.
 #[unsafe(no_mangle)]
 pub extern "C" fn aries_journal_update(
     journal: &mut Head,
@@ -114,9 +114,9 @@ pub extern "C" fn aries_journal_update(
     frame_answer(written, told)
 }
 
-/// Undoes the newest pending update of a transaction, as [`journal::undo`] does. The frame of the
-/// CLR is written to the front of `out`, and its length in bytes to `told`. 64: `out` is too
-/// short, and `told` has the length.
+/// Undoes the newest pending update of a transaction, as [`journal::undo`] does. Writes the frame
+/// of the CLR to the front of `out`, and the frame's length in bytes to `told`. 64: `out` is too
+/// short; `told` gets the length all the same.
 #[unsafe(no_mangle)]
 pub extern "C" fn aries_journal_undo(
     journal: &mut Head,
@@ -149,8 +149,8 @@ pub extern "C" fn aries_journal_undo(
 
 /// A transaction commits, aborts, ends or prepares, by the kind of its record: 3 as by
 /// [`journal::commit`], 4 by [`journal::abort`], 5 by [`journal::end`], 8 by [`journal::prepare`].
-/// The frame of the record is written to the front of `out`, and its length in bytes to `told`.
-/// 64: `out` is too short, and `told` has the length. 65: any other kind.
+/// Writes the frame of the record to the front of `out`, and the frame's length in bytes to `told`.
+/// 64: `out` is too short; `told` gets the length all the same. 65: any other kind.
 #[unsafe(no_mangle)]
 pub extern "C" fn aries_journal_turn(
     journal: &mut Head,
