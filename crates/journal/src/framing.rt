@@ -54,7 +54,8 @@ pub fn update_size(before: &Image, after: &Image) -> usize
     CELL_HEAD + before.frame_len() + after.frame_len()
 }
 
-/// Writes the frame of an update to the front of the buffer. Returns its length in bytes.
+/// Writes the frame of an update to the front of the buffer. Returns its length in bytes, which is
+/// that of [`update_size`].
 pub fn put_update(
     out: &mut [u8],
     lsn: u64,
@@ -92,7 +93,8 @@ pub fn compensation_size(restored: &Image) -> usize
     CELL_HEAD + LSN_BYTES + restored.frame_len()
 }
 
-/// Writes the frame of a CLR to the front of the buffer. Returns its length in bytes.
+/// Writes the frame of a CLR to the front of the buffer. Returns its length in bytes, which is that
+/// of [`compensation_size`].
 pub fn put_compensation(
     out: &mut [u8],
     lsn: u64,

@@ -28,6 +28,7 @@ pub use beginning::{begin, cancel};
 pub use checkpoints::checkpoint;
 pub use disk::{log_written, page_to_write, page_written};
 pub use entries::{Head, PageEntry, PageImage, PendingEntry, TransactionEntry};
+pub use framing::{compensation_size, put_compensation, put_update, update_size};
 pub use image::Image;
 pub use laws::{
     archive_reopens, can_roll_back, checkpoint_may_be_master, crash_is_lawful, crash_recovers,
