@@ -31,10 +31,10 @@ mod view;
 pub use body::Body;
 pub use change::Change;
 pub use field::{dirty_bytes, entry_bytes};
-pub use frame::write_frame;
+pub use frame::{body_view, write_frame};
 pub use glance::Glance;
 pub use head::FrameHead;
-pub use header::{LogStart, based_header, plain_header};
+pub use header::{LogStart, based_header, plain_header, start_at};
 pub use laws::{
     cuts_compose, cuts_resume, cuts_settle, hops_meet_pending, lawful_by_record, losers_end,
     no_fault_of_a_log, numbers_of_a_log, one_log_fault, one_reading, redo_replays, redo_suffices,
@@ -42,6 +42,7 @@ pub use laws::{
     undo_is_tail,
 };
 pub use log::{Log, first_frames, read_log, read_log_behind, read_log_by};
+pub use next::next_at;
 pub use record::{Entry, Record, State};
 pub use sizes::{
     ABSENT, BASED_HEADER_BYTES, CELL_HEAD, CHECKPOINT_FRAME, DIRTY_BYTES, ENTRY_BYTES,
