@@ -57,7 +57,7 @@ fault_moved mark (BadLsn at) lsn offset place bytes to (is, whole, r, n, fits, l
 fault_moved mark e lsn offset place bytes to h = absurd h
 
 -- LISTS OF RECORDS
-each_more : (xs ys : List LogRecord) → AllByRecursion Fits xs → AllByRecursion Fits ys → AllByRecursion Fits (xs ++ ys)
+pub each_more : (xs ys : List LogRecord) → AllByRecursion Fits xs → AllByRecursion Fits ys → AllByRecursion Fits (xs ++ ys)
 each_more [] ys a b = b
 each_more (x ∷ xs) ys a b = (a.0, each_more xs ys a.1 b)
 
@@ -159,22 +159,22 @@ piece_is (Some text) mark count room header reads =
     take-add BASED_HEADER_BYTES count room ∙ ap₂ (λ (a b : List ℕ). a ++ b) header (reads ∙ ap (λ n. take n (drop mark.offset text)) (omega arith))
 
 module _ (text : List ℕ) (before : LogContent) (mark : Mark) (is : IsMark text before mark) where
-  abbrev first : ℕ
+  abbrev pub first : ℕ
   first = lsn_before before.begins + 1
 
   -- the bytes before the mark are those of the log before it
-  front_is : take mark.offset text ≡ log_text before
+  pub front_is : take mark.offset text ≡ log_text before
   front_is = is.reads.text ∙ ap (λ (t : List ℕ). log_text before ++ t) (nil_from_length is.reads.tail is.reads.torn_count) ∙ append-nil (log_text before)
 
-  front_length : mark.offset ≡ length (log_text before)
+  pub front_length : mark.offset ≡ length (log_text before)
   front_length = omega (arith, ap (λ (t : List ℕ). length t) front_is, length-take mark.offset text, is.within)
 
   -- the LSN of the next record
-  next_lsn : mark.lsn + 1 ≡ first + length before.records
+  pub next_lsn : mark.lsn + 1 ≡ first + length before.records
   next_lsn = omega (arith, is.lsn, size_of_log before)
 
   -- records that follow
-  text_more : (more : List LogRecord) → log_text before ++ spellings (mark.lsn + 1) more ≡ log_text (before ⧺ more)
+  pub text_more : (more : List LogRecord) → log_text before ++ spellings (mark.lsn + 1) more ≡ log_text (before ⧺ more)
   text_more more =
       ap (λ n. log_text before ++ spellings n more) next_lsn
       ∙ append_assoc (header_of before.begins) (spellings first before.records) (spellings (first + length before.records) more)
