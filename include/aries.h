@@ -32,12 +32,44 @@
 extern "C" {
 #endif
 
+/* The version of the library: the text, and 10,000 times the major, 100 times the minor and the patch number. */
+#define ARIES_VERSION "0.1.0"
+#define ARIES_VERSION_NUMBER 100
+
 /*
- * Numbers of faults. 2 to 29 are those that the program `aries` prints (docs/FORMATS.md has the table).
- * ARIES_NO_RESOURCE: memory was refused; any call that allocates can return it. ARIES_NO_ROOM: a buffer is too short.
- * ARIES_NOT_WRITABLE: what is to be written has no encoding, or what is asked for is not there.
+ * Numbers of faults. ARIES_NO_RESOURCE: memory was refused; any call that allocates can return it. ARIES_NO_ROOM: a
+ * buffer is too short. ARIES_NOT_WRITABLE: what is to be written has no encoding, or what is asked for is not there.
  */
 enum { ARIES_OK = 0, ARIES_NO_RESOURCE = 1, ARIES_NO_ROOM = 64, ARIES_NOT_WRITABLE = 65 };
+
+/*
+ * Faults of a log and a store. The program `aries` prints them too; docs/FORMATS.md says what each means. It also has
+ * 2 to 5, 17 and 18, which no call returns.
+ */
+enum {
+    ARIES_BAD_LOG_HEADER = 6,
+    ARIES_BAD_LENGTH = 7,
+    ARIES_BAD_RECORD = 8,
+    ARIES_BAD_LSN = 9,
+    ARIES_BAD_STORE_HEADER = 10,
+    ARIES_STORE_SIZE = 11,
+    ARIES_BAD_PAGE = 12,
+    ARIES_BAD_MASTER = 13,
+    ARIES_NO_PAGE_OF_RECORD = 14,
+    ARIES_PAGE_AHEAD_OF_LOG = 15,
+    ARIES_BROKEN_CHAIN = 16,
+    /* of an audit only */
+    ARIES_CHAIN = 20,
+    ARIES_AFTER_FINISH = 21,
+    ARIES_WRONG_COMPENSATION = 22,
+    ARIES_BEFORE_IMAGE = 23,
+    ARIES_DIRTY_WRITE = 24,
+    ARIES_END_TOO_EARLY = 25,
+    ARIES_PAGE_IMAGE = 26,
+    ARIES_TRANSACTION_TABLE = 27,
+    ARIES_DIRTY_TABLE = 28,
+    ARIES_BAD_BASE = 29
+};
 
 enum {
     ARIES_PAGE_BYTES = 1024,        /* a page's image */
@@ -45,7 +77,10 @@ enum {
     ARIES_SLOTS = 16,               /* slots of a page */
     ARIES_VALUE_BYTES = 48,         /* bytes of a value, at most */
     ARIES_PAGES = 4096,             /* pages of a store, at most */
-    ARIES_ABSENT = 255              /* the length of an absent value */
+    ARIES_ABSENT = 255,             /* the length of an absent value */
+    ARIES_TRANSACTIONS = 1024,      /* transactions in a checkpoint and in a journal, at most */
+    ARIES_FRAME_BYTES = 128,        /* the frame of any record except a checkpoint end, at most */
+    ARIES_CHECKPOINT_BYTES = 70698  /* the frames of a checkpoint, begin and end, at most */
 };
 
 /*
@@ -89,8 +124,8 @@ struct aries_recovered {
  * torn bytes can then complete a frame.
  *
  * out_store needs as many bytes as the store; the tail of a lawful log needs at most twice log_length. If a buffer is
- * too short (ARIES_NO_ROOM), `made` has the lengths that are needed, and a second call can succeed. A log and a store
- * are lawful if they keep the rules that aries_audit checks.
+ * too short (ARIES_NO_ROOM), all of `made` is filled in, with the lengths that are needed, and a second call can
+ * succeed. A log and a store are lawful if they keep the rules that aries_audit checks.
  *
  * Faults: 6 to 9 for the log; 10 to 12 for the store; 15, 13, 14 and 16 for both; 1; 64. If the log and the store are
  * lawful, only 1 and 64 are possible.
@@ -202,6 +237,59 @@ struct aries_fault aries_checkpoint(const uint8_t *log, size_t log_length, uint6
                                     struct aries_entry *transactions, size_t transactions_room,
                                     struct aries_dirty *dirty, size_t dirty_room, struct aries_tables *made);
 
+/* A place in a log between two records. */
+struct aries_mark {
+    uint64_t lsn;    /* the LSN of the last record before it; the base LSN if there is none */
+    uint64_t offset; /* how many bytes of the log come before it: the offset of the next record's frame */
+};
+
+/*
+ * Sets *mark to before the first record of a log. Reads only the header, 8 or 16 bytes; the rest need not be there. 6.
+ */
+struct aries_fault aries_log_begin(const uint8_t *log, size_t log_length, struct aries_mark *mark);
+
+/*
+ * Reads one record: writes the record after *mark to *record, and sets *mark to after it. Only its frame is read. A
+ * mark is set by aries_log_begin and by this call; to read a record whose LSN and offset are known, set mark->lsn to its
+ * LSN minus 1, and mark->offset. With any other mark, what the call returns is not specified, but it touches no memory
+ * outside its arguments. A checkpoint end comes without its tables. ARIES_NOT_WRITABLE: no whole record follows; the log
+ * ends there, perhaps with a torn tail. 7 to 9: what follows is not a frame of the log.
+ */
+struct aries_fault aries_next_record(const uint8_t *log, size_t log_length, struct aries_mark *mark,
+                                     struct aries_record *record);
+
+/* Where a log ends, and what follows it. */
+struct aries_log_end {
+    uint64_t length;           /* so many bytes from the front are a log without a torn tail */
+    uint64_t last_lsn;         /* the LSN of the last record in them; the base LSN if there is none */
+    uint64_t torn;             /* bytes of a torn tail after them; 0 if none follows */
+    struct aries_fault damage; /* 7 to 9 with `length` as place, if other bytes follow; else number 0 */
+};
+
+/*
+ * Finds the end of a log whose last bytes may be anything, as after a power cut: zeros, or old and new sectors. No more
+ * bytes than end->length from the front are a log without a torn tail. If everything that was synced is in these bytes,
+ * a recovery of them loses nothing. Damage in the middle of a log looks the same, so compare end->length with the length
+ * that is known to be synced. Reads the log up to its end once, and allocates nothing. 6.
+ */
+struct aries_fault aries_log_end(const uint8_t *log, size_t log_length, struct aries_log_end *end);
+
+/* What an engine that continues a log has to know of it. */
+struct aries_log_state {
+    uint64_t last_lsn;   /* the LSN of the last record; the base LSN if there is none */
+    uint64_t highest;    /* the highest number of a transaction that has a record, 0 if none has */
+    uint64_t unfinished; /* transactions that have a record, and have neither committed nor ended */
+};
+
+/*
+ * Writes the unfinished transactions of a log to the front of `unfinished`, in ascending order. After a recovery these
+ * are the transactions in doubt. Before it they are also those that it rolls back, which have state 0 or 1; it appends
+ * no record of a transaction in doubt, and none with a new number. Reads the whole log. ARIES_NO_ROOM: all of `state` is
+ * filled in, with the number of entries that are needed. Also 6 to 9 for the log, and 1.
+ */
+struct aries_fault aries_unfinished(const uint8_t *log, size_t log_length, struct aries_entry *unfinished,
+                                    size_t unfinished_room, struct aries_log_state *state);
+
 /*
  * WHAT AN ENGINE WRITES. Each call aries_write_... writes *length bytes to the front of out, and leaves the others
  * unchanged. ARIES_NO_ROOM: out is too short, and *length says how many bytes are needed. ARIES_NOT_WRITABLE: the
@@ -216,8 +304,8 @@ struct aries_fault aries_write_log_header(uint32_t version, uint64_t base_lsn, u
                                           size_t *length);
 
 /*
- * Writes the frame of a record, as it is in a log: 13 to 128 bytes. Not writable: a kind other than 1 to 6 and 8, LSN
- * 0, transaction 0, a slot above 15, an image of length 49 to 254. Also 1.
+ * Writes the frame of a record, as it is in a log: 13 to 128 bytes. Allocates nothing. Not writable: a kind other than
+ * 1 to 6 and 8, LSN 0, transaction 0, a slot above 15, an image of length 49 to 254.
  */
 struct aries_fault aries_write_record(const struct aries_record *record, uint8_t *out, size_t room, size_t *length);
 

@@ -4,8 +4,10 @@ pub mod Image
 pub mod JournalCalls
 pub mod Journaling
 pub mod LogHeader
+pub mod Marks
 pub mod Pages
 pub mod Record
 pub mod Recovered
 pub mod Tables
+pub mod Unfinished
 pub mod Writing

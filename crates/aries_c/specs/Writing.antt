@@ -1,7 +1,7 @@
 -- What a call that writes leaves in its caller's buffers (own).
 use Rattle.std.specs.Prelude.{◌≡◌, ℕ, ◌<◌, ◌⊎◌, List, ◌++◌, drop, length}
 use Rattle.aries_c.specs.declared.fault.Fault.{Fault as Told}
-use Rattle.aries_c.specs.Fault.{done, no_memory, no_room, not_writable}
+use Rattle.aries_c.specs.Fault.{done, no_memory, no_room, not_writable, OnDone, OnFailed}
 
 -- a text of which this holds is at the front of the buffer, the rest of the buffer is as before, and the length of the text is returned
 pub record Wrote (IsText : List ℕ → Type 0) (before after : List ℕ) (told : ℕ) : Type 0 where
@@ -35,3 +35,10 @@ IsAnswer told = (told ≡ done) ⊎ ((told ≡ no_room) ⊎ (told ≡ not_writab
 
 abbrev pub IsAnswerOrMemory : Told → Type 0
 IsAnswerOrMemory told = IsAnswer told ⊎ (told ≡ no_memory)
+
+-- the length of this text is returned; the text is at the front of the buffer and the rest as before, or the buffer is too short and as before
+pub record Puts (text before after : List ℕ) (length_told : ℕ) (told : Told) : Type 0 where
+  pub length_is : length_told ≡ length text
+  pub written : OnDone told (after ≡ text ++ drop (length text) before)
+  pub answer : IsAnswer told
+  pub short : OnFailed told ((told ≡ no_room) × LeavesShort text before after)

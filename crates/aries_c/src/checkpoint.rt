@@ -66,7 +66,7 @@ fn state_of(number: u8) -> Result<State, Fault>
 }
 
 /// This entry of a transaction table, for C.
-fn entry_told(entry: (u32, wal::Entry)) -> Entry
+pub fn entry_told(entry: (u32, wal::Entry)) -> Entry
     ensures { result ≡ told_entry (entry_of entry) }
 {
     let (tx, entry) = entry;

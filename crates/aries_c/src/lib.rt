@@ -6,17 +6,20 @@ mod audited;
 mod checkpoint;
 mod dump;
 mod fault;
+mod frames;
 mod image;
 mod journal_disk;
 mod journal_opening;
 mod journaling;
 mod log_writing;
+mod marks;
 mod pages;
 mod record;
 mod recovered;
 mod refusal;
 mod room;
 mod text;
+mod unfinished;
 
 pub use audited::{aries_audit, aries_audit_from};
 pub use checkpoint::{DirtyPage, Entry, Tables};
@@ -33,7 +36,9 @@ pub use journaling::{
     aries_journal_undo, aries_journal_update,
 };
 pub use log_writing::{aries_write_checkpoint_end, aries_write_log_header, aries_write_record};
+pub use marks::{LogEnd, Mark, aries_log_begin, aries_log_end, aries_next_record};
 pub use pages::{Page, aries_read_page, aries_write_page, aries_write_store_header};
 pub use record::Record;
 pub use recovered::{Recovered, aries_recover};
 pub use text::aries_fault_text;
+pub use unfinished::{LogState, aries_unfinished};

@@ -10,6 +10,7 @@ ghost use Rattle.aries_c.specs.Tables.{IsEndFrame, HasNoEndFrame};
 ghost use Rattle.aries_c.specs.Writing.{Wrote, LacksRoom, IsAnswer, IsAnswerOrMemory, HasNoText};
 
 use crate::checkpoint::{dirty_named, entries_named};
+use crate::frames::put_record;
 use crate::record::with_spelling;
 use crate::room::put;
 use crate::{DirtyPage, Entry, Fault, Record};
@@ -57,34 +58,23 @@ fn frame_of(alloc: Global, logged: &wal::Record, lsn: u64) -> Result<Vec<u8>, Fa
 }
 
 /// Writes the frame of a record, at its LSN, to the front of a buffer: any record but a checkpoint
-/// end. 65: it has no encoding; 64: the buffer is too short; 1: memory was refused.
+/// end. 65: it has no encoding; 64: the buffer is too short. Nothing is allocated.
 #[unsafe(no_mangle)]
-pub extern "C" fn aries_write_record(
-    alloc: Global,
-    named: &Record,
-    out: &mut [u8],
-    told: &mut usize,
-) -> Fault
+pub extern "C" fn aries_write_record(named: &Record, out: &mut [u8], told: &mut usize) -> Fault
     ensures written { OnDone result (Wrote (IsFrame named.now) out.old out.new told.new) }
     ensures no_room { OnNoRoom result (LacksRoom (IsFrame named.now) out.old told.new) }
     ensures not_writable { OnNotWritable result (HasNoText (IsFrame named.now)) }
-    ensures answer { IsAnswerOrMemory result }
+    ensures answer { IsAnswer result }
     ensures kept { OnFailed result (out.new ≡ out.old) }
     ensures untold { OnOtherFailure result (told.new ≡ told.old) }
 {
-    match record_frame(alloc, named) {
-        Ok(frame) => put(&frame, out, told),
+    if named.lsn == 0 {
+        return Fault::not_writable();
+    }
+    match named.writable() {
+        Ok(record) => put_record(&record, named.lsn, out, told),
         Err(fault) => fault,
     }
-}
-
-/// The frame of the record that C gives.
-fn record_frame(alloc: Global, named: &Record) -> Result<Vec<u8>, Fault>
-    ensures found { IfOk result (λ text. IsFrame named.now text.items) }
-    ensures err { IfErr result (IsMemoryOrNotWritable (HasNoText (IsFrame named.now))) }
-{
-    let record = named.writable()?;
-    frame_of(alloc, &record, named.lsn)
 }
 
 /// The frame of the checkpoint end with the tables that C gives.
