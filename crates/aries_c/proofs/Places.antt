@@ -42,6 +42,15 @@ filled_more told (x ∷ xs) [] i e lt room is = absurd (omega (arith, room))
 filled_more told (x ∷ xs) (t ∷ ts) zero e lt room is = ap (λ y. told y ∷ ts) (sym is)
 filled_more told (x ∷ xs) (t ∷ ts) (suc i) e lt room is = ap (λ l. told x ∷ l) (filled_more told xs ts i e (omega arith) (omega arith) is)
 
+-- the same after a front of any length
+pub filled_next : {T : Type 0} (front before : List T) (n : ℕ) (v : T) → n ≡ length front → n < length before → set (front ++ drop n before) n v ≡ (front ++ v ∷ []) ++ drop (suc n) before
+filled_next [] [] n v long room = absurd (omega (arith, room))
+filled_next [] (t ∷ ts) zero v long room = refl
+filled_next [] (t ∷ ts) (suc n) v long room = absurd (omega (arith, long))
+filled_next (x ∷ xs) before zero v long room = absurd (omega (arith, long))
+filled_next (x ∷ xs) [] (suc n) v long room = absurd (omega (arith, room))
+filled_next (x ∷ xs) (t ∷ ts) (suc n) v long room = ap (λ l. x ∷ l) (filled_next xs ts n v (omega (arith, long)) (omega (arith, room)))
+
 -- and all are
 pub filled_whole : {E T : Type 0} (told : E → T) (entries : List E) (before after : List T) (i : ℕ) → i ≡ length entries → after ≡ map told (take i entries) ++ drop i before → after ≡ map told entries ++ drop (length entries) before
 filled_whole told entries before after i all is =

@@ -96,21 +96,29 @@ pub extern "C" fn aries_next_record(log: &[u8], mark: &mut Mark, record: &mut Re
     }
 }
 
-/// Where the log in these bytes ends, and what follows it there.
-fn end_told(end: pieces::Mark, rest: Rest) -> LogEnd
+/// The end of a log at this mark, with so many torn bytes or this damage after it.
+fn end_with(end: pieces::Mark, torn: u64, damage: Fault) -> LogEnd
     ensures end { end_of result ≡ end }
-    ensures rest { (log : List ℕ) → Follows log end rest → TellsRest log result }
+    ensures torn { result.torn ≡ torn }
+    ensures damage { result.damage ≡ damage }
 {
-    let (torn, damage) = match rest {
-        Rest::Nothing => (0, Fault::none()),
-        Rest::Torn(count) => (count, Fault::none()),
-        Rest::Damaged(fault) => (0, Fault::from(fault)),
-    };
     LogEnd {
         length: end.offset,
         last_lsn: end.lsn,
         torn,
         damage,
+    }
+}
+
+/// Where the log in these bytes ends, and what follows it there.
+fn end_told(end: pieces::Mark, rest: Rest) -> LogEnd
+    ensures end { end_of result ≡ end }
+    ensures rest { (log : List ℕ) → Follows log end rest → TellsRest log result }
+{
+    match rest {
+        Rest::Nothing => end_with(end, 0, Fault::none()),
+        Rest::Torn(count) => end_with(end, count, Fault::none()),
+        Rest::Damaged(fault) => end_with(end, 0, Fault::from(fault)),
     }
 }
 

@@ -45,8 +45,10 @@ fn fill_unfinished(found: &BTreeMap<u32, wal::Entry>, out: &mut [Entry])
     requires { length found.now.entries ≤ length out.old }
     ensures { Fills told_entry (map entry_of found.now.entries) out.old out.new }
 {
-    for (place, (tx, entry)) in found.iter().enumerate() {
+    let mut place = 0;
+    for (tx, entry) in found {
         out[place] = entry_told((*tx, *entry));
+        place += 1;
     }
 }
 
