@@ -134,6 +134,22 @@ struct aries_fault aries_recover(const uint8_t *log, size_t log_length, const ui
                                  uint8_t *tail, size_t tail_room, uint8_t *out_store, size_t out_store_room,
                                  uint32_t *in_doubt, size_t in_doubt_room, struct aries_recovered *made);
 
+#if defined(__cplusplus) || (defined(__STDC_VERSION__) && __STDC_VERSION__ >= 199901L)
+/*
+ * Whether a page has other bytes in one store than in another, which has as many pages: 1, or 0. So an engine that
+ * writes the new store in place of the old one finds which pages to write. This function is in this header, and is
+ * tested, not proved. It needs C99 or C++.
+ */
+static inline int aries_is_page_changed(const uint8_t *store, const uint8_t *other_store, uint32_t page)
+{
+    size_t i, from = ARIES_STORE_HEADER_BYTES + (size_t)ARIES_PAGE_BYTES * page;
+    for (i = from; i < from + ARIES_PAGE_BYTES; i++)
+        if (store[i] != other_store[i])
+            return 1;
+    return 0;
+}
+#endif
+
 /* AUDIT */
 
 /*
