@@ -58,7 +58,7 @@ enum {
     ARIES_NO_PAGE_OF_RECORD = 14,
     ARIES_PAGE_AHEAD_OF_LOG = 15,
     ARIES_BROKEN_CHAIN = 16,
-    /* of an audit only */
+    /* only from an audit */
     ARIES_CHAIN = 20,
     ARIES_AFTER_FINISH = 21,
     ARIES_WRONG_COMPENSATION = 22,

@@ -15,7 +15,7 @@ import sys
 sys.dont_write_bytecode = True  # no folder of it beside the tests
 from program import TOP, text_of
 
-TESTS = {"base_rows", "log_rows", "core_rows", "redo_rows", "restart_rows", "recovery_rows", "journal_rows", "crash_rows", "journal_times",
+TESTS = {"base_rows", "log_rows", "core_rows", "redo_rows", "restart_rows", "recovery_rows", "journal_rows", "crash_rows", "journal_times", "audit_times",
          "engine", "rows", "workloads", "checks", "seeded"}
 
 # The sizes of the default profile, what is made of them, and their neighbours.

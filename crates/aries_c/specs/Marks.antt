@@ -1,25 +1,27 @@
 -- A log as C reads it record by record, and its end (own).
-use Rattle.std.specs.Prelude.{◌≡◌, ◌+◌, ℕ, List, [], ◌∷◌, drop, length}
-use Rattle.wal.specs.Records.{LogRecord, LogContent, ◌⧺◌}
+use Rattle.std.specs.Prelude.{◌≡◌, ◌+◌, ◌⊎◌, ℕ, List, drop, length}
+use Rattle.wal.specs.Records.{LogRecord}
 use Rattle.wal.specs.Reads.{IsTorn}
 use Rattle.pieces.specs.declared.mark.Mark.{Mark}
-use Rattle.pieces.specs.Pieces.{IsMark}
-use Rattle.cursor.specs.Ends.{HasFaultAt}
+use Rattle.cursor.specs.Ends.{HasFaultAt, IsNext}
 use Rattle.aries_c.specs.declared.marks.Mark.{Mark as Told}
 use Rattle.aries_c.specs.declared.marks.LogEnd.{LogEnd}
 use Rattle.aries_c.specs.declared.record.Record.{Record}
-use Rattle.aries_c.specs.Fault.{OnDone, OnFailed, Tells}
+use Rattle.aries_c.specs.declared.fault.Fault.{Fault}
+use Rattle.aries_c.specs.Fault.{not_writable, OnDone, OnFailed, Tells}
 use Rattle.aries_c.specs.Record.{Names}
 
 -- the mark that C has
 abbrev pub mark_of : Told → Mark
 mark_of told = record { lsn = told.lsn; offset = told.offset }
 
--- C gets the record that follows these, and the mark after it
-pub record TellsNext (log : List ℕ) (before : LogContent) (next : Mark) (told : Record) : Type 0 where
-  pub content : LogRecord
-  pub names : Names told content
-  pub is : IsMark log (before ⧺ (content ∷ [])) next
+-- C gets the record after a mark, and the mark after it
+abbrev pub TellsNext : List ℕ → (mark next : Told) → Record → Type 0
+TellsNext log mark next told = (content : LogRecord) × Names told content × IsNext log (mark_of mark) content (mark_of next)
+
+-- the call says that no record follows, or what is wrong there
+abbrev pub TellsWhy : List ℕ → Told → Fault → Type 0
+TellsWhy log mark told = (told ≡ not_writable) ⊎ Tells (HasFaultAt log (mark_of mark)) told
 
 -- THE END that C gets
 abbrev pub end_of : LogEnd → Mark

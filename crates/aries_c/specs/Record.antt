@@ -2,6 +2,8 @@
 use Rattle.std.specs.Prelude.{◌≡◌, ◌<◌, ℕ, List, ⊤}
 use Rattle.wal.specs.Records.{UpdateRecord, CompensationRecord, PlainRecord, LogRecord, Update, Compensation, Commit, Abort, End, Prepare, CheckpointBegin, CheckpointEnd}
 use Rattle.wal.specs.Spelling.{kind_of, frame, Fits}
+use Rattle.page.specs.Image.{Image}
+use Rattle.aries_c.specs.declared.frames.Head.{Head}
 use Rattle.aries_c.specs.declared.record.Record.{Record as Told}
 use Rattle.aries_c.specs.Image.{NamesImage}
 
@@ -57,6 +59,13 @@ pub record IsWritable (told : Told) (r : LogRecord) : Type 0 where
 -- C gives no such record
 abbrev pub NamesNoRecord : Told → Type 0
 NamesNoRecord told = (r : LogRecord) → ¬ IsWritable told r
+
+-- the update and the CLR with this head
+abbrev pub update_of : Head → (before after : Image) → LogRecord
+update_of head before after = Update (record { tx = head.tx; prev = head.prev; page = head.page; slot = head.slot; before = before; after = after })
+
+abbrev pub compensation_of : Head → (undo_next : ℕ) → Image → LogRecord
+compensation_of head undo_next image = Compensation (record { tx = head.tx; prev = head.prev; page = head.page; slot = head.slot; undo_next = undo_next; image = image })
 
 -- the frame of the record that C gives, at its LSN
 abbrev pub IsFrame : Told → List ℕ → Type 0

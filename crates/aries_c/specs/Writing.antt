@@ -1,5 +1,8 @@
 -- What a call that writes leaves in its caller's buffers (own).
 use Rattle.std.specs.Prelude.{◌≡◌, ℕ, ◌<◌, ◌⊎◌, List, ◌++◌, drop, length}
+use Rattle.wal.specs.Records.{LogRecord}
+use Rattle.wal.specs.Spelling.{frame}
+use Rattle.journal.specs.Writing.{HasKind}
 use Rattle.aries_c.specs.declared.fault.Fault.{Fault as Told}
 use Rattle.aries_c.specs.Fault.{done, no_memory, no_room, not_writable, OnDone, OnFailed}
 
@@ -42,3 +45,11 @@ pub record Puts (text before after : List ℕ) (length_told : ℕ) (told : Told)
   pub written : OnDone told (after ≡ text ++ drop (length text) before)
   pub answer : IsAnswer told
   pub short : OnFailed told ((told ≡ no_room) × LeavesShort text before after)
+
+-- the same of a frame, and of the frame of a commit, an abort, an end or a prepare, by the number of its kind
+abbrev pub PutsFrame : LogRecord → (lsn : ℕ) → (before after : List ℕ) → (length_told : ℕ) → Told → Type 0
+PutsFrame r lsn = Puts (frame r lsn)
+
+abbrev pub PutsPlain : (kind tx prev lsn : ℕ) → (before after : List ℕ) → (length_told : ℕ) → Told → Type 0
+PutsPlain kind tx prev lsn before after length_told told =
+    (r : LogRecord) → HasKind r kind (record { tx = tx; prev = prev }) → PutsFrame r lsn before after length_told told

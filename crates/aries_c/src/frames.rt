@@ -2,12 +2,11 @@
 
 ghost use Rattle.std.specs.Prelude.{◌<◌};
 ghost use Rattle.page.specs.declared.profile.TheConstants.{SLOTS};
-ghost use Rattle.wal.specs.Records.{LogRecord, Update, Compensation, CheckpointBegin};
-ghost use Rattle.wal.specs.Spelling.{frame, Fits};
+ghost use Rattle.wal.specs.Records.{CheckpointBegin};
+ghost use Rattle.wal.specs.Spelling.{Fits};
 ghost use Rattle.wal.specs.Content.{content};
-ghost use Rattle.journal.specs.Writing.{HasKind};
-ghost use Rattle.aries_c.specs.Record.{IsGivenWhole};
-ghost use Rattle.aries_c.specs.Writing.{Puts};
+ghost use Rattle.aries_c.specs.Record.{IsGivenWhole, update_of, compensation_of};
+ghost use Rattle.aries_c.specs.Writing.{PutsFrame, PutsPlain};
 
 use crate::Fault;
 use crate::room::put;
@@ -18,22 +17,34 @@ use wal::{FrameHead, PLAIN_FRAME, Record, SMALLEST_FRAME};
 /// How many bytes of a frame come before its body: those of the body's length.
 const LENGTH_BYTES: usize = 4;
 
+/// Whose record a change is, the LSN of that transaction's record before it, and the cell.
+#[derive(Clone, Copy)]
+pub struct Head {
+    pub tx: u32,
+    pub prev: u64,
+    pub page: u32,
+    pub slot: u8,
+}
+
 /// Writes the frame of an update, as `put` writes a text.
 fn put_update_frame(
     lsn: u64,
-    tx: u32,
-    prev: u64,
-    page: u32,
-    slot: u8,
+    head: Head,
     before: &Option<Value>,
     after: &Option<Value>,
     out: &mut [u8],
     told: &mut usize,
 ) -> Fault
-    requires tx { 0 < tx }
-    requires slot { slot < SLOTS }
-    ensures { Puts (frame (Update (record { tx = tx; prev = prev; page = page; slot = slot; before = before.now; after = after.now })) lsn) out.old out.new told.new result }
+    requires tx { 0 < head.tx }
+    requires slot { head.slot < SLOTS }
+    ensures { PutsFrame (update_of head before.now after.now) lsn out.old out.new told.new result }
 {
+    let Head {
+        tx,
+        prev,
+        page,
+        slot,
+    } = head;
     let before = Image::of(before);
     let after = Image::of(after);
     *told = update_size(&before, &after);
@@ -47,19 +58,23 @@ fn put_update_frame(
 /// Writes the frame of a CLR, as `put` writes a text.
 fn put_compensation_frame(
     lsn: u64,
-    tx: u32,
-    prev: u64,
-    page: u32,
-    slot: u8,
+    head: Head,
     undo_next: u64,
     image: &Option<Value>,
     out: &mut [u8],
     told: &mut usize,
 ) -> Fault
-    requires tx { 0 < tx }
-    requires slot { slot < SLOTS }
-    ensures { Puts (frame (Compensation (record { tx = tx; prev = prev; page = page; slot = slot; undo_next = undo_next; image = image.now })) lsn) out.old out.new told.new result }
+    requires tx { 0 < head.tx }
+    requires slot { head.slot < SLOTS }
+    ensures { PutsFrame (compensation_of head undo_next image.now) lsn out.old out.new
+        told.new result }
 {
+    let Head {
+        tx,
+        prev,
+        page,
+        slot,
+    } = head;
     let image = Image::of(image);
     *told = compensation_size(&image);
     if out.len() < *told {
@@ -79,8 +94,7 @@ fn put_plain_frame(
     out: &mut [u8],
     told: &mut usize,
 ) -> Fault
-    ensures { (r : LogRecord) → HasKind r kind (record { tx = tx; prev = prev })
-        → Puts (frame r lsn) out.old out.new told.new result }
+    ensures { PutsPlain kind tx prev lsn out.old out.new told.new result }
 {
     let head = FrameHead {
         length: (PLAIN_FRAME - LENGTH_BYTES) as u32,
@@ -92,7 +106,7 @@ fn put_plain_frame(
 
 /// Writes the frame of a checkpoint begin, as `put` writes a text.
 fn put_begin_frame(lsn: u64, out: &mut [u8], told: &mut usize) -> Fault
-    ensures { Puts (frame CheckpointBegin lsn) out.old out.new told.new result }
+    ensures { PutsFrame CheckpointBegin lsn out.old out.new told.new result }
 {
     let head = FrameHead {
         length: (SMALLEST_FRAME - LENGTH_BYTES) as u32,
@@ -106,7 +120,7 @@ fn put_begin_frame(lsn: u64, out: &mut [u8], told: &mut usize) -> Fault
 pub fn put_record(logged: &Record, lsn: u64, out: &mut [u8], told: &mut usize) -> Fault
     requires fits { Fits (content logged.now) }
     requires whole { IsGivenWhole (content logged.now) }
-    ensures { Puts (frame (content logged.now) lsn) out.old out.new told.new result }
+    ensures { PutsFrame (content logged.now) lsn out.old out.new told.new result }
 {
     match logged {
         Record::Update {
@@ -116,7 +130,15 @@ pub fn put_record(logged: &Record, lsn: u64, out: &mut [u8], told: &mut usize) -
             slot,
             before,
             after,
-        } => put_update_frame(lsn, *tx, *prev, *page, *slot, before, after, out, told),
+        } => {
+            let head = Head {
+                tx: *tx,
+                prev: *prev,
+                page: *page,
+                slot: *slot,
+            };
+            put_update_frame(lsn, head, before, after, out, told)
+        }
         Record::Compensation {
             tx,
             prev,
@@ -124,7 +146,15 @@ pub fn put_record(logged: &Record, lsn: u64, out: &mut [u8], told: &mut usize) -
             slot,
             undo_next,
             image,
-        } => put_compensation_frame(lsn, *tx, *prev, *page, *slot, *undo_next, image, out, told),
+        } => {
+            let head = Head {
+                tx: *tx,
+                prev: *prev,
+                page: *page,
+                slot: *slot,
+            };
+            put_compensation_frame(lsn, head, *undo_next, image, out, told)
+        }
         Record::Commit { tx, prev } => put_plain_frame(lsn, 3, *tx, *prev, out, told),
         Record::Abort { tx, prev } => put_plain_frame(lsn, 4, *tx, *prev, out, told),
         Record::End { tx, prev } => put_plain_frame(lsn, 5, *tx, *prev, out, told),

@@ -1,13 +1,10 @@
 //! A log that is read record by record, and where it ends.
 
-ghost use Rattle.std.specs.Prelude.{◌≡◌, ◌+◌, ◌-◌, ◌≤◌, ◌⊎◌, ℕ, List, length};
+ghost use Rattle.std.specs.Prelude.{◌≡◌, ◌+◌, ◌≤◌, ℕ, List, length};
 ghost use Rattle.page.specs.declared.fault.Fault.TheVariants.{BadLogHeader};
-ghost use Rattle.wal.specs.Records.{LogContent};
-ghost use Rattle.wal.specs.Reads.{Reads};
-ghost use Rattle.cursor.specs.Ends.{IsFirst, IsEnd, Follows, HasFaultAt};
-ghost use Rattle.pieces.specs.Pieces.{IsMark};
-ghost use Rattle.aries_c.specs.Fault.{told_of, not_writable, Tells, OnDone, OnFailed, OnNotWritable};
-ghost use Rattle.aries_c.specs.Marks.{mark_of, TellsNext, end_of, TellsRest};
+ghost use Rattle.cursor.specs.Ends.{IsFirst, IsEnd, EndsAfter, Follows};
+ghost use Rattle.aries_c.specs.Fault.{told_of, OnDone, OnFailed, OnNotWritable};
+ghost use Rattle.aries_c.specs.Marks.{mark_of, TellsNext, TellsWhy, end_of, TellsRest};
 
 use crate::{Fault, Record};
 use cursor::{Rest, log_begin, log_end, next_record};
@@ -70,15 +67,11 @@ pub extern "C" fn aries_log_begin(log: &[u8], mark: &mut Mark) -> Fault
 /// `record` are as before.
 #[unsafe(no_mangle)]
 pub extern "C" fn aries_next_record(log: &[u8], mark: &mut Mark, record: &mut Record) -> Fault
-    ensures record { OnDone result ((before : LogContent) → IsMark log.now before (mark_of mark.old)
-        → TellsNext log.now before (mark_of mark.new) record.new) }
+    ensures record { OnDone result (TellsNext log.now mark.old mark.new record.new) }
     ensures lsn { OnDone result (record.new.lsn ≡ mark.old.lsn + 1) }
     ensures within { OnDone result (mark.new.offset ≤ length log.now) }
-    ensures end { OnNotWritable result ((before : LogContent)
-        → IsMark log.now before (mark_of mark.old)
-        → Reads log.now before (length log.now - mark.old.offset)) }
-    ensures fault { OnFailed result
-        ((result ≡ not_writable) ⊎ Tells (HasFaultAt log.now (mark_of mark.old)) result) }
+    ensures end { OnNotWritable result (EndsAfter log.now (mark_of mark.old)) }
+    ensures fault { OnFailed result (TellsWhy log.now mark.old result) }
     ensures kept { OnFailed result ((mark.new ≡ mark.old) × (record.new ≡ record.old)) }
 {
     let from = pieces::Mark {

@@ -91,7 +91,7 @@ fn empty_store(alloc: Global) -> Result<Store> {
     Ok(store)
 }
 
-/// Reads the log in these bytes and audits it beside a store of empty pages. It has to be lawful.
+/// Reads the log in these bytes and audits it with a store of empty pages. It has to be lawful.
 pub fn audited(alloc: Global, bytes: &[u8]) -> Result<()> {
     let store = empty_store(alloc)?;
     let (log, _) = read_log(alloc, bytes).map_err(failed)?;

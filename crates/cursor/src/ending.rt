@@ -1,11 +1,10 @@
 //! Where the log in some bytes ends, and what follows it there.
 
-ghost use Rattle.std.specs.Prelude.{◌≡◌, ◌≢◌, ◌+◌, ◌≤◌, ◌<◌, ◌^◌, ℕ, drop, length, Ok, Some, IfErr, IfNone, IfOk, IfSome};
+ghost use Rattle.std.specs.Prelude.{◌≡◌, ◌+◌, ◌≤◌, ◌<◌, ◌^◌, length, Ok, Some, IfErr, IfNone, IfOk, IfSome};
 ghost use Rattle.page.specs.declared.fault.Fault.TheVariants.{BadLogHeader};
-ghost use Rattle.wal.specs.Records.{LogRecord};
-ghost use Rattle.wal.specs.Frames.{next_at, size_in};
+ghost use Rattle.wal.specs.Frames.{size_in};
 ghost use Rattle.wal.specs.Reads.{Cause};
-ghost use Rattle.cursor.specs.Ends.{IsFirst, IsEnd, Follows};
+ghost use Rattle.cursor.specs.Ends.{IsFirst, IsEnd, Follows, next_after, HasNoneAfter};
 
 use crate::reading::{log_begin, size_after};
 use page::Fault;
@@ -27,10 +26,8 @@ pub enum Rest {
 fn whole_after(bytes: &[u8], mark: Mark) -> Option<usize>
     requires lsn { mark.lsn + 1 < 2 ^ 64 }
     requires within { mark.offset ≤ length bytes.now }
-    ensures some { IfSome result (λ size. size_in (next_at (mark.lsn + 1) mark.offset
-        (drop mark.offset bytes.now)) ≡ Ok (Some size)) }
-    ensures none { IfNone result ((r : LogRecord) (size : ℕ) → next_at (mark.lsn + 1) mark.offset
-        (drop mark.offset bytes.now) ≢ Ok (Some (r, size))) }
+    ensures some { IfSome result (λ size. size_in (next_after bytes.now mark) ≡ Ok (Some size)) }
+    ensures none { IfNone result (HasNoneAfter bytes.now mark) }
 {
     match size_after(bytes, mark) {
         Ok(found) => found,

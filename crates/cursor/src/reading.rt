@@ -1,14 +1,12 @@
 //! One record after the other, each from a mark.
 
-ghost use Rattle.std.specs.Prelude.{◌≡◌, ◌+◌, ◌-◌, ◌≤◌, ◌<◌, ◌^◌, [], ◌∷◌, drop, length, Ok, Some, IfErr, IfNone, IfOk, IfSome};
+ghost use Rattle.std.specs.Prelude.{◌≡◌, ◌+◌, ◌≤◌, ◌<◌, ◌^◌, length, Ok, Some, IfErr, IfNone, IfOk, IfSome};
 ghost use Rattle.page.specs.declared.fault.Fault.TheVariants.{BadLogHeader};
-ghost use Rattle.wal.specs.Records.{LogContent, ◌⧺◌};
-ghost use Rattle.wal.specs.Frames.{next_at, size_in};
-ghost use Rattle.wal.specs.Reads.{Cause, Reads};
+ghost use Rattle.wal.specs.Frames.{size_in};
+ghost use Rattle.wal.specs.Reads.{Cause};
 ghost use Rattle.wal.specs.Spelling.{Fits};
 ghost use Rattle.wal.specs.Content.{shown};
-ghost use Rattle.pieces.specs.Pieces.{IsMark};
-ghost use Rattle.cursor.specs.Ends.{IsFirst, HasFaultAt};
+ghost use Rattle.cursor.specs.Ends.{IsFirst, IsNext, EndsAfter, HasFaultAt, next_after};
 
 use page::Fault;
 use pieces::Mark;
@@ -37,7 +35,7 @@ pub fn log_begin(bytes: &[u8]) -> Result<Mark, Fault>
 pub fn size_after(bytes: &[u8], mark: Mark) -> Result<Option<usize>, Fault>
     requires lsn { mark.lsn + 1 < 2 ^ 64 }
     requires within { mark.offset ≤ length bytes.now }
-    ensures { result ≡ size_in (next_at (mark.lsn + 1) mark.offset (drop mark.offset bytes.now)) }
+    ensures { result ≡ size_in (next_after bytes.now mark) }
 {
     let offset = mark.offset as usize;
     let (_, rest) = bytes.split_at(offset);
@@ -48,10 +46,8 @@ pub fn size_after(bytes: &[u8], mark: Mark) -> Result<Option<usize>, Fault>
 #[inline(always)]
 fn view_after<'a>(bytes: &'a [u8], mark: Mark, size: usize) -> RecordView<'a>
     requires within { mark.offset ≤ length bytes.now }
-    requires there { size_in (next_at (mark.lsn + 1) mark.offset (drop mark.offset bytes.now))
-        ≡ Ok (Some size) }
-    ensures record { next_at (mark.lsn + 1) mark.offset (drop mark.offset bytes.now)
-        ≡ Ok (Some (shown result, size)) }
+    requires there { size_in (next_after bytes.now mark) ≡ Ok (Some size) }
+    ensures record { next_after bytes.now mark ≡ Ok (Some (shown result, size)) }
     ensures fits { Fits (shown result) }
 {
     let (_, frame) = bytes.split_at(mark.offset as usize);
@@ -75,14 +71,12 @@ fn view_after<'a>(bytes: &'a [u8], mark: Mark, size: usize) -> RecordView<'a>
 /// - BadRecord(offset): its body does not encode a record.
 /// - BadLsn(offset): it encodes a record, but with another LSN than the next one.
 pub fn next_record<'a>(bytes: &'a [u8], mark: Mark) -> Result<Option<(RecordView<'a>, Mark)>, Fault>
-    ensures record { IfOk result (λ found. IfSome found (λ x. (before : LogContent)
-        → IsMark bytes.now before mark → IsMark bytes.now (before ⧺ (shown x.0 ∷ [])) x.1)) }
+    ensures record { IfOk result (λ found. IfSome found (λ x.
+        IsNext bytes.now mark (shown x.0) x.1)) }
     ensures lsn { IfOk result (λ found. IfSome found (λ x. x.1.lsn ≡ mark.lsn + 1)) }
     ensures within { IfOk result (λ found. IfSome found (λ x. x.1.offset ≤ length bytes.now)) }
     ensures fits { IfOk result (λ found. IfSome found (λ x. Fits (shown x.0))) }
-    ensures end { IfOk result (λ found. IfNone found ((before : LogContent)
-        → IsMark bytes.now before mark
-        → Reads bytes.now before (length bytes.now - mark.offset))) }
+    ensures end { IfOk result (λ found. IfNone found (EndsAfter bytes.now mark)) }
     ensures fault { IfErr result (HasFaultAt bytes.now mark) }
 {
     let Some(lsn) = mark.lsn.checked_add(1) else {

@@ -1,15 +1,16 @@
 use Rattle.std.proofs.Common.{◌≡◌, ◌+◌, length, ap, subst, arith, inl}
 use Rattle.page.specs.Image.{Image}
-use Rattle.wal.specs.Records.{LogRecord, Compensation}
+use Rattle.wal.specs.Records.{LogRecord}
 use Rattle.wal.specs.Spelling.{image}
 use Rattle.journal.specs.Arrays.{image_of}
 use Rattle.journal.specs.Writing.{IsWritten}
 use Rattle.aries_c.specs.declared.fault.Fault.{Fault}
+use Rattle.aries_c.specs.Record.{compensation_of}
 use Rattle.aries_c.proofs.frames.put_compensation_frame.Goals as goal
 
 pub returns : goal.returns
 returns c =
-    let r : Image → LogRecord = λ image. Compensation (record { tx = c.args.tx; prev = c.args.prev; page = c.args.page; slot = c.args.slot; undo_next = c.args.undo_next; image = image }) in
+    let r : Image → LogRecord = compensation_of c.args.head c.args.undo_next in
     let image_is : image_of c.of-image.result ≡ c.args.image.now = c.of-image.ensures.image in
     let written = subst (λ i. IsWritten (r i) c.args.lsn c.args.out.now c.put_compensation.new.out c.put_compensation.result) image_is c.put_compensation.ensures.written in
     record {

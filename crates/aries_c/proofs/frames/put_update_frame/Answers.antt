@@ -1,15 +1,16 @@
 use Rattle.std.proofs.Common.{◌≡◌, ◌+◌, length, length-append, ap, subst, arith, inl}
 use Rattle.page.specs.Image.{Image}
-use Rattle.wal.specs.Records.{LogRecord, Update}
+use Rattle.wal.specs.Records.{LogRecord}
 use Rattle.wal.specs.Spelling.{image}
 use Rattle.journal.specs.Arrays.{image_of}
 use Rattle.journal.specs.Writing.{IsWritten}
 use Rattle.aries_c.specs.declared.fault.Fault.{Fault}
+use Rattle.aries_c.specs.Record.{update_of}
 use Rattle.aries_c.proofs.frames.put_update_frame.Goals as goal
 
 pub returns : goal.returns
 returns c =
-    let r : Image → Image → LogRecord = λ before after. Update (record { tx = c.args.tx; prev = c.args.prev; page = c.args.page; slot = c.args.slot; before = before; after = after }) in
+    let r : Image → Image → LogRecord = update_of c.args.head in
     let before_is : image_of c.of-before.result ≡ c.args.before.now = c.of-before.ensures.image in
     let after_is : image_of c.of-after.result ≡ c.args.after.now = c.of-after.ensures.image in
     let written =

@@ -33,6 +33,6 @@ loop-tx-preserved c =
     let next : suc n ≡ n + 1 = omega arith in (
       omega (arith, c.loop-tx.invariant.0, length-append c.loop-tx.yielded ((c.in-Some.tx, c.in-Some.entry) ∷ [])),
       ap₂ (λ (l : List Told) (v : Told). set l n v) c.loop-tx.invariant.1 c.entry_told.ensures
-      ∙ filled_next (told_of done) before n (told_entry (entry_of this)) long room
-      ∙ ap₂ (λ (l : List Told) (m : ℕ). l ++ drop m before) (sym told) next,
+          ∙ filled_next (told_of done) before n (told_entry (entry_of this)) long room
+          ∙ ap₂ (λ (l : List Told) (m : ℕ). l ++ drop m before) (sym told) next,
     )
