@@ -1,11 +1,11 @@
 #!/usr/bin/env python3
 """Kills the bank, often with a power cut, opens it again, and checks whether anything was lost.
 
-usage: drive.py [--kills N] [--seed S] [--aries PROGRAM] [--flag FLAG].. ENGINE
+usage: drive.py [--kills N] [--seed S] [--aries PROGRAM] [--flag=FLAG].. [--at-random] [--remove] ENGINE
 
-ENGINE is the built example, PROGRAM is `aries`: its audit is asked too. FLAG is an option of the bank, for example --flag=--one-sync. First the bank is killed
-at each call that changes a file while it is made, opened, checkpointed and archived. Then the N kills come at random moments and calls. Half of all kills are
-power cuts: tests/embed/power.py says what they may leave. After each kill:
+ENGINE is the built example, PROGRAM is `aries`: its audit is asked too. FLAG is an option of the bank, for example --one-sync. First, but not with --at-random,
+the bank is killed at each call that changes a file while it is made, opened, checkpointed and archived. Then the N kills come at random moments and calls. Half
+of all kills are power cuts: tests/embed/power.py says what they may leave. After each kill:
 
 - the bank opens, and its files are lawful then, over the base store if the log was begun anew by an archive;
 - if it was no power cut, they are lawful before it opens too;
@@ -15,7 +15,7 @@ power cuts: tests/embed/power.py says what they may leave. After each kill:
 - what the ledger had before is still there, unless a newer transfer has taken its cell.
 
 Some kills come while the bank is being opened, also several times in turn. Ends with `N kills, nothing lost` and status 0, or with what was lost and status 1;
-the files then stay. Takes python3 and cc.
+the files then stay, except with --remove. Takes python3 and cc.
 """
 import argparse
 import os
@@ -29,7 +29,7 @@ import time
 
 sys.dont_write_bytecode = True
 sys.path.insert(0, os.path.join(os.path.dirname(os.path.abspath(__file__)), "../../tests/embed"))
-from power import Machine
+from power import IN_MEMORY, Machine
 
 PAGES = 128
 OPENING_BALANCE = 1000
@@ -37,7 +37,6 @@ OPENING_BALANCE = 1000
 HOW = ("at a time", "at a call", "after a page", "after a page")
 # How many calls that change files a new bank makes, an opening, an archive from the opening of its base store on, and a checkpoint from its master on.
 CALLS_OF_A_NEW_BANK, CALLS_OF_AN_OPENING, CALLS_OF_AN_ARCHIVE, CALLS_OF_A_CHECKPOINT = 30, 30, 24, 2
-IN_MEMORY = "/dev/shm"  # where files are synced in no time
 
 
 class Lost(Exception):
@@ -249,21 +248,26 @@ def asked_for():
     parser.add_argument("--seed", type=int, default=1)
     parser.add_argument("--aries", help="the program, whose audit is asked too")
     parser.add_argument("--flag", action="append", default=[], help="an option of the bank, for example --flag=--one-sync")
+    parser.add_argument("--at-random", action="store_true", help="leaves out the kills at each call")
+    parser.add_argument("--remove", action="store_true", help="removes the files also if something was lost")
     parser.add_argument("engine", type=os.path.abspath)
     return parser.parse_args()
 
 
 def main():
     asked = asked_for()
-    room = tempfile.mkdtemp(prefix="aries-bank-", dir=IN_MEMORY if os.path.isdir(IN_MEMORY) else None)
+    room = tempfile.mkdtemp(prefix="aries-bank-", dir=IN_MEMORY)
     driver = Driver(asked, room)
     try:
-        driver.each_call()
+        if not asked.at_random:
+            driver.each_call()
         kills = driver.kills + asked.kills
         while driver.kills < kills:
             driver.round(kills)
     except Lost as lost:
         print(f"{lost} (kill {driver.kills}, power cut {driver.power_cuts}, seed {asked.seed}; files in {driver.folder})")
+        if asked.remove:
+            shutil.rmtree(room)
         sys.exit(1)
     shutil.rmtree(room)
     print(f"{driver.all_acknowledged} transfers acknowledged, {driver.kills_at_opening} kills at an opening, {driver.power_cuts} power cuts, "

@@ -15,6 +15,7 @@ import subprocess
 
 HERE = os.path.dirname(os.path.abspath(__file__))
 LIBRARIES = ("power", "die_at_call")
+IN_MEMORY = "/dev/shm" if os.path.isdir("/dev/shm") else None  # a folder where files are synced in no time
 SECTOR, BLOCK = 512, 4096
 HEAD = struct.Struct("=ciqq")  # of an event: kind, descriptor, offset, length
 # What is left of the writes to a file: all, nothing, those up to some sector, or some of the sectors, or of the blocks.
@@ -188,7 +189,7 @@ class Disk:
             offset, data = file.pending[-1]
             name = next(name for name, its in self.names.items() if its is file)
             file.redo([*file.pending[:-1], (offset, contents[name][offset:offset + len(data)])])
-        elif file:
+        elif kind in "TGZ" and file:
             file.redo(file.pending[:-1])
         if not self.is_seen(contents):
             raise AssertionError("what was noted of the files is not what they hold")
