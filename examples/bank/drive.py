@@ -64,9 +64,6 @@ class Shown:
             elif kind == "transfer":
                 self.transfers[int(words[0])] = transfer_of(words)
 
-    def newest(self):
-        return max(self.transfers, default=0)
-
 
 def transfer_of(words):
     """From whom, to whom, how much and what for."""
@@ -80,7 +77,8 @@ def check(old, new, acknowledged):
     need(sum(new.accounts.values()) == total, f"the accounts hold {sum(new.accounts.values())}, not {total}")
     for number, transfer in acknowledged.items():
         need(new.transfers.get(number) == transfer, f"transfer {number} was acknowledged and is not there")
-    came = {number: transfer for number, transfer in new.transfers.items() if number > old.newest()}
+    newest = max(old.transfers, default=0)
+    came = {number: transfer for number, transfer in new.transfers.items() if number > newest}
     taken = {number % new.entries for number in came}
     for number, transfer in old.transfers.items():
         is_there = new.transfers.get(number) == transfer or number % new.entries in taken

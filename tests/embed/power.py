@@ -44,30 +44,32 @@ class File:
     """What the disk has of a file, what was done since its last sync, and what programs read."""
 
     def __init__(self, content=b""):
-        self.durable, self.seen, self.pending = bytes(content), bytearray(content), []
+        self.durable, self.seen, self.pending = bytearray(content), bytearray(content), []
 
-    def write(self, offset, data):
-        self.pending.append((offset, bytes(data)))
-        if len(self.seen) < offset:
-            self.seen.extend(bytes(offset - len(self.seen)))
-        self.seen[offset:offset + len(data)] = data
+    @staticmethod
+    def do(content, offset, data):
+        """Writes the bytes there; or, if there are none, makes the length the offset."""
+        if data is None:
+            del content[offset:]
+        if len(content) < offset:
+            content.extend(bytes(offset - len(content)))
+        if data is not None:
+            content[offset:offset + len(data)] = data
 
-    def resize(self, length):
-        self.pending.append((length, None))
-        del self.seen[length:]
-        self.seen.extend(bytes(length - len(self.seen)))
+    def change(self, offset, data=None):
+        self.pending.append((offset, data))
+        self.do(self.seen, offset, data)
 
     def sync(self):
-        self.durable, self.pending = bytes(self.seen), []
+        for change in self.pending:
+            self.do(self.durable, *change)
+        self.pending = []
 
     def redo(self, pending):
         """What programs read if this was done since the last sync."""
         self.seen, self.pending = bytearray(self.durable), []
-        for offset, data in pending:
-            if data is None:
-                self.resize(offset)
-            else:
-                self.write(offset, data)
+        for change in pending:
+            self.change(*change)
 
     def lengths(self):
         """The lengths since the last sync."""
@@ -101,7 +103,7 @@ class File:
     def left(self, random, old_bytes):
         """What a power cut leaves of the content."""
         if not self.pending:
-            return self.durable
+            return bytes(self.durable)
         longest = max(self.lengths())
         filler = random.choice((bytes(longest), old_bytes(longest)))
         content = bytearray(self.durable + filler[len(self.durable):])
@@ -153,9 +155,9 @@ class Disk:
     @staticmethod
     def note_bytes(kind, file, offset, data):
         if kind == "W":
-            file.write(offset, data)
+            file.change(offset, data)
         else:
-            file.resize(max(offset, len(file.seen)) if kind == "G" else offset)
+            file.change(max(offset, len(file.seen)) if kind == "G" else offset)
 
     def note_name(self, kind, name, offset):
         if kind == "M":
@@ -166,7 +168,7 @@ class Disk:
             self.old = bytes(self.names[name].seen) or self.old
             self.change("remove", name, self.names[name])
         else:
-            self.names[name].resize(0)
+            self.names[name].change(0)
             self.last = (kind, self.names[name])
 
     def sync(self):
