@@ -1,697 +1,773 @@
-/* aries_files.c: see aries_files.h; why each step stands where it does: NOTES.md, "The protocol". */
-#define _DEFAULT_SOURCE /* flock */
+/*
+ * aries_files.c: see aries_files.h. docs/FILES.md says why each step is safe.
+ *
+ * A function that returns int returns 0 if it fails, with the cause in errno or by refuse(). The calls of the header
+ * return the numbers of the header.
+ */
+#ifndef _DEFAULT_SOURCE
+#define _DEFAULT_SOURCE /* for flock */
+#endif
+#ifndef _POSIX_C_SOURCE
 #define _POSIX_C_SOURCE 200809L
-#ifndef _FILE_OFFSET_BITS
-#define _FILE_OFFSET_BITS 64
 #endif
 #include "aries_files.h"
+#include "aries_files_disk.h"
 
 #include <dirent.h>
-#include <errno.h>
-#include <fcntl.h>
-#include <inttypes.h>
-#include <stdio.h>
-#include <stdlib.h>
-#include <string.h>
 #include <sys/file.h>
-#include <sys/stat.h>
-#include <unistd.h>
-
-#ifndef ARIES_FILES_RING
-#define ARIES_FILES_RING (1 << 20)
-#endif
-#ifndef ARIES_FILES_BUFFER
-#define ARIES_FILES_BUFFER (1 << 16)
-#endif
-#ifndef ARIES_FILES_BATCH
-#define ARIES_FILES_BATCH 64
-#endif
 
 enum {
-    BUFFER = ARIES_FILES_BUFFER, /* bytes of the log that wait for a write */
-    BLOCK = 4096,     /* the two entries of sums-N, and the header and images of the pages file, share none */
-    ENTRY = 32,       /* "ARIESSUM", number 8, end in the log 8, CRC of the log to there 4, CRC of the entry 4 */
-    RING = ARIES_FILES_RING, /* bytes of sums-N behind its entries, with ARIES_FILES_ONE_SYNC */
-    HEAD = 32,        /* of a piece of the log there: "ARIE", length 4, entry 8, start 8, CRC of the log to its end 4, of the head 4 */
-    BATCH = ARIES_FILES_BATCH, /* pages of a batch */
-    HEADER = 32       /* "ARIESTWO", count 4, log to 8, CRC of the log to there 4, CRC of the images 4, of the header 4 */
+    RING = 1 << 20,   /* bytes of sums-N after its entries, with ARIES_FILES_ONE_SYNC */
+    BUFFER = 1 << 16, /* bytes of the log that wait in memory for one large write */
+    BATCH = 64,       /* pages of a batch */
+    BLOCK = 4096,     /* what a write next to it must not harm is in a block of its own */
+    LOG_HEADER = 16   /* bytes of the header of a log of version 2 */
+};
+
+/* A place in the log: how many bytes are before it, the LSN of the last record among them, and their CRC. */
+struct position {
+    uint64_t end, lsn;
+    uint32_t crc;
 };
 
 struct aries_files {
-    int folder, lock, log, store, sums, pages;
+    struct folder folder;
+    int lock, log, store, sums, pages; /* descriptors, -1 if not open */
     uint32_t flags, page_count;
-    mode_t mode;
-    int stopped, errno_of_stop;
-    uint64_t base_lsn, last_lsn, durable_lsn;
-    uint64_t end, written, durable; /* bytes of the log: appended, in the file, durable */
-    uint32_t crc, durable_crc;      /* of those appended, and of those durable */
-    uint64_t entry;                 /* number of the last entry */
-    uint64_t ring, place;           /* bytes of the ring, 0 for none; where in it the next piece goes */
-    uint8_t *buffer, *batch;
+    int refusal;                  /* the number that this call returns; the handle is not stopped */
+    int stopped, errno_when_stopped;
+    uint64_t base_lsn;
+    struct position appended, durable;
+    uint64_t written;             /* bytes of the log that its file has */
+    uint64_t entry;               /* the number of the newest entry of sums-N */
+    uint64_t ring, ring_used;     /* bytes of the ring, 0 if there is none, and how many of them have pieces */
+    uint8_t *piece, *buffer;      /* the buffer follows a head, so that a piece is one write */
+    uint8_t *batch;               /* a block with a head, and images */
     uint8_t *log_bytes, *store_bytes;
+    size_t store_length;
     uint32_t *in_doubt;
 };
 
-/* Numbers, and CRC-32C (Castagnoli), eight bytes a step. */
+/* HOW A CALL ENDS */
 
-static void put(uint8_t *at, uint64_t number, int bytes) {
-    while (bytes-- > 0) at[bytes] = (uint8_t)number, number >>= 8;
-}
-
-static uint64_t get(const uint8_t *at, int bytes) {
-    uint64_t number = 0;
-    for (int i = 0; i < bytes; i++) number = number << 8 | at[i];
-    return number;
-}
-
-static uint32_t tables[8][256];
-
-static void make_tables(void) {
-    if (tables[7][255]) return;
-    for (uint32_t i = 0; i < 256; i++) {
-        uint32_t crc = i;
-        for (int bit = 0; bit < 8; bit++) crc = crc >> 1 ^ (crc & 1 ? 0x82f63b78u : 0);
-        tables[0][i] = crc;
-    }
-    for (uint32_t i = 0; i < 256; i++)
-        for (int k = 1; k < 8; k++) tables[k][i] = tables[k - 1][i] >> 8 ^ tables[0][tables[k - 1][i] & 255];
-}
-
-uint32_t aries_files_crc32c(uint32_t crc, const uint8_t *at, size_t length) {
-    make_tables();
-    for (crc = ~crc; length >= 8; at += 8, length -= 8) {
-        uint32_t low = crc ^ ((uint32_t)at[0] | (uint32_t)at[1] << 8 | (uint32_t)at[2] << 16 | (uint32_t)at[3] << 24);
-        crc = tables[7][low & 255] ^ tables[6][low >> 8 & 255] ^ tables[5][low >> 16 & 255] ^ tables[4][low >> 24] ^
-              tables[3][at[4]] ^ tables[2][at[5]] ^ tables[1][at[6]] ^ tables[0][at[7]];
-    }
-    for (; length; at++, length--) crc = crc >> 8 ^ tables[0][(crc ^ *at) & 255];
-    return ~crc;
-}
-
-/* Files. Each of these answers whether it could; errno tells why not. */
-
-static int write_at(int file, const uint8_t *bytes, size_t length, uint64_t at) {
-    while (length) {
-        ssize_t n = pwrite(file, bytes, length, (off_t)at);
-        if (n < 0 && errno == EINTR) continue;
-        if (n == 0) errno = ENOSPC;
-        if (n <= 0) return 0;
-        bytes += n, at += (uint64_t)n, length -= (size_t)n;
-    }
-    return 1;
-}
-
-static int sync_file(int file) {
-    int n;
-    while ((n = fdatasync(file)) != 0 && errno == EINTR) {}
-    return n == 0;
-}
-
-static int sync_folder(int folder) {
-    int n;
-    while ((n = fsync(folder)) != 0 && errno == EINTR) {}
-    return n == 0;
-}
-
-static int cut(int file, uint64_t length) {
-    int n;
-    while ((n = ftruncate(file, (off_t)length)) != 0 && errno == EINTR) {}
-    return n == 0;
-}
-
-static int open_file(const struct aries_files *f, const char *name, int flags) {
-    int file;
-    while ((file = openat(f->folder, name, O_RDWR | O_CLOEXEC | O_NOFOLLOW | flags, f->mode)) < 0 && errno == EINTR) {}
-    return file;
-}
-
-static void close_file(int *file) {
-    if (*file >= 0) close(*file);
-    *file = -1;
-}
-
-/* The whole file; NULL where memory (errno ENOMEM) or the system refuses. */
-static uint8_t *read_file(int file, size_t *length) {
-    struct stat status;
-    if (fstat(file, &status) != 0) return NULL;
-    *length = (size_t)status.st_size;
-    uint8_t *bytes = malloc(*length + 1);
-    for (size_t done = 0; bytes && done < *length;) {
-        ssize_t n = pread(file, bytes + done, *length - done, (off_t)done);
-        if (n < 0 && errno == EINTR) continue;
-        if (n == 0) errno = EIO;
-        if (n <= 0) return free(bytes), NULL;
-        done += (size_t)n;
-    }
-    return bytes;
-}
-
-/* Puts these bytes under this name: on the disk is the old file or the new one, the new one once the folder is synced.
- * Answers the new file, or -1. */
-static int put_file(const struct aries_files *f, const char *name, const uint8_t *bytes, size_t length) {
-    char new_name[64];
-    snprintf(new_name, sizeof new_name, "%s.new", name);
-    int file = open_file(f, new_name, O_CREAT | O_TRUNC);
-    if (file >= 0 && fchmod(file, f->mode) == 0 && write_at(file, bytes, length, 0) && sync_file(file) &&
-        renameat(f->folder, new_name, f->folder, name) == 0) return file;
-    int why = errno;
-    close_file(&file);
-    errno = why;
-    return -1;
-}
-
-static const char *name_of(char name[32], const char *kind, uint64_t base_lsn) {
-    snprintf(name, 32, "%s-%" PRIu64, kind, base_lsn);
-    return name;
-}
-
-/* Stops the handle. */
-static int stop(struct aries_files *f, int why) {
-    f->stopped = errno == ENOMEM ? ARIES_FILES_MEMORY : why;
-    f->errno_of_stop = errno;
-    return f->stopped;
-}
-
-static int fail(struct aries_files *f) {
-    return stop(f, ARIES_FILES_IO);
-}
-
-static int is_stopped(const struct aries_files *f) {
-    if (f->stopped) errno = f->errno_of_stop;
-    return f->stopped;
-}
-
-/* The log, and sums-N: two entries, written in turn, each in a block of its own. */
-
-static void spell_entry(uint8_t *entry, uint64_t number, uint64_t end, uint32_t crc) {
-    memcpy(entry, "ARIESSUM", 8);
-    put(entry + 8, number, 8), put(entry + 16, end, 8), put(entry + 24, crc, 4);
-    put(entry + 28, aries_files_crc32c(0, entry, 28), 4);
-}
-
-static int is_entry(const uint8_t *entry) {
-    return memcmp(entry, "ARIESSUM", 8) == 0 && get(entry + 28, 4) == aries_files_crc32c(0, entry, 28);
-}
-
-static int make_sums(struct aries_files *f, uint64_t base_lsn, uint64_t end, uint32_t crc) {
-    char name[32];
-    f->ring = f->flags & ARIES_FILES_ONE_SYNC ? RING : 0, f->place = 0;
-    uint8_t *blocks = calloc(1, 2 * BLOCK + f->ring);
-    close_file(&f->sums);
-    if (!blocks) return 0;
-    spell_entry(blocks, f->entry = 2, end, crc);
-    f->sums = put_file(f, name_of(name, "sums", base_lsn), blocks, 2 * BLOCK + f->ring);
-    free(blocks);
-    return f->sums >= 0;
-}
-
-/* How far the log is what was made durable: to the newest entry that fits, and by the pieces behind it. Puts the pieces
- * into f->log_bytes, and their end into *end; *kept: how far the file has them for sure;
- * *unfit: whether there is a newer entry, which might fit once the same bytes are written again, in other pieces. */
-static int find_end(struct aries_files *f, size_t length, size_t *end, size_t *kept, int *unfit) {
-    const uint8_t *log = f->log_bytes;
-    size_t sums_length;
-    uint8_t *sums = read_file(f->sums, &sums_length);
-    int found = 0;
-    if (!sums) return fail(f);
-    for (int i = 0; i < 2 && sums_length >= 2 * BLOCK; i++) {
-        const uint8_t *entry = sums + i * BLOCK;
-        if (!is_entry(entry) || get(entry + 16, 8) > length || (found && get(entry + 8, 8) < f->entry)) continue;
-        size_t its_end = (size_t)get(entry + 16, 8);
-        if (aries_files_crc32c(0, log, its_end) != get(entry + 24, 4)) continue;
-        found = 1, *end = its_end, f->entry = get(entry + 8, 8);
-    }
-    for (int i = 0; i < 2 && found; i++)
-        if (is_entry(sums + i * BLOCK) && get(sums + i * BLOCK + 8, 8) > f->entry) *unfit = 1;
-    if (found) {
-        f->ring = sums_length - 2 * BLOCK, f->place = 0, *kept = *end;
-        const uint8_t *ring = sums + 2 * BLOCK;
-        uint32_t crc = aries_files_crc32c(0, log, *end);
-        uint8_t *grown = realloc(f->log_bytes, length + f->ring + 1);
-        if (!grown) return free(sums), errno = ENOMEM, fail(f);
-        f->log_bytes = grown;
-        while (f->ring - f->place > HEAD) {
-            const uint8_t *head = ring + f->place;
-            if (memcmp(head, "ARIE", 4) != 0 || get(head + 28, 4) != aries_files_crc32c(0, head, 28)) break;
-            if (f->place == 0 && get(head + 8, 8) > f->entry) found = 0; /* a newer entry counted, and fits no more */
-            if (get(head + 8, 8) != f->entry || get(head + 16, 8) != *end) break;
-            uint64_t n = get(head + 4, 4);
-            if (n > f->ring - f->place - HEAD || (crc = aries_files_crc32c(crc, head + HEAD, n)) != get(head + 24, 4)) break;
-            memcpy(f->log_bytes + *end, head + HEAD, n);
-            *end += n, f->place += HEAD + n;
-        }
-    }
-    free(sums);
-    return found ? ARIES_FILES_OK : ARIES_FILES_DAMAGED;
-}
-
-static int write_log(struct aries_files *f) {
-    if (!write_at(f->log, f->buffer, f->end - f->written, f->written)) return 0;
-    f->written = f->end;
-    return 1;
-}
-
-int aries_files_append(aries_files *f, const uint8_t *frames, size_t length) {
-    uint64_t lsn = f->last_lsn;
-    if (is_stopped(f)) return f->stopped;
-    for (size_t at = 0; at < length;) {
-        if (length - at < 13 || length - at - 4 < get(frames + at, 4) || get(frames + at, 4) < 9) return ARIES_FILES_MISUSE;
-        if (get(frames + at + 5, 8) != ++lsn) return ARIES_FILES_MISUSE;
-        at += 4 + get(frames + at, 4);
-    }
-    f->crc = aries_files_crc32c(f->crc, frames, length);
-    if (f->end - f->written + length > BUFFER && !write_log(f)) return fail(f);
-    if (length > BUFFER) {
-        if (!write_at(f->log, frames, length, f->written)) return fail(f);
-        f->written += length;
-    } else
-        memcpy(f->buffer + (f->end - f->written), frames, length);
-    f->end += length, f->last_lsn = lsn;
-    return ARIES_FILES_OK;
-}
-
-static int is_durable(struct aries_files *f) {
-    f->durable = f->end, f->durable_lsn = f->last_lsn, f->durable_crc = f->crc;
-    return ARIES_FILES_OK;
-}
-
-/* Makes all durable by a sync of each file. The ring begins anew: a new entry counts only if the log has it all. */
-static int sync_both(struct aries_files *f) {
-    if (!write_log(f)) return fail(f);
-    if (f->sums >= 0) {
-        uint8_t entry[ENTRY];
-        spell_entry(entry, ++f->entry, f->end, f->crc);
-        if (!write_at(f->sums, entry, ENTRY, f->entry % 2 * BLOCK)) return fail(f);
-        if (!sync_file(f->sums)) return fail(f);
-    }
-    if (!sync_file(f->log)) return fail(f);
-    f->place = 0;
-    return is_durable(f);
-}
-
-int aries_files_sync(aries_files *f) {
-    if (is_stopped(f)) return f->stopped;
-    if (f->durable == f->end) return ARIES_FILES_OK;
-    uint64_t n = f->end - f->durable;
-    if (f->ring && f->written == f->durable && n + HEAD <= f->ring - f->place) {
-        /* One sync: of the piece. The log has it too, and is synced when the ring is full. */
-        uint8_t *head = f->buffer - HEAD;
-        memcpy(head, "ARIE", 4);
-        put(head + 4, n, 4), put(head + 8, f->entry, 8), put(head + 16, f->durable, 8), put(head + 24, f->crc, 4);
-        put(head + 28, aries_files_crc32c(0, head, 28), 4);
-        if (!write_at(f->sums, head, HEAD + n, 2 * BLOCK + f->place)) return fail(f);
-        if (!sync_file(f->sums)) return fail(f);
-        if (!write_log(f)) return fail(f);
-        f->place += HEAD + n;
-        return is_durable(f);
-    }
-    return sync_both(f);
-}
-
-uint64_t aries_files_durable(const aries_files *f) {
-    return f->durable_lsn;
-}
-
-/* The store, and the pages file. */
-
-static int write_batch(struct aries_files *f, const uint8_t *images, size_t count) {
-    for (size_t i = 0; i < count; i++) {
-        const uint8_t *image = images + i * ARIES_PAGE_BYTES;
-        if (get(image, 4) >= f->page_count || get(image + 8, 8) > f->last_lsn) return ARIES_FILES_MISUSE;
-        if (get(image + 8, 8) > f->durable_lsn && aries_files_sync(f)) return f->stopped;
-    }
-    if (f->pages >= 0) {
-        size_t length = count * ARIES_PAGE_BYTES;
-        memset(f->batch, 0, BLOCK);
-        memcpy(f->batch, "ARIESTWO", 8);
-        put(f->batch + 8, count, 4), put(f->batch + 12, f->durable, 8), put(f->batch + 20, f->durable_crc, 4);
-        put(f->batch + 24, aries_files_crc32c(0, images, length), 4);
-        put(f->batch + 28, aries_files_crc32c(0, f->batch, 28), 4);
-        memcpy(f->batch + BLOCK, images, length);
-        if (!write_at(f->pages, f->batch, BLOCK + length, 0)) return fail(f);
-        if (!sync_file(f->pages)) return fail(f);
-    }
-    for (size_t i = 0; i < count; i++, images += ARIES_PAGE_BYTES) {
-        uint64_t at = ARIES_STORE_HEADER_BYTES + get(images, 4) * ARIES_PAGE_BYTES;
-        if (!write_at(f->store, images, ARIES_PAGE_BYTES, at)) return fail(f);
-    }
-    if (!sync_file(f->store)) return fail(f);
-    return ARIES_FILES_OK;
-}
-
-int aries_files_write_pages(aries_files *f, const uint8_t *images, size_t count) {
-    int failed = is_stopped(f);
-    for (size_t done = 0; done < count && !failed; done += BATCH)
-        failed = write_batch(f, images + done * ARIES_PAGE_BYTES, count - done < BATCH ? count - done : BATCH);
-    return failed;
-}
-
-/* Puts back the last batch where the log goes on from where it stood at that batch. A page in place is then its old
- * image, the batch's, or a mixture by sectors; what it holds as PageLSN, whole in its first sector, is of either. Pages
- * of others, which may be newer, are left. */
-static int restore_pages(struct aries_files *f, const uint8_t *log, size_t log_length, uint8_t *store, size_t length,
-                         uint64_t *restored) {
-    size_t batch_length;
-    uint8_t *batch = read_file(f->pages, &batch_length);
-    if (!batch) return fail(f);
-    uint64_t count = batch_length < BLOCK ? 0 : get(batch + 8, 4);
-    int holds = count > 0 && count <= BATCH && batch_length >= BLOCK + count * ARIES_PAGE_BYTES &&
-        memcmp(batch, "ARIESTWO", 8) == 0 && get(batch + 28, 4) == aries_files_crc32c(0, batch, 28) &&
-        get(batch + 24, 4) == aries_files_crc32c(0, batch + BLOCK, count * ARIES_PAGE_BYTES) &&
-        get(batch + 12, 8) <= log_length && get(batch + 20, 4) == aries_files_crc32c(0, log, get(batch + 12, 8));
-    int could = 1;
-    for (uint64_t i = 0; holds && could && i < count; i++) {
-        const uint8_t *image = batch + BLOCK + i * ARIES_PAGE_BYTES;
-        uint64_t at = ARIES_STORE_HEADER_BYTES + get(image, 4) * ARIES_PAGE_BYTES;
-        if (at + ARIES_PAGE_BYTES > length || get(store + at + 8, 8) > get(image + 8, 8)) continue;
-        if (memcmp(store + at, image, ARIES_PAGE_BYTES) == 0) continue;
-        memcpy(store + at, image, ARIES_PAGE_BYTES);
-        could = write_at(f->store, image, ARIES_PAGE_BYTES, at);
-        ++*restored;
-    }
-    if (could && *restored) could = sync_file(f->store);
-    free(batch);
-    return could ? ARIES_FILES_OK : fail(f);
-}
-
-int aries_files_set_master(aries_files *f, uint64_t master) {
-    uint8_t bytes[8];
-    if (is_stopped(f) || aries_files_sync(f)) return f->stopped;
-    if (master > f->last_lsn) return ARIES_FILES_MISUSE;
-    put(bytes, master, 8);
-    if (!write_at(f->store, bytes, 8, 16)) return fail(f);
-    if (!sync_file(f->store)) return fail(f);
-    return ARIES_FILES_OK;
-}
-
-/* Opening. */
-
-/* Whether a name is KIND-NUMBER of another number, or a new file that was not renamed. */
-static int is_left(const struct aries_files *f, const char *name) {
-    static const char *const kinds[] = {"base-", "sums-", "log.new", "store.new", "pages.new"};
-    for (int i = 0; i < 5; i++) {
-        size_t length = strlen(kinds[i]);
-        if (strncmp(name, kinds[i], length) != 0) continue;
-        const char *digits = name + length, *end = digits + strspn(digits, "0123456789");
-        if (i > 1) return *digits == 0;
-        return end != digits && (strcmp(end, ".new") == 0 || (*end == 0 && strtoull(digits, NULL, 10) != f->base_lsn));
-    }
+static int refuse(struct aries_files *files, int number) {
+    files->refusal = number;
     return 0;
 }
 
-/* Removes what was left, and, where `all`, the files beside the log. */
-static int remove_others(struct aries_files *f, int all) {
-    char sums[32];
-    int listed = openat(f->folder, ".", O_RDONLY | O_DIRECTORY | O_CLOEXEC);
+static int is_stopped(const struct aries_files *files) {
+    if (files->stopped) errno = files->errno_when_stopped;
+    return files->stopped != 0;
+}
+
+/* Returns the number of the header for what was done or not. What the system refused stops the handle. */
+static int result(struct aries_files *files, int is_done) {
+    int refusal = files->refusal;
+    files->refusal = 0;
+    if (is_done || refusal || is_stopped(files)) return is_done ? ARIES_FILES_OK : refusal ? refusal : files->stopped;
+    files->errno_when_stopped = errno;
+    return files->stopped = errno == ENOMEM ? ARIES_FILES_MEMORY : ARIES_FILES_IO;
+}
+
+/* SUMS-N: two entries, written in turn, and with ARIES_FILES_ONE_SYNC a ring of pieces of the log */
+
+/* An entry: magic 8, its number 8, the end 8, the CRC of the log to there 4, its own CRC 4. */
+static void encode_entry(uint8_t *entry, uint64_t number, const struct position *at) {
+    memcpy(entry, "ARIESSUM", 8);
+    put_number(entry + 8, number, 8);
+    put_number(entry + 16, at->end, 8);
+    put_number(entry + 24, at->crc, 4);
+    seal(entry);
+}
+
+/* The head of a piece: magic 4, the length of its frames 4, the number of the entry before it 8, its start 8, the CRC
+ * of the log to its end 4, its own CRC 4. */
+static void encode_piece_head(struct aries_files *files, uint64_t length) {
+    uint8_t *head = files->piece;
+    memcpy(head, "ARIE", 4);
+    put_number(head + 4, length, 4);
+    put_number(head + 8, files->entry, 8);
+    put_number(head + 16, files->durable.end, 8);
+    put_number(head + 24, files->appended.crc, 4);
+    seal(head);
+}
+
+static int make_sums(struct aries_files *files, uint64_t base_lsn, const struct position *at) {
+    char name[32];
+    files->ring = files->flags & ARIES_FILES_ONE_SYNC ? RING : 0;
+    files->ring_used = 0;
+    files->entry = 2;
+    close_file(&files->sums);
+    uint8_t *bytes = calloc(1, 2 * BLOCK + files->ring);
+    if (!bytes) return 0;
+    encode_entry(bytes, files->entry, at);
+    files->sums = put_file(&files->folder, name_of(name, "sums", base_lsn), bytes, 2 * BLOCK + files->ring);
+    free(bytes);
+    return files->sums >= 0;
+}
+
+/* What an opening finds out about the log. */
+struct found {
+    size_t length;       /* bytes of its file */
+    struct position end; /* where the durable frames end */
+    uint64_t in_file;    /* where those end that its file has; the ring may have more */
+    int is_newer_unfit;  /* sums-N has a newer entry, of which the log lacks bytes */
+};
+
+static uint64_t number_of_entry(const uint8_t *entry) {
+    return is_head(entry, "ARIESSUM") ? number_at(entry + 8, 8) : 0;
+}
+
+/* Whether the log has all bytes up to the end that the entry names. */
+static int fits(const uint8_t *entry, const uint8_t *log, uint64_t length) {
+    if (number_of_entry(entry) == 0 || number_at(entry + 16, 8) > length) return 0;
+    return crc32c(0, log, (size_t)number_at(entry + 16, 8)) == number_at(entry + 24, 4);
+}
+
+/* Finds the newest entry that fits. */
+static int find_entry(struct aries_files *files, const uint8_t *sums, struct found *found) {
+    int is_first_newer = number_of_entry(sums) > number_of_entry(sums + BLOCK);
+    const uint8_t *entry = is_first_newer ? sums : sums + BLOCK;
+    if (!fits(entry, files->log_bytes, found->length)) {
+        found->is_newer_unfit = 1;
+        entry = is_first_newer ? sums + BLOCK : sums;
+        if (!fits(entry, files->log_bytes, found->length)) return 0;
+    }
+    files->entry = number_of_entry(entry);
+    found->in_file = found->end.end = number_at(entry + 16, 8);
+    found->end.crc = (uint32_t)number_at(entry + 24, 4);
+    return 1;
+}
+
+/* Copies the next piece of the ring to the log in memory. Returns 0 if there is none. */
+static int take_piece(struct aries_files *files, const uint8_t *ring, struct position *end) {
+    const uint8_t *head = ring + files->ring_used;
+    uint64_t room = files->ring - files->ring_used;
+    if (room <= HEAD || !is_head(head, "ARIE")) return 0;
+    if (number_at(head + 8, 8) != files->entry || number_at(head + 16, 8) != end->end) return 0;
+    size_t length = (size_t)number_at(head + 4, 4);
+    if (length > room - HEAD) return 0;
+    uint32_t crc = crc32c(end->crc, head + HEAD, length);
+    if (crc != number_at(head + 24, 4)) return 0;
+    memcpy(files->log_bytes + end->end, head + HEAD, length);
+    end->end += length;
+    end->crc = crc;
+    files->ring_used += HEAD + length;
+    return 1;
+}
+
+/* Takes the pieces that follow the entry. If the ring follows a newer entry, that one was durable, and does not fit. */
+static int take_pieces(struct aries_files *files, const uint8_t *ring, struct found *found) {
+    uint8_t *log = realloc(files->log_bytes, found->length + files->ring + 1);
+    if (!log) return 0;
+    files->log_bytes = log;
+    if (files->ring > HEAD && is_head(ring, "ARIE") && number_at(ring + 8, 8) > files->entry)
+        return refuse(files, ARIES_FILES_DAMAGED);
+    while (take_piece(files, ring, &found->end)) continue;
+    return 1;
+}
+
+/* Finds where the durable frames end. Without sums-N that is the end of the file. */
+static int find_end(struct aries_files *files, struct found *found) {
+    size_t length = 0;
+    char name[32];
+    found->in_file = found->end.end = found->length;
+    files->sums = open_synced(&files->folder, name_of(name, "sums", files->base_lsn));
+    if (files->sums < 0) return errno == ENOENT;
+    uint8_t *sums = read_file(files->sums, &length);
+    if (!sums) return 0;
+    int is_found = length >= 2 * BLOCK && find_entry(files, sums, found);
+    files->ring = is_found ? length - 2 * BLOCK : 0;
+    is_found = is_found ? take_pieces(files, sums + 2 * BLOCK, found) : refuse(files, ARIES_FILES_DAMAGED);
+    free(sums);
+    return is_found;
+}
+
+/* THE LOG */
+
+static int write_log(struct aries_files *files) {
+    if (!write_at(files->log, files->buffer, files->appended.end - files->written, files->written)) return 0;
+    files->written = files->appended.end;
+    return 1;
+}
+
+/* Makes the log durable by a sync of sums-N and one of the log. The ring is empty after that. */
+static int sync_both(struct aries_files *files) {
+    uint8_t entry[HEAD];
+    if (!write_log(files)) return 0;
+    if (files->sums >= 0) {
+        encode_entry(entry, ++files->entry, &files->appended);
+        if (!write_at(files->sums, entry, HEAD, files->entry % 2 * BLOCK)) return 0;
+        if (!sync_file(files->sums)) return 0;
+    }
+    if (!sync_file(files->log)) return 0;
+    files->ring_used = 0;
+    files->durable = files->appended;
+    return 1;
+}
+
+/* Makes the log durable by one sync, that of sums-N, which gets the new frames as a piece. The file of the log gets
+ * them too, but is synced only when the ring is full. */
+static int sync_piece(struct aries_files *files, uint64_t length) {
+    encode_piece_head(files, length);
+    if (!write_at(files->sums, files->piece, HEAD + length, 2 * BLOCK + files->ring_used)) return 0;
+    if (!sync_file(files->sums)) return 0;
+    if (!write_log(files)) return 0;
+    files->ring_used += HEAD + length;
+    files->durable = files->appended;
+    return 1;
+}
+
+static int sync_log(struct aries_files *files) {
+    uint64_t length = files->appended.end - files->durable.end;
+    int is_in_buffer = files->written == files->durable.end;
+    if (length == 0) return 1;
+    if (is_in_buffer && HEAD + length <= files->ring - files->ring_used) return sync_piece(files, length);
+    return sync_both(files);
+}
+
+/* Whether these are whole frames with the LSNs after *lsn. Moves *lsn to the last one. */
+static int are_frames(const uint8_t *frames, size_t length, uint64_t *lsn) {
+    for (size_t at = 0; at < length; at += 4 + number_at(frames + at, 4)) {
+        if (length - at < 4 + 9 || number_at(frames + at, 4) < 9) return 0;
+        if (length - at - 4 < number_at(frames + at, 4) || number_at(frames + at + 5, 8) != ++*lsn) return 0;
+    }
+    return 1;
+}
+
+/* Appends to the buffer, or if there is no room, to the file. */
+static int append(struct aries_files *files, const uint8_t *frames, size_t length) {
+    uint64_t lsn = files->appended.lsn;
+    if (!are_frames(frames, length, &lsn)) return refuse(files, ARIES_FILES_MISUSE);
+    if (files->appended.end - files->written + length > BUFFER && !write_log(files)) return 0;
+    if (length > BUFFER) {
+        if (!write_at(files->log, frames, length, files->written)) return 0;
+        files->written += length;
+    } else {
+        memcpy(files->buffer + (files->appended.end - files->written), frames, length);
+    }
+    files->appended.crc = crc32c(files->appended.crc, frames, length);
+    files->appended.end += length;
+    files->appended.lsn = lsn;
+    return 1;
+}
+
+int aries_files_append(aries_files *files, const uint8_t *frames, size_t length) {
+    return result(files, !is_stopped(files) && append(files, frames, length));
+}
+
+int aries_files_sync(aries_files *files) {
+    return result(files, !is_stopped(files) && sync_log(files));
+}
+
+uint64_t aries_files_durable(const aries_files *files) {
+    return files->durable.lsn;
+}
+
+/* THE STORE, AND THE FILE OF PAGES */
+
+static uint64_t offset_of(const uint8_t *image) {
+    return ARIES_STORE_HEADER_BYTES + number_at(image, 4) * ARIES_PAGE_BYTES;
+}
+
+static uint64_t page_lsn_of(const uint8_t *image) {
+    return number_at(image + 8, 8);
+}
+
+/* The head of a batch: magic 8, count 4, how far the log was durable 8, the CRC of the log to there 4, the CRC of the
+ * images 4, its own CRC 4. */
+static void encode_batch_head(struct aries_files *files, size_t count) {
+    uint8_t *head = files->batch;
+    memset(head, 0, BLOCK);
+    memcpy(head, "ARIESTWO", 8);
+    put_number(head + 8, count, 4);
+    put_number(head + 12, files->durable.end, 8);
+    put_number(head + 20, files->durable.crc, 4);
+    put_number(head + 24, crc32c(0, head + BLOCK, count * ARIES_PAGE_BYTES), 4);
+    seal(head);
+}
+
+/* Writes the first images of files->batch: to the file of pages, and then to their places in the store. */
+static int write_batch(struct aries_files *files, size_t count) {
+    const uint8_t *image = files->batch + BLOCK;
+    if (files->pages >= 0) {
+        encode_batch_head(files, count);
+        if (!write_at(files->pages, files->batch, BLOCK + count * ARIES_PAGE_BYTES, 0)) return 0;
+        if (!sync_file(files->pages)) return 0;
+    }
+    for (size_t i = 0; i < count; i++, image += ARIES_PAGE_BYTES)
+        if (!write_at(files->store, image, ARIES_PAGE_BYTES, offset_of(image))) return 0;
+    return sync_file(files->store);
+}
+
+/* Whether these are images of different pages of the store, none with a PageLSN above the last LSN. *newest is the
+ * largest PageLSN. */
+static int are_images(const struct aries_files *files, const uint8_t *images, size_t count, uint64_t *newest) {
+    uint8_t seen[ARIES_PAGES] = {0};
+    struct aries_page page;
+    for (; count > 0; count--, images += ARIES_PAGE_BYTES) {
+        uint32_t number = (uint32_t)number_at(images, 4);
+        if (number >= files->page_count || seen[number]++) return 0;
+        if (aries_read_page(images, ARIES_PAGE_BYTES, number, &page).number != ARIES_OK) return 0;
+        if (page.lsn > *newest) *newest = page.lsn;
+    }
+    return *newest <= files->appended.lsn;
+}
+
+/* Writes pages, after the log is durable as far as they need it. */
+static int write_pages(struct aries_files *files, const uint8_t *images, size_t count) {
+    uint64_t newest = 0;
+    if (!are_images(files, images, count, &newest)) return refuse(files, ARIES_FILES_MISUSE);
+    if (newest > files->durable.lsn && !sync_log(files)) return 0;
+    for (size_t done = 0; done < count; done += BATCH) {
+        size_t some = count - done < BATCH ? count - done : BATCH;
+        memcpy(files->batch + BLOCK, images + done * ARIES_PAGE_BYTES, some * ARIES_PAGE_BYTES);
+        if (!write_batch(files, some)) return 0;
+    }
+    return 1;
+}
+
+/* Writes the pages of new_store that differ from those of old_store. */
+static int write_changed(struct aries_files *files, const uint8_t *old_store, const uint8_t *new_store) {
+    size_t count = 0;
+    for (size_t at = ARIES_STORE_HEADER_BYTES; at < files->store_length; at += ARIES_PAGE_BYTES) {
+        if (memcmp(old_store + at, new_store + at, ARIES_PAGE_BYTES) == 0) continue;
+        memcpy(files->batch + BLOCK + count++ * ARIES_PAGE_BYTES, new_store + at, ARIES_PAGE_BYTES);
+        if (count == BATCH && !write_batch(files, count)) return 0;
+        if (count == BATCH) count = 0;
+    }
+    return count == 0 || write_batch(files, count);
+}
+
+/* Whether this is a whole batch, and the log, durable to `end`, continues the log of that batch. */
+static int is_batch(const struct aries_files *files, const uint8_t *batch, size_t length, uint64_t end) {
+    if (length < BLOCK || !is_head(batch, "ARIESTWO")) return 0;
+    uint64_t count = number_at(batch + 8, 4), log_end = number_at(batch + 12, 8);
+    return length - BLOCK >= count * ARIES_PAGE_BYTES && log_end <= end &&
+           number_at(batch + 24, 4) == crc32c(0, batch + BLOCK, (size_t)count * ARIES_PAGE_BYTES) &&
+           number_at(batch + 20, 4) == crc32c(0, files->log_bytes, (size_t)log_end);
+}
+
+/* Repairs a page that is not as in the batch. It is as before the batch, or a mixture of sectors of both; its PageLSN
+ * is in its first sector, so it is that of one of them. A page with a larger one is newer than the batch. */
+static int restore_page(struct aries_files *files, const uint8_t *image, uint64_t *restored) {
+    uint64_t at = offset_of(image);
+    if (at + ARIES_PAGE_BYTES > files->store_length) return 1;
+    uint8_t *page = files->store_bytes + at;
+    if (page_lsn_of(page) > page_lsn_of(image) || memcmp(page, image, ARIES_PAGE_BYTES) == 0) return 1;
+    memcpy(page, image, ARIES_PAGE_BYTES);
+    ++*restored;
+    return write_at(files->store, image, ARIES_PAGE_BYTES, at);
+}
+
+static int restore_batch(struct aries_files *files, const uint8_t *batch, uint64_t *restored) {
+    const uint8_t *image = batch + BLOCK;
+    for (uint64_t count = number_at(batch + 8, 4); count > 0; count--, image += ARIES_PAGE_BYTES)
+        if (!restore_page(files, image, restored)) return 0;
+    return *restored == 0 || sync_file(files->store);
+}
+
+/* Repairs the pages that a power cut may have torn: those of the last batch. */
+static int restore_pages(struct aries_files *files, uint64_t end, uint64_t *restored) {
+    size_t length = 0;
+    files->pages = open_synced(&files->folder, "pages");
+    if (files->pages < 0) return errno == ENOENT;
+    uint8_t *batch = read_file(files->pages, &length);
+    int is_done = batch && (!is_batch(files, batch, length, end) || restore_batch(files, batch, restored));
+    free(batch);
+    return is_done;
+}
+
+static int set_master(struct aries_files *files, uint64_t master) {
+    uint8_t bytes[8];
+    if (master > files->appended.lsn) return refuse(files, ARIES_FILES_MISUSE);
+    put_number(bytes, master, 8);
+    return sync_log(files) && write_at(files->store, bytes, 8, 16) && sync_file(files->store);
+}
+
+int aries_files_write_pages(aries_files *files, const uint8_t *images, size_t count) {
+    return result(files, !is_stopped(files) && write_pages(files, images, count));
+}
+
+int aries_files_set_master(aries_files *files, uint64_t master) {
+    return result(files, !is_stopped(files) && set_master(files, master));
+}
+
+/* MAKING A DATABASE */
+
+/* Whether there is no store, or one that no page was ever written to: a making of the database was interrupted. */
+static int has_no_pages(struct aries_files *files) {
+    size_t length = 0, at = ARIES_STORE_HEADER_BYTES;
+    int file = open_file(&files->folder, "store", 0);
+    if (file < 0) return errno == ENOENT;
+    uint8_t *store = read_file(file, &length);
+    close_file(&file);
+    if (!store) return 0;
+    while (at + ARIES_PAGE_BYTES <= length && page_lsn_of(store + at) == 0) at += ARIES_PAGE_BYTES;
+    free(store);
+    return at + ARIES_PAGE_BYTES > length || refuse(files, ARIES_FILES_MISSING);
+}
+
+static int sync_parent(const struct aries_files *files) {
+    struct folder parent = {openat(files->folder.descriptor, "..", O_RDONLY | O_DIRECTORY | O_CLOEXEC), 0};
+    int is_synced = parent.descriptor >= 0 && sync_folder(&parent);
+    close_file(&parent.descriptor);
+    return is_synced;
+}
+
+static int make_store(struct aries_files *files) {
+    size_t length = ARIES_STORE_HEADER_BYTES + (size_t)files->page_count * ARIES_PAGE_BYTES, written = 0;
+    uint8_t *store = malloc(length);
+    struct aries_page page;
+    if (!store) return 0;
+    memset(&page, 0, sizeof page);
+    memset(page.slots, ARIES_ABSENT, sizeof page.slots);
+    (void)aries_write_store_header(files->page_count, 0, store, length, &written);
+    for (size_t at = written; page.number < files->page_count; page.number++, at += written)
+        (void)aries_write_page(&page, store + at, length - at, &written);
+    int file = put_file(&files->folder, "store", store, length), is_made = file >= 0;
+    free(store);
+    close_file(&file);
+    return is_made;
+}
+
+/* Makes a database of empty pages. The log comes last: without one, nothing was ever acknowledged. The folder is synced
+ * once more after sums-N and the file of pages are made. */
+static int make_database(struct aries_files *files) {
+    uint8_t header[LOG_HEADER];
+    size_t length = 0;
+    if (files->page_count == 0) return refuse(files, ARIES_FILES_MISSING);
+    if (files->page_count > ARIES_PAGES) return refuse(files, ARIES_FILES_MISUSE);
+    (void)aries_write_log_header(1, 0, header, sizeof header, &length);
+    int is_ready = has_no_pages(files) && sync_parent(files) && make_store(files) && sync_folder(&files->folder);
+    files->log = is_ready ? put_file(&files->folder, "log", header, length) : -1;
+    return files->log >= 0;
+}
+
+/* RECOVERY */
+
+/* A recovery in memory. */
+struct recovery {
+    struct aries_recovered made;
+    uint8_t *tail, *store;
+    uint32_t *in_doubt;
+};
+
+static void free_recovery(struct recovery *it) {
+    free(it->tail);
+    free(it->store);
+    free(it->in_doubt);
+}
+
+static int has_room(struct recovery *it, size_t tail_room, size_t store_room, size_t in_doubt_room) {
+    free_recovery(it);
+    it->tail = malloc(tail_room + 1);
+    it->store = malloc(store_room + 1);
+    it->in_doubt = malloc((in_doubt_room + 1) * sizeof *it->in_doubt);
+    return it->tail && it->store && it->in_doubt;
+}
+
+/* Recovers a log and a store in memory. After ARIES_NO_ROOM the lengths that are needed are known. */
+static int recover(struct aries_files *files, const uint8_t *log, size_t log_length, const uint8_t *store,
+                   struct recovery *it, struct aries_fault *fault) {
+    size_t tail_room = 2 * log_length, store_room = files->store_length, in_doubt_room = 64;
+    do {
+        if (!has_room(it, tail_room, store_room, in_doubt_room)) return 0;
+        *fault = aries_recover(log, log_length, store, files->store_length, it->tail, tail_room, it->store, store_room,
+                               it->in_doubt, in_doubt_room, &it->made);
+        tail_room = it->made.tail_length;
+        in_doubt_room = it->made.in_doubt;
+    } while (fault->number == ARIES_NO_ROOM);
+    errno = ENOMEM;
+    if (fault->number == ARIES_NO_RESOURCE) return 0;
+    return fault->number == ARIES_OK || refuse(files, ARIES_FILES_FAULT);
+}
+
+/* Says what the files have now. The handle keeps the memory of the recovery. */
+static int hand_over(struct aries_files *files, struct recovery *it, struct aries_files_opened *opened) {
+    free(files->store_bytes);
+    free(files->in_doubt);
+    files->store_bytes = it->store;
+    files->in_doubt = it->in_doubt;
+    it->store = NULL;
+    it->in_doubt = NULL;
+    opened->recovered = it->made;
+    opened->base_lsn = files->base_lsn;
+    opened->last_lsn = files->appended.lsn;
+    opened->master = number_at(files->store_bytes + 16, 8);
+    opened->page_count = files->page_count;
+    opened->log_length = (size_t)files->appended.end;
+    opened->store_length = files->store_length;
+    opened->log = files->log_bytes;
+    opened->store = files->store_bytes;
+    opened->in_doubt = files->in_doubt;
+    return 1;
+}
+
+/* OPENING */
+
+static int read_log_and_store(struct aries_files *files, struct found *found) {
+    struct stat status;
+    files->log = open_synced(&files->folder, "log");
+    if (files->log < 0 && !(errno == ENOENT && make_database(files))) return 0;
+    files->store = open_synced(&files->folder, "store");
+    if (files->store < 0 && errno == ENOENT) return refuse(files, ARIES_FILES_MISSING);
+    if (files->store < 0 || fstat(files->store, &status) != 0) return 0;
+    files->folder.mode = status.st_mode & 0777;
+    files->log_bytes = read_file(files->log, &found->length);
+    files->store_bytes = read_file(files->store, &files->store_length);
+    if (!files->log_bytes || !files->store_bytes) return 0;
+    int has_base = found->length >= LOG_HEADER && memcmp(files->log_bytes, "ARIESLG2", 8) == 0;
+    files->base_lsn = has_base ? number_at(files->log_bytes + 8, 8) : 0;
+    return 1;
+}
+
+/* Takes over where the log ends without its torn tail. An entry or a piece of sums-N never ends within a frame. */
+static int take_end(struct aries_files *files, struct found *found, const struct aries_recovered *made) {
+    if (files->sums >= 0 && made->torn != 0) return refuse(files, ARIES_FILES_DAMAGED);
+    found->end.end -= made->torn;
+    if (files->sums < 0) found->end.crc = crc32c(0, files->log_bytes, (size_t)found->end.end);
+    found->end.lsn = files->base_lsn + made->records;
+    files->page_count = (uint32_t)made->pages;
+    files->appended = files->durable = found->end;
+    files->written = found->end.end;
+    return 1;
+}
+
+/* Makes sums-N as the flags have it. It gets a new entry if the newest one does not fit: else that one could fit later,
+ * when the log has the same bytes again, and hide the pieces that follow the older one. */
+static int put_sums(struct aries_files *files, int is_entry_needed) {
+    char name[32];
+    int has_ring = files->ring != 0, is_ring_asked = (files->flags & ARIES_FILES_ONE_SYNC) != 0;
+    if (files->flags & ARIES_FILES_NO_SUMS) {
+        close_file(&files->sums);
+        files->ring = 0;
+        return remove_file(&files->folder, name_of(name, "sums", files->base_lsn));
+    }
+    if (files->sums < 0 || has_ring != is_ring_asked) return make_sums(files, files->base_lsn, &files->appended);
+    return !is_entry_needed || sync_both(files);
+}
+
+/* Makes the file of pages as the flags have it. */
+static int put_pages(struct aries_files *files) {
+    if (files->flags & ARIES_FILES_NO_PAGES) {
+        close_file(&files->pages);
+        return remove_file(&files->folder, "pages");
+    }
+    if (files->pages >= 0) return 1;
+    memset(files->batch, 0, BLOCK + BATCH * ARIES_PAGE_BYTES);
+    files->pages = put_file(&files->folder, "pages", files->batch, BLOCK + BATCH * ARIES_PAGE_BYTES);
+    return files->pages >= 0;
+}
+
+/* Writes the pieces to the file of the log, and makes what is missing in the folder. The sync of the folder also covers
+ * what a process has renamed that was killed. */
+static int complete_files(struct aries_files *files, const struct found *found) {
+    const uint8_t *pieces = files->log_bytes + found->in_file;
+    int has_pieces = found->end.end > found->in_file;
+    if (has_pieces) {
+        if (!write_at(files->log, pieces, found->end.end - found->in_file, found->in_file)) return 0;
+        if (!sync_file(files->log)) return 0;
+    }
+    return put_sums(files, has_pieces || found->is_newer_unfit) && put_pages(files) && sync_folder(&files->folder);
+}
+
+/* Cuts the log where the durable frames end. The cut is synced before anything is appended. */
+static int cut_log(struct aries_files *files, const struct found *found, uint64_t *cut) {
+    if (found->length <= found->end.end) return 1;
+    *cut = found->length - found->end.end;
+    return cut_file(files->log, found->end.end) && sync_file(files->log);
+}
+
+/* Appends the tail of the recovery, and then writes the pages that it changed. */
+static int put_recovery(struct aries_files *files, const struct found *found, const struct recovery *it) {
+    size_t kept = (size_t)found->end.end, length = (size_t)it->made.tail_length;
+    uint8_t *log = realloc(files->log_bytes, kept + length + 1);
+    if (!log) return 0;
+    files->log_bytes = log;
+    memcpy(log + kept, it->tail, length);
+    return append(files, it->tail, length) && sync_log(files) && write_changed(files, files->store_bytes, it->store);
+}
+
+/* Whether this is the name of a file of another base LSN, or of a new file that was not renamed. */
+static int is_leftover(const struct aries_files *files, const char *name) {
+    if (strncmp(name, "base-", 5) != 0 && strncmp(name, "sums-", 5) != 0)
+        return strcmp(name, "log.new") == 0 || strcmp(name, "store.new") == 0 || strcmp(name, "pages.new") == 0;
+    const char *end = name + 5 + strspn(name + 5, "0123456789");
+    if (end == name + 5) return 0;
+    return strcmp(end, ".new") == 0 || (*end == 0 && strtoull(name + 5, NULL, 10) != files->base_lsn);
+}
+
+/* Removes what interrupted calls have left. A file that cannot be removed is tried again at the next opening. */
+static int remove_leftovers(const struct aries_files *files) {
+    int listed = openat(files->folder.descriptor, ".", O_RDONLY | O_DIRECTORY | O_CLOEXEC);
     DIR *names = listed < 0 ? NULL : fdopendir(listed);
     if (!names) return close_file(&listed), 0;
-    name_of(sums, "sums", f->base_lsn);
     for (struct dirent *it = readdir(names); it; it = readdir(names))
-        if (is_left(f, it->d_name) || (all && (!strcmp(it->d_name, sums) || !strcmp(it->d_name, "pages"))))
-            unlinkat(f->folder, it->d_name, 0);
+        if (is_leftover(files, it->d_name)) (void)remove_file(&files->folder, it->d_name);
     closedir(names);
-    return !all || sync_folder(f->folder);
+    return 1;
 }
 
-/* A database of empty pages. The log comes last, so where there is none nothing was ever acknowledged. */
-static int make_files(struct aries_files *f) {
-    size_t length = ARIES_STORE_HEADER_BYTES + (size_t)f->page_count * ARIES_PAGE_BYTES, store_length, n;
-    int file = open_file(f, "store", 0);
-    if (file >= 0) { /* a making that was cut off; or a store that has lost its log */
-        uint8_t *old = read_file(file, &store_length);
-        int is_new = old != NULL;
-        for (size_t at = ARIES_STORE_HEADER_BYTES; is_new && at + 16 <= store_length; at += ARIES_PAGE_BYTES)
-            is_new = get(old + at + 8, 8) == 0;
-        free(old), close_file(&file);
-        if (!is_new) return old ? ARIES_FILES_MISSING : fail(f);
-    }
-    uint8_t *store = malloc(length), header[16];
-    struct aries_page page;
-    if (!store) return fail(f);
-    memset(&page, 0, sizeof page);
-    for (int slot = 0; slot < ARIES_SLOTS; slot++) page.slots[slot].length = ARIES_ABSENT;
-    int made = aries_write_store_header(f->page_count, 0, store, length, &n).number == 0;
-    for (size_t at = n; made && page.number < f->page_count; page.number++, at += n)
-        made = aries_write_page(&page, store + at, length - at, &n).number == 0;
-    if (!made) return free(store), ARIES_FILES_MISUSE;
-    file = put_file(f, "store", store, length);
-    free(store);
-    if (file < 0) return fail(f);
-    close_file(&file);
-    if (!sync_folder(f->folder)) return fail(f);
-    aries_write_log_header(1, 0, header, sizeof header, &n);
-    f->log = put_file(f, "log", header, n);
-    if (f->log < 0) return fail(f); /* the folder is synced behind the files beside */
-    int parent = openat(f->folder, "..", O_RDONLY | O_DIRECTORY | O_CLOEXEC);
-    made = parent >= 0 && sync_folder(parent);
-    close_file(&parent);
-    return made ? ARIES_FILES_OK : fail(f);
+static int open_database(struct aries_files *files, struct aries_files_opened *opened) {
+    struct found found;
+    struct recovery it;
+    memset(&found, 0, sizeof found);
+    memset(&it, 0, sizeof it);
+    int is_recovered = read_log_and_store(files, &found) && find_end(files, &found) &&
+                       restore_pages(files, found.end.end, &opened->restored) &&
+                       recover(files, files->log_bytes, (size_t)found.end.end, files->store_bytes, &it, &opened->fault);
+    int is_open = is_recovered && take_end(files, &found, &it.made) && complete_files(files, &found) &&
+                  cut_log(files, &found, &opened->cut) && put_recovery(files, &found, &it) &&
+                  remove_leftovers(files) && hand_over(files, &it, opened);
+    free_recovery(&it);
+    return is_open;
 }
 
-/* Opens a file that is there, and has on the disk what will be read from it: a process that was killed may have left it
- * in the system's cache alone, and of one whose sync failed the cache may hold what the disk has not. */
-static int open_synced(const struct aries_files *f, const char *name) {
-    int file = open_file(f, name, 0);
-    if (file < 0) return -1;
-    if (!sync_file(file)) close_file(&file);
-    if (file >= 0) posix_fadvise(file, 0, 0, POSIX_FADV_DONTNEED);
-    return file;
+static int lock_folder(struct aries_files *files, const char *folder) {
+    if (files->page_count > 0 && mkdir(folder, 0700) != 0 && errno != EEXIST) return 0;
+    files->folder.descriptor = open(folder, O_RDONLY | O_DIRECTORY | O_CLOEXEC);
+    files->lock = files->folder.descriptor < 0 ? -1 : open_file(&files->folder, "lock", O_CREAT);
+    if (files->lock < 0) return 0;
+    if (flock(files->lock, LOCK_EX | LOCK_NB) == 0) return 1;
+    return errno == EWOULDBLOCK ? refuse(files, ARIES_FILES_BUSY) : 0;
 }
 
-static uint64_t base_of(const uint8_t *log, size_t length) {
-    return length >= 16 && memcmp(log, "ARIESLG2", 8) == 0 ? get(log + 8, 8) : 0;
-}
-
-/* Recovers by these bytes of a log, in memory. */
-static int recover(struct aries_files *f, const uint8_t *log, size_t length, const uint8_t *store, size_t store_length,
-                   uint8_t **tail, uint8_t **new_store, struct aries_files_opened *o) {
-    size_t tail_room = 2 * length, in_doubt_room = 16;
-    *tail = malloc(tail_room + 1), *new_store = malloc(store_length + 1);
-    for (;;) {
-        uint32_t *in_doubt = realloc(f->in_doubt, (in_doubt_room + 1) * sizeof *in_doubt);
-        if (!in_doubt || !*tail || !*new_store) return errno = ENOMEM, fail(f);
-        f->in_doubt = in_doubt;
-        o->fault = aries_recover(log, length, store, store_length, *tail, tail_room, *new_store, store_length,
-                                 f->in_doubt, in_doubt_room, &o->recovered);
-        if (o->fault.number == ARIES_NO_RESOURCE) return errno = ENOMEM, fail(f);
-        if (o->fault.number != ARIES_NO_ROOM) break;
-        in_doubt_room = o->recovered.in_doubt;
-        if (o->recovered.tail_length > tail_room) {
-            free(*tail);
-            *tail = malloc((tail_room = o->recovered.tail_length) + 1);
-        }
-    }
-    if (o->fault.number) return ARIES_FILES_FAULT;
-    f->last_lsn = base_of(log, length) + o->recovered.records;
-    return ARIES_FILES_OK;
-}
-
-/* Writes the pages of `new` that differ from those of `old`. */
-static int write_changed(struct aries_files *f, const uint8_t *old, const uint8_t *new, size_t length) {
-    uint8_t *images = malloc(BATCH * ARIES_PAGE_BYTES);
-    size_t count = 0;
-    int failed = images ? ARIES_FILES_OK : fail(f);
-    for (size_t at = ARIES_STORE_HEADER_BYTES; at < length && !failed; at += ARIES_PAGE_BYTES) {
-        if (memcmp(old + at, new + at, ARIES_PAGE_BYTES) != 0) memcpy(images + count++ * ARIES_PAGE_BYTES, new + at, ARIES_PAGE_BYTES);
-        if (count < BATCH && at + ARIES_PAGE_BYTES < length) continue;
-        if (count) failed = write_batch(f, images, count);
-        count = 0;
-    }
-    free(images);
-    return failed;
-}
-
-static void hand_back(const struct aries_files *f, size_t length, size_t store_length, struct aries_files_opened *o) {
-    o->log = f->log_bytes, o->store = f->store_bytes, o->in_doubt = f->in_doubt;
-    o->log_length = length, o->store_length = store_length;
-    o->base_lsn = f->base_lsn, o->last_lsn = f->last_lsn, o->page_count = f->page_count;
-    o->master = get(f->store_bytes + 16, 8);
-}
-
-/* Makes the files beside as the flags have them; a new entry of the log as it stands, where it is to be. */
-static int put_beside(struct aries_files *f, int entry) {
-    char name[32];
-    int rings = (f->flags & ARIES_FILES_ONE_SYNC) != 0;
-    if (f->flags & ARIES_FILES_NO_SUMS) {
-        close_file(&f->sums), f->ring = 0;
-        if (unlinkat(f->folder, name_of(name, "sums", f->base_lsn), 0) != 0 && errno != ENOENT) return fail(f);
-    } else if (f->sums < 0 || rings != (f->ring != 0)) {
-        if (!make_sums(f, f->base_lsn, f->end, f->crc)) return fail(f);
-    } else if (entry && sync_both(f))
-        return f->stopped;
-    if (f->flags & ARIES_FILES_NO_PAGES) {
-        close_file(&f->pages);
-        if (unlinkat(f->folder, "pages", 0) != 0 && errno != ENOENT) return fail(f);
-    } else if (f->pages < 0) {
-        memset(f->batch, 0, BLOCK + BATCH * ARIES_PAGE_BYTES);
-        f->pages = put_file(f, "pages", f->batch, BLOCK + BATCH * ARIES_PAGE_BYTES);
-        if (f->pages < 0) return fail(f);
-    }
-    return ARIES_FILES_OK;
-}
-
-static int open_database(struct aries_files *f, struct aries_files_opened *o) {
-    size_t length, end, store_length, certain;
-    uint8_t *tail = NULL, *store = NULL;
-    char name[32];
-    int failed, unfit = 0;
-    struct stat status;
-    f->log = open_file(f, "log", 0);
-    if (f->log < 0 && errno != ENOENT) return fail(f);
-    if (f->log < 0 && f->page_count == 0) return ARIES_FILES_MISSING;
-    if (f->log < 0 && (failed = make_files(f)) != 0) return failed;
-    close_file(&f->log);
-    f->log = open_synced(f, "log");
-    f->store = open_synced(f, "store");
-    if (f->log < 0 || f->store < 0 || fstat(f->store, &status) != 0) return fail(f);
-    f->mode = status.st_mode & 0777;
-    f->log_bytes = read_file(f->log, &length);
-    f->store_bytes = read_file(f->store, &store_length);
-    if (!f->log_bytes || !f->store_bytes) return fail(f);
-    f->base_lsn = base_of(f->log_bytes, length);
-
-    /* The log's end; torn pages; recovery. */
-    end = certain = length;
-    f->sums = open_synced(f, name_of(name, "sums", f->base_lsn));
-    if (f->sums < 0 && errno != ENOENT) return fail(f);
-    if (f->sums >= 0 && (failed = find_end(f, length, &end, &certain, &unfit)) != 0) return failed;
-    f->pages = open_synced(f, "pages");
-    if (f->pages < 0 && errno != ENOENT) return fail(f);
-    if (f->pages >= 0 && restore_pages(f, f->log_bytes, end, f->store_bytes, store_length, &o->restored)) return f->stopped;
-    failed = recover(f, f->log_bytes, end, f->store_bytes, store_length, &tail, &store, o);
-    if (failed) goto out;
-    size_t kept = end - o->recovered.torn;
-    f->page_count = (uint32_t)o->recovered.pages;
-    f->end = f->written = f->durable = kept;
-    f->durable_lsn = f->last_lsn;
-    f->crc = f->durable_crc = aries_files_crc32c(0, f->log_bytes, kept);
-    o->cut = length > kept ? length - kept : 0;
-    failed = f->sums >= 0 && kept != end ? ARIES_FILES_DAMAGED : 0; /* entries end with whole frames */
-    if (failed) goto out;
-
-    /* The pieces, into the log's file. Then the files beside, before anything is appended or cut. */
-    if (certain < kept && (!write_at(f->log, f->log_bytes + certain, kept - certain, certain) || !sync_file(f->log))) failed = fail(f);
-    if (!failed) failed = put_beside(f, certain < kept || unfit);
-    if (!failed && !sync_folder(f->folder)) failed = fail(f);
-
-    /* The log: cut, synced, and only then gone on with; then the store. */
-    if (!failed && o->cut) {
-        if (!cut(f->log, kept)) failed = fail(f);
-        if (!failed && !sync_file(f->log)) failed = fail(f);
-    }
-    if (!failed) failed = aries_files_append(f, tail, o->recovered.tail_length);
-    if (!failed) failed = aries_files_sync(f);
-    if (!failed) failed = write_changed(f, f->store_bytes, store, store_length);
-    if (!failed && !remove_others(f, 0)) failed = fail(f);
-
-    /* What is handed back. */
-    uint8_t *log = failed ? NULL : realloc(f->log_bytes, kept + o->recovered.tail_length + 1);
-    if (!failed && !log) failed = fail(f);
-    if (!failed) {
-        memcpy(log + kept, tail, o->recovered.tail_length);
-        free(f->store_bytes);
-        f->log_bytes = log, f->store_bytes = store, store = NULL;
-        hand_back(f, (size_t)f->end, store_length, o);
-    }
-out:
-    free(tail), free(store);
-    return failed;
-}
-
-static void let_go(struct aries_files *f) {
-    int why = errno;
-    close_file(&f->log), close_file(&f->store), close_file(&f->sums), close_file(&f->pages);
-    close_file(&f->folder), close_file(&f->lock);
-    free(f->buffer ? f->buffer - HEAD : NULL), free(f->batch), free(f->log_bytes), free(f->store_bytes), free(f->in_doubt), free(f);
-    errno = why;
+static void free_files(struct aries_files *files) {
+    int error = errno;
+    close_file(&files->log);
+    close_file(&files->store);
+    close_file(&files->sums);
+    close_file(&files->pages);
+    close_file(&files->folder.descriptor);
+    close_file(&files->lock);
+    free(files->piece);
+    free(files->batch);
+    free(files->log_bytes);
+    free(files->store_bytes);
+    free(files->in_doubt);
+    free(files);
+    errno = error;
 }
 
 int aries_files_open(const char *folder, uint32_t flags, uint32_t page_count, aries_files **files,
                      struct aries_files_opened *opened) {
-    struct aries_files *f = calloc(1, sizeof *f);
-    int failed = ARIES_FILES_OK;
     *files = NULL;
     memset(opened, 0, sizeof *opened);
-    if (!f) return ARIES_FILES_MEMORY;
-    f->folder = f->lock = f->log = f->store = f->sums = f->pages = -1;
-    f->flags = flags, f->page_count = page_count, f->mode = 0600;
-    f->buffer = malloc(HEAD + BUFFER), f->batch = malloc(BLOCK + BATCH * ARIES_PAGE_BYTES);
-    if (!f->buffer || !f->batch) failed = fail(f);
-    if (f->buffer) f->buffer += HEAD; /* a piece's head stands before its bytes */
-    if (!failed && page_count && mkdir(folder, 0700) != 0 && errno != EEXIST) failed = fail(f);
-    if (!failed && (f->folder = open(folder, O_RDONLY | O_DIRECTORY | O_CLOEXEC)) < 0) failed = fail(f);
-    if (!failed && (f->lock = open_file(f, "lock", O_CREAT)) < 0) failed = fail(f);
-    if (!failed && flock(f->lock, LOCK_EX | LOCK_NB) != 0) failed = errno == EWOULDBLOCK ? ARIES_FILES_BUSY : fail(f);
-    if (!failed) failed = open_database(f, opened);
-    if (failed) let_go(f);
-    else *files = f;
+    if (flags > (ARIES_FILES_NO_SUMS | ARIES_FILES_NO_PAGES | ARIES_FILES_ONE_SYNC)) return ARIES_FILES_MISUSE;
+    struct aries_files *it = calloc(1, sizeof *it);
+    if (!it) return ARIES_FILES_MEMORY;
+    it->folder.descriptor = it->lock = it->log = it->store = it->sums = it->pages = -1;
+    it->flags = flags;
+    it->page_count = page_count;
+    it->folder.mode = 0600;
+    it->piece = malloc(HEAD + BUFFER);
+    it->batch = malloc(BLOCK + BATCH * ARIES_PAGE_BYTES);
+    if (it->piece) it->buffer = it->piece + HEAD;
+    int failed = result(it, it->piece && it->batch && lock_folder(it, folder) && open_database(it, opened));
+    if (failed) free_files(it);
+    else *files = it;
     return failed;
 }
 
-/* Archive, audit, close. */
+/* ARCHIVE, AUDIT, CLOSING */
 
-/* Puts the new log in place, with this base store, behind its base and its sums. */
-static int switch_log(struct aries_files *f, const uint8_t *base, size_t base_length, uint8_t header[16]) {
+/* Puts a new log in place, after its base store and its sums-N. The names of these have the base LSN, so the rename of
+ * the log replaces all three. */
+static int begin_log(struct aries_files *files, const uint8_t *base, const uint8_t *header, size_t length) {
+    struct position start = {length, files->appended.lsn, crc32c(0, header, length)};
+    char name[32];
+    int file = put_file(&files->folder, name_of(name, "base", start.lsn), base, files->store_length);
+    if (file < 0) return 0;
+    close_file(&file);
+    if (!(files->flags & ARIES_FILES_NO_SUMS) && !make_sums(files, start.lsn, &start)) return 0;
+    if (!sync_folder(&files->folder)) return 0;
+    file = put_file(&files->folder, "log", header, length);
+    if (file < 0) return 0;
+    close_file(&files->log);
+    files->log = file;
+    if (!sync_folder(&files->folder)) return 0;
+    files->base_lsn = start.lsn;
+    files->appended = files->durable = start;
+    files->written = length;
+    return remove_leftovers(files);
+}
+
+/* Writes the pages that the store lacks, sets the master to 0, and begins the new log. With master 0 the store belongs
+ * to the old log and to the new one. */
+static int replace_log(struct aries_files *files, const uint8_t *store, struct recovery *it) {
     size_t length = 0;
-    char name[32];
-    aries_write_log_header(2, f->last_lsn, header, 16, &length);
-    uint32_t crc = aries_files_crc32c(0, header, length);
-    int file = put_file(f, name_of(name, "base", f->last_lsn), base, base_length);
-    if (file < 0) return 0;
-    close_file(&file);
-    if (!(f->flags & ARIES_FILES_NO_SUMS) && !make_sums(f, f->last_lsn, length, crc)) return 0;
-    if (!sync_folder(f->folder)) return 0;
-    file = put_file(f, "log", header, length); /* from here on the new log, base and sums hold, not the old ones */
-    if (file < 0) return 0;
-    close_file(&f->log);
-    f->log = file;
-    if (!sync_folder(f->folder)) return 0;
-    f->base_lsn = f->durable_lsn = f->last_lsn;
-    f->end = f->written = f->durable = length, f->crc = f->durable_crc = crc;
-    return remove_others(f, 0);
+    uint8_t *log = malloc(LOG_HEADER), *old_log = files->log_bytes;
+    if (!log) return 0;
+    (void)aries_write_log_header(2, files->appended.lsn, log, LOG_HEADER, &length);
+    int is_done = write_changed(files, store, it->store) && set_master(files, 0);
+    memset(it->store + 16, 0, 8);
+    is_done = is_done && begin_log(files, it->store, log, length);
+    if (is_done) files->log_bytes = log;
+    free(is_done ? old_log : log);
+    return is_done;
 }
 
-int aries_files_archive(aries_files *f, struct aries_files_opened *o) {
-    size_t length, store_length;
-    uint8_t *log = NULL, *store = NULL, *tail = NULL, *base = NULL, header[16];
-    if (is_stopped(f) || aries_files_sync(f)) return f->stopped;
-    if (f->last_lsn == f->base_lsn) return ARIES_FILES_OK;
-    log = read_file(f->log, &length), store = read_file(f->store, &store_length);
-    int failed = log && store ? recover(f, log, length, store, store_length, &tail, &base, o) : fail(f);
-    if (!failed && (o->recovered.tail_length || o->recovered.in_doubt)) failed = ARIES_FILES_UNFINISHED;
-    if (!failed) failed = write_changed(f, store, base, store_length);
-    if (!failed) failed = aries_files_set_master(f, 0); /* so the store goes with the old log and with the new one */
-    if (!failed) memset(base + 16, 0, 8);
-    if (!failed && !switch_log(f, base, store_length, header)) failed = fail(f);
-    if (!failed) {
-        free(f->log_bytes), free(f->store_bytes);
-        f->log_bytes = memcpy(log, header, 16), f->store_bytes = base, log = base = NULL;
-        hand_back(f, 16, store_length, o);
-    }
-    free(log), free(store), free(tail), free(base);
+static int archive(struct aries_files *files, struct aries_files_opened *opened) {
+    size_t log_length = 0, store_length = 0;
+    struct recovery it;
+    if (!sync_log(files)) return 0;
+    if (files->appended.lsn == files->base_lsn) return 1;
+    memset(&it, 0, sizeof it);
+    uint8_t *log = read_file(files->log, &log_length);
+    uint8_t *store = log ? read_file(files->store, &store_length) : NULL;
+    int is_done = store && recover(files, log, log_length, store, &it, &opened->fault);
+    if (is_done && (it.made.tail_length != 0 || it.made.in_doubt != 0))
+        is_done = refuse(files, ARIES_FILES_UNFINISHED);
+    is_done = is_done && replace_log(files, store, &it) && hand_over(files, &it, opened);
+    if (is_done) opened->cut = opened->restored = 0;
+    free(log);
+    free(store);
+    free_recovery(&it);
+    return is_done;
+}
+
+int aries_files_archive(aries_files *files, struct aries_files_opened *opened) {
+    return result(files, !is_stopped(files) && archive(files, opened));
+}
+
+static int audit(struct aries_files *files, struct aries_fault *fault) {
+    size_t log_length = 0, store_length = 0, base_length = 0;
+    char name[32];
+    if (!sync_log(files)) return 0;
+    int file = files->base_lsn ? open_file(&files->folder, name_of(name, "base", files->base_lsn), 0) : -1;
+    uint8_t *base = file >= 0 ? read_file(file, &base_length) : NULL;
+    int has_base = base || files->base_lsn == 0;
+    uint8_t *log = has_base ? read_file(files->log, &log_length) : NULL;
+    uint8_t *store = log ? read_file(files->store, &store_length) : NULL;
+    close_file(&file);
+    if (store && base) *fault = aries_audit_from(log, log_length, store, store_length, base, base_length);
+    if (store && !base) *fault = aries_audit(log, log_length, store, store_length);
+    free(log);
+    free(store);
+    free(base);
+    return store != NULL;
+}
+
+int aries_files_audit(aries_files *files, struct aries_fault *fault) {
+    return result(files, !is_stopped(files) && audit(files, fault));
+}
+
+/* Removes sums-N and the file of pages. The log is synced before its pieces are removed. */
+static int remove_additions(struct aries_files *files) {
+    char name[32];
+    if (files->ring && !sync_file(files->log)) return 0;
+    if (!remove_file(&files->folder, name_of(name, "sums", files->base_lsn))) return 0;
+    if (!remove_file(&files->folder, "pages")) return 0;
+    return sync_folder(&files->folder);
+}
+
+int aries_files_close(aries_files *files) {
+    int failed = result(files, !is_stopped(files) && sync_log(files) && remove_additions(files));
+    free_files(files);
     return failed;
 }
 
-int aries_files_audit(aries_files *f, struct aries_fault *fault) {
-    size_t length, store_length, base_length = 0;
-    uint8_t *base = NULL;
-    char name[32];
-    if (is_stopped(f) || aries_files_sync(f)) return f->stopped;
-    uint8_t *log = read_file(f->log, &length), *store = read_file(f->store, &store_length);
-    int file = f->base_lsn ? open_file(f, name_of(name, "base", f->base_lsn), 0) : -1;
-    if (file >= 0) base = read_file(file, &base_length);
-    close_file(&file);
-    int could = log && store && (base || !f->base_lsn);
-    if (could && base) *fault = aries_audit_from(log, length, store, store_length, base, base_length);
-    else if (could) *fault = aries_audit(log, length, store, store_length);
-    free(log), free(store), free(base);
-    return could ? ARIES_FILES_OK : ARIES_FILES_IO;
-}
-
-int aries_files_close(aries_files *f) {
-    int failed = f->stopped ? f->stopped : aries_files_sync(f);
-    if (!failed && f->ring && !sync_file(f->log)) failed = fail(f);
-    if (!failed && !remove_others(f, 1)) failed = ARIES_FILES_IO;
-    let_go(f);
-    return failed;
+uint32_t aries_files_crc32c(uint32_t crc, const uint8_t *bytes, size_t length) {
+    return crc32c(crc, bytes, length);
 }
