@@ -375,7 +375,7 @@ def asked_for():
     parser = argparse.ArgumentParser(description="runs the proved library as a program in C has it")
     parser.add_argument("--backend", choices=("llvm", "rattle", "both"), default="both")
     parser.add_argument("--library", help=f"the folder of {ARCHIVE}, in place of building it")
-    parser.add_argument("--kills", type=int, default=20)
+    parser.add_argument("--kills", type=int, default=30)
     return parser.parse_args()
 
 

@@ -4,7 +4,7 @@
 usage: drive.py [--kills N] [--seed S] [--aries PROGRAM] [--flag=FLAG].. [--at-random] [--remove] ENGINE
 
 ENGINE is the built example, PROGRAM is `aries`: its audit is asked too. FLAG is an option of the bank, for example --one-sync. First, but not with --at-random,
-the bank is killed at each call that changes a file while it is made, opened, checkpointed and archived. Then the N kills come at random moments and calls. Half
+the bank is killed at each call that changes a file while it is made, opened, closed, checkpointed and archived. Then the N kills come at random moments and calls. Half
 of all kills are power cuts: tests/embed/power.py says what they may leave. After each kill:
 
 - the bank opens, and its files are lawful then, over the base store if the log was begun anew by an archive;
@@ -35,8 +35,9 @@ PAGES = 128
 OPENING_BALANCE = 1000
 # How a day is ended; half of the ends come after a page's image, where a torn page shows, and whether the log was there before.
 HOW = ("at a time", "at a call", "after a page", "after a page")
-# How many calls that change files a new bank makes, an opening, an archive from the opening of its base store on, and a checkpoint from its master on.
-CALLS_OF_A_NEW_BANK, CALLS_OF_AN_OPENING, CALLS_OF_AN_ARCHIVE, CALLS_OF_A_CHECKPOINT = 30, 30, 24, 2
+# How many calls that change files come while a bank is made, opened, opened and closed with nothing to repair, archived (from the making of its base store
+# on) and checkpointed (from its master on). An opening that writes many pages has more.
+CALLS_OF_A_NEW_BANK, CALLS_OF_AN_OPENING, CALLS_OF_A_CLOSED_BANK, CALLS_OF_AN_ARCHIVE, CALLS_OF_A_CHECKPOINT = 24, 30, 18, 20, 2
 
 
 class Lost(Exception):
@@ -212,7 +213,7 @@ class Driver:
         self.held, self.acknowledged, self.is_whole = Shown(""), {}, True
 
     def each_call(self):
-        """Kills the bank at each call that changes a file while it is made, opened, checkpointed, and archived."""
+        """Kills the bank at each call that changes a file while it is made, opened, closed, checkpointed, and archived."""
         for call in range(1, CALLS_OF_A_NEW_BANK + 1):
             self.start_anew()
             self.note(self.killed_at_call(self.day(), call))
@@ -222,6 +223,9 @@ class Driver:
             self.lose("before an opening")
             self.interrupt_opening(call)
             self.look(f"after call {call} of an opening")
+        for call in range(1, CALLS_OF_A_CLOSED_BANK + 1):
+            self.interrupt_opening(call)
+            self.look(f"after call {call} of an opening of a closed bank")
         # After the last call of a checkpoint come those of the work that goes on.
         for call in range(1, CALLS_OF_A_CHECKPOINT + 3):
             for _ in range(5):
