@@ -127,7 +127,7 @@ static void make_arrays(struct aries_engine *engine, uint32_t page_count) {
 }
 
 /* Decides the transactions in doubt, which are all that a recovery leaves unfinished. An engine asks the coordinator of
- * each. The bank has none, and nobody was told what became of them: here even numbers commit. */
+ * each. The bank has none, and has acknowledged none of them, so either decision is right: here even numbers commit. */
 static void decide(struct bank *bank) {
     for (; bank->engine.journal.transactions > 0; bank->decided++) {
         uint32_t tx = bank->engine.transactions[0].tx;
@@ -166,21 +166,24 @@ static bool is_dirty(const struct bank *bank, uint32_t page) {
     return page < bank->engine.pages_count && bank->engine.pages[page].rec_lsn != 0;
 }
 
-/* The journal allows the write of a page if the log is durable up to the PageLSN. Each image is of one moment. The pages
- * are durable when aries_files_write_pages returns; only then are they reported as written. */
-void bank_write_pages(struct bank *bank, uint32_t first, uint32_t count) {
-    uint8_t images[PAGES_AT_ONCE * ARIES_PAGE_BYTES];
+/* The images of the dirty ones of so many pages. The journal allows a page if the log is durable up to its PageLSN. */
+static size_t make_images(const struct bank *bank, uint32_t first, uint32_t count, uint8_t *images) {
     size_t made = 0, length = 0;
-    if (count > PAGES_AT_ONCE) count = PAGES_AT_ONCE;
-    bank_sync(bank);
     for (uint32_t page = first; page < first + count; page++) {
         if (!is_dirty(bank, page)) continue;
         stop_at(aries_engine_page_to_write(&bank->engine, page));
-        stop_at(aries_write_page(&bank->engine.pages[page].page, images + made * ARIES_PAGE_BYTES, ARIES_PAGE_BYTES,
-                                 &length));
-        made++;
+        stop_at(aries_write_page(&bank->engine.pages[page].page, images + made, ARIES_PAGE_BYTES, &length));
+        made += length;
     }
-    need_files(aries_files_write_pages(bank->files, images, made));
+    return made / ARIES_PAGE_BYTES;
+}
+
+/* Pages are reported as written after aries_files_write_pages has returned, since only then they are durable. */
+void bank_write_pages(struct bank *bank, uint32_t first, uint32_t count) {
+    uint8_t images[PAGES_AT_ONCE * ARIES_PAGE_BYTES];
+    if (count > PAGES_AT_ONCE) count = PAGES_AT_ONCE;
+    bank_sync(bank);
+    need_files(aries_files_write_pages(bank->files, images, make_images(bank, first, count, images)));
     for (uint32_t page = first; page < first + count; page++)
         if (is_dirty(bank, page))
             stop_at(aries_engine_page_written(&bank->engine, page, bank->engine.pages[page].page.lsn));

@@ -36,8 +36,8 @@ OPENING_BALANCE = 1000
 # How a day is ended; half of the ends come after a page's image, where a torn page shows, and whether the log was there before.
 HOW = ("at a time", "at a call", "after a page", "after a page")
 # How many calls that change files come while a bank is made, opened, opened and closed with nothing to repair, archived (from the making of its base store
-# on) and checkpointed (from its master on). An opening that writes many pages has more.
-CALLS_OF_A_NEW_BANK, CALLS_OF_AN_OPENING, CALLS_OF_A_CLOSED_BANK, CALLS_OF_AN_ARCHIVE, CALLS_OF_A_CHECKPOINT = 24, 30, 18, 20, 2
+# on) and checkpointed (from its master on, with the first calls after it). An opening that writes many pages has more.
+CALLS_OF_A_NEW_BANK, CALLS_OF_AN_OPENING, CALLS_OF_A_CLOSED_BANK, CALLS_OF_AN_ARCHIVE, CALLS_OF_A_CHECKPOINT = 24, 30, 18, 20, 4
 
 
 class Lost(Exception):
@@ -68,6 +68,7 @@ class Shown:
 
 def transfer_of(words):
     """From whom, to whom, how much and what for."""
+    need(len(words) == 5, f"transfer {words} is damaged")
     _, source, target, amount, purpose = words
     return int(source), int(target), int(amount), purpose
 
@@ -86,6 +87,7 @@ def check(old, new, acknowledged):
         need(is_there, f"transfer {number} was there and is gone")
     expected = dict(old.accounts) or dict.fromkeys(new.accounts, OPENING_BALANCE)
     for source, target, amount, _ in came.values():
+        need(source in expected and target in expected, f"a transfer from {source} to {target} is there")
         expected[source] -= amount
         expected[target] += amount
     for account, amount in expected.items():
@@ -212,28 +214,32 @@ class Driver:
         self.machine.start_anew()
         self.held, self.acknowledged, self.is_whole = Shown(""), {}, True
 
+    # The kills.
+
+    def kill_in_a_new_bank(self, call):
+        self.start_anew()
+        self.note(self.killed_at_call(self.day(), call))
+
+    def kill_in_an_opening(self, call):
+        self.note(self.killed_at_time(self.day(), 10))
+        self.lose("before an opening")
+        self.interrupt_opening(call)
+
+    def kill_in_a_checkpoint(self, call):
+        self.note(self.killed_at_call(self.day(), call, DIE_MASTER="1"))
+
+    def kill_in_an_archive(self, call):
+        self.note(self.killed_at_call(self.day(), call, DIE_FROM="base-"))
+
     def each_call(self):
         """Kills the bank at each call that changes a file while it is made, opened, closed, checkpointed, and archived."""
-        for call in range(1, CALLS_OF_A_NEW_BANK + 1):
-            self.start_anew()
-            self.note(self.killed_at_call(self.day(), call))
-            self.look(f"after call {call} of a new bank")
-        for call in range(1, CALLS_OF_AN_OPENING + 1):
-            self.note(self.killed_at_time(self.day(), 10))
-            self.lose("before an opening")
-            self.interrupt_opening(call)
-            self.look(f"after call {call} of an opening")
-        for call in range(1, CALLS_OF_A_CLOSED_BANK + 1):
-            self.interrupt_opening(call)
-            self.look(f"after call {call} of an opening of a closed bank")
-        # After the last call of a checkpoint come those of the work that goes on.
-        for call in range(1, CALLS_OF_A_CHECKPOINT + 3):
-            for _ in range(5):
-                self.note(self.killed_at_call(self.day(), call, DIE_MASTER="1"))
-                self.look(f"after call {call} of a checkpoint")
-        for call in range(1, CALLS_OF_AN_ARCHIVE + 1):
-            self.note(self.killed_at_call(self.day(), call, DIE_FROM="base-"))
-            self.look(f"after call {call} of an archive")
+        kinds = [("a new bank", CALLS_OF_A_NEW_BANK, self.kill_in_a_new_bank), ("an opening", CALLS_OF_AN_OPENING, self.kill_in_an_opening),
+                 ("the opening of a closed bank", CALLS_OF_A_CLOSED_BANK, self.interrupt_opening),
+                 *5 * [("a checkpoint", CALLS_OF_A_CHECKPOINT, self.kill_in_a_checkpoint)], ("an archive", CALLS_OF_AN_ARCHIVE, self.kill_in_an_archive)]
+        for what, calls, kill in kinds:
+            for call in range(1, calls + 1):
+                kill(call)
+                self.look(f"after call {call} of {what}")
 
     def round(self, kills):
         """A day, and at times kills at the opening after it."""

@@ -21,6 +21,7 @@ enum {
     PAGES = 128,
     STEPS_TO_CHECKPOINT = 100,
     STEPS_TO_ARCHIVE = 700,
+    ENTRY = 24,  /* bytes of the numbers of an entry, before its purpose */
     PURPOSE = 24 /* letters of the longest purpose */
 };
 
@@ -287,7 +288,8 @@ static void show(const struct teller *teller) {
         if (image->length == ARIES_ABSENT) continue;
         printf("transfer %llu %llu %llu %llu %.*s\n", (unsigned long long)number_at(image, 0, 8),
             (unsigned long long)number_at(image, 8, 4), (unsigned long long)number_at(image, 12, 4),
-            (unsigned long long)number_at(image, 16, 8), image->length - 24, (const char *)image->bytes + 24);
+            (unsigned long long)number_at(image, 16, 8), image->length > ENTRY ? image->length - ENTRY : 0,
+            (const char *)image->bytes + ENTRY);
     }
     need(fflush(stdout) == 0, "printing");
 }

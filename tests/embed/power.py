@@ -233,7 +233,7 @@ class Machine:
     def started(self, words, **more):
         """A program; the settings of tests/embed/die_at_call.c may be given."""
         settings = dict(os.environ, LD_PRELOAD=" ".join(self.libraries), POWER_FOLDER=self.folder, POWER_EVENTS=self.events, **more)
-        return subprocess.Popen(words, stdin=subprocess.PIPE, stdout=subprocess.PIPE, stderr=subprocess.PIPE, text=True, env=settings)
+        return subprocess.Popen(words, stdin=subprocess.PIPE, stdout=subprocess.PIPE, stderr=subprocess.PIPE, text=True, errors="replace", env=settings)
 
     def read_events(self):
         """Notes what was done. An event that was not written wholly is of a call that was not made."""
