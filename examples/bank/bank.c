@@ -189,8 +189,8 @@ void bank_write_pages(struct bank *bank, uint32_t first, uint32_t count) {
             stop_at(aries_engine_page_written(&bank->engine, page, bank->engine.pages[page].page.lsn));
 }
 
-/* The begin record is the last but one: the journal appends it with the end record. aries_files_set_master makes the log
- * durable before it sets the master. The pages that were reported as written are durable already. */
+/* The begin record is the last but one: the journal appends it with the end record. aries_files_set_master makes the
+ * log durable before it sets the master. The pages that were reported as written are durable already. */
 void bank_checkpoint(struct bank *bank) {
     size_t length = 0;
     struct aries_fault fault = aries_engine_checkpoint(&bank->engine, bank->frames, FRAME_ROOM, &length);

@@ -68,7 +68,7 @@ void bank_checkpoint(struct bank *bank);
 void bank_archive(struct bank *bank);
 /* Ends the program if the log and the store are not lawful as they are in their files. */
 void bank_audit(struct bank *bank);
-/* Audits the files of a bank that is not open. After a power cut open it first: only then its log is known to be whole. */
+/* Audits the files of a bank that is not open. After a power cut open it first: until then its log may not be whole. */
 struct aries_fault audit_folder(const char *folder);
 
 /* Ends the program with a message, if there is a fault. */

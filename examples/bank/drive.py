@@ -3,19 +3,20 @@
 
 usage: drive.py [--kills N] [--seed S] [--aries PROGRAM] [--flag=FLAG].. [--at-random] [--remove] ENGINE
 
-ENGINE is the built example, PROGRAM is `aries`: its audit is asked too. FLAG is an option of the bank, for example --one-sync. First, but not with --at-random,
-the bank is killed at each call that changes a file while it is made, opened, closed, checkpointed and archived. Then the N kills come at random moments and calls. Half
-of all kills are power cuts: tests/embed/power.py says what they may leave. After each kill:
+ENGINE is the built example, PROGRAM is `aries`: its audit is asked too. FLAG is an option of the bank, for example
+--one-sync. First, but not with --at-random, the bank is killed at each call that changes a file while it is made,
+opened, closed, checkpointed and archived. Then the N kills come at random moments and calls. Half of all kills are
+power cuts: tests/embed/power.py says what they may leave. After each kill:
 
-- the bank opens, and its files are lawful then, over the base store if the log was begun anew by an archive;
+- the bank opens, and its files are lawful then, over the base store if an archive began the log;
 - if it was no power cut, they are lawful before it opens too;
 - every transfer that was acknowledged is in the ledger;
-- each account holds what the transfers that came into the ledger make of what it held before: of no transfer one half is there, whether it was acknowledged or
-  not;
+- each account holds what the transfers that came into the ledger make of what it held before: of no transfer one half
+  is there, whether it was acknowledged or not;
 - what the ledger had before is still there, unless a newer transfer has taken its cell.
 
-Some kills come while the bank is being opened, also several times in turn. Ends with `N kills, nothing lost` and status 0, or with what was lost and status 1;
-the files then stay, except with --remove. Takes python3 and cc.
+Some kills come while the bank is being opened, also several times in turn. Ends with `N kills, nothing lost` and
+status 0, or with what was lost and status 1; the files then stay, except with --remove. Takes python3 and cc.
 """
 import argparse
 import os
@@ -33,11 +34,14 @@ from power import IN_MEMORY, Machine
 
 PAGES = 128
 OPENING_BALANCE = 1000
-# How a day is ended; half of the ends come after a page's image, where a torn page shows, and whether the log was there before.
+# How a day is ended; half of the ends come after a page's image, where a torn page shows, and a page that was written
+# before its log.
 HOW = ("at a time", "at a call", "after a page", "after a page")
-# How many calls that change files come while a bank is made, opened, opened and closed with nothing to repair, archived (from the making of its base store
-# on) and checkpointed (from its master on, with the first calls after it). An opening that writes many pages has more.
-CALLS_OF_A_NEW_BANK, CALLS_OF_AN_OPENING, CALLS_OF_A_CLOSED_BANK, CALLS_OF_AN_ARCHIVE, CALLS_OF_A_CHECKPOINT = 24, 30, 18, 20, 4
+# How many calls change files while a bank is made; opened; opened and closed if there is nothing to repair; archived,
+# from the making of its base store on; and checkpointed, from its master on, with the first calls after it. An opening
+# that writes many pages has more.
+CALLS_OF_A_NEW_BANK, CALLS_OF_AN_OPENING, CALLS_OF_A_CLOSED_BANK = 24, 30, 18
+CALLS_OF_AN_ARCHIVE, CALLS_OF_A_CHECKPOINT = 20, 4
 
 
 class Lost(Exception):
@@ -179,7 +183,8 @@ class Driver:
         need(ran.stdout == "lawful\n" and ran.returncode == 0, f"{when}, by the program: {ran.stderr.strip()}")
 
     def lose(self, when):
-        """Half of the kills are power cuts, which may leave a log that is not whole until the next opening. After the others the files are lawful as they are."""
+        """Half of the kills are power cuts, which may leave a log that is not whole until the next opening. After the
+        others the files are lawful as they are."""
         if self.random.random() < 0.5:
             self.machine.cut_power()
             self.power_cuts += 1
@@ -192,8 +197,10 @@ class Driver:
         shown = Shown("\n".join(self.ended(self.started(words), words)))
         self.opening_seconds = time.monotonic() - start
         check(self.held, shown, self.acknowledged)
-        self.cut, self.restored = self.cut + (shown.opened["cut"] > 0), self.restored + (shown.opened["restored"] > 0)
-        self.losers, self.decided = self.losers + shown.opened["losers"], self.decided + shown.opened["decided"]
+        self.cut += shown.opened["cut"] > 0
+        self.restored += shown.opened["restored"] > 0
+        self.losers += shown.opened["losers"]
+        self.decided += shown.opened["decided"]
         self.all_acknowledged += len(self.acknowledged)
         self.held, self.acknowledged, self.is_whole = shown, {}, True
 
@@ -232,10 +239,14 @@ class Driver:
         self.note(self.killed_at_call(self.day(), call, DIE_FROM="base-"))
 
     def each_call(self):
-        """Kills the bank at each call that changes a file while it is made, opened, closed, checkpointed, and archived."""
-        kinds = [("a new bank", CALLS_OF_A_NEW_BANK, self.kill_in_a_new_bank), ("an opening", CALLS_OF_AN_OPENING, self.kill_in_an_opening),
-                 ("the opening of a closed bank", CALLS_OF_A_CLOSED_BANK, self.interrupt_opening),
-                 *5 * [("a checkpoint", CALLS_OF_A_CHECKPOINT, self.kill_in_a_checkpoint)], ("an archive", CALLS_OF_AN_ARCHIVE, self.kill_in_an_archive)]
+        """Kills the bank at each call that changes a file while it is made, opened, closed, checkpointed, archived."""
+        kinds = [
+            ("a new bank", CALLS_OF_A_NEW_BANK, self.kill_in_a_new_bank),
+            ("an opening", CALLS_OF_AN_OPENING, self.kill_in_an_opening),
+            ("the opening of a closed bank", CALLS_OF_A_CLOSED_BANK, self.interrupt_opening),
+            *5 * [("a checkpoint", CALLS_OF_A_CHECKPOINT, self.kill_in_a_checkpoint)],
+            ("an archive", CALLS_OF_AN_ARCHIVE, self.kill_in_an_archive),
+        ]
         for what, calls, kill in kinds:
             for call in range(1, calls + 1):
                 kill(call)
@@ -255,7 +266,7 @@ def asked_for():
     parser.add_argument("--kills", type=int, default=20)
     parser.add_argument("--seed", type=int, default=1)
     parser.add_argument("--aries", help="the program, whose audit is asked too")
-    parser.add_argument("--flag", action="append", default=[], help="an option of the bank, for example --flag=--one-sync")
+    parser.add_argument("--flag", action="append", default=[], help="an option of the bank: --flag=--one-sync")
     parser.add_argument("--at-random", action="store_true", help="leaves out the kills at each call")
     parser.add_argument("--remove", action="store_true", help="removes the files also if something was lost")
     parser.add_argument("engine", type=os.path.abspath)
@@ -273,13 +284,15 @@ def main():
         while driver.kills < kills:
             driver.round(kills)
     except Lost as lost:
-        print(f"{lost} (kill {driver.kills}, power cut {driver.power_cuts}, seed {asked.seed}; files in {driver.folder})")
+        place = f"kill {driver.kills}, power cut {driver.power_cuts}, seed {asked.seed}"
+        print(f"{lost} ({place}; files in {driver.folder})")
         if asked.remove:
             shutil.rmtree(room)
         sys.exit(1)
     shutil.rmtree(room)
-    print(f"{driver.all_acknowledged} transfers acknowledged, {driver.kills_at_opening} kills at an opening, {driver.power_cuts} power cuts, "
-          f"{driver.archives} archives, {driver.cut} logs cut, {driver.restored} times pages restored, {driver.losers} losers, {driver.decided} decided")
+    print(f"{driver.all_acknowledged} transfers acknowledged, {driver.kills_at_opening} kills at an opening, "
+          f"{driver.power_cuts} power cuts, {driver.archives} archives, {driver.cut} logs cut, "
+          f"{driver.restored} times pages restored, {driver.losers} losers, {driver.decided} decided")
     print(f"{driver.kills} kills, nothing lost")
 
 

@@ -1,10 +1,12 @@
 #!/usr/bin/env python3
-"""Kills the key-value store at random calls and moments, half the time with a power cut, opens it again, and checks that it holds what was committed.
+"""Kills the key-value store at random calls and moments, half of the time with a power cut, and opens it again. It has
+to hold what was committed.
 
 usage: drive.py [--kills N] [--seed S] STORE
 
-STORE is the built example. The keys then have the values of the transactions that were acknowledged, or of one more, which was being committed. Ends with
-`N kills, nothing lost` and status 0, or with what was lost and status 1. Takes python3 and cc.
+STORE is the built example. After a kill the keys have the values of the transactions that were acknowledged, or of one
+more, which was being committed; and the files are lawful. Ends with `N kills, nothing lost` and status 0, or with what
+was lost and status 1. Takes python3 and cc.
 """
 import argparse
 import os
@@ -36,7 +38,8 @@ class Driver:
         """What is held after some changes, whose commands are added to the lines."""
         held = dict(held)
         for _ in range(self.random.randint(1, 6)):
-            key, value = self.random.choice(KEYS), "v" * self.random.randint(1, 30) + str(self.random.randrange(1000))
+            key, digits = self.random.choice(KEYS), str(self.random.randrange(1000))
+            value = "v" * self.random.randint(1, 30) + digits
             if self.random.random() < 0.8:
                 lines.append(f"set {key} {value}")
                 held[key] = value
@@ -76,12 +79,15 @@ class Driver:
 
     def shown(self):
         """What the store holds, when its files are lawful."""
-        lines = self.ended(self.machine.started([self.store, self.machine.folder]), "".join(f"get {key}\n" for key in KEYS) + "audit\n")
-        return {key: value for key, value in zip(KEYS, lines) if value != "no such key"}
+        commands = "".join(f"get {key}\n" for key in KEYS) + "audit\n"
+        *values, verdict = self.ended(self.machine.started([self.store, self.machine.folder]), commands)
+        if verdict != "lawful":
+            raise Lost(verdict)
+        return {key: value for key, value in zip(KEYS, values) if value != "no such key"}
 
     def round(self):
         text, states = self.work()
-        commits = sum(line.startswith("committed ") for line in self.killed(text))
+        commits = self.killed(text).count("committed")
         if self.random.random() < 0.5:
             self.machine.cut_power()
             self.power_cuts += 1

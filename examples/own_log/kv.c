@@ -6,8 +6,8 @@
  *
  *     set KEY VALUE     remove KEY     get KEY     commit     roll-back     audit
  *
- * `commit` prints `committed N`, where N counts the commits since it was opened, once the changes are durable. What was
- * not committed is rolled back at the end. Key and value have at most 47 bytes together.
+ * `commit` prints `committed` after the changes are durable. What was not committed is rolled back at the end. Key and
+ * value have at most 47 bytes together.
  *
  * One transaction runs at a time, so it needs no locks. It never writes a page and takes no checkpoint: each opening
  * begins a new log by an archive, and an archive writes the pages that the store lacks. In the new log the numbers of
@@ -67,7 +67,8 @@ static void update(struct store *store, uint32_t page, uint8_t slot, const struc
     need(store->count < CHANGES, "the transaction is too long");
     struct change *change = &store->changes[store->count++];
     *change = (struct change){store->prev, page, slot, store->pages[page].slots[slot]};
-    append(store, (struct aries_record){.kind = ARIES_UPDATE, .page = page, .slot = slot, .before = change->before, .after = *after});
+    append(store, (struct aries_record){
+        .kind = ARIES_UPDATE, .page = page, .slot = slot, .before = change->before, .after = *after});
     put(store, page, slot, after);
 }
 
@@ -81,6 +82,7 @@ static void finish(struct store *store, uint8_t kind) {
 static void commit(struct store *store) {
     finish(store, ARIES_COMMIT);
     need(aries_files_sync(store->files) == ARIES_FILES_OK, "the log cannot be synced");
+    puts("committed");
 }
 
 /* Undoes the changes, the newest first. The UndoNxtLSN of a CLR is the PrevLSN of the update that it undoes. */
@@ -88,7 +90,8 @@ static void roll_back(struct store *store) {
     if (store->prev == 0) return;
     while (store->count > 0) {
         const struct change *change = &store->changes[--store->count];
-        append(store, (struct aries_record){.kind = ARIES_CLR, .page = change->page, .slot = change->slot, .next = change->prev, .after = change->before});
+        append(store, (struct aries_record){.kind = ARIES_CLR, .page = change->page, .slot = change->slot,
+            .next = change->prev, .after = change->before});
         put(store, change->page, change->slot, &change->before);
     }
     finish(store, ARIES_END);
@@ -101,7 +104,8 @@ static void open_store(struct store *store, const char *folder) {
     need(opened.page_count == PAGES, "it has another number of pages");
     for (uint32_t page = 0; page < PAGES; page++) {
         const uint8_t *image = opened.store + ARIES_STORE_HEADER_BYTES + (size_t)page * ARIES_PAGE_BYTES;
-        need(aries_read_page(image, ARIES_PAGE_BYTES, page, &store->pages[page]).number == ARIES_OK, "a page is damaged");
+        struct aries_fault fault = aries_read_page(image, ARIES_PAGE_BYTES, page, &store->pages[page]);
+        need(fault.number == ARIES_OK, "a page is damaged");
     }
     store->lsn = opened.last_lsn;
     store->tx = 1;
@@ -150,25 +154,31 @@ static void look_up(struct store *store, const char *key, int is_removed) {
     else printf("%.*s\n", (int)(image->length - key_length), (const char *)image->bytes + key_length);
 }
 
+static void audit(struct store *store) {
+    struct aries_fault fault;
+    need(aries_files_audit(store->files, &fault) == ARIES_FILES_OK, "the files cannot be read");
+    puts(fault.number == ARIES_OK ? "lawful" : "not lawful");
+}
+
+static void obey(struct store *store, const char *line) {
+    char command[LINE], key[LINE], value[LINE];
+    int given = sscanf(line, "%255s %255s %255s", command, key, value);
+    if (given == 3 && strcmp(command, "set") == 0) set(store, key, value);
+    else if (given == 2 && strcmp(command, "get") == 0) look_up(store, key, 0);
+    else if (given == 2 && strcmp(command, "remove") == 0) look_up(store, key, 1);
+    else if (given == 1 && strcmp(command, "commit") == 0) commit(store);
+    else if (given == 1 && strcmp(command, "roll-back") == 0) roll_back(store);
+    else if (given == 1 && strcmp(command, "audit") == 0) audit(store);
+    else puts("no such command");
+    fflush(stdout);
+}
+
 int main(int count, char **words) {
     static struct store store;
-    char line[LINE], command[LINE], key[LINE], value[LINE];
-    unsigned long long commits = 0;
+    char line[LINE];
     need(count == 2, "usage: kv FOLDER");
     open_store(&store, words[1]);
-    while (fgets(line, sizeof line, stdin)) {
-        struct aries_fault fault = {ARIES_OK, 0};
-        int given = sscanf(line, "%255s %255s %255s", command, key, value);
-        if (given == 3 && strcmp(command, "set") == 0) set(&store, key, value);
-        else if (given == 2 && strcmp(command, "get") == 0) look_up(&store, key, 0);
-        else if (given == 2 && strcmp(command, "remove") == 0) look_up(&store, key, 1);
-        else if (given == 1 && strcmp(command, "roll-back") == 0) roll_back(&store);
-        else if (given == 1 && strcmp(command, "audit") == 0) need(aries_files_audit(store.files, &fault) == ARIES_FILES_OK, "no audit");
-        else if (given == 1 && strcmp(command, "commit") == 0) commit(&store), printf("committed %llu\n", ++commits);
-        else puts("no such command");
-        need(fault.number == ARIES_OK, "the files are not lawful");
-        fflush(stdout);
-    }
+    while (fgets(line, sizeof line, stdin)) obey(&store, line);
     roll_back(&store);
     need(aries_files_close(store.files) == ARIES_FILES_OK, "the folder cannot be closed");
     return 0;
