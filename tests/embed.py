@@ -253,7 +253,7 @@ def check_kills(tally, what, ran):
 
 
 # How many kills of a bank without a protection are enough for the driver to find it wrong. Half of them are power cuts.
-KILLS_TO_FIND = 120
+KILLS_TO_FIND = 300
 
 
 def check_bank(tally, toolchain, archive, kills):

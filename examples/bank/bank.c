@@ -11,8 +11,10 @@ void stop_at(struct aries_fault fault) {
     uint8_t text[64];
     size_t length = 0;
     if (fault.number == ARIES_OK) return;
-    if (aries_fault_text(&fault, text, sizeof text, &length).number != ARIES_OK) length = 0;
-    fprintf(stderr, "fault %u: %.*s\n", fault.number, (int)length, (const char *)text);
+    if (aries_fault_text(&fault, text, sizeof text, &length).number == ARIES_OK)
+        fprintf(stderr, "fault %u: %.*s\n", fault.number, (int)length, (const char *)text);
+    else
+        fprintf(stderr, "fault %u at %llu\n", fault.number, (unsigned long long)fault.place); /* one of the journal */
     exit(1);
 }
 

@@ -163,13 +163,19 @@ class Disk:
         if kind == "M":
             self.change("make", name, File())
         elif kind == "R":
+            self.keep_old(name[offset:])
             self.change("rename", name[:offset], self.names[name[:offset]], name[offset:])
         elif kind == "U":
-            self.old = bytes(self.names[name].seen) or self.old
+            self.keep_old(name)
             self.change("remove", name, self.names[name])
         else:
             self.names[name].change(0)
             self.last = (kind, self.names[name])
+
+    def keep_old(self, name):
+        """The bytes of a file that goes may come back in one that grows."""
+        if name in self.names:
+            self.old = bytes(self.names[name].seen) or self.old
 
     def sync(self):
         self.durable, self.pending = dict(self.names), []
@@ -190,7 +196,8 @@ class Disk:
         elif kind == "W":
             offset, data = file.pending[-1]
             name = next(name for name, its in self.names.items() if its is file)
-            file.redo([*file.pending[:-1], (offset, contents[name][offset:offset + len(data)])])
+            done = contents[name][offset:offset + len(data)]
+            file.redo([*file.pending[:-1], *([(offset, done)] if done else [])])
         elif kind in "TGZ" and file:
             file.redo(file.pending[:-1])
         if not self.is_seen(contents):
