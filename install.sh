@@ -1,6 +1,6 @@
 #!/bin/sh
-# Installs the header, the proved archive with a heap over malloc, the programs where they are built, the man pages, and
-# what CMake and pkg-config ask for. Takes cc and ar, or what CC and AR name.
+# Installs the headers, the proved archive, a heap over malloc, the files that survive a power cut, the programs if they
+# are built, the man pages, and what CMake and pkg-config ask for. Takes cc and ar, or what CC and AR name.
 #
 # usage: [ARIES_LIB=FOLDER] [DESTDIR=FOLDER] ./install.sh PREFIX
 #
@@ -23,7 +23,9 @@ trap 'rm -rf "$work"' EXIT
 
 "${CC:-cc}" -std=c11 -O2 -fPIC -c "$top/bindings/c/heap.c" -o "$work/heap.o"
 "${AR:-ar}" rcs "$work/libaries_heap.a" "$work/heap.o"
-for file in cmake/aries.pc cmake/ariesConfigVersion.cmake bin/aries; do
+"${CC:-cc}" -std=c99 -O2 -fPIC -I "$top/include" -c "$top/bindings/c/aries_files.c" -o "$work/aries_files.o"
+"${AR:-ar}" rcs "$work/libaries_files.a" "$work/aries_files.o"
+for file in cmake/aries.pc cmake/aries_files.pc cmake/ariesConfigVersion.cmake bin/aries; do
     sed -e "s|@prefix@|$prefix|" -e "s|@version@|$version|" "$top/$file.in" > "$work/$(basename "$file")"
 done
 
@@ -35,9 +37,12 @@ put() {
 }
 
 put 644 "$top/include/aries.h" include
+put 644 "$top/bindings/c/aries_files.h" include
 put 644 "$archive" lib
 put 644 "$work/libaries_heap.a" lib
+put 644 "$work/libaries_files.a" lib
 put 644 "$work/aries.pc" lib/pkgconfig
+put 644 "$work/aries_files.pc" lib/pkgconfig
 put 644 "$top/cmake/ariesConfig.cmake" lib/cmake/aries
 put 644 "$work/ariesConfigVersion.cmake" lib/cmake/aries
 for page in aries.1 aries_dump.1 aries-formats.5; do

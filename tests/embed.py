@@ -1,6 +1,7 @@
 #!/usr/bin/env python3
 """Runs the proved library as a program in C has it: every call of the header, a journal that crashes, the worked rows,
-a bank and a key-value store that are killed, what is installed, and the wrapper in Rust.
+the files that survive a power cut, a bank and a key-value store that are killed, what is installed, and the wrapper in
+Rust.
 
 usage: tests/embed.py [--backend llvm|rattle|both] [--library FOLDER] [--kills N]
        at the top of the repository, behind `rt ci` and `tests/run.py`
@@ -21,6 +22,7 @@ import tempfile
 from concurrent.futures import ThreadPoolExecutor
 
 sys.dont_write_bytecode = True  # no folder of it beside the tests
+from files import check_files
 from program import ARIES, LARGE_ROWS, SMALL_ROWS, TOP, Tally, folder_of_toolchain, run, text_of, words_of_a_crate
 
 CRATE = "aries_c"
@@ -173,6 +175,7 @@ def check_journal(tally, toolchain, archive, how):
 
 # The languages, and what a compiler is told for them.
 C_LANGUAGES = ("c89", "c99", "c11", "c17", "c2x")
+FILES_LANGUAGES = C_LANGUAGES[1:]
 CPP_LANGUAGES = ("c++98", "c++11", "c++14", "c++17", "c++20", "c++2b")
 
 
@@ -187,6 +190,21 @@ def check_names(tally, toolchain):
         kind = "c++" if language in CPP_LANGUAGES else "c"
         flags = ["-x", kind, f"-std={language}", "-Wpedantic", "-nostdinc", "-isystem", toolchain.at("plain")]
         tally.say(f"the header in {language}", toolchain.compiled(source, *flags) is not None)
+
+
+def check_languages_of_files(tally, toolchain):
+    """aries_files.c and its header compile without a warning in each language."""
+    folder, header = os.path.join(TOP, "bindings/c"), toolchain.at("files_header.cc")
+    source = os.path.join(folder, "aries_files.c")
+    with open(header, "w") as file:
+        file.write('#include "aries_files.h"\n')
+    for language in FILES_LANGUAGES:
+        flags = [f"-std={language}", "-Wpedantic", "-Wconversion", *toolchain.flags()[1:]]
+        tally.say(f"aries_files.c in {language}", toolchain.compiled(source, *flags) is not None)
+    for language in FILES_LANGUAGES + CPP_LANGUAGES:
+        kind = "c++" if language in CPP_LANGUAGES else "c"
+        flags = ["-x", kind, f"-std={language}", "-Wpedantic", "-nostdinc", "-isystem", toolchain.at("plain"), "-I", folder]
+        tally.say(f"aries_files.h in {language}", toolchain.compiled(header, *flags) is not None)
 
 
 # The rows.
@@ -301,6 +319,46 @@ project(user C)
 find_package(aries 0.1 REQUIRED)
 add_executable(user user.c)
 target_link_libraries(user aries::aries)
+add_executable(files files.c)
+target_link_libraries(files aries::aries_files aries::aries)
+"""
+FILES_USER = """\
+#include <aries_files.h>
+#include <errno.h>
+#include <stdio.h>
+#include <string.h>
+
+/* Makes a database of two pages in a folder, commits a transaction, writes its page, and opens it again. */
+int main(int argc, char **argv) {
+    static const uint8_t update[] = {0, 0, 0, 29, 1, 0, 0, 0, 0, 0, 0, 0, 1, 0, 0, 0, 1, 0, 0, 0, 0, 0, 0, 0, 0,
+                                     0, 0, 0, 1, 3, 255, 1, 'a'};
+    static const uint8_t commit[] = {0, 0, 0, 21, 3, 0, 0, 0, 0, 0, 0, 0, 2, 0, 0, 0, 1, 0, 0, 0, 0, 0, 0, 0, 1};
+    aries_files *files, *other;
+    struct aries_files_opened opened;
+    struct aries_fault fault = {1, 0};
+    struct aries_page page;
+    if (argc != 2 || aries_files_open(argv[1], 8, 2, &files, &opened) != ARIES_FILES_MISUSE) return 1;
+    if (aries_files_open(argv[1], 0, 0, &files, &opened) != ARIES_FILES_IO || errno != ENOENT) return 2;
+    if (aries_files_open(argv[1], ARIES_FILES_ONE_SYNC, 2, &files, &opened) != ARIES_FILES_OK) return 3;
+    if (aries_files_open(argv[1], 0, 0, &other, &opened) != ARIES_FILES_BUSY) return 4;
+    if (aries_files_append(files, update, sizeof update) != ARIES_FILES_OK) return 5;
+    if (aries_files_append(files, update, sizeof update) != ARIES_FILES_MISUSE) return 6;
+    if (aries_files_append(files, commit, sizeof commit) != ARIES_FILES_OK || aries_files_durable(files) != 0) return 7;
+    if (aries_files_sync(files) != ARIES_FILES_OK || aries_files_durable(files) != 2) return 8;
+    if (aries_files_set_master(files, 3) != ARIES_FILES_MISUSE) return 9;
+    if (aries_files_close(files) != ARIES_FILES_OK) return 10;
+    if (aries_files_open(argv[1], 0, 0, &files, &opened) != ARIES_FILES_OK || opened.last_lsn != 2) return 11;
+    if (aries_read_page(opened.store + 24 + 1024, 1024, 1, &page).number != 0 || page.lsn != 1) return 12;
+    if (page.slots[3].length != 1 || page.slots[3].bytes[0] != 'a' || opened.page_count != 2) return 13;
+    if (aries_files_write_pages(files, opened.store + 24, 2) != ARIES_FILES_OK) return 14;
+    if (aries_files_write_pages(files, opened.store + 25, 1) != ARIES_FILES_MISUSE) return 15;
+    if (aries_files_audit(files, &fault) != ARIES_FILES_OK || fault.number != 0) return 16;
+    if (aries_files_archive(files, &opened) != ARIES_FILES_OK || opened.base_lsn != 2) return 17;
+    if (aries_files_close(files) != ARIES_FILES_OK) return 18;
+    if (aries_files_open(argv[1], 0, 0, &files, &opened) != ARIES_FILES_OK || opened.base_lsn != 2) return 19;
+    if (aries_files_crc32c(0, (const uint8_t *)"123456789", 9) != 0xe3069283u) return 20;
+    return aries_files_close(files);
+}
 """
 
 
@@ -310,18 +368,25 @@ def is_user_right(program):
     return ran.stdout == "ARIESLG1\n" and ran.returncode == 6
 
 
-def is_pkg_config_right(room, prefix):
+def is_files_user_right(program):
+    """Whether the program makes a database, uses it, and leaves a plain log, a base store and a store."""
+    folder = f"{program}-database"
+    ran = run([program, folder], text=True)
+    return ran.returncode == 0 and sorted(os.listdir(folder)) == ["base-2", "lock", "log", "store"]
+
+
+def is_pkg_config_right(room, prefix, package, source, is_right):
     settings = dict(os.environ, PKG_CONFIG_PATH=os.path.join(prefix, "lib/pkgconfig"))
-    flags = run(["pkg-config", "--cflags", "--libs", "aries"], text=True, env=settings).stdout.split()
-    program = os.path.join(room, "by-pkg-config")
-    is_built = has_run(["cc", os.path.join(room, "user.c"), *flags, "-o", program])
-    return is_built and is_user_right(program)
+    flags = run(["pkg-config", "--cflags", "--libs", package], text=True, env=settings).stdout.split()
+    program = os.path.join(room, f"by-pkg-config-{package}")
+    return has_run(["cc", os.path.join(room, source), *flags, "-o", program]) and is_right(program)
 
 
 def is_cmake_right(room, prefix):
     build = os.path.join(room, "cmake-build")
     is_made = has_run(["cmake", "-S", room, "-B", build, f"-DCMAKE_PREFIX_PATH={prefix}"])
-    return is_made and has_run(["cmake", "--build", build]) and is_user_right(os.path.join(build, "user"))
+    is_built = is_made and has_run(["cmake", "--build", build])
+    return is_built and is_user_right(os.path.join(build, "user")) and is_files_user_right(os.path.join(build, "files"))
 
 
 TELLS = """\
@@ -347,7 +412,7 @@ def check_command(tally, prefix):
 def check_installed(tally, room, archive):
     prefix, user = os.path.join(room, "prefix"), os.path.join(room, "user")
     os.mkdir(user)
-    for name, text in (("user.c", USER), ("CMakeLists.txt", CMAKE)):
+    for name, text in (("user.c", USER), ("files.c", FILES_USER), ("CMakeLists.txt", CMAKE)):
         with open(os.path.join(user, name), "w") as file:
             file.write(text)
     settings = dict(os.environ, ARIES_LIB=os.path.dirname(archive))
@@ -358,7 +423,9 @@ def check_installed(tally, room, archive):
     if ran.returncode == 0 and os.path.exists(os.path.join(prefix, "bin/aries")):
         check_command(tally, prefix)
     if ran.returncode == 0 and shutil.which("pkg-config"):
-        tally.say("by pkg-config", is_pkg_config_right(user, prefix))
+        tally.say("by pkg-config", is_pkg_config_right(user, prefix, "aries", "user.c", is_user_right))
+        is_well = is_pkg_config_right(user, prefix, "aries_files", "files.c", is_files_user_right)
+        tally.say("aries_files by pkg-config", is_well)
     if ran.returncode == 0 and shutil.which("cmake"):
         tally.say("by cmake", is_cmake_right(user, prefix))
 
@@ -396,6 +463,7 @@ def main():
     with tempfile.TemporaryDirectory(prefix="aries-embed-") as room:
         toolchain = Toolchain(room)
         check_names(tally, toolchain)
+        check_languages_of_files(tally, toolchain)
         tally.say("README's code is the bank's", is_code_of_the_bank("README.md"))
         made = archives(asked, toolchain)
         for how, archive in made.items():
@@ -407,6 +475,7 @@ def main():
                 check_rows(tally, toolchain, archive, how)
         first = next(iter(made.values()))
         if first:
+            check_files(tally, room, first)
             check_bank(tally, toolchain, first, asked.kills)
             check_own_log(tally, toolchain, first, asked.kills)
             check_installed(tally, room, first)

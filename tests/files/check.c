@@ -709,7 +709,8 @@ static void print_counts(void) {
     printf("engine: commits %lu, undone %lu, ", engine_counts.commits, engine_counts.undone);
     printf("prepares %lu, checkpoints %lu, ", engine_counts.prepares, engine_counts.checkpoints);
     printf("archives %lu, closed %lu; ", engine_counts.archives, counts.closed);
-    printf("others put pages %lu, appended %lu; written again %lu\n", counts.foreign, counts.by_others, counts.repeated);
+    printf("others put pages %lu, appended %lu; ", counts.foreign, counts.by_others);
+    printf("written again %lu\n", counts.repeated);
     printf("openings: cut %lu, with a tail %lu, pages repaired %lu, ", counts.cut_logs, counts.tails, counts.restored);
     printf("in doubt %lu, new logs %lu\n", counts.in_doubt, counts.new_logs);
     printf("changed bits %lu: refused %lu, cut off %lu\n", counts.damaged, counts.damage_found, counts.damage_cut);
