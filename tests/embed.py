@@ -1,6 +1,7 @@
 #!/usr/bin/env python3
 """Runs the proved library as a program in C has it: every call of the header, a journal that crashes, the worked rows,
-the files that survive a power cut, a bank that is killed, what is installed, and the wrapper in Rust.
+the files that survive a power cut, a bank and a key-value store that are killed, what is installed, and the wrapper in
+Rust.
 
 usage: tests/embed.py [--backend llvm|rattle|both] [--library FOLDER] [--kills N]
        at the top of the repository, behind `rt ci` and `tests/run.py`
@@ -22,12 +23,12 @@ from concurrent.futures import ThreadPoolExecutor
 
 sys.dont_write_bytecode = True  # no folder of it beside the tests
 from files import check_files
-from program import ARIES, LARGE_ROWS, SMALL_ROWS, TOP, Tally, folder_of_toolchain, library_of, run, text_of, words_of_a_crate
+from program import ARIES, LARGE_ROWS, SMALL_ROWS, TOP, Tally, folder_of_toolchain, run, text_of, words_of_a_crate
 
 CRATE = "aries_c"
 ARCHIVE = f"lib{CRATE}.a"
 INCLUDE = os.path.join(TOP, "include")
-BANK = os.path.join(TOP, "examples/bank")
+EXAMPLES, C_BINDINGS = os.path.join(TOP, "examples"), os.path.join(TOP, "bindings/c")
 TARGET = "x86_64-unknown-linux-gnu"
 # The toolchain's clang has no headers of its own. The first three go with those of the C library, `plain` does without.
 HEADERS = {
@@ -244,42 +245,53 @@ def check_rows(tally, toolchain, archive, how):
         check_rows_in(tally, program, folder, how)
 
 
-# The bank.
+# The examples, killed.
 
-def driven(toolchain, engine, kills, **how):
-    """A run of the driver with this bank."""
-    words = [sys.executable, os.path.join(BANK, "drive.py"), "--kills", str(kills)]
-    words += ["--aries", ARIES] if os.path.exists(ARIES) else []
-    words += ["--at-calls", library_of(toolchain.room, "embed/die_at_call")]
-    return run([*words, engine], text=True, timeout=900, **how)
+def built_example(tally, toolchain, archive, name):
+    """An example over the files that survive a power cut; None if it cannot be built."""
+    folder = os.path.join(EXAMPLES, name)
+    sources = [os.path.join(folder, source) for source in sorted(os.listdir(folder)) if source.endswith(".c")]
+    flags = [*toolchain.flags(), "-I", C_BINDINGS]
+    made = toolchain.program(name, [*sources, os.path.join(C_BINDINGS, "aries_files.c")], archive, flags)
+    if not made:
+        tally.say(f"examples/{name}", False, "not built")
+    return made
+
+
+def driven(name, engine, kills, *more):
+    """A run of an example's driver."""
+    words = [sys.executable, os.path.join(EXAMPLES, name, "drive.py"), "--kills", str(kills), *more, engine]
+    return run(words, text=True, timeout=900)
+
+
+def check_kills(tally, what, ran):
+    lines = ran.stdout.splitlines() or [""]
+    is_well = ran.returncode == 0 and lines[-1].endswith(" kills, nothing lost")
+    tally.say(f"{what}: {lines[-1]}", is_well, ran.stdout + ran.stderr)
+
+
+# How many kills of a bank without a protection are enough for the driver to find it wrong. Half of them are power cuts.
+KILLS_TO_FIND = 300
 
 
 def check_bank(tally, toolchain, archive, kills):
-    sources = [os.path.join(BANK, name) for name in sorted(os.listdir(BANK)) if name.endswith(".c")]
-    engine = toolchain.program("bank", sources, archive, toolchain.flags())
+    """The bank, with either way to sync; and without a protection, which the driver has to find wrong."""
+    engine = built_example(tally, toolchain, archive, "bank")
     if not engine:
-        tally.say("the bank", False, "not built")
         return
-    ran = driven(toolchain, engine, kills)
-    lines = ran.stdout.splitlines() or [""]
-    is_well = ran.returncode == 0 and lines[-1].endswith(" kills, nothing lost")
-    tally.say(f"the bank: {lines[-1]}", is_well, ran.stderr)
-    check_driver(tally, toolchain, archive, sources)
+    program = ["--aries", ARIES] if os.path.exists(ARIES) else []
+    check_kills(tally, "the bank", driven("bank", engine, kills, *program))
+    check_kills(tally, "the bank with one sync", driven("bank", engine, 2 * kills, "--at-random", "--flag=--one-sync", *program))
+    for flag in ("--no-sums", "--no-pages"):
+        ran = driven("bank", engine, KILLS_TO_FIND, "--at-random", f"--flag={flag}", "--remove")
+        is_found = ran.returncode == 1 and re.search(r"power cut \d+, seed", ran.stdout)
+        tally.say(f"the driver finds the bank wrong with {flag}", bool(is_found), ran.stdout + ran.stderr)
 
 
-SYNCED_CUT, CUT = "    cut_file(file, kept);\n    sync_file(file);\n", "    cut_file(file, kept);\n"
-
-
-def check_driver(tally, toolchain, archive, sources):
-    """The driver finds a bank that writes the tail of a recovery before the cut of a torn record is synced."""
-    bank, wrong = os.path.join(BANK, "bank.c"), toolchain.at("wrong_bank.c")
-    with open(wrong, "w") as file:
-        file.write(text_of(bank).replace(SYNCED_CUT, CUT))
-    others = [source for source in sources if source != bank]
-    engine = toolchain.program("wrong-bank", [wrong, *others], archive, [*toolchain.flags(), "-I", BANK])
-    ran = engine and driven(toolchain, engine, 0, env=dict(os.environ, TMPDIR=toolchain.room))
-    is_found = bool(ran) and ran.returncode == 1 and "power cuts at an opening" in ran.stdout
-    tally.say("the driver finds a cut that is not synced", is_found, ran and ran.stdout + ran.stderr)
+def check_own_log(tally, toolchain, archive, kills):
+    store = built_example(tally, toolchain, archive, "own_log")
+    if store:
+        check_kills(tally, "a store that writes its own log", driven("own_log", store, 2 * kills))
 
 
 def is_code_of_the_bank(document):
@@ -430,7 +442,7 @@ def asked_for():
     parser = argparse.ArgumentParser(description="runs the proved library as a program in C has it")
     parser.add_argument("--backend", choices=("llvm", "rattle", "both"), default="both")
     parser.add_argument("--library", help=f"the folder of {ARCHIVE}, in place of building it")
-    parser.add_argument("--kills", type=int, default=20)
+    parser.add_argument("--kills", type=int, default=30)
     return parser.parse_args()
 
 
@@ -465,6 +477,7 @@ def main():
         if first:
             check_files(tally, room, first)
             check_bank(tally, toolchain, first, asked.kills)
+            check_own_log(tally, toolchain, first, asked.kills)
             check_installed(tally, room, first)
             if shutil.which("cargo"):
                 check_wrapper(tally, room, first)

@@ -333,7 +333,7 @@ def check_refusals(tally, room):
 
 def documents():
     yield from ("README.md", "CONTRIBUTING.md", "CHANGELOG.md", "crates/rows/data/README.md")
-    yield from ("bench/NOTES.md", "examples/bank/README.md", "bindings/rust/README.md")
+    yield from ("bench/NOTES.md", "examples/bank/README.md", "examples/own_log/README.md", "bindings/rust/README.md")
     yield from (os.path.join("docs", name) for name in sorted(os.listdir(os.path.join(TOP, "docs"))) if name.endswith(".md"))
 
 

@@ -1,227 +1,215 @@
-/* The files of a bank: how they are opened by a recovery, archived, and audited. They stand in a folder:
- *
- *   log          what has happened since LSN b, its base LSN
- *   store        pages, each as it was at some time
- *   base-b       what the pages held at LSN b; none where b is 0, since pages were empty then
- */
 #include "bank.h"
 
-#include <assert.h>
+#include <errno.h>
 #include <stdio.h>
 #include <stdlib.h>
 #include <string.h>
-#include <unistd.h>
 
-enum { BUFFER_ROOM = 4 * FRAME_ROOM };
+/* ERRORS */
 
-static void base_name(char name[32], uint64_t base_lsn) {
-    snprintf(name, 32, "base-%llu", (unsigned long long)base_lsn);
-}
-
-static void start_log(int folder, uint32_t version, uint64_t base_lsn) {
-    uint8_t header[16];
+void stop_at(struct aries_fault fault) {
+    uint8_t text[64];
     size_t length = 0;
-    stop_at(aries_write_log_header(version, base_lsn, header, sizeof header, &length));
-    replace_file(folder, "log", header, length);
+    if (fault.number == ARIES_OK) return;
+    if (aries_fault_text(&fault, text, sizeof text, &length).number == ARIES_OK)
+        fprintf(stderr, "fault %u: %.*s\n", fault.number, (int)length, (const char *)text);
+    else
+        fprintf(stderr, "fault %u at %llu\n", fault.number, (unsigned long long)fault.place); /* one of the journal */
+    exit(1);
 }
 
-/* Opening. */
-
-struct recovery {
-    struct aries_recovered made;
-    uint32_t in_doubt[TRANSACTIONS];
-};
-
-/* The log stands last: where it is missing, nothing was ever acknowledged. */
-static void make_files(int folder, uint32_t page_count) {
-    struct bytes store = bytes_of(ARIES_STORE_HEADER_BYTES + (size_t)page_count * ARIES_PAGE_BYTES);
-    size_t length = 0, offset = 0;
-    stop_at(aries_write_store_header(page_count, 0, store.at, store.length, &length));
-    struct aries_page page = {0};
-    for (size_t slot = 0; slot < ARIES_SLOTS; slot++) page.slots[slot].length = ARIES_ABSENT;
-    for (offset = length; offset < store.length; offset += length, page.number++)
-        stop_at(aries_write_page(&page, store.at + offset, store.length - offset, &length));
-    replace_file(folder, "store", store.at, store.length);
-    free(store.at);
-    start_log(folder, 1, 0);
+/* Ends the program if a call of aries_files failed. */
+static void need_files(int error) {
+    if (error == ARIES_FILES_OK) return;
+    fprintf(stderr, "files: error %d: %s\n", error, error == ARIES_FILES_IO ? strerror(errno) : "see aries_files.h");
+    exit(1);
 }
 
-/* Recovers the files. The cut is synced before the tail is written: else a power cut may keep some of the tail and lose
- * the cut, and bytes of the torn frame can then complete a frame of the tail. The log comes before the store: until the
- * new store is in place, the old one goes with the longer log. The tail of a lawful log has at most twice its bytes. */
-static struct recovery recover_files(int folder) {
-    struct bytes log = read_file(folder, "log"), store = read_file(folder, "store");
-    struct bytes tail = bytes_of(2 * log.length), new_store = bytes_of(store.length);
-    struct recovery it;
-    stop_at(aries_recover(log.at, log.length, store.at, store.length, tail.at, tail.length, new_store.at,
-        new_store.length, it.in_doubt, TRANSACTIONS, &it.made));
-
-    size_t kept = log.length - it.made.torn;
-    int file = open_file(folder, "log");
-    cut_file(file, kept);
-    sync_file(file);
-    write_at(file, tail.at, it.made.tail_length, kept);
-    sync_file(file);
-    replace_file(folder, "store", new_store.at, it.made.store_length);
-
-    close(file);
-    free(log.at);
-    free(store.at);
-    free(tail.at);
-    free(new_store.at);
-    return it;
+static void *memory(size_t count, size_t size) {
+    void *made = calloc(count, size);
+    if (made) return made;
+    fputs("no memory\n", stderr);
+    exit(1);
 }
 
-/* What a log is, without its records. A pointer has to be good, also where no room is behind it. */
-static struct aries_fault look_at(struct bytes log, struct aries_read *read) {
-    struct aries_record none = {0};
-    return aries_records(log.at, log.length, 0, &none, 0, read);
+/* THE LOG */
+
+/* Appends the frames that a call of the journal has written to bank->frames. */
+static void append(struct bank *bank, struct aries_fault fault, size_t length) {
+    stop_at(fault);
+    need_files(aries_files_append(bank->files, bank->frames, length));
 }
 
-struct records {
-    struct aries_record *at;
-    struct aries_read read;
-};
-
-/* All records of a log; to be freed. */
-static struct records records_of(struct bytes log) {
-    struct records records;
-    stop_at(look_at(log, &records.read));
-    records.at = memory(records.read.records, sizeof *records.at);
-    stop_at(aries_records(log.at, log.length, 0, records.at, records.read.records, &records.read));
-    return records;
+/* The journal has to know what is durable: it lets no page be written before its records. */
+void bank_sync(struct bank *bank) {
+    need_files(aries_files_sync(bank->files));
+    stop_at(aries_engine_log_written(&bank->engine, aries_files_durable(bank->files)));
 }
 
-static uint64_t last_of(const struct records *records, uint32_t number) {
-    uint64_t last = 0;
-    for (size_t i = 0; i < records->read.given; i++)
-        if (records->at[i].tx == number) last = records->at[i].lsn;
-    return last;
+/* Appends a record that says what becomes of a transaction. */
+static void turn(struct bank *bank, uint32_t tx, uint8_t kind) {
+    size_t length = 0;
+    struct aries_fault fault = aries_engine_turn(&bank->engine, tx, kind, bank->frames, FRAME_ROOM, &length);
+    append(bank, fault, length);
 }
 
-/* Appends a commit or an abort for each transaction in doubt. Nobody was told how these ended, so either is right: here
- * even numbers commit. In a two-phase commit the coordinator is asked. */
-static void decide(int folder, const struct recovery *recovery) {
-    struct bytes log = read_file(folder, "log");
-    struct records records = records_of(log);
-    uint8_t frames[TRANSACTIONS * 64];
-    size_t length = 0, end = 0;
-    for (size_t i = 0; i < recovery->made.in_doubt; i++, end += length) {
-        uint32_t number = recovery->in_doubt[i];
-        struct aries_record record = {.kind = number % 2 == 0 ? ARIES_COMMIT : ARIES_ABORT, .tx = number,
-            .lsn = records.read.base_lsn + records.read.records + 1 + i, .prev = last_of(&records, number)};
-        stop_at(aries_write_record(&record, frames + end, sizeof frames - end, &length));
+/* TRANSACTIONS */
+
+const struct aries_image *bank_read(const struct bank *bank, struct cell cell) {
+    return &bank->engine.pages[cell.page].page.slots[cell.slot];
+}
+
+uint32_t bank_begin(struct bank *bank) {
+    uint32_t tx = 0;
+    stop_at(aries_engine_begin(&bank->engine, &tx));
+    return tx;
+}
+
+bool bank_update(struct bank *bank, uint32_t tx, struct cell cell, const struct aries_image *after) {
+    size_t length = 0;
+    struct aries_fault fault = aries_engine_update(&bank->engine, tx, cell.page, cell.slot, after,
+                                                   bank->frames, FRAME_ROOM, &length);
+    if (fault.number == ARIES_HELD) return false;
+    append(bank, fault, length);
+    return true;
+}
+
+uint64_t bank_savepoint(const struct bank *bank) {
+    return bank->engine.journal.last;
+}
+
+/* If the frames of all CLRs do not fit, the journal writes those that do, and is called again. */
+void bank_roll_back_to(struct bank *bank, uint32_t tx, uint64_t savepoint) {
+    struct aries_fault fault;
+    do {
+        size_t length = 0;
+        fault = aries_engine_roll_back_to(&bank->engine, tx, savepoint, bank->frames, FRAME_ROOM, &length);
+        need_files(aries_files_append(bank->files, bank->frames, length));
+    } while (fault.number == ARIES_NO_ROOM);
+    stop_at(fault);
+}
+
+bool bank_undo(struct bank *bank, uint32_t tx) {
+    uint64_t newest = 0;
+    size_t length = 0;
+    stop_at(aries_engine_newest(&bank->engine, tx, &newest));
+    if (newest == 0) return false;
+    struct aries_fault fault = aries_engine_undo(&bank->engine, tx, bank->frames, FRAME_ROOM, &length);
+    append(bank, fault, length);
+    return true;
+}
+
+void bank_abort(struct bank *bank, uint32_t tx) {
+    turn(bank, tx, ARIES_ABORT);
+}
+
+void bank_end(struct bank *bank, uint32_t tx) {
+    turn(bank, tx, ARIES_END);
+}
+
+void bank_prepare(struct bank *bank, uint32_t tx) {
+    turn(bank, tx, ARIES_PREPARE);
+    bank_sync(bank);
+}
+
+void bank_commit(struct bank *bank, uint32_t tx) {
+    turn(bank, tx, ARIES_COMMIT);
+}
+
+/* OPENING */
+
+/* The arrays of the journal. Room for twice the pending updates keeps an update cheap when the array is full. */
+static void make_arrays(struct aries_engine *engine, uint32_t page_count) {
+    engine->transactions_count = TRANSACTIONS;
+    engine->transactions = memory(TRANSACTIONS, sizeof *engine->transactions);
+    engine->pages_count = page_count;
+    engine->pages = memory(page_count, sizeof *engine->pages);
+    engine->pending_count = 2 * TRANSACTIONS * UPDATES;
+    engine->pending = memory(engine->pending_count, sizeof *engine->pending);
+}
+
+/* Decides the transactions in doubt, which are all that a recovery leaves unfinished. An engine asks the coordinator of
+ * each. The bank has none, and has acknowledged none of them, so either decision is right: here even numbers commit. */
+static void decide(struct bank *bank) {
+    for (; bank->engine.journal.transactions > 0; bank->decided++) {
+        uint32_t tx = bank->engine.transactions[0].tx;
+        if (tx % 2 == 0) {
+            bank_commit(bank, tx);
+        } else {
+            bank_abort(bank, tx);
+            bank_roll_back_to(bank, tx, 0);
+            bank_end(bank, tx);
+        }
     }
-    int file = open_file(folder, "log");
-    write_at(file, frames, end, log.length);
-    sync_file(file);
-    close(file);
-    free(records.at);
-    free(log.at);
+    bank_sync(bank);
 }
 
-/* Where the log goes on. */
-static void load_log(struct bank *bank) {
-    struct bytes log = read_file(bank->folder, "log");
-    struct records records = records_of(log);
-    bank->base_lsn = records.read.base_lsn;
-    bank->last_lsn = bank->synced_lsn = records.read.base_lsn + records.read.records;
-    bank->log_length = log.length;
-    bank->next_number = 1;
-    for (size_t i = 0; i < records.read.given; i++)
-        if (records.at[i].tx >= bank->next_number) bank->next_number = records.at[i].tx + 1;
-    free(records.at);
-    free(log.at);
-}
-
-static void load_store(struct bank *bank) {
-    struct bytes store = read_file(bank->folder, "store");
-    bank->page_count = (uint32_t)((store.length - ARIES_STORE_HEADER_BYTES) / ARIES_PAGE_BYTES);
-    bank->pages = memory(bank->page_count, sizeof *bank->pages);
-    bank->rec_lsn = memory(bank->page_count, sizeof *bank->rec_lsn);
-    bank->owner = memory((size_t)bank->page_count * ARIES_SLOTS, sizeof *bank->owner);
-    const uint8_t *image = store.at + ARIES_STORE_HEADER_BYTES;
-    for (uint32_t number = 0; number < bank->page_count; number++, image += ARIES_PAGE_BYTES)
-        stop_at(aries_read_page(image, ARIES_PAGE_BYTES, number, &bank->pages[number]));
-    free(store.at);
-}
-
-struct opening bank_open(struct bank *bank, const char *path, uint32_t page_count) {
-    int folder = open_folder(path);
-    if (!has_file(folder, "log")) make_files(folder, page_count);
-    struct recovery recovery = recover_files(folder);
-    struct opening opening = {recovery.made, recovery.made.in_doubt};
-    while (recovery.made.in_doubt > 0) {
-        decide(folder, &recovery);
-        recovery = recover_files(folder);
-    }
+void bank_open(struct bank *bank, const char *folder, uint32_t flags, uint32_t page_count) {
+    struct aries_files_opened *opened = &bank->opened;
     memset(bank, 0, sizeof *bank);
-    bank->folder = folder;
-    load_log(bank);
-    load_store(bank);
-    char base[32];
-    base_name(base, bank->base_lsn);
-    remove_others(folder, "base-", base);
-    bank->log_file = open_file(folder, "log");
-    bank->store_file = open_file(folder, "store");
-    bank->buffer = bytes_of(BUFFER_ROOM);
-    return opening;
+    int error = aries_files_open(folder, flags, page_count, &bank->files, opened);
+    if (error == ARIES_FILES_FAULT) stop_at(opened->fault);
+    need_files(error);
+    make_arrays(&bank->engine, opened->page_count);
+    stop_at(aries_engine_open(&bank->engine, opened->log, opened->log_length, opened->store, opened->store_length));
+    decide(bank);
 }
 
 void bank_close(struct bank *bank) {
-    close(bank->log_file);
-    close(bank->store_file);
-    close(bank->folder);
-    free(bank->buffer.at);
-    free(bank->pages);
-    free(bank->rec_lsn);
-    free(bank->owner);
+    need_files(aries_files_close(bank->files));
+    free(bank->engine.transactions);
+    free(bank->engine.pages);
+    free(bank->engine.pending);
 }
 
-/* Archives and audits. */
+/* THE STORE */
 
-/* A kill between any two lines leaves files that are lawful. The store has all that the log says, so with master 0 it
- * goes with the old log and the new one. A base store has the base LSN of its log in its name, and stands before that
- * log does: so one rename, that of the log, changes from the old pair to the new one. An engine that restores media
- * gives the old log another name first, here it is let go. */
-void bank_archive(struct bank *bank) {
-    assert(bank->checkpoint.begin == 0);
-    char base[32];
-    base_name(base, bank->last_lsn);
-    sync_log(bank);
-    for (uint32_t page = 0; page < bank->page_count; page++)
-        if (bank->rec_lsn[page] != 0) bank_flush_page(bank, page);
-    write_master(bank, 0);
-    struct bytes store = read_file(bank->folder, "store");
-    replace_file(bank->folder, base, store.at, store.length);
-    free(store.at);
-    start_log(bank->folder, 2, bank->last_lsn);
-    remove_others(bank->folder, "base-", base);
-
-    close(bank->log_file);
-    bank->log_file = open_file(bank->folder, "log");
-    bank->base_lsn = bank->last_lsn;
-    bank->log_length = 16;
-    bank->next_number = 1;
-    memset(bank->owner, 0, sizeof *bank->owner * bank->page_count * ARIES_SLOTS);
+static bool is_dirty(const struct bank *bank, uint32_t page) {
+    return page < bank->engine.pages_count && bank->engine.pages[page].rec_lsn != 0;
 }
 
-struct aries_fault bank_audit(const char *path) {
-    int folder = open_folder(path);
-    struct bytes log = read_file(folder, "log"), store = read_file(folder, "store");
-    struct aries_read read;
-    struct aries_fault fault = look_at(log, &read);
-    if (fault.number == ARIES_OK && read.base_lsn == 0) {
-        fault = aries_audit(log.at, log.length, store.at, store.length);
-    } else if (fault.number == ARIES_OK) {
-        char name[32];
-        base_name(name, read.base_lsn);
-        struct bytes base = read_file(folder, name);
-        fault = aries_audit_from(log.at, log.length, store.at, store.length, base.at, base.length);
-        free(base.at);
+/* The images of the dirty ones of so many pages. The journal allows a page if the log is durable up to its PageLSN. */
+static size_t make_images(const struct bank *bank, uint32_t first, uint32_t count, uint8_t *images) {
+    size_t made = 0, length = 0;
+    for (uint32_t page = first; page < first + count; page++) {
+        if (!is_dirty(bank, page)) continue;
+        stop_at(aries_engine_page_to_write(&bank->engine, page));
+        stop_at(aries_write_page(&bank->engine.pages[page].page, images + made, ARIES_PAGE_BYTES, &length));
+        made += length;
     }
-    free(log.at);
-    free(store.at);
-    close(folder);
-    return fault;
+    return made / ARIES_PAGE_BYTES;
+}
+
+/* Pages are reported as written after aries_files_write_pages has returned, since only then they are durable. */
+void bank_write_pages(struct bank *bank, uint32_t first, uint32_t count) {
+    uint8_t images[PAGES_AT_ONCE * ARIES_PAGE_BYTES];
+    if (count > PAGES_AT_ONCE) count = PAGES_AT_ONCE;
+    bank_sync(bank);
+    need_files(aries_files_write_pages(bank->files, images, make_images(bank, first, count, images)));
+    for (uint32_t page = first; page < first + count; page++)
+        if (is_dirty(bank, page))
+            stop_at(aries_engine_page_written(&bank->engine, page, bank->engine.pages[page].page.lsn));
+}
+
+/* The begin record is the last but one: the journal appends it with the end record. aries_files_set_master makes the
+ * log durable before it sets the master. The pages that were reported as written are durable already. */
+void bank_checkpoint(struct bank *bank) {
+    size_t length = 0;
+    struct aries_fault fault = aries_engine_checkpoint(&bank->engine, bank->frames, FRAME_ROOM, &length);
+    append(bank, fault, length);
+    need_files(aries_files_set_master(bank->files, bank->engine.journal.last - 1));
+}
+
+/* The files have all pages then, and the journal of the new log begins with them. */
+void bank_archive(struct bank *bank) {
+    struct aries_files_opened *opened = &bank->opened;
+    if (bank->engine.journal.last == opened->base_lsn) return; /* the log has no records */
+    need_files(aries_files_archive(bank->files, opened));
+    stop_at(aries_engine_new(&bank->engine, 2, opened->base_lsn, opened->store, opened->store_length));
+}
+
+void bank_audit(struct bank *bank) {
+    struct aries_fault fault;
+    need_files(aries_files_audit(bank->files, &fault));
+    stop_at(fault);
 }
