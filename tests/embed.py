@@ -23,6 +23,7 @@ from concurrent.futures import ThreadPoolExecutor
 
 sys.dont_write_bytecode = True  # no folder of it beside the tests
 from files import check_files
+from marks import check_marks
 from program import ARIES, LARGE_ROWS, SMALL_ROWS, TOP, Tally, folder_of_toolchain, run, text_of, words_of_a_crate
 
 CRATE = "aries_c"
@@ -180,9 +181,13 @@ CPP_LANGUAGES = ("c++98", "c++11", "c++14", "c++17", "c++20", "c++2b")
 
 
 def check_names(tally, toolchain):
-    tested = "".join(text_of(f"tests/embed/{name}.c") for name in ("header", "journal", "journal_refusals"))
+    tested = "".join(text_of(f"tests/embed/{name}.c") for name in ("header", "journal", "journal_refusals", "marks"))
     missing = sorted(name for name in names_of_the_header() if not re.search(rf"\b{name}\b", tested))
     tally.say("the tests of the header have all its names", not missing, missing)
+    version = re.search(r"^version=(\d+)\.(\d+)\.(\d+)$", text_of("install.sh"), re.M).groups()
+    number = sum(int(part) * weight for part, weight in zip(version, (10000, 100, 1)))
+    wanted = f'#define ARIES_VERSION "{".".join(version)}"\n#define ARIES_VERSION_NUMBER {number}\n'
+    tally.say("the header has the version that is installed", wanted in text_of("include/aries.h"), wanted)
     source = toolchain.at("header.cc")
     with open(source, "w") as file:
         file.write('#include "aries.h"\n')
@@ -472,6 +477,7 @@ def main():
                 check_header(tally, toolchain, archive, how)
                 check_refusals(tally, toolchain, archive, how)
                 check_journal(tally, toolchain, archive, how)
+                check_marks(tally, toolchain, archive, how)
                 check_rows(tally, toolchain, archive, how)
         first = next(iter(made.values()))
         if first:

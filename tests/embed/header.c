@@ -391,8 +391,78 @@ static void check_texts(void) {
     need(is_done(aries_fault_text(&fault, out, 64, &length)) && length == 11 && memcmp(out, "no resource", 11) == 0);
 }
 
+/* The names of faults, each with the text that docs/FORMATS.md has for its number. */
+static const struct named {
+    uint32_t number;
+    const char *text;
+} NAMED[] = {
+    {ARIES_BAD_LOG_HEADER, "bad log header"},
+    {ARIES_BAD_LENGTH, "bad length at byte 7"},
+    {ARIES_BAD_RECORD, "bad record at byte 7"},
+    {ARIES_BAD_LSN, "bad LSN at byte 7"},
+    {ARIES_BAD_STORE_HEADER, "bad store header"},
+    {ARIES_STORE_SIZE, "bad store size"},
+    {ARIES_BAD_PAGE, "bad image of page 7"},
+    {ARIES_BAD_MASTER, "bad master"},
+    {ARIES_NO_PAGE_OF_RECORD, "no such page at LSN 7"},
+    {ARIES_PAGE_AHEAD_OF_LOG, "page 7 is ahead of the log"},
+    {ARIES_BROKEN_CHAIN, "broken chain at LSN 7"},
+    {ARIES_CHAIN, "wrong previous LSN at LSN 7"},
+    {ARIES_AFTER_FINISH, "record after finish at LSN 7"},
+    {ARIES_WRONG_COMPENSATION, "wrong compensation at LSN 7"},
+    {ARIES_BEFORE_IMAGE, "wrong before image at LSN 7"},
+    {ARIES_DIRTY_WRITE, "dirty write at LSN 7"},
+    {ARIES_END_TOO_EARLY, "end too early at LSN 7"},
+    {ARIES_PAGE_IMAGE, "wrong content of page 7"},
+    {ARIES_TRANSACTION_TABLE, "wrong transaction table"},
+    {ARIES_DIRTY_TABLE, "wrong dirty page table at page 7"},
+    {ARIES_BAD_BASE, "bad base store"},
+};
+
+static void check_names(void) {
+    uint8_t out[64];
+    for (size_t i = 0; i < sizeof NAMED / sizeof NAMED[0]; i++) {
+        struct aries_fault fault = {.number = NAMED[i].number, .place = 7};
+        size_t length = 0, wanted = 0;
+        while (NAMED[i].text[wanted]) wanted++;
+        need(is_done(aries_fault_text(&fault, out, sizeof out, &length)) && length == wanted);
+        need(memcmp(out, NAMED[i].text, wanted) == 0);
+    }
+}
+
+/* The longest frames: an update with two values, and a checkpoint with full tables. */
+static void check_longest(void) {
+    static struct aries_entry entries[ARIES_TRANSACTIONS];
+    static struct aries_dirty dirty[ARIES_PAGES];
+    static uint8_t out[ARIES_CHECKPOINT_BYTES];
+    struct aries_image longest = {.length = ARIES_VALUE_BYTES};
+    struct aries_record record = {.lsn = 1, .tx = 1, .kind = ARIES_UPDATE, .before = longest, .after = longest};
+    size_t begin = 0, length = 0;
+    need(is_done(aries_write_record(&record, out, ARIES_FRAME_BYTES, &length)) && length == ARIES_FRAME_BYTES);
+    record.kind = ARIES_CHECKPOINT_BEGIN;
+    need(is_done(aries_write_record(&record, out, sizeof out, &begin)));
+    for (uint32_t i = 0; i < ARIES_TRANSACTIONS; i++) entries[i].tx = i + 1;
+    for (uint32_t i = 0; i < ARIES_PAGES; i++) dirty[i] = (struct aries_dirty){.rec_lsn = 1, .page = i};
+    need(is_done(aries_write_checkpoint_end(2, 1, entries, ARIES_TRANSACTIONS, dirty, ARIES_PAGES, out + begin,
+        sizeof out - begin, &length)));
+    need(begin + length == ARIES_CHECKPOINT_BYTES);
+}
+
+/* Two stores of two pages, of which page 1 differs in its last byte, or in no byte. */
+static void check_changed(void) {
+    static uint8_t store[24 + 2048], other[24 + 2048];
+    need(!aries_is_page_changed(store, other, 0) && !aries_is_page_changed(store, other, 1));
+    other[24 + 2047] = 1;
+    need(!aries_is_page_changed(store, other, 0) && aries_is_page_changed(store, other, 1));
+    other[23] = 1;
+    need(!aries_is_page_changed(store, other, 0));
+}
+
 int main(void) {
     struct text log = {.length = 0};
+    check_names();
+    check_longest();
+    check_changed();
     check_headers();
     check_frames();
     write_all_kinds(&log);
