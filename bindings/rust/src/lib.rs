@@ -41,7 +41,10 @@ mod writing;
 pub use error::Error;
 pub use image::{Image, Value, VALUE_BYTES};
 pub use page::{Page, PAGES, PAGE_BYTES, SLOTS};
-pub use reading::{checkpoint, records, Records};
+pub use reading::{
+    checkpoint, log_begin, log_end, next_record, records, unfinished, LogEnd, LogState, Mark,
+    Records,
+};
 pub use record::{Checkpoint, Dirty, Entry, Record, State};
 pub use recovery::{audit, audit_from, recover, Recovery, Report};
 pub use writing::{

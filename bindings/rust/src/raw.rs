@@ -1,7 +1,7 @@
 //! What `include/aries.h` declares. Nothing compares these declarations with it but the tests.
 
 #[repr(C)]
-#[derive(Clone, Copy)]
+#[derive(Clone, Copy, Default)]
 pub struct Fault {
     pub number: u32,
     pub place: u64,
@@ -78,6 +78,30 @@ pub struct Tables {
 }
 
 #[repr(C)]
+#[derive(Clone, Copy, Default)]
+pub struct Mark {
+    pub lsn: u64,
+    pub offset: u64,
+}
+
+#[repr(C)]
+#[derive(Clone, Copy, Default)]
+pub struct LogEnd {
+    pub length: u64,
+    pub last_lsn: u64,
+    pub torn: u64,
+    pub damage: Fault,
+}
+
+#[repr(C)]
+#[derive(Clone, Copy, Default)]
+pub struct LogState {
+    pub last_lsn: u64,
+    pub highest: u64,
+    pub unfinished: u64,
+}
+
+#[repr(C)]
 #[derive(Clone, Copy)]
 pub struct Page {
     pub lsn: u64,
@@ -136,6 +160,21 @@ extern "C" {
         dirty: *mut Dirty,
         dirty_room: usize,
         made: *mut Tables,
+    ) -> Fault;
+    pub fn aries_log_begin(log: *const u8, log_length: usize, mark: *mut Mark) -> Fault;
+    pub fn aries_next_record(
+        log: *const u8,
+        log_length: usize,
+        mark: *mut Mark,
+        record: *mut Record,
+    ) -> Fault;
+    pub fn aries_log_end(log: *const u8, log_length: usize, end: *mut LogEnd) -> Fault;
+    pub fn aries_unfinished(
+        log: *const u8,
+        log_length: usize,
+        unfinished: *mut Entry,
+        unfinished_room: usize,
+        state: *mut LogState,
     ) -> Fault;
     pub fn aries_write_log_header(
         version: u32,

@@ -209,3 +209,57 @@ fn errors_are_told() {
     );
     assert_eq!(Error::BadLength(8).number_and_place(), (7, 8));
 }
+
+#[test]
+fn records_one_after_the_other() {
+    let log = log();
+    let mut mark = aries::log_begin(&log).expect("a header");
+    assert_eq!((mark.lsn, mark.offset), (10, 16));
+    for (lsn, record) in aries::records(&log, 0, 9).expect("a log").records {
+        let (read, next) = aries::next_record(&log, mark)
+            .expect("a frame")
+            .expect("a record");
+        assert_eq!((next.lsn, read), (lsn, record));
+        mark = next;
+    }
+    assert_eq!(mark.offset, log.len() as u64);
+    assert_eq!(aries::next_record(&log, mark), Ok(None));
+}
+
+#[test]
+fn the_end_of_a_log() {
+    let mut log = log();
+    let length = log.len() as u64;
+    let last_lsn = aries::records(&log, 0, 0).expect("a log").count + 10;
+    let end = aries::log_end(&log).expect("a header");
+    assert_eq!(
+        (end.length, end.last_lsn, end.torn, end.damage),
+        (length, last_lsn, 0, None)
+    );
+    log.extend([0; 3]);
+    assert_eq!(aries::log_end(&log).expect("a header").torn, 3);
+    log.push(0);
+    let end = aries::log_end(&log).expect("a header");
+    assert_eq!(
+        (end.length, end.torn, end.damage),
+        (length, 0, Some(Error::BadLength(length)))
+    );
+    assert_eq!(aries::log_end(b"ARIESLG0"), Err(Error::BadLogHeader));
+}
+
+#[test]
+fn what_an_engine_needs_of_a_log() {
+    let state = aries::unfinished(&log()).expect("a log");
+    let entry = |tx, state, last, undo_next| Entry {
+        tx,
+        state,
+        last,
+        undo_next,
+    };
+    let found = vec![
+        entry(2, State::Aborting, 14, 0),
+        entry(4, State::Prepared, 16, 0),
+        entry(5, State::Active, 12, 9),
+    ];
+    assert_eq!((state.highest, state.unfinished), (5, found));
+}
