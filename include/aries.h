@@ -71,16 +71,22 @@ enum {
     ARIES_BAD_BASE = 29
 };
 
+/* The sizes of the library's profile. The library and this header have to be of the same profile. */
 enum {
-    ARIES_PAGE_BYTES = 1024,        /* a page's image */
-    ARIES_STORE_HEADER_BYTES = 24,  /* a store's header, before the image of page 0 */
-    ARIES_SLOTS = 16,               /* slots of a page */
-    ARIES_VALUE_BYTES = 48,         /* bytes of a value, at most */
-    ARIES_PAGES = 4096,             /* pages of a store, at most */
-    ARIES_ABSENT = 255,             /* the length of an absent value */
-    ARIES_TRANSACTIONS = 1024,      /* transactions in a checkpoint and in a journal, at most */
-    ARIES_FRAME_BYTES = 128,        /* the frame of any record except a checkpoint end, at most */
-    ARIES_CHECKPOINT_BYTES = 70698  /* the frames of a checkpoint, begin and end, at most */
+    ARIES_PAGES = 4096,        /* pages of a store, at most */
+    ARIES_SLOTS = 16,          /* slots of a page */
+    ARIES_PAGE_BYTES = 1024,   /* bytes of a page's image */
+    ARIES_VALUE_BYTES = 48,    /* bytes of a value, at most */
+    ARIES_TRANSACTIONS = 1024  /* transactions in a checkpoint and in a journal, at most */
+};
+
+enum {
+    ARIES_STORE_HEADER_BYTES = 24, /* a store's header, before the image of page 0 */
+    ARIES_ABSENT = 255,            /* the length of an absent value */
+    /* The frame of any record except a checkpoint end, at most: 128. */
+    ARIES_FRAME_BYTES = 30 + 2 * (1 + ARIES_VALUE_BYTES),
+    /* The frames of a checkpoint, begin and end, at most: 70,698. */
+    ARIES_CHECKPOINT_BYTES = 42 + 21 * ARIES_TRANSACTIONS + 12 * ARIES_PAGES
 };
 
 /*
@@ -179,7 +185,7 @@ struct aries_fault aries_fault_text(const struct aries_fault *fault, uint8_t *ou
 /* What a slot holds: a value, the first `length` bytes of `bytes`; or none, if `length` is ARIES_ABSENT. */
 struct aries_image {
     uint8_t length;
-    uint8_t bytes[48];
+    uint8_t bytes[ARIES_VALUE_BYTES];
 };
 
 enum {
@@ -201,7 +207,7 @@ struct aries_record {
     uint32_t tx;               /* the number of its transaction, from 1; not in 6, 7 */
     uint32_t page;             /* in an update and a CLR: the page that it changes */
     uint8_t kind;              /* 1 to 8, as above */
-    uint8_t slot;              /* in an update and a CLR: the slot that it changes, 0 to 15 */
+    uint8_t slot;              /* in an update and a CLR: the slot that it changes, from 0 */
     struct aries_image before; /* in an update: what the slot held before it */
     struct aries_image after;  /* in an update and a CLR: what it puts into the slot */
 };
@@ -320,15 +326,16 @@ struct aries_fault aries_write_log_header(uint32_t version, uint64_t base_lsn, u
                                           size_t *length);
 
 /*
- * Writes the frame of a record, as it is in a log: 13 to 128 bytes. Allocates nothing. Not writable: a kind other than
- * 1 to 6 and 8, LSN 0, transaction 0, a slot above 15, an image of length 49 to 254.
+ * Writes the frame of a record, as it is in a log: at most ARIES_FRAME_BYTES. Allocates nothing. Not writable: a kind
+ * other than 1 to 6 and 8, LSN 0, transaction 0, a slot that a page does not have, an image whose length is neither that
+ * of a value nor ARIES_ABSENT.
  */
 struct aries_fault aries_write_record(const struct aries_record *record, uint8_t *out, size_t room, size_t *length);
 
 /*
  * Writes the frame of a checkpoint end with this LSN: 29 bytes, and 21 for each transaction and 12 for each page.
- * `begin` is the LSN of its begin record. Not writable: LSN 0, more than 1,024 transactions or 4,096 pages, entries
- * that are not in ascending order of transaction or page, transaction 0, a state above 2. Also 1.
+ * `begin` is the LSN of its begin record. Not writable: LSN 0, more than ARIES_TRANSACTIONS or ARIES_PAGES
+ * entries, entries that are not in ascending order of transaction or page, transaction 0, a state above 2. Also 1.
  */
 struct aries_fault aries_write_checkpoint_end(uint64_t lsn, uint64_t begin, const struct aries_entry *transactions,
                                               size_t transactions_count, const struct aries_dirty *dirty,
@@ -338,17 +345,17 @@ struct aries_fault aries_write_checkpoint_end(uint64_t lsn, uint64_t begin, cons
 struct aries_page {
     uint64_t lsn;
     uint32_t number;
-    struct aries_image slots[16];
+    struct aries_image slots[ARIES_SLOTS];
 };
 
 /*
- * Writes the header of a store, 24 bytes: 1 to 4,096 pages, and the master, the LSN of the begin record of the last
- * complete checkpoint, 0 for none. Not writable: any other number of pages.
+ * Writes the header of a store, 24 bytes: 1 to ARIES_PAGES pages, and the master, the LSN of the begin record of the
+ * last complete checkpoint, 0 for none. Not writable: any other number of pages.
  */
 struct aries_fault aries_write_store_header(uint32_t pages, uint64_t master, uint8_t *out, size_t room,
                                             size_t *length);
 
-/* Writes the image of a page, 1,024 bytes. Not writable: a slot of length 49 to 254. */
+/* Writes the image of a page, ARIES_PAGE_BYTES. Not writable: a slot whose length is not that of an image. */
 struct aries_fault aries_write_page(const struct aries_page *page, uint8_t *out, size_t room, size_t *length);
 
 /* Reads the page with this number from its image. If the bytes are not its image: 12, with this number as place. */
@@ -371,15 +378,15 @@ struct aries_fault aries_read_page(const uint8_t *image, size_t image_length, ui
  * MEMORY OF A JOURNAL. It is a struct aries_journal and three arrays, which belong to the caller: of transactions, of
  * pages, and of pending updates. All calls on a journal take the same arrays with the same lengths, and only these
  * calls change them. The caller may read them: pages[n].page is page n as it is now. There are as many page entries as
- * the store has pages, and 1 to 1,024 transaction entries. The array of pending updates limits how many updates can be
- * undone at a time. When it is full, an update first removes the entries that nobody needs any more; with twice the
- * room that is needed this costs little. Only aries_journal_new and aries_journal_open allocate memory. No call reads
- * the log again. If arrays are passed that are not those of a journal, what a call does is not specified; but it
+ * the store has pages, and 1 to ARIES_TRANSACTIONS transaction entries. The array of pending updates limits how many
+ * updates can be undone at a time. When it is full, an update first removes the entries that nobody needs any more; with
+ * twice the room that is needed this costs little. Only aries_journal_new and aries_journal_open allocate memory. No
+ * call reads the log again. If arrays are passed that are not those of a journal, what a call does is not specified; but it
  * returns, and touches no memory outside its arguments.
  *
  * FRAMES. A call that appends records writes their frames, *length bytes, to the front of out, and leaves the other
- * bytes unchanged. An update takes at most 128 bytes, an undo at most 87, a turn 25, and a checkpoint 42 and 21 for
- * each transaction and 12 for each page. journal->last is the LSN of the last record.
+ * bytes unchanged. An update takes at most ARIES_FRAME_BYTES, an undo less, a turn 25, and a checkpoint 42 and 21
+ * for each transaction and 12 for each page. journal->last is the LSN of the last record.
  *
  * REFUSALS. With any number but 0, all that was passed is unchanged, except that ARIES_NO_ROOM sets *length to the
  * bytes that are needed, and that the arrays of aries_journal_open must not be used. LSNs for a commit and a rollback
@@ -405,7 +412,7 @@ struct aries_transaction_entry {
 /* A page. */
 struct aries_page_entry {
     uint64_t rec_lsn;       /* RecLSN, 0 if the disk has all changes of the page */
-    uint32_t writers[16];   /* for each slot the transaction that changed it last, 0 for none */
+    uint32_t writers[ARIES_SLOTS]; /* for each slot the transaction that changed it last, 0 for none */
     struct aries_page page; /* the page as it is now */
 };
 
@@ -427,11 +434,11 @@ enum {
     ARIES_UNKNOWN_TRANSACTION = 70,   /* no transaction with this number has begun and not finished */
     ARIES_FORBIDDEN = 71,             /* the state of the transaction forbids the call */
     ARIES_NO_SUCH_PAGE = 72,          /* the store has no page with this number */
-    ARIES_NO_SUCH_SLOT = 73,          /* the slot is above 15 */
+    ARIES_NO_SUCH_SLOT = 73,          /* a page has no slot with this number */
     ARIES_HELD = 74,                  /* another unfinished transaction has changed the slot */
     ARIES_NOTHING_TO_UNDO = 75,       /* the transaction has no pending update; in open: the log is not lawful */
     ARIES_STILL_PENDING = 76,         /* the transaction has pending updates, and cannot end */
-    ARIES_TOO_MANY_TRANSACTIONS = 77, /* all transaction entries are in use, or 1,024 */
+    ARIES_TOO_MANY_TRANSACTIONS = 77, /* all transaction entries are in use, or ARIES_TRANSACTIONS */
     ARIES_NO_NUMBER = 78,             /* the transaction numbers are used up */
     ARIES_NO_SUCH_LSN = 79,           /* the LSN is above that of the last record, or above the PageLSN of the page */
     ARIES_LOG_NOT_WRITTEN = 80,       /* the log must be on the disk up to the PageLSN first */
@@ -472,7 +479,7 @@ struct aries_fault aries_journal_begin(struct aries_journal *journal, struct ari
 struct aries_fault aries_journal_cancel(struct aries_journal *journal, struct aries_transaction_entry *transactions,
                                         size_t transactions_count, uint32_t tx);
 
-/* Changes a slot to `after`: appends an update. 70 to 74, 81, 82, 64; 65: the length of `after` is 49 to 254. */
+/* Changes a slot to `after`: appends an update. 70 to 74, 81, 82, 64; 65: `after` is not an image. */
 struct aries_fault aries_journal_update(struct aries_journal *journal, struct aries_transaction_entry *transactions,
                                         size_t transactions_count, struct aries_page_entry *pages, size_t pages_count,
                                         struct aries_pending_entry *pending, size_t pending_count, uint32_t tx,
@@ -612,8 +619,8 @@ static inline struct aries_fault aries_engine_newest(const struct aries_engine *
 /*
  * Rolls a transaction back to a savepoint, which is the value of journal.last when it was set: undoes its pending
  * updates with a larger LSN, the newest first. *length is always the bytes of the CLRs that were written to out.
- * ARIES_NO_ROOM: out is full; append these bytes to the log, and call again. 128 bytes of room are enough to go on. 70,
- * 71, 64.
+ * ARIES_NO_ROOM: out is full; append these bytes to the log, and call again. ARIES_FRAME_BYTES of room are enough to go
+ * on. 70, 71, 64.
  */
 static inline struct aries_fault aries_engine_roll_back_to(struct aries_engine *engine, uint32_t tx, uint64_t savepoint,
                                                            uint8_t *out, size_t room, size_t *length)

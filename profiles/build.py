@@ -5,9 +5,11 @@ usage: profiles/build.py NAME           proves all crates of the programs and of
        profiles/build.py NAME CRATE..   proves these crates, and those that they use
 
 The tracked files are copied to out/NAME; what an earlier run proved there is kept. The profile, `profiles/NAME.profile`, takes the place of
-`crates/page/src/profile.rt`, and nothing else is changed. The last line says which crates are proved; the status is 1 if one is not.
+`crates/page/src/profile.rt`, and nothing else is changed. The header of the C library with the sizes of the profile is made in
+out/NAME/include. The last line says which crates are proved; the status is 1 if one is not.
 """
 import os
+import re
 import shutil
 import subprocess
 import sys
@@ -15,6 +17,19 @@ import sys
 TOP = os.path.dirname(os.path.dirname(os.path.abspath(__file__)))
 PROGRAMS = ("aries_cli", "aries_dump")
 PROFILE = "crates/page/src/profile.rt"
+HEADER = "include/aries.h"
+# The sizes that the header has, by their names in a profile. It makes its other sizes of these.
+SIZES = ("PAGES", "SLOTS", "PAGE_BYTES", "VALUE_BYTES", "TRANSACTIONS")
+
+
+def header_of(profile, header):
+    """The header of the C library with the sizes of a profile: both are texts."""
+    for name in SIZES:
+        size = re.search(rf"^pub const {name}: usize = ([\d_]+);", profile, re.M).group(1).replace("_", "")
+        header, count = re.subn(rf"(\bARIES_{name} = )\d+", rf"\g<1>{size}", header)
+        if count != 1:
+            raise ValueError(f"ARIES_{name} is {count} times in the header")
+    return header
 
 
 def crates_below(names):
@@ -51,6 +66,15 @@ def copy_to(folder, profile):
         shutil.copyfile(source, target)
 
 
+def make_header(folder, profile):
+    """The header with the sizes of the profile."""
+    with open(profile, encoding="utf-8") as file, open(os.path.join(TOP, HEADER), encoding="utf-8") as header:
+        text = header_of(file.read(), header.read())
+    os.makedirs(os.path.join(folder, "include"), exist_ok=True)
+    with open(os.path.join(folder, HEADER), "w", encoding="utf-8") as file:
+        file.write(text)
+
+
 def is_proved(folder, crate):
     ran = subprocess.run(["rt", "check"], cwd=os.path.join(folder, "crates", crate), capture_output=True, text=True)
     says = (ran.stdout + ran.stderr).strip().split("\n")
@@ -68,6 +92,7 @@ def main():
     profile = os.path.join(TOP, "profiles", f"{name}.profile")
     folder = os.path.join(TOP, "out", name)
     copy_to(folder, profile)
+    make_header(folder, profile)
     crates = crates_below(wanted or [*PROGRAMS, "aries_c"])
     proved = []
     for crate in crates:

@@ -22,6 +22,8 @@ import tempfile
 from concurrent.futures import ThreadPoolExecutor
 
 sys.dont_write_bytecode = True  # no folder of it beside the tests
+sys.path.append(os.path.join(os.path.dirname(os.path.dirname(os.path.abspath(__file__))), "profiles"))
+from build import PROFILE, header_of
 from files import check_files
 from marks import check_marks
 from program import ARIES, LARGE_ROWS, SMALL_ROWS, TOP, Tally, folder_of_toolchain, run, text_of, words_of_a_crate
@@ -139,7 +141,7 @@ def names_of_the_header():
     header = re.sub(r"/\*.*?\*/", "", text_of("include/aries.h"), flags=re.S)
     calls = set(re.findall(r"\b(aries_\w+)\(", header))
     bodies = re.findall(r"struct \w+ \{(.*?)\}", header, re.S)
-    fields = {name for body in bodies for name in re.findall(r"(\w+)(?:\[\d+\])?\s*[,;]", body)}
+    fields = {name for body in bodies for name in re.findall(r"(\w+)(?:\[\w+\])?\s*[,;]", body)}
     constants = set(re.findall(r"\b(ARIES_[A-Z_]+)\s*=", header))
     return calls | fields | constants
 
@@ -187,7 +189,9 @@ def check_names(tally, toolchain):
     version = re.search(r"^version=(\d+)\.(\d+)\.(\d+)$", text_of("install.sh"), re.M).groups()
     number = sum(int(part) * weight for part, weight in zip(version, (10000, 100, 1)))
     wanted = f'#define ARIES_VERSION "{".".join(version)}"\n#define ARIES_VERSION_NUMBER {number}\n'
-    tally.say("the header has the version that is installed", wanted in text_of("include/aries.h"), wanted)
+    header = text_of("include/aries.h")
+    tally.say("the header has the version that is installed", wanted in header, wanted)
+    tally.say("the header has the sizes of the profile", header_of(text_of(PROFILE), header) == header)
     source = toolchain.at("header.cc")
     with open(source, "w") as file:
         file.write('#include "aries.h"\n')
