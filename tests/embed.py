@@ -351,7 +351,7 @@ int main(int argc, char **argv) {
     if (aries_read_page(opened.store + 24 + 1024, 1024, 1, &page).number != 0 || page.lsn != 1) return 12;
     if (page.slots[3].length != 1 || page.slots[3].bytes[0] != 'a' || opened.page_count != 2) return 13;
     if (aries_files_write_pages(files, opened.store + 24, 2) != ARIES_FILES_OK) return 14;
-    if (aries_files_write_pages(files, opened.store + 25, 1) != ARIES_FILES_MISUSE) return 15;
+    if (aries_files_write_pages(files, opened.store, 1) != ARIES_FILES_MISUSE) return 15;
     if (aries_files_audit(files, &fault) != ARIES_FILES_OK || fault.number != 0) return 16;
     if (aries_files_archive(files, &opened) != ARIES_FILES_OK || opened.base_lsn != 2) return 17;
     if (aries_files_close(files) != ARIES_FILES_OK) return 18;

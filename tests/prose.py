@@ -81,7 +81,8 @@ def sources():
     documents += ["bench/NOTES.md", "examples/bank/README.md", "examples/own_log/README.md", "bindings/rust/README.md", "crates/rows/data/README.md", "edits/README.md"]
     yield from (("documents", name, paragraphs_of_markdown(text_of(name))) for name in documents)
     yield from (("man", name, paragraphs_of_man(text_of(name))) for name in sorted(glob.glob("man/*", root_dir=TOP)))
-    yield "header", "include/aries.h", paragraphs_of_comments(r"\s*(?:/\*|\*)(.*?)(?:\*/)?$", text_of("include/aries.h"))
+    for name in ("include/aries.h", "bindings/c/aries_files.h"):
+        yield "header", name, paragraphs_of_comments(r"\s*(?:/\*|\*)(.*?)(?:\*/)?$", text_of(name))
     for name in sorted(glob.glob("crates/*/src/**/*.rt", root_dir=TOP, recursive=True)):
         if name.startswith("crates/workloads/"):
             continue  # the benchmark keeps the text with which it was measured
