@@ -4,8 +4,8 @@
  *
  * FOLDER is on the disk to measure; a folder `files` is made in it. Each commit has two updates and a commit record,
  * up to 281 bytes. Groups of 1, 10 and 100 commits are made durable by one sync; then the same with 16 pages written
- * after each 100 commits. Each round measures each choice of protections once, for SECONDS (0.5), beginning with another
- * one. It prints the median of ROUNDS (9), and the median and the quartiles of the ratio to the choice without
+ * after each 100 commits. Each round measures each choice of protections once, for SECONDS (0.5), and begins with
+ * another one. It prints the median of ROUNDS (9), and the median and the quartiles of the ratio to the choice without
  * protections.
  *
  * Build: cc -std=c11 -O2 -D_GNU_SOURCE -I include -I bindings/c bench/files.c bindings/c/aries_files.c

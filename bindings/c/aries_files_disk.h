@@ -54,10 +54,15 @@ static uint32_t crc_after(uint32_t crc, const uint8_t *at) {
            t[4][(crc >> 24 ^ at[3]) & 255] ^ t[3][at[4]] ^ t[2][at[5]] ^ t[1][at[6]] ^ t[0][at[7]];
 }
 
+static uint32_t crc_of_eights(uint32_t crc, const uint8_t *bytes, size_t count) {
+    for (; count > 0; count--, bytes += 8) crc = crc_after(crc, bytes);
+    return crc;
+}
+
+/* The CRC-32C of some bytes after bytes with this CRC. */
 static uint32_t crc32c(uint32_t crc, const uint8_t *bytes, size_t length) {
-    const uint8_t *end = bytes + length, *eights = end - length % 8;
-    for (crc = ~crc; bytes < eights; bytes += 8) crc = crc_after(crc, bytes);
-    for (; bytes < end; bytes++) crc = crc >> 8 ^ crc_tables[0][(crc ^ *bytes) & 255];
+    crc = crc_of_eights(~crc, bytes, length / 8);
+    for (size_t i = length - length % 8; i < length; i++) crc = crc >> 8 ^ crc_tables[0][(crc ^ bytes[i]) & 255];
     return ~crc;
 }
 

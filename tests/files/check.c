@@ -194,17 +194,20 @@ static int expect(const struct aries_files_opened *opened, struct expected *it) 
     return 1;
 }
 
+static int is_known(const char *name, const char *const *known) {
+    while (*known && strcmp(name, *known) != 0) known++;
+    return *known != NULL;
+}
+
 static int are_names(uint64_t base_lsn) {
     const char *names[32];
     char base[32], sums[32];
     snprintf(base, sizeof base, "base-%lu", (unsigned long)base_lsn);
     snprintf(sums, sizeof sums, "sums-%lu", (unsigned long)base_lsn);
-    const char *known[] = {"log", "store", "lock", "pages", sums, base};
-    for (int i = names_of(disk, names, 32) - 1, k; i >= 0; i--) {
-        for (k = 0; k < 6 && strcmp(names[i], known[k]) != 0; k++) continue;
-        if (k == 6) return wrong("%s is left", names[i]);
-    }
-    return 1;
+    const char *known[] = {"log", "store", "lock", "pages", sums, base, NULL};
+    int count = names_of(disk, names, 32);
+    while (count > 0 && is_known(names[count - 1], known)) count--;
+    return count == 0 || wrong("%s is left", names[count - 1]);
 }
 
 static int is_file(const char *name, const uint8_t *bytes, size_t length) {
@@ -232,13 +235,18 @@ static size_t after_frame(const struct expected *it, size_t end) {
     return end < it->length ? end + 4 + (size_t)number_at(it->log + end, 4) : end + 1;
 }
 
+static size_t same_bytes(const struct expected *it, const struct aries_files_opened *opened) {
+    size_t same = 0;
+    while (same < it->length && same < opened->log_length && it->log[same] == opened->log[same]) same++;
+    return same;
+}
+
 /* Whether the log is what a recovery makes of the first frames that were written, with all that were acknowledged. */
 static int is_log(const struct expected *it, const struct aries_files_opened *opened) {
-    size_t same = 0, end = it->log[7] == '2' ? 16 : 8;
-    while (same < it->length && same < opened->log_length && it->log[same] == opened->log[same]) same++;
+    size_t same = same_bytes(it, opened), end = it->acknowledged;
+    if (end == 0) end = it->log[7] == '2' ? 16 : 8;
     if (same < it->acknowledged)
         return wrong("acknowledged to byte %zu, right to %zu of %zu", it->acknowledged, same, opened->log_length);
-    while (end < it->acknowledged) end = after_frame(it, end);
     while (end <= same && !is_recovery_of(it, end, opened)) end = after_frame(it, end);
     return end <= same;
 }
