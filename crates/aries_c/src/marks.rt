@@ -61,18 +61,18 @@ pub extern "C" fn aries_log_begin(log: &[u8], mark: &mut Mark) -> Fault
     }
 }
 
-/// Writes the record after `mark` to `record`, and sets `mark` to after that record. Only the frame
+/// Writes the record after `mark` to `out`, and sets `mark` to after that record. Only the frame
 /// of this record is read. The mark has to be one of the log. 65: no whole record follows, since the
 /// log ends there, perhaps with a torn tail; 7 to 9: what follows is not a frame. Then `mark` and
-/// `record` are as before.
+/// `out` are as before.
 #[unsafe(no_mangle)]
-pub extern "C" fn aries_next_record(log: &[u8], mark: &mut Mark, record: &mut Record) -> Fault
-    ensures record { OnDone result (TellsNext log.now mark.old mark.new record.new) }
-    ensures lsn { OnDone result (record.new.lsn ≡ mark.old.lsn + 1) }
+pub extern "C" fn aries_next_record(log: &[u8], mark: &mut Mark, out: &mut Record) -> Fault
+    ensures record { OnDone result (TellsNext log.now mark.old mark.new out.new) }
+    ensures lsn { OnDone result (out.new.lsn ≡ mark.old.lsn + 1) }
     ensures within { OnDone result (mark.new.offset ≤ length log.now) }
     ensures end { OnNotWritable result (EndsAfter log.now (mark_of mark.old)) }
     ensures fault { OnFailed result (TellsWhy log.now mark.old result) }
-    ensures kept { OnFailed result ((mark.new ≡ mark.old) × (record.new ≡ record.old)) }
+    ensures kept { OnFailed result ((mark.new ≡ mark.old) × (out.new ≡ out.old)) }
 {
     let from = pieces::Mark {
         lsn: mark.lsn,
@@ -80,7 +80,7 @@ pub extern "C" fn aries_next_record(log: &[u8], mark: &mut Mark, record: &mut Re
     };
     match next_record(log, from) {
         Ok(Some((view, next))) => {
-            *record = Record::of(next.lsn, &view);
+            *out = Record::of(next.lsn, &view);
             *mark = mark_told(next);
             Fault::none()
         }
