@@ -141,6 +141,6 @@ plant("ring-unfit", "one sync: at opening, an entry that does not fit is not rep
       ("has_pieces || found->is_newer_unfit", "has_pieces"), runs=AGAIN)
 PIECE = "number_at(head + 8, 8) != files->entry || number_at(head + 16, 8) != end->end"
 plant("ring-number", "one sync: the entry of a piece is not compared", (PIECE, "number_at(head + 16, 8) != end->end"),
-      found=NEVER, runs=ONE)
+      found=RARE, runs=ONE)
 plant("ring-start", "one sync: the start of a piece is not compared", (PIECE, "number_at(head + 8, 8) != files->entry"),
-      found=NEVER, runs=ONE)
+      found=RARE, runs=ONE)
