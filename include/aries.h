@@ -282,7 +282,7 @@ struct aries_fault aries_next_record(const uint8_t *log, size_t log_length, stru
 
 /* Where a log ends, and what follows it. */
 struct aries_log_end {
-    uint64_t length;           /* so many bytes from the front are a log without a torn tail */
+    uint64_t length;           /* bytes from the front that are a log without a torn tail */
     uint64_t last_lsn;         /* the LSN of the last record in them; the base LSN if there is none */
     uint64_t torn;             /* bytes of a torn tail after them; 0 if none follows */
     struct aries_fault damage; /* 7 to 9 with `length` as place, if other bytes follow; else number 0 */

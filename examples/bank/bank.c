@@ -168,7 +168,7 @@ static bool is_dirty(const struct bank *bank, uint32_t page) {
     return page < bank->engine.pages_count && bank->engine.pages[page].rec_lsn != 0;
 }
 
-/* The images of the dirty ones of so many pages. The journal allows a page if the log is durable up to its PageLSN. */
+/* The images of the dirty pages among these. The journal allows a page if the log is durable up to its PageLSN. */
 static size_t make_images(const struct bank *bank, uint32_t first, uint32_t count, uint8_t *images) {
     size_t made = 0, length = 0;
     for (uint32_t page = first; page < first + count; page++) {

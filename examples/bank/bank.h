@@ -33,7 +33,7 @@ struct cell {
     uint8_t slot;
 };
 
-/* Opens the bank in this folder, with flags of aries_files_open. If there is none, one with so many pages is made. */
+/* Opens the bank in this folder, with flags of aries_files_open. If there is none, makes one of page_count pages. */
 void bank_open(struct bank *bank, const char *folder, uint32_t flags, uint32_t page_count);
 void bank_close(struct bank *bank);
 
@@ -60,7 +60,7 @@ void bank_commit(struct bank *bank, uint32_t tx);
 /* Makes all records so far durable. */
 void bank_sync(struct bank *bank);
 
-/* Writes the dirty ones of so many pages to the store, also with changes that are not committed. */
+/* Writes the dirty pages among `count` pages from `first` on to the store, also with uncommitted changes. */
 void bank_write_pages(struct bank *bank, uint32_t first, uint32_t count);
 /* Takes a fuzzy checkpoint: transactions may be running, and pages dirty. It makes the next redo shorter. */
 void bank_checkpoint(struct bank *bank);
