@@ -381,8 +381,8 @@ struct aries_fault aries_read_page(const uint8_t *image, size_t image_length, ui
  * the store has pages, and 1 to ARIES_TRANSACTIONS transaction entries. The array of pending updates limits how many
  * updates can be undone at a time. When it is full, an update first removes the entries that nobody needs any more; with
  * twice the room that is needed this costs little. Only aries_journal_new and aries_journal_open allocate memory. No
- * call reads the log again. If arrays are passed that are not those of a journal, what a call does is not specified; but it
- * returns, and touches no memory outside its arguments.
+ * call reads the log again. If arrays are passed that are not those of a journal, what a call does is not specified;
+ * but it returns, and touches no memory outside its arguments.
  *
  * FRAMES. A call that appends records writes their frames, *length bytes, to the front of out, and leaves the other
  * bytes unchanged. An update takes at most ARIES_FRAME_BYTES, an undo less, a turn 25, and a checkpoint 42 and 21

@@ -67,7 +67,7 @@ struct engine {
 /* Continues from what was opened. */
 void continue_engine(struct engine *engine);
 
-/* Takes `steps` steps, with at most `transactions` of these at a time. Returns 0, or the number that stopped it. */
+/* Takes `steps` steps, with at most `transactions` transactions at a time. Returns 0, or the number that stopped it. */
 int run_engine(struct engine *engine, int steps, int transactions);
 
 /* Encodes the pages as a store with master 0. */
