@@ -16,6 +16,7 @@ ghost use Rattle.words.specs.declared.refusal.Refusal.TheVariants.{Memory};
 use crate::help;
 use clap::error::ErrorKind;
 use clap::{Arg, ArgMatches, Command, value_parser};
+use page::VERSION;
 use redo::{PARTS, WORKERS};
 use restart::Options;
 use std::alloc::{AllocError, Global};
@@ -162,7 +163,7 @@ fn aries_command<'a>(alloc: Global) -> Result<Command<'a>, AllocError>
     ensures { IfOk result (λ c. app_of c ≡ aries_line) }
 {
     Command::new(alloc, "aries")
-        .version("0.1.0")
+        .version(VERSION)
         .about("Crash recovery that is proved")
         .after_help(help::ARIES)
         .subcommand_required(true)

@@ -10,6 +10,7 @@ ghost use Rattle.words.specs.declared.refusal.Refusal.TheVariants.{Memory};
 
 use clap::error::ErrorKind;
 use clap::{Arg, ArgMatches, Command, value_parser};
+use page::VERSION;
 use std::alloc::{AllocError, Global};
 use words::{Refusal, flag_of, flag_option, no_command};
 
@@ -104,7 +105,7 @@ fn dump_command<'a>(alloc: Global) -> Result<Command<'a>, AllocError>
     ensures { IfOk result (λ c. app_of c ≡ dump_line) }
 {
     Command::new(alloc, "aries_dump")
-        .version("0.1.0")
+        .version(VERSION)
         .about("Print what a log or a store holds, a line for each record or page")
         .subcommand_required(true)
         .subcommand(log_command(alloc)?)?

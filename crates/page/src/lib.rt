@@ -26,7 +26,7 @@ pub use page::Page;
 pub use pieces::{StoreReader, decode_store};
 pub use profile::{
     BASED_LOG_MAGIC, CellNumber, LOG_MAGIC, PAGE_BYTES, PAGES, SLOTS, STORE_MAGIC, TRANSACTIONS,
-    VALUE_BYTES,
+    VALUE_BYTES, VERSION,
 };
 pub use sizes::{MAGIC_BYTES, STORE_HEADER_BYTES};
 pub use store::Store;

@@ -2,6 +2,9 @@
 //! the same code everywhere else. What the numbers have to keep is proved in `laws.rt`, here and in
 //! `wal`.
 
+/// The version of the programs. It names the profile, unless that is the default.
+pub const VERSION: &str = "0.1.0";
+
 /// How many pages a store has at most.
 pub const PAGES: usize = 4096;
 
