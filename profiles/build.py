@@ -1,12 +1,13 @@
 #!/usr/bin/env python3
 """Proves and builds the crates with the limits of another profile.
 
-usage: profiles/build.py NAME           proves all crates of the programs and of the C library, and builds both programs
+usage: profiles/build.py NAME           proves all crates of the programs and of the C library, builds them, and tests them
        profiles/build.py NAME CRATE..   proves these crates, and those that they use
 
 The tracked files are copied to out/NAME; what an earlier run proved there is kept. The profile, `profiles/NAME.profile`, takes the place of
 `crates/page/src/profile.rt`, and nothing else is changed. The header of the C library with the sizes of the profile is made in
-out/NAME/include. The last line says which crates are proved; the status is 1 if one is not.
+out/NAME/include. The tests are the worked rows with the magics and the pages of the profile, and the bank, which is killed. The last line
+says which crates are proved; the status is 1 if one is not, or if a test fails.
 """
 import os
 import re
@@ -14,8 +15,13 @@ import shutil
 import subprocess
 import sys
 
+sys.dont_write_bytecode = True  # no folder of it beside the scripts
+from row_files import wrong_rows
+
 TOP = os.path.dirname(os.path.dirname(os.path.abspath(__file__)))
 PROGRAMS = ("aries_cli", "aries_dump")
+ROW_RUNNER, LIBRARY = "rows", "aries_c"
+KILLS = 300
 PROFILE = "crates/page/src/profile.rt"
 HEADER = "include/aries.h"
 # The sizes that the header has, by their names in a profile. It makes its other sizes of these.
@@ -85,6 +91,31 @@ def is_proved(folder, crate):
     return proved
 
 
+def built_program(folder, crate, words):
+    """The program of a crate that is proved, once it has run with these words."""
+    subprocess.run(["rt", "run", "--", *words], cwd=os.path.join(folder, "crates", crate), check=bool(words), stdout=None if words else subprocess.DEVNULL)
+    return os.path.join(folder, "crates", crate, "out", crate)
+
+
+def are_rows_right(name, folder):
+    count, wrong = wrong_rows(built_program(folder, ROW_RUNNER, []), os.path.join(folder, "rows"), f"profiles/{name}.profile")
+    print(f"rows: {count - len(wrong)} of {count} as they are to be", *wrong[:20], sep="\n", flush=True)
+    return not wrong
+
+
+def is_bank_right(folder):
+    """Builds the bank over the library and the header of the profile, and kills it."""
+    subprocess.run(["rt", "lib"], cwd=os.path.join(folder, "crates", LIBRARY), check=True)
+    bank, bindings = os.path.join(TOP, "examples/bank"), os.path.join(TOP, "bindings/c")
+    sources = [os.path.join(bank, file) for file in sorted(os.listdir(bank)) if file.endswith(".c")]
+    sources += [os.path.join(bindings, file) for file in ("aries_files.c", "heap.c")]
+    program, archive = os.path.join(folder, "bank"), os.path.join(folder, f"crates/{LIBRARY}/out/lib{LIBRARY}.a")
+    words = ["-std=c11", "-D_POSIX_C_SOURCE=200809L", "-O2", "-I", os.path.join(folder, "include"), "-I", bindings]
+    subprocess.run(["cc", *words, "-o", program, *sources, archive], check=True)
+    aries = os.path.join(folder, "crates/aries_cli/out/aries_cli")
+    return subprocess.run([sys.executable, os.path.join(bank, "drive.py"), "--kills", str(KILLS), "--aries", aries, program]).returncode == 0
+
+
 def main():
     if len(sys.argv) < 2:
         sys.exit(__doc__)
@@ -93,15 +124,19 @@ def main():
     folder = os.path.join(TOP, "out", name)
     copy_to(folder, profile)
     make_header(folder, profile)
-    crates = crates_below(wanted or [*PROGRAMS, "aries_c"])
+    crates = crates_below(wanted or [*PROGRAMS, ROW_RUNNER, LIBRARY])
     proved = []
     for crate in crates:
         if not is_proved(folder, crate):
             sys.exit(f"{len(proved)} of {len(crates)} crates are proved with the profile {name}: {' '.join(proved)}")
         proved.append(crate)
-    for program in () if wanted else PROGRAMS:
-        subprocess.run(["rt", "run", "--", "--version"], cwd=os.path.join(folder, "crates", program), check=True)
+    is_well = True
+    if not wanted:
+        for program in PROGRAMS:
+            built_program(folder, program, ["--version"])
+        is_well = are_rows_right(name, folder) & is_bank_right(folder)
     print(f"all {len(crates)} crates are proved with the profile {name}: {' '.join(proved)}")
+    sys.exit(0 if is_well else "a test failed")
 
 
 if __name__ == "__main__":

@@ -1,6 +1,6 @@
 #!/usr/bin/env python3
 """Runs the proved programs as they are: on rows of real size, on logs that are read in two parts, on the small rows in version 2, with threads counted, with
-files that are missing or stand already, with wrong lines, with --verbose, in place with kills and power cuts, after an engine was killed or lost power, in
+files that are missing, stand already, or are of another profile, with wrong lines, with --verbose, in place with kills and power cuts, after an engine was killed or lost power, in
 pieces and in memory, with each byte of a row another one, with prints that fail, and with each growth of memory refused in turn. And looks whether the documents
 and the man pages are true of them, whether each wrong body that the prover must refuse can still be applied, and whether a workload takes more instructions than
 it may.
@@ -35,6 +35,9 @@ from program import ARIES, LARGE_ROWS, SMALL_ROWS, TOP, Row, Tally, bytes_of, ha
 from prose import check_prose
 from sizes import check_sizes
 from spoiled import check_spoiled
+
+sys.path.append(os.path.join(TOP, "profiles"))
+from row_files import PROFILE, Profile, in_profile
 
 ROW_RUNNER = os.path.join(TOP, "crates/rows/out/rows")
 REFUSED_ROWS = ["one-commit", "two-losers", "checkpoint-loser", "prepared-beside-loser", "empty-and-full-values", "ten-pages"]
@@ -386,6 +389,16 @@ def check_profile(tally):
     tally.say("page is proved with the wide profile", ran.returncode == 0, ran.stdout + ran.stderr)
 
 
+def check_files_of_another_profile(tally, room):
+    row, profiles = Row(os.path.join(SMALL_ROWS, "base-loser"), room), (Profile(PROFILE), Profile("profiles/wide.profile"))
+    for name, line in (("log", b"fault 6: bad log header\n"), ("store", b"fault 10: bad store header\n")):
+        path = os.path.join(room, f"wide {name}")
+        with open(path, "wb") as file:
+            file.write(in_profile(bytes_of(row.at(name)), *profiles))
+        tally.say(f"recovery of a {name} of the wide profile", has_refused(row.recover(**{name: path}), line) and row.is_nothing_out())
+        tally.say(f"audit of a {name} of the wide profile", has_refused(row.audit(**{name: path}), line))
+
+
 def main():
     for program in (ARIES, ENGINE, ROW_RUNNER):
         if not os.path.exists(program):
@@ -407,6 +420,7 @@ def main():
         check_version_2(tally, room)
         check_threads(tally, room)
         check_files(tally, room)
+        check_files_of_another_profile(tally, room)
         check_missing_files(tally, room)
         check_words(tally, room)
         check_operation(tally, room)

@@ -40,6 +40,7 @@ OTHER = {
     "dump/src/record.rt": {16: "bytes of a name"},
     "dump_command/proofs/job/lsn_of/Answers.antt": {64: "bits of an LSN"},
     "journal/src/owned.rt": {1024: "pending updates that there is room for at first"},
+    "journal/src/table.rt": {4096: "pending updates that are looked at together"},
     "page/proofs/BigEndian.antt": {16: "bytes of three numbers"},
     "page/specs/Fault.antt": {15: "the number of a fault", 16: "the same", 17: "the same"},
     "page/src/fault.rt": {15: "the number of a fault", 16: "the same", 17: "the same"},

@@ -3,7 +3,7 @@ use Rattle.std.proofs.Common.{◌≡◌, ◌≢◌, ◌<◌, ◌≤◌, ◌+◌,
 use Rattle.std.specs.Prelude.{◌⊎◌, All, filter, is_some}
 use Rattle.std.specs.List.{remove}
 use Rattle.std.proofs.lemmas.Bool.{cases_lt, cases_Bool}
-use Rattle.std.proofs.lemmas.List.{get_or-take, get_or-drop, get_or_default, length-set, length-take-le, take_more_set, take_all, length-map, length-drop, map-set}
+use Rattle.std.proofs.lemmas.List.{get_or-take, get_or-drop, get_or_default, length-set, length-take-le, take_more_set, length-map, length-drop, map-set}
 use Rattle.std.proofs.lemmas.List.Elements.{All-weaker, All-push, All-drop}
 use Rattle.page.specs.Image.{Image as Content}
 use Rattle.page.specs.declared.page.Page.{Page}
@@ -27,7 +27,7 @@ use Rattle.journal.specs.PageStates.{IsCurrent}
 use Rattle.journal.specs.Arrays.{bound_of, image_of, page_of, page_state_of, state_of, update_of, kept_of, pending_of, is_live, NoneBy, IsTable, AreUsed, AreArrays, weight, owed, OwesLess, IsRoomMade, updated, undone, in_state, without_owner}
 use Rattle.journal.specs.State.{Agrees, IsJournal, update_by, IsUndo, plain_by}
 use Rattle.journal.proofs.Tables.{standing, kept_at, kept_push, table_push}
-use Rattle.journal.proofs.Stacks.{pending_none, pending_push, pending_push_other, undone_other, undone_count}
+use Rattle.journal.proofs.Stacks.{pending_none, pending_push, pending_push_other, undone_other, undone_count, length_left}
 use Rattle.journal.proofs.Owed.{owed_push, owed_set, owed_some, owed_bound, weight_some, left_less, own_count}
 use Rattle.journal.proofs.Used.{take_set, apart, was, turns, turned_used, updates_used, updates_changes, newest_one, undoes_changes, undoes_used, gone_used, gone_kept, left_used, left_kept}
 use Rattle.journal.proofs.Refused.{is_working, not_aborting, not_prepared, still_pending, pending_cell}
@@ -506,24 +506,30 @@ module _ (base : BasePages) (run : Run) (head : Head) (ts : List TransactionEntr
       ys_size : length ys ≡ top
       ys_size = length-take-le top more (omega (arith, top_in, size_more))
 
+      same_front : (top ≡ head.pending) × (more ≡ ps) → ys ≡ xs
+      same_front m = ap (take top) m.1 ∙ ap (λ n. take n ps) m.0
+
       ys_used : AreUsed head.next es ys
       ys_used =
           elim made [
             | inl m ↦ subst (AreUsed head.next es) (sym (same_front m)) h.arrays.used
-            | inr m ↦ subst (AreUsed head.next es) (sym (filtered m)) (left_used head.next es xs h.arrays.used)
+            | inr m ↦ subst (AreUsed head.next es) (sym m.1) (left_used head.next es xs h.arrays.used m.0)
           ]
-        where
-          same_front : (top ≡ head.pending) × (more ≡ ps) → ys ≡ xs
-          same_front m = ap (take top) m.1 ∙ ap (λ n. take n ps) m.0
-
-          filtered : (head.pending ≡ length ps) × (take top more ≡ filter (is_live es) ps) → ys ≡ filter (is_live es) xs
-          filtered m = m.1 ∙ ap (filter (is_live es)) (sym (take_all head.pending ps (omega (arith, m.0))))
 
       pub ys_kept : (t : ℕ) → kept_of es ys t ≡ kept t
       ys_kept t =
           elim made [
-            | inl m ↦ ap (λ z. kept_of es z t) (ap (take top) m.1 ∙ ap (λ n. take n ps) m.0)
-            | inr m ↦ ap (λ z. kept_of es z t) (m.1 ∙ ap (filter (is_live es)) (sym (take_all head.pending ps (omega (arith, m.0))))) ∙ left_kept head.next es xs h.arrays.used t
+            | inl m ↦ ap (λ z. kept_of es z t) (same_front m)
+            | inr m ↦ ap (λ z. kept_of es z t) m.1 ∙ left_kept head.next es xs h.arrays.used m.0 t
+          ]
+
+      few_ys : length ys ≤ head.pending
+      few_ys =
+          elim made [
+            | inl m ↦ omega (arith, m.0, ys_size)
+            | inr m ↦
+                (let size : length xs ≡ head.pending = length-take-le head.pending ps h.arrays.pending_room in
+                omega (arith, size, ap length m.1, length_left (is_live es) m.0 xs))
           ]
 
       ys_stands : Agrees base run head.last head.next (kept_of es ys) (map page_state_of pages)
@@ -574,6 +580,5 @@ module _ (base : BasePages) (run : Run) (head : Head) (ts : List TransactionEntr
                   let one = pending_push own.tx ys entry (sym found) in
                   let more_one = ap (λ (ps : List Pending). length ps) one ∙ length-append (pending_of own.tx ys) (update_of entry ∷ []) in
                   let bound' = owed_bound es ys h.arrays.used.table.rising in
-                  let few_ys : length ys ≤ head.pending = elim made [ inl m ↦ omega (arith, m.0, ys_size) | inr m ↦ omega (arith, m.0, ys_size, top_in) ] in
                   omega (arith, a, b, o, more_one, is, bound', few_ys, size, enough));
             }

@@ -6,7 +6,7 @@ use Rattle.std.proofs.lemmas.Bool.{cases_Bool, cases_lt, both_ways, false_from_n
 use Rattle.std.proofs.lemmas.List.{get_or-take, get_or-drop, length-take-le, length-drop, length-map, take_more_set, take_all}
 use lib.ListN.{length-reverse}
 use Rattle.std.proofs.lemmas.List.Edits.{get_or-insert_at}
-use Rattle.std.proofs.lemmas.List.Elements.{All-weaker, All-push, All-set, All-filter}
+use Rattle.std.proofs.lemmas.List.Elements.{All-weaker, All-push, All-set}
 use Rattle.page.specs.declared.profile.TheConstants.{TRANSACTIONS}
 use Rattle.wal.specs.Records.{start, UpdateRecord, CompensationRecord, PlainRecord, LogRecord, Update, Compensation, Commit, End, History, ◌▸◌, last_lsn}
 use Rattle.wal.specs.Meaning.{BasePages, is_of, has, finished, is_unfinished, pending}
@@ -21,7 +21,7 @@ use Rattle.journal.specs.Opened.{pending_count}
 use Rattle.journal.specs.Scan.{IsScan, fresh, IsEntered, IsLeft, IsKeptOf, NoteRefused}
 use Rattle.journal.proofs.Tables.{standing, kept_nil, kept_at, kept_none, kept_insert, table_insert, All-insert, All-remove}
 use Rattle.journal.proofs.Stacks.{pending_none}
-use Rattle.journal.proofs.Used.{take_set, turns, turned_used, updates_used, updates_changes, undoes_changes, undoes_used, gone_used, gone_kept, left_used, left_kept, none_behind}
+use Rattle.journal.proofs.Used.{take_set, turns, turned_used, updates_used, updates_changes, undoes_changes, undoes_used, gone_used, gone_kept, All-left, left_used, left_kept, none_behind}
 use Rattle.journal.proofs.Changed.{noted}
 use Rattle.journal.proofs.Begun.{begun}
 use Rattle.journal.proofs.Transactions.{none_pending}
@@ -259,17 +259,14 @@ module _ (base : BasePages) (log : History) (lsn next : ℕ) (ts : List Transact
         front : (top ≡ m) × (more ≡ ps) → ys ≡ xs
         front s = ap (take top) s.1 ∙ ap (λ i. take i ps) s.0
 
-        filtered : (m ≡ length ps) × (take top more ≡ filter (is_live fs) ps) → ys ≡ filter (is_live fs) xs
-        filtered s = s.1 ∙ ap (filter (is_live fs)) (sym (take_all m ps (omega (arith, s.0))))
-
         ys_used : AreUsed above fs ys
-        ys_used = elim made [ inl s ↦ subst (AreUsed above fs) (sym (front s)) fs_used | inr s ↦ subst (AreUsed above fs) (sym (filtered s)) (left_used above fs xs fs_used) ]
+        ys_used = elim made [ inl s ↦ subst (AreUsed above fs) (sym (front s)) fs_used | inr s ↦ subst (AreUsed above fs) (sym s.1) (left_used above fs xs fs_used s.0) ]
 
         ys_kept : (t : ℕ) → kept_of fs ys t ≡ kept_of fs xs t
-        ys_kept t = elim made [ inl s ↦ ap (λ z. kept_of fs z t) (front s) | inr s ↦ ap (λ z. kept_of fs z t) (filtered s) ∙ left_kept above fs xs fs_used t ]
+        ys_kept t = elim made [ inl s ↦ ap (λ z. kept_of fs z t) (front s) | inr s ↦ ap (λ z. kept_of fs z t) s.1 ∙ left_kept above fs xs fs_used s.0 t ]
 
         ys_logged : All (IsLogged log) ys
-        ys_logged = elim made [ inl s ↦ subst (All (IsLogged log)) (sym (front s)) h.logged | inr s ↦ subst (All (IsLogged log)) (sym (filtered s)) (All-filter (is_live fs) (IsLogged log) xs h.logged) ]
+        ys_logged = elim made [ inl s ↦ subst (All (IsLogged log)) (sym (front s)) h.logged | inr s ↦ subst (All (IsLogged log)) (sym s.1) (All-left (IsLogged log) xs h.logged fs s.0) ]
 
         ys_entry : HasEntry kept (kept_of fs ys) tx
         ys_entry = record { first = has_entry.first; was = has_entry.was; is = ys_kept tx ∙ has_entry.is; others = λ t e. ys_kept t ∙ has_entry.others t e }

@@ -2,8 +2,8 @@
 use Rattle.std.proofs.Common.{◌≡◌, ◌≢◌, ◌<◌, ◌≤◌, ◌+◌, ◌-◌, ℕ, zero, suc, Bool, true, false, List, [], ◌∷◌, ◌++◌, length, get_or, set, take, drop, map, refl, sym, ap, ap₂, ◌∙◌, inl, inr, arith, eqb, eq-eqb, ne_eqb, eqb-true, append-nil}
 use Rattle.std.specs.Prelude.{filter}
 use Rattle.std.proofs.lemmas.Bool.{cases_Bool, eqb-false}
-use Rattle.std.proofs.lemmas.List.{map-append, set-get_or, set_split, take_at, length_push}
-use Rattle.std.proofs.lemmas.List.Elements.{All-tail, All-nil, All-filter, filter-append}
+use Rattle.std.proofs.lemmas.List.{map-append, set-get_or, set_split, take_at, length_push, length-append, take-append-drop}
+use Rattle.std.proofs.lemmas.List.Elements.{All-tail, All-nil, All-cons, All-filter, filter-append}
 use Rattle.journal.specs.declared.entries.PendingEntry.{PendingEntry}
 use Rattle.journal.specs.Transactions.{Pending}
 use Rattle.journal.specs.Arrays.{update_of, is_by, pending_of, NoneBy, without_owner}
@@ -116,3 +116,24 @@ none_filter f t (suc n) (p ∷ ps) h =
     further m [] g = All-nil (λ (q : PendingEntry). q.tx ≢ t)
     further zero (q ∷ qs) g = All-tail (λ (x : PendingEntry). x.tx ≢ t) q qs g
     further (suc m) (q ∷ qs) g = further m qs g
+
+-- from a place on
+pub pending_left : (f : PendingEntry → Bool) (t : ℕ) → ((p : PendingEntry) → p.tx ≡ t → f p ≡ true) → (from : ℕ) (ps : List PendingEntry)
+    → pending_of t (take from ps ++ filter f (drop from ps)) ≡ pending_of t ps
+pending_left f t keeps from ps =
+    pending_append t (take from ps) (filter f (drop from ps)) ∙ ap (λ (xs : List Pending). pending_of t (take from ps) ++ xs) (pending_filter f t keeps (drop from ps))
+    ∙ sym (pending_append t (take from ps) (drop from ps)) ∙ ap (pending_of t) (take-append-drop from ps)
+
+pub none_left : (f : PendingEntry → Bool) (t n from : ℕ) (ps : List PendingEntry) → NoneBy t (drop n ps) → NoneBy t (drop n (take from ps ++ filter f (drop from ps)))
+none_left f t n zero ps h = none_filter f t n ps h
+none_left f t n (suc from) [] h = h
+none_left f t zero (suc from) (p ∷ ps) h =
+    All-cons (λ (q : PendingEntry). q.tx ≢ t) p (take from ps ++ filter f (drop from ps)) (h 0 p (omega arith))
+    (none_left f t zero from ps (All-tail (λ (q : PendingEntry). q.tx ≢ t) p ps h))
+none_left f t (suc n) (suc from) (p ∷ ps) h = none_left f t n from ps h
+
+pub length_left : (f : PendingEntry → Bool) (from : ℕ) (ps : List PendingEntry) → length (take from ps ++ filter f (drop from ps)) ≤ length ps
+length_left f from ps =
+    let left = length-append (take from ps) (filter f (drop from ps)) in
+    let whole = sym (length-append (take from ps) (drop from ps)) ∙ ap length (take-append-drop from ps) in
+    omega (arith, left, whole, length_filter f (drop from ps))

@@ -4,13 +4,13 @@ use Rattle.std.specs.Prelude.{All, filter}
 use Rattle.std.specs.List.{remove}
 use Rattle.std.proofs.lemmas.Bool.{cases_eq, cases_lt, cases_order, eqb-false}
 use Rattle.std.proofs.lemmas.List.{get_or-set_same, get_or-set_other, length-set, get_or-drop, drop_all, length_push, length-drop, get_or_default}
-use Rattle.std.proofs.lemmas.List.Elements.{All-nil, All-cons, All-push, All-set, All-filter}
+use Rattle.std.proofs.lemmas.List.Elements.{All-nil, All-cons, All-push, All-set, All-filter, All-append, All-take, All-drop}
 use Rattle.journal.specs.declared.entries.TransactionEntry.{TransactionEntry}
 use Rattle.journal.specs.declared.entries.PendingEntry.{PendingEntry}
 use Rattle.journal.specs.Transactions.{Transaction, Changes, HasUpdated, HasUndone, HasChangedState, IsNewest}
-use Rattle.journal.specs.Arrays.{update_of, state_of, pending_of, kept_of, Ascends, is_live, NoneBy, AreUsed, updated, undone, in_state, without_owner}
+use Rattle.journal.specs.Arrays.{update_of, state_of, pending_of, kept_of, Ascends, is_live, left_from, NoneBy, AreUsed, updated, undone, in_state, without_owner}
 use Rattle.journal.proofs.Tables.{standing, rises_at, table_set, table_remove, All-remove, kept_at, kept_set, kept_none, kept_where, kept_remove, kept_pending, live_at}
-use Rattle.journal.proofs.Stacks.{pending_push, pending_push_other, pending_filter, none_filter, newest_is, undone_own, undone_other}
+use Rattle.journal.proofs.Stacks.{pending_push, pending_push_other, pending_left, none_left, newest_is, undone_own, undone_other}
 
 -- LISTS
 pub take_set : {X : Type 0} (n : ℕ) (xs : List X) (i : ℕ) (a : X) → i < n → take n (set xs i a) ≡ set (take n xs) i a
@@ -198,17 +198,21 @@ module _ (next : ℕ) (es : List TransactionEntry) (ps : List PendingEntry) (h :
   pub gone_kept : (t : ℕ) → kept_of (remove es i) ps t ≡ cond (eqb tx t) None (kept_of es ps t)
   gone_kept t = kept_remove es ps i d tx h.table.rising lt own t
 
--- WHAT IS NOT NEEDED is removed
-module _ (next : ℕ) (es : List TransactionEntry) (ps : List PendingEntry) (h : AreUsed next es ps) where
+-- WHAT IS NOT NEEDED is removed, from a place on
+pub All-left : (P : PendingEntry → Type 0) (ps : List PendingEntry) → All P ps → (es : List TransactionEntry) (from : ℕ) → All P (left_from es from ps)
+All-left P ps h es from =
+    All-append P (take from ps) (filter (is_live es) (drop from ps)) (All-take P from ps h) (All-filter (is_live es) P (drop from ps) (All-drop P from ps h))
+
+module _ (next : ℕ) (es : List TransactionEntry) (ps : List PendingEntry) (h : AreUsed next es ps) (from : ℕ) where
   abbrev left : List PendingEntry
-  left = filter (is_live es) ps
+  left = left_from es from ps
 
   pub left_used : AreUsed next es left
   left_used =
       record {
         table = h.table;
-        known = All-filter (is_live es) (λ (p : PendingEntry). p.tx < next) ps h.known;
-        below = λ k f l. none_filter (is_live es) (get_or es k f).tx (get_or es k f).below ps (h.below k f l);
+        known = All-left (λ (p : PendingEntry). p.tx < next) ps h.known es from;
+        below = λ k f l. none_left (is_live es) (get_or es k f).tx (get_or es k f).below from ps (h.below k f l);
       }
 
   pub left_kept : (t : ℕ) → kept_of es left t ≡ kept_of es ps t
@@ -228,7 +232,7 @@ module _ (next : ℕ) (es : List TransactionEntry) (ps : List PendingEntry) (h :
       by_kept None e = by_left (kept_of es left t) refl e ∙ sym e
       by_kept (Some x) e =
           (let at = kept_where es ps t x e in
-          kept_pending es ps left t (pending_filter (is_live es) t (λ p own. live_at es at.0 blank p at.1 (at.2 blank ∙ sym own)) ps))
+          kept_pending es ps left t (pending_left (is_live es) t (λ p own. live_at es at.0 blank p at.1 (at.2 blank ∙ sym own)) from ps))
 
 -- THE NEWEST of a transaction's updates is searched for before its place
 module _ (next : ℕ) (es : List TransactionEntry) (ps : List PendingEntry) (h : AreUsed next es ps) (i : ℕ) (d : TransactionEntry) (lt : i < length es) (tx : ℕ) (own : (get_or es i d).tx ≡ tx)

@@ -1,5 +1,5 @@
 -- What the arrays of a journal mean (own).
-use Rattle.std.specs.Prelude.{◌≡◌, ◌≢◌, ◌≤◌, ◌<◌, ◌+◌, ◌^◌, ◌⊎◌, ◌==◌, nat_le, min, ⊤, ℕ, Bool, true, List, [], ◌∷◌, length, take, drop, map, filter, All, Option, Some, None, if◌then◌else◌}
+use Rattle.std.specs.Prelude.{◌≡◌, ◌≢◌, ◌≤◌, ◌<◌, ◌+◌, ◌^◌, ◌⊎◌, ◌==◌, nat_le, min, ⊤, ℕ, Bool, true, List, [], ◌∷◌, ◌++◌, length, take, drop, map, filter, All, Option, Some, None, if◌then◌else◌}
 use Rattle.std.specs.List.{list_any}
 use Rattle.std.specs.Map.{lookup}
 use Rattle.std.specs.Ordering.{is_eq, nat_cmp}
@@ -122,10 +122,14 @@ OwesLess es ps fs qs = owed fs qs + 1 ≤ owed es ps
 abbrev pub HasReserve : Head → List TransactionEntry → List PendingEntry → Type 0
 HasReserve head ts ps = head.last + owed (take head.transactions ts) (take head.pending ps) < 2 ^ 64
 
--- ROOM for one more pending update: there was room, or the updates that are not needed any more were removed
+-- ROOM for one more pending update: there was room, or the updates that are not needed any more were removed, those at some place and
+-- after it
+abbrev pub left_from : List TransactionEntry → (from : ℕ) → List PendingEntry → List PendingEntry
+left_from es from ps = take from ps ++ filter (is_live es) (drop from ps)
+
 abbrev pub IsRoomMade : List TransactionEntry → (count top : ℕ) → (before after : List PendingEntry) → Type 0
 IsRoomMade es count top before after =
-    ((top ≡ count) × (after ≡ before)) ⊎ ((count ≡ length before) × (take top after ≡ filter (is_live es) before))
+    ((top ≡ count) × (after ≡ before)) ⊎ ((from : ℕ) × (take top after ≡ left_from es from (take count before)))
 
 abbrev pub IsNoRoom : List TransactionEntry → (count : ℕ) → List PendingEntry → Refusal → Type 0
 IsNoRoom es count ps NoPendingRoom = (count ≡ length ps) × (IsTable es → AllLive es ps)

@@ -1,6 +1,6 @@
 //! `Journal`: a journal that owns its arrays, and keeps the frames until they are taken.
 
-ghost use Rattle.std.specs.Prelude.{◌≡◌, ◌≤◌, ◌<◌, ◌+◌, ◌*◌, ◌⊎◌, ℕ, [], ◌++◌, max, length, take, false, OnOk, OnErr, IfOk, IfErr, IfSome, Option, None, IsOkUnless};
+ghost use Rattle.std.specs.Prelude.{◌≡◌, ◌≤◌, ◌<◌, ◌+◌, ◌*◌, ◌⊎◌, ℕ, [], ◌++◌, max, length, take, true, false, OnOk, OnErr, IfOk, IfErr, IfSome, Option, None, IsOkUnless};
 ghost use Rattle.page.specs.declared.profile.TheConstants.{TRANSACTIONS};
 ghost use Rattle.wal.specs.Records.{Commit, Abort, End, Prepare, last_lsn, history};
 ghost use Rattle.wal.specs.Meaning.{BasePages, is_of, has, pending};
@@ -141,14 +141,13 @@ fn make_pending_room(
     Ok(())
 }
 
-/// How many pending updates were needed when the array was last full. So many were before an update;
-/// there were `held` entries in use before it, and `now` are in use. If these are not more, the array
-/// was full, and only what is needed was kept.
-fn needed_after(needed: usize, held: usize, now: usize) -> usize
-    ensures full { now ≤ held → result ≡ now }
-    ensures same { held < now → result ≡ needed }
+/// How many pending updates were needed when the array was last full. So many were before an update,
+/// and `now` are in use after it. If the array was full before it, only what is needed was kept.
+fn needed_after(needed: usize, was_full: bool, now: usize) -> usize
+    ensures full { was_full ≡ true → result ≡ now }
+    ensures same { was_full ≡ false → result ≡ needed }
 {
-    if now <= held { now } else { needed }
+    if was_full { now } else { needed }
 }
 
 /// An array of blank entries for each of so many pages.
@@ -440,6 +439,7 @@ impl Journal {
         let entries = &self.transactions[..self.head.transactions];
         let held = self.head.pending;
         make_pending_room(entries, &mut self.pending, held, self.needed)?;
+        let was_full = held == self.pending.len();
         let rollback = make_room(
             &mut self.buffer,
             self.length,
@@ -457,7 +457,7 @@ impl Journal {
             &Image::of(&after),
             &mut self.buffer[self.length..],
         )?;
-        self.needed = needed_after(self.needed, held, self.head.pending);
+        self.needed = needed_after(self.needed, was_full, self.head.pending);
         self.length += size;
         self.reserved = rollback;
         Ok(self.head.last)

@@ -6,11 +6,18 @@ ghost use Rattle.journal.specs.declared.refusal.Refusal.TheVariants.{BadArrays};
 ghost use Rattle.journal.specs.declared.entries.TransactionEntry.{TransactionEntry};
 ghost use Rattle.journal.specs.declared.entries.PendingEntry.{PendingEntry};
 ghost use Rattle.journal.specs.Refusals.{allows, EntryRefused, IsNotRoom};
-ghost use Rattle.journal.specs.Arrays.{state_of, kept_of, IsTable, is_live, AllLive, IsRoomMade, IsNoRoom, bound_of, updated, undone, in_state, without_owner};
+ghost use Rattle.journal.specs.Arrays.{state_of, kept_of, IsTable, is_live, AllLive, left_from, IsRoomMade, IsNoRoom, bound_of, updated, undone, in_state, without_owner};
 
 use crate::entries::{PendingEntry, TransactionEntry};
 use crate::refusal::Refusal;
 use wal::State;
+
+/// At every multiple of so many pending updates, the newest of them are looked at: they may not be
+/// needed any more.
+const RECENT: usize = 4096;
+
+/// One in so many of them is looked at first.
+const SAMPLED: usize = 8;
 
 /// The states in which a transaction may do an operation.
 #[derive(Clone, Copy)]
@@ -219,17 +226,17 @@ pub fn has_dead(entries: &[TransactionEntry], pending: &[PendingEntry]) -> bool
     first_dead(entries, pending).is_some()
 }
 
-/// Removes the updates that are not needed any more, the first of which is at the place `dead`.
+/// Removes the updates that are not needed any more. The first of these updates is one of them.
 /// Returns how many are left. These are at the front, in the same order.
-fn compact(entries: &[TransactionEntry], pending: &mut [PendingEntry], dead: usize) -> usize
-    requires { dead < length pending.old }
+fn compact(entries: &[TransactionEntry], pending: &mut [PendingEntry]) -> usize
+    requires { 0 < length pending.old }
     ensures within { result < length pending.old }
-    ensures kept { IsTable entries.now → AllLive entries.now (take dead pending.old)
-        → ((d : PendingEntry) → is_live entries.now (slice_index_or pending.old dead d) ≡ false)
+    ensures kept { IsTable entries.now
+        → ((d : PendingEntry) → is_live entries.now (slice_index_or pending.old 0 d) ≡ false)
         → take result pending.new ≡ filter (is_live entries.now) pending.old }
 {
-    let mut kept = dead;
-    for place in dead + 1..pending.len() {
+    let mut kept = 0;
+    for place in 1..pending.len() {
         let update = pending[place];
         if is_listed(entries, update.tx) {
             pending[kept] = update;
@@ -239,9 +246,51 @@ fn compact(entries: &[TransactionEntry], pending: &mut [PendingEntry], dead: usi
     kept
 }
 
+/// Removes the updates that are not needed any more: the one at the place `dead`, and those after it.
+/// Returns how many updates are left.
+fn compact_from(entries: &[TransactionEntry], pending: &mut [PendingEntry], dead: usize) -> usize
+    requires { dead < length pending.old }
+    ensures within { result < length pending.old }
+    ensures kept { IsTable entries.now
+        → ((d : PendingEntry) → is_live entries.now (slice_index_or pending.old dead d) ≡ false)
+        → take result pending.new ≡ left_from entries.now dead pending.old }
+{
+    dead + compact(entries, &mut pending[dead..])
+}
+
+/// Whether at least half of a sample of these updates are not needed any more.
+fn is_half_dead(entries: &[TransactionEntry], pending: &[PendingEntry]) -> bool {
+    let sample = pending.iter().step_by(SAMPLED);
+    let dead = sample.filter(|update| !is_listed(entries, update.tx)).count();
+    dead >= pending.len() / SAMPLED / 2
+}
+
+/// If the number of these updates is a multiple of `RECENT`, and it seems that at least half of the
+/// last `RECENT` of them are not needed any more, removes those of them that are not. So an update
+/// costs the same however many others are pending. Returns how many updates are left.
+fn compact_recent(entries: &[TransactionEntry], pending: &mut [PendingEntry]) -> usize
+    ensures within { result ≤ length pending.old }
+    ensures kept { IsTable entries.now
+        → IsRoomMade entries.now (length pending.old) result pending.old pending.new }
+{
+    let count = pending.len();
+    let Some(from) = count.checked_sub(RECENT) else {
+        return count;
+    };
+    let recent = &pending[from..];
+    if count % RECENT != 0 || !is_half_dead(entries, recent) {
+        return count;
+    }
+    match first_dead(entries, recent) {
+        Some(dead) => compact_from(entries, pending, from + dead),
+        None => count,
+    }
+}
+
 /// The place for one more pending update. If the array is full, the updates that are not needed any
-/// more are removed first. The errors, after which nothing is changed: `NoPendingRoom` if the array
-/// is full and each update is needed; `BadArrays` if it has fewer than `count` entries.
+/// more are removed first; some may be removed before it is full. The errors, after which nothing is
+/// changed: `NoPendingRoom` if the array is full and each update is needed; `BadArrays` if it has
+/// fewer than `count` entries.
 pub fn room_for_one(
     entries: &[TransactionEntry],
     pending: &mut [PendingEntry],
@@ -253,16 +302,16 @@ pub fn room_for_one(
     ensures err { OnErr result (pending.new ≡ pending.old) }
     ensures causes { IfErr result (IsNoRoom entries.now count pending.old) }
 {
-    if count < pending.len() {
-        return Ok(count);
-    }
     if count > pending.len() {
         return Err(Refusal::BadArrays);
     }
-    let Some(dead) = first_dead(entries, pending) else {
-        return Err(Refusal::NoPendingRoom);
-    };
-    Ok(compact(entries, pending, dead))
+    if count < pending.len() {
+        return Ok(compact_recent(entries, &mut pending[..count]));
+    }
+    match first_dead(entries, pending) {
+        Some(dead) => Ok(compact_from(entries, pending, dead)),
+        None => Err(Refusal::NoPendingRoom),
+    }
 }
 
 /// Notes an update of the transaction at `place`: it becomes the pending update at `top`.

@@ -47,11 +47,11 @@ returns-clause-ok c = λ base run k.
     let ps_is = with_items_is c.make_pending_room.new.pending c.update.new.pending (search (rules, places)) in
     let rest : List ℕ = post_of a.length (length buffer - a.length) buffer in
     let now_is = with_items_is c.make_room.new.buffer (take a.length buffer ++ (c.update.new.out ++ rest)) (search (rules, places)) in
-    let count : length c.update.new.pending ≡ c.len.result = search (rules, places) in
+    let count : length c.update.new.pending ≡ c.len-2.result = search (rules, places) in
     keeps_more base run a c.self.invariant k' c.update.new.head c.update.new.transactions _ c.update.new.pages _ c.update.new.pending _ buffer _ c.update.new.out rest _ c.in_ok-size.size c.in_ok-rollback.rollback
     ts_is pages_is ps_is now_is (ap (take a.length) c.deref_mut-4.ensures.value ∙ c.in_ok-rollback.ensures.kept) (let e = ap length c.deref_mut-4.ensures.value in omega (arith, e, c.in_ok-rollback.ensures.enough))
     (record_of image) done written of.lsn
-    (enough_room _ _ _ _ _ c.len.result c.in_ok-rollback.rollback done.arrays.used done.arrays.few done.arrays.room done.arrays.pending_room count c.in_ok-rollback.ensures.rollback)
+    (enough_room _ _ _ _ _ c.len-2.result c.in_ok-rollback.rollback done.arrays.used done.arrays.few done.arrays.room done.arrays.pending_room count c.in_ok-rollback.ensures.rollback)
 
 pub returns-in_err-size-clause-refused : goal.returns-in_err-size-clause-refused
 returns-in_err-size-clause-refused c =
