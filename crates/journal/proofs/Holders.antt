@@ -1,10 +1,10 @@
 -- Which transaction holds a cell, by what is kept.
-use Rattle.std.proofs.Common.{◌≡◌, ◌≢◌, ◌<◌, ℕ, true, false, [], length, map, get_or, Option, Some, None, refl, sym, ap, subst, ◌∙◌, inl, inr}
+use Rattle.std.proofs.Common.{◌≡◌, ◌<◌, ℕ, true, false, [], length, get_or, Option, Some, None, refl, sym, ap, subst, ◌∙◌, inl, inr}
 use Rattle.std.specs.Prelude.{List, is_some}
 use Rattle.std.proofs.lemmas.Bool.{false≢true, cases_eq}
 use Rattle.page.specs.declared.profile.TheConstants.{SLOTS}
 use Rattle.wal.specs.Records.{UpdateRecord, History}
-use Rattle.wal.specs.Meaning.{BasePages, is_of, has, touches, finished}
+use Rattle.wal.specs.Meaning.{BasePages, is_of, has}
 use Rattle.audit.specs.Cells.{last_writer}
 use Rattle.journal.specs.Transactions.{Transaction, IsFreeFor}
 use Rattle.journal.specs.PageStates.{PageState}

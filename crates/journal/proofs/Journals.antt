@@ -1,6 +1,6 @@
 -- What each operation makes of a journal in its arrays.
 use Rattle.std.proofs.Common.{◌≡◌, ◌≢◌, ◌<◌, ◌≤◌, ◌+◌, ◌-◌, ◌*◌, ◌^◌, ℕ, suc, true, cond, List, [], ◌∷◌, ◌++◌, length, get_or, set, take, drop, map, min, Option, Some, None, refl, sym, ap, subst, ◌∙◌, inl, inr, arith, eqb, eq-eqb, eqb-true, length-append}
-use Rattle.std.specs.Prelude.{◌⊎◌, All, filter, is_some}
+use Rattle.std.specs.Prelude.{◌⊎◌, All, is_some}
 use Rattle.std.specs.List.{remove}
 use Rattle.std.proofs.lemmas.Bool.{cases_lt, cases_Bool}
 use Rattle.std.proofs.lemmas.List.{get_or-take, get_or-drop, get_or_default, length-set, length-take-le, take_more_set, length-map, length-drop, map-set}

@@ -1,5 +1,5 @@
 -- A second life, and a log that continues an archived one, on worked examples.
-use Rattle.std.proofs.Common.{◌≡◌, ◌≢◌, ◌<◌, ◌≤◌, ◌||◌, ℕ, Bool, true, false, [], ◌∷◌, None, refl, sym, ap, ◌∙◌, inl, inr, ne_eqb, arith}
+use Rattle.std.proofs.Common.{◌≡◌, ◌≤◌, ◌||◌, ℕ, Bool, true, false, [], ◌∷◌, None, refl, sym, ap, ◌∙◌, inl, inr, ne_eqb, arith}
 use Rattle.std.specs.Prelude.{length, slice_index_or}
 use Rattle.std.proofs.lemmas.Bool.{false≢true, cases_eq}
 use Rattle.std.proofs.lemmas.List.Elements.{All-from_recursion}
@@ -7,15 +7,15 @@ use Rattle.page.specs.declared.page.Page.{Page}
 use Rattle.page.specs.declared.profile.TheConstants.{SLOTS}
 use Rattle.page.specs.Store.{StoreContent}
 use Rattle.wal.specs.declared.header.LogStart.TheVariants.{Version2}
-use Rattle.wal.specs.Records.{LogContent, history}
+use Rattle.wal.specs.Records.{history}
 use Rattle.wal.specs.Meaning.{BasePages, no_base, committed, touches, finished}
 use Rattle.wal.specs.Tail.{with_tail}
 use Rattle.wal.specs.Pages.{base_pages}
 use Rattle.wal.specs.Store.{store_out}
-use Rattle.wal.proofs.Rows.{a, b, U, K, L, holding, store_of}
-use Rattle.journal.specs.Runs.{Run, appended, new_run, log_of, MayFollow, IsRun}
-use Rattle.journal.specs.Traces.{Trace, opens, appends, run_of, KeepsRules, left_log, newest_store}
-use Rattle.journal.specs.Lives.{Lives, once, again, AreLived, LivesSurvive}
+use Rattle.wal.proofs.Rows.{a, b, U, holding, store_of}
+use Rattle.journal.specs.Runs.{Run, appended, new_run, IsRun}
+use Rattle.journal.specs.Traces.{Trace, opens, appends, run_of, left_log, newest_store}
+use Rattle.journal.specs.Lives.{Lives, once, again, AreLived}
 use Rattle.journal.proofs.Rows.{made_durable, with_commit_is, one_page}
 use Rattle.journal.proofs.Obeying.{touches_has}
 use Rattle.journal.proofs.Opened.{may_open}

@@ -9,8 +9,7 @@ use Rattle.wal.specs.Redo.{rec_lsn_of}
 use Rattle.wal.specs.Pages.{PageLaw}
 use Rattle.wal.specs.Store.{Lawful}
 use Rattle.wal.proofs.Rows.{a, U, K, L, holding, store_of}
-use Rattle.journal.specs.Runs.{appended}
-use Rattle.journal.specs.Traces.{forces, appends, writes, KeepsRules}
+use Rattle.journal.specs.Traces.{forces, appends, KeepsRules}
 use Rattle.journal.proofs.Rows.{opening, cleaned_log, older_unlawful}
 
 -- THE LOG IN ORDER. The commit is forced before the update, and the update is lost: the commit names a record that is not there.

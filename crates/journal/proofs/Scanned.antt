@@ -1,6 +1,6 @@
 -- The arrays while a journal is opened over a log with records, after one more record.
 use Rattle.std.proofs.Common.{◌≡◌, ◌≢◌, ◌<◌, ◌≤◌, ◌+◌, ◌-◌, ◌⊎◌, not, map, ℕ, suc, true, false, cond, List, [], ◌∷◌, ◌++◌, length, get_or, set, take, drop, min, max, Option, Some, None, refl, sym, ap, subst, ◌∙◌, inl, inr, arith, eqb, eq-eqb, eqb-true}
-use Rattle.std.specs.Prelude.{All, filter, Result, Ok, Err, IfOk, IfErr}
+use Rattle.std.specs.Prelude.{All, Result, Ok, Err, IfOk, IfErr}
 use Rattle.std.specs.List.{insert, remove}
 use Rattle.std.proofs.lemmas.Bool.{cases_Bool, cases_lt, both_ways, false_from_ne_true, or_left, or_right, and_from}
 use Rattle.std.proofs.lemmas.List.{get_or-take, get_or-drop, length-take-le, length-drop, length-map, take_more_set, take_all}
@@ -14,7 +14,7 @@ use Rattle.wal.specs.Laws.{Obeys}
 use Rattle.journal.specs.declared.entries.TransactionEntry.{TransactionEntry}
 use Rattle.journal.specs.declared.entries.PendingEntry.{PendingEntry}
 use Rattle.journal.specs.Transactions.{Pending, Transaction, lsn_in, IsTransaction, AreTransactions, HasEntry, HasUpdated, HasUndone, HasChangedState, Noted, next_after}
-use Rattle.journal.specs.Arrays.{state_of, update_of, kept_of, pending_of, is_live, AllLive, NoneBy, IsTable, AreUsed, IsRoomMade, IsNoRoom, updated, undone, in_state, without_owner}
+use Rattle.journal.specs.Arrays.{state_of, update_of, kept_of, pending_of, AllLive, NoneBy, IsTable, AreUsed, IsRoomMade, IsNoRoom, updated, undone, in_state, without_owner}
 use Rattle.journal.specs.declared.refusal.Refusal.{Refusal}
 use Rattle.journal.specs.declared.refusal.Refusal.TheVariants.{NoPendingRoom, BadArrays}
 use Rattle.journal.specs.Opened.{pending_count}

@@ -261,7 +261,9 @@ fn compact_from(entries: &[TransactionEntry], pending: &mut [PendingEntry], dead
 /// Whether at least half of a sample of these updates are not needed any more.
 fn is_half_dead(entries: &[TransactionEntry], pending: &[PendingEntry]) -> bool {
     let sample = pending.iter().step_by(SAMPLED);
-    let dead = sample.filter(|update| !is_listed(entries, update.tx)).count();
+    let dead = sample
+        .filter(|update| !is_listed(entries, update.tx))
+        .count();
     dead >= pending.len() / SAMPLED / 2
 }
 

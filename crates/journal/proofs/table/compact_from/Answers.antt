@@ -1,4 +1,4 @@
-use Rattle.std.proofs.Common.{◌≡◌, ◌+◌, ◌-◌, ◌≤◌, ◌++◌, false, ℕ, List, length, get_or, take, drop, sym, ap, ◌∙◌, arith, length-drop, take_all}
+use Rattle.std.proofs.Common.{◌≡◌, ◌+◌, ◌-◌, ◌≤◌, ◌++◌, ℕ, List, length, get_or, take, drop, sym, ap, ◌∙◌, arith, length-drop, take_all}
 use Rattle.std.specs.Prelude.{filter}
 use Rattle.std.proofs.lemmas.List.{take-append-le, length-take-le, get_or-drop}
 use Rattle.std.proofs.Math.Seq.{take-append-add}

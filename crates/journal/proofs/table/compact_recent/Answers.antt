@@ -1,4 +1,4 @@
-use Rattle.std.proofs.Common.{◌≡◌, ◌+◌, ◌-◌, false, ℕ, List, length, get_or, take, drop, sym, ap, ◌∙◌, arith, inr, length-drop, take_all}
+use Rattle.std.proofs.Common.{◌≡◌, ◌+◌, ◌-◌, ℕ, List, length, get_or, take, drop, sym, ap, ◌∙◌, arith, inr, length-drop, take_all}
 use Rattle.std.proofs.lemmas.List.{get_or-drop}
 use Rattle.journal.specs.declared.entries.PendingEntry.{PendingEntry}
 use Rattle.journal.specs.declared.entries.TransactionEntry.{TransactionEntry}
