@@ -204,8 +204,12 @@ fn place_store<R: Files>(rt: &R, store: &Notes, replaced: Option<&str>) -> Resul
     let Some(path) = replaced else {
         return Ok(());
     };
-    fs::rename(rt, store.path, path)
-        .map_err(|error| refuse(store, Call::Rename, error, Fault::WriteStore))
+    fs::rename(rt, store.path, path).map_err(|error| refuse(
+        store,
+        Call::Rename,
+        error,
+        Fault::WriteStore,
+    ))
 }
 
 /// Puts the new store in its place and removes the file of the tail. Then it syncs their folders,
