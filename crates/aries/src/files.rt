@@ -97,19 +97,15 @@ pub fn make<R: Files>(rt: &R, file: &Notes, old: &R::File, fault: Fault) -> Resu
     }
 }
 
-/// The folder of a file.
-pub fn folder_of<'a>(file: &Notes<'a>) -> &'a str {
-    match Path::new(file.path).parent() {
+/// Syncs the folder of a new file, so that its name reaches the disk; `fault` if the folder could
+/// not be synced. If the system does not allow the sync, because the folder may not be read or the
+/// file system has no such operation, that is only noted, and the job goes on.
+pub fn sync_folder<R: Files>(rt: &R, file: &Notes, fault: Fault) -> Result<(), Fault> {
+    let folder = match Path::new(file.path).parent() {
         Some(folder) if !folder.as_str().is_empty() => folder.as_str(),
         _ => ".",
-    }
-}
-
-/// Syncs the folder of a file, so that its name reaches the disk. If the system does not allow the
-/// sync, because the folder may not be read or the file system has no such operation, that is only
-/// noted, and the job goes on.
-pub fn sync_name<R: Files>(rt: &R, file: &Notes) -> io::Result<()> {
-    let synced = File::open(rt, folder_of(file)).and_then(|folder| folder.sync_all());
+    };
+    let synced = File::open(rt, folder).and_then(|folder| folder.sync_all());
     let Err(error) = synced else {
         return Ok(());
     };
@@ -120,14 +116,9 @@ pub fn sync_name<R: Files>(rt: &R, file: &Notes) -> io::Result<()> {
         }
         _ => {
             file.fail(Call::SyncFolder, error);
-            Err(error)
+            Err(fault)
         }
     }
-}
-
-/// Syncs the folder of a file as [`sync_name`] does; `fault` if that failed.
-pub fn sync_folder<R: Files>(rt: &R, file: &Notes, fault: Fault) -> Result<(), Fault> {
-    sync_name(rt, file).map_err(|_| fault)
 }
 
 /// These options, with one worker if one worker may do all and the log has few bytes.

@@ -10,7 +10,7 @@ ghost use Rattle.std.specs.Prelude.{◌≢◌};
 ghost use Rattle.page.specs.declared.fault.Fault.TheVariants.{NoResource};
 
 use crate::files::{
-    NewFiles, OldFiles, folder_of, goes_in_pieces, make, open, options_for, refuse, sync_folder,
+    NewFiles, OldFiles, goes_in_pieces, make, open, options_for, refuse, sync_folder,
 };
 use crate::noted::{Call, NotedFile, Notes};
 use device::{FileLog, FileSink, FileSource, Source};
@@ -164,9 +164,10 @@ fn recover_opened<R: Files + Clock + Threads + Sync>(
     let goes_in_pieces = goes_in_pieces(rt, alloc, &log, &old.log)?;
     let new_store = make_store(rt, &new.store, is_replacing, &store)?;
     let tail_file = make(rt, tail, &log, Fault::WriteLog)?;
+    sync_folder(rt, tail, Fault::WriteLog)?;
     let mut log = FileSource::sized(NotedFile::new(log, rt, &old.log));
     let mut store = FileSource::new(NotedFile::new(store, rt, &old.store));
-    let mut tail_sink = FileSink::new(NotedFile::made(tail_file, rt, tail));
+    let mut tail_sink = FileSink::new(NotedFile::new(tail_file, rt, tail));
     let mut out_log = FileLog::new(NotedFile::new(appended, rt, &new.log));
     let mut out_store = FileSink::new(NotedFile::new(new_store, rt, &new.store));
     let answer = if goes_in_pieces {
@@ -199,37 +200,15 @@ fn recover_opened<R: Files + Clock + Threads + Sync>(
     answer
 }
 
-/// Renames the new store, which is synced, to the name of the old one, if it replaces that.
+/// Renames the new store, which is synced, to the name of the old one, if it replaces that. Then
+/// syncs its folder.
 fn place_store<R: Files>(rt: &R, store: &Notes, replaced: Option<&str>) -> Result<(), Fault> {
-    let Some(path) = replaced else {
-        return Ok(());
-    };
-    fs::rename(rt, store.path, path).map_err(|error| refuse(
-        store,
-        Call::Rename,
-        error,
-        Fault::WriteStore,
-    ))
-}
-
-/// Puts the new store in its place and removes the file of the tail. Then it syncs their folders,
-/// one time if both are in the same one.
-///
-/// The log is continued and synced, so the file of the tail is not needed any more: a recovery of
-/// the log and the old store ends as this one did.
-fn put_away<R: Files>(
-    rt: &R,
-    tail: &Notes,
-    store: &Notes,
-    replaced: Option<&str>,
-) -> Result<(), Fault> {
-    place_store(rt, store, replaced)?;
-    remove(rt, tail, Fault::WriteLog)?;
-    sync_folder(rt, store, Fault::WriteStore)?;
-    if folder_of(tail) == folder_of(store) {
-        return Ok(());
+    if let Some(path) = replaced {
+        if let Err(error) = fs::rename(rt, store.path, path) {
+            return Err(refuse(store, Call::Rename, error, Fault::WriteStore));
+        }
     }
-    sync_folder(rt, tail, Fault::WriteLog)
+    sync_folder(rt, store, Fault::WriteStore)
 }
 
 /// Recovers the store in one file from the log in another, which is continued in place. First it
@@ -251,6 +230,7 @@ pub fn recover_files_in_place<R: Files + Clock + Threads + Sync>(
     how: (&Options, bool),
 ) -> Result<Report, Fault> {
     let report = recover_opened(rt, alloc, old, tail, new, replaced.is_some(), how)?;
-    put_away(rt, tail, &new.store, replaced)?;
+    place_store(rt, &new.store, replaced)?;
+    remove_tail(rt, tail)?;
     Ok(report)
 }

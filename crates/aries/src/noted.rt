@@ -2,12 +2,11 @@
 
 ghost use Rattle.aries.specs.Noted.{inner_file};
 
-use crate::files::sync_name;
 use std::cell::Cell;
 use std::fmt;
 use std::fs::{Metadata, OpenFile};
 use std::io::{self, ErrorKind, Read, Seek, SeekFrom, Write};
-use std::rt::{Clock, Files};
+use std::rt::Clock;
 use std::time::{Duration, Instant};
 
 /// A call on a file.
@@ -143,69 +142,51 @@ impl<'a> Notes<'a> {
 
 /// An open file whose calls are noted. It reads and writes the bytes of the file.
 #[derive(Drop)]
-pub struct NotedFile<'a, F, R> {
+pub struct NotedFile<'a, F, C> {
     file: F,
-    rt: &'a R,
+    clock: &'a C,
     notes: &'a Notes<'a>,
-    /// Whether its folder is synced whenever the file is.
-    has_new_name: bool,
 }
 
-impl<'a, F, R> NotedFile<'a, F, R> {
+impl<'a, F, C> NotedFile<'a, F, C> {
     /// Notes the calls on this file from now on.
-    pub fn new(file: F, rt: &'a R, notes: &'a Notes<'a>) -> NotedFile<'a, F, R> {
-        NotedFile {
-            file,
-            rt,
-            notes,
-            has_new_name: false,
-        }
-    }
-
-    /// Notes the calls on this new file from now on. Whenever the file is synced, so is its folder:
-    /// then its name reaches the disk too.
-    pub fn made(file: F, rt: &'a R, notes: &'a Notes<'a>) -> NotedFile<'a, F, R> {
-        NotedFile {
-            file,
-            rt,
-            notes,
-            has_new_name: true,
-        }
+    pub fn new(file: F, clock: &'a C, notes: &'a Notes<'a>) -> NotedFile<'a, F, C> {
+        NotedFile { file, clock, notes }
     }
 }
 
-impl<'a, F: Read, R: Clock> Read for NotedFile<'a, F, R> {
+impl<'a, F: Read, C: Clock> Read for NotedFile<'a, F, C> {
     ghost remaining = { λ noted. F.remaining (inner_file noted) };
 
     fn read(&mut self, buf: &mut [u8]) -> io::Result<usize> {
-        self.notes.begin(self.rt);
+        self.notes.begin(self.clock);
         let answer = self.file.read(buf);
-        self.notes.end(self.rt, Call::Read, &answer);
+        self.notes.end(self.clock, Call::Read, &answer);
         self.notes.pass(&answer);
         answer
     }
 }
 
-impl<'a, F: Seek, R: Clock> Seek for NotedFile<'a, F, R> {
+impl<'a, F: Seek, C: Clock> Seek for NotedFile<'a, F, C> {
     ghost stream_position = { λ noted. F.stream_position (inner_file noted) };
 
     ghost stream_bytes = { λ noted. F.stream_bytes (inner_file noted) };
 
     fn seek(&mut self, to: SeekFrom) -> io::Result<u64> {
-        self.notes.begin(self.rt);
+        self.notes.begin(self.clock);
         let answer = self.file.seek(to);
-        self.notes.end(self.rt, Call::Read, &answer);
+        self.notes.end(self.clock, Call::Read, &answer);
         answer
     }
 }
 
-impl<'a, F: Write, R: Clock> Write for NotedFile<'a, F, R> {
+impl<'a, F: Write, C: Clock> Write for NotedFile<'a, F, C> {
     ghost contents = { λ noted. F.contents (inner_file noted) };
 
     fn write(&mut self, buf: &[u8]) -> io::Result<usize> {
-        self.notes.begin(self.rt);
+        self.notes.begin(self.clock);
         let answer = self.file.write(buf);
-        self.notes.end(self.rt, Call::Write, &answer);
+        self.notes.end(self.clock, Call::Write, &answer);
         self.notes.pass(&answer);
         if matches!(answer, Ok(0)) && !buf.is_empty() {
             let error = io::Error::from(ErrorKind::WriteZero);
@@ -215,14 +196,14 @@ impl<'a, F: Write, R: Clock> Write for NotedFile<'a, F, R> {
     }
 
     fn flush(&mut self) -> io::Result<()> {
-        self.notes.begin(self.rt);
+        self.notes.begin(self.clock);
         let answer = self.file.flush();
-        self.notes.end(self.rt, Call::Write, &answer);
+        self.notes.end(self.clock, Call::Write, &answer);
         answer
     }
 }
 
-impl<'a, F: OpenFile, R: Clock + Files> OpenFile for NotedFile<'a, F, R> {
+impl<'a, F: OpenFile, C: Clock> OpenFile for NotedFile<'a, F, C> {
     fn metadata(&self) -> io::Result<Metadata> {
         self.file.metadata()
     }
@@ -233,17 +214,13 @@ impl<'a, F: OpenFile, R: Clock + Files> OpenFile for NotedFile<'a, F, R> {
 
     fn sync_all(&self) -> io::Result<()> {
         let answer = self.file.sync_all();
-        self.notes.end(self.rt, Call::Sync, &answer);
-        answer?;
-        if self.has_new_name {
-            sync_name(self.rt, self.notes)?;
-        }
-        Ok(())
+        self.notes.end(self.clock, Call::Sync, &answer);
+        answer
     }
 
     fn sync_data(&self) -> io::Result<()> {
         let answer = self.file.sync_data();
-        self.notes.end(self.rt, Call::Sync, &answer);
+        self.notes.end(self.clock, Call::Sync, &answer);
         answer
     }
 }
