@@ -67,15 +67,14 @@ def kept_lines(path):
 
 
 def make_rows(folder, profile):
-    """Makes `data` in a folder: the rows with this profile, and their index."""
+    """Makes the rows with this profile, and their index, in a new folder."""
     old, new = Profile(PROFILE), Profile(profile)
-    data = os.path.join(folder, "data")
-    shutil.rmtree(data, ignore_errors=True)
+    shutil.rmtree(folder, ignore_errors=True)
     for name in sorted(os.listdir(os.path.join(TOP, ROWS, "data"))):
         source = os.path.join(TOP, ROWS, "data", name)
         if os.path.isdir(source) and name not in OF_A_LIMIT:
-            make_row(source, os.path.join(data, name), old, new)
-    with open(os.path.join(data, "index"), "w", encoding="utf-8") as index:
+            make_row(source, os.path.join(folder, name), old, new)
+    with open(os.path.join(folder, "index"), "w", encoding="utf-8") as index:
         index.writelines(f"{line}\n" for line in kept_lines("data/index"))
 
 
