@@ -379,10 +379,10 @@ struct aries_fault aries_read_page(const uint8_t *image, size_t image_length, ui
  * pages, and of pending updates. All calls on a journal take the same arrays with the same lengths, and only these
  * calls change them. The caller may read them: pages[n].page is page n as it is now. There are as many page entries as
  * the store has pages, and 1 to ARIES_TRANSACTIONS transaction entries. The array of pending updates limits how many
- * updates can be undone at a time. When it is full, an update first removes the entries that nobody needs any more; with
- * twice the room that is needed this costs little. It may remove some of them earlier. Only aries_journal_new and aries_journal_open allocate memory. No
- * call reads the log again. If arrays are passed that are not those of a journal, what a call does is not specified;
- * but it returns, and touches no memory outside its arguments.
+ * updates can be undone at a time. When it is full, an update first removes the entries that nobody needs any more;
+ * with twice the room that is needed this costs little. It may remove some of them earlier. Only aries_journal_new and
+ * aries_journal_open allocate memory. No call reads the log again. If arrays are passed that are not those of a
+ * journal, what a call does is not specified; but it returns, and touches no memory outside its arguments.
  *
  * FRAMES. A call that appends records writes their frames, *length bytes, to the front of out, and leaves the other
  * bytes unchanged. An update takes at most ARIES_FRAME_BYTES, an undo less, a turn 25, and a checkpoint 42 and 21
