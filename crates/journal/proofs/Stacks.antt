@@ -1,6 +1,6 @@
 -- The array of pending updates: those of each transaction, after a change of the array.
 use Rattle.std.proofs.Common.{◌≡◌, ◌≢◌, ◌<◌, ◌≤◌, ◌+◌, ◌-◌, ℕ, zero, suc, Bool, true, false, List, [], ◌∷◌, ◌++◌, length, get_or, set, take, drop, map, refl, sym, ap, ap₂, ◌∙◌, inl, inr, arith, eqb, eq-eqb, ne_eqb, eqb-true, append-nil}
-use Rattle.std.specs.Prelude.{filter}
+use Rattle.std.specs.Prelude.{All, filter}
 use Rattle.std.proofs.lemmas.Bool.{cases_Bool, eqb-false}
 use Rattle.std.proofs.lemmas.List.{map-append, set-get_or, set_split, take_at, length_push, length-append, take-append-drop}
 use Rattle.std.proofs.lemmas.List.Elements.{All-tail, All-nil, All-cons, All-filter, filter-append}
@@ -137,3 +137,16 @@ length_left f from ps =
     let left = length-append (take from ps) (filter f (drop from ps)) in
     let whole = sym (length-append (take from ps) (drop from ps)) ∙ ap length (take-append-drop from ps) in
     omega (arith, left, whole, length_filter f (drop from ps))
+
+-- all before that place are needed: then none is left out that is needed, and none is kept that is not
+filter_all : (f : PendingEntry → Bool) (ps : List PendingEntry) → All (λ (p : PendingEntry). f p ≡ true) ps → filter f ps ≡ ps
+filter_all f [] h = refl
+filter_all f (p ∷ ps) h =
+    let here : f p ≡ true = h 0 p (omega arith) in
+    rw here (ap (λ (xs : List PendingEntry). p ∷ xs) (filter_all f ps (All-tail (λ (q : PendingEntry). f q ≡ true) p ps h)))
+
+pub left_is_filter : (f : PendingEntry → Bool) (from : ℕ) (ps : List PendingEntry) → All (λ (p : PendingEntry). f p ≡ true) (take from ps)
+    → take from ps ++ filter f (drop from ps) ≡ filter f ps
+left_is_filter f from ps h =
+    ap (λ (xs : List PendingEntry). xs ++ filter f (drop from ps)) (sym (filter_all f (take from ps) h)) ∙ sym (filter-append f (take from ps) (drop from ps))
+    ∙ ap (filter f) (take-append-drop from ps)

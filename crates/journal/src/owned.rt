@@ -141,8 +141,9 @@ fn make_pending_room(
     Ok(())
 }
 
-/// How many pending updates were needed when the array was last full. So many were before an update,
-/// and `now` are in use after it. If the array was full before it, only what is needed was kept.
+/// The number of pending updates that were needed when the array was last full. Before an update it
+/// was `needed`. After the update `now` entries are in use. If the array was full before the update,
+/// the update has removed all that was not needed.
 fn needed_after(needed: usize, was_full: bool, now: usize) -> usize
     ensures full { was_full ≡ true → result ≡ now }
     ensures same { was_full ≡ false → result ≡ needed }

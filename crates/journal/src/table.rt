@@ -12,11 +12,10 @@ use crate::entries::{PendingEntry, TransactionEntry};
 use crate::refusal::Refusal;
 use wal::State;
 
-/// At every multiple of so many pending updates, the newest of them are looked at: they may not be
-/// needed any more.
+/// How many of the newest pending updates are compacted together.
 const RECENT: usize = 4096;
 
-/// One in so many of them is looked at first.
+/// The sample of them is every eighth one.
 const SAMPLED: usize = 8;
 
 /// The states in which a transaction may do an operation.
@@ -267,9 +266,9 @@ fn is_half_dead(entries: &[TransactionEntry], pending: &[PendingEntry]) -> bool 
     dead >= pending.len() / SAMPLED / 2
 }
 
-/// If the number of these updates is a multiple of `RECENT`, and it seems that at least half of the
-/// last `RECENT` of them are not needed any more, removes those of them that are not. So an update
-/// costs the same however many others are pending. Returns how many updates are left.
+/// Removes those of the last `RECENT` updates that are not needed any more, if the number of these
+/// updates is a multiple of `RECENT`, and if half of the sample is not needed. So an update costs the
+/// same however many others are pending. Returns how many updates are left.
 fn compact_recent(entries: &[TransactionEntry], pending: &mut [PendingEntry]) -> usize
     ensures within { result ≤ length pending.old }
     ensures kept { IsTable entries.now
@@ -289,10 +288,10 @@ fn compact_recent(entries: &[TransactionEntry], pending: &mut [PendingEntry]) ->
     }
 }
 
-/// The place for one more pending update. If the array is full, the updates that are not needed any
-/// more are removed first; some may be removed before it is full. The errors, after which nothing is
-/// changed: `NoPendingRoom` if the array is full and each update is needed; `BadArrays` if it has
-/// fewer than `count` entries.
+/// The place for one more pending update. If the array is full, all updates that are not needed any
+/// more are removed first. If it is not, some may be. The errors, after which nothing is changed:
+/// `NoPendingRoom` if the array is full and each update is needed; `BadArrays` if it has fewer than
+/// `count` entries.
 pub fn room_for_one(
     entries: &[TransactionEntry],
     pending: &mut [PendingEntry],
@@ -301,6 +300,8 @@ pub fn room_for_one(
     ensures within { IfOk result (λ top. top < length pending.old) }
     ensures kept { IfOk result (λ top. IsTable entries.now
         → IsRoomMade entries.now count top pending.old pending.new) }
+    ensures full { IfOk result (λ top. IsTable entries.now → count ≡ length pending.old
+        → take top pending.new ≡ filter (is_live entries.now) pending.old) }
     ensures err { OnErr result (pending.new ≡ pending.old) }
     ensures causes { IfErr result (IsNoRoom entries.now count pending.old) }
 {
