@@ -16,13 +16,11 @@ import subprocess
 import sys
 
 sys.dont_write_bytecode = True  # no folder of it beside the scripts
-from row_files import wrong_rows
+from row_files import PROFILE, TOP, number_in, wrong_rows
 
-TOP = os.path.dirname(os.path.dirname(os.path.abspath(__file__)))
 PROGRAMS = ("aries_cli", "aries_dump")
 ROW_RUNNER, LIBRARY = "rows", "aries_c"
-KILLS = 300
-PROFILE = "crates/page/src/profile.rt"
+KILLS = 300  # of the bank
 HEADER = "include/aries.h"
 # The sizes that the header has, by their names in a profile. It makes its other sizes of these.
 SIZES = ("PAGES", "SLOTS", "PAGE_BYTES", "VALUE_BYTES", "TRANSACTIONS")
@@ -31,8 +29,7 @@ SIZES = ("PAGES", "SLOTS", "PAGE_BYTES", "VALUE_BYTES", "TRANSACTIONS")
 def header_of(profile, header):
     """The header of the C library with the sizes of a profile: both are texts."""
     for name in SIZES:
-        size = re.search(rf"^pub const {name}: usize = ([\d_]+);", profile, re.M).group(1).replace("_", "")
-        header, count = re.subn(rf"(\bARIES_{name} = )\d+", rf"\g<1>{size}", header)
+        header, count = re.subn(rf"(\bARIES_{name} = )\d+", rf"\g<1>{number_in(profile, name)}", header)
         if count != 1:
             raise ValueError(f"ARIES_{name} is {count} times in the header")
     return header
@@ -91,14 +88,12 @@ def is_proved(folder, crate):
     return proved
 
 
-def built_program(folder, crate, words):
-    """The program of a crate that is proved, once it has run with these words."""
-    subprocess.run(["rt", "run", "--", *words], cwd=os.path.join(folder, "crates", crate), check=bool(words), stdout=None if words else subprocess.DEVNULL)
-    return os.path.join(folder, "crates", crate, "out", crate)
-
-
 def are_rows_right(name, folder):
-    count, wrong = wrong_rows(built_program(folder, ROW_RUNNER, []), os.path.join(folder, "rows"), f"profiles/{name}.profile")
+    """Builds the program that runs the rows, and runs it on those of the profile."""
+    crate = os.path.join(folder, "crates", ROW_RUNNER)
+    # The status is that of the program, for which the rows beside its source are of another profile.
+    subprocess.run(["rt", "run"], cwd=crate, stdout=subprocess.DEVNULL)
+    count, wrong = wrong_rows(os.path.join(crate, "out", ROW_RUNNER), os.path.join(folder, "rows"), f"profiles/{name}.profile")
     print(f"rows: {count - len(wrong)} of {count} as they are to be", *wrong[:20], sep="\n", flush=True)
     return not wrong
 
@@ -133,7 +128,7 @@ def main():
     is_well = True
     if not wanted:
         for program in PROGRAMS:
-            built_program(folder, program, ["--version"])
+            subprocess.run(["rt", "run", "--", "--version"], cwd=os.path.join(folder, "crates", program), check=True)
         is_well = are_rows_right(name, folder) & is_bank_right(folder)
     print(f"all {len(crates)} crates are proved with the profile {name}: {' '.join(proved)}")
     sys.exit(0 if is_well else "a test failed")

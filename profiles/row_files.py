@@ -17,6 +17,11 @@ STORE_HEADER_BYTES = 24
 OF_A_LIMIT = {"bad-frame-1025", "bad-frame-length49", "value-of-49", "length-too-large"}
 
 
+def number_in(text, name):
+    """A number of a profile, by its name."""
+    return int(re.search(rf"^pub const {name}: usize = ([\d_]+);", text, re.M).group(1))
+
+
 class Profile:
     """The magics of a profile, and how many bytes a page has."""
 
@@ -25,7 +30,7 @@ class Profile:
             text = file.read()
         names = ("STORE_MAGIC", "LOG_MAGIC", "BASED_LOG_MAGIC")
         self.magics = [re.search(rf"^pub const {name}: .*b\"(\w+)\";", text, re.M).group(1).encode() for name in names]
-        self.page_bytes = int(re.search(r"^pub const PAGE_BYTES: usize = ([\d_]+);", text, re.M).group(1).replace("_", ""))
+        self.page_bytes = number_in(text, "PAGE_BYTES")
 
 
 def with_pages(store, old, new):
