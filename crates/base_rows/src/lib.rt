@@ -1,4 +1,4 @@
-//! The tests of the crates that depend on no other crate of these: pages and their faults, boards
+//! The tests of the crates that read no log: pages, their faults and their changes, boards
 //! that hand out numbers, devices.
 #![tactic(auto)]
 

@@ -1,8 +1,9 @@
-//! Pages, stores and fault texts; boards; devices over memory, devices that are slow or fail, and
+//! Pages, stores and fault texts; changes of pages; boards; devices over memory, devices that are slow or fail, and
 //! devices over files.
 
 mod again;
 mod boards;
 mod files;
+mod page_changes;
 mod stores;
 mod transfers;

@@ -16,8 +16,7 @@ use Rattle.wal.specs.Meaning.{BasePages}
 use Rattle.wal.specs.Store.{Lawful}
 use Rattle.tables.specs.Tables.{TablesContent}
 use Rattle.analysis.specs.Tables.{AreTablesOf}
-use Rattle.redo.specs.declared.redone.Redone.{Redone}
-use Rattle.redo.specs.Redone.{AreWorkers, RepeatsHistory}
+use Rattle.redo.specs.Redone.{RedoneContent, AreWorkers, RepeatsHistory}
 use Rattle.restart.specs.Restart.{AheadFault, NoneAhead, IsRedone}
 use Rattle.restart.proofs.Restored.{base_alone, redo_alone}
 use Rattle.restart.proofs.Causes.{base_fault, redo_fault}
@@ -67,7 +66,7 @@ pub none_ahead : (whole : LogContent) (before : StoreContent) (lent : List Page)
 none_ahead whole before lent end stored at each =
     subst (λ n. All (λ (page : Page). page.lsn ≤ n) before.pages) at (subst (λ (ps : List Page). All (λ (page : Page). page.lsn ≤ end) ps) stored each)
 
-pub is_redone : (whole : LogContent) (before : StoreContent) (tables : TablesContent) (redone : Redone) → NoneAhead whole before → AreTablesOf whole before.master tables → RepeatsHistory whole tables before.pages redone
+pub is_redone : (whole : LogContent) (before : StoreContent) (tables : TablesContent) (redone : RedoneContent) → NoneAhead whole before → AreTablesOf whole before.master tables → RepeatsHistory whole tables before.pages redone
     → IsRedone whole before tables redone
 is_redone whole before tables redone none are repeats = record { are = are; none_ahead = none; exist = repeats.exist; redone_pages = repeats.pages; applied = repeats.applied }
 

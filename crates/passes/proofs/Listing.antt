@@ -17,8 +17,7 @@ use Rattle.tables.specs.Tables.{TablesContent}
 use Rattle.analysis.specs.Tables.{AreTablesOf, first_behind, redo_lsn_of}
 use Rattle.analysis.proofs.Smallest.{not_below}
 use Rattle.redo.specs.Changes.{page_named}
-use Rattle.redo.specs.Redone.{redone_page, applied_to, IsLookedAt, AllExist, IsFirstMissing, RedoFault, RepeatsHistory}
-use Rattle.redo.specs.declared.redone.Redone.{Redone}
+use Rattle.redo.specs.Redone.{RedoneContent, redone_page, applied_to, IsLookedAt, AllExist, IsFirstMissing, RedoFault, RepeatsHistory}
 use Rattle.redo.specs.Passing.{ListEach}
 
 -- ---- a page after redo is the same by two tests that say the same of each record on it
@@ -208,7 +207,7 @@ module _ (whole : LogContent) (found : TablesContent) (are : AreTablesOf whole 0
         ∙ sym (redone_from by_found.0 found.redo_lsn image.lsn lsn by_found.2 by_found.3.0 by_found.3.1)
         ∙ sym (ap (λ o. is_redone o found.redo_lsn image.lsn lsn) by_found.1)
 
-    pub repeats_by_found : (images : List Page) (redone : Redone) → length images ≡ count → AreNumbered images → RepeatsHistory whole listed images redone → RepeatsHistory whole found images redone
+    pub repeats_by_found : (images : List Page) (redone : RedoneContent) → length images ≡ count → AreNumbered images → RepeatsHistory whole listed images redone → RepeatsHistory whole found images redone
     repeats_by_found images redone size numbered repeats =
         let same : (k : ℕ) (d : Page) → k < length images → (get_or images k d).number < count = λ k d lt. omega (arith, numbered.at_place k d lt, lt, size) in
         let exist : AllExist whole (length images) (base_lsn log + 1) = subst (AllExist whole (length images)) each.begins repeats.exist in

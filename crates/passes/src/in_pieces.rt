@@ -73,7 +73,7 @@ fn go_at_once<S: Reread>(
         (base : BasePages) → S.text source.old ≡ Some text → Reads text whole torn
         → Lawful base whole store → AreTrue whole store x.tables) }
     ensures no_transaction_0 { IfOk result (λ x. entry_for 0 x.tables.transactions ≡ None) }
-    ensures numbered { IfOk result (λ x. AreNumbered x.redone.pages.items) }
+    ensures numbered { IfOk result (λ x. AreNumbered x.redone.pages) }
     // On a lawful log and its store, the only errors are a failed device and a lack of memory.
     ensures lawful { IfErr result (λ e. (text : List ℕ) (whole : LogContent) (torn : ℕ)
         (base : BasePages) → S.text source.old ≡ Some text → Reads text whole torn
@@ -121,7 +121,7 @@ fn go_by_passes<S: Reread>(
         (base : BasePages) → S.text source.old ≡ Some text → Reads text whole torn
         → Lawful base whole store → AreTrue whole store x.tables) }
     ensures no_transaction_0 { IfOk result (λ x. entry_for 0 x.tables.transactions ≡ None) }
-    ensures numbered { IfOk result (λ x. AreNumbered x.redone.pages.items) }
+    ensures numbered { IfOk result (λ x. AreNumbered x.redone.pages) }
     // On a lawful log and its store, the only errors are a failed device and a lack of memory.
     ensures lawful { IfErr result (λ e. (text : List ℕ) (whole : LogContent) (torn : ℕ)
         (base : BasePages) → S.text source.old ≡ Some text → Reads text whole torn
@@ -169,7 +169,7 @@ fn go_forward<S: Reread>(
         (base : BasePages) → S.text source.old ≡ Some text → Reads text whole torn
         → Lawful base whole store → AreTrue whole store x.tables) }
     ensures no_transaction_0 { IfOk result (λ x. entry_for 0 x.tables.transactions ≡ None) }
-    ensures numbered { IfOk result (λ x. AreNumbered x.redone.pages.items) }
+    ensures numbered { IfOk result (λ x. AreNumbered x.redone.pages) }
     // On a lawful log and its store, the only errors are a failed device and a lack of memory.
     ensures lawful { IfErr result (λ e. (text : List ℕ) (whole : LogContent) (torn : ℕ)
         (base : BasePages) → S.text source.old ≡ Some text → Reads text whole torn

@@ -273,7 +273,7 @@ pub fn end_redo<S: Reread>(
         → AreMarks text whole marks.now
         → AreTalliedUpTo whole store.pages tables (last_lsn (history whole)) scan
         → RepeatsHistory whole tables store.pages redone) }
-    ensures numbered { IfOk result (λ redone. AreNumbered redone.pages.items) }
+    ensures numbered { IfOk result (λ redone. AreNumbered redone.pages) }
     ensures fault { IfErr result (λ e. (text : List ℕ) (whole : LogContent) (torn : ℕ)
         → S.text source.old ≡ Some text → Reads text whole torn → AreMarks text whole marks.now
         → AreInReach (length room.old) marks.now → scan.upto ≤ last_lsn (history whole)
@@ -317,7 +317,7 @@ pub fn redo_in_pieces<S: Reread>(
     ensures redone { IfOk result (λ redone. (text : List ℕ) (whole : LogContent) (torn : ℕ)
         → S.text source.old ≡ Some text → Reads text whole torn → AreMarks text whole marks.now
         → RepeatsHistory whole tables.now store.pages redone) }
-    ensures numbered { IfOk result (λ redone. AreNumbered redone.pages.items) }
+    ensures numbered { IfOk result (λ redone. AreNumbered redone.pages) }
     ensures fault { IfErr result (λ e. (text : List ℕ) (whole : LogContent) (torn : ℕ)
         → S.text source.old ≡ Some text → Reads text whole torn → AreMarks text whole marks.now
         → BASED_HEADER_BYTES + LONGEST_FRAME ≤ length room.old

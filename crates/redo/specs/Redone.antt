@@ -8,7 +8,6 @@ use Rattle.wal.specs.Records.{LogRecord, LogContent, history, record_at}
 use Rattle.wal.specs.Redo.{rec_lsn_of, redo_of, applied}
 use Rattle.tables.specs.Tables.{TablesContent}
 use Rattle.redo.specs.Changes.{NamesBelow}
-use Rattle.redo.specs.declared.redone.Redone.{Redone}
 use Rattle.redo.specs.declared.rounds.TheConstants.{WORKERS}
 
 -- a page's image after redo by these tables
@@ -35,9 +34,14 @@ ExistBelow log count redo_lsn bound = (lsn : ℕ) (r : LogRecord) → IsLookedAt
 abbrev pub AllExist : LogContent → (count redo_lsn : ℕ) → Type 0
 AllExist log count redo_lsn = (lsn : ℕ) (r : LogRecord) → IsLookedAt redo_lsn lsn → record_at (history log) lsn ≡ Some r → NamesBelow count r
 
+-- pages after redo, and how many records were applied to all of them together
+pub record RedoneContent : Type 0 where
+  pub pages : List Page
+  pub applied : ℕ
+
 -- redo by these tables has repeated the history of a log on a store's pages, and found all pages that it looked for
-pub record RepeatsHistory (log : LogContent) (tables : TablesContent) (images : List Page) (redone : Redone) : Type 0 where
-  pub pages : redone.pages.items ≡ map (redone_page log tables) images
+pub record RepeatsHistory (log : LogContent) (tables : TablesContent) (images : List Page) (redone : RedoneContent) : Type 0 where
+  pub pages : redone.pages ≡ map (redone_page log tables) images
   pub applied : redone.applied ≡ sum (map (applied_to log tables) images)
   pub exist : AllExist log (length images) tables.redo_lsn
 

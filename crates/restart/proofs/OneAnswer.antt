@@ -17,7 +17,7 @@ one_outcome one_tables read before x y a b =
     let tables = one_tables read before.master a.tables b.tables a.is.are b.is.are in
     let losers : losers_in a.tables ≡ losers_in b.tables = ap losers_in tables in
     let appended : x.appended ≡ y.appended = a.rolls_back.rolled_back.appended_are ∙ (ap (undone_by log) losers ∙ sym b.rolls_back.rolled_back.appended_are) in
-    let pages : a.redone.pages.items ≡ b.redone.pages.items = a.is.redone_pages ∙ (ap (λ ts. map (redone_page read ts) before.pages) tables ∙ sym b.is.redone_pages) in
+    let pages : a.redone.pages ≡ b.redone.pages = a.is.redone_pages ∙ (ap (λ ts. map (redone_page read ts) before.pages) tables ∙ sym b.is.redone_pages) in
     record {
       appended = appended;
       store =

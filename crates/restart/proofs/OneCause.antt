@@ -141,7 +141,7 @@ module _ (read : LogContent) (before : StoreContent) where
               ]
         ]
       where
-        len : length r.redone.pages.items ≡ length before.pages
+        len : length r.redone.pages ≡ length before.pages
         len = ap length r.is.redone_pages ∙ length-map before.pages (redone_page read r.tables)
 
         exist : MetExist (history read) (losers_in r.tables) (length before.pages) 0

@@ -28,8 +28,7 @@ use Rattle.tables.specs.Tables.{TablesContent, losers_in}
 use Rattle.analysis.specs.Tables.{base_of, BaseFault}
 use Rattle.tables.specs.Lawful.{AreTrue}
 use Rattle.redo.specs.Changes.{NamesBelow}
-use Rattle.redo.specs.declared.redone.Redone.{Redone}
-use Rattle.redo.specs.Redone.{redone_page, IsFirstMissing, AreWorkers, RedoFault}
+use Rattle.redo.specs.Redone.{RedoneContent, redone_page, IsFirstMissing, AreWorkers, RedoFault}
 use Rattle.restart.specs.Outcome.{OutcomeContent}
 use Rattle.undo.specs.Undone.{undone_page}
 use Rattle.undo.proofs.UndonePages.{no_effects, no_last}
@@ -122,7 +121,7 @@ module _ (base : BasePages) (read : LogContent) (before : StoreContent) (lawful 
         let end = tail_settles base read lawful.log in
         record { lawful = s.lawful; no_loser = end.no_loser; no_tail = end.no_tail; same_store = s.same_store }
 
-    pub restores : (redone : Redone) (x : OutcomeContent) → IsRedone read before tables redone → RollsBack read before.master tables redone x → x.appended ≡ tail_of read → Restores base read before x
+    pub restores : (redone : RedoneContent) (x : OutcomeContent) → IsRedone read before tables redone → RollsBack read before.master tables redone x → x.appended ≡ tail_of read → Restores base read before x
     restores redone x made back tail =
         let store : x.store ≡ store_out base read before =
         ap₂ (λ m (ps : List Page). record { master = m; pages = ps }) back.master_kept

@@ -7,6 +7,7 @@ use Rattle.wal.specs.declared.record.Record.{Record}
 use Rattle.undo.specs.declared.appended.Appended.{Appended}
 use Rattle.undo.specs.Appended.{record_of}
 use Rattle.restart.specs.declared.outcome.Outcome.{Outcome}
+use Rattle.restart.specs.declared.outcome.UndoOutcome.{UndoOutcome}
 
 -- the store after it, the records that it appends, and the numbers that it reports
 pub record OutcomeContent : Type 0 where
@@ -38,3 +39,16 @@ outcome_of x = outcome_by content x
 -- an outcome in compact form, with the records that the log gives
 abbrev pub outcome_in : History → Outcome Appended → OutcomeContent
 outcome_in log x = outcome_by (record_of log) x
+
+-- the outcome with this store, if redo began here and applied so many records
+abbrev pub outcome_with : (store : StoreContent) → (redo_from redone : ℕ) → History → UndoOutcome → OutcomeContent
+outcome_with store redo_from redone log x = record {
+  store = store;
+  appended = map (record_of log) x.appended.items;
+  redo_from = redo_from;
+  redone = redone;
+  losers = x.losers;
+  in_doubt = x.in_doubt.items;
+  compensated = x.compensated;
+  ended = x.ended;
+}

@@ -5,6 +5,7 @@ use Rattle.page.specs.declared.fault.Fault.{Fault}
 use Rattle.page.specs.declared.fault.Fault.TheVariants.{NoResource, BadMaster, PageAheadOfLog, NoSuchPage, BrokenChain, BadParting, BadWorkers}
 use Rattle.page.specs.declared.page.Page.{Page}
 use Rattle.page.specs.Store.{StoreContent, AreNumbered}
+use Rattle.changes.specs.declared.pages.Pages.{Ghosts as Pages}
 use Rattle.wal.specs.Content.{entry_of}
 use Rattle.wal.specs.Records.{LogRecord, LogContent, history, ◌⧺◌, last_lsn}
 use Rattle.wal.specs.declared.record.Entry.{Entry}
@@ -16,10 +17,10 @@ use Rattle.tables.specs.Lawful.{AreTrue}
 use Rattle.tables.specs.Tables.{TablesContent, losers_in}
 use Rattle.analysis.specs.Tables.{AreTablesOf, AreTransactionsOf, AreDirtyPagesOf, BaseFault, base_of}
 use Rattle.redo.specs.Parting.{PartingContent}
-use Rattle.redo.specs.declared.redone.Redone.{Redone}
-use Rattle.redo.specs.Redone.{redone_page, applied_to, AreWorkers, AllExist, IsFirstMissing, RedoFault}
+use Rattle.redo.specs.Redone.{RedoneContent, redone_page, applied_to, AreWorkers, AllExist, IsFirstMissing, RedoFault}
 use Rattle.restart.specs.declared.outcome.Outcome.{Outcome}
-use Rattle.restart.specs.Outcome.{OutcomeContent, outcome_in}
+use Rattle.restart.specs.declared.outcome.UndoOutcome.{UndoOutcome}
+use Rattle.restart.specs.Outcome.{OutcomeContent, outcome_in, outcome_with}
 use Rattle.restart.specs.Results.{UnlessMemory}
 use Rattle.undo.specs.declared.appended.Appended.{Appended}
 use Rattle.undo.specs.Appended.{HaveUpdates, full_records}
@@ -80,8 +81,8 @@ abbrev pub AreAllButLosers : TablesContent → List ℕ → Type 0
 AreAllButLosers tables numbers = length numbers + length (losers_in tables) ≡ length tables.transactions
 
 -- the losers of the tables are rolled back on the pages that redo made, and the outcome reports it
-pub record RollsBack (log : LogContent) (master : ℕ) (tables : TablesContent) (redone : Redone) (x : OutcomeContent) : Type 0 where
-  pub rolled_back : RolledBack log tables redone.pages.items x.store.pages x.appended
+pub record RollsBack (log : LogContent) (master : ℕ) (tables : TablesContent) (redone : RedoneContent) (x : OutcomeContent) : Type 0 where
+  pub rolled_back : RolledBack log tables redone.pages x.store.pages x.appended
   pub master_kept : x.store.master ≡ master
   pub redo_from : x.redo_from ≡ tables.redo_lsn
   pub applied : x.redone ≡ redone.applied
@@ -92,11 +93,11 @@ pub record RollsBack (log : LogContent) (master : ℕ) (tables : TablesContent) 
 
 -- what analysis and redo have made of a log and a store, before losers are rolled back: analysis found these tables, no page is ahead
 -- of the log, and redo by the tables found all pages
-pub record IsRedone (log : LogContent) (before : StoreContent) (tables : TablesContent) (redone : Redone) : Type 0 where
+pub record IsRedone (log : LogContent) (before : StoreContent) (tables : TablesContent) (redone : RedoneContent) : Type 0 where
   pub are : AreTablesOf log before.master tables
   pub none_ahead : NoneAhead log before
   pub exist : AllExist log (length before.pages) tables.redo_lsn
-  pub redone_pages : redone.pages.items ≡ map (redone_page log tables) before.pages
+  pub redone_pages : redone.pages ≡ map (redone_page log tables) before.pages
   pub applied : redone.applied ≡ sum (map (applied_to log tables) before.pages)
 
 -- BY HALVES
@@ -106,10 +107,10 @@ AreEntriesOf log master entries = AreTransactionsOf log master (map entry_of ent
 
 -- by the dirty pages only, whatever the transactions:
 -- what redo has made of a log and a store; the tables are looked at only for their pages, and for where redo begins
-pub record RedoesPages (log : LogContent) (before : StoreContent) (pages : TablesContent) (redone : Redone) : Type 0 where
+pub record RedoesPages (log : LogContent) (before : StoreContent) (pages : TablesContent) (redone : RedoneContent) : Type 0 where
   pub are : AreDirtyPagesOf log before.master pages.dirty pages.redo_lsn
   pub exist : AllExist log (length before.pages) pages.redo_lsn
-  pub redone_pages : redone.pages.items ≡ map (redone_page log pages) before.pages
+  pub redone_pages : redone.pages ≡ map (redone_page log pages) before.pages
   pub applied : redone.applied ≡ sum (map (applied_to log pages) before.pages)
 
 -- the error if it has made nothing, memory aside
@@ -121,13 +122,13 @@ ForwardFault log before workers e =
 -- EVERY INPUT. By the tables that analysis finds, redo makes the pages, and their losers are rolled back; no error condition holds.
 pub record Restarts (log : LogContent) (before : StoreContent) (x : OutcomeContent) : Type 0 where
   pub tables : TablesContent
-  pub redone : Redone
+  pub redone : RedoneContent
   pub is : IsRedone log before tables redone
   pub rolls_back : RollsBack log before.master tables redone x
 
 -- LAWFUL INPUT over base pages
 -- for a lawful log and its store, over any base pages, true tables are found, unless memory is refused
-abbrev pub FindsTrueTables : LogContent → StoreContent → Result (TablesContent × Redone) Fault → Type 0
+abbrev pub FindsTrueTables : LogContent → StoreContent → Result (TablesContent × RedoneContent) Fault → Type 0
 FindsTrueTables log before result = (base : BasePages) → Lawful base log before → UnlessMemory result (λ x. AreTrue log before x.0)
 
 -- a lawful log and its store without a loser, on which a restart appends nothing and leaves the store as it is
@@ -202,17 +203,51 @@ RestartFault log before parting workers e =
 
 -- THE END OF A RESTART, by what was gathered of the whole log. Redo by the tables has made pages of a store with this master.
 -- the outcome is that of a restart on the whole log and the store
-abbrev pub RestartsOnWhole : (some : LogContent) → (master : ℕ) → TablesContent → Redone → Result (Outcome Appended) Fault → Type 0
+abbrev pub RestartsOnWhole : (some : LogContent) → (master : ℕ) → TablesContent → RedoneContent → Result (Outcome Appended) Fault → Type 0
 RestartsOnWhole some master tables redone result = (whole : LogContent) (before : StoreContent) → HasEnough whole some tables
     → before.master ≡ master → IsRedone whole before tables redone → IfOk result (λ x. Restarts whole before (outcome_in (history whole) x))
 
 -- for a lawful whole log and its store, over any base pages, and true tables: it restores them, unless memory is refused
-abbrev pub RestoresWhole : (some : LogContent) → (master : ℕ) → TablesContent → Redone → Result (Outcome Appended) Fault → Type 0
+abbrev pub RestoresWhole : (some : LogContent) → (master : ℕ) → TablesContent → RedoneContent → Result (Outcome Appended) Fault → Type 0
 RestoresWhole some master tables redone result = (whole : LogContent) (base : BasePages) (before : StoreContent) → HasEnough whole some tables
     → Lawful base whole before → AreNumbered before.pages → before.master ≡ master → AreTrue whole before tables → IsRedone whole before tables redone
     → UnlessMemory result (λ x. Restores base whole before (outcome_in (history whole) x))
 
 -- an error is that of the whole log and the store
-abbrev pub FailsOnWhole : (some : LogContent) → TablesContent → Redone → Result (Outcome Appended) Fault → Type 0
+abbrev pub FailsOnWhole : (some : LogContent) → TablesContent → RedoneContent → Result (Outcome Appended) Fault → Type 0
 FailsOnWhole some tables redone result = (whole : LogContent) (before : StoreContent) → HasEnough whole some tables
     → IsRedone whole before tables redone → IfErr result (InputFault whole before)
+
+-- THE SAME ON PAGES THAT MAY NOT BE IN MEMORY, but are shown over the pages in the store
+-- the store with the master of the one before it
+abbrev pub store_with : StoreContent → List Page → StoreContent
+store_with before pages = record { master = before.master; pages = pages }
+
+module _ {P : Type 0} (pages : Pages P) (some : LogContent) (tables : TablesContent) where
+  -- this holds, if they show the pages that redo by the tables has made
+  abbrev pub ForRedone : P → (LogContent → StoreContent → (stored redone : List Page) → (applied : ℕ) → Type 0) → Type 0
+  ForRedone old Holds = (whole : LogContent) (before : StoreContent) (stored redone : List Page) (applied : ℕ) → HasEnough whole some tables → AreNumbered redone
+      → pages.shows old stored redone → IsRedone whole before tables (record { pages = redone; applied = applied }) → Holds whole before stored redone applied
+
+  -- they then show those after a restart on the whole log and the store
+  abbrev pub RestartsFrom : (old new : P) → UndoOutcome → Type 0
+  RestartsFrom old new x = ForRedone old (λ whole before stored redone applied. (after : List Page) × pages.shows new stored after
+      × Restarts whole before (outcome_with (store_with before after) tables.redo_lsn applied (history whole) x))
+
+  -- for a lawful log and its store, over any base pages, and true tables, this restores them
+  abbrev pub RestoresFrom : (old new : P) → UndoOutcome → Type 0
+  RestoresFrom old new x = ForRedone old (λ whole before stored redone applied. (base : BasePages) → Lawful base whole before → AreNumbered before.pages → AreTrue whole before tables
+      → (after : List Page) × pages.shows new stored after × Restores base whole before (outcome_with (store_with before after) tables.redo_lsn applied (history whole) x))
+
+  -- an error is that of the whole log and the store
+  abbrev pub FailsFrom : P → Fault → Type 0
+  FailsFrom old e = ForRedone old (λ whole before stored redone applied. InputFault whole before e)
+
+  -- and for a lawful log and its store only a lack of memory
+  abbrev pub LacksMemoryFrom : P → Fault → Type 0
+  LacksMemoryFrom old e = ForRedone old (λ whole before stored redone applied. (base : BasePages) → Lawful base whole before → AreNumbered before.pages → AreTrue whole before tables
+      → e ≡ NoResource)
+
+-- pages that are at their numbers stay so
+abbrev pub StayNumbered : {P : Type 0} → (pages : Pages P) → (old new : P) → Type 0
+StayNumbered pages old new = (stored given : List Page) → pages.shows old stored given → AreNumbered given → (after : List Page) × pages.shows new stored after × AreNumbered after

@@ -56,3 +56,18 @@ pub fn outcome_of(alloc: Global, log: &Looked, brief: BriefOutcome) -> Result<Ou
         ended: brief.ended,
     })
 }
+
+/// What the rollback of the losers returns, besides the pages that it changes.
+#[derive(Drop)]
+pub struct UndoOutcome {
+    /// The records to append, in compact form.
+    pub appended: Vec<Appended>,
+    /// How many losers there are.
+    pub losers: u64,
+    /// The transactions in doubt, in ascending order.
+    pub in_doubt: Vec<u32>,
+    /// How many updates are compensated.
+    pub compensated: u64,
+    /// How many ends are appended.
+    pub ended: u64,
+}

@@ -7,18 +7,19 @@ ghost use Rattle.undo.specs.Appended.{HaveUpdates, AreFit};
 ghost use Rattle.undo.specs.Enough.{AppendsAlike};
 ghost use Rattle.undo.specs.Undone.{HasNoTransaction0, AreWritable};
 ghost use Rattle.restart.specs.Outcome.{outcome_of, outcome_in};
-ghost use Rattle.restart.specs.Restart.{AreSettings, SettingsFault, AheadFault, ForLast, IsCount, clrs_in, ends_in, Restarts, RestoresWith, RestoresInBrief, RestartsOnWhole, RestoresWhole, FailsOnWhole, RestartFault};
+ghost use Rattle.restart.specs.Restart.{AreSettings, SettingsFault, AheadFault, ForLast, IsCount, clrs_in, ends_in, Restarts, RestoresWith, RestoresInBrief, RestartsOnWhole, RestoresWhole, FailsOnWhole, RestartFault, RestartsFrom, RestoresFrom, FailsFrom, LacksMemoryFrom, StayNumbered};
 ghost use Rattle.restart.specs.Results.{IsErrWhen};
 
 use crate::doubt::in_doubt;
 use crate::forward::go_forward;
-use crate::outcome::{BriefOutcome, Outcome, outcome_of};
+use crate::outcome::{BriefOutcome, Outcome, UndoOutcome, outcome_of};
+use changes::Pages;
 use page::{Fault, Page, Store};
 use redo::{Gate, Parting, Redone, are_workers};
 use std::alloc::Global;
 use std::thread::Threads;
 use tables::Tables;
-use undo::{Appended, Looked, Place, undo_in_brief};
+use undo::{Appended, Looked, Place, undo_on};
 use wal::Log;
 
 /// Returns an error for a number of workers out of its range, then for a partition of another
@@ -68,6 +69,50 @@ fn count_kinds(appended: &[Appended]) -> (u64, u64)
     (clrs, ends)
 }
 
+/// Rolls the losers back on the redone pages of a store, or on their changes, which ends a restart.
+/// `log` and `tables` are as for [`roll_back`], and so are the errors. After an error the pages are
+/// not specified.
+pub fn roll_back_on<P: Pages>(
+    alloc: Global,
+    log: &Looked,
+    tables: &Tables,
+    pages: &mut P,
+) -> Result<UndoOutcome, Fault>
+    requires no_transaction_0 { HasNoTransaction0 tables.now }
+    // On success: what undo makes of the whole log and the pages; for a lawful log and its store,
+    // over any base pages, the log's tail and the store that the winners leave.
+    ensures restarts { IfOk result
+        (RestartsFrom P.Pages log.now tables.now pages.old pages.new) }
+    ensures restores { IfOk result
+        (RestoresFrom P.Pages log.now tables.now pages.old pages.new) }
+    ensures numbered { OnOk result (StayNumbered P.Pages pages.old pages.new) }
+
+    // What is appended is the same by what was gathered and by the whole log.
+    ensures alike { IfOk result (λ x. AppendsAlike log.now tables.now x.appended.items) }
+
+    // Each update that is named is in the log; each appended record has an encoding, and they are
+    // so few that there are LSNs for them after the log.
+    ensures told { IfOk result (λ x. HaveUpdates log.now x.appended.items) }
+    ensures writable { IfOk result (λ x. AreFit log.now x.appended.items) }
+    ensures few { IfOk result (λ x. length x.appended.items ≤ 2 * length log.now.records + 2 ^ 32) }
+
+    // On an error, its condition holds for the whole log and the store, memory aside.
+    ensures fault { IfErr result (FailsFrom P.Pages log.now tables.now pages.old) }
+    ensures lawful { IfErr result (LacksMemoryFrom P.Pages log.now tables.now pages.old) }
+{
+    let in_doubt = in_doubt(alloc, tables)?;
+    let appended = undo_on(alloc, log, tables, pages)?;
+    let (compensated, ended) = count_kinds(&appended);
+    let losers = tables.transactions.len() - in_doubt.len();
+    Ok(UndoOutcome {
+        appended,
+        losers: losers as u64,
+        in_doubt,
+        compensated,
+        ended,
+    })
+}
+
 /// Rolls the losers back on the redone pages of a store, which ends a restart. `master`, `tables`
 /// and `redone` are the store's master, the tables that analysis finds in the whole log, and what
 /// redo makes of the store by them.
@@ -86,7 +131,7 @@ pub fn roll_back(
     tables: &Tables,
     redone: Redone,
 ) -> Result<BriefOutcome, Fault>
-    requires numbered { AreNumbered redone.pages.items }
+    requires numbered { AreNumbered redone.pages }
     requires no_transaction_0 { HasNoTransaction0 tables.now }
     // For a lawful log and its store, over any base pages: the log's tail and the store that the
     // winners leave.
@@ -107,19 +152,17 @@ pub fn roll_back(
     // On an error, its condition holds for the whole log and the store, memory aside.
     ensures fault { FailsOnWhole log.now tables.now redone result }
 {
-    let in_doubt = in_doubt(alloc, tables)?;
-    let (pages, appended) = undo_in_brief(alloc, log, tables, redone.pages)?;
-    let (compensated, ended) = count_kinds(&appended);
-    let losers = tables.transactions.len() - in_doubt.len();
+    let Redone { mut pages, applied } = redone;
+    let rolled = roll_back_on(alloc, log, tables, &mut pages)?;
     Ok(Outcome {
         store: Store { master, pages },
-        appended,
+        appended: rolled.appended,
         redo_from: tables.redo_lsn,
-        redone: redone.applied,
-        losers: losers as u64,
-        in_doubt,
-        compensated,
-        ended,
+        redone: applied,
+        losers: rolled.losers,
+        in_doubt: rolled.in_doubt,
+        compensated: rolled.compensated,
+        ended: rolled.ended,
     })
 }
 

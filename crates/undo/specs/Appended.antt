@@ -5,8 +5,10 @@ use Rattle.page.specs.declared.page.Page.{Page}
 use Rattle.wal.specs.Records.{LogRecord, LogContent, Update, End, CheckpointBegin, History, history, record_at}
 use Rattle.wal.specs.Tail.{Undo, record_for, tail_of}
 use Rattle.wal.specs.Spelling.{Fits}
-use Rattle.tables.specs.Tables.{TablesContent}
-use Rattle.undo.specs.Undone.{undone_page, RolledBack, HasNoTransaction0}
+use Rattle.wal.specs.Store.{NamesPages}
+use Rattle.wal.specs.Undo.{undone_by}
+use Rattle.tables.specs.Tables.{TablesContent, losers_in}
+use Rattle.undo.specs.Undone.{NoBadHop, MetExist, RolledBack, HasNoTransaction0}
 use Rattle.undo.specs.declared.appended.Appended.{Appended}
 use Rattle.undo.specs.declared.appended.Appended.TheVariants as brief
 
@@ -48,15 +50,24 @@ AreFit log appended = All (λ a. Fits (record_of (history log) a)) appended
 abbrev pub TellTail : LogContent → List Appended → Type 0
 TellTail log appended = full_records log appended ≡ tail_of log
 
--- the pages have their effects
-abbrev pub AreUndone : LogContent → (given : List Page) → List Appended → (pages : List Page) → Type 0
-AreUndone log given appended pages = pages ≡ map (undone_page (history log) (full_records log appended)) given
-
 -- THE LOSERS ARE ROLLED BACK, and these are the appended records in compact form
 pub record RolledBackInBrief (log : LogContent) (tables : TablesContent) (given pages : List Page) (appended : List Appended) : Type 0 where
   pub rolled_back : RolledBack log tables given pages (full_records log appended)
   pub updates : HaveUpdates log appended
   pub writable : HasNoTransaction0 tables → AreFit log appended
+
+-- THE SAME WITHOUT THE PAGES, of which there are so many
+pub record RolledBackOn (log : LogContent) (tables : TablesContent) (count : ℕ) (appended : List Appended) : Type 0 where
+  pub appended_are : full_records log appended ≡ undone_by (history log) (losers_in tables)
+  pub no_bad_hop : NoBadHop (history log) (losers_in tables)
+  pub met_exist : MetExist (history log) (losers_in tables) count 0
+  pub exist : All (NamesPages count) (full_records log appended)
+  pub updates : HaveUpdates log appended
+  pub writable : HasNoTransaction0 tables → AreFit log appended
+
+-- the compact records that undo returns
+abbrev pub UndoesOn : LogContent → TablesContent → (count : ℕ) → Vec Appended Global → Type 0
+UndoesOn log tables count appended = RolledBackOn log tables count appended.items
 
 -- the pages and the compact records that undo returns: the losers are rolled back
 abbrev pub UndoesInBrief : LogContent → TablesContent → (given : List Page) → Vec Page Global × Vec Appended Global → Type 0

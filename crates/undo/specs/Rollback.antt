@@ -1,8 +1,9 @@
 -- A rollback in progress: where each loser continues, and what is left to be undone (own).
-use Rattle.std.specs.Prelude.{◌≡◌, ◌≢◌, ℕ, suc, ◌+◌, ◌-◌, ◌<◌, ◌≤◌, ◌⊎◌, List, All, [], ◌∷◌, ◌++◌, length, flat_map, Option, Some, None, Vec, option_map, MatchOption, true, ◌==◌, if◌then◌else◌, ⊤}
+use Rattle.std.specs.Prelude.{◌≡◌, ◌≢◌, ℕ, suc, ◌+◌, ◌-◌, ◌<◌, ◌≤◌, ◌⊎◌, List, All, [], ◌∷◌, ◌++◌, length, flat_map, map, Option, Some, None, Vec, option_map, MatchOption, true, ◌==◌, if◌then◌else◌, ⊤}
 use Rattle.std.specs.declared.alloc.Global.{Global}
 use Rattle.page.specs.declared.page.Page.{Page}
 use Rattle.page.specs.Store.{AreNumbered}
+use Rattle.changes.specs.declared.pages.Pages.{Ghosts as Pages}
 use Rattle.page.specs.declared.fault.Fault.{Fault}
 use Rattle.page.specs.declared.fault.Fault.TheVariants.{NoResource, NoSuchPage, BrokenChain}
 use Rattle.wal.specs.Records.{TableEntry, UpdateRecord, LogRecord, LogContent, Update, End, History, history, last_lsn, record_at, first}
@@ -11,8 +12,8 @@ use Rattle.wal.specs.Tail.{Action, Undo, record_for, records_for, is_among, is_s
 use Rattle.wal.specs.Store.{NamesPages}
 use Rattle.wal.specs.Undo.{entry_for, walk_of, undone_by}
 use Rattle.tables.specs.Tables.{TablesContent, losers_in}
-use Rattle.undo.specs.Undone.{UndoFault, RollbackFault, HasNoTransaction0}
-use Rattle.undo.specs.Appended.{full_records, HaveUpdates, AreFit, AreUndone, RolledBackInBrief}
+use Rattle.undo.specs.Undone.{undone_page, UndoFault, HasNoTransaction0}
+use Rattle.undo.specs.Appended.{full_records, HaveUpdates, AreFit, RolledBackOn}
 use Rattle.undo.specs.declared.appended.Appended.{Appended}
 use Rattle.undo.specs.declared.walk.Hop.{Hop}
 use Rattle.undo.specs.declared.walk.Hop.TheVariants as hop
@@ -135,8 +136,7 @@ pub record RollbackInvariant (log : History) (losers : List TableEntry) (count :
 
 -- ONE UPDATE
 -- its CLR is appended, and the walk continues to its PrevLSN
-pub record Compensated (u : UpdateRecord) (last count prev : ℕ) (before after : List LogRecord) : Type 0 where
-  pub exists : u.page < count
+pub record Compensated (u : UpdateRecord) (last prev : ℕ) (before after : List LogRecord) : Type 0 where
   pub goes_on : prev ≡ u.prev
   pub appended : after ≡ before ++ record_for (λ _. last) (Undo u) ∷ []
 
@@ -144,10 +144,14 @@ pub record Compensated (u : UpdateRecord) (last count prev : ℕ) (before after 
 abbrev pub KeepsUpdates : LogContent → (before after : Vec Appended Global) → Type 0
 KeepsUpdates log before after = Preserves (HaveUpdates log) before.items after.items
 
+-- its page is there
+abbrev pub ExistsAt : History → (update_lsn count : ℕ) → Type 0
+ExistsAt log update_lsn count = ForUpdateAt log update_lsn (λ u. u.page < count)
+
 -- the same for the update at an LSN, with the CLR in compact form
-abbrev pub Undoes : LogContent → (update_lsn last : ℕ) → (pages : List Page) → (before after : Vec Appended Global) → (prev : ℕ) → Type 0
-Undoes log update_lsn last pages before after prev =
-    ForUpdateAt (history log) update_lsn (λ u. Compensated u last (length pages) prev (full_records log before.items) (full_records log after.items))
+abbrev pub Undoes : LogContent → (update_lsn last : ℕ) → (before after : Vec Appended Global) → (prev : ℕ) → Type 0
+Undoes log update_lsn last before after prev =
+    ForUpdateAt (history log) update_lsn (λ u. Compensated u last prev (full_records log before.items) (full_records log after.items))
 
 -- the error if it is not undone, memory aside: its page is missing
 abbrev pub CompensationFault : History → ℕ → ℕ → Fault → Type 0
@@ -155,10 +159,14 @@ CompensationFault log update_lsn count NoResource = ⊤
 CompensationFault log update_lsn count (NoSuchPage lsn) = (lsn ≡ update_lsn) × ForUpdateAt log update_lsn (λ u. count ≤ u.page)
 CompensationFault log update_lsn count e = ⊥
 
--- pages with the effects of what was appended have those of what is appended now
-abbrev pub KeepsUndone : LogContent → (before : Vec Appended Global) → (old : List Page) → (after : Vec Appended Global) → (new : List Page) → Type 0
-KeepsUndone log before old after new =
-    (given : List Page) → AreNumbered given → AreUndone log given before.items old → AreUndone log given after.items new
+-- the given pages, with the effects of what is appended
+abbrev pub undone_pages : LogContent → List Appended → (given : List Page) → List Page
+undone_pages log appended given = map (undone_page (history log) (full_records log appended)) given
+
+-- pages that show the effects of what was appended show those of what is appended now
+abbrev pub PutsBack : {P : Type 0} → (pages : Pages P) → LogContent → (before : Vec Appended Global) → (old : P) → (after : Vec Appended Global) → (new : P) → Type 0
+PutsBack pages log before old after new = (stored given : List Page) → AreNumbered given
+    → pages.shows old stored (undone_pages log before.items given) → pages.shows new stored (undone_pages log after.items given)
 
 -- A ROLLBACK IN PROGRESS, as the program has it
 -- the loser that waits at an LSN
@@ -175,35 +183,50 @@ pub record Resolves (log : LogContent) (l : Loser) (from lsn : ℕ) (old new : R
   pub updates : Preserves (HaveUpdates log) old.appended.items new.appended.items
   pub writable : 0 < l.tx → Preserves (AreFit log) old.appended.items new.appended.items
 
--- the losers of the tables are being rolled back on pages that were the given ones: what is left waits, and the pages have the effects of
--- what is appended
-pub record IsRolling (log : LogContent) (tables : TablesContent) (given : List Page) (r : Rollback) (pages : List Page) : Type 0 where
-  pub numbered : AreNumbered given
-  pub left : RollbackInvariant (history log) (losers_in tables) (length given) (loser_at r) (full_records log r.appended.items)
+-- the losers of the tables are being rolled back, on so many pages: what is left waits
+pub record IsRolling (log : LogContent) (tables : TablesContent) (count : ℕ) (r : Rollback) : Type 0 where
+  pub left : RollbackInvariant (history log) (losers_in tables) count (loser_at r) (full_records log r.appended.items)
   pub updates : HaveUpdates log r.appended.items
-  pub exist : All (NamesPages (length given)) (full_records log r.appended.items)
-  pub pages_are : AreUndone log given r.appended.items pages
+  pub exist : All (NamesPages count) (full_records log r.appended.items)
   pub writable : HasNoTransaction0 tables → AreFit log r.appended.items
 
--- it begins so, on any pages
+-- it begins so, on any number of pages
 abbrev pub BeginsRollback : LogContent → TablesContent → Rollback → Type 0
-BeginsRollback log tables r = (pages : List Page) → AreNumbered pages → IsRolling log tables pages r pages
+BeginsRollback log tables r = (count : ℕ) → IsRolling log tables count r
+
+-- what is appended then changes no page
+abbrev pub ChangesNoPage : LogContent → Rollback → Type 0
+ChangesNoPage log r = (given : List Page) → given ≡ undone_pages log r.appended.items given
 
 -- the loser that waited at the newest update has been taken
-pub record IsTaken (log : LogContent) (tables : TablesContent) (given : List Page) (update_lsn : ℕ) (l : Loser) (r : Rollback) (pages : List Page) : Type 0 where
+pub record IsTaken (log : LogContent) (tables : TablesContent) (count update_lsn : ℕ) (l : Loser) (r : Rollback) : Type 0 where
   pub before : Turns
-  pub rolling : IsRolling log tables given (record { waiting = before; appended = r.appended }) pages
+  pub rolling : IsRolling log tables count (record { waiting = before; appended = r.appended })
   pub taken : Taken update_lsn l (turn_at before) (loser_at r)
 
 -- its update is undone, and it is resolved again
-abbrev pub UndoesAt : LogContent → ℕ → Loser → (old : Rollback) → (before : List Page) → (new : Rollback) → (after : List Page) → Type 0
-UndoesAt log update_lsn l old before new after =
-    (tables : TablesContent) (given : List Page) → IsTaken log tables given update_lsn l old before → IsRolling log tables given new after
+abbrev pub UndoesAt : LogContent → (count update_lsn : ℕ) → Loser → (old new : Rollback) → Type 0
+UndoesAt log count update_lsn l old new = (tables : TablesContent) → IsTaken log tables count update_lsn l old → IsRolling log tables count new
+
+-- the pages show the effects of what a rollback has appended
+abbrev pub PutsAllBack : {P : Type 0} → (pages : Pages P) → LogContent → (before : Rollback) → (old : P) → (after : Rollback) → (new : P) → Type 0
+PutsAllBack pages log before old after new = PutsBack pages log before.appended old after.appended new
 
 -- all that was left is undone
-abbrev pub HasUndoneAll : LogContent → (old : Rollback) → (before : List Page) → (new : Rollback) → (after : List Page) → Type 0
-HasUndoneAll log old before new after =
-    (tables : TablesContent) (given : List Page) → IsRolling log tables given old before → RolledBackInBrief log tables given after new.appended.items
+abbrev pub HasUndoneAll : LogContent → (count : ℕ) → (old new : Rollback) → Type 0
+HasUndoneAll log count old new = (tables : TablesContent) → IsRolling log tables count old → RolledBackOn log tables count new.appended.items
+
+-- each update that is named is in the log, as before, and each appended record has an encoding
+abbrev pub StayTold : LogContent → (old new : Rollback) → Type 0
+StayTold log old new = Preserves (HaveUpdates log) old.appended.items new.appended.items
+
+abbrev pub StayFit : LogContent → (old new : Rollback) → Type 0
+StayFit log old new = Preserves (AreFit log) old.appended.items new.appended.items
+
+-- the pages that were shown, with the effects of what is appended
+abbrev pub ShowsUndone : {P : Type 0} → (pages : Pages P) → LogContent → (old new : P) → Vec Appended Global → Type 0
+ShowsUndone pages log old new appended = (stored given : List Page) → AreNumbered given → pages.shows old stored given
+    → pages.shows new stored (undone_pages log appended.items given)
 
 -- at most this many records are appended
 abbrev pub AppendsAtMost : (most : ℕ) → (old new : Rollback) → Type 0
@@ -213,11 +236,13 @@ AppendsAtMost most old new = length new.appended.items ≤ length old.appended.i
 abbrev pub StopsBeginning : LogContent → TablesContent → Fault → Type 0
 StopsBeginning log tables e = (count : ℕ) → UndoFault (history log) (losers_in tables) count e
 
--- why the one cannot be undone, and why all cannot
-abbrev pub StopsUndo : LogContent → ℕ → Loser → Rollback → List Page → Fault → Type 0
-StopsUndo log update_lsn l r pages e =
-    (tables : TablesContent) (given : List Page) → IsTaken log tables given update_lsn l r pages → RollbackFault log tables given e
+-- why the one cannot be undone, and why all cannot, on so many pages
+abbrev pub StopsUndo : LogContent → (count update_lsn : ℕ) → Loser → Rollback → Fault → Type 0
+StopsUndo log count update_lsn l r e = (tables : TablesContent) → IsTaken log tables count update_lsn l r → UndoFault (history log) (losers_in tables) count e
 
-abbrev pub StopsRollback : LogContent → Rollback → List Page → Fault → Type 0
-StopsRollback log r pages e =
-    (tables : TablesContent) (given : List Page) → IsRolling log tables given r pages → RollbackFault log tables given e
+abbrev pub StopsRollback : LogContent → (count : ℕ) → Rollback → Fault → Type 0
+StopsRollback log count r e = (tables : TablesContent) → IsRolling log tables count r → UndoFault (history log) (losers_in tables) count e
+
+-- the error of undo on so many pages
+abbrev pub FaultOn : LogContent → TablesContent → (count : ℕ) → Fault → Type 0
+FaultOn log tables count e = UndoFault (history log) (losers_in tables) count e

@@ -18,4 +18,4 @@ pub use gathered::Gathered;
 pub use gathering::Gathering;
 pub use laws::{gathered_suffices, no_fault_of_undo, one_undo_fault};
 pub use looked::{Looked, Place};
-pub use rollback::{undo, undo_in_brief};
+pub use rollback::{undo, undo_in_brief, undo_on};

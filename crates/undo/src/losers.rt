@@ -5,7 +5,7 @@ ghost use Rattle.wal.specs.Records.{history, last_lsn};
 ghost use Rattle.wal.specs.Content.{entry_of};
 ghost use Rattle.wal.specs.Undo.{is_lost};
 ghost use Rattle.tables.specs.Tables.{losers_in};
-ghost use Rattle.undo.specs.Rollback.{walk_from, WalkFault, loser_at, AreUpdates, AreOthers, Resolves, BeginsRollback, StopsBeginning};
+ghost use Rattle.undo.specs.Rollback.{walk_from, WalkFault, loser_at, AreUpdates, AreOthers, Resolves, BeginsRollback, ChangesNoPage, StopsBeginning};
 
 use crate::Appended;
 use crate::looked::Looked;
@@ -49,6 +49,7 @@ impl Rollback {
     /// Resolves the losers of the tables, in ascending order of number, each from its UndoNxtLSN.
     pub fn of_losers(alloc: Global, log: &Looked, tables: &Tables) -> Result<Rollback, Fault>
         ensures ok { IfOk result (BeginsRollback log.now tables.now) }
+        ensures pages { IfOk result (ChangesNoPage log.now) }
         ensures few { IfOk result (λ r. length r.appended.items ≤ length (losers_in tables.now)) }
         ensures numbers { OnOk result (length (losers_in tables.now) ≤ 2 ^ 32) }
         ensures fault { IfErr result (StopsBeginning log.now tables.now) }

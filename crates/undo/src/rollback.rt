@@ -6,12 +6,13 @@ ghost use Rattle.page.specs.Store.{AreNumbered};
 ghost use Rattle.wal.specs.Records.{history, record_at, last_lsn};
 ghost use Rattle.tables.specs.Tables.{losers_in};
 ghost use Rattle.undo.specs.Undone.{UndoesLosers, AppendsTail, most_appended, IsLawfulCrash, RollbackFault, HasNoTransaction0, AreWritable};
-ghost use Rattle.undo.specs.Appended.{IsUpdate, HaveUpdates, AreFit, UndoesInBrief, HasTailInBrief};
-ghost use Rattle.undo.specs.Rollback.{Preserves, loser_at, ForUpdateAt, IsUpdateAt, Undoes, KeepsUndone, KeepsUpdates, CompensationFault, WaitBelow, AreOthers, WaitOnce, AreUpdates, UndoesAt, HasUndoneAll, AppendsAtMost, StopsUndo, StopsRollback};
+ghost use Rattle.undo.specs.Appended.{IsUpdate, HaveUpdates, AreFit, UndoesInBrief, HasTailInBrief, UndoesOn};
+ghost use Rattle.undo.specs.Rollback.{Preserves, loser_at, ForUpdateAt, ExistsAt, IsUpdateAt, Undoes, PutsBack, PutsAllBack, KeepsUpdates, CompensationFault, WaitBelow, AreOthers, WaitOnce, AreUpdates, UndoesAt, HasUndoneAll, AppendsAtMost, StayTold, StayFit, ShowsUndone, StopsUndo, StopsRollback, FaultOn};
 
 use crate::appended::{Appended, records_of};
 use crate::looked::{Looked, Place};
 use crate::losers::{Loser, Rollback};
+use changes::Pages;
 use page::{Fault, Page};
 use std::alloc::Global;
 use tables::Tables;
@@ -19,26 +20,27 @@ use wal::{Log, Record, RecordView, value_of};
 
 /// Undoes the update at an LSN: appends its CLR, which has this LSN, and puts the before image back
 /// into the page. `last` is the LSN of its transaction's last record. Returns the update's PrevLSN.
-fn compensate(
+fn compensate<P: Pages>(
     log: &Looked,
     update_lsn: u64,
     last: u64,
     lsn: u64,
     appended: &mut Vec<Appended>,
-    pages: &mut [Page],
+    pages: &mut P,
 ) -> Result<u64, Fault>
     requires update { IsUpdate (record_at (history log.now) update_lsn) }
     requires lsn { lsn ≡ last_lsn (history log.now) + vec_len appended.old + 1 }
-    ensures ok { IfOk result
-        (Undoes log.now update_lsn last pages.old appended.old appended.new) }
-    ensures pages { OnOk result
-        (KeepsUndone log.now appended.old pages.old appended.new pages.new) }
+    ensures ok { IfOk result (Undoes log.now update_lsn last appended.old appended.new) }
+    ensures exists { OnOk result (ExistsAt (history log.now) update_lsn (P.count pages.old)) }
+    ensures put { OnOk result
+        (PutsBack P.Pages log.now appended.old pages.old appended.new pages.new) }
+    ensures count { P.count pages.new ≡ P.count pages.old }
     ensures updates { OnOk result (KeepsUpdates log.now appended.old appended.new) }
     ensures writable { OnOk result
         (Preserves (AreFit log.now) appended.old.items appended.new.items) }
     ensures counted { ForUpdateAt (history log.now) update_lsn (λ u. 0 < u.tx) }
     ensures fault { IfErr result
-        (CompensationFault (history log.now) update_lsn (length pages.old)) }
+        (CompensationFault (history log.now) update_lsn (P.count pages.old)) }
 {
     let Some(
         RecordView::Update {
@@ -59,31 +61,37 @@ fn compensate(
         update: update_lsn,
         prev: last,
     })?;
-    pages[page as usize].set(slot as usize, value_of(before), lsn);
+    pages.put(page as usize, slot as usize, value_of(before), lsn)?;
     Ok(prev)
 }
 
 impl Rollback {
     /// Undoes the newest update, at which this loser waited, and resolves the loser again.
-    fn undo_at(
+    fn undo_at<P: Pages>(
         &mut self,
         log: &Looked,
         update: u64,
         loser: Loser,
-        pages: &mut [Page],
+        pages: &mut P,
     ) -> Result<(), Fault>
         requires update { IsUpdateAt (history log.now) loser.tx update }
         requires room { vec_len self.old.appended ≤ 2 * length log.now.records + 2 ^ 32 }
         requires updates { AreUpdates log.now self.old }
         requires others { AreOthers loser.tx (loser_at self.old) }
         ensures undoes { OnOk result
-            (UndoesAt log.now update loser self.old pages.old self.new pages.new) }
+            (UndoesAt log.now (P.count pages.old) update loser self.old self.new) }
+        ensures put { OnOk result
+            (PutsAllBack P.Pages log.now self.old pages.old self.new pages.new) }
+        ensures count { P.count pages.new ≡ P.count pages.old }
         ensures updates { OnOk result (Preserves (AreUpdates log.now) self.old self.new) }
         ensures once { OnOk result (Preserves WaitOnce (loser_at self.old) (loser_at self.new)) }
         ensures falls { OnOk result
             (Preserves (WaitBelow update) (loser_at self.old) (loser_at self.new)) }
         ensures few { OnOk result (AppendsAtMost 2 self.old self.new) }
-        ensures fault { IfErr result (StopsUndo log.now update loser self.old pages.old) }
+        ensures told { OnOk result (StayTold log.now self.old self.new) }
+        ensures writable { OnOk result (StayFit log.now self.old self.new) }
+        ensures fault { IfErr result
+            (StopsUndo log.now (P.count pages.old) update loser self.old) }
     {
         let lsn = log.next_lsn() + self.appended.len() as u64;
         let prev = compensate(log, update, loser.last, lsn, &mut self.appended, pages)?;
@@ -95,19 +103,56 @@ impl Rollback {
     }
 
     /// Undoes all that is left, the newest update first.
-    fn undo_all(&mut self, log: &Looked, pages: &mut [Page]) -> Result<(), Fault>
+    fn undo_all<P: Pages>(&mut self, log: &Looked, pages: &mut P) -> Result<(), Fault>
         requires updates { AreUpdates log.now self.old }
         requires once { WaitOnce (loser_at self.old) }
         requires room { vec_len self.old.appended ≤ 2 ^ 32 }
-        ensures undoes { OnOk result (HasUndoneAll log.now self.old pages.old self.new pages.new) }
+        ensures undoes { OnOk result
+            (HasUndoneAll log.now (P.count pages.old) self.old self.new) }
+        ensures put { OnOk result
+            (PutsAllBack P.Pages log.now self.old pages.old self.new pages.new) }
+        ensures count { P.count pages.new ≡ P.count pages.old }
         ensures few { OnOk result (AppendsAtMost (2 * length log.now.records) self.old self.new) }
-        ensures fault { IfErr result (StopsRollback log.now self.old pages.old) }
+        ensures told { OnOk result (StayTold log.now self.old self.new) }
+        ensures writable { OnOk result (StayFit log.now self.old self.new) }
+        ensures fault { IfErr result (StopsRollback log.now (P.count pages.old) self.old) }
     {
         while let Some((update_lsn, loser)) = self.waiting.take_newest() {
             self.undo_at(log, update_lsn, loser, pages)?;
         }
         Ok(())
     }
+}
+
+/// Rolls the losers back on pages that are in memory, or on their changes, as [`undo_in_brief`]
+/// does. Returns the appended records in compact form. After an error the pages are not specified.
+pub fn undo_on<P: Pages>(
+    alloc: Global,
+    log: &Looked,
+    tables: &Tables,
+    pages: &mut P,
+) -> Result<Vec<Appended>, Fault>
+    // The losers are rolled back: these records are appended, and the pages have their effects.
+    ensures rolled_back { IfOk result (UndoesOn log.now tables.now (P.count pages.old)) }
+    ensures pages { IfOk result (ShowsUndone P.Pages log.now pages.old pages.new) }
+
+    // Each update that is named is in the log, and each appended record has an encoding, if no
+    // loser has the number 0.
+    ensures told { IfOk result (λ x. HaveUpdates log.now x.items) }
+    ensures writable { HasNoTransaction0 tables.now → IfOk result (λ x. AreFit log.now x.items) }
+
+    // At most two records are appended for each record of the log, and one for each loser; losers
+    // have numbers of 32 bits.
+    ensures few { IfOk result (λ x. length x.items ≤ most_appended log.now tables.now) }
+    ensures numbers { OnOk result (length (losers_in tables.now) ≤ 2 ^ 32) }
+
+    // On an error, its condition holds: a bad hop or a missing page, whichever comes first, memory
+    // aside.
+    ensures fault { IfErr result (FaultOn log.now tables.now (P.count pages.old)) }
+{
+    let mut rollback = Rollback::of_losers(alloc, log, tables)?;
+    rollback.undo_all(log, pages)?;
+    Ok(rollback.appended)
 }
 
 /// [`undo`] with the appended records in compact form, which takes 24 to 48 bytes for each: what
@@ -137,9 +182,8 @@ pub fn undo_in_brief(
         → IfOk result (HasTailInBrief log.now) }
     ensures lawful { IsLawfulCrash log.now tables.now pages.items → IsOkUnless result NoResource }
 {
-    let mut rollback = Rollback::of_losers(alloc, log, tables)?;
-    rollback.undo_all(log, &mut pages)?;
-    Ok((pages, rollback.appended))
+    let appended = undo_on(alloc, log, tables, &mut pages)?;
+    Ok((pages, appended))
 }
 
 /// [`undo`] of a log that is looked at.

@@ -5,6 +5,7 @@ ghost use Rattle.page.specs.Store.{AreNumbered};
 
 use super::with_appended;
 use analysis::analyse;
+use changes::Changes;
 use checks::check;
 use core_rows::written::{
     Row, Text, checkpoint_loser, one_loser, page_with, partial_rollback_loser,
@@ -13,7 +14,7 @@ use core_rows::written::{
 use page::{Fault, Page, encode_page};
 use std::alloc::Global;
 use std::test::Fail;
-use undo::undo;
+use undo::{Looked, Place, records_of, undo, undo_on};
 use wal::{Record, read_log};
 
 pub fn alone(alloc: Global, page: Page) -> Result<Vec<Page>, Fault>
@@ -38,6 +39,31 @@ fn rolled_back(alloc: Global, log: &[u8], master: u64, page: Page) -> Result<Rol
     Ok(Rollback { pages, appended })
 }
 
+/// The same by way of changes: the page is not in memory while the losers are rolled back.
+fn rolled_back_on_changes(
+    alloc: Global,
+    log: &[u8],
+    master: u64,
+    page: Page,
+) -> Result<Rollback, Fault> {
+    let (log, _) = read_log(alloc, log)?;
+    let tables = analyse(alloc, &log, master)?;
+    let mut lsns = Vec::new(alloc);
+    lsns.push(page.lsn)?;
+    let mut changes = Changes::begin(alloc, lsns)?;
+    let looked = Looked {
+        place: Place::Log(&log),
+    };
+    let appended = undo_on(alloc, &looked, &tables, &mut changes)?;
+    let appended = records_of(alloc, &looked, &appended)?;
+    let mut page = Page { number: 0, ..page };
+    if changes.len() > 0 {
+        changes.change(&mut page);
+    }
+    let pages = alone(alloc, page)?;
+    Ok(Rollback { pages, appended })
+}
+
 /// Whether there is one page, and it is empty except for this PageLSN.
 fn is_emptied(pages: &[Page], lsn: u64) -> bool {
     match pages {
@@ -46,12 +72,18 @@ fn is_emptied(pages: &[Page], lsn: u64) -> bool {
     }
 }
 
-/// Whether undo of the row's log, with this master and page, makes the row's new log, and makes the
-/// page an empty one with this PageLSN.
-fn is_undone(alloc: Global, row: &Row, master: u64, before: Page, lsn: u64) -> Result<bool, Fault> {
-    let rollback = rolled_back(alloc, &row.given.bytes, master, before)?;
+/// Whether a rollback made the row's new log, and an empty page with this PageLSN.
+fn is_made(row: &Row, rollback: &Rollback, lsn: u64) -> Result<bool, Fault> {
     let log = with_appended(&row.given, &rollback.appended)?;
     Ok(is_emptied(&rollback.pages, lsn) && log.as_slice() == row.made.bytes.as_slice())
+}
+
+/// Whether undo of the row's log, with this master and page, makes the row's new log, and makes the
+/// page an empty one with this PageLSN; and the same by way of changes.
+fn is_undone(alloc: Global, row: &Row, master: u64, before: Page, lsn: u64) -> Result<bool, Fault> {
+    let in_memory = rolled_back(alloc, &row.given.bytes, master, before)?;
+    let on_changes = rolled_back_on_changes(alloc, &row.given.bytes, master, before)?;
+    Ok(is_made(row, &in_memory, lsn)? && is_made(row, &on_changes, lsn)?)
 }
 
 #[test]

@@ -128,22 +128,26 @@ in_order c =
     subst (Rise 0) (ap losers_in c.tables.view_is) (lost_rise 0 (map entry_of c.tables.inside.transactions.entries) (rise c.tables.inside.transactions.entries gives.5))
 
 pub returns-clause-ok : goal.returns-clause-ok
-returns-clause-ok c = λ pages numbered.
+returns-clause-ok c = λ count.
     let log = history c.args.log.now in
     let losers = losers_in c.args.tables.now in
     let rollback = c.loop-tx.rollback in
     let appended = appended_records log rollback.appended.items in
     let ends : AreEnds appended = subst AreEnds (sym c.loop-tx.invariant.begun.ends) (are_ends (filter (meets_nothing log) (lost_in (map entry_of (map deref_pair c.loop-tx.yielded))))) in
     record {
-      numbered = numbered;
       left =
           begun_rolls log losers (loser_at rollback) appended (distinct 0 losers (in_order c))
-          (subst (λ es. Begun log losers es (loser_at rollback) appended) (all_taken c) c.loop-tx.invariant.begun) (length pages);
+          (subst (λ es. Begun log losers es (loser_at rollback) appended) (all_taken c) c.loop-tx.invariant.begun) count;
       updates = c.loop-tx.invariant.updates;
-      exist = ends_name_no_page (length pages) appended ends;
-      pages_are = ends_undo_nothing log appended pages ends;
+      exist = ends_name_no_page count appended ends;
       writable = c.loop-tx.invariant.writable;
     }
+
+pub returns-clause-pages : goal.returns-clause-pages
+returns-clause-pages c = λ given.
+    let log = history c.args.log.now in
+    let appended = appended_records log c.loop-tx.rollback.appended.items in
+    ends_undo_nothing log appended given (subst AreEnds (sym c.loop-tx.invariant.begun.ends) (are_ends (filter (meets_nothing log) (lost_in (map entry_of (map deref_pair c.loop-tx.yielded))))))
 
 pub returns-clause-few : goal.returns-clause-few
 returns-clause-few c =
