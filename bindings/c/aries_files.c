@@ -517,8 +517,9 @@ static int read_log_and_store(struct aries_files *files, struct found *found) {
     files->log_bytes = read_file(files->log, &found->length);
     files->store_bytes = read_file(files->store, &files->store_length);
     if (!files->log_bytes || !files->store_bytes) return 0;
-    int has_base = found->length >= LOG_HEADER && memcmp(files->log_bytes, "ARIESLG2", 8) == 0;
-    files->base_lsn = has_base ? number_at(files->log_bytes + 8, 8) : 0;
+    struct aries_mark begin;
+    int has_header = aries_log_begin(files->log_bytes, found->length, &begin).number == ARIES_OK;
+    files->base_lsn = has_header ? begin.lsn : 0;
     return 1;
 }
 

@@ -177,7 +177,7 @@ class Driver:
         words = [self.aries, "audit", "--log", log, "--store", os.path.join(self.folder, "store")]
         with open(log, "rb") as file:
             header = file.read(16)
-        if header.startswith(b"ARIESLG2"):
+        if header[7:8] == b"2":  # the last letter of the magic is the version, the one before it the profile
             words += ["--base", os.path.join(self.folder, f"base-{int.from_bytes(header[8:], 'big')}")]
         ran = subprocess.run(words, capture_output=True, text=True)
         need(ran.stdout == "lawful\n" and ran.returncode == 0, f"{when}, by the program: {ran.stderr.strip()}")
