@@ -158,12 +158,13 @@ CUTS = {
         wal/image.rt:compensation_image
         analysis/scan.rt:prepared wal/field.rt:put_entries wal/field.rt:put_dirties wal/field.rt:entry_bytes
         wal/field.rt:put_dirty wal/field.rt:dirty_bytes wal/field.rt:state_code''',
+    'a small store': 'recovery/large_store.rt recovery/large_copying.rt',
     'a recovery': 'aries/files.rt:audit_files aries/files.rt:read_file aries/program.rt:run_audit command/job.rt:audit_job',
     'new files': '''aries/in_place.rt recovery/in_place.rt recovery/tail_file.rt aries/program.rt:run_in_place
         aries/program.rt:text_of LogBytes::sum_of_end''',
     'in place': 'aries/files.rt:recover_files',
     'in pieces': 'recovery/devices.rt:recover recovery/in_place.rt:recover_in_place',
-    'in memory': 'recovery/copying.rt recovery/by_pieces.rt',
+    'in memory': 'recovery/copying.rt recovery/by_pieces.rt aries/files.rt:is_longer',
     'an audit': '''aries/files.rt:recover_files aries/in_place.rt recovery/in_place.rt aries/program.rt:run_in_place
         command/job.rt:recover_job
         recovery/texts.rt:audit_texts_over''',
@@ -182,13 +183,13 @@ CUTS = {
 FEW = ['nothing fails', 'no checkpoint', 'updates and commits alone are read']
 # each way: its name, the most functions that it is to have, where it begins, and what it does not take
 WAYS = [
-    ('recover, 3 records', 308, 'aries_cli/main.rt:main', FEW + ['a recovery', 'new files', 'in pieces', 'one worker']),
-    ('recover in place, 3 records', 340, 'aries_cli/main.rt:main', FEW + ['a recovery', 'in place', 'in pieces', 'one worker']),
-    ('recover in memory, 3 records, 1 worker', 268, 'aries_cli/main.rt:main', FEW + ['a recovery', 'new files', 'in memory', 'one worker']),
+    ('recover, 3 records', 308, 'aries_cli/main.rt:main', FEW + ['a recovery', 'a small store', 'new files', 'in pieces', 'one worker']),
+    ('recover in place, 3 records', 340, 'aries_cli/main.rt:main', FEW + ['a recovery', 'a small store', 'in place', 'in pieces', 'one worker']),
+    ('recover in memory, 3 records, 1 worker', 268, 'aries_cli/main.rt:main', FEW + ['a recovery', 'a small store', 'new files', 'in memory', 'one worker']),
     ('recover in memory, 3 records, 4 workers', 303, 'aries_cli/main.rt:main',
-     FEW + ['a recovery', 'new files', 'in memory', 'several workers', 'a short log']),
+     FEW + ['a recovery', 'a small store', 'new files', 'in memory', 'several workers', 'a short log']),
     ('recover in memory, 100 MB with a checkpoint, 4 workers', 356, 'aries_cli/main.rt:main',
-     ['nothing fails', 'a recovery', 'new files', 'in memory', 'several workers', 'a long log']),
+     ['nothing fails', 'a recovery', 'a small store', 'new files', 'in memory', 'several workers', 'a long log']),
     ('aries_recover (C)', 165, 'aries_c/recovered.rt:aries_recover', FEW + ['no threads']),
     ('audit, with a checkpoint', 232, 'aries_cli/main.rt:main', ['nothing fails', 'an audit']),
     ('aries_dump log', 145, 'aries_dump/main.rt:main', ['nothing fails', 'a log']),

@@ -6,7 +6,10 @@ ghost use Rattle.page.specs.declared.fault.Fault.TheVariants.{NoResource};
 use crate::noted::{Call, NotedFile, Notes};
 use device::{FileSink, FileSource, Source, read_full};
 use page::Fault;
-use recovery::{Report, audit_texts, audit_texts_over, read_source, recover, recover_copying};
+use recovery::{
+    Report, audit_texts, audit_texts_over, read_source, recover, recover_copying,
+    recover_large_copying,
+};
 use redo::OpenGate;
 use restart::Options;
 use std::alloc::Global;
@@ -20,6 +23,20 @@ use wal::{BASED_HEADER_BYTES, LARGEST_BASE, read_log};
 
 /// A log of fewer bytes than this is short: starting threads takes longer than they save.
 const SHORT: usize = 16 << 20;
+
+/// A store of more bytes than this is large: it is not in memory as a whole.
+const LARGE: u64 = 16 << 20;
+
+/// How a recovery reads its files.
+#[derive(Clone, Copy, Drop)]
+pub enum Reading {
+    /// Each is in memory as a whole.
+    Whole,
+    /// The log is read in pieces.
+    Pieces,
+    /// The log and a large store are read in pieces.
+    AllPieces,
+}
 
 /// What a job reads.
 #[derive(Drop)]
@@ -149,19 +166,37 @@ fn has_low_lsns<R: Files + Clock>(rt: &R, alloc: Global, log: &Notes) -> Result<
     }
 }
 
-/// Whether an open log is to be read in pieces: it is if it is a regular file, which can be read
-/// again, and none of its LSNs is above the largest base LSN. `ReadLog` if its header could not be
+/// Whether an open file is a regular file, which can be read again, of more than `bytes` bytes.
+fn is_longer<F: OpenFile>(opened: &F, bytes: u64) -> bool {
+    match opened.metadata() {
+        Ok(metadata) => metadata.is_file() && metadata.len() > bytes,
+        Err(_) => false,
+    }
+}
+
+/// How an open log and an open store are to be read. A log is read in pieces if it is a regular
+/// file, which can be read again, and none of its LSNs is above the largest base LSN. Then a large
+/// store in a regular file is read in pieces too. `ReadLog` if the header of the log could not be
 /// read.
-pub fn goes_in_pieces<R: Files + Clock>(
+pub fn reading_of<R: Files + Clock>(
     rt: &R,
     alloc: Global,
-    opened: &R::File,
-    log: &Notes,
-) -> Result<bool, Fault> {
-    match opened.metadata() {
-        Ok(metadata) if metadata.is_file() => has_low_lsns(rt, alloc, log),
-        _ => Ok(false),
+    log: &R::File,
+    store: &R::File,
+    notes: &Notes,
+) -> Result<Reading, Fault> {
+    match log.metadata() {
+        Ok(metadata) if metadata.is_file() => {}
+        _ => return Ok(Reading::Whole),
     }
+    if !has_low_lsns(rt, alloc, notes)? {
+        return Ok(Reading::Whole);
+    }
+    Ok(if is_longer(store, LARGE) {
+        Reading::AllPieces
+    } else {
+        Reading::Pieces
+    })
 }
 
 /// Recovers the store in one file from the log in another, into two new files, each with the mode
@@ -171,7 +206,8 @@ pub fn goes_in_pieces<R: Files + Clock>(
 /// if a folder was not synced, whole.
 ///
 /// A log in a regular file is read in pieces by one thread, and copied as the new log is written.
-/// Any other log is read into memory; then one worker does all if it may and the log is short.
+/// Then a large store in a regular file is read in pieces too, twice. Any other log is read into
+/// memory; then one worker does all if it may and the log is short.
 pub fn recover_files<R: Files + Clock + Threads + Sync>(
     rt: &R,
     alloc: Global,
@@ -184,32 +220,41 @@ pub fn recover_files<R: Files + Clock + Threads + Sync>(
     let store = open(rt, &old.store, Fault::ReadStore)?;
     let new_log = make(rt, &new.log, &log, Fault::WriteLog)?;
     let new_store = make(rt, &new.store, &store, Fault::WriteStore)?;
-    let goes_in_pieces = goes_in_pieces(rt, alloc, &log, &old.log)?;
+    let reading = reading_of(rt, alloc, &log, &store, &old.log)?;
     let mut log = FileSource::sized(NotedFile::new(log, rt, &old.log));
     let mut store = FileSource::new(NotedFile::new(store, rt, &old.store));
     let mut out_log = FileSink::new(NotedFile::new(new_log, rt, &new.log));
     let mut out_store = FileSink::new(NotedFile::new(new_store, rt, &new.store));
-    let report = if goes_in_pieces {
-        recover_copying(
+    let report = match reading {
+        Reading::AllPieces => recover_large_copying(
             alloc,
             &mut log,
             &mut store,
             &mut out_log,
             &mut out_store,
             options,
-        )?
-    } else {
-        let options = options_for(options, may_be_one, log.hint());
-        recover(
-            rt,
+        )?,
+        Reading::Pieces => recover_copying(
             alloc,
             &mut log,
             &mut store,
             &mut out_log,
             &mut out_store,
-            &options,
-            &OpenGate,
-        )?
+            options,
+        )?,
+        Reading::Whole => {
+            let options = options_for(options, may_be_one, log.hint());
+            recover(
+                rt,
+                alloc,
+                &mut log,
+                &mut store,
+                &mut out_log,
+                &mut out_store,
+                &options,
+                &OpenGate,
+            )?
+        }
     };
     sync_folder(rt, &new.log, Fault::WriteLog)?;
     sync_folder(rt, &new.store, Fault::WriteStore)?;

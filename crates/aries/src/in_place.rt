@@ -10,12 +10,15 @@ ghost use Rattle.std.specs.Prelude.{◌≢◌};
 ghost use Rattle.page.specs.declared.fault.Fault.TheVariants.{NoResource};
 
 use crate::files::{
-    NewFiles, OldFiles, goes_in_pieces, make, open, options_for, refuse, sync_folder,
+    NewFiles, OldFiles, Reading, make, open, options_for, reading_of, refuse, sync_folder,
 };
 use crate::noted::{Call, NotedFile, Notes};
 use device::{FileLog, FileSink, FileSource, Source};
 use page::Fault;
-use recovery::{Report, TailFile, continue_log, read_source, recover_by_pieces, recover_in_place};
+use recovery::{
+    Report, TailFile, continue_log, read_source, recover_by_pieces, recover_in_place,
+    recover_large_by_pieces,
+};
 use redo::OpenGate;
 use restart::Options;
 use std::alloc::Global;
@@ -161,7 +164,7 @@ fn recover_opened<R: Files + Clock + Threads + Sync>(
     let store = open(rt, &old.store, Fault::ReadStore)?;
     let appended = open_to_append(rt, &new.log)?;
     finish(rt, alloc, tail, &new.log)?;
-    let goes_in_pieces = goes_in_pieces(rt, alloc, &log, &old.log)?;
+    let reading = reading_of(rt, alloc, &log, &store, &old.log)?;
     let new_store = make_store(rt, &new.store, is_replacing, &store)?;
     let tail_file = make(rt, tail, &log, Fault::WriteLog)?;
     sync_folder(rt, tail, Fault::WriteLog)?;
@@ -170,8 +173,8 @@ fn recover_opened<R: Files + Clock + Threads + Sync>(
     let mut tail_sink = FileSink::new(NotedFile::new(tail_file, rt, tail));
     let mut out_log = FileLog::new(NotedFile::new(appended, rt, &new.log));
     let mut out_store = FileSink::new(NotedFile::new(new_store, rt, &new.store));
-    let answer = if goes_in_pieces {
-        recover_by_pieces(
+    let answer = match reading {
+        Reading::AllPieces => recover_large_by_pieces(
             alloc,
             &mut log,
             &mut store,
@@ -179,20 +182,30 @@ fn recover_opened<R: Files + Clock + Threads + Sync>(
             &mut out_log,
             &mut out_store,
             options,
-        )
-    } else {
-        let options = options_for(options, may_be_one, log.hint());
-        recover_in_place(
-            rt,
+        ),
+        Reading::Pieces => recover_by_pieces(
             alloc,
             &mut log,
             &mut store,
             &mut tail_sink,
             &mut out_log,
             &mut out_store,
-            &options,
-            &OpenGate,
-        )
+            options,
+        ),
+        Reading::Whole => {
+            let options = options_for(options, may_be_one, log.hint());
+            recover_in_place(
+                rt,
+                alloc,
+                &mut log,
+                &mut store,
+                &mut tail_sink,
+                &mut out_log,
+                &mut out_store,
+                &options,
+                &OpenGate,
+            )
+        }
     };
     if let Err(fault) = answer {
         clear_after(rt, fault, tail, &new.store);

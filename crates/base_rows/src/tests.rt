@@ -5,5 +5,6 @@ mod again;
 mod boards;
 mod files;
 mod page_changes;
+mod store_lsns;
 mod stores;
 mod transfers;

@@ -1,5 +1,5 @@
 -- What is put by way of changes is put into the page.
-use Rattle.std.proofs.Common.{ℕ, List, Some, None, ◌∙◌, arith, sym, ap, get_or, set, map, inl, inr}
+use Rattle.std.proofs.Common.{◌≡◌, ℕ, List, Some, None, ◌∙◌, arith, sym, ap, length, get_or, set, map, inl, inr}
 use Rattle.std.proofs.lemmas.Bool.{cases_eq}
 use Rattle.std.proofs.lemmas.List.{get_or-set_same, get_or-set_other, get_or-replicate, length-set}
 use Rattle.std.proofs.lemmas.List.FromFn.{length-map-range_with_len}
@@ -7,7 +7,7 @@ use Rattle.std.specs.List.{range_with_len}
 use Rattle.page.specs.Image.{Image}
 use Rattle.page.specs.declared.page.Page.{Page}
 use Rattle.page.specs.declared.profile.TheConstants.{SLOTS}
-use Rattle.changes.specs.Changes.{unchanged, slot_after}
+use Rattle.changes.specs.Changes.{unchanged, slot_after, changed, page_lsn}
 use Rattle.changes.proofs.Views.{listed_by, at_number}
 use Rattle.changes.specs.Laws.{PutsAreSets}
 
@@ -30,3 +30,7 @@ puts_are_sets = record {
         | inr ne ↦ get_or-set_other before slot s value None ne ∙ at_number old SLOTS s None le ∙ sym (ap (λ p. slot_after p (get_or page.slots s None)) (get_or-set_other c.puts slot s (Some value) None ne))
       ])));
 }
+
+-- a page into which nothing is put has its PageLSN changed
+pub unchanged_slots : (page : Page) (lsn : ℕ) → length page.slots ≡ SLOTS → changed (unchanged lsn) page ≡ page_lsn lsn page
+unchanged_slots page lsn count = ap (λ (p : Page). page_lsn lsn p) (puts_are_sets.none page count)

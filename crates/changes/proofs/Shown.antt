@@ -1,15 +1,24 @@
 -- The pages that changes show.
-use Rattle.std.proofs.Common.{◌≡◌, ◌<◌, ℕ, List, Some, length, get_or, set, Result, Ok, Err, sym, ap, ap₂, ◌∙◌, arith, inl, inr}
+use Rattle.std.proofs.Common.{◌≡◌, ◌<◌, ℕ, List, Some, None, length, get_or, set, Result, Ok, Err, sym, ap, ap₂, ◌∙◌, arith, inl, inr}
 use Rattle.std.specs.Result.{OnOk, OnErr}
 use Rattle.std.proofs.lemmas.Bool.{cases_eq}
+use Rattle.std.proofs.lemmas.List.FromFn.{length-map-range_with_len}
 use Rattle.std.proofs.lemmas.List.{get_or-set_same, get_or-set_other, get_or_default, length-set}
 use Rattle.std.proofs.lemmas.List.Elements.{All-set, All-get_or}
 use Rattle.page.specs.Image.{Image}
 use Rattle.page.specs.declared.page.Page.{Page}
 use Rattle.page.specs.declared.profile.TheConstants.{SLOTS}
-use Rattle.changes.specs.Changes.{PageChange, put_in, lsn_in, changed, page_put, page_lsn}
+use Rattle.changes.specs.Changes.{PageChange, unchanged, put_in, lsn_in, slot_after, changed, page_put, page_lsn}
 use Rattle.changes.specs.Pages.{ShowsChanges}
 use Rattle.changes.proofs.Puts.{puts_are_sets}
+
+-- a page that is shown has all its slots
+pub shown_wide : (changes : List PageChange) (page : ℕ) (stored shown : List Page) (d : Page) → page < length changes → ShowsChanges changes stored shown → length (get_or shown page d).slots ≡ SLOTS
+shown_wide changes page stored shown d lt s =
+    let own = get_or changes page (unchanged 0) in
+    let old = get_or stored page d in
+    ap (λ (p : Page). length p.slots) (s.changed.each page (unchanged 0) d (omega (arith, lt, s.count)))
+    ∙ length-map-range_with_len (λ slot. slot_after (get_or own.puts slot None) (get_or old.slots slot None)) 0 SLOTS
 
 -- a value put by way of changes shows in the page
 pub put_shows : (old : List PageChange) (page slot lsn : ℕ) (value : Image) (c : PageChange) (stored shown : List Page) (d : Page) → page < length old → slot < SLOTS → ShowsChanges old stored shown

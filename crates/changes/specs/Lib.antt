@@ -1,4 +1,7 @@
 pub mod Changes
+pub mod Images
 pub mod Laws
+pub mod Lsns
+pub mod Numbered
 pub mod Pages
 pub mod Parts

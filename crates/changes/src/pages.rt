@@ -8,6 +8,7 @@ ghost use Rattle.changes.specs.Changes.{page_put, page_lsn};
 ghost use Rattle.changes.specs.Pages.{ShowsPages, ShowsChanges};
 
 use crate::Changes;
+use crate::parts::count_slots;
 use page::{Fault, Page, Value};
 
 /// The pages of a store while a restart changes them: the pages themselves, or only their changes.
@@ -26,8 +27,10 @@ pub trait Pages {
     /// The PageLSN of a page.
     fn lsn(&self, page: usize) -> u64
         requires { page < count self.now }
-        ensures { (stored shown : List Page) (d : Page) → shows self.now stored shown
-            → result ≡ (slice_index_or shown page d).lsn };
+        ensures lsn { (stored shown : List Page) (d : Page) → shows self.now stored shown
+            → result ≡ (slice_index_or shown page d).lsn }
+        ensures wide { (stored shown : List Page) (d : Page) → shows self.now stored shown
+            → length (slice_index_or shown page d).slots ≡ SLOTS };
 
     /// Puts a value into a slot of a page, or makes the slot absent, as the record at this LSN did.
     /// The PageLSN becomes this LSN. The only error is `NoResource`; nothing has changed then.
@@ -38,6 +41,8 @@ pub trait Pages {
         ensures put { OnOk result ((stored shown : List Page) (d : Page)
             → shows self.old stored shown → shows self.new stored (slice_set shown page
             (page_put slot lsn value (slice_index_or shown page d)))) }
+        ensures wide { (stored shown : List Page) (d : Page) → shows self.old stored shown
+            → length (slice_index_or shown page d).slots ≡ SLOTS }
         ensures err { IsOkUnless result NoResource };
 
     /// Sets the PageLSN of a page.
@@ -46,7 +51,9 @@ pub trait Pages {
         ensures count { count self.new ≡ count self.old }
         ensures set { (stored shown : List Page) (d : Page)
             → shows self.old stored shown → shows self.new stored (slice_set shown page
-            (page_lsn lsn (slice_index_or shown page d))) };
+            (page_lsn lsn (slice_index_or shown page d))) }
+        ensures wide { (stored shown : List Page) (d : Page) → shows self.old stored shown
+            → length (slice_index_or shown page d).slots ≡ SLOTS };
 
     /// The pages that it shows are as many.
     ghost counted: { (pages : Self) (stored shown : List Page) → shows pages stored shown
@@ -73,15 +80,18 @@ impl Pages for Vec<Page> {
         value: Option<Value>,
         lsn: u64,
     ) -> Result<(), Fault> {
+        let _slots = count_slots(&self[page].slots);
         self[page].set(slot, value, lsn);
         Ok(())
     }
 
     fn lsn(&self, page: usize) -> u64 {
+        let _slots = count_slots(&self[page].slots);
         self[page].lsn
     }
 
     fn set_lsn(&mut self, page: usize, lsn: u64) {
+        let _slots = count_slots(&self[page].slots);
         self[page].lsn = lsn;
     }
 }

@@ -10,22 +10,25 @@ use Rattle.passes.proofs.Reached.{marked_last}
 use Rattle.page.specs.declared.fault.Fault.{Fault}
 use Rattle.page.specs.declared.fault.Fault.TheVariants.{NoResource, PageAheadOfLog}
 use Rattle.page.specs.declared.page.Page.{Page}
-use Rattle.page.specs.Store.{StoreContent}
+use Rattle.page.specs.Store.{StoreContent, AreNumbered}
+use Rattle.changes.specs.declared.pages.Pages.{Ghosts as Pages}
 use Rattle.wal.specs.Records.{LogContent, history, last_lsn}
 use Rattle.wal.specs.Meaning.{BasePages}
 use Rattle.wal.specs.Store.{Lawful}
 use Rattle.tables.specs.Tables.{TablesContent}
 use Rattle.analysis.specs.Tables.{AreTablesOf}
-use Rattle.redo.specs.Redone.{RedoneContent, AreWorkers, RepeatsHistory}
-use Rattle.restart.specs.Restart.{AheadFault, NoneAhead, IsRedone}
-use Rattle.restart.proofs.Restored.{base_alone, redo_alone}
+use Rattle.redo.specs.Redone.{RedoneContent, AreWorkers, RepeatsHistory, redone_page}
+use Rattle.restart.specs.declared.outcome.UndoOutcome.{UndoOutcome}
+use Rattle.restart.specs.Outcome.{outcome_with}
+use Rattle.restart.specs.Restart.{AheadFault, NoneAhead, IsRedone, Restarts, Restores, store_with}
+use Rattle.restart.proofs.Restored.{base_alone, redo_alone, changed_numbered}
 use Rattle.restart.proofs.Causes.{base_fault, redo_fault}
 use Rattle.passes.specs.declared.fault.PassFault.{PassFault}
 use Rattle.passes.specs.declared.fault.PassFault.TheVariants as fault
 use Rattle.passes.specs.Marks.{IsResource}
 use Rattle.passes.specs.Tables.{TablesCause}
 use Rattle.passes.specs.Redoing.{RedoCause}
-use Rattle.passes.specs.InPieces.{ReadsAsLog, InPiecesCause, RestartCause}
+use Rattle.passes.specs.InPieces.{ReadsAsLog, InPiecesCause, RestartCause, ShowRedone}
 
 -- one worker is a number that redo may have
 one : AreWorkers 1
@@ -69,6 +72,31 @@ none_ahead whole before lent end stored at each =
 pub is_redone : (whole : LogContent) (before : StoreContent) (tables : TablesContent) (redone : RedoneContent) → NoneAhead whole before → AreTablesOf whole before.master tables → RepeatsHistory whole tables before.pages redone
     → IsRedone whole before tables redone
 is_redone whole before tables redone none are repeats = record { are = are; none_ahead = none; exist = repeats.exist; redone_pages = repeats.pages; applied = repeats.applied }
+
+-- on pages that show it
+pub shows_redone : {P : Type 0} (pages : Pages P) (whole : LogContent) (before : StoreContent) (stored : List Page) (tables : TablesContent) (applied : ℕ) (new : P) → NoneAhead whole before → AreTablesOf whole before.master tables
+    → AreNumbered before.pages → (redone : List Page) → pages.shows new stored redone → RepeatsHistory whole tables before.pages (record { pages = redone; applied = applied })
+    → ShowRedone pages whole before stored tables applied new
+shows_redone pages whole before stored tables applied new none are numbered redone shown repeats = (
+  redone,
+  shown,
+  subst AreNumbered (sym repeats.pages) (changed_numbered (redone_page whole tables) before.pages (λ page. refl) numbered),
+  is_redone whole before tables _ none are repeats,
+)
+
+-- WHAT UNDO LEAVES, if redo began at the same LSN
+module _ {P : Type 0} (pages : Pages P) where
+  pub restart_from : (whole : LogContent) (before : StoreContent) (stored : List Page) (new : P) (m n applied : ℕ) (x : UndoOutcome) → m ≡ n
+      → ((after : List Page) × pages.shows new stored after × Restarts whole before (outcome_with (store_with before after) n applied (history whole) x))
+      → (after : List Page) × pages.shows new stored after × Restarts whole before (outcome_with (store_with before after) m applied (history whole) x)
+  restart_from whole before stored new m n applied x same (after, shown, is) =
+      (after, shown, subst (λ k. Restarts whole before (outcome_with (store_with before after) k applied (history whole) x)) (sym same) is)
+
+  pub restored_from : (base : BasePages) (whole : LogContent) (before : StoreContent) (stored : List Page) (new : P) (m n applied : ℕ) (x : UndoOutcome) → m ≡ n
+      → ((after : List Page) × pages.shows new stored after × Restores base whole before (outcome_with (store_with before after) n applied (history whole) x))
+      → (after : List Page) × pages.shows new stored after × Restores base whole before (outcome_with (store_with before after) m applied (history whole) x)
+  restored_from base whole before stored new m n applied x same (after, shown, is) =
+      (after, shown, subst (λ k. Restores base whole before (outcome_with (store_with before after) k applied (history whole) x)) (sym same) is)
 
 -- THE MARKS are those of each log that the bytes read as, since there is only one
 pub same_marks : (text : List ℕ) (room torn left : ℕ) (marks : List Mark) (whole : LogContent) → AreFound text room marks left → Reads text whole torn → AreMarks text whole marks

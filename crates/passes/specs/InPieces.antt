@@ -1,11 +1,17 @@
 -- The result and the errors of a restart on a log that is read in pieces (own).
 use Rattle.std.specs.Prelude.{◌≡◌, ◌⊎◌, ⊤, ℕ, ◌+◌, List, length, take}
-use Rattle.page.specs.Store.{StoreContent}
+use Rattle.page.specs.declared.page.Page.{Page}
+use Rattle.page.specs.Store.{StoreContent, AreNumbered}
+use Rattle.changes.specs.declared.pages.Pages.{Ghosts as Pages}
+use Rattle.wal.specs.Meaning.{BasePages}
 use Rattle.wal.specs.Records.{LogContent, history, base_lsn, last_lsn}
 use Rattle.wal.specs.Reads.{Reads, Cause, log_text}
 use Rattle.undo.specs.declared.appended.Appended.{Appended}
 use Rattle.undo.specs.Appended.{appended_records}
-use Rattle.restart.specs.Restart.{InputFault}
+use Rattle.tables.specs.Tables.{TablesContent}
+use Rattle.restart.specs.Outcome.{OutcomeContent, outcome_with}
+use Rattle.restart.specs.Restart.{InputFault, IsRedone, Restarts, Restores, store_with}
+use Rattle.passes.specs.declared.in_pieces.Restarted.{Restarted}
 use Rattle.passes.specs.declared.fault.PassFault.{PassFault}
 use Rattle.passes.specs.declared.fault.PassFault.TheVariants as fault
 
@@ -31,3 +37,26 @@ pub record ReadsAsLog (text : List ℕ) (kept torn : ℕ) : Type 0 where
 abbrev pub InPiecesCause : List ℕ → StoreContent → PassFault → Type 0
 InPiecesCause text before fault.Failed = ⊤
 InPiecesCause text before (fault.Fault e) = Cause text e ⊎ ((whole : LogContent) × (torn : ℕ) × Reads text whole torn × InputFault whole before e)
+
+-- PAGES, in memory or not
+-- the outcome of a restart that leaves these pages of a store
+abbrev pub outcome_on : LogContent → StoreContent → (after : List Page) → Restarted → OutcomeContent
+outcome_on whole before after x = outcome_with (store_with before after) x.redo_from x.redone (history whole) x.outcome
+
+module _ {P : Type 0} (pages : Pages P) where
+  -- this holds of each store with this master whose pages they show over those stored
+  abbrev pub ForStore : P → (master : ℕ) → ((before : StoreContent) (stored : List Page) → Type 0) → Type 0
+  ForStore p master Holds = (before : StoreContent) (stored : List Page) → before.master ≡ master → AreNumbered before.pages → pages.shows p stored before.pages → Holds before stored
+
+  -- they show what analysis and redo make of a store
+  abbrev pub ShowRedone : (whole : LogContent) → StoreContent → (stored : List Page) → TablesContent → (applied : ℕ) → P → Type 0
+  ShowRedone whole before stored tables applied p =
+      (redone : List Page) × pages.shows p stored redone × AreNumbered redone × IsRedone whole before tables (record { pages = redone; applied = applied })
+
+  -- what a restart makes of it
+  abbrev pub ShowRestart : (whole : LogContent) → StoreContent → (stored : List Page) → Restarted → P → Type 0
+  ShowRestart whole before stored x p = (after : List Page) × pages.shows p stored after × Restarts whole before (outcome_on whole before after x)
+
+  -- and what the winners leave
+  abbrev pub ShowRestored : BasePages → (whole : LogContent) → StoreContent → (stored : List Page) → Restarted → P → Type 0
+  ShowRestored base whole before stored x p = (after : List Page) × pages.shows p stored after × Restores base whole before (outcome_on whole before after x)

@@ -5,7 +5,7 @@ ghost use Rattle.std.specs.Prelude.{◌≡◌, ◌+◌, ◌-◌, ◌≤◌, ◌<
 ghost use Rattle.std.specs.Io.KnownBytes.{Keeps};
 ghost use Rattle.page.specs.declared.fault.Fault.TheVariants.{NoResource};
 ghost use Rattle.page.specs.declared.page.Page.{Page};
-ghost use Rattle.page.specs.Store.{StoreContent};
+ghost use Rattle.page.specs.Store.{StoreContent, AreNumbered};
 ghost use Rattle.wal.specs.Glances.{IsGlanceBehind};
 ghost use Rattle.wal.specs.Records.{LogContent, History, history, last_lsn, base_lsn, ◌▸▸◌};
 ghost use Rattle.wal.specs.Meaning.{BasePages};
@@ -26,8 +26,9 @@ ghost use Rattle.passes.specs.Marks.{failures_of_pass, LogCause, AreFound};
 use crate::find::mark_at_start;
 use crate::{Marks, PassFault, next_piece};
 use analysis::TableScan;
+use changes::Pages;
 use device::Reread;
-use page::{Fault, Store};
+use page::Fault;
 use pieces::Mark;
 use redo::TallyScan;
 use std::alloc::Global;
@@ -47,21 +48,21 @@ struct ForwardScan {
 }
 
 /// The scan before the first record of a log with this base LSN. The only error is `NoResource`.
-fn begin_scan(alloc: Global, store: &Store, base: u64) -> Result<ForwardScan, Fault>
+fn begin_scan<P: Pages>(alloc: Global, pages: &P, base: u64) -> Result<ForwardScan, Fault>
     requires { base ≤ LARGEST_BASE }
     ensures analysed { IfOk result (λ scan. (whole log : History) → ComesBefore 0 log
         → HasAnalysed 0 whole log scan.tables) }
-    ensures tallied { IfOk result (λ scan. (whole : LogContent) → base_lsn (history whole) ≡ base
-        → TalliedOrRefused whole store.now.pages base scan.missing scan.tallies) }
+    ensures tallied { IfOk result (λ scan. (stored shown : List Page)
+        → P.shows pages.now stored shown → AreNumbered shown
+        → (whole : LogContent) → base_lsn (history whole) ≡ base
+        → TalliedOrRefused whole shown base scan.missing scan.tallies) }
     ensures upto { IfOk result (λ scan. scan.tallies.upto ≡ base) }
-    ensures count { IfOk result (λ scan. length scan.tallies.tallies ≡ length store.now.pages) }
+    ensures count { IfOk result (λ scan. length scan.tallies.tallies ≡ P.count pages.now) }
     ensures no_transaction_0 { IfOk result (λ scan. entry_at 0 scan.tables.entries ≡ None) }
     ensures err { IsOkUnless result NoResource }
 {
-    // Opens the store: its pages are at their numbers.
-    let _ = &store.pages;
     // Analysis has not found the tables of the crash yet, so redo treats each page as dirty.
-    let tallies = TallyScan::begin_listed(alloc, store, base + 1, base)?;
+    let tallies = TallyScan::begin_listed(alloc, pages, base + 1, base)?;
     let tables = TableScan::begin(alloc, BTreeMap::new(alloc), BTreeMap::new(alloc))?;
     Ok(ForwardScan {
         tables,
@@ -220,14 +221,15 @@ pub struct ForwardReading {
 }
 
 /// Reads the log that a source holds from its beginning to its end, each piece into the room and
-/// each once, for its marks, for analysis without a checkpoint, and for redo of a store.
+/// each once: for its marks, for analysis without a checkpoint, and for redo of the pages of a
+/// store. The pages are in memory, or their changes are.
 ///
 /// Errors are those of [`find_marks`](crate::find_marks).
-pub fn read_forward<S: Reread>(
+pub fn read_forward<S: Reread, P: Pages>(
     alloc: Global,
     source: &mut S,
     room: &mut [u8],
-    store: &Store,
+    pages: &P,
 ) -> Result<ForwardReading, PassFault>
     requires room { BASED_HEADER_BYTES ≤ length room.old }
     requires reach { length room.old < 2 ^ 63 }
@@ -240,14 +242,18 @@ pub fn read_forward<S: Reread>(
         → S.text source.old ≡ Some text → Reads text whole torn
         → Lawful over whole before → before.master ≡ 0 → AreTrue whole before x.tables) }
     ensures no_transaction_0 { IfOk result (λ x. entry_for 0 x.tables.transactions ≡ None) }
-    ensures tallied { IfOk result (λ x. (text : List ℕ) (whole : LogContent) (torn : ℕ)
+    ensures tallied { IfOk result (λ x. (stored shown : List Page)
+        → P.shows pages.now stored shown → AreNumbered shown
+        → (text : List ℕ) (whole : LogContent) (torn : ℕ)
         → S.text source.old ≡ Some text → Reads text whole torn
-        → IfOk x.tallies (AreTalliedByAll whole store.now.pages (last_lsn (history whole)))) }
+        → IfOk x.tallies (AreTalliedByAll whole shown (last_lsn (history whole)))) }
     ensures count { IfOk result (λ x. IfOk x.tallies (λ scan. length scan.tallies
-        ≡ length store.now.pages)) }
-    ensures missing { IfOk result (λ x. (text : List ℕ) (whole : LogContent) (torn : ℕ)
+        ≡ P.count pages.now)) }
+    ensures missing { IfOk result (λ x. (stored shown : List Page)
+        → P.shows pages.now stored shown → AreNumbered shown
+        → (text : List ℕ) (whole : LogContent) (torn : ℕ)
         → S.text source.old ≡ Some text → Reads text whole torn
-        → IfErr x.tallies (RedoFault whole (length store.now.pages) x.tables.redo_lsn 1)) }
+        → IfErr x.tallies (RedoFault whole (length shown) x.tables.redo_lsn 1)) }
     ensures fault { IfErr result (λ e. (text : List ℕ) → S.text source.old ≡ Some text
         → BASED_HEADER_BYTES + LONGEST_FRAME ≤ length room.old → LogCause text e) }
     ensures same { Keeps (S.text source.old) (S.text source.new) }
@@ -258,7 +264,7 @@ pub fn read_forward<S: Reread>(
     let first = mark_at_start(alloc, source, room)?;
     let mut marks = Marks::begin(alloc, first)?;
     let base = marks.first().lsn;
-    let mut scan = begin_scan(alloc, store, base)?;
+    let mut scan = begin_scan(alloc, pages, base)?;
     for _ in 0..u64::MAX {
         let mark = marks.end();
         let (next, torn) = take_piece(alloc, source, mark, room, &mut scan)?;

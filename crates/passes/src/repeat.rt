@@ -4,7 +4,7 @@ ghost use Rattle.std.specs.Prelude.{◌≡◌, ◌+◌, ◌-◌, ◌≤◌, ◌<
 ghost use Rattle.std.specs.Io.KnownBytes.{Keeps};
 ghost use Rattle.std.specs.List.Sorted.{IsNonDecreasingBy};
 ghost use Rattle.page.specs.declared.page.Page.{Page};
-ghost use Rattle.page.specs.Store.{AreNumbered};
+ghost use Rattle.changes.specs.Numbered.{StayNumbered};
 ghost use Rattle.page.specs.declared.profile.TheConstants.{SLOTS};
 ghost use Rattle.wal.specs.Records.{LogContent, history, base_lsn, last_lsn};
 ghost use Rattle.wal.specs.Reads.{Reads};
@@ -12,21 +12,19 @@ ghost use Rattle.wal.specs.declared.sizes.TheConstants.{BASED_HEADER_BYTES, LARG
 ghost use Rattle.tables.specs.Tables.{TablesContent};
 ghost use Rattle.redo.specs.declared.tally.Tally.{Tally};
 ghost use Rattle.redo.specs.declared.wanted.Wanted.{Wanted};
-ghost use Rattle.redo.specs.Changes.{finished_page};
 ghost use Rattle.redo.specs.Routes.{skipped};
-ghost use Rattle.redo.specs.Redone.{RepeatsHistory};
-ghost use Rattle.redo.specs.Wanted.{IsWanted, HoldAllBut};
+ghost use Rattle.redo.specs.Wanted.{IsWanted, ShowAllBut, ShowFinished};
 ghost use Rattle.pieces.specs.Pieces.{IsMark};
 ghost use Rattle.passes.specs.Marks.{AreMarks, AreInReach, IsLow, Reaches, failures_of_pass, IsResource};
 ghost use Rattle.passes.specs.Next.{IsBefore};
-ghost use Rattle.passes.specs.Redoing.{AreTalliedUpTo, RedoCause};
+ghost use Rattle.passes.specs.Redoing.{AreTalliedUpTo, RedoCause, ForShown, ShowRepeated};
 
 use crate::piece::piece_up_to;
 use crate::{Marks, PassFault, piece_before};
+use changes::Pages;
 use device::Reread;
-use page::{Page, Store};
 use pieces::Mark;
-use redo::{Redone, TallyScan, Wanted, fetch_from};
+use redo::{TallyScan, Wanted, fetch_from};
 use std::alloc::Global;
 use tables::Tables;
 
@@ -95,37 +93,37 @@ fn tally_piece<S: Reread>(
 
 /// The tallies of all pages of a store at the end of the log. The log is read from `redo_lsn` on,
 /// and not at all if `redo_lsn` is 0. Errors are those of [`redo_in_pieces`].
-fn tally_in_pieces<S: Reread>(
+fn tally_in_pieces<S: Reread, P: Pages>(
     alloc: Global,
     source: &mut S,
     marks: &Marks,
     room: &mut [u8],
-    store: &Store,
+    pages: &P,
     tables: &Tables,
 ) -> Result<TallyScan, PassFault>
     requires room { BASED_HEADER_BYTES ≤ length room.old }
     requires reach { length room.old < 2 ^ 63 }
-    ensures count { IfOk result (λ scan. length scan.tallies ≡ length store.now.pages) }
+    ensures count { IfOk result (λ scan. length scan.tallies ≡ P.count pages.now) }
     ensures tallied { IfOk result (λ scan. (text : List ℕ) (whole : LogContent) (torn : ℕ)
         → S.text source.old ≡ Some text → Reads text whole torn → AreMarks text whole marks.now
-        → AreTalliedUpTo whole store.now.pages tables.now (last_lsn (history whole)) scan) }
+        → ForShown P.Pages pages.now (λ stored images.
+        AreTalliedUpTo whole images tables.now (last_lsn (history whole)) scan)) }
     ensures fault { IfErr result (λ e. (text : List ℕ) (whole : LogContent) (torn : ℕ)
         → S.text source.old ≡ Some text → Reads text whole torn → AreMarks text whole marks.now
         → BASED_HEADER_BYTES + LONGEST_FRAME ≤ length room.old
-        → RedoCause whole (length store.now.pages) tables.now.redo_lsn e) }
+        → ForShown P.Pages pages.now (λ stored images.
+        RedoCause whole (length images) tables.now.redo_lsn e)) }
     ensures same { Keeps (S.text source.old) (S.text source.new) }
     ensures no_failure { OnOk result (S.failures source.new ≡ S.failures source.old) }
     ensures cause { IfErr result (λ e. S.failures source.new
         ≡ S.failures source.old + failures_of_pass e) }
 {
-    // Opens the store: its pages are at their numbers.
-    let _ = &store.pages;
     let end = marks.end().lsn;
     let mut mark = mark_to_begin(marks, tables.redo_lsn);
     // There is a first mark, and no mark is before it: its LSN is the log's base LSN.
     let _count = marks.len();
     let base = marks.at(0).lsn.min(mark.lsn);
-    let mut scan = TallyScan::begin(alloc, store, tables, base)?;
+    let mut scan = TallyScan::begin(alloc, pages, tables, base)?;
     while mark.lsn < end {
         mark = tally_piece(alloc, source, mark, end, room, &mut scan)?;
     }
@@ -134,31 +132,34 @@ fn tally_in_pieces<S: Reread>(
 
 /// Fetches the images of the wanted records in the piece after a mark. The piece must reach at
 /// least the first of them. The list is in ascending order of LSN, so they are at its front.
-/// Returns how many there are. Errors are those of [`piece_up_to`].
-fn fetch_piece<S: Reread>(
+/// Returns how many there are. Errors are those of [`piece_up_to`], and `NoResource` if memory was
+/// refused.
+fn fetch_piece<S: Reread, P: Pages>(
     alloc: Global,
     source: &mut S,
     mark: Mark,
     room: &mut [u8],
     wanted: &[Wanted],
-    pages: &mut [Page],
+    pages: &mut P,
 ) -> Result<usize, PassFault>
     requires room { BASED_HEADER_BYTES ≤ length room.old }
     requires reach { mark.offset + length room.old < 2 ^ 64 }
     requires low { mark.lsn ≤ LARGEST_BASE }
     requires some { 0 < length wanted.now }
     requires rising { IsNonDecreasingBy (λ w. w.lsn) wanted.now }
-    requires pages { All (λ w. w.page < length pages.old) wanted.now }
+    requires pages { All (λ w. w.page < P.count pages.old) wanted.now }
     requires slots { All (λ w. w.slot < SLOTS) wanted.now }
     ensures some { IfOk result (λ taken. 0 < taken) }
     ensures within { IfOk result (λ taken. taken ≤ length wanted.now) }
-    ensures count { length pages.new ≡ length pages.old }
+    ensures count { P.count pages.new ≡ P.count pages.old }
+    ensures numbered { OnOk result (StayNumbered P.Pages pages.old pages.new) }
     ensures fetched { IfOk result (λ taken. (text : List ℕ) (whole before : LogContent) (torn : ℕ)
-        (tallies : List Tally) (images : List Page) → S.text source.old ≡ Some text
+        (tallies : List Tally) (images stored : List Page) → S.text source.old ≡ Some text
         → Reads text whole torn → IsMark text before mark → All (IsWanted tallies) wanted.now
         → All (λ w. w.lsn ≤ mark.lsn → w.lsn ≤ base_lsn (history whole)) wanted.now
-        → HoldAllBut (history whole) tallies wanted.now images pages.old
-        → HoldAllBut (history whole) tallies (drop taken wanted.now) images pages.new) }
+        → ShowAllBut P.Pages (history whole) tallies wanted.now images stored pages.old
+        → ShowAllBut P.Pages (history whole) tallies (drop taken wanted.now)
+        images stored pages.new) }
     ensures fault { IfErr result (λ e. (text : List ℕ) (whole before : LogContent) (torn : ℕ)
         (d : Wanted) → S.text source.old ≡ Some text → Reads text whole torn
         → IsMark text before mark
@@ -170,33 +171,36 @@ fn fetch_piece<S: Reread>(
         ≡ S.failures source.old + failures_of_pass e) }
 {
     let piece = piece_up_to(alloc, source, mark, wanted[0].lsn, room)?;
-    Ok(fetch_from(&piece, wanted, pages))
+    Ok(fetch_from(&piece, wanted, pages)?)
 }
 
 /// Fetches the images of the wanted records up to an LSN. Each piece that is read begins at the
 /// last mark before the first of those that are left. The list is in ascending order of LSN, so
-/// they are at its front. Returns how many there are. Errors are those of [`piece_up_to`].
-fn fetch_in_pieces<S: Reread>(
+/// they are at its front. Returns how many there are. Errors are those of [`piece_up_to`], and
+/// `NoResource` if memory was refused.
+fn fetch_in_pieces<S: Reread, P: Pages>(
     alloc: Global,
     source: &mut S,
     marks: &Marks,
     room: &mut [u8],
     upto: u64,
     wanted: &[Wanted],
-    pages: &mut [Page],
+    pages: &mut P,
 ) -> Result<usize, PassFault>
     requires room { BASED_HEADER_BYTES ≤ length room.old }
     requires reach { length room.old < 2 ^ 63 }
     requires rising { IsNonDecreasingBy (λ w. w.lsn) wanted.now }
-    requires pages { All (λ w. w.page < length pages.old) wanted.now }
+    requires pages { All (λ w. w.page < P.count pages.old) wanted.now }
     requires slots { All (λ w. w.slot < SLOTS) wanted.now }
-    ensures count { length pages.new ≡ length pages.old }
+    ensures count { P.count pages.new ≡ P.count pages.old }
+    ensures numbered { OnOk result (StayNumbered P.Pages pages.old pages.new) }
     ensures rest { IfOk result (λ taken. All (λ w. upto < w.lsn) (drop taken wanted.now)) }
     ensures fetched { IfOk result (λ taken. (text : List ℕ) (whole : LogContent) (torn : ℕ)
-        (tallies : List Tally) (images : List Page) → S.text source.old ≡ Some text
+        (tallies : List Tally) (images stored : List Page) → S.text source.old ≡ Some text
         → Reads text whole torn → AreMarks text whole marks.now → All (IsWanted tallies) wanted.now
-        → HoldAllBut (history whole) tallies wanted.now images pages.old
-        → HoldAllBut (history whole) tallies (drop taken wanted.now) images pages.new) }
+        → ShowAllBut P.Pages (history whole) tallies wanted.now images stored pages.old
+        → ShowAllBut P.Pages (history whole) tallies (drop taken wanted.now)
+        images stored pages.new) }
     ensures fault { IfErr result (λ e. (text : List ℕ) (whole : LogContent) (torn : ℕ)
         → S.text source.old ≡ Some text → Reads text whole torn → AreMarks text whole marks.now
         → AreInReach (length room.old) marks.now → upto ≤ last_lsn (history whole)
@@ -216,25 +220,22 @@ fn fetch_in_pieces<S: Reread>(
 
 /// Changes the pages of a store to those that their tallies describe, with images that are read
 /// once more. Errors are those of [`piece_up_to`], and `NoResource` if memory was refused.
-fn finish_in_pieces<S: Reread>(
+fn finish_in_pieces<S: Reread, P: Pages>(
     alloc: Global,
     source: &mut S,
     marks: &Marks,
     room: &mut [u8],
     scan: TallyScan,
-    pages: &mut [Page],
+    pages: &mut P,
 ) -> Result<(), PassFault>
     requires room { BASED_HEADER_BYTES ≤ length room.old }
     requires reach { length room.old < 2 ^ 63 }
-    requires count { length pages.old ≡ length scan.tallies }
-    ensures count { length pages.new ≡ length pages.old }
-    ensures numbers { OnOk result ((k : ℕ) (page : Page) → k < length pages.old
-        → (slice_index_or pages.new k page).number ≡ k) }
+    requires count { P.count pages.old ≡ length scan.tallies }
+    ensures numbered { OnOk result (StayNumbered P.Pages pages.old pages.new) }
     ensures each { OnOk result ((text : List ℕ) (whole : LogContent) (torn : ℕ)
         → S.text source.old ≡ Some text → Reads text whole torn → AreMarks text whole marks.now
-        → (number : ℕ) (t : Tally) (image : Page) → number < length pages.old
-        → slice_index_or pages.new number image ≡ finished_page (history whole)
-        (slice_index_or scan.tallies number t) (slice_index_or pages.old number image)) }
+        → ForShown P.Pages pages.old (λ stored images.
+        ShowFinished P.Pages (history whole) scan.tallies images stored pages.new)) }
     ensures fault { IfErr result (λ e. (text : List ℕ) (whole : LogContent) (torn : ℕ)
         → S.text source.old ≡ Some text → Reads text whole torn → AreMarks text whole marks.now
         → AreInReach (length room.old) marks.now → scan.upto ≤ last_lsn (history whole)
@@ -250,30 +251,33 @@ fn finish_in_pieces<S: Reread>(
     Ok(())
 }
 
-/// Ends redo of a store by its tallies at the end of the log that a source holds. The store is
-/// given away: its pages are changed in place. `marks` are the marks of the log.
+/// Ends redo of a store's pages by their tallies at the end of the log that a source holds. The
+/// pages are in memory, or their changes are. `marks` are the marks of the log. Returns how many
+/// records redo applied.
 ///
 /// Errors: `Failed` if the source failed; `NoResource` if memory was refused. Any other fault is
 /// returned only if the source no longer holds what it held when the marks were made, or if the
-/// frames from some mark to the next do not fit in the room. After an error the pages are gone.
-pub fn end_redo<S: Reread>(
+/// frames from some mark to the next do not fit in the room. After an error the pages are not
+/// specified.
+pub fn end_redo<S: Reread, P: Pages>(
     alloc: Global,
     source: &mut S,
     marks: &Marks,
     room: &mut [u8],
-    store: Store,
+    pages: &mut P,
     scan: TallyScan,
-) -> Result<Redone, PassFault>
+) -> Result<u64, PassFault>
     requires room { BASED_HEADER_BYTES ≤ length room.old }
     requires reach { length room.old < 2 ^ 63 }
-    requires count { length scan.tallies ≡ length store.pages }
+    requires count { length scan.tallies ≡ P.count pages.old }
     // For any tables by which the tallies were counted.
-    ensures redone { IfOk result (λ redone. (text : List ℕ) (whole : LogContent) (torn : ℕ)
-        (tables : TablesContent) → S.text source.old ≡ Some text → Reads text whole torn
-        → AreMarks text whole marks.now
-        → AreTalliedUpTo whole store.pages tables (last_lsn (history whole)) scan
-        → RepeatsHistory whole tables store.pages redone) }
-    ensures numbered { IfOk result (λ redone. AreNumbered redone.pages) }
+    ensures redone { IfOk result (λ applied. (text : List ℕ) (whole : LogContent) (torn : ℕ)
+        (tables : TablesContent) (images stored : List Page) → S.text source.old ≡ Some text
+        → Reads text whole torn → AreMarks text whole marks.now
+        → AreTalliedUpTo whole images tables (last_lsn (history whole)) scan
+        → P.shows pages.old stored images
+        → ShowRepeated P.Pages whole tables images stored pages.new applied) }
+    ensures numbered { OnOk result (StayNumbered P.Pages pages.old pages.new) }
     ensures fault { IfErr result (λ e. (text : List ℕ) (whole : LogContent) (torn : ℕ)
         → S.text source.old ≡ Some text → Reads text whole torn → AreMarks text whole marks.now
         → AreInReach (length room.old) marks.now → scan.upto ≤ last_lsn (history whole)
@@ -286,14 +290,13 @@ pub fn end_redo<S: Reread>(
     let applied = scan.applied();
     // The log's last LSN fits, and no record counts twice, so the count fits.
     let _end = marks.end();
-    let mut pages = store.pages;
-    finish_in_pieces(alloc, source, marks, room, scan, &mut pages)?;
-    Ok(Redone { pages, applied })
+    finish_in_pieces(alloc, source, marks, room, scan, pages)?;
+    Ok(applied)
 }
 
 /// Repeats history on the pages of a store by the log that a source holds, in the thread of the
-/// caller. The store is given away: its pages are changed in place and not copied. After an error
-/// they are gone.
+/// caller. The pages are in memory, or their changes are; they are changed in place. Returns how
+/// many records redo applied. After an error the pages are not specified.
 ///
 /// The marks are those before the pieces of the log and, last, the one at its end. Each piece is
 /// read into the room. The records from `redo_lsn` on are read to find which of them each page
@@ -304,30 +307,32 @@ pub fn end_redo<S: Reread>(
 /// other fault is returned only in these cases: the source no longer holds what it held when the
 /// marks were made; the room has fewer than `BASED_HEADER_BYTES + LONGEST_FRAME` bytes; the frames
 /// from some mark to the next do not fit in the room.
-pub fn redo_in_pieces<S: Reread>(
+pub fn redo_in_pieces<S: Reread, P: Pages>(
     alloc: Global,
     source: &mut S,
     marks: &Marks,
     room: &mut [u8],
-    store: Store,
+    pages: &mut P,
     tables: &Tables,
-) -> Result<Redone, PassFault>
+) -> Result<u64, PassFault>
     requires room { BASED_HEADER_BYTES ≤ length room.old }
     requires reach { length room.old < 2 ^ 63 }
-    ensures redone { IfOk result (λ redone. (text : List ℕ) (whole : LogContent) (torn : ℕ)
+    ensures redone { IfOk result (λ applied. (text : List ℕ) (whole : LogContent) (torn : ℕ)
         → S.text source.old ≡ Some text → Reads text whole torn → AreMarks text whole marks.now
-        → RepeatsHistory whole tables.now store.pages redone) }
-    ensures numbered { IfOk result (λ redone. AreNumbered redone.pages) }
+        → ForShown P.Pages pages.old (λ stored images.
+        ShowRepeated P.Pages whole tables.now images stored pages.new applied)) }
+    ensures numbered { OnOk result (StayNumbered P.Pages pages.old pages.new) }
     ensures fault { IfErr result (λ e. (text : List ℕ) (whole : LogContent) (torn : ℕ)
         → S.text source.old ≡ Some text → Reads text whole torn → AreMarks text whole marks.now
         → BASED_HEADER_BYTES + LONGEST_FRAME ≤ length room.old
         → AreInReach (length room.old) marks.now
-        → RedoCause whole (length store.pages) tables.now.redo_lsn e) }
+        → ForShown P.Pages pages.old (λ stored images.
+        RedoCause whole (length images) tables.now.redo_lsn e)) }
     ensures same { Keeps (S.text source.old) (S.text source.new) }
     ensures no_failure { OnOk result (S.failures source.new ≡ S.failures source.old) }
     ensures cause { IfErr result (λ e. S.failures source.new
         ≡ S.failures source.old + failures_of_pass e) }
 {
-    let scan = tally_in_pieces(alloc, source, marks, room, &store, tables)?;
-    end_redo(alloc, source, marks, room, store, scan)
+    let scan = tally_in_pieces(alloc, source, marks, room, pages, tables)?;
+    end_redo(alloc, source, marks, room, pages, scan)
 }

@@ -7,8 +7,7 @@ use Rattle.wal.proofs.Histories.{size_of_log, base_of_log}
 use Rattle.undo.specs.declared.appended.Appended.{Appended}
 use Rattle.undo.specs.Appended.{appended_records, AreFit}
 use Rattle.undo.proofs.Told.{told_fit}
-use Rattle.restart.specs.Outcome.{outcome_in}
-use Rattle.restart.specs.declared.outcome.Outcome.{Outcome}
+use Rattle.restart.specs.Outcome.{OutcomeContent}
 use Rattle.passes.specs.InPieces.{AreAlike}
 use Rattle.recovery.specs.Recovery.{report_of}
 
@@ -29,7 +28,7 @@ module _ (whole some : LogContent) (appended : List Appended) (alike : AreAlike 
   alike_frames = ap (λ n. spellings (n + 1) (appended_records (history some) appended)) alike.last ∙ ap (spellings (last_lsn (history whole) + 1)) alike.records
 
   -- and the report is the same
-  pub alike_report : (torn : ℕ) (x : Outcome Appended) → report_of some torn (outcome_in (history some) x) ≡ report_of whole torn (outcome_in (history whole) x)
+  pub alike_report : (torn : ℕ) (x : OutcomeContent) → report_of some torn x ≡ report_of whole torn x
   alike_report torn x = ap (λ n. record {
     records = n;
     torn = torn;
@@ -39,5 +38,5 @@ module _ (whole some : LogContent) (appended : List Appended) (alike : AreAlike 
     compensated = x.compensated;
     ended = x.ended;
     pages = length x.store.pages;
-    in_doubt = x.in_doubt.items;
+    in_doubt = x.in_doubt;
   }) same_count

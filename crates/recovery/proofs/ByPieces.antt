@@ -8,6 +8,7 @@ use Rattle.device.specs.declared.traits.Sink.{Ghosts as Sink}
 use Rattle.device.specs.Reread.{EndsBy}
 use Rattle.page.specs.declared.fault.Fault.{Fault}
 use Rattle.page.specs.declared.fault.Fault.TheVariants.{NoResource, ReadLog, ReadStore, WriteLog, WriteStore, BadWorkers, BadParting}
+use Rattle.page.specs.declared.page.Page.{Page}
 use Rattle.page.specs.Store.{StoreContent}
 use Rattle.page.specs.File.{SpellsStore, store_text}
 use Rattle.wal.specs.Reads.{Cause as LogFault}
@@ -17,6 +18,7 @@ use Rattle.passes.specs.Marks.{IsResource}
 use Rattle.passes.specs.InPieces.{InPiecesCause}
 use Rattle.restart.specs.declared.options.Options.{Options}
 use Rattle.restart.specs.Options.{AreInRange}
+use Rattle.restart.specs.Restart.{store_with}
 use Rattle.recovery.specs.declared.by_pieces.Made.{Made}
 use Rattle.recovery.specs.Recovery.{Recovers, RecoveryCause, log_of}
 use Rattle.recovery.specs.Devices.{FailsOnlyWith, IsFaultOf, SourcesGave, DeviceCause, IsResourceOrDevice}
@@ -104,6 +106,10 @@ pub untouched : {L S : Type 0} (log : Sink L) (a : L) (store : Sink S) (b : S) (
 untouched log a store b log_left store_left WriteLog h = absurd h
 untouched log a store b log_left store_left WriteStore h = absurd h
 untouched log a store b log_left store_left e h = (Keeps-refl (log.taken a), Keeps-refl (store.taken b))
+
+-- A STORE with other pages
+pub store_same : (before : StoreContent) (m : ℕ) (after items : List Page) → before.master ≡ m → after ≡ items → store_with before after ≡ record { master = m; pages = items }
+store_same before m after items em ea = rw (em, ea) refl
 
 -- WHAT IS MADE, and the file of its tail
 module _ (store_left : Option (List ℕ)) (log store : List ℕ) (made : Made) (read : SourcesGave (Some log) store_left log store) (measured : IsMeasured log made)

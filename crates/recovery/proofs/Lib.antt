@@ -7,8 +7,12 @@ pub mod Delivered
 pub mod LogTexts
 pub mod OneAnswer
 pub mod OneTextCause
+pub mod Remaking
 pub mod Resuming
 pub mod TailLength
 pub mod Taken
 pub mod TailFiles
 pub mod InPlace
+pub mod Large
+pub mod LargeCopies
+pub mod Rewritten

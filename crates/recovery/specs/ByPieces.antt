@@ -1,18 +1,24 @@
 -- What a recovery makes of a log that it reads in pieces, and its errors (own).
-use Rattle.std.specs.Prelude.{◌≡◌, ◌⊎◌, ◌+◌, ◌-◌, ℕ, List, Option, Some, length, Result, Err, MatchResult, ⊤}
+use Rattle.std.specs.Prelude.{◌≡◌, ◌⊎◌, ◌+◌, ◌-◌, ◌++◌, ℕ, List, Option, Some, length, take, Result, Err, MatchResult, ⊤}
 use Rattle.page.specs.declared.fault.Fault.{Fault}
 use Rattle.page.specs.declared.fault.Fault.TheVariants.{NoResource, ReadLog, ReadStore, WriteLog, WriteStore}
+use Rattle.page.specs.declared.page.Page.{Page}
 use Rattle.page.specs.Store.{StoreContent}
-use Rattle.page.specs.File.{SpellsStore}
+use Rattle.page.specs.File.{SpellsStore, store_text}
+use Rattle.changes.specs.declared.pages.Pages.{Ghosts as Pages}
 use Rattle.wal.specs.Meaning.{BasePages}
 use Rattle.wal.specs.Records.{LogContent}
 use Rattle.wal.specs.Reads.{Reads, Cause as LogFault}
+use Rattle.wal.specs.Store.{Lawful}
+use Rattle.restart.specs.Restart.{store_with}
+use Rattle.passes.specs.InPieces.{ForStore}
 use Rattle.passes.specs.declared.fault.PassFault.{PassFault}
 use Rattle.passes.specs.declared.fault.PassFault.TheVariants as pass
 use Rattle.restart.specs.declared.options.Options.{Options}
 use Rattle.recovery.specs.declared.by_pieces.Made.{Made}
+use Rattle.recovery.specs.declared.by_pieces.Continuation.{Continuation}
 use Rattle.restart.specs.Options.{AreInRange}
-use Rattle.recovery.specs.Recovery.{AreLawful, Remakes, RemakesLawful, RecoveryCause, Decodes}
+use Rattle.recovery.specs.Recovery.{AreLawful, Recovers, Recovered, Remakes, RemakesLawful, RecoveryCause, Decodes}
 use Rattle.recovery.specs.Devices.{IsFaultOf, DeviceCause}
 
 -- the fault of a log's device, of its bytes or of a restart by it, or a lack of memory: that of no other device
@@ -85,3 +91,41 @@ IsMadeLawfulOf held before answer =
 -- the error of a recovery over devices, if it is known what the log's device holds
 abbrev pub RereadCause : (log_held store_left : Option (List ℕ)) → Options → Fault → Type 0
 RereadCause log_held store_left options e = (log : List ℕ) → log_held ≡ Some log → DeviceCause (Some log) store_left options e
+
+-- ON PAGES of a store with this master, in memory or not
+-- the new log: what is kept of the old one, followed by the frames
+abbrev pub continued_log : (log : List ℕ) → Continuation → List ℕ
+continued_log log x = take (length log - x.report.torn) log ++ x.frames.items
+
+-- how long the log is, and how much of it is kept
+pub record MeasuresLog (log : List ℕ) (made : Continuation) : Type 0 where
+  pub length_is : made.length ≡ length log
+  pub kept_is : made.kept ≡ length log - made.report.torn
+
+module _ {P : Type 0} (pages : Pages P) where
+  -- they show the pages of the store that the recovery of these bytes leaves
+  abbrev pub ShowRecovered : (log store : List ℕ) → StoreContent → (stored : List Page) → Continuation → P → Type 0
+  ShowRecovered log store before stored x p =
+      (after : List Page) × pages.shows p stored after × Recovers log store (continued_log log x) (store_text (store_with before after)) x.report
+
+  -- the same for lawful input
+  abbrev pub ShowLawful : BasePages → (read : LogContent) → (log : List ℕ) → StoreContent → (stored : List Page) → Continuation → P → Type 0
+  ShowLawful base read log before stored x p =
+      (after : List Page) × pages.shows p stored after × Recovered base read before (continued_log log x) (store_text (store_with before after)) x.report
+
+  -- it is the recovery of the bytes that the device holds and of those of the store
+  abbrev pub Continues : (held : Option (List ℕ)) → (master : ℕ) → (old new : P) → Continuation → Type 0
+  Continues held master old new x =
+      (log : List ℕ) → held ≡ Some log → ForStore pages old master (λ before stored. (store : List ℕ) → SpellsStore store before → ShowRecovered log store before stored x new)
+
+  -- if the log and the store are lawful, it restores them, or the error is a lack of memory or the log's device
+  abbrev pub ContinuesLawful : (held : Option (List ℕ)) → (master : ℕ) → (old new : P) → Result Continuation Fault → Type 0
+  ContinuesLawful held master old new answer =
+      (base : BasePages) (log : List ℕ) (read : LogContent) (torn : ℕ) → held ≡ Some log → Reads log read torn
+      → ForStore pages old master (λ before stored. Lawful base read before → MatchResult answer (λ x. ShowLawful base read log before stored x new) (IsFaultOf ReadLog))
+
+  -- this is the error of these bytes, whatever the options are
+  abbrev pub IsCauseOn : (held : Option (List ℕ)) → (master : ℕ) → P → Fault → Type 0
+  IsCauseOn held master old e =
+      (log : List ℕ) → held ≡ Some log
+      → ForStore pages old master (λ before stored. (store : List ℕ) (options : Options) → SpellsStore store before → AreInRange options → ReadingCause log store options e)

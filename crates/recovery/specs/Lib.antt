@@ -9,3 +9,6 @@ pub mod TailFile
 pub mod InPlace
 pub mod ByPieces
 pub mod Copying
+pub mod StoreChanges
+pub mod Large
+pub mod LargeCopying

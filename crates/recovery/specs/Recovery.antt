@@ -14,7 +14,8 @@ use Rattle.wal.specs.Cut.{Cut}
 use Rattle.undo.specs.declared.appended.Appended.{Appended}
 use Rattle.undo.specs.Appended.{appended_records}
 use Rattle.restart.specs.declared.outcome.Outcome.{Outcome}
-use Rattle.restart.specs.Outcome.{OutcomeContent, outcome_in}
+use Rattle.restart.specs.declared.outcome.UndoOutcome.{UndoOutcome}
+use Rattle.restart.specs.Outcome.{OutcomeContent, outcome_in, outcome_with}
 use Rattle.restart.specs.Restart.{clrs_in, Restarts, Restores, IsSettled, Redoes, InputFault}
 use Rattle.passes.specs.InPieces.{AreAlike}
 use Rattle.restart.specs.declared.options.Options.{Options}
@@ -78,6 +79,11 @@ report_of read torn x = record {
   pages = length x.store.pages;
   in_doubt = x.in_doubt;
 }
+
+-- the numbers of a restart that leaves any store with so many pages
+abbrev pub ReportsOn : LogContent → (torn pages redo_from redone : ℕ) → UndoOutcome → ReportContent → Type 0
+ReportsOn read torn pages redo_from redone undone report =
+    (after : StoreContent) → length after.pages ≡ pages → report ≡ report_of read torn (outcome_with after redo_from redone (history read) undone)
 
 -- EVERY INPUT. The new log is the log without its torn tail and what a restart appends, and is read as such; the new store is that of the
 -- restart.

@@ -5,9 +5,10 @@ ghost use Rattle.std.specs.Io.KnownBytes.{IsAtEnd, Keeps};
 ghost use Rattle.page.specs.declared.fault.Fault.{Fault};
 ghost use Rattle.page.specs.declared.fault.Fault.TheVariants.{ReadLog, WriteStore};
 ghost use Rattle.page.specs.File.{SpellsStore};
+ghost use Rattle.changes.specs.Numbered.{StayNumbered};
 ghost use Rattle.restart.specs.Options.{OptionsFault};
 ghost use Rattle.recovery.specs.Recovery.{Decodes};
-ghost use Rattle.recovery.specs.ByPieces.{IsOfLog, IsMeasured, StoreFails, IfDecoded, IsCauseOf, IsMadeLawful, IsMadeLawfulOf, IsMadeOf, RereadCause};
+ghost use Rattle.recovery.specs.ByPieces.{IsOfLog, IsMeasured, StoreFails, IfDecoded, IsCauseOf, IsMadeLawful, IsMadeLawfulOf, IsMadeOf, RereadCause, Continues, ContinuesLawful, IsCauseOn, MeasuresLog};
 ghost use Rattle.recovery.specs.declared.log_again.TheConstants.{ROOM};
 ghost use Rattle.recovery.specs.InPlace.{Completed, CompletesInPlace, DeliversInPlace, ForCutHeld, ForLawfulHeld, HoldsCutOf, IsLeftIn, IsLogFlushed, LogIsContinued, TailIsOut};
 ghost use Rattle.recovery.specs.Devices.{OnceRead, UnlessDevice};
@@ -17,9 +18,10 @@ ghost use Rattle.std.specs.Option.{ForSome};
 use crate::Report;
 use crate::in_place::write_in_place;
 use crate::log_again::{check_log, fault_after, read_store_first, room_for_log, sum_of_kept};
-use crate::recovery::{Remade, remade_of};
+use crate::recovery::{Remade, frames_of, report_on};
 use crate::store_pieces::room_for_pieces;
 use crate::tail_file::TailFile;
+use changes::Pages;
 use device::{Continue, Reread, Sink, Source};
 use page::{Fault, Store};
 use passes::{Restarted, restart_in_pieces};
@@ -35,6 +37,85 @@ pub struct Made {
     /// How many of them are kept.
     pub kept: u64,
     pub remade: Remade,
+}
+
+/// What is made of a log before any of it is written, while the pages of a store are changed.
+#[derive(Drop)]
+pub struct Continuation {
+    /// How many bytes the log has.
+    pub length: u64,
+    /// How many of them are kept.
+    pub kept: u64,
+    /// The frames of the records appended: the rest of the new log.
+    pub frames: Vec<u8>,
+    pub report: Report,
+}
+
+impl Continuation {
+    /// The file of the tail that is made, if the end of what is kept has this sum.
+    pub fn file(&self, end: u64) -> TailFile
+        ensures length { result.length ≡ self.now.length }
+        ensures kept { result.kept ≡ self.now.kept }
+        ensures end { result.end ≡ end }
+        ensures frames { result.frames.now ≡ self.now.frames.items }
+    {
+        TailFile {
+            length: self.length,
+            kept: self.kept,
+            end,
+            frames: &self.frames,
+        }
+    }
+}
+
+/// What is made of the log that a device holds and of the pages of a store with this master. The
+/// pages are in memory, or their changes are; they are changed to those of the new store. The
+/// faults of the log come first, then those of a restart. After an error the pages are not
+/// specified.
+pub fn continue_on<L: Reread, P: Pages>(
+    alloc: Global,
+    log: &mut L,
+    master: u64,
+    pages: &mut P,
+    room: &mut [u8],
+) -> Result<Continuation, Fault>
+    requires { length room.old ≡ ROOM }
+    ensures lawful { ContinuesLawful P.Pages (L.text log.old) master pages.old pages.new result }
+    ensures answer { IfOk result
+        (Continues P.Pages (L.text log.old) master pages.old pages.new) }
+    ensures measured { IfOk result (λ x. ForSome (L.text log.old) (λ text. MeasuresLog text x)) }
+    ensures numbered { OnOk result (StayNumbered P.Pages pages.old pages.new) }
+    ensures fault { IfErr result (IsCauseOn P.Pages (L.text log.old) master pages.old) }
+    ensures same { OnOk result (Keeps (L.text log.old) (L.text log.new)) }
+    ensures named { IfErr result IsOfLog }
+    ensures cause { Blames ReadLog L.failures log.old log.new result }
+{
+    let Restarted {
+        kept,
+        torn,
+        gathered,
+        redo_from,
+        redone,
+        outcome,
+    } = match restart_in_pieces(alloc, log, room, master, pages) {
+        Ok(restarted) => restarted,
+        Err(stopped) => return Err(fault_after(log, stopped, room)),
+    };
+    let Some(length) = kept.checked_add(torn as u64) else {
+        // No log has this many bytes.
+        return Err(Fault::NoResource);
+    };
+    let looked = Looked {
+        place: Place::Gathered(&gathered),
+    };
+    let frames = frames_of(alloc, &looked, &outcome.appended)?;
+    let report = report_on(&looked, torn, pages.len(), redo_from, redone, outcome);
+    Ok(Continuation {
+        length,
+        kept,
+        frames,
+        report,
+    })
 }
 
 /// What is made of the log that a device holds and of a store that is given away. The faults of the
@@ -54,27 +135,22 @@ fn make_of<L: Reread>(
     ensures named { IfErr result IsOfLog }
     ensures cause { Blames ReadLog L.failures log.old log.new result }
 {
-    let Restarted {
+    let Store { master, mut pages } = before;
+    let Continuation {
+        length,
         kept,
-        torn,
-        gathered,
-        outcome,
-    } = match restart_in_pieces(alloc, log, room, before) {
-        Ok(restarted) => restarted,
-        Err(stopped) => return Err(fault_after(log, stopped, room)),
-    };
-    let Some(length) = kept.checked_add(torn as u64) else {
-        // No log has this many bytes.
-        return Err(Fault::NoResource);
-    };
-    let looked = Looked {
-        place: Place::Gathered(&gathered),
-    };
-    let remade = remade_of(alloc, &looked, torn, outcome)?;
+        frames,
+        report,
+    } = continue_on(alloc, log, master, &mut pages, room)?;
+    let store = Store { master, pages };
     Ok(Made {
         length,
         kept,
-        remade,
+        remade: Remade {
+            frames,
+            store,
+            report,
+        },
     })
 }
 

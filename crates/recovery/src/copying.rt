@@ -95,7 +95,7 @@ fn write_frames<S: Sink>(sink: &mut S, frames: &[u8]) -> Result<(), Failed>
 
 /// Writes a new log and flushes it: the bytes that are kept of the log that a device holds,
 /// followed by the frames appended.
-fn write_copy<L: Reread, S: Sink>(
+pub fn write_copy<L: Reread, S: Sink>(
     log: &mut L,
     sink: &mut S,
     kept: u64,

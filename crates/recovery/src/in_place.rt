@@ -60,7 +60,7 @@ fn file_of<'a>(text: &LogText, kept: &LogBytes, frames: &'a [u8]) -> TailFile<'a
 }
 
 /// Writes the file of a tail and flushes it, and then continues the log by the tail.
-fn write_tail<T: Sink, L: Continue>(
+pub fn write_tail<T: Sink, L: Continue>(
     tail: &mut T,
     log: &mut L,
     file: &TailFile,

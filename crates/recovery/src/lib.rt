@@ -7,12 +7,15 @@ mod copying;
 mod decoding;
 mod devices;
 mod in_place;
+mod large_copying;
+mod large_store;
 mod laws;
 mod log_again;
 mod log_bytes;
 mod log_text;
 mod recovery;
 mod report;
+mod store_changes;
 mod store_pieces;
 mod tail_file;
 mod texts;
@@ -22,6 +25,8 @@ pub use by_pieces::recover_by_pieces;
 pub use copying::recover_copying;
 pub use devices::{read_source, recover};
 pub use in_place::{continue_log, recover_in_place};
+pub use large_copying::recover_large_copying;
+pub use large_store::recover_large_by_pieces;
 pub use laws::{
     no_fault_of_a_recovery, no_fault_of_lawful_texts, no_fault_of_lawful_texts_over,
     one_audit_fault, one_audit_fault_over, one_recovery, one_recovery_fault,

@@ -11,8 +11,10 @@ ghost use Rattle.recovery.specs.ByPieces.{IsOfLog, fault_of, StoreFails, IsLog, 
 ghost use Rattle.recovery.specs.declared.log_again.TheConstants.{ROOM};
 ghost use Rattle.recovery.specs.declared.store_pieces.TheConstants.{PIECE};
 ghost use Rattle.recovery.specs.Calls.{Blames, FailsMore, ForKept, IsShortAtEnd};
+ghost use Rattle.recovery.specs.StoreChanges.{AreDecodedLsns};
 ghost use Rattle.std.specs.Option.{ForSome};
 
+use crate::store_changes::{DecodedLsns, read_lsns};
 use crate::store_pieces::{DecodedStore, read_store};
 use crate::tail_file::{END_BYTES, sum_of_end};
 use device::{Failed, Reread, Source, read_full_at};
@@ -142,6 +144,30 @@ pub fn read_store_first<L: Reread, S: Source>(
     ensures store_source { StoreFails result (S.failures store.old) (S.failures store.new) }
 {
     match read_store(alloc, store, pieces) {
+        Ok(decoded) => Ok(decoded),
+        Err(fault) => Err(first_fault(log, fault, room)),
+    }
+}
+
+/// As [`read_store_first`], of the PageLSNs alone: the store's device is read at offsets, from its
+/// beginning to its end, and still holds the same bytes afterwards.
+pub fn read_lsns_first<L: Reread, R: Reread>(
+    alloc: Global,
+    log: &mut L,
+    store: &mut R,
+    room: &mut [u8],
+    pieces: &mut [u8],
+) -> Result<DecodedLsns, Fault>
+    requires room { length room.old ≡ ROOM }
+    requires pieces { length pieces.old ≡ PIECE }
+    ensures read { IfOk result (AreDecodedLsns (R.text store.old)) }
+    ensures kept { OnOk result (Keeps (R.text store.old) (R.text store.new)) }
+    ensures log_unread { OnOk result (log.new ≡ log.old) }
+    ensures fault { IfErr result (λ e. (e ≡ ReadLog) ⊎ IsFaultOf ReadStore e) }
+    ensures log_source { Blames ReadLog L.failures log.old log.new result }
+    ensures store_source { StoreFails result (R.failures store.old) (R.failures store.new) }
+{
+    match read_lsns(alloc, store, pieces) {
         Ok(decoded) => Ok(decoded),
         Err(fault) => Err(first_fault(log, fault, room)),
     }

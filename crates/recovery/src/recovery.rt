@@ -4,7 +4,7 @@ ghost use Rattle.std.specs.Prelude.{◌≡◌, ◌≤◌, ◌<◌, ◌+◌, ◌*
 ghost use Rattle.page.specs.declared.fault.Fault.TheVariants.{NoResource};
 ghost use Rattle.wal.specs.Records.{history, last_lsn};
 ghost use Rattle.undo.specs.Appended.{HaveUpdates, AreFit};
-ghost use Rattle.recovery.specs.Recovery.{report_of, ForLawfulRead, ForRead, IsShortRestored, ReadCause, Remakes, RemakesLawful, RemakesRestart, RemakesRestored, appended_frames, frames_from};
+ghost use Rattle.recovery.specs.Recovery.{report_of, ReportsOn, ForLawfulRead, ForRead, IsShortRestored, ReadCause, Remakes, RemakesLawful, RemakesRestart, RemakesRestored, appended_frames, frames_from};
 ghost use Rattle.restart.specs.Options.{AreInRange};
 ghost use Rattle.restart.specs.Outcome.{outcome_in};
 ghost use Rattle.restart.specs.Results.{UnlessMemory};
@@ -12,7 +12,7 @@ ghost use Rattle.restart.specs.Results.{UnlessMemory};
 use crate::Report;
 use page::{Fault, Store};
 use redo::{Gate, Parting};
-use restart::{BriefOutcome, Options, restart_in_place};
+use restart::{BriefOutcome, Options, UndoOutcome, restart_in_place};
 use std::alloc::Global;
 use std::thread::Threads;
 use undo::{Appended, Looked, Place, frame_bytes_of, record_of};
@@ -34,7 +34,7 @@ fn tail_bytes(log: &Looked, appended: &[Appended]) -> u64
 
 /// The frames of the records that are appended to a log. Room for all of them is made at once, and
 /// the full records are made one at a time from the compact form.
-fn frames_of(alloc: Global, log: &Looked, appended: &[Appended]) -> Result<Vec<u8>, Fault>
+pub fn frames_of(alloc: Global, log: &Looked, appended: &[Appended]) -> Result<Vec<u8>, Fault>
     requires told { HaveUpdates log.now appended.now }
     requires writable { AreFit log.now appended.now }
     requires few { length appended.now ≤ 2 * length log.now.records + 2 ^ 32 }
@@ -50,6 +50,31 @@ fn frames_of(alloc: Global, log: &Looked, appended: &[Appended]) -> Result<Vec<u
         lsn += 1;
     }
     Ok(frames)
+}
+
+/// The report of a restart that leaves so many pages. What it appends is dropped.
+pub fn report_on(
+    log: &Looked,
+    torn: usize,
+    pages: usize,
+    redo_from: u64,
+    redone: u64,
+    outcome: UndoOutcome,
+) -> Report
+    ensures report { ReportsOn log.now torn pages redo_from redone outcome result }
+    ensures torn { result.torn ≡ torn }
+{
+    Report {
+        records: log.len(),
+        torn: torn as u64,
+        redo_from,
+        redone,
+        losers: outcome.losers,
+        compensated: outcome.compensated,
+        ended: outcome.ended,
+        pages: pages as u64,
+        in_doubt: outcome.in_doubt,
+    }
 }
 
 /// The report of a restart, and the store that it leaves. What it appends is dropped.

@@ -19,7 +19,7 @@ use page::{
 use std::alloc::Global;
 
 /// How many images a piece has.
-const PIECE_PAGES: usize = 64;
+pub const PIECE_PAGES: usize = 64;
 
 /// How many bytes a piece has.
 pub const PIECE: usize = PIECE_PAGES * PAGE_BYTES;
@@ -40,7 +40,7 @@ pub struct DecodedStore {
 }
 
 /// The next bytes of a store's source: as many as there is room for, fewer only at its end.
-fn read_piece<S: Source>(source: &mut S, room: &mut [u8]) -> Result<usize, Fault>
+pub fn read_piece<S: Source>(source: &mut S, room: &mut [u8]) -> Result<usize, Fault>
     ensures within { IfOk result (λ count. count ≤ length room.new) }
     ensures read { IfOk result (λ count. ReadNext S.left source.old source.new
         (take count room.new)) }

@@ -109,8 +109,8 @@ map_of h (image ∷ images) [] e at = absurd (omega arith)
 map_of h (image ∷ images) (x ∷ xs) e at = ap₂ (λ y ys. y ∷ ys) (same_Some _ _ (at 0 image refl)) (map_of h images xs (omega arith) (λ k i f. at (suc k) i f))
 
 module _ (input : InputContent) (tallies : List Tally) (all : AreAllTallied input tallies) where
-  -- a page that is finished by its tally is redone
-  pages_are : (pages : List Page) → length pages ≡ length input.images
+  -- each page that is finished by its tally is redone
+  pub pages_are : (pages : List Page) → length pages ≡ length input.images
       → ((number : ℕ) (t : Tally) (image : Page) → number < length input.images → get_or pages number image ≡ finished_page (history input.log) (get_or tallies number t) (get_or input.images number image))
       → pages ≡ map (λ image. (redo_page_in input (history input.log) image).page) input.images
   pages_are pages same each = map_of (λ image. (redo_page_in input (history input.log) image).page) input.images pages same

@@ -18,9 +18,6 @@ use Rattle.redo.specs.Routes.{skipped_in, RouteFault}
 use Rattle.redo.specs.Redone.{AreWorkers, RedoFault}
 use Rattle.redo.specs.Parts.{redo_page_in, image_at, resolved, IsTallied, AreAllTallied}
 use Rattle.redo.specs.OnePass.{AreUpTo}
-use Rattle.redo.specs.Passing.{IsBegunIn}
-use Rattle.page.specs.declared.page.Page.{Page}
-use Rattle.tables.specs.Tables.{TablesContent}
 use Rattle.redo.proofs.Stretches.{skipped_within}
 use Rattle.redo.proofs.Advance.{advanced, advance_elsewhere}
 use Rattle.redo.proofs.Replay.{image_number, skips_none, page_of_cell, applied_within}
@@ -39,17 +36,17 @@ begun input tallies count each = record {
       ∙ sym (skips_none input (image_at input.images number) (skipped_in input) (omega arith) (skipped_within (base_lsn (history input.log)) input.redo_lsn (last_lsn (history input.log)) (base_within (history input.log))));
 }
 
--- one more page is begun
-pub begun_more : (images : List Page) (tables : TablesContent) (number : ℕ) (tallies : List Tally) (tally : Tally) → length tallies ≡ number
-    → ((k : ℕ) (t : Tally) → k < number → IsBegunIn images tables k (get_or tallies k t)) → IsBegunIn images tables number tally
-    → (k : ℕ) (t : Tally) → k < number + 1 → IsBegunIn images tables k (get_or (tallies ++ tally ∷ []) k t)
-begun_more images tables number tallies tally count each one k t lt =
+-- one more tally: what holds for each at its number holds for it too
+pub each_more : (Q : ℕ → Tally → Type 0) (number : ℕ) (tallies : List Tally) (tally : Tally) → length tallies ≡ number
+    → ((k : ℕ) (t : Tally) → k < number → Q k (get_or tallies k t)) → Q number tally
+    → (k : ℕ) (t : Tally) → k < number + 1 → Q k (get_or (tallies ++ tally ∷ []) k t)
+each_more Q number tallies tally count each one k t lt =
     elim (cases_lt k number) [
-      | inl less ↦ subst (IsBegunIn images tables k) (sym (get_or_append_left tallies (tally ∷ []) t k (omega (arith, less, count)))) (each k t less)
+      | inl less ↦ subst (Q k) (sym (get_or_append_left tallies (tally ∷ []) t k (omega (arith, less, count)))) (each k t less)
       | inr ge ↦
           (let at : k ≡ length tallies = omega (arith, lt, ge, count) in
-          subst (λ i. IsBegunIn images tables i (get_or (tallies ++ tally ∷ []) i t)) (sym at)
-          (subst (IsBegunIn images tables (length tallies)) (sym (get_or-append_seam tallies tally [] t)) (subst (λ i. IsBegunIn images tables i tally) (sym count) one)))
+          subst (λ i. Q i (get_or (tallies ++ tally ∷ []) i t)) (sym at)
+          (subst (Q (length tallies)) (sym (get_or-append_seam tallies tally [] t)) (subst (λ i. Q i tally) (sym count) one)))
     ]
 
 -- ONE MORE RECORD

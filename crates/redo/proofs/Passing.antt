@@ -1,12 +1,10 @@
 -- The tallies while a log is read in pieces: one more record, and the records that are passed over.
-use Rattle.std.proofs.Common.{◌≡◌, ◌≢◌, ℕ, zero, suc, replicate, ◌+◌, ◌<◌, ◌≤◌, true, eqb, eq-eqb, List, [], ◌∷◌, All, Some, length, get_or, set, refl, sym, ap, ◌∙◌, subst, inl, inr, arith}
+use Rattle.std.proofs.Common.{◌≡◌, ◌≢◌, ℕ, zero, suc, replicate, ◌+◌, ◌<◌, ◌≤◌, true, eqb, eq-eqb, List, [], ◌∷◌, ◌++◌, All, Some, length, get_or, set, refl, sym, ap, ◌∙◌, subst, inl, inr, arith, length-append}
 use Rattle.std.proofs.lemmas.Bool.{cases_Bool, cases_eq, cases_lt, cond_both}
 use Rattle.std.proofs.lemmas.List.{get_or-set_same, get_or-set_other, length-set, set_past}
 use Rattle.std.proofs.lemmas.Option.{same_Some}
 use Rattle.page.specs.declared.page.Page.{Page}
-use Rattle.page.specs.Store.{AreNumbered}
 use Rattle.tables.specs.Tables.{TablesContent}
-use Rattle.wal.specs.declared.header.LogStart.TheVariants.{Version2}
 use Rattle.wal.specs.Records.{LogRecord, LogContent, start, history, record_at, last_lsn, base_lsn}
 use Rattle.wal.specs.Redo.{rec_lsn_of, is_redone}
 use Rattle.wal.proofs.Histories.{base_within, first_at_base, record_above, record_within}
@@ -22,7 +20,7 @@ use Rattle.redo.specs.Passing.{TalliesSoFar, StandAtNumbers, LastsAreWithin, Are
 use Rattle.redo.proofs.Stretches.{skipped_within, skipped_from, skipped_of_piece}
 use Rattle.redo.proofs.Replay.{skips_none}
 use Rattle.redo.proofs.Noting.{exist_on}
-use Rattle.redo.proofs.OnePass.{one_more, numbers_of_tallies, few}
+use Rattle.redo.proofs.OnePass.{one_more, each_more}
 use Rattle.page.specs.declared.profile.TheConstants.{SLOTS}
 
 -- A RECORD COUNTED
@@ -107,15 +105,18 @@ module _ (images : List Page) (tables : TablesContent) (tallies : List Tally) (a
     each = λ k t lt. (are.each k t lt).begun log ∙ ap (λ h. redo_page_in (input_over log images tables) h (image_at images k)) (ap start at ∙ sym (first_at_base (history log) base (sym at)));
   }
 
-  pub begun_kept : (base : ℕ) → AreNumbered images → AreScanned base tallies
-  begun_kept base numbered =
-      let log : LogContent = record { begins = Version2 base; records = [] } in
-      let up = begun_up base log refl in
-      record {
-        numbered = numbers_of_tallies (input_over log images tables) numbered base tallies up;
-        few = few (input_over log images tables) numbered base tallies up (omega arith) (omega arith);
-        lasts = λ k slot t lt. omega (arith, ap (λ xs. get_or xs slot 0) (are.each k t (omega (arith, lt, are.count))).none ∙ zeros SLOTS slot);
-      }
+-- one more tally, of a page to which no record is applied
+pub scanned_more : (tallies : List Tally) (tally : Tally) → tally.number ≡ length tallies → tally.applied ≡ 0 → tally.lasts ≡ replicate SLOTS 0 → AreScanned 0 tallies
+    → AreScanned 0 (tallies ++ tally ∷ [])
+scanned_more tallies tally number applied lasts before =
+    let count = length-append tallies (tally ∷ []) in
+    record {
+      numbered = λ k t lt. each_more (λ k t. t.number ≡ k) (length tallies) tallies tally refl before.numbered number k t (omega (arith, lt, count));
+      few = λ k t lt. each_more (λ _ t. t.applied ≤ 0) (length tallies) tallies tally refl before.few (omega (arith, applied)) k t (omega (arith, lt, count));
+      lasts = λ k slot t lt.
+          each_more (λ _ t. get_or t.lasts slot 0 ≤ 0) (length tallies) tallies tally refl (λ k t lt. before.lasts k slot t lt)
+          (omega (arith, ap (λ xs. get_or xs slot 0) lasts, zeros SLOTS slot)) k t (omega (arith, lt, count));
+    }
 
 -- A PIECE
 -- the LSN up to which the records of a piece are passed over

@@ -1,60 +1,58 @@
 //! The images of the records that the pages want, fetched while a log is read in pieces.
 
-ghost use Rattle.std.specs.Prelude.{◌≡◌, ℕ, ◌<◌, ◌≤◌, List, All, length, take, drop, slice_set, slice_index_or};
+ghost use Rattle.std.specs.Prelude.{◌≡◌, ℕ, ◌<◌, ◌≤◌, List, All, length, take, drop, slice_set, slice_index_or, IfOk, OnOk, IsOkUnless};
 ghost use Rattle.std.specs.List.Sorted.{IsNonDecreasingBy};
+ghost use Rattle.page.specs.declared.fault.Fault.TheVariants.{NoResource};
 ghost use Rattle.page.specs.declared.page.Page.{Page};
 ghost use Rattle.page.specs.declared.profile.TheConstants.{SLOTS};
-ghost use Rattle.wal.specs.Records.{History, history, record_at, last_lsn};
-ghost use Rattle.wal.specs.Meaning.{image_in};
+ghost use Rattle.wal.specs.Records.{History, history, last_lsn};
+ghost use Rattle.changes.specs.Changes.{page_lsn};
+ghost use Rattle.changes.specs.Numbered.{StayNumbered};
 ghost use Rattle.tables.specs.Pieces.{IsPieceOf};
-ghost use Rattle.redo.specs.Wanted.{IsWanted, HoldAllBut, AreAhead};
+ghost use Rattle.redo.specs.Wanted.{IsWanted, AreAhead, ShowAllBut, ShowLsns};
 ghost use Rattle.redo.specs.declared.tally.Tally.{Tally};
 
-use crate::part::count_slots;
 use crate::tally::Tally;
 use crate::wanted::Wanted;
-use page::{Page, SLOTS};
+use changes::Pages;
+use page::{Fault, SLOTS};
 use wal::Log;
-
-/// Puts the image of a wanted record into its slot: none if the piece has no record at its LSN.
-fn put_image(piece: &Log, wanted: &Wanted, page: &mut Page)
-    requires { wanted.now.slot < SLOTS }
-    ensures is { page.new ≡ record page.old {
-      slots = slice_set page.old.slots wanted.now.slot
-          (image_in (record_at (history piece.now) wanted.now.lsn));
-    } }
-    ensures slots { length page.old.slots ≡ SLOTS }
-{
-    let _slots = count_slots(&page.slots);
-    page.slots[wanted.slot as usize] = piece.image(wanted.lsn);
-}
 
 /// Puts the images of the wanted records up to the last LSN of a piece into their slots. These
 /// records are at the front of the list, which is in ascending order of LSN. Returns how many there
-/// are. Pass the rest of the list with the next piece.
-pub fn fetch_from(piece: &Log, wanted: &[Wanted], pages: &mut [Page]) -> usize
-    requires pages { All (λ w. w.page < length pages.old) wanted.now }
+/// are. Pass the rest of the list with the next piece. The only error is `NoResource`.
+pub fn fetch_from<P: Pages>(piece: &Log, wanted: &[Wanted], pages: &mut P) -> Result<usize, Fault>
+    requires pages { All (λ w. w.page < P.count pages.old) wanted.now }
     requires slots { All (λ w. w.slot < SLOTS) wanted.now }
-    ensures within { result ≤ length wanted.now }
-    ensures count { length pages.new ≡ length pages.old }
-    ensures taken { All (λ w. w.lsn ≤ last_lsn (history piece.now)) (take result wanted.now) }
-    ensures rest { IsNonDecreasingBy (λ w. w.lsn) wanted.now
-        → All (λ w. last_lsn (history piece.now) < w.lsn) (drop result wanted.now) }
+    ensures within { IfOk result (λ taken. taken ≤ length wanted.now) }
+    ensures count { P.count pages.new ≡ P.count pages.old }
+    ensures taken { IfOk result (λ taken. All (λ w. w.lsn ≤ last_lsn (history piece.now))
+        (take taken wanted.now)) }
+    ensures rest { IfOk result (λ taken. IsNonDecreasingBy (λ w. w.lsn) wanted.now
+        → All (λ w. last_lsn (history piece.now) < w.lsn) (drop taken wanted.now)) }
     // For each log that the piece can be of: what is left is still to be fetched.
-    ensures fetched { (whole : History) (tallies : List Tally) (images : List Page)
-        → IsPieceOf whole (history piece.now) → All (IsWanted tallies) wanted.now
-        → AreAhead whole (history piece.now) wanted.now
-        → HoldAllBut whole tallies wanted.now images pages.old
-        → HoldAllBut whole tallies (drop result wanted.now) images pages.new }
+    ensures fetched { IfOk result (λ taken. (whole : History) (tallies : List Tally)
+        (images stored : List Page) → IsPieceOf whole (history piece.now)
+        → All (IsWanted tallies) wanted.now → AreAhead whole (history piece.now) wanted.now
+        → ShowAllBut P.Pages whole tallies wanted.now images stored pages.old
+        → ShowAllBut P.Pages whole tallies (drop taken wanted.now) images stored pages.new) }
+    ensures numbered { OnOk result (StayNumbered P.Pages pages.old pages.new) }
+    ensures err { IsOkUnless result NoResource }
 {
     let last = piece.last();
     for (taken, record) in wanted.iter().enumerate() {
         if record.lsn > last {
-            return taken;
+            return Ok(taken);
         }
-        put_image(piece, record, &mut pages[record.page as usize]);
+        let image = piece.image(record.lsn);
+        pages.put(
+            record.page as usize,
+            record.slot as usize,
+            image,
+            record.lsn,
+        )?;
     }
-    wanted.len()
+    Ok(wanted.len())
 }
 
 /// How many slots the tally of a page has. A function of its own, as `count_slots`.
@@ -64,36 +62,33 @@ fn count_lasts(lasts: &[u64; SLOTS]) -> usize
     lasts.len()
 }
 
-/// Sets the number and the PageLSN of a page to those of its tally.
-fn set_page_lsn(tally: &Tally, page: &mut Page)
-    ensures is { page.new
-        ≡ record { number = tally.now.number; lsn = tally.now.lsn; slots = page.old.slots } }
-    ensures slots { length page.old.slots ≡ SLOTS }
+/// Sets the PageLSN of a page to that of its tally.
+fn set_page_lsn<P: Pages>(tally: &Tally, number: usize, pages: &mut P)
+    requires { number < P.count pages.old }
+    ensures count { P.count pages.new ≡ P.count pages.old }
+    ensures set { (stored shown : List Page) (d : Page) → P.shows pages.old stored shown
+        → P.shows pages.new stored (slice_set shown number
+        (page_lsn tally.now.lsn (slice_index_or shown number d))) }
+    ensures numbered { StayNumbered P.Pages pages.old pages.new }
+    ensures slots { (stored shown : List Page) (d : Page) → P.shows pages.old stored shown
+        → length (slice_index_or shown number d).slots ≡ SLOTS }
     ensures lasts { length tally.now.lasts ≡ SLOTS }
 {
-    let _slots = count_slots(&page.slots);
     let _lasts = count_lasts(&tally.lasts);
-    page.number = tally.number;
-    page.lsn = tally.lsn;
+    pages.set_lsn(number, tally.lsn);
 }
 
-/// Sets the numbers and the PageLSNs of pages to those of their tallies.
-pub fn set_page_lsns(tallies: &[Tally], pages: &mut [Page])
-    requires { length pages.old ≡ length tallies.now }
-    ensures count { length pages.new ≡ length pages.old }
-    ensures each { (k : ℕ) (t : Tally) (page : Page) → k < length pages.old
-        → slice_index_or pages.new k page
-        ≡ record {
-          number = (slice_index_or tallies.now k t).number;
-          lsn = (slice_index_or tallies.now k t).lsn;
-          slots = (slice_index_or pages.old k page).slots;
-        } }
-    ensures slots { (k : ℕ) (page : Page) → k < length pages.old
-        → length (slice_index_or pages.old k page).slots ≡ SLOTS }
-    ensures lasts { (k : ℕ) (t : Tally) → k < length pages.old
+/// Sets the PageLSNs of pages to those of their tallies.
+pub fn set_page_lsns<P: Pages>(tallies: &[Tally], pages: &mut P)
+    requires { P.count pages.old ≡ length tallies.now }
+    ensures count { P.count pages.new ≡ P.count pages.old }
+    ensures set { (stored shown : List Page) → P.shows pages.old stored shown
+        → ShowLsns P.Pages tallies.now (length tallies.now) stored shown pages.new }
+    ensures numbered { StayNumbered P.Pages pages.old pages.new }
+    ensures lasts { (k : ℕ) (t : Tally) → k < length tallies.now
         → length (slice_index_or tallies.now k t).lasts ≡ SLOTS }
 {
-    for number in 0..pages.len() {
-        set_page_lsn(&tallies[number], &mut pages[number]);
+    for number in 0..tallies.len() {
+        set_page_lsn(&tallies[number], number, pages);
     }
 }

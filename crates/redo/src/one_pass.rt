@@ -1,9 +1,13 @@
 //! Which records each page lacks, found in one pass over the records in the caller's thread.
 
-ghost use Rattle.std.specs.Prelude.{◌≡◌, ℕ, ◌+◌, ◌<◌, ◌≤◌, All, Some, length, slice_index_or, IfOk, OnOk, IfErr, OnErr, IsOkUnless};
+ghost use Rattle.std.specs.Prelude.{◌≡◌, ℕ, ◌+◌, ◌<◌, ◌≤◌, List, All, Some, length, replicate, slice_index_or, IfOk, OnOk, IfErr, OnErr, IsOkUnless};
 ghost use Rattle.page.specs.declared.fault.Fault.TheVariants.{NoResource, NoSuchPage};
+ghost use Rattle.page.specs.declared.page.Page.{Page};
+ghost use Rattle.page.specs.declared.profile.TheConstants.{SLOTS};
+ghost use Rattle.page.specs.Store.{AreNumbered};
 ghost use Rattle.wal.specs.Records.{LogRecord, history, record_at, last_lsn, base_lsn};
 ghost use Rattle.wal.specs.Glances.{glance_of};
+ghost use Rattle.wal.specs.Redo.{rec_lsn_of};
 ghost use Rattle.tables.specs.Tables.{TablesContent};
 ghost use Rattle.redo.specs.Inputs.{InputContent, input_over};
 ghost use Rattle.redo.specs.Changes.{NamesBelow, advance};
@@ -11,42 +15,78 @@ ghost use Rattle.redo.specs.Routes.{skipped_in, NoteFault, IsSeen};
 ghost use Rattle.redo.specs.Redone.{AllExist, RedoFault};
 ghost use Rattle.redo.specs.Parts.{AreAllTallied, resolved};
 ghost use Rattle.redo.specs.OnePass.{AreUpTo};
-ghost use Rattle.redo.specs.Passing.{StandAtNumbers, LastsAreWithin, AreBegunIn, ListEach};
+ghost use Rattle.redo.specs.Passing.{StandAtNumbers, LastsAreWithin, AreScanned, IsBegunIn, AreBegunIn, ListEach};
 ghost use Rattle.redo.specs.declared.tally.Tally.{Tally};
 
 use crate::input::RedoInput;
-use crate::part::{begin_in, count_at};
+use crate::part::count_at;
 use crate::tally::Tally;
+use changes::Pages;
 use page::{Fault, Store};
 use std::alloc::Global;
 use tables::Tables;
 use wal::{Glance, Log};
 
-/// The tallies of all pages of the store before a record is applied to them, for any log. The only
-/// error is `NoResource`.
-pub fn begin_each(alloc: Global, store: &Store, tables: &Tables) -> Result<Vec<Tally>, Fault>
-    ensures begun { IfOk result (λ tallies. AreBegunIn store.now.pages tables.now tallies.items) }
+/// How many pages there are. The only error is `NoResource`: no store has so many.
+fn page_count<P: Pages>(pages: &P) -> Result<u32, Fault>
+    ensures count { IfOk result (λ count. count ≡ P.count pages.now) }
     ensures err { IsOkUnless result NoResource }
 {
-    let mut tallies = Vec::with_capacity(alloc, store.pages.len())?;
-    for number in 0..store.pages.len() {
-        let page = number as u32;
-        tallies.push(begin_in(store, page, tables.rec_lsn(page)))?;
+    u32::try_from(pages.len()).map_err(|_| Fault::NoResource)
+}
+
+/// The tally of a page before a record is applied to it, for any log and tables that have this
+/// RecLSN for the page.
+fn begin_at<P: Pages>(pages: &P, number: u32, rec_lsn: Option<u64>) -> Tally
+    requires { number < P.count pages.now }
+    ensures begun { (stored shown : List Page) (tables : TablesContent)
+        → P.shows pages.now stored shown → AreNumbered shown
+        → rec_lsn_of number tables.dirty ≡ rec_lsn → IsBegunIn shown tables number result }
+    ensures number { result.number ≡ number }
+    ensures applied { result.applied ≡ 0 }
+    ensures lasts { result.lasts ≡ replicate SLOTS 0 }
+{
+    Tally::begin(number, pages.lsn(number as usize), rec_lsn)
+}
+
+/// The tallies of all pages before a record is applied to them, for any log. The only error is
+/// `NoResource`.
+pub fn begin_each<P: Pages>(alloc: Global, pages: &P, tables: &Tables) -> Result<Vec<Tally>, Fault>
+    ensures begun { IfOk result (λ tallies. (stored shown : List Page)
+        → P.shows pages.now stored shown → AreNumbered shown
+        → AreBegunIn shown tables.now tallies.items) }
+    ensures count { IfOk result (λ tallies. length tallies.items ≡ P.count pages.now) }
+    // Numbers, counts and last records do not depend on what the pages hold.
+    ensures scanned { IfOk result (λ tallies. (upto : ℕ) → AreScanned upto tallies.items) }
+    ensures err { IsOkUnless result NoResource }
+{
+    let count = page_count(pages)?;
+    let mut tallies = Vec::with_capacity(alloc, count as usize)?;
+    for number in 0..count {
+        tallies.push(begin_at(pages, number, tables.rec_lsn(number)))?;
     }
     Ok(tallies)
 }
 
-/// The tallies of all pages of the store before a record is applied to them, for any log and tables
-/// that list each page from the LSN `first` on. The only error is `NoResource`.
-pub fn begin_each_listed(alloc: Global, store: &Store, first: u64) -> Result<Vec<Tally>, Fault>
-    ensures begun { IfOk result (λ tallies. (tables : TablesContent)
-        → ListEach (length store.now.pages) first tables
-        → AreBegunIn store.now.pages tables tallies.items) }
+/// The tallies of all pages before a record is applied to them, for any log and tables that list
+/// each page from the LSN `first` on. The only error is `NoResource`.
+pub fn begin_each_listed<P: Pages>(
+    alloc: Global,
+    pages: &P,
+    first: u64,
+) -> Result<Vec<Tally>, Fault>
+    ensures begun { IfOk result (λ tallies. (stored shown : List Page) (tables : TablesContent)
+        → P.shows pages.now stored shown → AreNumbered shown
+        → ListEach (P.count pages.now) first tables → AreBegunIn shown tables tallies.items) }
+    ensures count { IfOk result (λ tallies. length tallies.items ≡ P.count pages.now) }
+    // Numbers, counts and last records do not depend on what the pages hold.
+    ensures scanned { IfOk result (λ tallies. (upto : ℕ) → AreScanned upto tallies.items) }
     ensures err { IsOkUnless result NoResource }
 {
-    let mut tallies = Vec::with_capacity(alloc, store.pages.len())?;
-    for number in 0..store.pages.len() {
-        tallies.push(begin_in(store, number as u32, Some(first)))?;
+    let count = page_count(pages)?;
+    let mut tallies = Vec::with_capacity(alloc, count as usize)?;
+    for number in 0..count {
+        tallies.push(begin_at(pages, number, Some(first)))?;
     }
     Ok(tallies)
 }
@@ -57,7 +97,8 @@ fn begin_all(alloc: Global, input: &RedoInput) -> Result<Vec<Tally>, Fault>
         (skipped_in input.now) tallies.items) }
     ensures err { IsOkUnless result NoResource }
 {
-    begin_each(alloc, input.store, input.tables)
+    let store = input.store;
+    begin_each(alloc, &store.pages, input.tables)
 }
 
 /// Counts the record at an LSN for its page, if it has one and the page lacks the record. The

@@ -46,7 +46,7 @@ fn page_lsn(store: &Store, number: u32) -> u64
 
 /// The tally of a page of the store before a record is applied to it, for any log and tables that
 /// have this RecLSN for the page.
-pub fn begin_in(store: &Store, number: u32, rec_lsn: Option<u64>) -> Tally
+fn begin_in(store: &Store, number: u32, rec_lsn: Option<u64>) -> Tally
     ensures { (tables : TablesContent) → rec_lsn_of number tables.dirty ≡ rec_lsn
         → IsBegunIn store.now.pages tables number result }
 {

@@ -4,18 +4,20 @@ ghost use Rattle.std.specs.Prelude.{◌≡◌, ℕ, ◌-◌, ◌≤◌, ◌<◌,
 ghost use Rattle.std.specs.List.{sum_by};
 ghost use Rattle.std.specs.List.Sorted.{IsNonDecreasingBy};
 ghost use Rattle.page.specs.declared.fault.Fault.TheVariants.{NoResource, NoSuchPage};
+ghost use Rattle.page.specs.Store.{AreNumbered};
 ghost use Rattle.wal.specs.Records.{LogRecord, LogContent, History, history, last_lsn, base_lsn};
 ghost use Rattle.wal.specs.Glances.{glance_of};
 ghost use Rattle.tables.specs.Tables.{TablesContent};
+ghost use Rattle.changes.specs.Numbered.{StayNumbered};
 ghost use Rattle.redo.specs.Inputs.{InputContent, input_over};
 ghost use Rattle.redo.specs.OnePass.{AreUpTo};
 ghost use Rattle.redo.specs.Redone.{AllExist};
 ghost use Rattle.redo.specs.Routes.{IsSeen};
 ghost use Rattle.redo.specs.Passing.{ListEach, IsPieceFor, IsRecordFor, PieceFault};
-ghost use Rattle.redo.specs.Wanted.{IsWanted, HoldAllBut};
+ghost use Rattle.redo.specs.Wanted.{IsWanted, HoldAllBut, ShowAllBut, ShowFinished};
 ghost use Rattle.redo.specs.declared.tally.Tally.{Tally};
 ghost use Rattle.redo.specs.declared.wanted.Wanted.{Wanted};
-ghost use Rattle.redo.specs.Changes.{NamesBelow, finished_page};
+ghost use Rattle.redo.specs.Changes.{NamesBelow};
 ghost use Rattle.page.specs.declared.profile.TheConstants.{SLOTS};
 ghost use Rattle.page.specs.declared.page.Page.{Page};
 
@@ -25,7 +27,8 @@ use crate::one_pass::{begin_each, begin_each_listed, count_seen};
 use crate::ordered::by_lsn;
 use crate::tally::Tally;
 use crate::wanted::{Wanted, want_slots};
-use page::{Fault, Page, Store};
+use changes::Pages;
+use page::Fault;
 use std::alloc::Global;
 use std::marker::Model;
 use tables::Tables;
@@ -56,22 +59,22 @@ impl Model for TallyScan {
 impl TallyScan {
     /// The scan before the first record of a log with this base LSN. No record is applied to the
     /// pages. The only error is `NoResource`.
-    pub fn begin(
+    pub fn begin<P: Pages>(
         alloc: Global,
-        store: &Store,
+        pages: &P,
         tables: &Tables,
         base: u64,
     ) -> Result<TallyScan, Fault>
-        ensures begun { IfOk result (λ scan. (log : LogContent) → base_lsn (history log) ≡ base
-            → AreUpTo (input_over log store.now.pages tables.now) base scan.tallies) }
-        ensures count { IfOk result (λ scan. length scan.tallies ≡ length store.now.pages) }
+        ensures begun { IfOk result (λ scan. (stored shown : List Page)
+            → P.shows pages.now stored shown → AreNumbered shown
+            → (log : LogContent) → base_lsn (history log) ≡ base
+            → AreUpTo (input_over log shown tables.now) base scan.tallies) }
+        ensures count { IfOk result (λ scan. length scan.tallies ≡ P.count pages.now) }
         ensures redo_lsn { IfOk result (λ scan. scan.redo_lsn ≡ tables.now.redo_lsn) }
         ensures upto { IfOk result (λ scan. scan.upto ≡ base) }
         ensures err { IsOkUnless result NoResource }
     {
-        // Opens the store: its pages are at their numbers.
-        let _ = &store.pages;
-        let tallies = begin_each(alloc, store, tables)?;
+        let tallies = begin_each(alloc, pages, tables)?;
         Ok(TallyScan {
             tallies,
             redo_lsn: tables.redo_lsn,
@@ -82,23 +85,23 @@ impl TallyScan {
     /// The scan before the first record of a log with this base LSN, with each page of the store
     /// listed as dirty from the LSN `first` on. Redo begins there too, and no tables are needed. No
     /// record is applied to the pages. The only error is `NoResource`.
-    pub fn begin_listed(
+    pub fn begin_listed<P: Pages>(
         alloc: Global,
-        store: &Store,
+        pages: &P,
         first: u64,
         base: u64,
     ) -> Result<TallyScan, Fault>
-        ensures begun { IfOk result (λ scan. (log : LogContent) (tables : TablesContent)
-            → base_lsn (history log) ≡ base → ListEach (length store.now.pages) first tables
-            → AreUpTo (input_over log store.now.pages tables) base scan.tallies) }
-        ensures count { IfOk result (λ scan. length scan.tallies ≡ length store.now.pages) }
+        ensures begun { IfOk result (λ scan. (stored shown : List Page)
+            → P.shows pages.now stored shown → AreNumbered shown
+            → (log : LogContent) (tables : TablesContent)
+            → base_lsn (history log) ≡ base → ListEach (P.count pages.now) first tables
+            → AreUpTo (input_over log shown tables) base scan.tallies) }
+        ensures count { IfOk result (λ scan. length scan.tallies ≡ P.count pages.now) }
         ensures redo_lsn { IfOk result (λ scan. scan.redo_lsn ≡ first) }
         ensures upto { IfOk result (λ scan. scan.upto ≡ base) }
         ensures err { IsOkUnless result NoResource }
     {
-        // Opens the store: its pages are at their numbers.
-        let _ = &store.pages;
-        let tallies = begin_each_listed(alloc, store, first)?;
+        let tallies = begin_each_listed(alloc, pages, first)?;
         Ok(TallyScan {
             tallies,
             redo_lsn: first,
@@ -220,19 +223,16 @@ impl TallyScan {
         by_lsn(alloc, wanted)
     }
 
-    /// Sets the number and the PageLSN of each page. Its slots hold what was fetched.
-    pub fn finish(self, pages: &mut [Page])
-        requires { length pages.old ≡ length self.tallies }
-        ensures count { length pages.new ≡ length pages.old }
-        ensures numbers { (k : ℕ) (page : Page) → k < length pages.old
-            → (slice_index_or pages.new k page).number ≡ k }
+    /// Sets the PageLSN of each page. Its slots hold what was fetched.
+    pub fn finish<P: Pages>(self, pages: &mut P)
+        requires { P.count pages.old ≡ length self.tallies }
+        ensures count { P.count pages.new ≡ P.count pages.old }
+        ensures numbered { StayNumbered P.Pages pages.old pages.new }
         // If all that is wanted up to the LSN of the scan was fetched, each page is finished.
-        ensures each { (whole : History) (rest : List Wanted) (images : List Page)
-            → HoldAllBut whole self.tallies rest images pages.old
+        ensures each { (whole : History) (rest : List Wanted) (images stored : List Page)
+            → AreNumbered images → ShowAllBut P.Pages whole self.tallies rest images stored pages.old
             → All (λ w. self.upto < w.lsn) rest
-            → (number : ℕ) (t : Tally) (image : Page) → number < length pages.old
-            → slice_index_or pages.new number image ≡ finished_page whole
-            (slice_index_or self.tallies number t) (slice_index_or images number image) }
+            → ShowFinished P.Pages whole self.tallies images stored pages.new }
     {
         let TallyScan {
             tallies,

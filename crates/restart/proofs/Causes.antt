@@ -1,7 +1,7 @@
 -- The errors of a restart: the faults of its parts.
 use Rattle.std.proofs.Common.{ℕ, List, length, inl, inr}
 use Rattle.page.specs.declared.fault.Fault.{Fault}
-use Rattle.page.specs.declared.fault.Fault.TheVariants.{NoResource, BadWorkers, BadParting, BadMaster, NoSuchPage, BrokenChain}
+use Rattle.page.specs.declared.fault.Fault.TheVariants.{NoResource, BadWorkers, BadParting, BadMaster, PageAheadOfLog, NoSuchPage, BrokenChain}
 use Rattle.page.specs.Store.{StoreContent}
 use Rattle.wal.specs.Records.{history, LogContent, TableEntry}
 use Rattle.tables.specs.Tables.{TablesContent, losers_in}
@@ -10,13 +10,18 @@ use Rattle.analysis.proofs.Halves.{both_halves}
 use Rattle.redo.specs.Parting.{PartingContent}
 use Rattle.redo.specs.Redone.{AreWorkers, AllExist, RedoFault}
 use Rattle.undo.specs.Undone.{UndoFault}
-use Rattle.restart.specs.Restart.{AreSettings, SettingsFault, NoneAhead, ForwardFault, InputFault}
+use Rattle.restart.specs.Restart.{AreSettings, SettingsFault, NoneAhead, AheadFault, ForwardFault, InputFault}
 
 -- settings that are valid have no error
 pub settings_hold : (pages : ℕ) (parting : PartingContent) (workers : ℕ) (e : Fault) → AreSettings pages parting workers → SettingsFault pages parting workers e → ⊥
 settings_hold pages parting workers BadWorkers fit h = h fit.fit
 settings_hold pages parting workers BadParting fit h = h.1 fit.dealt
 settings_hold pages parting workers e fit h = absurd h
+
+-- a page that is ahead of the log
+pub ahead_fault : (read : LogContent) (before : StoreContent) (e : Fault) → AheadFault read before.pages e → InputFault read before e
+ahead_fault read before (PageAheadOfLog number) h = h
+ahead_fault read before e h = absurd h
 
 module _ (read : LogContent) (before : StoreContent) (none_ahead : NoneAhead read before) where
   pub base_fault : (e : Fault) → BaseFault before.master (history read) e → InputFault read before e

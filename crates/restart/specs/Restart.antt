@@ -65,6 +65,16 @@ AheadFault log pages e = ⊥
 abbrev pub ForLast : (last : ℕ) → (LogContent → Type 0) → Type 0
 ForLast last P = (log : LogContent) → last_lsn (history log) ≡ last → P log
 
+-- PAGES, in memory or not
+module _ {P : Type 0} (pages : Pages P) where
+  -- no page that they show has a PageLSN above this LSN
+  abbrev pub ShowNoneAhead : P → (last : ℕ) → Type 0
+  ShowNoneAhead p last = (stored shown : List Page) → pages.shows p stored shown → All (λ page. page.lsn ≤ last) shown
+
+  -- the error of the pages that they show, if these are at their numbers, over each log whose last record has this LSN
+  abbrev pub ShowAheadFault : P → (last : ℕ) → Fault → Type 0
+  ShowAheadFault p last e = (stored shown : List Page) → pages.shows p stored shown → AreNumbered shown → ForLast last (λ log. AheadFault log shown e)
+
 -- THE OUTCOME
 abbrev pub clrs_in : List LogRecord → ℕ
 clrs_in records = length (filter is_clr records)
@@ -247,7 +257,3 @@ module _ {P : Type 0} (pages : Pages P) (some : LogContent) (tables : TablesCont
   abbrev pub LacksMemoryFrom : P → Fault → Type 0
   LacksMemoryFrom old e = ForRedone old (λ whole before stored redone applied. (base : BasePages) → Lawful base whole before → AreNumbered before.pages → AreTrue whole before tables
       → e ≡ NoResource)
-
--- pages that are at their numbers stay so
-abbrev pub StayNumbered : {P : Type 0} → (pages : Pages P) → (old new : P) → Type 0
-StayNumbered pages old new = (stored given : List Page) → pages.shows old stored given → AreNumbered given → (after : List Page) × pages.shows new stored after × AreNumbered after

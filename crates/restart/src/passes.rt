@@ -1,13 +1,14 @@
 //! Restart on values: analysis, redo and undo, one after the other.
 
-ghost use Rattle.std.specs.Prelude.{◌≡◌, ◌≤◌, ◌+◌, ◌*◌, ◌^◌, All, length, IfOk, OnOk, IfErr};
+ghost use Rattle.std.specs.Prelude.{◌≡◌, ◌<◌, ◌≤◌, ◌+◌, ◌*◌, ◌^◌, length, IfOk, OnOk, IfErr};
 ghost use Rattle.page.specs.Store.{AreNumbered};
+ghost use Rattle.changes.specs.Numbered.{StayNumbered};
 ghost use Rattle.wal.specs.Records.{history};
 ghost use Rattle.undo.specs.Appended.{HaveUpdates, AreFit};
 ghost use Rattle.undo.specs.Enough.{AppendsAlike};
 ghost use Rattle.undo.specs.Undone.{HasNoTransaction0, AreWritable};
 ghost use Rattle.restart.specs.Outcome.{outcome_of, outcome_in};
-ghost use Rattle.restart.specs.Restart.{AreSettings, SettingsFault, AheadFault, ForLast, IsCount, clrs_in, ends_in, Restarts, RestoresWith, RestoresInBrief, RestartsOnWhole, RestoresWhole, FailsOnWhole, RestartFault, RestartsFrom, RestoresFrom, FailsFrom, LacksMemoryFrom, StayNumbered};
+ghost use Rattle.restart.specs.Restart.{AreSettings, SettingsFault, ShowNoneAhead, ShowAheadFault, IsCount, clrs_in, ends_in, Restarts, RestoresWith, RestoresInBrief, RestartsOnWhole, RestoresWhole, FailsOnWhole, RestartFault, RestartsFrom, RestoresFrom, FailsFrom, LacksMemoryFrom};
 ghost use Rattle.restart.specs.Results.{IsErrWhen};
 
 use crate::doubt::in_doubt;
@@ -40,14 +41,19 @@ fn check_settings(store: &Store, parting: &Parting, workers: u32) -> Result<(), 
 }
 
 /// Returns [`Fault::PageAheadOfLog`] with its number for the first page whose PageLSN is above
-/// `last`, the LSN of the log's last record.
-pub fn check_lsns(last: u64, pages: &[Page]) -> Result<(), Fault>
-    ensures ok { OnOk result (All (λ page. page.lsn ≤ last) pages.now) }
-    ensures fault { ForLast last (λ log. IfErr result (AheadFault log pages.now)) }
+/// `last`, the LSN of the log's last record. The pages of the store are in memory, or their changes
+/// are.
+pub fn check_lsns<P: Pages>(last: u64, pages: &P) -> Result<(), Fault>
+    ensures ok { OnOk result (ShowNoneAhead P.Pages pages.now last) }
+    ensures fault { IfErr result (ShowAheadFault P.Pages pages.now last) }
 {
-    for page in pages {
-        if page.lsn > last {
-            return Err(Fault::PageAheadOfLog(page.number));
+    for number in 0..pages.len() {
+        if pages.lsn(number) > last {
+            // No store has a page whose number needs more than 32 bits.
+            let Ok(number) = u32::try_from(number) else {
+                return Err(Fault::NoResource);
+            };
+            return Err(Fault::PageAheadOfLog(number));
         }
     }
     Ok(())

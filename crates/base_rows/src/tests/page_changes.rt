@@ -3,7 +3,7 @@
 
 use changes::{Changes, Pages};
 use checks::{check, check_all, check_at};
-use page::{Fault, Page, SLOTS, Value, encode_page};
+use page::{Fault, PAGE_BYTES, PAGES, Page, SLOTS, Value, encode_page, encode_pages_into};
 use std::alloc::Global;
 use std::test::Fail;
 
@@ -23,6 +23,11 @@ const PUTS: [Put<'static>; 5] = [
 const AFTER: [u8; 93] = *b"\0\0\0\x01\0\0\0\0\0\0\0\0\0\0\0\x0b\
 \0\x50\0\x04\0\0\0\0\0\x54\0\x04\0\x58\0\x05\0\0\0\0\0\0\0\0\0\0\0\0\0\0\0\0\
 \0\0\0\0\0\0\0\0\0\0\0\0\0\0\0\0\0\0\0\0\0\0\0\0\0\0\0\0\0\0\0\0zerokeptagain";
+
+/// The image of page 2 after its PageLSN was set to 12: `other` is in slot 1.
+const OTHER_AFTER: [u8; 85] = *b"\0\0\0\x02\0\0\0\0\0\0\0\0\0\0\0\x0c\
+\0\0\0\0\0\x50\0\x05\0\0\0\0\0\0\0\0\0\0\0\0\0\0\0\0\0\0\0\0\0\0\0\0\
+\0\0\0\0\0\0\0\0\0\0\0\0\0\0\0\0\0\0\0\0\0\0\0\0\0\0\0\0\0\0\0\0other";
 
 /// The three pages of a store, whose PageLSNs are 5, 6 and 4.
 fn stored() -> [Page; 3] {
@@ -137,4 +142,54 @@ fn a_page_lsn_alone_is_set(rt: HostRuntime) -> Result<(), Fail> {
         (page.lsn == 12, "the page"),
         (has_lsn(&changes, 1, 6), "another page"),
     ])
+}
+
+/// Changes the images of page `first` and of the pages that follow it, if all are there. Returns
+/// whether they are.
+fn change_images(changes: &Changes, first: usize, images: &mut [u8]) -> Result<bool, Fault> {
+    let count = changes.len();
+    if count > PAGES || first > count || images.len() % PAGE_BYTES != 0 {
+        return Ok(false);
+    }
+    if images.len() / PAGE_BYTES > count - first {
+        return Ok(false);
+    }
+    changes.change_images(first, images)?;
+    Ok(true)
+}
+
+#[test]
+fn images_changed_where_they_are(rt: HostRuntime) -> Result<(), Fail> {
+    let pages = stored();
+    let mut changes = begun(rt.alloc(), &pages)?;
+    put_all(&mut changes, &PUTS)?;
+    if changes.len() > 2 {
+        changes.set_lsn(2, 12);
+    }
+    let mut images = [0; 2 * PAGE_BYTES];
+    let (_, last) = pages.split_at(1);
+    encode_pages_into(last, &mut images);
+    let are_there = change_images(&changes, 1, &mut images)?;
+    check_all(&[
+        (are_there, "two images"),
+        (images.starts_with(&AFTER), "page 1"),
+        (images[1024..].starts_with(&OTHER_AFTER), "page 2"),
+        (images[93..1024] == [0; 931], "behind page 1"),
+        (images[1109..] == [0; 939], "behind page 2"),
+    ])
+}
+
+#[test]
+fn an_image_of_another_page(rt: HostRuntime) -> Result<(), Fail> {
+    let pages = stored();
+    let mut changes = begun(rt.alloc(), &pages)?;
+    put_all(&mut changes, &PUTS)?;
+    let mut images = [0; PAGE_BYTES];
+    let (_, last) = pages.split_at(2);
+    encode_pages_into(last, &mut images);
+    let is_refused = match change_images(&changes, 1, &mut images) {
+        Ok(_) => false,
+        Err(fault) => fault == Fault::BadPage(1),
+    };
+    check(is_refused, "page 2 for page 1")
 }

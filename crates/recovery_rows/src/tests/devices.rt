@@ -2,6 +2,7 @@
 
 mod calls;
 mod in_place;
+mod large;
 
 use aries::{Options, recover};
 use checks::{check, check_all};

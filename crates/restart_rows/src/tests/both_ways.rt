@@ -1,6 +1,11 @@
-//! Restarts of a row on values, with the log in memory and in pieces: both have the same result.
+//! Restarts of a row on values: with the log in memory, and with the log in pieces and the pages or
+//! only their changes in memory. All have the same result.
+
+ghost use Rattle.undo.specs.Appended.{HaveUpdates};
 
 use super::with_appended;
+use changes::Pages;
+use core_rows::held::{Held, change_all, no_changes};
 use core_rows::written::{Row, Text, page_with, store_of};
 use device::MemorySource;
 use page::{Fault, Page, Store, decode_store, encode_store};
@@ -10,7 +15,7 @@ use restart::{Outcome, restart};
 use std::alloc::Global;
 use std::thread::Threads;
 use undo::{Looked, Place, records_of};
-use wal::{BASED_HEADER_BYTES, LONGEST_FRAME, read_log};
+use wal::{BASED_HEADER_BYTES, LONGEST_FRAME, Record, read_log};
 
 /// The numbers that a restart reports.
 #[derive(Clone, Copy, PartialEq, Eq)]
@@ -96,41 +101,105 @@ fn answer_of(alloc: Global, text: &Text, outcome: Outcome) -> Result<Answer, Fau
     })
 }
 
-/// A restart on a log that is read in pieces, and on a store.
-pub fn outcome_by_pieces(alloc: Global, log: &[u8], store: Store) -> Result<Outcome, Fault> {
+/// What a restart makes besides the pages.
+#[derive(Drop)]
+pub struct Besides {
+    pub appended: Vec<Record>,
+    pub numbers: Numbers,
+    pub in_doubt: Vec<u32>,
+}
+
+/// A restart on a log that is read in pieces, and on the pages of a store with this master.
+fn restart_on<P: Pages>(
+    alloc: Global,
+    log: &[u8],
+    master: u64,
+    pages: &mut P,
+) -> Result<Besides, Fault> {
     let mut room = vec![in alloc; 0; BASED_HEADER_BYTES + LONGEST_FRAME]?;
     let mut source = MemorySource::new(log);
-    let Restarted {
-        kept: _,
-        torn: _,
-        gathered,
-        outcome,
-    } = match restart_in_pieces(alloc, &mut source, &mut room, store) {
+    let restarted = match restart_in_pieces(alloc, &mut source, &mut room, master, pages) {
         Ok(restarted) => restarted,
         Err(PassFault::Fault(fault)) => return Err(fault),
         Err(PassFault::Failed) => return Err(Fault::ReadLog),
     };
+    in_full(alloc, restarted)
+}
+
+/// What a restart in pieces makes, with the records to append in full.
+fn in_full(alloc: Global, restarted: Restarted) -> Result<Besides, Fault>
+    requires { HaveUpdates restarted.gathered restarted.outcome.appended.items }
+{
+    let Restarted {
+        kept: _,
+        torn: _,
+        gathered,
+        redo_from,
+        redone,
+        outcome,
+    } = restarted;
     let looked = Looked {
         place: Place::Gathered(&gathered),
     };
     let appended = records_of(alloc, &looked, &outcome.appended)?;
-    Ok(Outcome {
-        store: outcome.store,
+    Ok(Besides {
         appended,
-        redo_from: outcome.redo_from,
-        redone: outcome.redone,
-        losers: outcome.losers,
+        numbers: Numbers {
+            redo_from,
+            redone,
+            losers: outcome.losers,
+            compensated: outcome.compensated,
+            ended: outcome.ended,
+        },
         in_doubt: outcome.in_doubt,
-        compensated: outcome.compensated,
-        ended: outcome.ended,
     })
 }
 
-/// Restarts on a log that is read in pieces, and on the bytes of a store.
-fn restarted_by_pieces(alloc: Global, text: &Text, store: &[u8]) -> Result<Answer, Fault> {
+/// The pages that a restart in pieces makes of those of a store, and what it makes besides.
+pub fn by_pieces(
+    alloc: Global,
+    log: &[u8],
+    store: Store,
+    held: Held,
+) -> Result<(Vec<Page>, Besides), Fault> {
+    let master = store.master;
+    let mut pages = store.pages;
+    let besides = match held {
+        Held::Pages => restart_on(alloc, log, master, &mut pages)?,
+        Held::Changes => {
+            let mut changes = no_changes(alloc, &pages)?;
+            let besides = restart_on(alloc, log, master, &mut changes)?;
+            change_all(&changes, &mut pages);
+            besides
+        }
+    };
+    Ok((pages, besides))
+}
+
+/// The bytes of a store of one page with this master.
+fn store_with(alloc: Global, master: u64, pages: &[Page]) -> Result<Vec<u8>, Fault> {
+    match pages {
+        [page] => store_of(alloc, master, page),
+        _ => Err(Fault::StoreSize),
+    }
+}
+
+/// Restarts on a log that is read in pieces, and on the bytes of a store of one page.
+fn restarted_by_pieces(
+    alloc: Global,
+    text: &Text,
+    store: &[u8],
+    held: Held,
+) -> Result<Answer, Fault> {
     let before = decode_store(alloc, store)?;
-    let outcome = outcome_by_pieces(alloc, &text.bytes, before)?;
-    answer_of(alloc, text, outcome)
+    let master = before.master;
+    let (pages, besides) = by_pieces(alloc, &text.bytes, before, held)?;
+    Ok(Answer {
+        log: with_appended(text, &besides.appended)?,
+        store: store_with(alloc, master, &pages)?,
+        numbers: besides.numbers,
+        in_doubt: besides.in_doubt,
+    })
 }
 
 /// Whether a result is the row's new log, and what is expected.
@@ -141,8 +210,8 @@ fn is_expected(answer: &Answer, row: &Row, after: &[u8], expected: &Expected) ->
         && answer.in_doubt.as_slice() == expected.in_doubt
 }
 
-/// Whether a restart of a row on this page makes the row's new log, and what is expected, with the
-/// log in memory and in pieces.
+/// Whether a restart of a row on this page makes the row's new log, and what is expected: with the
+/// log in memory, and with the log in pieces, where the page is in memory or only its changes are.
 pub fn is_restarted_on<R: Threads + Sync>(
     rt: &R,
     alloc: Global,
@@ -154,10 +223,12 @@ pub fn is_restarted_on<R: Threads + Sync>(
     let before = store_of(alloc, master, page)?;
     let after = store_of(alloc, master, &expected.page)?;
     let answer = restarted(rt, alloc, &row.given, &before, GOOD)?;
-    let by_pieces = restarted_by_pieces(alloc, &row.given, &before)?;
+    let by_pieces = restarted_by_pieces(alloc, &row.given, &before, Held::Pages)?;
+    let on_changes = restarted_by_pieces(alloc, &row.given, &before, Held::Changes)?;
     Ok(
         is_expected(&answer, row, &after, expected)
-            && is_expected(&by_pieces, row, &after, expected),
+            && is_expected(&by_pieces, row, &after, expected)
+            && is_expected(&on_changes, row, &after, expected),
     )
 }
 
@@ -207,6 +278,11 @@ pub fn refused<R: Threads + Sync>(
     if matches!(refusal, Some(Fault::BadWorkers | Fault::BadParting)) {
         return refusal;
     }
-    let by_pieces = restarted_by_pieces(alloc, text, &store).err();
-    if by_pieces == refusal { refusal } else { None }
+    let by_pieces = restarted_by_pieces(alloc, text, &store, Held::Pages).err();
+    let on_changes = restarted_by_pieces(alloc, text, &store, Held::Changes).err();
+    if by_pieces == refusal && on_changes == refusal {
+        refusal
+    } else {
+        None
+    }
 }

@@ -2,20 +2,21 @@
 //! the crash, and restarts that are interrupted and begun again.
 
 use super::both_ways::{
-    Expected, GOOD, Manner, Numbers, is_restarted, is_restarted_on, outcome_by_pieces, outcome_of,
-    refused, rolled_back,
+    Expected, GOOD, Manner, Numbers, by_pieces, is_restarted, is_restarted_on, outcome_of, refused,
+    rolled_back,
 };
 use checks::check;
+use core_rows::held::Held;
 use core_rows::ten_pages::{are_all_changed, ten_pages, ten_updates};
 use core_rows::written::{
     Letter, Row, Text, checkpoint_loser, clr_points_past_zero, one_commit, one_loser, page_with,
     partial_rollback_commit, two_losers,
 };
 use page::{Fault, Page, decode_store};
-use restart::Outcome;
 use std::alloc::Global;
 use std::test::Fail;
 use std::thread::Threads;
+use wal::Record;
 
 /// A row whose log a restart leaves as it is.
 fn unchanged(given: Text) -> Result<Row, Fault> {
@@ -240,8 +241,16 @@ fn goes_on_with_checkpoint_loser(rt: HostRuntime) -> Result<(), Fail> {
 }
 
 /// Whether a restart of `ten-pages` changes each page once and appends nothing.
-fn are_ten_restarted(outcome: &Outcome) -> bool {
-    outcome.redone == 10 && outcome.appended.is_empty() && are_all_changed(&outcome.store.pages)
+fn are_ten_restarted(redone: u64, appended: &[Record], pages: &[Page]) -> bool {
+    redone == 10 && appended.is_empty() && are_all_changed(pages)
+}
+
+/// Whether a restart of `ten-pages` in pieces does so.
+fn are_ten_restarted_by_pieces(alloc: Global, held: Held) -> Result<bool, Fault> {
+    let log = ten_updates(alloc)?;
+    let store = decode_store(alloc, &ten_pages(alloc)?)?;
+    let (pages, made) = by_pieces(alloc, &log, store, held)?;
+    Ok(are_ten_restarted(made.numbers.redone, &made.appended, &pages))
 }
 
 #[test]
@@ -252,10 +261,14 @@ fn restarts_ten_pages(rt: HostRuntime) -> Result<(), Fail> {
     for workers in [1, 2, 64] {
         let manner = Manner { pages: 10, workers };
         let outcome = outcome_of(&rt, alloc, &log, &store, manner)?;
-        check(are_ten_restarted(&outcome), "ten-pages")?;
+        let pages = &outcome.store.pages;
+        let is_right = are_ten_restarted(outcome.redone, &outcome.appended, pages);
+        check(is_right, "ten-pages")?;
     }
-    let outcome = outcome_by_pieces(alloc, &log, store)?;
-    check(are_ten_restarted(&outcome), "ten-pages in pieces")
+    let is_right = are_ten_restarted_by_pieces(alloc, Held::Pages)?;
+    check(is_right, "ten-pages in pieces")?;
+    let is_right = are_ten_restarted_by_pieces(alloc, Held::Changes)?;
+    check(is_right, "the changes of ten-pages")
 }
 
 #[test]

@@ -1,13 +1,13 @@
-use Rattle.std.proofs.Common.{ℕ, List, [], ap, subst, refl}
-use Rattle.page.specs.Store.{StoreContent, AreNumbered}
+use Rattle.std.proofs.Common.{ℕ, ◌+◌, List, [], ap, subst, refl}
 use Rattle.wal.specs.declared.record.Entry.{Entry}
 use Rattle.wal.specs.Redo.{rec_lsn_of}
 use Rattle.analysis.specs.Tables.{entry_at}
+use Rattle.redo.specs.Passing.{ListEach}
 use Rattle.passes.proofs.OneReading.{tallied_all_first}
 use Rattle.passes.proofs.fresh.begin_scan.Goals as goal
 
 pub returns-clause-analysed : goal.returns-clause-analysed
-returns-clause-analysed c = λ whole log before.
+returns-clause-analysed g c = λ whole log before.
     c.in_ok-tables.ensures.begun 0 whole log
     (record {
       transactions = [];
@@ -19,6 +19,8 @@ returns-clause-analysed c = λ whole log before.
     before
 
 pub returns-clause-tallied : goal.returns-clause-tallied
-returns-clause-tallied c = λ whole at.
-    let numbered : AreNumbered c.args.store.now.pages = subst AreNumbered (ap (λ (s : StoreContent). s.pages) c.store.view_is) c.store.invariant in
-    tallied_all_first whole c.args.store.now.pages c.args.base c.in_ok-tallies.tallies numbered c.in_ok-tallies.ensures.redo_lsn c.in_ok-tallies.ensures.upto at (λ tables each. c.in_ok-tallies.ensures.begun whole tables at each)
+returns-clause-tallied g c = λ stored shown shows numbered whole at.
+    let scan = c.in_ok-tallies.ensures in
+    let count = g.met.P.Pages.counted c.args.pages.now stored shown shows in
+    tallied_all_first whole shown c.args.base c.in_ok-tallies.tallies numbered scan.redo_lsn scan.upto at
+    (λ tables each. scan.begun stored shown shows numbered whole tables at (subst (λ n. ListEach n (c.args.base + 1) tables) count each))

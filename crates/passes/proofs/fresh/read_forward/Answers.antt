@@ -1,5 +1,7 @@
 use Rattle.std.proofs.Common.{◌≡◌, ◌<◌, ◌-◌, ℕ, List, Some, length, get_or, sym, ap, subst, ◌∙◌, inr, arith}
 use Rattle.std.proofs.lemmas.Result.{err_from_is_err_and}
+use Rattle.page.specs.declared.page.Page.{Page}
+use Rattle.page.specs.Store.{AreNumbered}
 use Rattle.wal.specs.Records.{LogContent, lsn_before, start, ◌▸▸◌, history, last_lsn, base_lsn}
 use Rattle.wal.specs.Reads.{Reads}
 use Rattle.wal.proofs.Histories.{base_of_log}
@@ -34,12 +36,12 @@ loop-init g c =
             λ whole. c.in_ok-scan.ensures.analysed whole (history own.0)
                 (inr (ap (λ rs. start (lsn_before own.0.begins) ▸▸ rs) own.1 ∙ ap start (sym (base_of_log own.0)))),
           ));
-      tallied = λ text is.
+      tallied = λ stored shown shows numbered text is.
           let own = c.in_ok-first.ensures.mark text is in
-          subst (λ (ms : List Mark). TalliedSoFar text c.args.store.now.pages ms c.in_ok-scan.scan.missing c.in_ok-scan.scan.tallies) (sym marks)
+          subst (λ (ms : List Mark). TalliedSoFar text shown ms c.in_ok-scan.scan.missing c.in_ok-scan.scan.tallies) (sym marks)
           (λ whole torn d reads.
-          subst (λ n. TalliedOrRefused whole c.args.store.now.pages n c.in_ok-scan.scan.missing c.in_ok-scan.scan.tallies) (ap (λ (m : Mark). m.lsn) at)
-          (c.in_ok-scan.ensures.tallied whole (starts_at text whole own.0 torn first reads own.1 own.2 ∙ sym (ap (λ (m : Mark). m.lsn) at))));
+          subst (λ n. TalliedOrRefused whole shown n c.in_ok-scan.scan.missing c.in_ok-scan.scan.tallies) (ap (λ (m : Mark). m.lsn) at)
+          (c.in_ok-scan.ensures.tallied stored shown shows numbered whole (starts_at text whole own.0 torn first reads own.1 own.2 ∙ sym (ap (λ (m : Mark). m.lsn) at))));
       upto = λ d. omega (arith, c.in_ok-scan.ensures.upto, ap (λ (m : Mark). m.lsn) at, ap (λ (ms : List Mark). (get_or ms (length ms - 1) d).lsn) marks);
       count = c.in_ok-scan.ensures.count;
       no_transaction_0 = c.in_ok-scan.ensures.no_transaction_0;
@@ -72,17 +74,18 @@ ended g c text whole torn is reads =
     (subst (λ (l : LogContent). HasAnalysed 0 (history whole) (history l) c.take_piece.new.scan.tables) end.0 (next.2 (history whole) (so_far.2 (history whole))), end.1)
 
 -- what redo has found then
-tallied : (g : Over) (c : goal.In_ok-tables g) (text : List ℕ) (whole : LogContent) (torn : ℕ) → g.S.Reread.text c.args.source.now ≡ Some text → Reads text whole torn
-    → TalliedOrRefused whole c.args.store.now.pages (last_lsn (history whole)) c.take_piece.new.scan.missing c.take_piece.new.scan.tallies
-tallied g c text whole torn is reads =
+tallied : (g : Over) (c : goal.In_ok-tables g) (stored shown : List Page) → g.P.Pages.shows c.args.pages.now stored shown → AreNumbered shown
+    → (text : List ℕ) (whole : LogContent) (torn : ℕ) → g.S.Reread.text c.args.source.now ≡ Some text → Reads text whole torn
+    → TalliedOrRefused whole shown (last_lsn (history whole)) c.take_piece.new.scan.missing c.take_piece.new.scan.tallies
+tallied g c stored shown shows numbered text whole torn is reads =
     let inv = c.loop.invariant in
     let mark = c.end-mark.result in
     let still = still_told (g.S.Reread.text c.args.source.now) (g.S.Reread.text c.loop.source) text inv.same is in
     let so_far = inv.analysed text is mark in
     let own : IsMark text so_far.0 mark = subst (IsMark text so_far.0) (sym (c.end-mark.ensures.end mark)) so_far.1 in
-    subst (λ n. TalliedOrRefused whole c.args.store.now.pages n c.take_piece.new.scan.missing c.take_piece.new.scan.tallies) (ended g c text whole torn is reads).1
-    (c.in_ok-next.ensures.tallied text whole so_far.0 torn c.args.store.now.pages still reads own
-    (subst (λ n. TalliedOrRefused whole c.args.store.now.pages n c.loop.scan.missing c.loop.scan.tallies) (sym (ap (λ (m : Mark). m.lsn) (c.end-mark.ensures.end mark))) (inv.tallied text is whole torn mark reads)))
+    subst (λ n. TalliedOrRefused whole shown n c.take_piece.new.scan.missing c.take_piece.new.scan.tallies) (ended g c text whole torn is reads).1
+    (c.in_ok-next.ensures.tallied text whole so_far.0 torn shown still reads own
+    (subst (λ n. TalliedOrRefused whole shown n c.loop.scan.missing c.loop.scan.tallies) (sym (ap (λ (m : Mark). m.lsn) (c.end-mark.ensures.end mark))) (inv.tallied stored shown shows numbered text is whole torn mark reads)))
 
 -- the log's base LSN
 based : (g : Over) (c : goal.In_ok-tables g) (text : List ℕ) (whole : LogContent) (torn : ℕ) → g.S.Reread.text c.args.source.now ≡ Some text → Reads text whole torn → base_lsn (history whole) ≡ c.first-base.result.lsn
@@ -111,19 +114,19 @@ pub returns-then-next-mark-clause-no_transaction_0 : goal.returns-then-next-mark
 returns-then-next-mark-clause-no_transaction_0 g c = c.in_ok-tables.ensures.no_transaction_0 (c.in_ok-next.ensures.no_transaction_0 c.loop.invariant.no_transaction_0)
 
 pub returns-then-next-mark-clause-tallied : goal.returns-then-next-mark-clause-tallied
-returns-then-next-mark-clause-tallied g c = λ text whole torn is reads.
+returns-then-next-mark-clause-tallied g c = λ stored shown shows numbered text whole torn is reads.
     let scan = c.take_piece.new.scan in
-    tallied_if_ok whole c.args.store.now.pages (last_lsn (history whole)) scan.missing scan.tallies (tallied g c text whole torn is reads) c.in_ok-tables.tallies c.in_ok-tables.ensures.tallies
+    tallied_if_ok whole shown (last_lsn (history whole)) scan.missing scan.tallies (tallied g c stored shown shows numbered text whole torn is reads) c.in_ok-tables.tallies c.in_ok-tables.ensures.tallies
 
 pub returns-then-next-mark-clause-count : goal.returns-then-next-mark-clause-count
 returns-then-next-mark-clause-count g c =
     let scan = c.take_piece.new.scan in
-    count_if_ok scan.missing scan.tallies (length c.args.store.now.pages) (c.in_ok-next.ensures.count ∙ c.loop.invariant.count) c.in_ok-tables.tallies c.in_ok-tables.ensures.tallies
+    count_if_ok scan.missing scan.tallies (g.P.Pages.count c.args.pages.now) (c.in_ok-next.ensures.count ∙ c.loop.invariant.count) c.in_ok-tables.tallies c.in_ok-tables.ensures.tallies
 
 pub returns-then-next-mark-clause-missing : goal.returns-then-next-mark-clause-missing
-returns-then-next-mark-clause-missing g c = λ text whole torn is reads.
+returns-then-next-mark-clause-missing g c = λ stored shown shows numbered text whole torn is reads.
     let scan = c.take_piece.new.scan in
-    refused_if_err whole c.args.store.now.pages (last_lsn (history whole)) scan.missing scan.tallies (tallied g c text whole torn is reads) c.in_ok-tables.tables
+    refused_if_err whole shown (last_lsn (history whole)) scan.missing scan.tallies (tallied g c stored shown shows numbered text whole torn is reads) c.in_ok-tables.tables
     (c.in_ok-tables.ensures.tables whole (based g c text whole torn is reads) (ended g c text whole torn is reads).0) c.in_ok-tables.tallies c.in_ok-tables.ensures.missing
 
 pub loop-preserved : goal.loop-preserved
@@ -152,15 +155,15 @@ loop-preserved g c =
           let later = c.in_ok-next.ensures.analysed text so_far.0 still own in
           subst (λ (ms : List Mark). AnalysedSoFar text ms scan.tables) (sym c.in_ok-push.ensures.pushed)
           (λ d. (later.0, subst (IsMark text later.0) (sym (last_pushed marks next d)) later.1, λ whole. later.2 whole (so_far.2 whole)));
-      tallied = λ text is.
+      tallied = λ stored shown shows numbered text is.
           let still = still_told (g.S.Reread.text c.args.source.now) (g.S.Reread.text c.loop.source) text inv.same is in
           let so_far = inv.analysed text is mark in
           let own : IsMark text so_far.0 mark = subst (IsMark text so_far.0) (sym (c.end-mark.ensures.end mark)) so_far.1 in
-          subst (λ (ms : List Mark). TalliedSoFar text c.args.store.now.pages ms scan.missing scan.tallies) (sym c.in_ok-push.ensures.pushed)
+          subst (λ (ms : List Mark). TalliedSoFar text shown ms scan.missing scan.tallies) (sym c.in_ok-push.ensures.pushed)
           (λ whole torn d reads.
-          subst (λ n. TalliedOrRefused whole c.args.store.now.pages n scan.missing scan.tallies) (sym (ap (λ (m : Mark). m.lsn) (last_pushed marks next d)))
-          (c.in_ok-next.ensures.tallied text whole so_far.0 torn c.args.store.now.pages still reads own
-          (subst (λ n. TalliedOrRefused whole c.args.store.now.pages n c.loop.scan.missing c.loop.scan.tallies) (sym (ap (λ (m : Mark). m.lsn) (c.end-mark.ensures.end mark))) (inv.tallied text is whole torn mark reads))));
+          subst (λ n. TalliedOrRefused whole shown n scan.missing scan.tallies) (sym (ap (λ (m : Mark). m.lsn) (last_pushed marks next d)))
+          (c.in_ok-next.ensures.tallied text whole so_far.0 torn shown still reads own
+          (subst (λ n. TalliedOrRefused whole shown n c.loop.scan.missing c.loop.scan.tallies) (sym (ap (λ (m : Mark). m.lsn) (c.end-mark.ensures.end mark))) (inv.tallied stored shown shows numbered text is whole torn mark reads))));
       upto = λ d. omega (arith, c.in_ok-next.ensures.upto, ap (λ (m : Mark). m.lsn) (last_pushed marks next d), ap (λ (ms : List Mark). (get_or ms (length ms - 1) d).lsn) c.in_ok-push.ensures.pushed);
       count = c.in_ok-next.ensures.count ∙ inv.count;
       no_transaction_0 = c.in_ok-next.ensures.no_transaction_0 inv.no_transaction_0;

@@ -1,5 +1,7 @@
 use Rattle.std.proofs.Common.{◌≡◌, ◌-◌, ◌≤◌, ℕ, List, length, get_or, Some, None}
 use Rattle.std.specs.Io.KnownBytes.{Keeps}
+use Rattle.page.specs.declared.page.Page.{Page}
+use Rattle.page.specs.Store.{AreNumbered}
 use Rattle.analysis.specs.Tables.{entry_at}
 use Rattle.pieces.specs.declared.mark.Mark.{Mark}
 use Rattle.passes.proofs.Finding.{AreFoundSoFar}
@@ -14,8 +16,9 @@ invariant-loop g l =
       failures : g.S.Source.failures l.source ≡ g.S.Source.failures l.fn.source;
       found : (text : List ℕ) → g.S.Reread.text l.fn.source ≡ Some text → AreFoundSoFar text (length l.fn.room) l.marks;
       analysed : (text : List ℕ) → g.S.Reread.text l.fn.source ≡ Some text → AnalysedSoFar text l.marks l.scan.tables;
-      tallied : (text : List ℕ) → g.S.Reread.text l.fn.source ≡ Some text → TalliedSoFar text l.store.pages l.marks l.scan.missing l.scan.tallies;
+      tallied : (stored shown : List Page) → g.P.Pages.shows l.pages stored shown → AreNumbered shown
+          → (text : List ℕ) → g.S.Reread.text l.fn.source ≡ Some text → TalliedSoFar text shown l.marks l.scan.missing l.scan.tallies;
       upto : (d : Mark) → l.scan.tallies.upto ≤ (get_or l.marks (length l.marks - 1) d).lsn;
-      count : length l.scan.tallies.tallies ≡ length l.store.pages;
+      count : length l.scan.tallies.tallies ≡ g.P.Pages.count l.pages;
       no_transaction_0 : entry_at 0 l.scan.tables.entries ≡ None;
     }

@@ -1,4 +1,4 @@
-use Rattle.std.proofs.Common.{◌≡◌, length, map, sum, refl, sym, ap, arith}
+use Rattle.std.proofs.Common.{◌≡◌, length, map, sum, refl, ap, arith}
 use Rattle.std.specs.List.{sum_by}
 use Rattle.wal.specs.Records.{history, last_lsn}
 use Rattle.pieces.specs.declared.mark.Mark.{Mark}
@@ -6,32 +6,32 @@ use Rattle.redo.specs.declared.tally.Tally.{Tally}
 use Rattle.redo.specs.Inputs.{InputContent, input_over}
 use Rattle.redo.specs.Parts.{AreAllTallied}
 use Rattle.redo.specs.Redone.{applied_to}
-use Rattle.redo.proofs.Gathered.{pages_back, total_is}
+use Rattle.redo.proofs.Gathered.{pages_are, total_is}
 use Rattle.redo.proofs.OnePass.{all_tallied_alone}
 use Rattle.redo.proofs.Totals.{applied_once}
 use Rattle.passes.proofs.Redoing.{exist_all}
 use Rattle.passes.proofs.repeat.end_redo.Goals as goal
 
 pub returns-clause-redone : goal.returns-clause-redone
-returns-clause-redone g c = λ text whole torn tables is reads marks tallied.
-    let images = c.args.store.pages in
+returns-clause-redone g c = λ text whole torn tables images stored is reads marks tallied shows.
     let input : InputContent = input_over whole images tables in
     let tallies = c.args.scan.tallies in
     let all : AreAllTallied input tallies = all_tallied_alone input tallied.numbered (last_lsn (history whole)) tallies tallied.tallied (omega arith) in
-    let stored = c.store.inside.pages in
-    let finished = c.in_ok-finish_in_pieces.ensures in
-    let told : sum_by (λ (t : Tally). t.applied) tallies ≡ sum (map (applied_to whole tables) images) = total_is input tallies all tallies refl in
-    record {
-      pages = pages_back input tallies all stored.len stored.items c.deref_mut.result.now c.finish_in_pieces.new.pages tallies (ap (λ s. s.pages) c.store.view_is) (sym stored.ok.0) c.deref_mut.ensures.value refl finished.count
-          (finished.each text whole torn is reads marks);
-      applied = omega (
-        arith,
-        c.applied-applied.ensures,
-        told,
-        applied_once tables.dirty tables.redo_lsn (history whole) images tallied.numbered,
-        marks.last c.end-end.result,
-        ap (λ (m : Mark). m.lsn) (c.end-end.ensures.end c.end-end.result),
-        c.end-end.ensures.low.lsn,
-      );
-      exist = exist_all whole (length images) tables.redo_lsn tallied.exist;
-    }
+    let (after, shown, finished) = c.in_ok-finish_in_pieces.ensures.each text whole torn is reads marks stored images tallied.numbered shows in
+    let told : sum_by (λ (t : Tally). t.applied) tallies ≡ sum (map (applied_to whole tables) images) = total_is input tallies all tallies refl in (
+      after,
+      shown,
+      record {
+        pages = pages_are input tallies all after finished.count finished.each;
+        applied = omega (
+          arith,
+          c.applied-applied.ensures,
+          told,
+          applied_once tables.dirty tables.redo_lsn (history whole) images tallied.numbered,
+          marks.last c.end-end.result,
+          ap (λ (m : Mark). m.lsn) (c.end-end.ensures.end c.end-end.result),
+          c.end-end.ensures.low.lsn,
+        );
+        exist = exist_all whole (length images) tables.redo_lsn tallied.exist;
+      },
+    )

@@ -3,8 +3,9 @@ use Rattle.std.proofs.lemmas.Result.{err_from_is_err_and}
 use Rattle.std.proofs.lemmas.List.{take_all, drop-drop, get_or-drop, get_or_default, length-drop}
 use Rattle.std.proofs.lemmas.List.Elements.{All-drop}
 use Rattle.wal.specs.Records.{history, base_lsn}
+use Rattle.changes.proofs.Numbered.{stay_same, stay_more}
 use Rattle.redo.specs.declared.wanted.Wanted.{Wanted}
-use Rattle.redo.specs.Wanted.{IsWanted, HoldAllBut}
+use Rattle.redo.specs.Wanted.{IsWanted, ShowAllBut}
 use Rattle.redo.proofs.LastRecords.{in_slot}
 use Rattle.passes.specs.Marks.{Reaches}
 use Rattle.passes.proofs.Reached.{keeps_same, keeps_on, still_told, marked}
@@ -19,7 +20,8 @@ loop-taken-init g c = record {
   same = keeps_same (g.S.Reread.text c.args.source.now);
   failures = refl;
   count = refl;
-  fetched = λ text whole torn tallies images is reads marks are begun. begun;
+  numbered = stay_same g.P.Pages c.args.pages.now;
+  fetched = λ text whole torn tallies images stored is reads marks are begun. begun;
 }
 
 pub loop-taken-preserved : goal.loop-taken-preserved
@@ -35,16 +37,17 @@ loop-taken-preserved g c =
       same = keeps_on (g.S.Reread.text c.args.source.now) (g.S.Reread.text c.loop-taken.source) (g.S.Reread.text c.fetch_piece.new.source) inv.same piece.same;
       failures = piece.no_failure ∙ inv.failures;
       count = piece.count ∙ inv.count;
-      fetched = λ text whole torn tallies images is reads marks are begun.
+      numbered = stay_more g.P.Pages c.args.pages.now c.loop-taken.pages c.fetch_piece.new.pages inv.numbered piece.numbered;
+      fetched = λ text whole torn tallies images stored is reads marks are begun.
           let own = marked text whole c.args.marks.now c.place_before.result c.at-mark.result c.at-mark.ensures.at c.place_before.ensures.within marks in
-          subst (λ ws. HoldAllBut (history whole) tallies ws images c.fetch_piece.new.pages) (drop-drop c.in_ok-taken.field-0 taken wanted)
-          (subst (λ ws. All (IsWanted tallies) ws → All (λ (w : Wanted). w.lsn ≤ c.at-mark.result.lsn → w.lsn ≤ base_lsn (history whole)) ws → HoldAllBut (history whole) tallies ws images c.loop-taken.pages
-          → HoldAllBut (history whole) tallies (drop c.in_ok-taken.field-0 ws) images c.fetch_piece.new.pages) rest_is
-          (piece.fetched text whole own.0 torn tallies images (still_told (g.S.Reread.text c.args.source.now) (g.S.Reread.text c.loop-taken.source) text inv.same is) reads own.1)
+          subst (λ ws. ShowAllBut g.P.Pages (history whole) tallies ws images stored c.fetch_piece.new.pages) (drop-drop c.in_ok-taken.field-0 taken wanted)
+          (subst (λ ws. All (IsWanted tallies) ws → All (λ (w : Wanted). w.lsn ≤ c.at-mark.result.lsn → w.lsn ≤ base_lsn (history whole)) ws → ShowAllBut g.P.Pages (history whole) tallies ws images stored c.loop-taken.pages
+          → ShowAllBut g.P.Pages (history whole) tallies (drop c.in_ok-taken.field-0 ws) images stored c.fetch_piece.new.pages) rest_is
+          (piece.fetched text whole own.0 torn tallies images stored (still_told (g.S.Reread.text c.args.source.now) (g.S.Reread.text c.loop-taken.source) text inv.same is) reads own.1)
           (All-drop (IsWanted tallies) taken wanted are)
           (all_ahead text whole c.args.marks.now c.place_before.result taken c.at-mark.result wanted marks c.at-mark.ensures.at c.requires.rising c.loop-taken-test.true
           (λ d. subst (λ (w : Wanted). (c.place_before.result ≡ 0) ⊎ ((get_or c.args.marks.now c.place_before.result d).lsn < w.lsn)) (get_or_default wanted taken _ _ c.loop-taken-test.true) (c.place_before.ensures.before d)))
-          (inv.fetched text whole torn tallies images is reads marks are begun));
+          (inv.fetched text whole torn tallies images stored is reads marks are begun));
     }
 
 pub returns-in_err-taken-clause-fault : goal.returns-in_err-taken-clause-fault

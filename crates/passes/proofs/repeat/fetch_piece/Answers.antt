@@ -16,6 +16,6 @@ returns-in_err-piece-clause-fault g c =
     (subst (λ (w : Wanted). Reaches text (c.args.mark.offset + length c.args.room.now - BASED_HEADER_BYTES) w.lsn) (get_or_default c.args.wanted.now 0 d (in_slot 0 0 0) c.requires.some) reach))
 
 pub returns-clause-fetched : goal.returns-clause-fetched
-returns-clause-fetched g c = λ text whole before torn tallies images is reads mark are ahead begun.
-    c.fetch_from.ensures.fetched (history whole) tallies images (c.in_ok-piece.ensures.piece text whole before torn is reads mark) are
+returns-clause-fetched g c = λ text whole before torn tallies images stored is reads mark are ahead begun.
+    c.in_ok-fetch_from.ensures.fetched (history whole) tallies images stored (c.in_ok-piece.ensures.piece text whole before torn is reads mark) are
     (λ k d lt le. ahead k d lt (omega (arith, le, c.in_ok-piece.ensures.base))) begun

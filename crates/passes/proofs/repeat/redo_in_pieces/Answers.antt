@@ -14,17 +14,17 @@ returns-in_err-scan-clause-fault g c =
 pub returns-clause-redone : goal.returns-clause-redone
 returns-clause-redone g c =
     IfOk-weaker c.end_redo.result _ _
-    (λ redone ended text whole torn is reads marks.
+    (λ applied ended text whole torn is reads marks stored images numbered shows.
     let still = still_told (g.S.Reread.text c.args.source.now) (g.S.Reread.text c.tally_in_pieces.new.source) text c.in_ok-scan.ensures.same is in
-    ended text whole torn c.args.tables.now still reads marks (c.in_ok-scan.ensures.tallied text whole torn is reads marks))
+    ended text whole torn c.args.tables.now images stored still reads marks (c.in_ok-scan.ensures.tallied text whole torn is reads marks stored images numbered shows) shows)
     c.end_redo.ensures.redone
 
 pub returns-clause-fault : goal.returns-clause-fault
 returns-clause-fault g c =
     IfErr-weaker c.end_redo.result _ _
-    (λ e ended text whole torn is reads marks long reach.
+    (λ e ended text whole torn is reads marks long reach stored images numbered shows.
     let still = still_told (g.S.Reread.text c.args.source.now) (g.S.Reread.text c.tally_in_pieces.new.source) text c.in_ok-scan.ensures.same is in
-    resource_cause whole (length c.args.store.pages) c.args.tables.now.redo_lsn e
+    resource_cause whole (length images) c.args.tables.now.redo_lsn e
     (ended text whole torn still reads marks (subst (λ n. AreInReach n c.args.marks.now) (sym c.tally_in_pieces.auto.room) reach)
-    (c.in_ok-scan.ensures.tallied text whole torn is reads marks).upto))
+    (c.in_ok-scan.ensures.tallied text whole torn is reads marks stored images numbered shows).upto))
     c.end_redo.ensures.fault

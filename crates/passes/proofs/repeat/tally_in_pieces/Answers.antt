@@ -1,6 +1,5 @@
 use Rattle.std.proofs.Common.{◌≡◌, ◌≤◌, ◌∙◌, refl, sym, ap, subst, arith}
 use Rattle.std.proofs.lemmas.Result.{err_from_is_err_and}
-use Rattle.page.specs.Store.{StoreContent, AreNumbered}
 use Rattle.wal.specs.Records.{history, base_lsn, last_lsn}
 use Rattle.tables.specs.Tables.{TablesContent}
 use Rattle.redo.specs.Routes.{skipped}
@@ -23,14 +22,13 @@ loop-mark-init g c =
       upto = upto;
       count = begun.count;
       marked = λ text whole is marks. c.mark_to_begin-mark.ensures.is_mark text whole marks;
-      tallied = λ text whole torn is reads marks.
+      tallied = λ text whole torn is reads marks stored images numbered shows.
           let own = c.mark_to_begin-mark.ensures.is_mark text whole marks in
           let within = mark_within text whole own.0 torn mark reads own.1 in
           let at : c.min-base.result ≡ base_lsn (history whole) = omega (arith, c.min-base.ensures, ap (λ (m : Mark). m.lsn) (c.at.ensures.at mark), marks.first mark, within.0) in
-          let numbered : AreNumbered c.args.store.now.pages = subst AreNumbered (ap (λ (s : StoreContent). s.pages) c.store.view_is) c.store.invariant in
-          tallied_first whole c.args.store.now.pages c.args.tables.now c.min-base.result mark.lsn c.in_ok-scan.scan numbered begun.redo_lsn upto at within.1
+          tallied_first whole images c.args.tables.now c.min-base.result mark.lsn c.in_ok-scan.scan numbered begun.redo_lsn upto at within.1
           (subst (λ n. mark.lsn ≤ skipped (base_lsn (history whole)) n (last_lsn (history whole))) (ap (λ (t : TablesContent). t.redo_lsn) c.tables.view_is) (c.mark_to_begin-mark.ensures.before text whole torn reads marks))
-          (begun.begun whole (sym at));
+          (begun.begun stored images shows numbered whole (sym at));
     }
 
 pub loop-mark-preserved : goal.loop-mark-preserved
@@ -47,10 +45,10 @@ loop-mark-preserved g c =
       marked = λ text whole is marks.
           let own = inv.marked text whole is marks in
           piece.next text own.0 (still_told (g.S.Reread.text c.args.source.now) (g.S.Reread.text c.loop-mark.source) text inv.same is) own.1;
-      tallied = λ text whole torn is reads marks.
+      tallied = λ text whole torn is reads marks stored images numbered shows.
           let own = inv.marked text whole is marks in
-          piece.tallied text whole own.0 c.args.store.now.pages c.args.tables.now (still_told (g.S.Reread.text c.args.source.now) (g.S.Reread.text c.loop-mark.source) text inv.same is)
-          (is_before_end text whole own.0 torn c.args.marks.now c.loop-mark.mark c.end-end.result reads own.1 marks c.end-end.ensures.end c.loop-mark-test.true) (inv.tallied text whole torn is reads marks);
+          piece.tallied text whole own.0 images c.args.tables.now (still_told (g.S.Reread.text c.args.source.now) (g.S.Reread.text c.loop-mark.source) text inv.same is)
+          (is_before_end text whole own.0 torn c.args.marks.now c.loop-mark.mark c.end-end.result reads own.1 marks c.end-end.ensures.end c.loop-mark-test.true) (inv.tallied text whole torn is reads marks stored images numbered shows);
     }
 
 pub returns-in_err-mark-clause-fault : goal.returns-in_err-mark-clause-fault
@@ -58,17 +56,17 @@ returns-in_err-mark-clause-fault g c =
     let inv = c.loop-mark.invariant in
     let exit = err_from_is_err_and c.from_residual-in_err-mark.result c.from_residual-in_err-mark.ensures.1 in
     rw (exit.1, exit.2)
-    (λ text whole torn is reads marks long.
+    (λ text whole torn is reads marks long stored images numbered shows.
     let own = inv.marked text whole is marks in
-    c.in_err-mark.ensures.fault text whole own.0 c.args.store.now.pages c.args.tables.now (still_told (g.S.Reread.text c.args.source.now) (g.S.Reread.text c.loop-mark.source) text inv.same is)
-    (is_before_end text whole own.0 torn c.args.marks.now c.loop-mark.mark c.end-end.result reads own.1 marks c.end-end.ensures.end c.loop-mark-test.true) (inv.tallied text whole torn is reads marks)
+    c.in_err-mark.ensures.fault text whole own.0 images c.args.tables.now (still_told (g.S.Reread.text c.args.source.now) (g.S.Reread.text c.loop-mark.source) text inv.same is)
+    (is_before_end text whole own.0 torn c.args.marks.now c.loop-mark.mark c.end-end.result reads own.1 marks c.end-end.ensures.end c.loop-mark-test.true) (inv.tallied text whole torn is reads marks stored images numbered shows)
     (omega (arith, long, inv.room)))
 
 pub returns-clause-tallied : goal.returns-clause-tallied
-returns-clause-tallied g c = λ text whole torn is reads marks.
+returns-clause-tallied g c = λ text whole torn is reads marks stored images numbered shows.
     let inv = c.loop-mark.invariant in
     let own = inv.marked text whole is marks in
     let within = mark_within text whole own.0 torn c.loop-mark.mark reads own.1 in
     let at : c.loop-mark.mark.lsn ≡ last_lsn (history whole) =
     omega (arith, within.1, c.loop-mark-test.false, ap (λ (m : Mark). m.lsn) (c.end-end.ensures.end c.loop-mark.mark), marks.last c.loop-mark.mark) in
-    subst (λ n. AreTalliedUpTo whole c.args.store.now.pages c.args.tables.now n c.loop-mark.scan) at (inv.tallied text whole torn is reads marks)
+    subst (λ n. AreTalliedUpTo whole images c.args.tables.now n c.loop-mark.scan) at (inv.tallied text whole torn is reads marks stored images numbered shows)

@@ -5,7 +5,7 @@ use Rattle.wal.specs.Reads.{Reads}
 use Rattle.wal.specs.declared.sizes.TheConstants.{LARGEST_BASE}
 use Rattle.pieces.specs.Pieces.{IsMark}
 use Rattle.passes.specs.Marks.{AreMarks}
-use Rattle.passes.specs.Redoing.{AreTalliedUpTo}
+use Rattle.passes.specs.Redoing.{AreTalliedUpTo, ForShown}
 use Rattle.passes.proofs.repeat.tally_in_pieces.Given as goal
 
 abbrev pub invariant-loop-mark : goal.invariant-loop-mark
@@ -16,9 +16,9 @@ invariant-loop-mark g l =
       failures : g.S.Source.failures l.source ≡ g.S.Source.failures l.fn.source;
       offset : l.mark.offset ≤ LARGEST_BASE;
       upto : l.scan.upto ≤ l.mark.lsn;
-      count : length l.scan.tallies ≡ length l.store.pages;
+      count : length l.scan.tallies ≡ g.P.Pages.count l.pages;
       marked : (text : List ℕ) (whole : LogContent) → g.S.Reread.text l.fn.source ≡ Some text → AreMarks text whole l.marks → (before : LogContent) × IsMark text before l.mark;
-      tallied : (text : List ℕ) (whole : LogContent) (torn : ℕ) → g.S.Reread.text l.fn.source ≡ Some text → Reads text whole torn → AreMarks text whole l.marks → AreTalliedUpTo whole l.store.pages l.tables l.mark.lsn l.scan;
+      tallied : (text : List ℕ) (whole : LogContent) (torn : ℕ) → g.S.Reread.text l.fn.source ≡ Some text → Reads text whole torn → AreMarks text whole l.marks → ForShown g.P.Pages l.pages (λ stored images. AreTalliedUpTo whole images l.tables l.mark.lsn l.scan);
     }
 
 -- proposed from the loop's first test

@@ -1,25 +1,32 @@
 use Rattle.std.proofs.Common.{◌≡◌, ◌<◌, ◌++◌, ◌∷◌, [], List, ap, subst, sym, get_or, length, ◌∙◌, arith, length-append}
 use Rattle.redo.specs.declared.tally.Tally.{Tally}
-use Rattle.redo.specs.Passing.{IsBegunIn}
-use Rattle.redo.proofs.OnePass.{begun_more}
+use Rattle.redo.specs.Passing.{IsBegunIn, AreScanned}
+use Rattle.redo.proofs.OnePass.{each_more}
+use Rattle.redo.proofs.Passing.{kept_on, scanned_more}
 use Rattle.redo.proofs.one_pass.begin_each_listed.Goals as goal
 
 pub loop-number-preserved : goal.loop-number-preserved
-loop-number-preserved c =
-    let images = c.args.store.now.pages in
+loop-number-preserved g c =
     let number = c.loop-number.number in
     let old = c.loop-number.tallies.items in
+    let tally = c.begin_at.result in
     let before = c.loop-number.invariant in
-    let below : number < length images = omega (arith, c.loop-number-test.true, c.len-number-end.ensures, ap (λ s. length s.pages) c.store.view_is, c.store.inside.pages.ok.0) in
-    let items : c.push.new.self.items ≡ old ++ c.begin_in.result ∷ [] = c.in_ok-push.ensures.items in (
-      ap (λ (ts : List Tally). length ts) items ∙ omega (arith, length-append old (c.begin_in.result ∷ []), before.0),
-      λ tables each k t lt.
-          subst (λ (ts : List Tally). IsBegunIn images tables k (get_or ts k t)) (sym items)
-          (begun_more images tables number old c.begin_in.result before.0 (before.1 tables each) (c.begin_in.ensures tables (each.pages number below)) k t lt),
-    )
+    let below : number < g.P.Pages.count c.args.pages.now = omega (arith, c.loop-number-test.true, c.in_ok-count.ensures.count) in
+    let items : c.push.new.self.items ≡ old ++ tally ∷ [] = c.in_ok-push.ensures.items in
+    record {
+      count = ap (λ (ts : List Tally). length ts) items ∙ omega (arith, length-append old (tally ∷ []), before.count);
+      scanned = subst (AreScanned 0) (sym items) (scanned_more old tally (c.begin_at.ensures.number ∙ sym before.count) c.begin_at.ensures.applied c.begin_at.ensures.lasts before.scanned);
+      begun = λ stored shown tables shows numbered each k t lt.
+          subst (λ (ts : List Tally). IsBegunIn shown tables k (get_or ts k t)) (sym items)
+          (each_more (IsBegunIn shown tables) number old tally before.count (before.begun stored shown tables shows numbered each) (c.begin_at.ensures.begun stored shown tables shows numbered (each.pages number below)) k t lt);
+    }
 
 pub returns-clause-begun : goal.returns-clause-begun
-returns-clause-begun c = λ tables each.
+returns-clause-begun g c = λ stored shown tables shows numbered listed.
     let before = c.loop-number.invariant in
-    let count : c.loop-number.number ≡ length c.args.store.now.pages = omega (arith, c.loop-number-test.false, c.loop-number.auto.number-end, c.len-number-end.ensures, ap (λ s. length s.pages) c.store.view_is, c.store.inside.pages.ok.0) in
-    record { count = before.0 ∙ count; each = λ k t lt. before.1 tables each k t (omega (arith, lt, count)) }
+    let count : c.loop-number.number ≡ length shown =
+    omega (arith, c.loop-number-test.false, c.loop-number.auto.number-end, c.in_ok-count.ensures.count, g.met.P.Pages.counted c.args.pages.now stored shown shows) in
+    record { count = before.count ∙ count; each = λ k t lt. before.begun stored shown tables shows numbered listed k t (omega (arith, lt, count)) }
+
+pub returns-clause-scanned : goal.returns-clause-scanned
+returns-clause-scanned g c = λ upto. kept_on 0 upto c.loop-number.tallies.items (omega arith) c.loop-number.invariant.scanned

@@ -1,27 +1,39 @@
-use Rattle.std.proofs.Common.{ℕ, ◌≡◌, ◌≤◌, List, All, refl, sym, ap, ◌∙◌, subst, inr}
+use Rattle.std.proofs.Common.{ℕ, ◌≡◌, ◌≤◌, List, All, refl, sym, ap, subst, inr}
 use Rattle.std.proofs.lemmas.Result.{err_from_is_err_and, IfErr-weaker}
 use Rattle.page.specs.declared.page.Page.{Page}
 use Rattle.page.specs.Store.{StoreContent, AreNumbered}
 use Rattle.redo.specs.Redone.{redone_page}
 use Rattle.undo.proofs.Lost.{lost_none}
 use Rattle.restart.specs.Restart.{AheadFault, NoneAhead}
+use Rattle.restart.proofs.Causes.{ahead_fault}
 use Rattle.restart.proofs.Restored.{ahead_alone, changed_numbered}
 use Rattle.restart.proofs.Whole.{gathered_of_itself}
+use Rattle.restart.proofs.passes.restart_in_place.Given.{Over}
 use Rattle.restart.proofs.passes.restart_in_place.Goals as goal
+
+-- a page of the store is ahead of the log
+ahead : (g : Over) (c : goal.After-drop-store-inside-in_err-check_lsns g) → AheadFault c.args.log.now c.args.store.pages c.in_err-check_lsns.field-0.0
+ahead g c =
+    let pages = c.store.inside.pages.items in
+    subst (λ (ps : List Page). AheadFault c.args.log.now ps c.in_err-check_lsns.field-0.0) (ap (λ (s : StoreContent). s.pages) c.store.view_is)
+    (c.in_err-check_lsns.ensures.fault pages pages refl c.store.invariant c.args.log.now (sym c.last.ensures))
 
 pub returns-in_err-check_lsns-clause-lawful : goal.returns-in_err-check_lsns-clause-lawful
 returns-in_err-check_lsns-clause-lawful g c = λ base lawful fit.
     let exit = err_from_is_err_and c.from_residual-in_err-check_lsns.result c.from_residual-in_err-check_lsns.ensures.1 in
-    let stored : c.deref.result.now ≡ c.args.store.pages = c.deref.ensures.value ∙ ap (λ (s : StoreContent). s.pages) c.store.view_is in
-    let fault = c.in_err-check_lsns.field-0.0 in
-    rw (exit.1, exit.2)
-    (ahead_alone base c.args.log.now c.args.store lawful fault (subst (λ (ps : List Page). AheadFault c.args.log.now ps fault) stored (c.in_err-check_lsns.ensures.fault c.args.log.now (sym c.last.ensures))))
+    rw (exit.1, exit.2) (ahead_alone base c.args.log.now c.args.store lawful c.in_err-check_lsns.field-0.0 (ahead g c))
+
+pub returns-in_err-check_lsns-clause-fault : goal.returns-in_err-check_lsns-clause-fault
+returns-in_err-check_lsns-clause-fault g c =
+    let exit = err_from_is_err_and c.from_residual-in_err-check_lsns.result c.from_residual-in_err-check_lsns.ensures.1 in
+    rw (exit.1, exit.2) (inr (c.in_ok-check_settings.ensures.ok, ahead_fault c.args.log.now c.args.store c.in_err-check_lsns.field-0.0 (ahead g c)))
 
 pub go_forward-requires-clause-none_ahead : goal.go_forward-requires-clause-none_ahead
 go_forward-requires-clause-none_ahead g c =
-    let stored : c.deref.result.now ≡ c.args.store.pages = c.deref.ensures.value ∙ ap (λ (s : StoreContent). s.pages) c.store.view_is in
+    let pages = c.store.inside.pages.items in
+    let stored : pages ≡ c.args.store.pages = ap (λ (s : StoreContent). s.pages) c.store.view_is in
     let none_ahead : NoneAhead c.args.log.now c.args.store =
-    subst (λ (n : ℕ). All (λ (page : Page). page.lsn ≤ n) c.args.store.pages) c.last.ensures (subst (All (λ (page : Page). page.lsn ≤ c.last.result)) stored c.in_ok-check_lsns.ensures.ok) in
+    subst (λ (n : ℕ). All (λ (page : Page). page.lsn ≤ n) c.args.store.pages) c.last.ensures (subst (All (λ (page : Page). page.lsn ≤ c.last.result)) stored (c.in_ok-check_lsns.ensures.ok pages pages refl)) in
     λ lifetimes lives. none_ahead
 
 pub returns-in_err-tables-clause-lawful : goal.returns-in_err-tables-clause-lawful

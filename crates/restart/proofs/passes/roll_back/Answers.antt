@@ -1,12 +1,12 @@
 use Rattle.std.proofs.Common.{ℕ, ◌≡◌, List, refl, sym, ap, subst}
 use Rattle.std.proofs.lemmas.Result.{err_from_is_err_and}
 use Rattle.page.specs.declared.page.Page.{Page}
-use Rattle.page.specs.Store.{StoreContent, AreNumbered}
-use Rattle.wal.specs.Records.{LogContent, History, history}
+use Rattle.page.specs.Store.{AreNumbered}
+use Rattle.wal.specs.Records.{History, history}
 use Rattle.tables.specs.Tables.{TablesContent}
 use Rattle.redo.specs.Redone.{RedoneContent}
 use Rattle.restart.specs.declared.outcome.UndoOutcome.{UndoOutcome}
-use Rattle.restart.specs.Outcome.{OutcomeContent, outcome_with}
+use Rattle.restart.specs.Outcome.{outcome_with}
 use Rattle.restart.specs.Restart.{IsRedone, Restarts, Restores}
 use Rattle.restart.proofs.passes.roll_back.Goals as goal
 

@@ -2,7 +2,7 @@ use Rattle.page.specs.declared.page.Page.{Page}
 use Rattle.std.proofs.Common.{List, All, ℕ, ◌≡◌, ◌-◌, length, refl, sym, ap, ◌∙◌, subst, arith}
 use Rattle.std.proofs.lemmas.List.{length-map}
 use Rattle.std.proofs.lemmas.Result.{err_from_is_err_and}
-use Rattle.page.specs.Store.{StoreContent, AreNumbered}
+use Rattle.page.specs.Store.{StoreContent}
 use Rattle.wal.specs.Records.{LogContent, history}
 use Rattle.wal.specs.Content.{entry_of}
 use Rattle.wal.specs.Meaning.{BasePages}

@@ -1,0 +1,43 @@
+-- `joined` makes the empty struct, with the bytes that its clause names. Assumes `Logic`.
+use Rattle.std.proofs.Common.{List, [], ◌∷◌, ◌++◌, refl}
+use Rattle.std.proofs.raw_atomic.Walks.{proved_at}
+use prog.Wp.{WpFn}
+use mir.Val.{Val}
+use contract.Running.{tables}
+use types.Kit.{‵, raw, ◌⊛◌, prop, ◌$◌, ◌∵◌, !, qed, move, keep, drop, split, fsplit, fjoin, feq_l, regoal, suffices, done}
+use types.Part.{agg}
+use types.Run.{enter, returns, no_more}
+use types.ByLocal.{alloc_all, pass_all, free_all, look_at, sets}
+use denote.RattleType.{owns}
+use denote.Signature.{types_at}
+use denote.Steps.{nothing}
+use denote.Triple.Entry.{alive}
+use denote.Triple.Walked.{says, Stays, stay_dropped, walk_of, ends_at, Goes-dropped}
+use Rattle.changes.proofs.Empty.{none, none_made, slot_at}
+use Rattle.changes.specs.contracts.came.Came as Came
+use Rattle.changes.specs.contracts.came.Came.joined as f
+use Rattle.changes.proofs.came.Came.joined.Statement.{statement}
+use Rattle.changes.proofs.came.Came.joined.Code as code
+
+abbrev stayed : Stays f.ended.signature.params f.ended.kept
+stayed = (stay_dropped (slot_at 0 f.ended.signature.params) f.ended.kept.0, tt)
+
+pub joined_spec : {M : Type 1} → statement M
+joined_spec 𝓤 𝓛 𝓜 𝓡 wired =
+    let c = f.clauses 𝓛 𝓜.mem 𝓡.returns in let W = walk_of 𝓛 f.ended stayed c in let 𝓣 = tables 𝓤 𝓛.H 𝓜 𝓡 𝓡.env in
+    proved_at 𝓛 f.ended stayed c 𝓜 𝓡
+    (Goes-dropped 𝓛 3 (slot_at 0 f.ended.signature.params) f.ended.kept.0 (λ κs x w. refl), tt)
+    f.Key.name code.function (code.unfolded 𝓤 𝓛.H 𝓜 𝓡 wired)
+    (λ y are.
+    let a = y.0.3 in let vss = y.0.4 in
+    let made : Came.the_row.Denot = record { bytes = a.0.now.0.now.bytes ++ a.0.now.1.now } in
+    qed 𝓛 ((raw (alive 𝓛 f.signature y.0.0 y.0.1) ⊛ ‵ (owns (types_at f.signature.params y.0.0) a vss)) ∷ raw ((c y.0.0 a).requires y.1) ∷ []) ∵
+    keep ! (0 ∷ []) $ split ! $ move ! (1 ∷ []) $
+    fsplit ! $ fsplit ! $ feq_l ! (λ is. drop ! $ drop ! $
+    regoal ! (λ (us : List Val). prop (WpFn 𝓤 𝓛.H 𝓣.C 𝓣.Λ code.function (us ++ []) (W.post y))) is refl $
+    enter ! _ _ _ _ _ $ alloc_all ! (λ l. pass_all ! refl ((tt, tt), tt) $
+    sets ! (agg ! (no_more !)) refl (tt, tt) $
+    nothing ! $ none_made ! $ fjoin ! $
+    returns ! (look_at ! 0 refl) $ free_all ! refl $
+    suffices ! _ (ends_at 𝓛 f.ended stayed c y none made (tt, tt) (tt, tt)) $ says ! refl $
+    nothing ! $ nothing ! $ fjoin ! $ move ! (2 ∷ 0 ∷ 1 ∷ []) $ done !)))

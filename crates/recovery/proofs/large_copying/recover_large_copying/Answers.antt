@@ -1,0 +1,235 @@
+use Rattle.std.proofs.Common.{◌≤◌, ◌++◌, ◌∙◌, Some, length, take, refl, ap, inl, inr, subst, arith}
+use Rattle.std.proofs.lemmas.Result.{err_from_is_err_and}
+use Rattle.page.specs.declared.fault.Fault.TheVariants.{ReadLog, ReadStore, WriteLog}
+use Rattle.passes.proofs.Reached.{still_told}
+use Rattle.wal.specs.Reads.{Reads}
+use Rattle.wal.specs.Tail.{with_tail}
+use Rattle.recovery.specs.Large.{large_store}
+use Rattle.recovery.specs.Recovery.{Recovered}
+use Rattle.recovery.proofs.ByPieces.{of_log, by_device, ok_is_no_fault}
+use Rattle.recovery.proofs.Copies.{failed_since}
+use Rattle.recovery.proofs.Delivered.{cut_lawful, completed}
+use Rattle.recovery.proofs.Large.{decoded_lsns, both_give, store_since, store_none, again_at}
+use Rattle.recovery.proofs.LargeCopies.{large_copy_is, makes_large, rewritten_resource, rewritten_cause, rewritten_cut, rewritten_out, nothing_rewritten, fails_through}
+use Rattle.recovery.proofs.large_copying.recover_large_copying.Goals as goal
+
+pub returns-in_err-made-clause-lawful : goal.returns-in_err-made-clause-lawful
+returns-in_err-made-clause-lawful g c = λ base log_text store_bytes is tells range bytes.
+    let exit = err_from_is_err_and c.from_residual-in_err-made.result c.from_residual-in_err-made.ensures.1 in
+    let decodes = decoded_lsns (g.SR.Reread.text c.args.store.now) c.in_ok-decoded.decoded store_bytes tells c.in_ok-decoded.ensures.read in
+    let still = ap g.LR.Reread.text c.in_ok-decoded.ensures.log_unread ∙ is in
+    rw (exit.1, exit.2) (of_log c.in_err-made.field-0.0 (c.in_err-made.ensures.lawful base log_text store_bytes bytes still decodes))
+
+pub returns-in_err-made-clause-interrupted : goal.returns-in_err-made-clause-interrupted
+returns-in_err-made-clause-interrupted g c = λ base log_text store_bytes is tells range bytes.
+    let exit = err_from_is_err_and c.from_residual-in_err-made.result c.from_residual-in_err-made.ensures.1 in
+    let decodes = decoded_lsns (g.SR.Reread.text c.args.store.now) c.in_ok-decoded.decoded store_bytes tells c.in_ok-decoded.ensures.read in
+    let still = ap g.LR.Reread.text c.in_ok-decoded.ensures.log_unread ∙ is in
+    rw (exit.1, exit.2) (of_log c.in_err-made.field-0.0 (c.in_err-made.ensures.lawful base log_text store_bytes (cut_lawful bytes) still decodes))
+
+pub returns-in_err-made-clause-cause : goal.returns-in_err-made-clause-cause
+returns-in_err-made-clause-cause g c =
+    let exit = err_from_is_err_and c.from_residual-in_err-made.result c.from_residual-in_err-made.ensures.1 in
+    rw (exit.1, exit.2)
+    (λ log_text store_bytes is tells.
+    let decodes = decoded_lsns (g.SR.Reread.text c.args.store.now) c.in_ok-decoded.decoded store_bytes tells c.in_ok-decoded.ensures.read in
+    let still = ap g.LR.Reread.text c.in_ok-decoded.ensures.log_unread ∙ is in
+    by_device (Some store_bytes) c.args.options.now log_text store_bytes c.in_err-made.field-0.0 (both_give log_text store_bytes)
+    (c.in_err-made.ensures.fault log_text store_bytes c.args.options.now still decodes c.in_ok-check_options.ensures.ok))
+
+pub returns-in_err-made-clause-out : goal.returns-in_err-made-clause-out
+returns-in_err-made-clause-out g c =
+    let exit = err_from_is_err_and c.from_residual-in_err-made.result c.from_residual-in_err-made.ensures.1 in
+    let (text, gave, decodes) = c.in_ok-decoded.ensures.read in
+    rw (exit.1, exit.2) (λ log_text store_bytes is tells. nothing_rewritten g.LW.Sink c.args.out_log.now g.SW.Sink c.args.out_store.now _ _ c.in_err-made.field-0.0 (c.in_err-made.ensures.named text decodes))
+
+pub write_large_copied-requires-clause-few : goal.write_large_copied-requires-clause-few
+write_large_copied-requires-clause-few g c =
+    let (text, gave, decodes) = c.in_ok-decoded.ensures.read in
+    c.in_ok-made.ensures.few text decodes
+
+pub returns-in_err-write_large_copied-clause-lawful : goal.returns-in_err-write_large_copied-clause-lawful
+returns-in_err-write_large_copied-clause-lawful g c =
+    let exit = err_from_is_err_and c.from_residual-in_err-write_large_copied.result c.from_residual-in_err-write_large_copied.ensures.1 in
+    rw (exit.1, exit.2)
+    (λ base log_text store_bytes is tells range bytes.
+    let decodes = decoded_lsns (g.SR.Reread.text c.args.store.now) c.in_ok-decoded.decoded store_bytes tells c.in_ok-decoded.ensures.read in
+    let still = ap g.LR.Reread.text c.in_ok-decoded.ensures.log_unread ∙ is in
+    let later = still_told (g.LR.Reread.text c.read_lsns_first.new.log) (g.LR.Reread.text c.make_large.new.log) log_text c.in_ok-made.ensures.same still in
+    let again = still_told (g.SR.Reread.text c.args.store.now) (g.SR.Reread.text c.read_lsns_first.new.store) store_bytes c.in_ok-decoded.ensures.kept tells in
+    let x = c.in_ok-made.made in
+    let measured = c.in_ok-made.ensures.measured log_text still in
+    let within : x.log.kept ≤ length log_text = omega (arith, measured.kept_is) in
+    let makes = c.in_ok-made.ensures.answer log_text store_bytes still decodes in
+    let (after, shown, recovers) = makes.recovers in
+    let leaves = c.in_err-write_large_copied.ensures.fault log_text later within makes.before after (again_at _ store_bytes makes.before again makes.spells) makes.spells.fits shown in
+    rewritten_resource g.LW.Sink c.args.out_log.now c.write_large_copied.new.copy g.SW.Sink c.args.out_store.now c.write_large_copied.new.out (take x.log.kept log_text ++ x.log.frames.items) (large_store x after) c.in_err-write_large_copied.field-0.0 leaves)
+
+pub returns-in_err-write_large_copied-clause-interrupted : goal.returns-in_err-write_large_copied-clause-interrupted
+returns-in_err-write_large_copied-clause-interrupted g c =
+    let exit = err_from_is_err_and c.from_residual-in_err-write_large_copied.result c.from_residual-in_err-write_large_copied.ensures.1 in
+    rw (exit.1, exit.2)
+    (λ base log_text store_bytes is tells range bytes.
+    let decodes = decoded_lsns (g.SR.Reread.text c.args.store.now) c.in_ok-decoded.decoded store_bytes tells c.in_ok-decoded.ensures.read in
+    let still = ap g.LR.Reread.text c.in_ok-decoded.ensures.log_unread ∙ is in
+    let later = still_told (g.LR.Reread.text c.read_lsns_first.new.log) (g.LR.Reread.text c.make_large.new.log) log_text c.in_ok-made.ensures.same still in
+    let again = still_told (g.SR.Reread.text c.args.store.now) (g.SR.Reread.text c.read_lsns_first.new.store) store_bytes c.in_ok-decoded.ensures.kept tells in
+    let x = c.in_ok-made.made in
+    let measured = c.in_ok-made.ensures.measured log_text still in
+    let within : x.log.kept ≤ length log_text = omega (arith, measured.kept_is) in
+    let makes = c.in_ok-made.ensures.answer log_text store_bytes still decodes in
+    let (after, shown, recovers) = makes.recovers in
+    let leaves = c.in_err-write_large_copied.ensures.fault log_text later within makes.before after (again_at _ store_bytes makes.before again makes.spells) makes.spells.fits shown in
+    rewritten_resource g.LW.Sink c.args.out_log.now c.write_large_copied.new.copy g.SW.Sink c.args.out_store.now c.write_large_copied.new.out (take x.log.kept log_text ++ x.log.frames.items) (large_store x after) c.in_err-write_large_copied.field-0.0 leaves)
+
+pub returns-in_err-write_large_copied-clause-cause : goal.returns-in_err-write_large_copied-clause-cause
+returns-in_err-write_large_copied-clause-cause g c =
+    let exit = err_from_is_err_and c.from_residual-in_err-write_large_copied.result c.from_residual-in_err-write_large_copied.ensures.1 in
+    rw (exit.1, exit.2)
+    (λ log_text store_bytes is tells.
+    let decodes = decoded_lsns (g.SR.Reread.text c.args.store.now) c.in_ok-decoded.decoded store_bytes tells c.in_ok-decoded.ensures.read in
+    let still = ap g.LR.Reread.text c.in_ok-decoded.ensures.log_unread ∙ is in
+    let later = still_told (g.LR.Reread.text c.read_lsns_first.new.log) (g.LR.Reread.text c.make_large.new.log) log_text c.in_ok-made.ensures.same still in
+    let again = still_told (g.SR.Reread.text c.args.store.now) (g.SR.Reread.text c.read_lsns_first.new.store) store_bytes c.in_ok-decoded.ensures.kept tells in
+    let x = c.in_ok-made.made in
+    let measured = c.in_ok-made.ensures.measured log_text still in
+    let within : x.log.kept ≤ length log_text = omega (arith, measured.kept_is) in
+    let makes = c.in_ok-made.ensures.answer log_text store_bytes still decodes in
+    let (after, shown, recovers) = makes.recovers in
+    let leaves = c.in_err-write_large_copied.ensures.fault log_text later within makes.before after (again_at _ store_bytes makes.before again makes.spells) makes.spells.fits shown in
+    rewritten_cause g.LW.Sink c.args.out_log.now c.write_large_copied.new.copy g.SW.Sink c.args.out_store.now c.write_large_copied.new.out (take x.log.kept log_text ++ x.log.frames.items) (large_store x after) (Some log_text) (Some store_bytes) c.args.options.now c.in_err-write_large_copied.field-0.0 leaves)
+
+pub returns-in_err-write_large_copied-clause-out : goal.returns-in_err-write_large_copied-clause-out
+returns-in_err-write_large_copied-clause-out g c =
+    let exit = err_from_is_err_and c.from_residual-in_err-write_large_copied.result c.from_residual-in_err-write_large_copied.ensures.1 in
+    rw (exit.1, exit.2)
+    (λ log_text store_bytes is tells.
+    let decodes = decoded_lsns (g.SR.Reread.text c.args.store.now) c.in_ok-decoded.decoded store_bytes tells c.in_ok-decoded.ensures.read in
+    let still = ap g.LR.Reread.text c.in_ok-decoded.ensures.log_unread ∙ is in
+    let later = still_told (g.LR.Reread.text c.read_lsns_first.new.log) (g.LR.Reread.text c.make_large.new.log) log_text c.in_ok-made.ensures.same still in
+    let again = still_told (g.SR.Reread.text c.args.store.now) (g.SR.Reread.text c.read_lsns_first.new.store) store_bytes c.in_ok-decoded.ensures.kept tells in
+    let x = c.in_ok-made.made in
+    let measured = c.in_ok-made.ensures.measured log_text still in
+    let within : x.log.kept ≤ length log_text = omega (arith, measured.kept_is) in
+    let makes = c.in_ok-made.ensures.answer log_text store_bytes still decodes in
+    let (after, shown, recovers) = makes.recovers in
+    let made = makes_large log_text store_bytes x.log (large_store x after) measured recovers in
+    let leaves = c.in_err-write_large_copied.ensures.fault log_text later within makes.before after (again_at _ store_bytes makes.before again makes.spells) makes.spells.fits shown in
+    rewritten_out g.LW.Sink c.args.out_log.now c.write_large_copied.new.copy g.SW.Sink c.args.out_store.now c.write_large_copied.new.out made c.in_err-write_large_copied.field-0.0 leaves)
+
+pub returns-in_err-write_large_copied-clause-resumable : goal.returns-in_err-write_large_copied-clause-resumable
+returns-in_err-write_large_copied-clause-resumable g c =
+    let exit = err_from_is_err_and c.from_residual-in_err-write_large_copied.result c.from_residual-in_err-write_large_copied.ensures.1 in
+    rw (exit.1, exit.2)
+    (λ base log_text store_bytes is tells range bytes.
+    let decodes = decoded_lsns (g.SR.Reread.text c.args.store.now) c.in_ok-decoded.decoded store_bytes tells c.in_ok-decoded.ensures.read in
+    let still = ap g.LR.Reread.text c.in_ok-decoded.ensures.log_unread ∙ is in
+    let later = still_told (g.LR.Reread.text c.read_lsns_first.new.log) (g.LR.Reread.text c.make_large.new.log) log_text c.in_ok-made.ensures.same still in
+    let again = still_told (g.SR.Reread.text c.args.store.now) (g.SR.Reread.text c.read_lsns_first.new.store) store_bytes c.in_ok-decoded.ensures.kept tells in
+    let x = c.in_ok-made.made in
+    let measured = c.in_ok-made.ensures.measured log_text still in
+    let within : x.log.kept ≤ length log_text = omega (arith, measured.kept_is) in
+    let makes = c.in_ok-made.ensures.answer log_text store_bytes still decodes in
+    let (after, shown, recovers) = makes.recovers in
+    let leaves = c.in_err-write_large_copied.ensures.fault log_text later within makes.before after (again_at _ store_bytes makes.before again makes.spells) makes.spells.fits shown in
+    let restores = c.in_ok-made.ensures.lawful base log_text store_bytes bytes still decodes in
+    let reads = subst (λ l. Reads l (with_tail bytes.decoded.read) 0) (large_copy_is log_text store_bytes x.log (large_store x after) measured) restores.2.reads in
+    rewritten_cut g.LW.Sink c.args.out_log.now c.write_large_copied.new.copy g.SW.Sink c.args.out_store.now c.write_large_copied.new.out (take x.log.kept log_text ++ x.log.frames.items) (large_store x after) bytes reads c.in_err-write_large_copied.field-0.0 leaves)
+
+pub returns-in_err-write_large_copied-clause-log_out_first : goal.returns-in_err-write_large_copied-clause-log_out_first
+returns-in_err-write_large_copied-clause-log_out_first g c = λ log_text store_bytes is tells.
+    let decodes = decoded_lsns (g.SR.Reread.text c.args.store.now) c.in_ok-decoded.decoded store_bytes tells c.in_ok-decoded.ensures.read in
+    let still = ap g.LR.Reread.text c.in_ok-decoded.ensures.log_unread ∙ is in
+    let later = still_told (g.LR.Reread.text c.read_lsns_first.new.log) (g.LR.Reread.text c.make_large.new.log) log_text c.in_ok-made.ensures.same still in
+    let again = still_told (g.SR.Reread.text c.args.store.now) (g.SR.Reread.text c.read_lsns_first.new.store) store_bytes c.in_ok-decoded.ensures.kept tells in
+    let x = c.in_ok-made.made in
+    let measured = c.in_ok-made.ensures.measured log_text still in
+    let within : x.log.kept ≤ length log_text = omega (arith, measured.kept_is) in
+    let makes = c.in_ok-made.ensures.answer log_text store_bytes still decodes in
+    let (after, shown, recovers) = makes.recovers in
+    let made = makes_large log_text store_bytes x.log (large_store x after) measured recovers in
+    elim (c.write_large_copied.ensures.order) [
+      | inl same ↦ inl same
+      | inr out ↦ inr (made, out log_text later within)
+    ]
+
+pub returns-in_err-write_large_copied-clause-log_source : goal.returns-in_err-write_large_copied-clause-log_source
+returns-in_err-write_large_copied-clause-log_source g c =
+    let exit = err_from_is_err_and c.from_residual-in_err-write_large_copied.result c.from_residual-in_err-write_large_copied.ensures.1 in
+    let (text, gave, decodes) = c.in_ok-decoded.ensures.read in
+    let first = c.in_ok-decoded.ensures.log_source.innocent (ok_is_no_fault c.in_ok-decoded.decoded ReadLog) in
+    let then = (c.in_ok-made.ensures.cause text decodes).innocent (ok_is_no_fault c.in_ok-made.made ReadLog) in
+    rw (exit.1, exit.2) (failed_since c.in_err-write_large_copied.field-0.0 _ _ _ (then ∙ first) c.in_err-write_large_copied.ensures.log_source)
+
+pub returns-in_err-write_large_copied-clause-store_source : goal.returns-in_err-write_large_copied-clause-store_source
+returns-in_err-write_large_copied-clause-store_source g c =
+    let exit = err_from_is_err_and c.from_residual-in_err-write_large_copied.result c.from_residual-in_err-write_large_copied.ensures.1 in
+    let first = c.in_ok-decoded.ensures.store_source.innocent (ok_is_no_fault c.in_ok-decoded.decoded ReadStore) (ok_is_no_fault c.in_ok-decoded.decoded ReadLog) in
+    rw (exit.1, exit.2) (store_since c.in_err-write_large_copied.field-0.0 _ _ _ first c.in_err-write_large_copied.ensures.store_source)
+
+pub returns-in_err-write_large_copied-clause-log_sink : goal.returns-in_err-write_large_copied-clause-log_sink
+returns-in_err-write_large_copied-clause-log_sink g c =
+    let exit = err_from_is_err_and c.from_residual-in_err-write_large_copied.result c.from_residual-in_err-write_large_copied.ensures.1 in
+    rw (exit.1, exit.2) (fails_through WriteLog c.in_err-write_large_copied.field-0.0 _ _ c.in_err-write_large_copied.ensures.log_sink)
+
+pub returns-clause-store_source : goal.returns-clause-store_source
+returns-clause-store_source g c =
+    let first = c.in_ok-decoded.ensures.store_source.innocent (ok_is_no_fault c.in_ok-decoded.decoded ReadStore) (ok_is_no_fault c.in_ok-decoded.decoded ReadLog) in
+    store_none _ _ _ (c.in_ok-write_large_copied.ensures.store_source.innocent (ok_is_no_fault tt ReadStore) ∙ first)
+
+pub returns-clause-lawful : goal.returns-clause-lawful
+returns-clause-lawful g c = λ base log_text store_bytes is tells range bytes.
+    let decodes = decoded_lsns (g.SR.Reread.text c.args.store.now) c.in_ok-decoded.decoded store_bytes tells c.in_ok-decoded.ensures.read in
+    let still = ap g.LR.Reread.text c.in_ok-decoded.ensures.log_unread ∙ is in
+    let later = still_told (g.LR.Reread.text c.read_lsns_first.new.log) (g.LR.Reread.text c.make_large.new.log) log_text c.in_ok-made.ensures.same still in
+    let again = still_told (g.SR.Reread.text c.args.store.now) (g.SR.Reread.text c.read_lsns_first.new.store) store_bytes c.in_ok-decoded.ensures.kept tells in
+    let x = c.in_ok-made.made in
+    let measured = c.in_ok-made.ensures.measured log_text still in
+    let within : x.log.kept ≤ length log_text = omega (arith, measured.kept_is) in
+    let (after, shown, recovered) = c.in_ok-made.ensures.lawful base log_text store_bytes bytes still decodes in
+    let before = bytes.decoded.before in
+    record {
+      new_log = take x.log.kept log_text ++ x.log.frames.items;
+      new_store = large_store x after;
+      recovered =
+          subst (λ l. Recovered base bytes.decoded.read before l (large_store x after) x.log.report) (large_copy_is log_text store_bytes x.log (large_store x after) measured) recovered;
+      log_out = (c.in_ok-write_large_copied.ensures.log_out log_text later within).out;
+      store_out = (c.in_ok-write_large_copied.ensures.store_out before after (again_at _ store_bytes before again bytes.decoded.spells) bytes.decoded.spells.fits shown).out;
+    }
+
+pub returns-clause-interrupted : goal.returns-clause-interrupted
+returns-clause-interrupted g c = λ base log_text store_bytes is tells range bytes.
+    completed bytes _ _ _ _ _ _ _ (returns-clause-lawful g c base log_text store_bytes is tells range (cut_lawful bytes))
+
+pub returns-clause-answer : goal.returns-clause-answer
+returns-clause-answer g c = λ log_text store_bytes is tells.
+    let decodes = decoded_lsns (g.SR.Reread.text c.args.store.now) c.in_ok-decoded.decoded store_bytes tells c.in_ok-decoded.ensures.read in
+    let still = ap g.LR.Reread.text c.in_ok-decoded.ensures.log_unread ∙ is in
+    let later = still_told (g.LR.Reread.text c.read_lsns_first.new.log) (g.LR.Reread.text c.make_large.new.log) log_text c.in_ok-made.ensures.same still in
+    let again = still_told (g.SR.Reread.text c.args.store.now) (g.SR.Reread.text c.read_lsns_first.new.store) store_bytes c.in_ok-decoded.ensures.kept tells in
+    let x = c.in_ok-made.made in
+    let measured = c.in_ok-made.ensures.measured log_text still in
+    let within : x.log.kept ≤ length log_text = omega (arith, measured.kept_is) in
+    let makes = c.in_ok-made.ensures.answer log_text store_bytes still decodes in
+    let (after, shown, recovers) = makes.recovers in
+    let made = makes_large log_text store_bytes x.log (large_store x after) measured recovers in
+    record {
+      made = made;
+      report_is = refl;
+      log_out = (c.in_ok-write_large_copied.ensures.log_out log_text later within).out;
+      store_out = (c.in_ok-write_large_copied.ensures.store_out makes.before after (again_at _ store_bytes makes.before again makes.spells) makes.spells.fits shown).out;
+    }
+
+pub returns-clause-log_out_first : goal.returns-clause-log_out_first
+returns-clause-log_out_first g c = λ log_text store_bytes is tells.
+    let decodes = decoded_lsns (g.SR.Reread.text c.args.store.now) c.in_ok-decoded.decoded store_bytes tells c.in_ok-decoded.ensures.read in
+    let still = ap g.LR.Reread.text c.in_ok-decoded.ensures.log_unread ∙ is in
+    let later = still_told (g.LR.Reread.text c.read_lsns_first.new.log) (g.LR.Reread.text c.make_large.new.log) log_text c.in_ok-made.ensures.same still in
+    let again = still_told (g.SR.Reread.text c.args.store.now) (g.SR.Reread.text c.read_lsns_first.new.store) store_bytes c.in_ok-decoded.ensures.kept tells in
+    let x = c.in_ok-made.made in
+    let measured = c.in_ok-made.ensures.measured log_text still in
+    let within : x.log.kept ≤ length log_text = omega (arith, measured.kept_is) in
+    let makes = c.in_ok-made.ensures.answer log_text store_bytes still decodes in
+    let (after, shown, recovers) = makes.recovers in
+    let made = makes_large log_text store_bytes x.log (large_store x after) measured recovers in
+    inr (made, c.in_ok-write_large_copied.ensures.log_out log_text later within)

@@ -1,0 +1,291 @@
+use Rattle.std.proofs.Common.{◌-◌, length, Some, refl, ap, inl, inr, ◌∙◌, arith}
+use Rattle.std.proofs.lemmas.Result.{err_from_is_err_and}
+use Rattle.page.specs.declared.fault.Fault.TheVariants.{ReadLog, ReadStore}
+use Rattle.passes.proofs.Reached.{still_told}
+use Rattle.recovery.specs.ByPieces.{continued_log}
+use Rattle.recovery.specs.InPlace.{Prepares}
+use Rattle.recovery.specs.Large.{large_store}
+use Rattle.recovery.proofs.Delivered.{cut_lawful}
+use Rattle.recovery.proofs.InPlace.{on_err, holds_more, settled_in_place, has_tail, continued_as}
+use Rattle.recovery.proofs.ByPieces.{of_log, by_device, other_failed, none_failed, ok_is_no_fault}
+use Rattle.recovery.proofs.Large.{decoded_lsns, both_give, prepares_large, tail_large, reread_as, left_large, cut_large, untouched_large, device_left, cause_left, not_read_log, not_log, store_since, store_none, again_at}
+use Rattle.recovery.proofs.large_store.recover_large_by_pieces.Goals as goal
+
+pub returns-in_err-made-clause-lawful : goal.returns-in_err-made-clause-lawful
+returns-in_err-made-clause-lawful g c = λ base log_text store_bytes is tells holds range bytes.
+    let exit = err_from_is_err_and c.from_residual-in_err-made.result c.from_residual-in_err-made.ensures.1 in
+    let decodes = decoded_lsns (g.SR.Reread.text c.args.store.now) c.in_ok-decoded.decoded store_bytes tells c.in_ok-decoded.ensures.read in
+    let still = ap g.LR.Reread.text c.in_ok-decoded.ensures.log_unread ∙ is in
+    rw (exit.1, exit.2) (of_log c.in_err-made.field-0.0 (c.in_err-made.ensures.lawful base log_text store_bytes bytes still decodes))
+
+pub returns-in_err-made-clause-interrupted : goal.returns-in_err-made-clause-interrupted
+returns-in_err-made-clause-interrupted g c = λ base log_text store_bytes is tells holds range bytes.
+    let exit = err_from_is_err_and c.from_residual-in_err-made.result c.from_residual-in_err-made.ensures.1 in
+    let decodes = decoded_lsns (g.SR.Reread.text c.args.store.now) c.in_ok-decoded.decoded store_bytes tells c.in_ok-decoded.ensures.read in
+    let still = ap g.LR.Reread.text c.in_ok-decoded.ensures.log_unread ∙ is in
+    rw (exit.1, exit.2) (of_log c.in_err-made.field-0.0 (c.in_err-made.ensures.lawful base log_text store_bytes (cut_lawful bytes) still decodes))
+
+pub returns-in_err-made-clause-cause : goal.returns-in_err-made-clause-cause
+returns-in_err-made-clause-cause g c =
+    let exit = err_from_is_err_and c.from_residual-in_err-made.result c.from_residual-in_err-made.ensures.1 in
+    rw (exit.1, exit.2)
+    (λ log_text store_bytes is tells.
+    let decodes = decoded_lsns (g.SR.Reread.text c.args.store.now) c.in_ok-decoded.decoded store_bytes tells c.in_ok-decoded.ensures.read in
+    let still = ap g.LR.Reread.text c.in_ok-decoded.ensures.log_unread ∙ is in
+    by_device (Some store_bytes) c.args.options.now log_text store_bytes c.in_err-made.field-0.0 (both_give log_text store_bytes)
+    (c.in_err-made.ensures.fault log_text store_bytes c.args.options.now still decodes c.in_ok-check_options.ensures.ok))
+
+pub returns-in_err-made-clause-left : goal.returns-in_err-made-clause-left
+returns-in_err-made-clause-left g c =
+    let exit = err_from_is_err_and c.from_residual-in_err-made.result c.from_residual-in_err-made.ensures.1 in
+    let (text, gave, decodes) = c.in_ok-decoded.ensures.read in
+    rw (exit.1, exit.2) (λ log_text store_bytes is tells. untouched_large g.LW.Sink c.args.out_log.now g.SW.Sink c.args.out_store.now _ _ c.in_err-made.field-0.0 (c.in_err-made.ensures.named text decodes))
+
+pub returns-in_err-end-clause-lawful : goal.returns-in_err-end-clause-lawful
+returns-in_err-end-clause-lawful g c = λ base log_text store_bytes is tells holds range bytes.
+    let exit = err_from_is_err_and c.from_residual-in_err-end.result c.from_residual-in_err-end.ensures.1 in
+    let still = ap g.LR.Reread.text c.in_ok-decoded.ensures.log_unread ∙ is in
+    let later = still_told (g.LR.Reread.text c.read_lsns_first.new.log) (g.LR.Reread.text c.make_large.new.log) log_text c.in_ok-made.ensures.same still in
+    let measured = c.in_ok-made.ensures.measured log_text still in
+    rw (exit.1, exit.2) (of_log c.in_err-end.field-0.0 (inr (c.in_err-end.ensures.fault log_text later (omega (arith, measured.kept_is)))))
+
+pub returns-in_err-end-clause-interrupted : goal.returns-in_err-end-clause-interrupted
+returns-in_err-end-clause-interrupted g c = λ base log_text store_bytes is tells holds range bytes.
+    let exit = err_from_is_err_and c.from_residual-in_err-end.result c.from_residual-in_err-end.ensures.1 in
+    let still = ap g.LR.Reread.text c.in_ok-decoded.ensures.log_unread ∙ is in
+    let later = still_told (g.LR.Reread.text c.read_lsns_first.new.log) (g.LR.Reread.text c.make_large.new.log) log_text c.in_ok-made.ensures.same still in
+    let measured = c.in_ok-made.ensures.measured log_text still in
+    rw (exit.1, exit.2) (of_log c.in_err-end.field-0.0 (inr (c.in_err-end.ensures.fault log_text later (omega (arith, measured.kept_is)))))
+
+pub returns-in_err-end-clause-cause : goal.returns-in_err-end-clause-cause
+returns-in_err-end-clause-cause g c =
+    let exit = err_from_is_err_and c.from_residual-in_err-end.result c.from_residual-in_err-end.ensures.1 in
+    rw (exit.1, exit.2)
+    (λ log_text store_bytes is tells.
+    let still = ap g.LR.Reread.text c.in_ok-decoded.ensures.log_unread ∙ is in
+    let later = still_told (g.LR.Reread.text c.read_lsns_first.new.log) (g.LR.Reread.text c.make_large.new.log) log_text c.in_ok-made.ensures.same still in
+    let measured = c.in_ok-made.ensures.measured log_text still in
+    by_device (Some store_bytes) c.args.options.now log_text store_bytes c.in_err-end.field-0.0 (both_give log_text store_bytes)
+    (inl (c.in_err-end.ensures.fault log_text later (omega (arith, measured.kept_is)))))
+
+pub returns-in_err-end-clause-left : goal.returns-in_err-end-clause-left
+returns-in_err-end-clause-left g c =
+    let exit = err_from_is_err_and c.from_residual-in_err-end.result c.from_residual-in_err-end.ensures.1 in
+    rw (exit.1, exit.2) (λ log_text store_bytes is tells. untouched_large g.LW.Sink c.args.out_log.now g.SW.Sink c.args.out_store.now _ _ c.in_err-end.field-0.0 c.in_err-end.ensures.named)
+
+pub write_large-requires-clause-few : goal.write_large-requires-clause-few
+write_large-requires-clause-few g c =
+    let (text, gave, decodes) = c.in_ok-decoded.ensures.read in
+    c.in_ok-made.ensures.few text decodes
+
+pub returns-in_err-write_large-clause-resumable : goal.returns-in_err-write_large-clause-resumable
+returns-in_err-write_large-clause-resumable g c = λ base log_text store_bytes is tells holds range bytes.
+    let decodes = decoded_lsns (g.SR.Reread.text c.args.store.now) c.in_ok-decoded.decoded store_bytes tells c.in_ok-decoded.ensures.read in
+    let still = ap g.LR.Reread.text c.in_ok-decoded.ensures.log_unread ∙ is in
+    let again = still_told (g.SR.Reread.text c.args.store.now) (g.SR.Reread.text c.read_lsns_first.new.store) store_bytes c.in_ok-decoded.ensures.kept tells in
+    let x = c.in_ok-made.made in
+    let measured = c.in_ok-made.ensures.measured log_text still in
+    let makes = c.in_ok-made.ensures.answer log_text store_bytes still decodes in
+    let (after, shown, recovers) = makes.recovers in
+    let file = c.file-file.result in
+    let kept = length log_text - x.log.report.torn in
+    let stays = reread_as g.LW.Sink c.args.out_log.now c.write_large.new.log g.SW.Sink c.args.out_store.now c.write_large.new.out_store file.kept kept file.frames.now x.log.frames.items (large_store x after) c.in_err-write_large.field-0.0
+    (c.file-file.ensures.kept ∙ measured.kept_is) c.file-file.ensures.frames
+    (c.in_err-write_large.ensures.fault makes.before after (again_at _ store_bytes makes.before again makes.spells) makes.spells.fits shown) in
+    let restores = c.in_ok-made.ensures.lawful base log_text store_bytes bytes still decodes in
+    on_err c.from_residual-in_err-write_large.result
+    (cut_large bytes kept x.log.frames.items (large_store x after) x.log.report recovers refl restores.2.reads g.LW.Sink c.args.out_log.now c.write_large.new.log g.SW.Sink c.args.out_store.now c.write_large.new.out_store
+    c.in_err-write_large.field-0.0 holds stays)
+
+pub returns-in_err-write_large-clause-lawful : goal.returns-in_err-write_large-clause-lawful
+returns-in_err-write_large-clause-lawful g c =
+    let exit = err_from_is_err_and c.from_residual-in_err-write_large.result c.from_residual-in_err-write_large.ensures.1 in
+    rw (exit.1, exit.2)
+    (λ base log_text store_bytes is tells holds range bytes.
+    let decodes = decoded_lsns (g.SR.Reread.text c.args.store.now) c.in_ok-decoded.decoded store_bytes tells c.in_ok-decoded.ensures.read in
+    let still = ap g.LR.Reread.text c.in_ok-decoded.ensures.log_unread ∙ is in
+    let again = still_told (g.SR.Reread.text c.args.store.now) (g.SR.Reread.text c.read_lsns_first.new.store) store_bytes c.in_ok-decoded.ensures.kept tells in
+    let makes = c.in_ok-made.ensures.answer log_text store_bytes still decodes in
+    let (after, shown, recovers) = makes.recovers in
+    let stays = c.in_err-write_large.ensures.fault makes.before after (again_at _ store_bytes makes.before again makes.spells) makes.spells.fits shown in
+    device_left g.LW.Sink c.args.out_log.now c.write_large.new.log g.SW.Sink c.args.out_store.now c.write_large.new.out_store c.file-file.result.kept c.file-file.result.frames.now (large_store c.in_ok-made.made after) c.in_err-write_large.field-0.0 stays)
+
+pub returns-in_err-write_large-clause-interrupted : goal.returns-in_err-write_large-clause-interrupted
+returns-in_err-write_large-clause-interrupted g c =
+    let exit = err_from_is_err_and c.from_residual-in_err-write_large.result c.from_residual-in_err-write_large.ensures.1 in
+    rw (exit.1, exit.2)
+    (λ base log_text store_bytes is tells holds range bytes.
+    let decodes = decoded_lsns (g.SR.Reread.text c.args.store.now) c.in_ok-decoded.decoded store_bytes tells c.in_ok-decoded.ensures.read in
+    let still = ap g.LR.Reread.text c.in_ok-decoded.ensures.log_unread ∙ is in
+    let again = still_told (g.SR.Reread.text c.args.store.now) (g.SR.Reread.text c.read_lsns_first.new.store) store_bytes c.in_ok-decoded.ensures.kept tells in
+    let makes = c.in_ok-made.ensures.answer log_text store_bytes still decodes in
+    let (after, shown, recovers) = makes.recovers in
+    let stays = c.in_err-write_large.ensures.fault makes.before after (again_at _ store_bytes makes.before again makes.spells) makes.spells.fits shown in
+    device_left g.LW.Sink c.args.out_log.now c.write_large.new.log g.SW.Sink c.args.out_store.now c.write_large.new.out_store c.file-file.result.kept c.file-file.result.frames.now (large_store c.in_ok-made.made after) c.in_err-write_large.field-0.0 stays)
+
+pub returns-in_err-write_large-clause-cause : goal.returns-in_err-write_large-clause-cause
+returns-in_err-write_large-clause-cause g c =
+    let exit = err_from_is_err_and c.from_residual-in_err-write_large.result c.from_residual-in_err-write_large.ensures.1 in
+    rw (exit.1, exit.2)
+    (λ log_text store_bytes is tells.
+    let decodes = decoded_lsns (g.SR.Reread.text c.args.store.now) c.in_ok-decoded.decoded store_bytes tells c.in_ok-decoded.ensures.read in
+    let still = ap g.LR.Reread.text c.in_ok-decoded.ensures.log_unread ∙ is in
+    let again = still_told (g.SR.Reread.text c.args.store.now) (g.SR.Reread.text c.read_lsns_first.new.store) store_bytes c.in_ok-decoded.ensures.kept tells in
+    let makes = c.in_ok-made.ensures.answer log_text store_bytes still decodes in
+    let (after, shown, recovers) = makes.recovers in
+    let stays = c.in_err-write_large.ensures.fault makes.before after (again_at _ store_bytes makes.before again makes.spells) makes.spells.fits shown in
+    cause_left g.LW.Sink c.args.out_log.now c.write_large.new.log g.SW.Sink c.args.out_store.now c.write_large.new.out_store c.file-file.result.kept c.file-file.result.frames.now (large_store c.in_ok-made.made after)
+    (Some log_text) (Some store_bytes) c.args.options.now c.in_err-write_large.field-0.0 stays)
+
+pub returns-in_err-write_large-clause-left : goal.returns-in_err-write_large-clause-left
+returns-in_err-write_large-clause-left g c =
+    let exit = err_from_is_err_and c.from_residual-in_err-write_large.result c.from_residual-in_err-write_large.ensures.1 in
+    rw (exit.1, exit.2)
+    (λ log_text store_bytes is tells.
+    let decodes = decoded_lsns (g.SR.Reread.text c.args.store.now) c.in_ok-decoded.decoded store_bytes tells c.in_ok-decoded.ensures.read in
+    let still = ap g.LR.Reread.text c.in_ok-decoded.ensures.log_unread ∙ is in
+    let again = still_told (g.SR.Reread.text c.args.store.now) (g.SR.Reread.text c.read_lsns_first.new.store) store_bytes c.in_ok-decoded.ensures.kept tells in
+    let x = c.in_ok-made.made in
+    let measured = c.in_ok-made.ensures.measured log_text still in
+    let makes = c.in_ok-made.ensures.answer log_text store_bytes still decodes in
+    let (after, shown, recovers) = makes.recovers in
+    let file = c.file-file.result in
+    let kept = length log_text - x.log.report.torn in
+    let stays = reread_as g.LW.Sink c.args.out_log.now c.write_large.new.log g.SW.Sink c.args.out_store.now c.write_large.new.out_store file.kept kept file.frames.now x.log.frames.items (large_store x after) c.in_err-write_large.field-0.0
+    (c.file-file.ensures.kept ∙ measured.kept_is) c.file-file.ensures.frames
+    (c.in_err-write_large.ensures.fault makes.before after (again_at _ store_bytes makes.before again makes.spells) makes.spells.fits shown) in
+    left_large g.LW.Sink c.args.out_log.now c.write_large.new.log g.SW.Sink c.args.out_store.now c.write_large.new.out_store (prepares_large log_text store_bytes x.log (large_store x after) measured recovers) c.in_err-write_large.field-0.0 stays)
+
+pub returns-in_err-write_large-clause-tail_first : goal.returns-in_err-write_large-clause-tail_first
+returns-in_err-write_large-clause-tail_first g c = λ log_text store_bytes is tells.
+    let decodes = decoded_lsns (g.SR.Reread.text c.args.store.now) c.in_ok-decoded.decoded store_bytes tells c.in_ok-decoded.ensures.read in
+    let still = ap g.LR.Reread.text c.in_ok-decoded.ensures.log_unread ∙ is in
+    let x = c.in_ok-made.made in
+    let measured = c.in_ok-made.ensures.measured log_text still in
+    let makes = c.in_ok-made.ensures.answer log_text store_bytes still decodes in
+    let (after, shown, recovers) = makes.recovers in
+    let file = c.file-file.result in
+    let made : Prepares (Some log_text) (Some store_bytes) = prepares_large log_text store_bytes x.log (large_store x after) measured recovers in
+    let later = still_told (g.LR.Reread.text c.read_lsns_first.new.log) (g.LR.Reread.text c.make_large.new.log) log_text c.in_ok-made.ensures.same still in
+    let end_is = c.file-file.ensures.end ∙ c.in_ok-end.ensures.sum log_text later (omega (arith, measured.kept_is)) in
+    let tail = tail_large log_text store_bytes x.log (large_store x after) measured recovers file.length file.kept file.end file.frames.now c.file-file.ensures.length c.file-file.ensures.kept end_is c.file-file.ensures.frames in
+    elim c.write_large.ensures.tail_first [
+      | inl same ↦ inl same
+      | inr out ↦ inr (made, has_tail made g.T.Sink c.args.tail.now c.write_large.new.tail _ tail out)
+    ]
+
+pub returns-in_err-write_large-clause-log_first : goal.returns-in_err-write_large-clause-log_first
+returns-in_err-write_large-clause-log_first g c = λ log_text store_bytes is tells.
+    let decodes = decoded_lsns (g.SR.Reread.text c.args.store.now) c.in_ok-decoded.decoded store_bytes tells c.in_ok-decoded.ensures.read in
+    let still = ap g.LR.Reread.text c.in_ok-decoded.ensures.log_unread ∙ is in
+    let x = c.in_ok-made.made in
+    let measured = c.in_ok-made.ensures.measured log_text still in
+    let makes = c.in_ok-made.ensures.answer log_text store_bytes still decodes in
+    let (after, shown, recovers) = makes.recovers in
+    let made : Prepares (Some log_text) (Some store_bytes) = prepares_large log_text store_bytes x.log (large_store x after) measured recovers in
+    elim c.write_large.ensures.log_first [
+      | inl same ↦ inl same
+      | inr done ↦ inr (made, continued_as _ _ _ _ _ _ _ (c.file-file.ensures.kept ∙ measured.kept_is) c.file-file.ensures.frames done)
+    ]
+
+pub returns-clause-tail_first : goal.returns-clause-tail_first
+returns-clause-tail_first g c = λ log_text store_bytes is tells.
+    let decodes = decoded_lsns (g.SR.Reread.text c.args.store.now) c.in_ok-decoded.decoded store_bytes tells c.in_ok-decoded.ensures.read in
+    let still = ap g.LR.Reread.text c.in_ok-decoded.ensures.log_unread ∙ is in
+    let x = c.in_ok-made.made in
+    let measured = c.in_ok-made.ensures.measured log_text still in
+    let makes = c.in_ok-made.ensures.answer log_text store_bytes still decodes in
+    let (after, shown, recovers) = makes.recovers in
+    let file = c.file-file.result in
+    let made : Prepares (Some log_text) (Some store_bytes) = prepares_large log_text store_bytes x.log (large_store x after) measured recovers in
+    let later = still_told (g.LR.Reread.text c.read_lsns_first.new.log) (g.LR.Reread.text c.make_large.new.log) log_text c.in_ok-made.ensures.same still in
+    let end_is = c.file-file.ensures.end ∙ c.in_ok-end.ensures.sum log_text later (omega (arith, measured.kept_is)) in
+    let tail = tail_large log_text store_bytes x.log (large_store x after) measured recovers file.length file.kept file.end file.frames.now c.file-file.ensures.length c.file-file.ensures.kept end_is c.file-file.ensures.frames in
+    elim c.write_large.ensures.tail_first [
+      | inl same ↦ inl same
+      | inr out ↦ inr (made, has_tail made g.T.Sink c.args.tail.now c.write_large.new.tail _ tail out)
+    ]
+
+pub returns-clause-log_first : goal.returns-clause-log_first
+returns-clause-log_first g c = λ log_text store_bytes is tells.
+    let decodes = decoded_lsns (g.SR.Reread.text c.args.store.now) c.in_ok-decoded.decoded store_bytes tells c.in_ok-decoded.ensures.read in
+    let still = ap g.LR.Reread.text c.in_ok-decoded.ensures.log_unread ∙ is in
+    let x = c.in_ok-made.made in
+    let measured = c.in_ok-made.ensures.measured log_text still in
+    let makes = c.in_ok-made.ensures.answer log_text store_bytes still decodes in
+    let (after, shown, recovers) = makes.recovers in
+    let made : Prepares (Some log_text) (Some store_bytes) = prepares_large log_text store_bytes x.log (large_store x after) measured recovers in
+    elim c.write_large.ensures.log_first [
+      | inl same ↦ inl same
+      | inr done ↦ inr (made, continued_as _ _ _ _ _ _ _ (c.file-file.ensures.kept ∙ measured.kept_is) c.file-file.ensures.frames done)
+    ]
+
+pub returns-in_err-write_large-clause-log_source : goal.returns-in_err-write_large-clause-log_source
+returns-in_err-write_large-clause-log_source g c =
+    let exit = err_from_is_err_and c.from_residual-in_err-write_large.result c.from_residual-in_err-write_large.ensures.1 in
+    let (text, gave, decodes) = c.in_ok-decoded.ensures.read in
+    let first = c.in_ok-decoded.ensures.log_source.innocent (ok_is_no_fault c.in_ok-decoded.decoded ReadLog) in
+    let then = (c.in_ok-made.ensures.cause text decodes).innocent (ok_is_no_fault c.in_ok-made.made ReadLog) in
+    let last = c.in_ok-end.ensures.cause.innocent (ok_is_no_fault c.in_ok-end.end ReadLog) in
+    let e = c.in_err-write_large.field-0.0 in
+    other_failed c.from_residual-in_err-write_large.result _ _ _ (not_log c.from_residual-in_err-write_large.result e (rw (exit.1, exit.2) refl) (not_read_log e c.in_err-write_large.ensures.named)) first (last ∙ then)
+
+pub returns-in_err-write_large-clause-store_source : goal.returns-in_err-write_large-clause-store_source
+returns-in_err-write_large-clause-store_source g c =
+    let exit = err_from_is_err_and c.from_residual-in_err-write_large.result c.from_residual-in_err-write_large.ensures.1 in
+    let first = c.in_ok-decoded.ensures.store_source.innocent (ok_is_no_fault c.in_ok-decoded.decoded ReadStore) (ok_is_no_fault c.in_ok-decoded.decoded ReadLog) in
+    rw (exit.1, exit.2) (store_since c.in_err-write_large.field-0.0 _ _ _ first c.in_err-write_large.ensures.store_source)
+
+pub returns-clause-log_source : goal.returns-clause-log_source
+returns-clause-log_source g c =
+    let (text, gave, decodes) = c.in_ok-decoded.ensures.read in
+    let first = c.in_ok-decoded.ensures.log_source.innocent (ok_is_no_fault c.in_ok-decoded.decoded ReadLog) in
+    let then = (c.in_ok-made.ensures.cause text decodes).innocent (ok_is_no_fault c.in_ok-made.made ReadLog) in
+    let last = c.in_ok-end.ensures.cause.innocent (ok_is_no_fault c.in_ok-end.end ReadLog) in
+    none_failed _ _ _ (last ∙ then ∙ first)
+
+pub returns-clause-store_source : goal.returns-clause-store_source
+returns-clause-store_source g c =
+    let first = c.in_ok-decoded.ensures.store_source.innocent (ok_is_no_fault c.in_ok-decoded.decoded ReadStore) (ok_is_no_fault c.in_ok-decoded.decoded ReadLog) in
+    store_none _ _ _ (c.in_ok-write_large.ensures.store_source.innocent (ok_is_no_fault tt ReadStore) ∙ first)
+
+pub returns-clause-lawful : goal.returns-clause-lawful
+returns-clause-lawful g c = λ base log_text store_bytes is tells holds range bytes.
+    let decodes = decoded_lsns (g.SR.Reread.text c.args.store.now) c.in_ok-decoded.decoded store_bytes tells c.in_ok-decoded.ensures.read in
+    let still = ap g.LR.Reread.text c.in_ok-decoded.ensures.log_unread ∙ is in
+    let again = still_told (g.SR.Reread.text c.args.store.now) (g.SR.Reread.text c.read_lsns_first.new.store) store_bytes c.in_ok-decoded.ensures.kept tells in
+    let x = c.in_ok-made.made in
+    let measured = c.in_ok-made.ensures.measured log_text still in
+    let (after, shown, recovered) = c.in_ok-made.ensures.lawful base log_text store_bytes bytes still decodes in
+    let before = bytes.decoded.before in
+    let kept = length log_text - x.log.report.torn in
+    let done = continued_as _ _ _ _ _ _ _ (c.file-file.ensures.kept ∙ measured.kept_is) c.file-file.ensures.frames c.in_ok-write_large.ensures.log_done in
+    record {
+      new_log = continued_log log_text x.log;
+      new_store = large_store x after;
+      recovered = recovered;
+      log_is = holds_more kept x.log.frames.items log_text _ _ holds done.continued;
+      store_out = (c.in_ok-write_large.ensures.store_out before after (again_at _ store_bytes before again bytes.decoded.spells) bytes.decoded.spells.fits shown).out;
+    }
+
+pub returns-clause-interrupted : goal.returns-clause-interrupted
+returns-clause-interrupted g c = λ base log_text store_bytes is tells holds range bytes.
+    settled_in_place bytes _ _ _ _ _ (returns-clause-lawful g c base log_text store_bytes is tells holds range (cut_lawful bytes))
+
+pub returns-clause-answer : goal.returns-clause-answer
+returns-clause-answer g c = λ log_text store_bytes is tells.
+    let decodes = decoded_lsns (g.SR.Reread.text c.args.store.now) c.in_ok-decoded.decoded store_bytes tells c.in_ok-decoded.ensures.read in
+    let still = ap g.LR.Reread.text c.in_ok-decoded.ensures.log_unread ∙ is in
+    let again = still_told (g.SR.Reread.text c.args.store.now) (g.SR.Reread.text c.read_lsns_first.new.store) store_bytes c.in_ok-decoded.ensures.kept tells in
+    let x = c.in_ok-made.made in
+    let measured = c.in_ok-made.ensures.measured log_text still in
+    let makes = c.in_ok-made.ensures.answer log_text store_bytes still decodes in
+    let (after, shown, recovers) = makes.recovers in
+    let made : Prepares (Some log_text) (Some store_bytes) = prepares_large log_text store_bytes x.log (large_store x after) measured recovers in
+    let done = continued_as _ _ _ _ _ _ _ (c.file-file.ensures.kept ∙ measured.kept_is) c.file-file.ensures.frames c.in_ok-write_large.ensures.log_done in
+    record {
+      made = made;
+      report_is = refl;
+      log_out = done.continued;
+      store_out = (c.in_ok-write_large.ensures.store_out makes.before after (again_at _ store_bytes makes.before again makes.spells) makes.spells.fits shown).out;
+    }

@@ -1,0 +1,7 @@
+use Rattle.recovery.proofs.Large.{leaves_rewriting}
+use Rattle.recovery.proofs.large_store.write_large.Goals as goal
+
+pub returns-in-Ok-clause-fault : goal.returns-in-Ok-clause-fault
+returns-in-Ok-clause-fault g c =
+    leaves_rewriting g.L.Sink c.args.log.now c.write_tail.new.log g.S.Sink c.args.out_store.now c.write_changed.new.out c.write_changed.result (g.R.Reread.text c.args.store.now) c.args.file.now c.args.master c.args.changes.now
+    c.in-Ok.ensures.done c.write_changed.ensures.part c.write_changed.ensures.fault
