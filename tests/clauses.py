@@ -16,7 +16,7 @@ sys.dont_write_bytecode = True  # no folder of it beside the tests
 from program import TOP, text_of
 
 LONGEST = 100
-KEPT = {"recovery": 50, "restart": 0, "undo": 0, "aries_c": 15}
+KEPT = {"recovery": 49, "restart": 0, "undo": 0, "aries_c": 15}
 
 
 def end_of(text, at):

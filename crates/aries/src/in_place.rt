@@ -141,7 +141,8 @@ fn make_store<R: Files>(
     make(rt, store, old, Fault::WriteStore)
 }
 
-/// Removes the files that a run made which returned an error, if it wrote nothing to them.
+/// Removes the files that a run made which returned an error, unless a file could not be written.
+/// The file of the tail is then empty, or the log is continued and flushed already.
 fn clear_after<R: Files>(rt: &R, fault: Fault, tail: &Notes, store: &Notes) {
     if matches!(fault, Fault::WriteLog | Fault::WriteStore) {
         return;
@@ -231,8 +232,10 @@ fn place_store<R: Files>(rt: &R, store: &Notes, replaced: Option<&str>) -> Resul
 ///
 /// Before anything is changed the log is opened to be read and to be appended to, and the store to
 /// be read. After `WriteLog` or `WriteStore` the run can be made again, and finishes what was
-/// begun. After any other fault the log and the store are as they were, or as the run before would
-/// have left the log.
+/// begun; a new store that does not replace the old one is removed before. After any other fault the log and the store are as they were, or as the run before would
+/// have left the log. But if a large store is read once more and has a fault then (`ReadStore`,
+/// `StoreSize` or `BadPage`), the log is continued already, and the store is as it was. This run
+/// can be made again too.
 pub fn recover_files_in_place<R: Files + Clock + Threads + Sync>(
     rt: &R,
     alloc: Global,

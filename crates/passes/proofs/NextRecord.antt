@@ -1,7 +1,6 @@
 -- The tallies with one more record of a piece.
 use Rattle.std.proofs.Common.{◌≡◌, ℕ, ◌+◌, ◌-◌, List, length, sym, ◌∙◌, subst, arith}
 use Rattle.page.specs.declared.fault.Fault.{Fault}
-use Rattle.page.specs.declared.fault.Fault.TheVariants.{NoSuchPage}
 use Rattle.page.specs.declared.page.Page.{Page}
 use Rattle.wal.specs.declared.glance.Glance.{Glance}
 use Rattle.wal.specs.Glances.{glance_of, IsGlanceBehind}
@@ -10,6 +9,7 @@ use Rattle.wal.proofs.Histories.{record_above}
 use Rattle.tables.specs.Pieces.{IsPieceOf}
 use Rattle.redo.specs.Inputs.{InputContent, input_over}
 use Rattle.redo.specs.Changes.{NamesBelow}
+use Rattle.redo.specs.Routes.{NoteFault}
 use Rattle.redo.specs.OnePass.{AreUpTo}
 use Rattle.redo.specs.Passing.{TalliesSoFar, IsPieceFor, IsRecordFor}
 use Rattle.redo.specs.Redone.{RedoFault}
@@ -43,11 +43,11 @@ module _ (whole piece : LogContent) (images : List Page) (lsn : ℕ) (glance : G
     };
   }
 
-  -- on a page that the store lacks
-  pub refused_next : (e : Fault) → ((r : LogRecord) → glance ≡ glance_of r → NamesBelow (length old.tallies) r → ⊥) → e ≡ NoSuchPage (lsn + 1) → RedoFault whole (length images) (base_lsn (history whole) + 1) 1 e
-  refused_next e missing is =
+  -- on a page that the store lacks, or refused
+  pub refused_next : (e : Fault) → ((r : LogRecord) → glance ≡ glance_of r → NoteFault (length old.tallies) (lsn + 1) r e) → RedoFault whole (length images) (base_lsn (history whole) + 1) 1 e
+  refused_next e cause =
       let above = record_above (history whole) (lsn + 1) is_next.entry is_next.there in
       let begins = before.each.begins in
       subst (λ n. RedoFault whole (length images) n 1 e) begins
       (refused_at whole (length images) before.listed.redo_lsn (lsn + 1) is_next.entry is_next.there before.tallied.exist e ((λ zero. omega (arith, begins, zero)), omega (arith, begins, above))
-      (λ below. missing is_next.entry is_next.seen_of (subst (λ n. NamesBelow n is_next.entry) (sym before.tallied.tallied.count) below)) is)
+      (subst (λ n. NoteFault n (lsn + 1) is_next.entry e) before.tallied.tallied.count (cause is_next.entry is_next.seen_of)))

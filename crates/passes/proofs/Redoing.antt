@@ -4,7 +4,7 @@ use Rattle.std.proofs.lemmas.Bool.{cases_lt}
 use Rattle.std.proofs.lemmas.List.{get_or-drop, get_or_default, length-drop}
 use Rattle.std.specs.List.Sorted.{IsNonDecreasingBy}
 use Rattle.page.specs.declared.fault.Fault.{Fault}
-use Rattle.page.specs.declared.fault.Fault.TheVariants.{NoSuchPage}
+use Rattle.page.specs.declared.fault.Fault.TheVariants.{NoResource, NoSuchPage}
 use Rattle.page.specs.declared.page.Page.{Page}
 use Rattle.page.specs.Store.{AreNumbered}
 use Rattle.wal.specs.Records.{LogContent, lsn_before, start, history, last_lsn, base_lsn}
@@ -121,6 +121,7 @@ resource_cause whole count redo_lsn e (inr refused) = subst (RedoCause whole cou
 
 pub pass_cause : (whole piece : LogContent) (count redo_lsn : ℕ) (e : Fault) → IsPieceOf (history whole) (history piece) → ExistBelow whole count redo_lsn (base_lsn (history piece) + 1) → PassCause piece count redo_lsn e
     → RedoFault whole count redo_lsn 1 e
+pass_cause whole piece count redo_lsn NoResource own before cause = tt
 pass_cause whole piece count redo_lsn (NoSuchPage lsn) own before cause = ((omega arith, omega arith), missing_gone whole piece count redo_lsn lsn own before cause)
 pass_cause whole piece count redo_lsn e own before cause = absurd cause
 

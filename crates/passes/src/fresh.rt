@@ -41,10 +41,10 @@ use wal::{Glance, Log};
 struct ForwardScan {
     /// What the records so far do to both tables.
     tables: TableScan,
-    /// The tallies of all pages, unless a page was missing.
+    /// The tallies of all pages, unless redo had a fault.
     tallies: TallyScan,
-    /// The fault of the first record on a page that the store lacks.
-    missing: Option<Fault>,
+    /// The fault of redo: its record is on a page that the store lacks, or memory was refused.
+    fault: Option<Fault>,
 }
 
 /// The scan before the first record of a log with this base LSN. The only error is `NoResource`.
@@ -55,7 +55,7 @@ fn begin_scan<P: Pages>(alloc: Global, pages: &P, base: u64) -> Result<ForwardSc
     ensures tallied { IfOk result (λ scan. (stored shown : List Page)
         → P.shows pages.now stored shown → AreNumbered shown
         → (whole : LogContent) → base_lsn (history whole) ≡ base
-        → TalliedOrRefused whole shown base scan.missing scan.tallies) }
+        → TalliedOrRefused whole shown base scan.fault scan.tallies) }
     ensures upto { IfOk result (λ scan. scan.tallies.upto ≡ base) }
     ensures count { IfOk result (λ scan. length scan.tallies.tallies ≡ P.count pages.now) }
     ensures no_transaction_0 { IfOk result (λ scan. entry_at 0 scan.tables.entries ≡ None) }
@@ -67,16 +67,17 @@ fn begin_scan<P: Pages>(alloc: Global, pages: &P, base: u64) -> Result<ForwardSc
     Ok(ForwardScan {
         tables,
         tallies,
-        missing: None,
+        fault: None,
     })
 }
 
-/// Counts the record after an LSN for redo, unless a page was missing before. The record is given
-/// at a glance. Returns the fault of the first record on a page that the store lacks.
+/// Counts the record after an LSN for redo, unless redo had a fault before. The record is given at a
+/// glance. Returns the first fault of redo: a record is on a page that the store lacks, or memory
+/// was refused.
 #[inline(always)]
 fn tally_next(
     tallies: &mut TallyScan,
-    missing: Option<Fault>,
+    fault: Option<Fault>,
     glance: Glance,
     lsn: u64,
 ) -> Option<Fault>
@@ -85,13 +86,13 @@ fn tally_next(
     requires room { lsn + 1 < 2 ^ 64 }
     ensures tallied { (whole piece : LogContent) (images : List Page)
         → IsPieceOf (history whole) (history piece) → IsGlanceBehind (history piece) lsn glance
-        → TalliedOrRefused whole images lsn missing tallies.old
+        → TalliedOrRefused whole images lsn fault tallies.old
         → TalliedOrRefused whole images (lsn + 1) result tallies.new }
     ensures upto { tallies.new.upto ≤ lsn + 1 }
     ensures count { length tallies.new.tallies ≡ length tallies.old.tallies }
 {
-    if missing.is_some() {
-        return missing;
+    if fault.is_some() {
+        return fault;
     }
     match tallies.note(glance, lsn + 1) {
         Ok(()) => None,
@@ -109,9 +110,9 @@ fn scan_piece(piece: &Log, scan: &mut ForwardScan) -> Result<(), Fault>
         → HasAnalysed 0 whole (log ▸▸ piece.now.records) scan.new.tables) }
     ensures tallied { OnOk result ((whole : LogContent) (images : List Page)
         → IsPieceOf (history whole) (history piece.now)
-        → TalliedOrRefused whole images (base_lsn (history piece.now)) scan.old.missing
+        → TalliedOrRefused whole images (base_lsn (history piece.now)) scan.old.fault
         scan.old.tallies
-        → TalliedOrRefused whole images (last_lsn (history piece.now)) scan.new.missing
+        → TalliedOrRefused whole images (last_lsn (history piece.now)) scan.new.fault
         scan.new.tallies) }
     ensures upto { OnOk result (scan.new.tallies.upto ≤ last_lsn (history piece.now)) }
     ensures count { OnOk result (length scan.new.tallies.tallies
@@ -123,7 +124,7 @@ fn scan_piece(piece: &Log, scan: &mut ForwardScan) -> Result<(), Fault>
     for lsn in piece.base()..piece.last() {
         let glance = piece.glance_after(lsn);
         scan.tables.note(glance, lsn + 1)?;
-        scan.missing = tally_next(&mut scan.tallies, scan.missing, glance, lsn);
+        scan.fault = tally_next(&mut scan.tallies, scan.fault, glance, lsn);
     }
     Ok(())
 }
@@ -157,8 +158,8 @@ fn take_piece<S: Reread>(
     ensures tallied { IfOk result (λ x. (text : List ℕ) (whole before : LogContent) (torn : ℕ)
         (images : List Page) → S.text source.old ≡ Some text → Reads text whole torn
         → IsMark text before mark
-        → TalliedOrRefused whole images mark.lsn scan.old.missing scan.old.tallies
-        → TalliedOrRefused whole images x.0.lsn scan.new.missing scan.new.tallies) }
+        → TalliedOrRefused whole images mark.lsn scan.old.fault scan.old.tallies
+        → TalliedOrRefused whole images x.0.lsn scan.new.fault scan.new.tallies) }
     ensures ends { IfOk result (λ x. (text : List ℕ) (before : LogContent)
         → S.text source.old ≡ Some text → IsMark text before mark → x.0.lsn ≡ mark.lsn
         → Reads text before x.1) }
@@ -177,8 +178,8 @@ fn take_piece<S: Reread>(
     Ok((next, torn))
 }
 
-/// The tables at the end of a log with this base LSN; and the tallies, or the fault of the first
-/// record on a page that the store lacks. The only error is `NoResource`.
+/// The tables at the end of a log with this base LSN; and the tallies, or the fault of redo. The only
+/// error is `NoResource`.
 fn finish_scan(scan: ForwardScan, base: u64) -> Result<(Tables, Result<TallyScan, Fault>), Fault>
     requires { base ≤ LARGEST_BASE }
     ensures tables { IfOk result (λ x. (log : LogContent) → base_lsn (history log) ≡ base
@@ -189,18 +190,18 @@ fn finish_scan(scan: ForwardScan, base: u64) -> Result<(Tables, Result<TallyScan
         → AreTrue log store x.0) }
     ensures no_transaction_0 { entry_at 0 scan.tables.entries ≡ None
         → IfOk result (λ x. entry_for 0 x.0.transactions ≡ None) }
-    ensures tallies { IfOk result (λ x. IfOk x.1 (λ tallies. (scan.missing ≡ None)
+    ensures tallies { IfOk result (λ x. IfOk x.1 (λ tallies. (scan.fault ≡ None)
         × (tallies ≡ scan.tallies))) }
-    ensures missing { IfOk result (λ x. IfErr x.1 (λ e. scan.missing ≡ Some e)) }
+    ensures refused { IfOk result (λ x. IfErr x.1 (λ e. scan.fault ≡ Some e)) }
     ensures err { IsOkUnless result NoResource }
 {
     let ForwardScan {
         tables,
         tallies,
-        missing,
+        fault,
     } = scan;
     let tables = tables.finish(base)?;
-    match missing {
+    match fault {
         None => Ok((tables, Ok(tallies))),
         Some(fault) => Ok((tables, Err(fault))),
     }
@@ -215,8 +216,8 @@ pub struct ForwardReading {
     pub torn: usize,
     /// The tables of the crash.
     pub tables: Tables,
-    /// The tallies of redo at the log's end, or the fault of the first record on a page that the
-    /// store lacks.
+    /// The tallies of redo at the log's end, or the fault of redo: `NoSuchPage` with the LSN of the
+    /// first record on a page that the store lacks, or `NoResource` if memory was refused.
     pub tallies: Result<TallyScan, Fault>,
 }
 
@@ -249,7 +250,7 @@ pub fn read_forward<S: Reread, P: Pages>(
         → IfOk x.tallies (AreTalliedByAll whole shown (last_lsn (history whole)))) }
     ensures count { IfOk result (λ x. IfOk x.tallies (λ scan. length scan.tallies
         ≡ P.count pages.now)) }
-    ensures missing { IfOk result (λ x. (stored shown : List Page)
+    ensures refused { IfOk result (λ x. (stored shown : List Page)
         → P.shows pages.now stored shown → AreNumbered shown
         → (text : List ℕ) (whole : LogContent) (torn : ℕ)
         → S.text source.old ≡ Some text → Reads text whole torn

@@ -10,7 +10,7 @@ use Rattle.page.specs.declared.fault.Fault.{Fault}
 use Rattle.page.specs.declared.fault.Fault.TheVariants.{NoResource, ReadLog, ReadStore, WriteLog, WriteStore, BadWorkers, BadParting}
 use Rattle.page.specs.declared.page.Page.{Page}
 use Rattle.page.specs.Store.{StoreContent}
-use Rattle.page.specs.File.{SpellsStore, store_text}
+use Rattle.page.specs.File.{SpellsStore}
 use Rattle.wal.specs.Reads.{Cause as LogFault}
 use Rattle.passes.specs.declared.fault.PassFault.{PassFault}
 use Rattle.passes.specs.declared.fault.PassFault.TheVariants as pass
@@ -19,12 +19,12 @@ use Rattle.passes.specs.InPieces.{InPiecesCause}
 use Rattle.restart.specs.declared.options.Options.{Options}
 use Rattle.restart.specs.Options.{AreInRange}
 use Rattle.restart.specs.Restart.{store_with}
-use Rattle.recovery.specs.declared.by_pieces.Made.{Made}
-use Rattle.recovery.specs.Recovery.{Recovers, RecoveryCause, log_of}
+use Rattle.recovery.specs.declared.by_pieces.Continuation.{Continuation}
+use Rattle.recovery.specs.Recovery.{Recovers, RecoveryCause}
 use Rattle.recovery.specs.Devices.{FailsOnlyWith, IsFaultOf, SourcesGave, DeviceCause, IsResourceOrDevice}
 use Rattle.recovery.specs.TailFile.{tail_text, sum_of, end_of}
 use Rattle.recovery.specs.InPlace.{IsLeftIn, Prepares, LeavesInPlace}
-use Rattle.recovery.specs.ByPieces.{IsOfLog, fault_of, ReadingCause, IsMeasured}
+use Rattle.recovery.specs.ByPieces.{IsOfLog, fault_of, ReadingCause, MeasuresLog, continued_log}
 use Rattle.recovery.proofs.Bytes.{input_cause}
 use Rattle.recovery.proofs.Delivered.{device_cause, is_resource}
 use Rattle.recovery.proofs.InPlace.{same_tail}
@@ -112,25 +112,25 @@ pub store_same : (before : StoreContent) (m : ℕ) (after items : List Page) →
 store_same before m after items em ea = rw (em, ea) refl
 
 -- WHAT IS MADE, and the file of its tail
-module _ (store_left : Option (List ℕ)) (log store : List ℕ) (made : Made) (read : SourcesGave (Some log) store_left log store) (measured : IsMeasured log made)
-    (recovers : Recovers log store (log_of log made.remade) (store_text made.remade.store) made.remade.report) where
+module _ (store_left : Option (List ℕ)) (log store : List ℕ) (made : Continuation) (new_store : List ℕ) (read : SourcesGave (Some log) store_left log store)
+    (measured : MeasuresLog log made) (recovers : Recovers log store (continued_log log made) new_store made.report) where
   abbrev pub prepares : Prepares (Some log) store_left
   prepares = record {
     log = log;
     store = store;
-    kept = length log - made.remade.report.torn;
-    frames = made.remade.frames.items;
-    new_store = store_text made.remade.store;
-    report = made.remade.report;
+    kept = length log - made.report.torn;
+    frames = made.frames.items;
+    new_store = new_store;
+    report = made.report;
     are_read = read;
     kept_is = refl;
     recovers = recovers;
   }
 
-  pub tail_made : (size kept end : ℕ) (frames : List ℕ) → size ≡ made.length → kept ≡ made.kept → end ≡ sum_of (end_of (take made.kept log)) → frames ≡ made.remade.frames.items
-      → tail_text size kept end frames ≡ tail_text (length log) (length log - made.remade.report.torn) (sum_of (end_of (take (length log - made.remade.report.torn) log))) made.remade.frames.items
+  pub tail_made : (size kept end : ℕ) (frames : List ℕ) → size ≡ made.length → kept ≡ made.kept → end ≡ sum_of (end_of (take made.kept log)) → frames ≡ made.frames.items
+      → tail_text size kept end frames ≡ tail_text (length log) (length log - made.report.torn) (sum_of (end_of (take (length log - made.report.torn) log))) made.frames.items
   tail_made size kept end frames p q r h =
-      same_tail size (length log) kept (length log - made.remade.report.torn) end _ frames made.remade.frames.items (p ∙ measured.length_is) (q ∙ measured.kept_is)
+      same_tail size (length log) kept (length log - made.report.torn) end _ frames made.frames.items (p ∙ measured.length_is) (q ∙ measured.kept_is)
       (r ∙ ap (λ n. sum_of (end_of (take n log))) measured.kept_is) h
 
 -- a sink's fault is not one of the log's device

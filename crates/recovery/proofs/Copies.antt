@@ -5,17 +5,16 @@ use Rattle.std.proofs.lemmas.List.{drop-take}
 use Rattle.std.specs.Io.KnownBytes.{Appends}
 use Rattle.page.specs.declared.fault.Fault.{Fault}
 use Rattle.page.specs.declared.fault.Fault.TheVariants.{ReadLog, WriteLog, WriteStore}
-use Rattle.page.specs.File.{store_text}
 use Rattle.wal.specs.Meaning.{BasePages}
 use Rattle.wal.specs.Reads.{Reads}
 use Rattle.wal.specs.Tail.{with_tail}
 use Rattle.device.specs.declared.traits.Sink.{Ghosts as Sink}
 use Rattle.device.specs.Transfer.{TookBeginning}
 use Rattle.restart.specs.declared.options.Options.{Options}
-use Rattle.recovery.specs.declared.by_pieces.Made.{Made}
-use Rattle.recovery.specs.Recovery.{Recovers, AreLawful, log_of}
+use Rattle.recovery.specs.declared.by_pieces.Continuation.{Continuation}
+use Rattle.recovery.specs.Recovery.{Recovers, AreLawful}
 use Rattle.recovery.specs.Devices.{FailsOnlyWith, SourcesGave, Makes, DeviceCause, IsResourceOrDevice}
-use Rattle.recovery.specs.ByPieces.{IsOfLog, IsMeasured}
+use Rattle.recovery.specs.ByPieces.{IsOfLog, MeasuresLog, continued_log}
 use Rattle.recovery.specs.Copying.{LeavesCopied, IsOutCopied, LeavesCutCopied}
 use Rattle.recovery.proofs.Delivered.{behind_front, makes}
 use Rattle.recovery.proofs.Resuming.{leaves_cut}
@@ -43,15 +42,14 @@ module _ (before between after : Option (List ℕ)) (offset n : ℕ) (text : Lis
       subst (TookBeginning before after) all (begins_longer before after upto (drop (offset + n) (take kept text)) some)
 
 -- WHAT IS MADE in memory, if its log is written as a copy
-module _ (store_left : Option (List ℕ)) (log store : List ℕ) (made : Made) (read : SourcesGave (Some log) store_left log store) (measured : IsMeasured log made)
-    (recovers : Recovers log store (log_of log made.remade) (store_text made.remade.store) made.remade.report) where
-  pub copy_is : log_of log made.remade ≡ take made.kept log ++ made.remade.frames.items
-  copy_is = ap (λ n. take n log ++ made.remade.frames.items) (sym measured.kept_is)
+pub copy_is : (log : List ℕ) (made : Continuation) → MeasuresLog log made → continued_log log made ≡ take made.kept log ++ made.frames.items
+copy_is log made measured = ap (λ n. take n log ++ made.frames.items) (sym measured.kept_is)
 
-  abbrev pub makes_copy : Makes (Some log) store_left
-  makes_copy =
-      makes log store (take made.kept log ++ made.remade.frames.items) (store_text made.remade.store) made.remade.report read
-      (subst (λ l. Recovers log store l (store_text made.remade.store) made.remade.report) copy_is recovers)
+abbrev pub makes_copy : (store_left : Option (List ℕ)) (log store : List ℕ) (made : Continuation) (new_store : List ℕ) → SourcesGave (Some log) store_left log store → MeasuresLog log made
+    → Recovers log store (continued_log log made) new_store made.report → Makes (Some log) store_left
+makes_copy store_left log store made new_store read measured recovers =
+    makes log store (take made.kept log ++ made.frames.items) new_store made.report read
+    (subst (λ l. Recovers log store l new_store made.report) (copy_is log made measured) recovers)
 
 -- A FAULT while it is written
 module _ {L S : Type 0} (out_log : Sink L) (a b : L) (out_store : Sink S) (c d : S) (new_log new_store : List ℕ) where
@@ -90,9 +88,9 @@ nothing_copied log a store b log_left store_left WriteLog h = absurd h
 nothing_copied log a store b log_left store_left WriteStore h = absurd h
 nothing_copied log a store b log_left store_left e h = (Keeps-refl (log.taken a), Keeps-refl (store.taken b))
 
--- FAILURES of the log's device are those while it is copied, if it had none before
-pub failed_since : {T U : Type 0} (e : Fault) (a b c : ℕ) → b ≡ a → FailsOnlyWith {T = T} ReadLog (Err e) b c → FailsOnlyWith {T = U} ReadLog (Err e) a c
-failed_since {T} {U} e a b c same fails = record {
-  blamed = λ is. let own : e ≡ ReadLog = cc in fails.blamed (ap (λ f. Err f) own) ∙ ap (λ n. n + 1) same;
-  innocent = λ other. fails.innocent (λ is. let own : e ≡ ReadLog = cc in other (ap (λ f. Err f) own)) ∙ same;
+-- FAILURES of a device are those while the log and the store are written, if it had none before
+pub failed_since : {T U : Type 0} (own e : Fault) (a b c : ℕ) → b ≡ a → FailsOnlyWith {T = T} own (Err e) b c → FailsOnlyWith {T = U} own (Err e) a c
+failed_since {T} {U} own e a b c same fails = record {
+  blamed = λ is. let its : e ≡ own = cc in fails.blamed (ap (λ f. Err f) its) ∙ ap (λ n. n + 1) same;
+  innocent = λ other. fails.innocent (λ is. let its : e ≡ own = cc in other (ap (λ f. Err f) its)) ∙ same;
 }

@@ -17,21 +17,18 @@ use Rattle.changes.proofs.Puts.{puts_are_sets}
 use Rattle.wal.specs.Meaning.{BasePages}
 use Rattle.wal.specs.Reads.{Reads}
 use Rattle.wal.specs.Tail.{with_tail}
-use Rattle.restart.specs.Restart.{store_with}
 use Rattle.recovery.specs.Text.{ReportContent}
 use Rattle.recovery.specs.Recovery.{Recovers, AreLawful}
 use Rattle.std.proofs.KnownBytes.{Keeps-refl}
 use Rattle.restart.specs.declared.options.Options.{Options}
 use Rattle.recovery.specs.Devices.{Gave, SourcesGave, DeviceCause, IsResourceOrDevice, FailsOnlyWith, IsFaultOf}
 use Rattle.recovery.specs.declared.store_changes.DecodedLsns.{DecodedLsns}
-use Rattle.recovery.specs.declared.by_pieces.Continuation.{Continuation}
-use Rattle.recovery.specs.ByPieces.{MeasuresLog, continued_log, IsOfLog, StoreFails}
+use Rattle.recovery.specs.ByPieces.{IsOfLog, StoreFails}
 use Rattle.recovery.specs.StoreChanges.{AreDecodedLsns, DecodesLsns, IsBegun, IsRewriteFault, IsOfRewriting}
-use Rattle.recovery.specs.TailFile.{tail_text, sum_of, end_of}
 use Rattle.recovery.specs.declared.tail_file.TailFile.{TailFile}
 use Rattle.recovery.specs.InPlace.{Prepares, LeavesInPlace, HoldsCut, ContinuesBy}
 use Rattle.recovery.specs.Large.{LeavesReread, LeavesLarge, IsLeftLarge}
-use Rattle.recovery.proofs.InPlace.{same_tail, stays_as, stays_cut, left_in}
+use Rattle.recovery.proofs.InPlace.{stays_as, stays_cut, left_in}
 use Rattle.recovery.proofs.ByPieces.{untouched, ok_is_no_fault}
 
 -- WHAT CHANGES SHOW
@@ -56,10 +53,6 @@ begun_shows pages lsns fits are =
       };
     }
 
--- the store with other pages
-pub same_master : (before : StoreContent) (after : List Page) (m : ℕ) → m ≡ before.master → store_with before after ≡ record { master = m; pages = after }
-same_master before after m e = ap (λ n. record { master = n; pages = after }) (sym e)
-
 -- WHAT WAS READ of a device that is known to hold these bytes
 pub decoded_lsns : (held : Option (List ℕ)) (found : DecodedLsns) (store : List ℕ) → held ≡ Some store → AreDecodedLsns held found → DecodesLsns store found.store
 decoded_lsns held found store is (text, gave, decodes) =
@@ -68,27 +61,6 @@ decoded_lsns held found store is (text, gave, decodes) =
 
 pub both_give : (log store : List ℕ) → SourcesGave (Some log) (Some store) log store
 both_give log store = record { log_read = refl; store_read = refl }
-
--- WHAT IS MADE, and the file of its tail
-module _ (log store : List ℕ) (made : Continuation) (new_store : List ℕ) (measured : MeasuresLog log made) (recovers : Recovers log store (continued_log log made) new_store made.report) where
-  abbrev pub prepares_large : Prepares (Some log) (Some store)
-  prepares_large = record {
-    log = log;
-    store = store;
-    kept = length log - made.report.torn;
-    frames = made.frames.items;
-    new_store = new_store;
-    report = made.report;
-    are_read = both_give log store;
-    kept_is = refl;
-    recovers = recovers;
-  }
-
-  pub tail_large : (size kept end : ℕ) (frames : List ℕ) → size ≡ made.length → kept ≡ made.kept → end ≡ sum_of (end_of (take made.kept log)) → frames ≡ made.frames.items
-      → tail_text size kept end frames ≡ tail_text (length log) (length log - made.report.torn) (sum_of (end_of (take (length log - made.report.torn) log))) made.frames.items
-  tail_large size kept end frames p q r h =
-      same_tail size (length log) kept (length log - made.report.torn) end _ frames made.frames.items (p ∙ measured.length_is) (q ∙ measured.kept_is)
-      (r ∙ ap (λ n. sum_of (end_of (take n log))) measured.kept_is) h
 
 -- A FAULT when the store is read once more leaves what a fault of the store's sink leaves
 module _ {L S : Type 0} (log : Sink L) (a b : L) (store : Sink S) (c d : S) where

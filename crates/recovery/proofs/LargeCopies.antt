@@ -1,5 +1,5 @@
 -- A log and a store that are both read once more while the new ones are written: what is written, and what a fault leaves.
-use Rattle.std.proofs.Common.{ℕ, ◌≡◌, ◌++◌, List, take, Option, Some, Err, sym, ap, subst, inr}
+use Rattle.std.proofs.Common.{ℕ, List, Option, inr}
 use Rattle.page.specs.declared.fault.Fault.{Fault}
 use Rattle.page.specs.declared.fault.Fault.TheVariants.{ReadStore, WriteStore}
 use Rattle.wal.specs.Meaning.{BasePages}
@@ -7,25 +7,12 @@ use Rattle.wal.specs.Reads.{Reads}
 use Rattle.wal.specs.Tail.{with_tail}
 use Rattle.device.specs.declared.traits.Sink.{Ghosts as Sink}
 use Rattle.restart.specs.declared.options.Options.{Options}
-use Rattle.recovery.specs.declared.by_pieces.Continuation.{Continuation}
-use Rattle.recovery.specs.Recovery.{Recovers, AreLawful}
-use Rattle.recovery.specs.Devices.{Makes, DeviceCause, FailsOnlyWith, IsResourceOrDevice}
-use Rattle.recovery.specs.ByPieces.{IsOfLog, MeasuresLog, continued_log}
+use Rattle.recovery.specs.Recovery.{AreLawful}
+use Rattle.recovery.specs.Devices.{Makes, DeviceCause, IsResourceOrDevice}
+use Rattle.recovery.specs.ByPieces.{IsOfLog}
 use Rattle.recovery.specs.LargeCopying.{LeavesRewritten, IsOutLarge, LeavesCutLarge}
 use Rattle.recovery.proofs.Copies.{copied_resource, copied_cause, copied_cut, copied_out, nothing_copied}
-use Rattle.recovery.proofs.Delivered.{makes}
-use Rattle.recovery.proofs.Large.{both_give}
 use Rattle.recovery.proofs.Resuming.{leaves_cut}
-
--- WHAT IS MADE, if its log is written as a copy
-module _ (log store : List ℕ) (made : Continuation) (new_store : List ℕ) (measured : MeasuresLog log made) where
-  pub large_copy_is : continued_log log made ≡ take made.kept log ++ made.frames.items
-  large_copy_is = ap (λ n. take n log ++ made.frames.items) (sym measured.kept_is)
-
-  abbrev pub makes_large : Recovers log store (continued_log log made) new_store made.report → Makes (Some log) (Some store)
-  makes_large recovers =
-      makes log store (take made.kept log ++ made.frames.items) new_store made.report (both_give log store)
-      (subst (λ l. Recovers log store l new_store made.report) large_copy_is recovers)
 
 -- A FAULT while it is written
 module _ {L S : Type 0} (out_log : Sink L) (a b : L) (out_store : Sink S) (c d : S) (new_log new_store : List ℕ) where
@@ -53,10 +40,3 @@ pub nothing_rewritten : {L S : Type 0} (log : Sink L) (a : L) (store : Sink S) (
     → IsOutLarge log a a store b b log_left store_left e
 nothing_rewritten log a store b log_left store_left ReadStore h = absurd h
 nothing_rewritten log a store b log_left store_left e h = nothing_copied log a store b log_left store_left e h
-
--- FAILURES of a device are those while the new log and the new store are written
-pub fails_through : {T U : Type 0} (own e : Fault) (a c : ℕ) → FailsOnlyWith {T = T} own (Err e) a c → FailsOnlyWith {T = U} own (Err e) a c
-fails_through {T} {U} own e a c fails = record {
-  blamed = λ is. let same : e ≡ own = cc in fails.blamed (ap (λ f. Err f) same);
-  innocent = λ other. fails.innocent (λ is. let same : e ≡ own = cc in other (ap (λ f. Err f) same));
-}

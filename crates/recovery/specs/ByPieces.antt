@@ -18,7 +18,7 @@ use Rattle.restart.specs.declared.options.Options.{Options}
 use Rattle.recovery.specs.declared.by_pieces.Made.{Made}
 use Rattle.recovery.specs.declared.by_pieces.Continuation.{Continuation}
 use Rattle.restart.specs.Options.{AreInRange}
-use Rattle.recovery.specs.Recovery.{AreLawful, Recovers, Recovered, Remakes, RemakesLawful, RecoveryCause, Decodes}
+use Rattle.recovery.specs.Recovery.{AreLawful, Recovers, Recovered, RecoveryCause, Decodes}
 use Rattle.recovery.specs.Devices.{IsFaultOf, DeviceCause}
 
 -- the fault of a log's device, of its bytes or of a restart by it, or a lack of memory: that of no other device
@@ -48,11 +48,6 @@ pub record StoreFails {T : Type 0} (answer : Result T Fault) (before after : ℕ
   pub log_blamed : answer ≡ Err ReadLog → (after ≡ before) ⊎ (after ≡ before + 1)
   pub innocent : (answer ≡ Err ReadStore → ⊥) → (answer ≡ Err ReadLog → ⊥) → after ≡ before
 
--- how long the log is, and how much of it is kept
-pub record IsMeasured (log : List ℕ) (made : Made) : Type 0 where
-  pub length_is : made.length ≡ length log
-  pub kept_is : made.kept ≡ length log - made.remade.report.torn
-
 -- the bytes are a log's, with or without a torn tail
 abbrev pub IsLog : List ℕ → Type 0
 IsLog text = (whole : LogContent) × (torn : ℕ) × Reads text whole torn
@@ -65,10 +60,20 @@ LogCause held e = (text : List ℕ) → held ≡ Some text → (e ≡ ReadLog) �
 abbrev pub IfDecoded : Result StoreContent Fault → Type 0 → Type 0
 IfDecoded decoded P = (store : List ℕ) → Decodes store decoded → P
 
+-- THE LOG that is made: what is kept of the old one, followed by the frames
+abbrev pub continued_log : (log : List ℕ) → Continuation → List ℕ
+continued_log log x = take (length log - x.report.torn) log ++ x.frames.items
+
+-- how long the old log is, and how much of it is kept
+pub record MeasuresLog (log : List ℕ) (made : Continuation) : Type 0 where
+  pub length_is : made.length ≡ length log
+  pub kept_is : made.kept ≡ length log - made.report.torn
+
 -- WHAT IS MADE of the bytes that a log's device holds, and of bytes that are those of the store
 -- it is the recovery of these bytes
 abbrev pub IsMadeOf : (held : Option (List ℕ)) → (IsStore : List ℕ → Type 0) → Made → Type 0
-IsMadeOf held IsStore x = (log store : List ℕ) → held ≡ Some log → IsStore store → Remakes log store x.remade
+IsMadeOf held IsStore x =
+    (log store : List ℕ) → held ≡ Some log → IsStore store → Recovers log store (continued_log log x.log) (store_text x.store) x.log.report
 
 -- this is the error of these bytes, whatever the options are
 abbrev pub IsCauseOf : (held : Option (List ℕ)) → (IsStore : List ℕ → Type 0) → Fault → Type 0
@@ -76,32 +81,16 @@ IsCauseOf held IsStore e =
     (log store : List ℕ) (options : Options) → held ≡ Some log → IsStore store → AreInRange options → ReadingCause log store options e
 
 -- if they are lawful, it is what a recovery makes of lawful input, or the error is a lack of memory or the log's device
-abbrev pub IsMadeLawful : (held : Option (List ℕ)) → (IsStore : List ℕ → Type 0) → Result Made Fault → Type 0
-IsMadeLawful held IsStore answer =
-    (base : BasePages) (log store : List ℕ) → held ≡ Some log → IsStore store → (bytes : AreLawful base log store)
-    → MatchResult answer (λ x. RemakesLawful (record { base = base; log = log; store = store; bytes = bytes }) x.remade) (IsFaultOf ReadLog)
-
--- the same if the bytes of the store encode this
-abbrev pub IsMadeLawfulOf : (held : Option (List ℕ)) → StoreContent → Result Made Fault → Type 0
-IsMadeLawfulOf held before answer =
-    (base : BasePages) (log store : List ℕ) → held ≡ Some log → SpellsStore store before → (bytes : AreLawful base log store)
-    → bytes.decoded.before ≡ before
-    → MatchResult answer (λ x. RemakesLawful (record { base = base; log = log; store = store; bytes = bytes }) x.remade) (IsFaultOf ReadLog)
+abbrev pub IsMadeLawful : (held : Option (List ℕ)) → (IsOf : (store : List ℕ) → StoreContent → Type 0) → Result Made Fault → Type 0
+IsMadeLawful held IsOf answer =
+    (base : BasePages) (log store : List ℕ) (bytes : AreLawful base log store) → held ≡ Some log → IsOf store bytes.decoded.before
+    → MatchResult answer (λ x. Recovered base bytes.decoded.read bytes.decoded.before (continued_log log x.log) (store_text x.store) x.log.report) (IsFaultOf ReadLog)
 
 -- the error of a recovery over devices, if it is known what the log's device holds
 abbrev pub RereadCause : (log_held store_left : Option (List ℕ)) → Options → Fault → Type 0
 RereadCause log_held store_left options e = (log : List ℕ) → log_held ≡ Some log → DeviceCause (Some log) store_left options e
 
 -- ON PAGES of a store with this master, in memory or not
--- the new log: what is kept of the old one, followed by the frames
-abbrev pub continued_log : (log : List ℕ) → Continuation → List ℕ
-continued_log log x = take (length log - x.report.torn) log ++ x.frames.items
-
--- how long the log is, and how much of it is kept
-pub record MeasuresLog (log : List ℕ) (made : Continuation) : Type 0 where
-  pub length_is : made.length ≡ length log
-  pub kept_is : made.kept ≡ length log - made.report.torn
-
 module _ {P : Type 0} (pages : Pages P) where
   -- they show the pages of the store that the recovery of these bytes leaves
   abbrev pub ShowRecovered : (log store : List ℕ) → StoreContent → (stored : List Page) → Continuation → P → Type 0

@@ -6,6 +6,7 @@ use Rattle.page.specs.declared.fault.Fault.TheVariants.{ReadLog, WriteLog, BadLs
 use Rattle.page.specs.File.{store_text}
 use Rattle.device.specs.declared.traits.Sink.{Ghosts as Sink}
 use Rattle.recovery.specs.declared.by_pieces.Made.{Made}
+use Rattle.recovery.specs.declared.by_pieces.Continuation.{Continuation}
 use Rattle.recovery.specs.Recovery.{LawfulInput}
 use Rattle.recovery.specs.Devices.{AreOut, IsOut, Leaves, LeavesCut}
 use Rattle.recovery.specs.Calls.{ForKept, ForPiece, Took, Began}
@@ -54,8 +55,8 @@ TookPart held offset buffer sink old new = ForPiece held offset buffer (Began si
 abbrev pub ForFront : (held : Option (List ℕ)) → (kept : ℕ) → (frames : List ℕ) → (List ℕ → Type 0) → Type 0
 ForFront held kept frames P = ForKept held kept (λ front. P (front ++ frames))
 
-abbrev pub ForNewLog : (held : Option (List ℕ)) → Made → (List ℕ → Type 0) → Type 0
-ForNewLog held made P = ForFront held made.kept made.remade.frames.items P
+abbrev pub ForNewLog : (held : Option (List ℕ)) → Continuation → (List ℕ → Type 0) → Type 0
+ForNewLog held made P = ForFront held made.kept made.frames.items P
 
 -- what is kept and these frames are written and flushed
 abbrev pub BothAreOut : {D : Type 0} → (held : Option (List ℕ)) → (kept : ℕ) → (frames : List ℕ) → (sink : Sink D) → (old new : D) → Type 0
@@ -66,15 +67,15 @@ abbrev pub Begins : {D : Type 0} → (held : Option (List ℕ)) → (kept : ℕ)
 Begins held kept frames sink old new = ForFront held kept frames (Began sink old new)
 
 -- the copy is written and flushed
-abbrev pub CopyIsOut : {D : Type 0} → (held : Option (List ℕ)) → Made → (sink : Sink D) → (old new : D) → Type 0
+abbrev pub CopyIsOut : {D : Type 0} → (held : Option (List ℕ)) → Continuation → (sink : Sink D) → (old new : D) → Type 0
 CopyIsOut held made sink old new = ForNewLog held made (AreOut sink old new)
 
 -- the new store is
 abbrev pub StoreIsOut : {D : Type 0} → (sink : Sink D) → (old new : D) → Made → Type 0
-StoreIsOut sink old new made = AreOut sink old new (store_text made.remade.store)
+StoreIsOut sink old new made = AreOut sink old new (store_text made.store)
 
 -- what a fault during the writing of the copy and of the store that was made leaves
 module _ {L S : Type 0} (log : Sink L) (log_old log_new : L) (store : Sink S) (store_old store_new : S) where
   abbrev pub LeavesCopy : (held : Option (List ℕ)) → Made → Fault → Type 0
   LeavesCopy held made e =
-      ForNewLog held made (λ new_log. LeavesCopied log log_old log_new store store_old store_new new_log (store_text made.remade.store) e)
+      ForNewLog held made.log (λ new_log. LeavesCopied log log_old log_new store store_old store_new new_log (store_text made.store) e)

@@ -8,22 +8,15 @@ use Rattle.device.specs.declared.traits.Sink.{Ghosts as Sink}
 use Rattle.recovery.specs.declared.large_store.MadeLarge.{MadeLarge}
 use Rattle.recovery.specs.Recovery.{LawfulInput}
 use Rattle.recovery.specs.Devices.{IsOut, Leaves, LeavesCut}
-use Rattle.recovery.specs.Copying.{BothAreOut, ForFront, IsOutCopied, LeavesCopied, LeavesCutCopied}
+use Rattle.recovery.specs.Copying.{ForNewLog, IsOutCopied, LeavesCopied, LeavesCutCopied}
 use Rattle.recovery.specs.StoreChanges.{ForShown, Rewrites}
 
 -- WHAT IS MADE
--- the copy of the log is written and flushed
-abbrev pub IsCopied : {D : Type 0} → (held : Option (List ℕ)) → MadeLarge → (sink : Sink D) → (old new : D) → Type 0
-IsCopied held made sink old new = BothAreOut held made.log.kept made.log.frames.items sink old new
-
--- the changed store is
+-- the changed store is written and flushed
 abbrev pub IsRewritten : {D : Type 0} → (held : Option (List ℕ)) → MadeLarge → (sink : Sink D) → (old new : D) → Type 0
 IsRewritten held made sink old new = Rewrites held made.master made.changes sink old new
 
--- P is true of the copy, and of the changed store
-abbrev pub ForLargeLog : (held : Option (List ℕ)) → MadeLarge → (List ℕ → Type 0) → Type 0
-ForLargeLog held made P = ForFront held made.log.kept made.log.frames.items P
-
+-- P is true of the changed store
 abbrev pub ForLargeStore : (held : Option (List ℕ)) → MadeLarge → (List ℕ → Type 0) → Type 0
 ForLargeStore held made P = ForShown held made.changes (λ shown. P (store_text (record { master = made.master; pages = shown })))
 
@@ -37,7 +30,7 @@ module _ {L S : Type 0} (log : Sink L) (log_old log_new : L) (store : Sink S) (s
   -- by what was made, if it is known what both sources hold
   abbrev pub LeavesLargeCopy : (log_held store_held : Option (List ℕ)) → MadeLarge → Fault → Type 0
   LeavesLargeCopy log_held store_held made e =
-      ForLargeLog log_held made (λ new_log. ForLargeStore store_held made (λ new_store. LeavesRewritten new_log new_store e))
+      ForNewLog log_held made.log (λ new_log. ForLargeStore store_held made (λ new_store. LeavesRewritten new_log new_store e))
 
   -- after any fault: after a fault of a source nothing, or what a fault of the sink leaves that is written from it
   abbrev pub IsOutLarge : (log_held store_held : Option (List ℕ)) → Fault → Type 0

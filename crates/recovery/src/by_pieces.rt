@@ -8,7 +8,7 @@ ghost use Rattle.page.specs.File.{SpellsStore};
 ghost use Rattle.changes.specs.Numbered.{StayNumbered};
 ghost use Rattle.restart.specs.Options.{OptionsFault};
 ghost use Rattle.recovery.specs.Recovery.{Decodes};
-ghost use Rattle.recovery.specs.ByPieces.{IsOfLog, IsMeasured, StoreFails, IfDecoded, IsCauseOf, IsMadeLawful, IsMadeLawfulOf, IsMadeOf, RereadCause, Continues, ContinuesLawful, IsCauseOn, MeasuresLog};
+ghost use Rattle.recovery.specs.ByPieces.{IsOfLog, StoreFails, IfDecoded, IsCauseOf, IsMadeLawful, IsMadeOf, RereadCause, Continues, ContinuesLawful, IsCauseOn, MeasuresLog};
 ghost use Rattle.recovery.specs.declared.log_again.TheConstants.{ROOM};
 ghost use Rattle.recovery.specs.InPlace.{Completed, CompletesInPlace, DeliversInPlace, ForCutHeld, ForLawfulHeld, HoldsCutOf, IsLeftIn, IsLogFlushed, LogIsContinued, TailIsOut};
 ghost use Rattle.recovery.specs.Devices.{OnceRead, UnlessDevice};
@@ -18,7 +18,7 @@ ghost use Rattle.std.specs.Option.{ForSome};
 use crate::Report;
 use crate::in_place::write_in_place;
 use crate::log_again::{check_log, fault_after, read_store_first, room_for_log, sum_of_kept};
-use crate::recovery::{Remade, frames_of, report_on};
+use crate::recovery::{frames_of, report_on};
 use crate::store_pieces::room_for_pieces;
 use crate::tail_file::TailFile;
 use changes::Pages;
@@ -28,16 +28,6 @@ use passes::{Restarted, restart_in_pieces};
 use restart::{Options, check_options};
 use std::alloc::Global;
 use undo::{Looked, Place};
-
-/// What is made of a log and a store before any of it is written.
-#[derive(Drop)]
-pub struct Made {
-    /// How many bytes the log has.
-    pub length: u64,
-    /// How many of them are kept.
-    pub kept: u64,
-    pub remade: Remade,
-}
 
 /// What is made of a log before any of it is written, while the pages of a store are changed.
 #[derive(Drop)]
@@ -66,6 +56,15 @@ impl Continuation {
             frames: &self.frames,
         }
     }
+}
+
+/// What is made of a log and a store before any of it is written.
+#[derive(Drop)]
+pub struct Made {
+    /// What is made of the log.
+    pub log: Continuation,
+    /// The new store.
+    pub store: Store,
 }
 
 /// What is made of the log that a device holds and of the pages of a store with this master. The
@@ -127,31 +126,19 @@ fn make_of<L: Reread>(
     room: &mut [u8],
 ) -> Result<Made, Fault>
     requires { length room.old ≡ ROOM }
-    ensures lawful { IsMadeLawfulOf (L.text log.old) before result }
+    ensures lawful { IsMadeLawful (L.text log.old) (λ _ read. read ≡ before) result }
     ensures answer { IfOk result (IsMadeOf (L.text log.old) (λ store. SpellsStore store before)) }
-    ensures measured { IfOk result (λ x. ForSome (L.text log.old) (λ text. IsMeasured text x)) }
+    ensures measured { IfOk result (λ x. ForSome (L.text log.old)
+        (λ text. MeasuresLog text x.log)) }
     ensures fault { IfErr result (IsCauseOf (L.text log.old) (λ store. SpellsStore store before)) }
     ensures same { OnOk result (Keeps (L.text log.old) (L.text log.new)) }
     ensures named { IfErr result IsOfLog }
     ensures cause { Blames ReadLog L.failures log.old log.new result }
 {
     let Store { master, mut pages } = before;
-    let Continuation {
-        length,
-        kept,
-        frames,
-        report,
-    } = continue_on(alloc, log, master, &mut pages, room)?;
+    let log = continue_on(alloc, log, master, &mut pages, room)?;
     let store = Store { master, pages };
-    Ok(Made {
-        length,
-        kept,
-        remade: Remade {
-            frames,
-            store,
-            report,
-        },
-    })
+    Ok(Made { log, store })
 }
 
 /// What is made of the log that a device holds and of a store, if the store's bytes encode one.
@@ -163,9 +150,10 @@ pub fn make_by_pieces<L: Reread>(
     room: &mut [u8],
 ) -> Result<Made, Fault>
     requires { length room.old ≡ ROOM }
-    ensures lawful { IsMadeLawful (L.text log.old) (λ store. Decodes store decoded) result }
+    ensures lawful { IsMadeLawful (L.text log.old) (λ store _. Decodes store decoded) result }
     ensures answer { IfOk result (IsMadeOf (L.text log.old) (λ store. Decodes store decoded)) }
-    ensures measured { IfOk result (λ x. ForSome (L.text log.old) (λ text. IsMeasured text x)) }
+    ensures measured { IfOk result (λ x. ForSome (L.text log.old)
+        (λ text. MeasuresLog text x.log)) }
     ensures fault { IfErr result (IsCauseOf (L.text log.old) (λ store. Decodes store decoded)) }
     ensures same { OnOk result (Keeps (L.text log.old) (L.text log.new)) }
     ensures named { IfErr result (λ e. IfDecoded decoded (IsOfLog e)) }
@@ -176,23 +164,6 @@ pub fn make_by_pieces<L: Reread>(
         Err(fault) => {
             check_log(alloc, log, room)?;
             Err(fault)
-        }
-    }
-}
-
-impl Made {
-    /// The file of the tail that is made, if the end of what is kept has this sum.
-    fn file(&self, end: u64) -> TailFile
-        ensures length { result.length ≡ self.now.length }
-        ensures kept { result.kept ≡ self.now.kept }
-        ensures end { result.end ≡ end }
-        ensures frames { result.frames.now ≡ self.now.remade.frames.items }
-    {
-        TailFile {
-            length: self.length,
-            kept: self.kept,
-            end,
-            frames: &self.remade.frames,
         }
     }
 }
@@ -292,15 +263,8 @@ pub fn recover_by_pieces<LR: Reread, SR: Source, T: Sink, LW: Continue, SW: Sink
     let mut pieces = room_for_pieces(alloc)?;
     let decoded = read_store_first(alloc, log, store, &mut room, &mut pieces)?;
     let made = make_by_pieces(alloc, log, decoded.store, &mut room)?;
-    let end = sum_of_kept(log, made.kept, &mut room)?;
-    let file = made.file(end);
-    write_in_place(
-        tail,
-        out_log,
-        out_store,
-        &file,
-        &made.remade.store,
-        &mut pieces,
-    )?;
-    Ok(made.remade.report)
+    let end = sum_of_kept(log, made.log.kept, &mut room)?;
+    let file = made.log.file(end);
+    write_in_place(tail, out_log, out_store, &file, &made.store, &mut pieces)?;
+    Ok(made.log.report)
 }

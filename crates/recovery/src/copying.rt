@@ -9,7 +9,7 @@ ghost use Rattle.device.specs.Failures.{Counts};
 ghost use Rattle.restart.specs.Options.{OptionsFault};
 ghost use Rattle.recovery.specs.Devices.{AreOut, Completes, Delivers, ForCut, ForLawful, NewLogIsOut, OnceRead, UnlessDevice, Writes};
 ghost use Rattle.recovery.specs.ByPieces.{StoreFails, RereadCause};
-ghost use Rattle.recovery.specs.Copying.{IsOfCopying, Begins, TookPart, BothAreOut, CopyIsOut, ForNewLog, IsCopyFault, IsOutCopied, LeavesCopy, LeavesCutCopied, StoreIsOut, TookPiece};
+ghost use Rattle.recovery.specs.Copying.{IsOfCopying, Begins, TookPart, BothAreOut, CopyIsOut, IsCopyFault, IsOutCopied, LeavesCopy, LeavesCutCopied, StoreIsOut, TookPiece};
 ghost use Rattle.recovery.specs.declared.log_again.TheConstants.{ROOM};
 ghost use Rattle.recovery.specs.declared.store_pieces.TheConstants.{PIECE};
 ghost use Rattle.recovery.specs.Calls.{Blames, ForKept, ForText, IsStored, Took, Began};
@@ -17,7 +17,8 @@ ghost use Rattle.std.specs.Option.{ForSome};
 
 use crate::Report;
 use crate::by_pieces::{Made, make_by_pieces};
-use crate::log_again::{ROOM, read_from, read_store_first, room_for_log};
+use crate::log_again::{ROOM, read_store_first, room_for_log};
+use crate::reading::read_from;
 use crate::store_pieces::{room_for_pieces, write_store};
 use device::{Failed, Reread, Sink, Source, write_all};
 use page::Fault;
@@ -45,7 +46,7 @@ fn copy_piece<L: Reread, S: Sink>(
     ensures log_source { Blames ReadLog L.failures log.old log.new result }
     ensures log_sink { Blames WriteLog S.failures sink.old sink.new result }
 {
-    let count = read_from(log, offset, room)?;
+    let count = read_from(log, offset, room, Fault::ReadLog)?;
     if count < room.len() {
         return Err(Fault::BadLsn(offset));
     }
@@ -120,33 +121,33 @@ pub fn write_copy<L: Reread, S: Sink>(
     }
 }
 
-/// Writes the new log, copied, and then the new store. Each is whole and flushed before the next
-/// step.
+/// Writes the new log, copied, to one sink, and then the new store to another. Each is whole and
+/// flushed before the next step.
 fn write_copied<L: Reread, K: Sink, S: Sink>(
     log: &mut L,
-    out_log: &mut K,
-    out_store: &mut S,
+    to: &mut K,
+    out: &mut S,
     made: &Made,
     room: &mut [u8],
     pieces: &mut [u8],
 ) -> Result<(), Fault>
     requires room { length room.old ≡ ROOM }
     requires pieces { length pieces.old ≡ PIECE }
-    ensures log_out { OnOk result (CopyIsOut (L.text log.old) made.now
-        K.Sink out_log.old out_log.new) }
-    ensures log_flushed { OnOk result (IsStored K.Sink out_log.old out_log.new) }
-    ensures store_out { OnOk result (StoreIsOut S.Sink out_store.old out_store.new made.now) }
-    ensures log_first { ForNewLog (L.text log.old) made.now (λ text.
-        (out_store.new ≡ out_store.old) ⊎ AreOut K.Sink out_log.old out_log.new text) }
-    ensures fault { IfErr result (LeavesCopy K.Sink out_log.old out_log.new
-        S.Sink out_store.old out_store.new (L.text log.old) made.now) }
+    ensures log_out { OnOk result
+        (CopyIsOut (L.text log.old) made.now.log K.Sink to.old to.new) }
+    ensures log_flushed { OnOk result (IsStored K.Sink to.old to.new) }
+    ensures store_out { OnOk result (StoreIsOut S.Sink out.old out.new made.now) }
+    ensures order { (out.new ≡ out.old)
+        ⊎ CopyIsOut (L.text log.old) made.now.log K.Sink to.old to.new }
+    ensures fault { IfErr result (LeavesCopy K.Sink to.old to.new S.Sink out.old out.new
+        (L.text log.old) made.now) }
     ensures named { IfErr result (λ e. IsOfCopying e ⊎ (e ≡ WriteStore)) }
     ensures log_source { Blames ReadLog L.failures log.old log.new result }
-    ensures log_sink { Blames WriteLog K.failures out_log.old out_log.new result }
-    ensures store_sink { Blames WriteStore S.failures out_store.old out_store.new result }
+    ensures log_sink { Blames WriteLog K.failures to.old to.new result }
+    ensures store_sink { Blames WriteStore S.failures out.old out.new result }
 {
-    write_copy(log, out_log, made.kept, &made.remade.frames, room)?;
-    match write_store(out_store, &made.remade.store, pieces) {
+    write_copy(log, to, made.log.kept, &made.log.frames, room)?;
+    match write_store(out, &made.store, pieces) {
         Ok(()) => Ok(()),
         Err(Failed) => Err(Fault::WriteStore),
     }
@@ -244,5 +245,5 @@ pub fn recover_copying<LR: Reread, SR: Source, LW: Sink, SW: Sink>(
     let decoded = read_store_first(alloc, log, store, &mut room, &mut pieces)?;
     let made = make_by_pieces(alloc, log, decoded.store, &mut room)?;
     write_copied(log, out_log, out_store, &made, &mut room, &mut pieces)?;
-    Ok(made.remade.report)
+    Ok(made.log.report)
 }

@@ -8,12 +8,12 @@ ghost use Rattle.page.specs.declared.profile.TheConstants.{PAGES};
 ghost use Rattle.restart.specs.Options.{OptionsFault};
 ghost use Rattle.recovery.specs.ByPieces.{StoreFails};
 ghost use Rattle.recovery.specs.Calls.{Blames, IsStored};
-ghost use Rattle.recovery.specs.Copying.{IsOfCopying};
+ghost use Rattle.recovery.specs.Copying.{CopyIsOut, IsOfCopying};
 ghost use Rattle.recovery.specs.declared.log_again.TheConstants.{ROOM};
 ghost use Rattle.recovery.specs.declared.store_pieces.TheConstants.{PIECE};
 ghost use Rattle.recovery.specs.Devices.{Completes, Delivers, ForCut, ForLawful, NewLogIsOut, UnlessDevice, Writes};
 ghost use Rattle.recovery.specs.Large.{ForBytes, ForTexts, TextsCause};
-ghost use Rattle.recovery.specs.LargeCopying.{IsCopied, IsOutLarge, IsRewritten, LeavesCutLarge, LeavesLargeCopy};
+ghost use Rattle.recovery.specs.LargeCopying.{IsOutLarge, IsRewritten, LeavesCutLarge, LeavesLargeCopy};
 ghost use Rattle.recovery.specs.StoreChanges.{IsOfRewriting};
 
 use crate::Report;
@@ -27,12 +27,12 @@ use page::Fault;
 use restart::{Options, check_options};
 use std::alloc::Global;
 
-/// Writes the new log, copied, and then the changed store, which is read once more. Each is whole
-/// and flushed before the next step.
+/// Writes the new log, copied, to one sink, and then the changed store, which is read once more, to
+/// another. Each is whole and flushed before the next step.
 fn write_large_copied<L: Reread, R: Reread, K: Sink, S: Sink>(
     log: &mut L,
     store: &mut R,
-    copy: &mut K,
+    to: &mut K,
     out: &mut S,
     made: &MadeLarge,
     room: &mut [u8],
@@ -42,22 +42,22 @@ fn write_large_copied<L: Reread, R: Reread, K: Sink, S: Sink>(
     requires pieces { length pieces.old ≡ PIECE }
     requires few { length made.now.changes ≤ PAGES }
     ensures log_out { OnOk result
-        (IsCopied (L.text log.old) made.now K.Sink copy.old copy.new) }
-    ensures log_flushed { OnOk result (IsStored K.Sink copy.old copy.new) }
+        (CopyIsOut (L.text log.old) made.now.log K.Sink to.old to.new) }
+    ensures log_flushed { OnOk result (IsStored K.Sink to.old to.new) }
     ensures store_out { OnOk result
         (IsRewritten (R.text store.old) made.now S.Sink out.old out.new) }
     ensures store_flushed { OnOk result (IsStored S.Sink out.old out.new) }
     ensures order { (out.new ≡ out.old)
-        ⊎ IsCopied (L.text log.old) made.now K.Sink copy.old copy.new }
-    ensures fault { IfErr result (LeavesLargeCopy K.Sink copy.old copy.new S.Sink out.old out.new
+        ⊎ CopyIsOut (L.text log.old) made.now.log K.Sink to.old to.new }
+    ensures fault { IfErr result (LeavesLargeCopy K.Sink to.old to.new S.Sink out.old out.new
         (L.text log.old) (R.text store.old) made.now) }
     ensures named { IfErr result (λ e. IsOfCopying e ⊎ IsOfRewriting e) }
     ensures log_source { Blames ReadLog L.failures log.old log.new result }
     ensures store_source { Blames ReadStore R.failures store.old store.new result }
-    ensures log_sink { Blames WriteLog K.failures copy.old copy.new result }
+    ensures log_sink { Blames WriteLog K.failures to.old to.new result }
     ensures store_sink { Blames WriteStore S.failures out.old out.new result }
 {
-    write_copy(log, copy, made.log.kept, &made.log.frames, room)?;
+    write_copy(log, to, made.log.kept, &made.log.frames, room)?;
     write_changed(store, out, made.master, &made.changes, pieces)
 }
 

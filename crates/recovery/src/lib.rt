@@ -13,6 +13,7 @@ mod laws;
 mod log_again;
 mod log_bytes;
 mod log_text;
+mod reading;
 mod recovery;
 mod report;
 mod store_changes;

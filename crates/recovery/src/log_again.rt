@@ -1,23 +1,23 @@
 //! A log's device that is read again: to its end, since a failure of the device is the first fault
 //! of reading, and for the sum of the log's end.
 
-ghost use Rattle.std.specs.Prelude.{◌≡◌, ◌≢◌, ◌≤◌, ◌<◌, ◌+◌, ◌^◌, ◌⊎◌, length, IfOk, IfErr, OnOk, IfSome, IsOkUnless};
+ghost use Rattle.std.specs.Prelude.{◌≡◌, ◌≢◌, ◌<◌, ◌+◌, ◌^◌, ◌⊎◌, length, IfOk, IfErr, OnOk, IfSome, IsOkUnless};
 ghost use Rattle.std.specs.Io.KnownBytes.{IsAtEnd, Keeps};
-ghost use Rattle.device.specs.Reread.{ReadsFrom};
 ghost use Rattle.page.specs.declared.fault.Fault.TheVariants.{NoResource, ReadLog, ReadStore};
 ghost use Rattle.recovery.specs.Devices.{IsFaultOf, IsDecoded};
 ghost use Rattle.recovery.specs.TailFile.{IsEndSum};
 ghost use Rattle.recovery.specs.ByPieces.{IsOfLog, fault_of, StoreFails, IsLog, LogCause};
 ghost use Rattle.recovery.specs.declared.log_again.TheConstants.{ROOM};
 ghost use Rattle.recovery.specs.declared.store_pieces.TheConstants.{PIECE};
-ghost use Rattle.recovery.specs.Calls.{Blames, FailsMore, ForKept, IsShortAtEnd};
+ghost use Rattle.recovery.specs.Calls.{Blames, FailsMore, ForKept};
 ghost use Rattle.recovery.specs.StoreChanges.{AreDecodedLsns};
 ghost use Rattle.std.specs.Option.{ForSome};
 
+use crate::reading::read_from;
 use crate::store_changes::{DecodedLsns, read_lsns};
 use crate::store_pieces::{DecodedStore, read_store};
 use crate::tail_file::{END_BYTES, sum_of_end};
-use device::{Failed, Reread, Source, read_full_at};
+use device::{Reread, Source};
 use page::Fault;
 use passes::{PassFault, find_marks};
 use std::alloc::Global;
@@ -56,23 +56,6 @@ pub fn fault_of(stopped: PassFault) -> Fault
     }
 }
 
-/// The bytes that a log's device holds from an offset on: as many as there is room for, fewer only
-/// at its end.
-pub fn read_from<L: Reread>(log: &mut L, offset: u64, buffer: &mut [u8]) -> Result<usize, Fault>
-    requires { offset + length buffer.old ≤ 2 ^ 64 }
-    ensures within { IfOk result (λ count. count ≤ length buffer.new) }
-    ensures bytes { IfOk result (λ count. ReadsFrom (L.text log.old) offset count buffer.new) }
-    ensures end { IfOk result (IsShortAtEnd (L.text log.old) offset buffer.new) }
-    ensures same { Keeps (L.text log.old) (L.text log.new) }
-    ensures fault { IfErr result (λ e. e ≡ ReadLog) }
-    ensures cause { Blames ReadLog L.failures log.old log.new result }
-{
-    match read_full_at(log, offset, buffer) {
-        Ok(count) => Ok(count),
-        Err(Failed) => Err(Fault::ReadLog),
-    }
-}
-
 /// Reads a log's device from its beginning to its end without looking at the bytes: if it fails,
 /// that is found before anything else.
 pub fn read_through<L: Reread>(log: &mut L, room: &mut [u8]) -> Result<(), Fault>
@@ -84,7 +67,7 @@ pub fn read_through<L: Reread>(log: &mut L, room: &mut [u8]) -> Result<(), Fault
 {
     let mut offset: u64 = 0;
     while offset < LONGEST_LOG {
-        let count = read_from(log, offset, room)?;
+        let count = read_from(log, offset, room, Fault::ReadLog)?;
         if count < ROOM {
             return Ok(());
         }
@@ -200,7 +183,7 @@ pub fn sum_of_kept<L: Reread>(log: &mut L, kept: u64, room: &mut [u8]) -> Result
 {
     let offset = kept.saturating_sub(END_BYTES as u64);
     let wanted = (kept - offset) as usize;
-    let count = read_from(log, offset, &mut room[..wanted])?;
+    let count = read_from(log, offset, &mut room[..wanted], Fault::ReadLog)?;
     if count < wanted {
         return Err(Fault::BadLsn(offset));
     }

@@ -3,18 +3,18 @@
 
 ghost use Rattle.std.specs.Prelude.{◌≡◌, ◌+◌, ◌/◌, ◌%◌, ◌^◌, ◌<◌, ◌≤◌, ◌⊎◌, length, IfOk, IfErr, OnOk, OnErr, ◌≢◌};
 ghost use Rattle.std.specs.Io.KnownBytes.{Keeps};
-ghost use Rattle.device.specs.Reread.{ReadsFrom};
 ghost use Rattle.page.specs.declared.fault.Fault.TheVariants.{ReadStore, WriteStore, StoreSize};
 ghost use Rattle.page.specs.declared.profile.TheConstants.{PAGES, PAGE_BYTES};
 ghost use Rattle.page.specs.declared.sizes.TheConstants.{STORE_HEADER_BYTES};
-ghost use Rattle.recovery.specs.Calls.{Blames, IsShortAtEnd, IsStored, Took, Began};
+ghost use Rattle.recovery.specs.Calls.{Blames, IsStored, Took, Began};
 ghost use Rattle.recovery.specs.Devices.{IsFaultOf};
 ghost use Rattle.recovery.specs.declared.store_pieces.TheConstants.{PIECE};
 ghost use Rattle.recovery.specs.StoreChanges.{AreDecodedLsns, AreLsnsBehind, image_at, IsOfRewriting, IsRewriteFault, AreHeld, AreShown, IsReadFault, TookAll, BeganAll, Rewrites, IsBegun};
 
+use crate::reading::read_from;
 use crate::store_pieces::{PIECE, PIECE_PAGES};
 use changes::{Changes, LsnReader, StoreLsns};
-use device::{Failed, Reread, Sink, read_full_at, write_all};
+use device::{Failed, Reread, Sink, write_all};
 use page::{Fault, PAGE_BYTES, STORE_HEADER_BYTES, store_header};
 use std::alloc::Global;
 
@@ -27,23 +27,6 @@ pub struct DecodedLsns {
 
 /// A store that is read at offsets has fewer bytes than the sum of this and the length of a piece.
 const LONGEST_STORE: u64 = 1 << 63;
-
-/// The bytes that a store's device holds from an offset on: as many as there is room for, fewer
-/// only at its end.
-fn read_bytes<R: Reread>(source: &mut R, offset: u64, buffer: &mut [u8]) -> Result<usize, Fault>
-    requires { offset + length buffer.old ≤ 2 ^ 64 }
-    ensures within { IfOk result (λ count. count ≤ length buffer.new) }
-    ensures bytes { IfOk result (λ count. ReadsFrom (R.text source.old) offset count buffer.new) }
-    ensures end { IfOk result (IsShortAtEnd (R.text source.old) offset buffer.new) }
-    ensures same { Keeps (R.text source.old) (R.text source.new) }
-    ensures fault { IfErr result (λ e. e ≡ ReadStore) }
-    ensures cause { Blames ReadStore R.failures source.old source.new result }
-{
-    match read_full_at(source, offset, buffer) {
-        Ok(count) => Ok(count),
-        Err(Failed) => Err(Fault::ReadStore),
-    }
-}
 
 /// The PageLSNs of what a store's header and the bytes after it encode. They are read to the
 /// device's end even after an error was found, and one piece of them is kept at a time.
@@ -61,7 +44,7 @@ fn read_images<R: Reread>(
 {
     let mut offset = STORE_HEADER_BYTES as u64;
     while offset < LONGEST_STORE {
-        let count = read_bytes(source, offset, room)?;
+        let count = read_from(source, offset, room, Fault::ReadStore)?;
         reader.take(&room[..count]);
         if count < PIECE {
             let store = reader.finish();
@@ -91,7 +74,7 @@ pub fn read_lsns<R: Reread>(
     ensures cause { Blames ReadStore R.failures source.old source.new result }
 {
     let mut header = [0; STORE_HEADER_BYTES];
-    let count = read_bytes(source, 0, &mut header)?;
+    let count = read_from(source, 0, &mut header, Fault::ReadStore)?;
     let reader = LsnReader::begin(alloc, &header[..count]);
     if count < STORE_HEADER_BYTES {
         let store = reader.finish();
@@ -111,7 +94,7 @@ fn reread_images<R: Reread>(store: &mut R, first: usize, images: &mut [u8]) -> R
     ensures cause { Blames ReadStore R.failures store.old store.new result }
 {
     let offset = STORE_HEADER_BYTES + PAGE_BYTES * first;
-    let count = read_bytes(store, offset as u64, images)?;
+    let count = read_from(store, offset as u64, images, Fault::ReadStore)?;
     if count < images.len() {
         return Err(Fault::StoreSize);
     }

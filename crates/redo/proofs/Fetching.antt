@@ -174,18 +174,18 @@ finished_all whole tallies rest images before after upto numbered stand lasts al
 pub none_set : (tallies : List Tally) (pages : List Page) → HaveLsns tallies 0 pages pages
 none_set tallies pages = record { same_count = refl; each = λ k t page lt. absurd (omega (arith, lt)); others = λ k page le. refl; slots = λ k page lt. absurd (omega (arith, lt)) }
 
-pub one_set : (tallies : List Tally) (n : ℕ) (own : Tally) (before after : List Page) (d : Page) → n < length tallies → length before ≡ length tallies → own ≡ get_or tallies n own
-    → ((e : Page) → length (get_or after n e).slots ≡ SLOTS) → HaveLsns tallies n before after → HaveLsns tallies (n + 1) before (set after n (page_lsn own.lsn (get_or after n d)))
-one_set tallies n own before after d lt count is wide have =
-    let new = page_lsn own.lsn (get_or after n d) in
+pub one_set : (tallies : List Tally) (n : ℕ) (own : Tally) (before after : List Page) (d : Page) → n < length tallies → length before ≡ length tallies
+    → ((e : Page) → length (get_or after n e).slots ≡ SLOTS) → HaveLsns tallies n before after → HaveLsns tallies (n + 1) before (set after n (page_lsn (get_or tallies n own).lsn (get_or after n d)))
+one_set tallies n own before after d lt count wide have =
+    let new = page_lsn (get_or tallies n own).lsn (get_or after n d) in
     let in_after : n < length after = omega (arith, lt, count, have.same_count) in
     record {
       same_count = length-set after n new ∙ have.same_count;
       each = λ k t page le. elim (cases_eq k n) [
         | inl e ↦
             ap (λ i. get_or (set after n new) i page) e ∙ get_or-set_same after n new page in_after
-            ∙ ap (page_lsn own.lsn) (get_or_default after n d page in_after ∙ have.others n page (omega arith))
-            ∙ ap (λ l. page_lsn l (get_or before n page)) (ap (λ (x : Tally). x.lsn) (is ∙ get_or_default tallies n own t lt))
+            ∙ ap (page_lsn (get_or tallies n own).lsn) (get_or_default after n d page in_after ∙ have.others n page (omega arith))
+            ∙ ap (λ l. page_lsn l (get_or before n page)) (ap (λ (x : Tally). x.lsn) (get_or_default tallies n own t lt))
             ∙ ap (λ i. page_lsn (get_or tallies i t).lsn (get_or before i page)) (sym e)
         | inr ne ↦ get_or-set_other after n k new page ne ∙ have.each k t page (omega (arith, le, ne))
       ];

@@ -1,13 +1,13 @@
 -- The records that are the last in the slots of the pages, slot by slot and page by page.
-use Rattle.std.proofs.Common.{◌≡◌, ◌≢◌, ℕ, ◌+◌, ◌<◌, ◌≤◌, ◌⊎◌, List, [], ◌∷◌, ◌++◌, Contains, Some, length, get_or, refl, sym, ap, ◌∙◌, subst, inl, inr, arith}
+use Rattle.std.proofs.Common.{◌≡◌, ◌≢◌, ℕ, ◌+◌, ◌<◌, ◌≤◌, ◌⊎◌, List, [], ◌∷◌, ◌++◌, Contains, Some, None, length, get_or, refl, sym, ap, ◌∙◌, subst, inl, inr, arith}
 use Rattle.std.specs.Prelude.{◌↔◌}
 use Rattle.std.specs.List.{slice_get}
 use Rattle.std.proofs.lemmas.Bool.{cases_eq}
 use Rattle.std.proofs.lemmas.List.Elements.{Contains-append_left, Contains-push, Contains-push_cases}
-use Rattle.std.proofs.lemmas.Option.{slice_get-get_or, slice_get_within, get_or_from_slice_get, same_Some}
+use Rattle.std.proofs.lemmas.Option.{slice_get-get_or, slice_get_within, get_or_from_slice_get}
 use Rattle.redo.specs.declared.tally.Tally.{Tally}
 use Rattle.redo.specs.declared.wanted.Wanted.{Wanted}
-use Rattle.redo.specs.Passing.{StandAtNumbers}
+use Rattle.redo.specs.Placed.{untouched}
 use Rattle.redo.specs.Wanted.{IsLastIn, IsWanted}
 use Rattle.page.specs.declared.profile.TheConstants.{SLOTS}
 
@@ -77,34 +77,38 @@ all_slots page lasts old slot items all before w = (
 abbrev pub HoldsPages : List Tally → (page : ℕ) → List Wanted → Type 0
 HoldsPages tallies page items = (w : Wanted) → Contains items w ↔ (IsWanted tallies w × (w.page < page))
 
-pub page_more : (tallies : List Tally) (page : ℕ) (tally : Tally) (old items : List Wanted) → StandAtNumbers tallies → slice_get tallies page ≡ Some tally
-    → ((w : Wanted) → Contains items w ↔ (Contains old w ⊎ IsLastIn tally.number tally.lasts w)) → HoldsPages tallies page old → HoldsPages tallies (page + 1) items
-page_more tallies page tally old items numbers there each before w =
-    let number : tally.number ≡ page = ap (λ (t : Tally). t.number) (sym (get_or_from_slice_get tallies page tally tally there)) ∙ numbers page tally (slice_get_within tallies page tally there) in (
-      λ has. elim ((each w).0 has) [
-        | inl older ↦ (let x = (before w).0 older in (x.0, omega (arith, x.1)))
-        | inr last ↦
-            (let at : w.page ≡ page = last.page_is ∙ number in (
-              record {
-                tally = tally;
-                there = ap (slice_get tallies) at ∙ there;
-                last = record { page_is = refl; some = last.some; small = last.small; slot_is = last.slot_is };
-              },
-              omega (arith, at),
-            ))
-      ],
-      λ x. elim (cases_eq w.page page) [
-        | inl e ↦
-            (let same : x.0.tally ≡ tally = same_Some _ _ (sym x.0.there ∙ (ap (slice_get tallies) e ∙ there)) in
-            (each w).1 (inr (record {
-              page_is = e ∙ sym number;
-              some = x.0.last.some;
-              small = x.0.last.small;
-              slot_is = subst (λ (t : Tally). slice_get t.lasts w.slot ≡ Some w.lsn) same x.0.last.slot_is;
-            })))
-        | inr ne ↦ (each w).1 (inl ((before w).1 (x.0, omega (arith, x.1, ne))))
-      ],
+abbrev blank : Tally
+blank = untouched 0 0 None
+
+pub page_more : (tallies : List Tally) (page : ℕ) (old items : List Wanted) → page < length tallies
+    → ((w : Wanted) (t : Tally) → Contains items w ↔ (Contains old w ⊎ IsLastIn page (get_or tallies page t).lasts w)) → HoldsPages tallies page old → HoldsPages tallies (page + 1) items
+page_more tallies page old items below each before w = (
+  λ has. elim ((each w blank).0 has) [
+    | inl older ↦ (let x = (before w).0 older in (x.0, omega (arith, x.1)))
+    | inr last ↦ (
+      record {
+        tally = tally;
+        there = ap (slice_get tallies) last.page_is ∙ slice_get-get_or tallies page blank below;
+        last = record { page_is = refl; some = last.some; small = last.small; slot_is = last.slot_is };
+      },
+      omega (arith, last.page_is),
     )
+  ],
+  λ x. elim (cases_eq w.page page) [
+    | inl e ↦
+        (let same : tally ≡ x.0.tally = get_or_from_slice_get tallies page x.0.tally blank (ap (slice_get tallies) (sym e) ∙ x.0.there) in
+        (each w blank).1 (inr (record {
+          page_is = e;
+          some = x.0.last.some;
+          small = x.0.last.small;
+          slot_is = subst (λ (t : Tally). slice_get t.lasts w.slot ≡ Some w.lsn) (sym same) x.0.last.slot_is;
+        })))
+    | inr ne ↦ (each w blank).1 (inl ((before w).1 (x.0, omega (arith, x.1, ne))))
+  ],
+)
+  where
+    tally : Tally
+    tally = get_or tallies page blank
 
 pub all_pages : (tallies : List Tally) (page : ℕ) (items : List Wanted) → length tallies ≤ page → HoldsPages tallies page items → (w : Wanted) → Contains items w ↔ IsWanted tallies w
 all_pages tallies page items all before w = (

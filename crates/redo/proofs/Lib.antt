@@ -16,6 +16,7 @@ pub mod Totals
 pub mod Causes
 pub mod Missing
 pub mod OnePass
+pub mod Placed
 pub mod Passing
 pub mod OneMore
 pub mod LastRecords

@@ -3,7 +3,7 @@ use Rattle.std.proofs.Common.{◌≡◌, ℕ, ◌+◌, ◌-◌, ◌<◌, List, S
 use Rattle.std.proofs.lemmas.Bool.{cases_eq}
 use Rattle.std.proofs.lemmas.Option.{same_Some}
 use Rattle.page.specs.declared.fault.Fault.{Fault}
-use Rattle.page.specs.declared.fault.Fault.TheVariants.{NoSuchPage}
+use Rattle.page.specs.declared.fault.Fault.TheVariants.{NoResource, NoSuchPage}
 use Rattle.wal.specs.declared.glance.Glance.{Glance}
 use Rattle.wal.specs.Glances.{glance_of, IsGlanceBehind}
 use Rattle.wal.specs.Records.{LogRecord, LogContent, history, record_at}
@@ -11,6 +11,7 @@ use Rattle.wal.proofs.Histories.{record_above, record_within}
 use Rattle.redo.specs.declared.tally.Tally.{Tally}
 use Rattle.redo.specs.Inputs.{InputContent}
 use Rattle.redo.specs.Changes.{NamesBelow, advance}
+use Rattle.redo.specs.Routes.{NoteFault}
 use Rattle.redo.specs.Redone.{IsLookedAt, ExistBelow, IsFirstMissing, RedoFault}
 use Rattle.redo.specs.Parts.{resolved}
 use Rattle.redo.specs.OnePass.{AreUpTo}
@@ -68,5 +69,7 @@ module _ (whole : LogContent) (count redo_lsn lsn : ℕ) (r : LogRecord) (there 
   missing_at looked beyond = record { entry = r; looked_at = looked; there = there; beyond = beyond; before = before }
 
   -- and redo returns its error
-  pub refused_at : (e : Fault) → IsLookedAt redo_lsn lsn → (NamesBelow count r → ⊥) → e ≡ NoSuchPage lsn → RedoFault whole count redo_lsn 1 e
-  refused_at e looked beyond is = subst (RedoFault whole count redo_lsn 1) (sym is) ((omega arith, omega arith), missing_at looked beyond)
+  pub refused_at : (e : Fault) → IsLookedAt redo_lsn lsn → NoteFault count lsn r e → RedoFault whole count redo_lsn 1 e
+  refused_at NoResource looked cause = tt
+  refused_at (NoSuchPage n) looked cause = ((omega arith, omega arith), subst (IsFirstMissing whole count redo_lsn) (sym cause.0) (missing_at looked cause.1))
+  refused_at e looked cause = absurd cause

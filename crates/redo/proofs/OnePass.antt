@@ -36,17 +36,17 @@ begun input tallies count each = record {
       ∙ sym (skips_none input (image_at input.images number) (skipped_in input) (omega arith) (skipped_within (base_lsn (history input.log)) input.redo_lsn (last_lsn (history input.log)) (base_within (history input.log))));
 }
 
--- one more tally: what holds for each at its number holds for it too
-pub each_more : (Q : ℕ → Tally → Type 0) (number : ℕ) (tallies : List Tally) (tally : Tally) → length tallies ≡ number
-    → ((k : ℕ) (t : Tally) → k < number → Q k (get_or tallies k t)) → Q number tally
-    → (k : ℕ) (t : Tally) → k < number + 1 → Q k (get_or (tallies ++ tally ∷ []) k t)
-each_more Q number tallies tally count each one k t lt =
+-- one more: what holds for each at its number holds for it too
+pub each_more : {A : Type 0} (Q : ℕ → A → Type 0) (number : ℕ) (xs : List A) (x : A) → length xs ≡ number
+    → ((k : ℕ) (d : A) → k < number → Q k (get_or xs k d)) → Q number x
+    → (k : ℕ) (d : A) → k < number + 1 → Q k (get_or (xs ++ x ∷ []) k d)
+each_more Q number xs x count each one k d lt =
     elim (cases_lt k number) [
-      | inl less ↦ subst (Q k) (sym (get_or_append_left tallies (tally ∷ []) t k (omega (arith, less, count)))) (each k t less)
+      | inl less ↦ subst (Q k) (sym (get_or_append_left xs (x ∷ []) d k (omega (arith, less, count)))) (each k d less)
       | inr ge ↦
-          (let at : k ≡ length tallies = omega (arith, lt, ge, count) in
-          subst (λ i. Q i (get_or (tallies ++ tally ∷ []) i t)) (sym at)
-          (subst (Q (length tallies)) (sym (get_or-append_seam tallies tally [] t)) (subst (λ i. Q i tally) (sym count) one)))
+          (let at : k ≡ length xs = omega (arith, lt, ge, count) in
+          subst (λ i. Q i (get_or (xs ++ x ∷ []) i d)) (sym at)
+          (subst (Q (length xs)) (sym (get_or-append_seam xs x [] d)) (subst (λ i. Q i x) (sym count) one)))
     ]
 
 -- ONE MORE RECORD

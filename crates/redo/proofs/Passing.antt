@@ -3,6 +3,8 @@ use Rattle.std.proofs.Common.{◌≡◌, ◌≢◌, ℕ, zero, suc, replicate, �
 use Rattle.std.proofs.lemmas.Bool.{cases_Bool, cases_eq, cases_lt, cond_both}
 use Rattle.std.proofs.lemmas.List.{get_or-set_same, get_or-set_other, length-set, set_past}
 use Rattle.std.proofs.lemmas.Option.{same_Some}
+use Rattle.page.specs.declared.fault.Fault.{Fault}
+use Rattle.page.specs.declared.fault.Fault.TheVariants.{NoResource, NoSuchPage}
 use Rattle.page.specs.declared.page.Page.{Page}
 use Rattle.tables.specs.Tables.{TablesContent}
 use Rattle.wal.specs.Records.{LogRecord, LogContent, start, history, record_at, last_lsn, base_lsn}
@@ -11,12 +13,12 @@ use Rattle.wal.proofs.Histories.{base_within, first_at_base, record_above, recor
 use Rattle.redo.specs.declared.tally.Tally.{Tally}
 use Rattle.redo.specs.Inputs.{InputContent, input_over}
 use Rattle.redo.specs.Changes.{NamesBelow, advance, counted}
-use Rattle.redo.specs.Routes.{skipped, skipped_in, ExistWithin}
+use Rattle.redo.specs.Routes.{skipped, skipped_in, ExistWithin, NoteFault}
 use Rattle.tables.specs.Pieces.{IsPieceOf}
 use Rattle.redo.specs.Redone.{ExistBelow, AllExist, IsFirstMissing}
 use Rattle.redo.specs.Parts.{redo_page_in, image_at, resolved}
 use Rattle.redo.specs.OnePass.{AreUpTo}
-use Rattle.redo.specs.Passing.{TalliesSoFar, StandAtNumbers, LastsAreWithin, AreScanned, ListEach, AreBegunIn, IsPieceFor}
+use Rattle.redo.specs.Passing.{TalliesSoFar, StandAtNumbers, LastsAreWithin, AreScanned, ListEach, AreBegunIn, IsPieceFor, PieceFault}
 use Rattle.redo.proofs.Stretches.{skipped_within, skipped_from, skipped_of_piece}
 use Rattle.redo.proofs.Replay.{skips_none}
 use Rattle.redo.proofs.Noting.{exist_on}
@@ -24,7 +26,7 @@ use Rattle.redo.proofs.OnePass.{one_more, each_more}
 use Rattle.page.specs.declared.profile.TheConstants.{SLOTS}
 
 -- A RECORD COUNTED
-counted_number : (redo_lsn lsn slot : ℕ) (t : Tally) → (counted redo_lsn lsn slot t).number ≡ t.number
+pub counted_number : (redo_lsn lsn slot : ℕ) (t : Tally) → (counted redo_lsn lsn slot t).number ≡ t.number
 counted_number redo_lsn lsn slot t = cond_both (is_redone t.rec_lsn redo_lsn t.lsn lsn) _ t (λ (x : Tally). x.number ≡ t.number) (λ _. refl) (λ _. refl)
 
 counted_few : (redo_lsn lsn slot : ℕ) (t : Tally) → (counted redo_lsn lsn slot t).applied ≤ suc t.applied
@@ -187,6 +189,12 @@ passed_more old piece lsn r lent new from lt there kept count below each before 
       subst (λ y. resolved input (get_or new k t) ≡ advance input.redo_lsn (lsn + 1) y (resolved input (get_or lent k t))) same (each input k t own.from whole less));
   exist = exist_on piece (length old.tallies) (skipped_at old piece) lsn r there (subst (λ n. NamesBelow n r) before.count below) before.exist;
 }
+
+-- why the pass ends: the record is on a page that is missing, or memory was refused
+pub piece_fault : (piece : LogContent) (count redo_lsn lsn : ℕ) (r : LogRecord) (e : Fault) → NoteFault count lsn r e → ((NamesBelow count r → ⊥) → IsFirstMissing piece count redo_lsn lsn) → PieceFault piece count redo_lsn e
+piece_fault piece count redo_lsn lsn r NoResource cause missing = tt
+piece_fault piece count redo_lsn lsn r (NoSuchPage n) cause missing = subst (IsFirstMissing piece count redo_lsn) (sym cause.0) (missing cause.1)
+piece_fault piece count redo_lsn lsn r e cause missing = absurd cause
 
 -- A PIECE AND THE WHOLE LOG
 -- if all exist before a piece and in it, all exist up to its last

@@ -14,6 +14,7 @@ use Rattle.redo.specs.declared.tally.Tally.{Tally}
 use Rattle.redo.specs.declared.note.Note.{Note}
 use Rattle.redo.specs.Changes.{RedoPage, put, changed_by, advance, advance_by, step, counted, held_after, slots_after}
 use Rattle.redo.specs.Inputs.{InputContent}
+use Rattle.redo.specs.Placed.{untouched}
 use Rattle.redo.specs.Routes.{Stands}
 use Rattle.redo.specs.Parts.{numbers_of, redo_page_in, image_at, resolved}
 use Rattle.redo.proofs.Alone.{alone_within, put_alone}
@@ -108,7 +109,7 @@ counted_alone input place_of (q ∷ qs) new n stands is =
 
 -- AT THE BEGINNING
 pub begun_page : (input : InputContent) (base number : ℕ) (rec_lsn : Option ℕ) → (image_at input.images number).number ≡ number → length (image_at input.images number).slots ≡ SLOTS → rec_lsn ≡ rec_lsn_of number input.dirty
-    → resolved input (record { number = number; lsn = (image_at input.images number).lsn; rec_lsn = rec_lsn; applied = 0; lasts = replicate SLOTS 0 }) ≡ redo_page_in input (start base) (image_at input.images number)
+    → resolved input (untouched number (image_at input.images number).lsn rec_lsn) ≡ redo_page_in input (start base) (image_at input.images number)
 begun_page input base number rec_lsn own count listed =
     let image = image_at input.images number in
     let slots : slots_after (history input.log) (replicate SLOTS 0) image.slots ≡ image.slots =

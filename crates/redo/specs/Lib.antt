@@ -7,6 +7,7 @@ pub mod Parted
 pub mod Routes
 pub mod Parts
 pub mod OnePass
+pub mod Placed
 pub mod Passing
 pub mod Wanted
 pub mod Redone

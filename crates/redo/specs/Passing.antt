@@ -1,8 +1,8 @@
 -- PASSING. The tallies of redo while a log is read in pieces: each piece is a log, and begins after the last LSN of the one before it
 -- (own).
-use Rattle.std.specs.Prelude.{◌≡◌, ℕ, ◌<◌, ◌≤◌, List, Some, length, slice_index_or, replicate, All}
+use Rattle.std.specs.Prelude.{◌≡◌, ℕ, ◌<◌, ◌≤◌, List, Some, length, slice_index_or, replicate, All, ⊤}
 use Rattle.page.specs.declared.fault.Fault.{Fault}
-use Rattle.page.specs.declared.fault.Fault.TheVariants.{NoSuchPage}
+use Rattle.page.specs.declared.fault.Fault.TheVariants.{NoResource, NoSuchPage}
 use Rattle.page.specs.declared.page.Page.{Page}
 use Rattle.page.specs.Store.{AreNumbered}
 use Rattle.page.specs.declared.profile.TheConstants.{SLOTS}
@@ -58,8 +58,10 @@ pub record IsPieceFor (input : InputContent) (redo_lsn : ℕ) (piece : LogConten
   pub from : input.redo_lsn ≡ redo_lsn
   pub piece_of : IsPieceOf (history input.log) (history piece)
 
--- the error of a piece: the record at this LSN is the first one on a page past the count, of those in the piece that redo looks at
+-- the error of a piece, memory aside: the record at this LSN is the first one on a page past the count, of those in the piece that redo
+-- looks at
 abbrev pub PieceFault : LogContent → (count redo_lsn : ℕ) → Fault → Type 0
+PieceFault piece count redo_lsn NoResource = ⊤
 PieceFault piece count redo_lsn (NoSuchPage lsn) = IsFirstMissing piece count redo_lsn lsn
 PieceFault piece count redo_lsn e = ⊥
 

@@ -12,10 +12,10 @@ ghost use Rattle.tables.specs.Pieces.{IsPieceOf};
 ghost use Rattle.redo.specs.Wanted.{IsWanted, AreAhead, ShowAllBut, ShowLsns};
 ghost use Rattle.redo.specs.declared.tally.Tally.{Tally};
 
-use crate::tally::Tally;
+use crate::tally_table::TallyTable;
 use crate::wanted::Wanted;
 use changes::Pages;
-use page::{Fault, SLOTS};
+use page::Fault;
 use wal::Log;
 
 /// Puts the images of the wanted records up to the last LSN of a piece into their slots. These
@@ -55,31 +55,24 @@ pub fn fetch_from<P: Pages>(piece: &Log, wanted: &[Wanted], pages: &mut P) -> Re
     Ok(wanted.len())
 }
 
-/// How many slots the tally of a page has. A function of its own, as `count_slots`.
-fn count_lasts(lasts: &[u64; SLOTS]) -> usize
-    ensures { length lasts.now ≡ SLOTS }
-{
-    lasts.len()
-}
-
 /// Sets the PageLSN of a page to that of its tally.
-fn set_page_lsn<P: Pages>(tally: &Tally, number: usize, pages: &mut P)
-    requires { number < P.count pages.old }
+fn set_page_lsn<P: Pages>(tallies: &TallyTable, number: usize, pages: &mut P)
+    requires page { number < P.count pages.old }
+    requires tally { number < length tallies.now }
     ensures count { P.count pages.new ≡ P.count pages.old }
-    ensures set { (stored shown : List Page) (d : Page) → P.shows pages.old stored shown
-        → P.shows pages.new stored (slice_set shown number
-        (page_lsn tally.now.lsn (slice_index_or shown number d))) }
+    ensures set { (stored shown : List Page) (d : Page) (t : Tally)
+        → P.shows pages.old stored shown → P.shows pages.new stored (slice_set shown number
+        (page_lsn (slice_index_or tallies.now number t).lsn (slice_index_or shown number d))) }
     ensures numbered { StayNumbered P.Pages pages.old pages.new }
     ensures slots { (stored shown : List Page) (d : Page) → P.shows pages.old stored shown
         → length (slice_index_or shown number d).slots ≡ SLOTS }
-    ensures lasts { length tally.now.lasts ≡ SLOTS }
+    ensures lasts { (t : Tally) → length (slice_index_or tallies.now number t).lasts ≡ SLOTS }
 {
-    let _lasts = count_lasts(&tally.lasts);
-    pages.set_lsn(number, tally.lsn);
+    pages.set_lsn(number, tallies.lsn(number));
 }
 
 /// Sets the PageLSNs of pages to those of their tallies.
-pub fn set_page_lsns<P: Pages>(tallies: &[Tally], pages: &mut P)
+pub fn set_page_lsns<P: Pages>(tallies: &TallyTable, pages: &mut P)
     requires { P.count pages.old ≡ length tallies.now }
     ensures count { P.count pages.new ≡ P.count pages.old }
     ensures set { (stored shown : List Page) → P.shows pages.old stored shown
@@ -89,6 +82,6 @@ pub fn set_page_lsns<P: Pages>(tallies: &[Tally], pages: &mut P)
         → length (slice_index_or tallies.now k t).lasts ≡ SLOTS }
 {
     for number in 0..tallies.len() {
-        set_page_lsn(&tallies[number], number, pages);
+        set_page_lsn(tallies, number, pages);
     }
 }

@@ -20,6 +20,7 @@ mod rounds;
 mod route;
 mod tally;
 mod tally_scan;
+mod tally_table;
 mod unthreaded;
 mod wanted;
 mod watch;

@@ -54,7 +54,7 @@ fn begin_in(store: &Store, number: u32, rec_lsn: Option<u64>) -> Tally
 }
 
 /// The tally of a page before a record is applied to it.
-fn begin_page(input: &RedoInput, number: u32) -> Tally
+pub(crate) fn begin_page(input: &RedoInput, number: u32) -> Tally
     ensures { resolved input.now result
         ≡ redo_page_in input.now (start (base_lsn (history input.now.log)))
         (image_at input.now.images number) }

@@ -1,8 +1,9 @@
 //! A page during redo, by LSNs only: which record is the last in each of its slots.
 
-ghost use Rattle.std.specs.Prelude.{◌≡◌, ◌+◌, ◌<◌, ◌^◌, length, replicate};
+ghost use Rattle.std.specs.Prelude.{◌≡◌, ◌+◌, ◌<◌, ◌^◌};
 ghost use Rattle.wal.specs.Redo.{is_redone};
 ghost use Rattle.redo.specs.Changes.{counted};
+ghost use Rattle.redo.specs.Placed.{untouched};
 ghost use Rattle.page.specs.declared.profile.TheConstants.{SLOTS};
 
 use page::SLOTS;
@@ -36,8 +37,7 @@ pub fn is_redone(rec_lsn: Option<u64>, redo_lsn: u64, page_lsn: u64, lsn: u64) -
 impl Tally {
     /// The tally of a page before a record is applied to it.
     pub fn begin(number: u32, lsn: u64, rec_lsn: Option<u64>) -> Tally
-        ensures { result
-            ≡ record { number = number; lsn = lsn; rec_lsn = rec_lsn; applied = 0; lasts = replicate SLOTS 0 } }
+        ensures { result ≡ untouched number lsn rec_lsn }
     {
         Tally {
             number,

@@ -3,7 +3,7 @@
 ghost use Rattle.std.specs.Prelude.{◌≡◌, ℕ, ◌-◌, ◌≤◌, ◌<◌, ◌↔◌, List, All, Contains, length, slice_index_or, min, IfOk, OnOk, IfErr, OnErr, IsOkUnless};
 ghost use Rattle.std.specs.List.{sum_by};
 ghost use Rattle.std.specs.List.Sorted.{IsNonDecreasingBy};
-ghost use Rattle.page.specs.declared.fault.Fault.TheVariants.{NoResource, NoSuchPage};
+ghost use Rattle.page.specs.declared.fault.Fault.TheVariants.{NoResource};
 ghost use Rattle.page.specs.Store.{AreNumbered};
 ghost use Rattle.wal.specs.Records.{LogRecord, LogContent, History, history, last_lsn, base_lsn};
 ghost use Rattle.wal.specs.Glances.{glance_of};
@@ -12,7 +12,7 @@ ghost use Rattle.changes.specs.Numbered.{StayNumbered};
 ghost use Rattle.redo.specs.Inputs.{InputContent, input_over};
 ghost use Rattle.redo.specs.OnePass.{AreUpTo};
 ghost use Rattle.redo.specs.Redone.{AllExist};
-ghost use Rattle.redo.specs.Routes.{IsSeen};
+ghost use Rattle.redo.specs.Routes.{IsSeen, NoteFault};
 ghost use Rattle.redo.specs.Passing.{ListEach, IsPieceFor, IsRecordFor, PieceFault};
 ghost use Rattle.redo.specs.Wanted.{IsWanted, HoldAllBut, ShowAllBut, ShowFinished};
 ghost use Rattle.redo.specs.declared.tally.Tally.{Tally};
@@ -23,10 +23,9 @@ ghost use Rattle.page.specs.declared.page.Page.{Page};
 
 use crate::fetch::set_page_lsns;
 use crate::input::skipped_below;
-use crate::one_pass::{begin_each, begin_each_listed, count_seen};
 use crate::ordered::by_lsn;
-use crate::tally::Tally;
-use crate::wanted::{Wanted, want_slots};
+use crate::tally_table::{TallyTable, begin_each, begin_each_listed, count_seen};
+use crate::wanted::Wanted;
 use changes::Pages;
 use page::Fault;
 use std::alloc::Global;
@@ -41,7 +40,7 @@ use wal::{Glance, Log};
 /// and the LSN up to which the log was read.
 #[derive(Drop)]
 pub struct TallyScan {
-    tallies: Vec<Tally>,
+    tallies: TallyTable,
     redo_lsn: u64,
     upto: u64,
 }
@@ -51,9 +50,9 @@ impl Model for TallyScan {
 
     ghost Value = { TalliesSoFar };
 
-    ghost view = { λ s. record { tallies = s.tallies.items; redo_lsn = s.redo_lsn; upto = s.upto } };
+    ghost view = { λ s. record { tallies = s.tallies; redo_lsn = s.redo_lsn; upto = s.upto } };
 
-    ghost invariant = { λ s. AreScanned s.upto s.tallies.items };
+    ghost invariant = { λ s. AreScanned s.upto s.tallies };
 }
 
 impl TallyScan {
@@ -110,11 +109,12 @@ impl TallyScan {
     }
 
     /// Counts each record of the next piece from `redo_lsn` on for its page, if the page lacks the
-    /// record. If `redo_lsn` is 0, none is counted. Takes no memory.
+    /// record. If `redo_lsn` is 0, none is counted. Takes memory for each page to which the first
+    /// record is applied.
     ///
-    /// The only error is `NoSuchPage` with the LSN of the first of these records that is on a page
-    /// which the store lacks. The records before it are counted then, so the scan cannot be
-    /// continued.
+    /// Errors: `NoSuchPage` with the LSN of the first of these records that is on a page which the
+    /// store lacks; `NoResource` if memory was refused. The records before it are counted then, so
+    /// the scan cannot be continued.
     pub fn pass(&mut self, piece: &Log) -> Result<(), Fault>
         requires { self.old.upto ≤ base_lsn (history piece.now) }
         // For each log that the piece can be of, the tallies have its records up to the piece's
@@ -144,14 +144,14 @@ impl TallyScan {
     }
 
     /// Counts the record at an LSN for its page, if it is on one and the page lacks the record. The
-    /// record is given at a glance. Takes no memory. The log is then read up to this LSN, which is
-    /// above the one up to which it was read before.
+    /// record is given at a glance. Takes memory if it is the first that is applied to its page. The
+    /// log is then read up to this LSN, which is above the one up to which it was read before.
     ///
     /// Give it the records from `redo_lsn` on, and none if `redo_lsn` is 0: any other record is not
     /// counted, but is an error if the store lacks its page.
     ///
-    /// The only error is `NoSuchPage` with this LSN: the record is on a page which the store lacks.
-    /// The scan then stays as it was.
+    /// Errors: `NoSuchPage` with this LSN if the record is on a page which the store lacks;
+    /// `NoResource` if memory was refused. The scan then stays as it was.
     #[inline(always)]
     pub fn note(&mut self, glance: Glance, lsn: u64) -> Result<(), Fault>
         requires seen { IsSeen glance }
@@ -163,9 +163,8 @@ impl TallyScan {
             → AreUpTo input (lsn - 1) self.old.tallies → AreUpTo input lsn self.new.tallies) }
         ensures exists { OnOk result ((r : LogRecord) → glance ≡ glance_of r
             → NamesBelow (length self.old.tallies) r) }
-        ensures missing { OnErr result ((r : LogRecord) → glance ≡ glance_of r
-            → ¬ NamesBelow (length self.old.tallies) r) }
-        ensures fault { IfErr result (λ e. e ≡ NoSuchPage lsn) }
+        ensures fault { IfErr result (λ e. (r : LogRecord) → glance ≡ glance_of r
+            → NoteFault (length self.old.tallies) lsn r e) }
         ensures unchanged { OnErr result (self.new ≡ self.old) }
 
         ensures count { length self.new.tallies ≡ length self.old.tallies }
@@ -196,8 +195,8 @@ impl TallyScan {
         ensures { result ≡ min u64.MAX (sum_by (λ t. t.applied) self.now.tallies) }
     {
         let mut applied: u64 = 0;
-        for tally in &self.tallies {
-            applied = applied.saturating_add(tally.applied);
+        for number in 0..self.tallies.len() {
+            applied = applied.saturating_add(self.tallies.applied(number));
         }
         applied
     }
@@ -217,8 +216,8 @@ impl TallyScan {
         ensures err { IsOkUnless result NoResource }
     {
         let mut wanted = Vec::new(alloc);
-        for tally in &self.tallies {
-            want_slots(tally.number, &tally.lasts, &mut wanted)?;
+        for number in 0..self.tallies.len() {
+            self.tallies.want(number, &mut wanted)?;
         }
         by_lsn(alloc, wanted)
     }

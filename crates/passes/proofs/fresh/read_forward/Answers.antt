@@ -38,9 +38,9 @@ loop-init g c =
           ));
       tallied = λ stored shown shows numbered text is.
           let own = c.in_ok-first.ensures.mark text is in
-          subst (λ (ms : List Mark). TalliedSoFar text shown ms c.in_ok-scan.scan.missing c.in_ok-scan.scan.tallies) (sym marks)
+          subst (λ (ms : List Mark). TalliedSoFar text shown ms c.in_ok-scan.scan.fault c.in_ok-scan.scan.tallies) (sym marks)
           (λ whole torn d reads.
-          subst (λ n. TalliedOrRefused whole shown n c.in_ok-scan.scan.missing c.in_ok-scan.scan.tallies) (ap (λ (m : Mark). m.lsn) at)
+          subst (λ n. TalliedOrRefused whole shown n c.in_ok-scan.scan.fault c.in_ok-scan.scan.tallies) (ap (λ (m : Mark). m.lsn) at)
           (c.in_ok-scan.ensures.tallied stored shown shows numbered whole (starts_at text whole own.0 torn first reads own.1 own.2 ∙ sym (ap (λ (m : Mark). m.lsn) at))));
       upto = λ d. omega (arith, c.in_ok-scan.ensures.upto, ap (λ (m : Mark). m.lsn) at, ap (λ (ms : List Mark). (get_or ms (length ms - 1) d).lsn) marks);
       count = c.in_ok-scan.ensures.count;
@@ -76,16 +76,16 @@ ended g c text whole torn is reads =
 -- what redo has found then
 tallied : (g : Over) (c : goal.In_ok-tables g) (stored shown : List Page) → g.P.Pages.shows c.args.pages.now stored shown → AreNumbered shown
     → (text : List ℕ) (whole : LogContent) (torn : ℕ) → g.S.Reread.text c.args.source.now ≡ Some text → Reads text whole torn
-    → TalliedOrRefused whole shown (last_lsn (history whole)) c.take_piece.new.scan.missing c.take_piece.new.scan.tallies
+    → TalliedOrRefused whole shown (last_lsn (history whole)) c.take_piece.new.scan.fault c.take_piece.new.scan.tallies
 tallied g c stored shown shows numbered text whole torn is reads =
     let inv = c.loop.invariant in
     let mark = c.end-mark.result in
     let still = still_told (g.S.Reread.text c.args.source.now) (g.S.Reread.text c.loop.source) text inv.same is in
     let so_far = inv.analysed text is mark in
     let own : IsMark text so_far.0 mark = subst (IsMark text so_far.0) (sym (c.end-mark.ensures.end mark)) so_far.1 in
-    subst (λ n. TalliedOrRefused whole shown n c.take_piece.new.scan.missing c.take_piece.new.scan.tallies) (ended g c text whole torn is reads).1
+    subst (λ n. TalliedOrRefused whole shown n c.take_piece.new.scan.fault c.take_piece.new.scan.tallies) (ended g c text whole torn is reads).1
     (c.in_ok-next.ensures.tallied text whole so_far.0 torn shown still reads own
-    (subst (λ n. TalliedOrRefused whole shown n c.loop.scan.missing c.loop.scan.tallies) (sym (ap (λ (m : Mark). m.lsn) (c.end-mark.ensures.end mark))) (inv.tallied stored shown shows numbered text is whole torn mark reads)))
+    (subst (λ n. TalliedOrRefused whole shown n c.loop.scan.fault c.loop.scan.tallies) (sym (ap (λ (m : Mark). m.lsn) (c.end-mark.ensures.end mark))) (inv.tallied stored shown shows numbered text is whole torn mark reads)))
 
 -- the log's base LSN
 based : (g : Over) (c : goal.In_ok-tables g) (text : List ℕ) (whole : LogContent) (torn : ℕ) → g.S.Reread.text c.args.source.now ≡ Some text → Reads text whole torn → base_lsn (history whole) ≡ c.first-base.result.lsn
@@ -116,18 +116,18 @@ returns-then-next-mark-clause-no_transaction_0 g c = c.in_ok-tables.ensures.no_t
 pub returns-then-next-mark-clause-tallied : goal.returns-then-next-mark-clause-tallied
 returns-then-next-mark-clause-tallied g c = λ stored shown shows numbered text whole torn is reads.
     let scan = c.take_piece.new.scan in
-    tallied_if_ok whole shown (last_lsn (history whole)) scan.missing scan.tallies (tallied g c stored shown shows numbered text whole torn is reads) c.in_ok-tables.tallies c.in_ok-tables.ensures.tallies
+    tallied_if_ok whole shown (last_lsn (history whole)) scan.fault scan.tallies (tallied g c stored shown shows numbered text whole torn is reads) c.in_ok-tables.tallies c.in_ok-tables.ensures.tallies
 
 pub returns-then-next-mark-clause-count : goal.returns-then-next-mark-clause-count
 returns-then-next-mark-clause-count g c =
     let scan = c.take_piece.new.scan in
-    count_if_ok scan.missing scan.tallies (g.P.Pages.count c.args.pages.now) (c.in_ok-next.ensures.count ∙ c.loop.invariant.count) c.in_ok-tables.tallies c.in_ok-tables.ensures.tallies
+    count_if_ok scan.fault scan.tallies (g.P.Pages.count c.args.pages.now) (c.in_ok-next.ensures.count ∙ c.loop.invariant.count) c.in_ok-tables.tallies c.in_ok-tables.ensures.tallies
 
-pub returns-then-next-mark-clause-missing : goal.returns-then-next-mark-clause-missing
-returns-then-next-mark-clause-missing g c = λ stored shown shows numbered text whole torn is reads.
+pub returns-then-next-mark-clause-refused : goal.returns-then-next-mark-clause-refused
+returns-then-next-mark-clause-refused g c = λ stored shown shows numbered text whole torn is reads.
     let scan = c.take_piece.new.scan in
-    refused_if_err whole shown (last_lsn (history whole)) scan.missing scan.tallies (tallied g c stored shown shows numbered text whole torn is reads) c.in_ok-tables.tables
-    (c.in_ok-tables.ensures.tables whole (based g c text whole torn is reads) (ended g c text whole torn is reads).0) c.in_ok-tables.tallies c.in_ok-tables.ensures.missing
+    refused_if_err whole shown (last_lsn (history whole)) scan.fault scan.tallies (tallied g c stored shown shows numbered text whole torn is reads) c.in_ok-tables.tables
+    (c.in_ok-tables.ensures.tables whole (based g c text whole torn is reads) (ended g c text whole torn is reads).0) c.in_ok-tables.tallies c.in_ok-tables.ensures.refused
 
 pub loop-preserved : goal.loop-preserved
 loop-preserved g c =
@@ -159,11 +159,11 @@ loop-preserved g c =
           let still = still_told (g.S.Reread.text c.args.source.now) (g.S.Reread.text c.loop.source) text inv.same is in
           let so_far = inv.analysed text is mark in
           let own : IsMark text so_far.0 mark = subst (IsMark text so_far.0) (sym (c.end-mark.ensures.end mark)) so_far.1 in
-          subst (λ (ms : List Mark). TalliedSoFar text shown ms scan.missing scan.tallies) (sym c.in_ok-push.ensures.pushed)
+          subst (λ (ms : List Mark). TalliedSoFar text shown ms scan.fault scan.tallies) (sym c.in_ok-push.ensures.pushed)
           (λ whole torn d reads.
-          subst (λ n. TalliedOrRefused whole shown n scan.missing scan.tallies) (sym (ap (λ (m : Mark). m.lsn) (last_pushed marks next d)))
+          subst (λ n. TalliedOrRefused whole shown n scan.fault scan.tallies) (sym (ap (λ (m : Mark). m.lsn) (last_pushed marks next d)))
           (c.in_ok-next.ensures.tallied text whole so_far.0 torn shown still reads own
-          (subst (λ n. TalliedOrRefused whole shown n c.loop.scan.missing c.loop.scan.tallies) (sym (ap (λ (m : Mark). m.lsn) (c.end-mark.ensures.end mark))) (inv.tallied stored shown shows numbered text is whole torn mark reads))));
+          (subst (λ n. TalliedOrRefused whole shown n c.loop.scan.fault c.loop.scan.tallies) (sym (ap (λ (m : Mark). m.lsn) (c.end-mark.ensures.end mark))) (inv.tallied stored shown shows numbered text is whole torn mark reads))));
       upto = λ d. omega (arith, c.in_ok-next.ensures.upto, ap (λ (m : Mark). m.lsn) (last_pushed marks next d), ap (λ (ms : List Mark). (get_or ms (length ms - 1) d).lsn) c.in_ok-push.ensures.pushed);
       count = c.in_ok-next.ensures.count ∙ inv.count;
       no_transaction_0 = c.in_ok-next.ensures.no_transaction_0 inv.no_transaction_0;

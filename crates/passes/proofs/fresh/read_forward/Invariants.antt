@@ -17,7 +17,7 @@ invariant-loop g l =
       found : (text : List ℕ) → g.S.Reread.text l.fn.source ≡ Some text → AreFoundSoFar text (length l.fn.room) l.marks;
       analysed : (text : List ℕ) → g.S.Reread.text l.fn.source ≡ Some text → AnalysedSoFar text l.marks l.scan.tables;
       tallied : (stored shown : List Page) → g.P.Pages.shows l.pages stored shown → AreNumbered shown
-          → (text : List ℕ) → g.S.Reread.text l.fn.source ≡ Some text → TalliedSoFar text shown l.marks l.scan.missing l.scan.tallies;
+          → (text : List ℕ) → g.S.Reread.text l.fn.source ≡ Some text → TalliedSoFar text shown l.marks l.scan.fault l.scan.tallies;
       upto : (d : Mark) → l.scan.tallies.upto ≤ (get_or l.marks (length l.marks - 1) d).lsn;
       count : length l.scan.tallies.tallies ≡ g.P.Pages.count l.pages;
       no_transaction_0 : entry_at 0 l.scan.tables.entries ≡ None;

@@ -10,8 +10,8 @@ abbrev pub invariant-loop-lsn : goal.invariant-loop-lsn
 invariant-loop-lsn l =
     record {
       noted : HasNoted 0 l.piece l.lsn l.fn.scan.tables l.scan.tables;
-      tallied : (whole : LogContent) (images : List Page) → IsPieceOf (history whole) (history l.piece) → TalliedOrRefused whole images (base_lsn (history l.piece)) l.fn.scan.missing l.fn.scan.tallies
-          → TalliedOrRefused whole images l.lsn l.scan.missing l.scan.tallies;
+      tallied : (whole : LogContent) (images : List Page) → IsPieceOf (history whole) (history l.piece) → TalliedOrRefused whole images (base_lsn (history l.piece)) l.fn.scan.fault l.fn.scan.tallies
+          → TalliedOrRefused whole images l.lsn l.scan.fault l.scan.tallies;
       upto : l.scan.tallies.upto ≤ l.lsn;
       count : length l.scan.tallies.tallies ≡ length l.fn.scan.tallies.tallies;
     }

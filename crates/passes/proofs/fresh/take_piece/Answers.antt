@@ -18,6 +18,6 @@ pub returns-clause-tallied : goal.returns-clause-tallied
 returns-clause-tallied g c = λ text whole before torn images is reads mark tallied.
     let scan = c.scan_piece.new.scan in
     let next = c.in_ok-piece.ensures.next text before is mark in
-    subst (λ n. TalliedOrRefused whole images n scan.missing scan.tallies) c.in_ok-piece.ensures.last
+    subst (λ n. TalliedOrRefused whole images n scan.fault scan.tallies) c.in_ok-piece.ensures.last
     (c.in_ok-scan_piece.ensures.tallied whole images (next.is_piece whole torn reads)
-    (subst (λ n. TalliedOrRefused whole images n c.args.scan.now.missing c.args.scan.now.tallies) (sym c.in_ok-piece.ensures.base) tallied))
+    (subst (λ n. TalliedOrRefused whole images n c.args.scan.now.fault c.args.scan.now.tallies) (sym c.in_ok-piece.ensures.base) tallied))

@@ -50,7 +50,7 @@ returns-in_err-tallies-clause-lawful g c =
     (λ text whole torn base is reads before stored master numbered shows lawful.
     let tables = c.in_ok-read.read.tables in
     redo_alone_in_pieces whole before base lawful tables.redo_lsn (fault.Fault e)
-    (IfErr-at_err (RedoFault whole (length before.pages) tables.redo_lsn 1) c.in_err-tallies.was (c.in_ok-read.ensures.missing stored before.pages shows numbered text whole torn is reads)))
+    (IfErr-at_err (RedoFault whole (length before.pages) tables.redo_lsn 1) c.in_err-tallies.was (c.in_ok-read.ensures.refused stored before.pages shows numbered text whole torn is reads)))
 
 pub returns-in_err-tallies-clause-fault : goal.returns-in_err-tallies-clause-fault
 returns-in_err-tallies-clause-fault g c =
@@ -66,7 +66,7 @@ returns-in_err-tallies-clause-fault g c =
     let are : AreTablesOf whole before.master tables = subst (λ m. AreTablesOf whole m tables) (sym master) (c.in_ok-read.ensures.tables text whole c.in_ok-read.read.torn is found.reads) in
     in_pieces_fault text whole c.in_ok-read.read.torn before found.reads (fault.Fault e)
     (redo_fault_in_pieces whole before none tables are (fault.Fault e)
-    (IfErr-at_err (RedoFault whole (length before.pages) tables.redo_lsn 1) c.in_err-tallies.was (c.in_ok-read.ensures.missing stored before.pages shows numbered text whole c.in_ok-read.read.torn is found.reads))))
+    (IfErr-at_err (RedoFault whole (length before.pages) tables.redo_lsn 1) c.in_err-tallies.was (c.in_ok-read.ensures.refused stored before.pages shows numbered text whole c.in_ok-read.read.torn is found.reads))))
 
 pub returns-in_err-applied-clause-lawful : goal.returns-in_err-applied-clause-lawful
 returns-in_err-applied-clause-lawful g c =

@@ -3,7 +3,7 @@ use Rattle.std.proofs.lemmas.Result.{err_from_is_err_and}
 use Rattle.page.specs.File.{store_text}
 use Rattle.page.specs.declared.fault.Fault.TheVariants.{ReadLog}
 use Rattle.passes.proofs.Reached.{still_told}
-use Rattle.recovery.specs.Recovery.{log_of}
+use Rattle.recovery.specs.ByPieces.{continued_log}
 use Rattle.recovery.specs.InPlace.{Prepares, HoldsCut}
 use Rattle.recovery.proofs.Decoded.{both_read}
 use Rattle.recovery.proofs.Delivered.{told, told_lawful, cut_lawful}
@@ -17,7 +17,7 @@ returns-in_err-made-clause-lawful g c = λ base log_text store_bytes is tells_st
     let (text, read, decodes) = both_read {log_left = Some log_text} {log = log_text} c.in_ok-decoded.decoded refl c.in_ok-decoded.was c.read_store_first.ensures.read in
     let still = ap g.LR.Reread.text c.in_ok-decoded.ensures.log_unread ∙ is in
     rw (exit.1, exit.2)
-    (of_log c.in_err-made.field-0.0 (c.in_err-made.ensures.lawful base log_text text still decodes (told_lawful log_text text log_text store_bytes read refl tells_store bytes)))
+    (of_log c.in_err-made.field-0.0 (c.in_err-made.ensures.lawful base log_text text (told_lawful log_text text log_text store_bytes read refl tells_store bytes) still decodes))
 
 pub returns-in_err-made-clause-interrupted : goal.returns-in_err-made-clause-interrupted
 returns-in_err-made-clause-interrupted g c = λ base log_text store_bytes is tells_store holds range bytes.
@@ -25,7 +25,7 @@ returns-in_err-made-clause-interrupted g c = λ base log_text store_bytes is tel
     let (text, read, decodes) = both_read {log_left = Some log_text} {log = log_text} c.in_ok-decoded.decoded refl c.in_ok-decoded.was c.read_store_first.ensures.read in
     let still = ap g.LR.Reread.text c.in_ok-decoded.ensures.log_unread ∙ is in
     rw (exit.1, exit.2)
-    (of_log c.in_err-made.field-0.0 (c.in_err-made.ensures.lawful base log_text text still decodes (told_lawful log_text text log_text store_bytes read refl tells_store (cut_lawful bytes))))
+    (of_log c.in_err-made.field-0.0 (c.in_err-made.ensures.lawful base log_text text (told_lawful log_text text log_text store_bytes read refl tells_store (cut_lawful bytes)) still decodes))
 
 pub returns-in_err-made-clause-cause : goal.returns-in_err-made-clause-cause
 returns-in_err-made-clause-cause g c =
@@ -78,17 +78,17 @@ returns-in_err-write_in_place-clause-resumable g c = λ base log_text store_byte
     let measured = c.in_ok-made.ensures.measured log_text still in
     let recovers = c.in_ok-made.ensures.answer log_text text still decodes in
     let left = g.SR.Source.left c.args.store.now in
-    let kept = length log_text - x.remade.report.torn in
-    let made : Prepares (Some log_text) left = prepares left log_text text x read measured recovers in
+    let kept = length log_text - x.log.report.torn in
+    let made : Prepares (Some log_text) left = prepares left log_text text x.log (store_text x.store) read measured recovers in
     let file = c.file-file.result in
     let count = c.file-file.ensures.kept ∙ measured.kept_is in
     let frames_are = c.file-file.ensures.frames in
-    let stays = stays_as g.LW.Sink c.args.out_log.now c.write_in_place.new.log g.SW.Sink c.args.out_store.now c.write_in_place.new.store file.kept kept file.frames.now x.remade.frames.items (store_text x.remade.store) c.in_err-write_in_place.field-0.0 count frames_are c.in_err-write_in_place.ensures.fault in
+    let stays = stays_as g.LW.Sink c.args.out_log.now c.write_in_place.new.log g.SW.Sink c.args.out_store.now c.write_in_place.new.store file.kept kept file.frames.now x.log.frames.items (store_text x.store) c.in_err-write_in_place.field-0.0 count frames_are c.in_err-write_in_place.ensures.fault in
     let same_store = told left text store_bytes read.store_read tells_store in
     let lawful_bytes = told_lawful log_text text log_text store_bytes read refl tells_store bytes in
-    let recovered = c.in_ok-made.ensures.lawful base log_text text still decodes lawful_bytes in
+    let recovered = c.in_ok-made.ensures.lawful base log_text text lawful_bytes still decodes in
     let after = g.LW.Sink.taken c.write_in_place.new.log in
-    let cut = stays_cut lawful_bytes kept x.remade.frames.items (store_text x.remade.store) x.remade.report made.recovers refl recovered.reads g.LW.Sink c.args.out_log.now c.write_in_place.new.log g.SW.Sink c.args.out_store.now c.write_in_place.new.store c.in_err-write_in_place.field-0.0
+    let cut = stays_cut lawful_bytes kept x.log.frames.items (store_text x.store) x.log.report made.recovers refl recovered.reads g.LW.Sink c.args.out_log.now c.write_in_place.new.log g.SW.Sink c.args.out_store.now c.write_in_place.new.store c.in_err-write_in_place.field-0.0
     holds stays in
     on_err c.from_residual-in_err-write_in_place.result
     (subst (λ (s : List ℕ). HoldsCut base bytes.decoded.read bytes.decoded.before log_text s after) same_store cut)
@@ -104,12 +104,12 @@ returns-in_err-write_in_place-clause-left g c =
     let measured = c.in_ok-made.ensures.measured log_text still in
     let recovers = c.in_ok-made.ensures.answer log_text text still decodes in
     let left = g.SR.Source.left c.args.store.now in
-    let kept = length log_text - x.remade.report.torn in
-    let made : Prepares (Some log_text) left = prepares left log_text text x read measured recovers in
+    let kept = length log_text - x.log.report.torn in
+    let made : Prepares (Some log_text) left = prepares left log_text text x.log (store_text x.store) read measured recovers in
     let file = c.file-file.result in
     let count = c.file-file.ensures.kept ∙ measured.kept_is in
     let frames_are = c.file-file.ensures.frames in
-    let stays = stays_as g.LW.Sink c.args.out_log.now c.write_in_place.new.log g.SW.Sink c.args.out_store.now c.write_in_place.new.store file.kept kept file.frames.now x.remade.frames.items (store_text x.remade.store) c.in_err-write_in_place.field-0.0 count frames_are c.in_err-write_in_place.ensures.fault in
+    let stays = stays_as g.LW.Sink c.args.out_log.now c.write_in_place.new.log g.SW.Sink c.args.out_store.now c.write_in_place.new.store file.kept kept file.frames.now x.log.frames.items (store_text x.store) c.in_err-write_in_place.field-0.0 count frames_are c.in_err-write_in_place.ensures.fault in
     left_in g.LW.Sink c.args.out_log.now c.write_in_place.new.log g.SW.Sink c.args.out_store.now c.write_in_place.new.store made c.in_err-write_in_place.field-0.0 stays)
 
 pub returns-in_err-write_in_place-clause-tail_first : goal.returns-in_err-write_in_place-clause-tail_first
@@ -120,14 +120,14 @@ returns-in_err-write_in_place-clause-tail_first g c = λ log_text is.
     let measured = c.in_ok-made.ensures.measured log_text still in
     let recovers = c.in_ok-made.ensures.answer log_text text still decodes in
     let left = g.SR.Source.left c.args.store.now in
-    let kept = length log_text - x.remade.report.torn in
-    let made : Prepares (Some log_text) left = prepares left log_text text x read measured recovers in
+    let kept = length log_text - x.log.report.torn in
+    let made : Prepares (Some log_text) left = prepares left log_text text x.log (store_text x.store) read measured recovers in
     let file = c.file-file.result in
     let count = c.file-file.ensures.kept ∙ measured.kept_is in
     let frames_are = c.file-file.ensures.frames in
     let later = still_told (g.LR.Reread.text c.read_store_first.new.log) (g.LR.Reread.text c.make_by_pieces.new.log) log_text c.in_ok-made.ensures.same still in
     let end_is = c.file-file.ensures.end ∙ c.in_ok-end.ensures.sum log_text later (omega (arith, measured.kept_is)) in
-    let tail = tail_made left log_text text x read measured recovers file.length file.kept file.end file.frames.now c.file-file.ensures.length c.file-file.ensures.kept end_is c.file-file.ensures.frames in
+    let tail = tail_made left log_text text x.log (store_text x.store) read measured recovers file.length file.kept file.end file.frames.now c.file-file.ensures.length c.file-file.ensures.kept end_is c.file-file.ensures.frames in
     elim c.write_in_place.ensures.tail_first [
       | inl same ↦ inl same
       | inr out ↦ inr (made, has_tail made g.T.Sink c.args.tail.now c.write_in_place.new.tail _ tail out)
@@ -141,8 +141,8 @@ returns-in_err-write_in_place-clause-log_first g c = λ log_text is.
     let measured = c.in_ok-made.ensures.measured log_text still in
     let recovers = c.in_ok-made.ensures.answer log_text text still decodes in
     let left = g.SR.Source.left c.args.store.now in
-    let kept = length log_text - x.remade.report.torn in
-    let made : Prepares (Some log_text) left = prepares left log_text text x read measured recovers in
+    let kept = length log_text - x.log.report.torn in
+    let made : Prepares (Some log_text) left = prepares left log_text text x.log (store_text x.store) read measured recovers in
     let file = c.file-file.result in
     let count = c.file-file.ensures.kept ∙ measured.kept_is in
     let frames_are = c.file-file.ensures.frames in
@@ -159,14 +159,14 @@ returns-clause-tail_first g c = λ log_text is.
     let measured = c.in_ok-made.ensures.measured log_text still in
     let recovers = c.in_ok-made.ensures.answer log_text text still decodes in
     let left = g.SR.Source.left c.args.store.now in
-    let kept = length log_text - x.remade.report.torn in
-    let made : Prepares (Some log_text) left = prepares left log_text text x read measured recovers in
+    let kept = length log_text - x.log.report.torn in
+    let made : Prepares (Some log_text) left = prepares left log_text text x.log (store_text x.store) read measured recovers in
     let file = c.file-file.result in
     let count = c.file-file.ensures.kept ∙ measured.kept_is in
     let frames_are = c.file-file.ensures.frames in
     let later = still_told (g.LR.Reread.text c.read_store_first.new.log) (g.LR.Reread.text c.make_by_pieces.new.log) log_text c.in_ok-made.ensures.same still in
     let end_is = c.file-file.ensures.end ∙ c.in_ok-end.ensures.sum log_text later (omega (arith, measured.kept_is)) in
-    let tail = tail_made left log_text text x read measured recovers file.length file.kept file.end file.frames.now c.file-file.ensures.length c.file-file.ensures.kept end_is c.file-file.ensures.frames in
+    let tail = tail_made left log_text text x.log (store_text x.store) read measured recovers file.length file.kept file.end file.frames.now c.file-file.ensures.length c.file-file.ensures.kept end_is c.file-file.ensures.frames in
     elim c.write_in_place.ensures.tail_first [
       | inl same ↦ inl same
       | inr out ↦ inr (made, has_tail made g.T.Sink c.args.tail.now c.write_in_place.new.tail _ tail out)
@@ -180,8 +180,8 @@ returns-clause-log_first g c = λ log_text is.
     let measured = c.in_ok-made.ensures.measured log_text still in
     let recovers = c.in_ok-made.ensures.answer log_text text still decodes in
     let left = g.SR.Source.left c.args.store.now in
-    let kept = length log_text - x.remade.report.torn in
-    let made : Prepares (Some log_text) left = prepares left log_text text x read measured recovers in
+    let kept = length log_text - x.log.report.torn in
+    let made : Prepares (Some log_text) left = prepares left log_text text x.log (store_text x.store) read measured recovers in
     let file = c.file-file.result in
     let count = c.file-file.ensures.kept ∙ measured.kept_is in
     let frames_are = c.file-file.ensures.frames in
@@ -199,7 +199,7 @@ returns-in_err-write_in_place-clause-log_source g c =
     let last = c.in_ok-end.ensures.cause.innocent (ok_is_no_fault c.in_ok-end.end ReadLog) in
     let file = c.file-file.result in
     other_failed c.from_residual-in_err-write_in_place.result _ _ _
-    (stays_other c.from_residual-in_err-write_in_place.result g.LW.Sink c.args.out_log.now c.write_in_place.new.log g.SW.Sink c.args.out_store.now c.write_in_place.new.store file.kept file.frames.now (store_text c.in_ok-made.made.remade.store) c.in_err-write_in_place.field-0.0
+    (stays_other c.from_residual-in_err-write_in_place.result g.LW.Sink c.args.out_log.now c.write_in_place.new.log g.SW.Sink c.args.out_store.now c.write_in_place.new.store file.kept file.frames.now (store_text c.in_ok-made.made.store) c.in_err-write_in_place.field-0.0
     (rw (exit.1, exit.2) refl) c.in_err-write_in_place.ensures.fault) first (last ∙ then)
 
 pub returns-clause-log_source : goal.returns-clause-log_source
@@ -218,17 +218,17 @@ returns-clause-lawful g c = λ base log_text store_bytes is tells_store holds ra
     let measured = c.in_ok-made.ensures.measured log_text still in
     let recovers = c.in_ok-made.ensures.answer log_text text still decodes in
     let left = g.SR.Source.left c.args.store.now in
-    let kept = length log_text - x.remade.report.torn in
-    let made : Prepares (Some log_text) left = prepares left log_text text x read measured recovers in
+    let kept = length log_text - x.log.report.torn in
+    let made : Prepares (Some log_text) left = prepares left log_text text x.log (store_text x.store) read measured recovers in
     let file = c.file-file.result in
     let count = c.file-file.ensures.kept ∙ measured.kept_is in
     let frames_are = c.file-file.ensures.frames in
     let done = continued_as _ _ _ _ _ _ _ count frames_are c.in_ok-write_in_place.ensures.log_done in
     record {
-      new_log = log_of log_text x.remade;
-      new_store = store_text x.remade.store;
-      recovered = c.in_ok-made.ensures.lawful base log_text text still decodes (told_lawful log_text text log_text store_bytes read refl tells_store bytes);
-      log_is = holds_more kept x.remade.frames.items log_text _ _ holds done.continued;
+      new_log = continued_log log_text x.log;
+      new_store = store_text x.store;
+      recovered = c.in_ok-made.ensures.lawful base log_text text (told_lawful log_text text log_text store_bytes read refl tells_store bytes) still decodes;
+      log_is = holds_more kept x.log.frames.items log_text _ _ holds done.continued;
       store_out = c.in_ok-write_in_place.ensures.store_out.out;
     }
 
@@ -244,8 +244,8 @@ returns-clause-answer g c = λ log_text is.
     let measured = c.in_ok-made.ensures.measured log_text still in
     let recovers = c.in_ok-made.ensures.answer log_text text still decodes in
     let left = g.SR.Source.left c.args.store.now in
-    let kept = length log_text - x.remade.report.torn in
-    let made : Prepares (Some log_text) left = prepares left log_text text x read measured recovers in
+    let kept = length log_text - x.log.report.torn in
+    let made : Prepares (Some log_text) left = prepares left log_text text x.log (store_text x.store) read measured recovers in
     let file = c.file-file.result in
     let count = c.file-file.ensures.kept ∙ measured.kept_is in
     let frames_are = c.file-file.ensures.frames in

@@ -16,7 +16,7 @@ returns-in_err-made-clause-lawful g c = λ base log_text store_bytes is tells_st
     let (text, read, decodes) = both_read {log_left = Some log_text} {log = log_text} c.in_ok-decoded.decoded refl c.in_ok-decoded.was c.read_store_first.ensures.read in
     let still = ap g.LR.Reread.text c.in_ok-decoded.ensures.log_unread ∙ is in
     rw (exit.1, exit.2)
-    (of_log c.in_err-made.field-0.0 (c.in_err-made.ensures.lawful base log_text text still decodes (told_lawful log_text text log_text store_bytes read refl tells_store bytes)))
+    (of_log c.in_err-made.field-0.0 (c.in_err-made.ensures.lawful base log_text text (told_lawful log_text text log_text store_bytes read refl tells_store bytes) still decodes))
 
 pub returns-in_err-made-clause-interrupted : goal.returns-in_err-made-clause-interrupted
 returns-in_err-made-clause-interrupted g c = λ base log_text store_bytes is tells_store range bytes.
@@ -24,7 +24,7 @@ returns-in_err-made-clause-interrupted g c = λ base log_text store_bytes is tel
     let (text, read, decodes) = both_read {log_left = Some log_text} {log = log_text} c.in_ok-decoded.decoded refl c.in_ok-decoded.was c.read_store_first.ensures.read in
     let still = ap g.LR.Reread.text c.in_ok-decoded.ensures.log_unread ∙ is in
     rw (exit.1, exit.2)
-    (of_log c.in_err-made.field-0.0 (c.in_err-made.ensures.lawful base log_text text still decodes (told_lawful log_text text log_text store_bytes read refl tells_store (cut_lawful bytes))))
+    (of_log c.in_err-made.field-0.0 (c.in_err-made.ensures.lawful base log_text text (told_lawful log_text text log_text store_bytes read refl tells_store (cut_lawful bytes)) still decodes))
 
 pub returns-in_err-made-clause-cause : goal.returns-in_err-made-clause-cause
 returns-in_err-made-clause-cause g c =
@@ -52,9 +52,9 @@ returns-in_err-write_copied-clause-lawful g c = λ base log_text store_bytes is 
     let x = c.in_ok-made.made in
     let measured = c.in_ok-made.ensures.measured log_text still in
     let later = still_told (g.LR.Reread.text c.read_store_first.new.log) (g.LR.Reread.text c.make_by_pieces.new.log) log_text c.in_ok-made.ensures.same still in
-    let within : x.kept ≤ length log_text = omega (arith, measured.kept_is) in
+    let within : x.log.kept ≤ length log_text = omega (arith, measured.kept_is) in
     let leaves = c.in_err-write_copied.ensures.fault log_text later within in
-    rw (exit.1, exit.2) (copied_resource g.LW.Sink c.args.out_log.now c.write_copied.new.out_log g.SW.Sink c.args.out_store.now c.write_copied.new.out_store (take x.kept log_text ++ x.remade.frames.items) (store_text x.remade.store) c.in_err-write_copied.field-0.0 leaves)
+    rw (exit.1, exit.2) (copied_resource g.LW.Sink c.args.out_log.now c.write_copied.new.to g.SW.Sink c.args.out_store.now c.write_copied.new.out (take x.log.kept log_text ++ x.log.frames.items) (store_text x.store) c.in_err-write_copied.field-0.0 leaves)
 
 pub returns-in_err-write_copied-clause-interrupted : goal.returns-in_err-write_copied-clause-interrupted
 returns-in_err-write_copied-clause-interrupted g c = λ base log_text store_bytes is tells_store range bytes.
@@ -63,9 +63,9 @@ returns-in_err-write_copied-clause-interrupted g c = λ base log_text store_byte
     let x = c.in_ok-made.made in
     let measured = c.in_ok-made.ensures.measured log_text still in
     let later = still_told (g.LR.Reread.text c.read_store_first.new.log) (g.LR.Reread.text c.make_by_pieces.new.log) log_text c.in_ok-made.ensures.same still in
-    let within : x.kept ≤ length log_text = omega (arith, measured.kept_is) in
+    let within : x.log.kept ≤ length log_text = omega (arith, measured.kept_is) in
     let leaves = c.in_err-write_copied.ensures.fault log_text later within in
-    rw (exit.1, exit.2) (copied_resource g.LW.Sink c.args.out_log.now c.write_copied.new.out_log g.SW.Sink c.args.out_store.now c.write_copied.new.out_store (take x.kept log_text ++ x.remade.frames.items) (store_text x.remade.store) c.in_err-write_copied.field-0.0 leaves)
+    rw (exit.1, exit.2) (copied_resource g.LW.Sink c.args.out_log.now c.write_copied.new.to g.SW.Sink c.args.out_store.now c.write_copied.new.out (take x.log.kept log_text ++ x.log.frames.items) (store_text x.store) c.in_err-write_copied.field-0.0 leaves)
 
 pub returns-in_err-write_copied-clause-cause : goal.returns-in_err-write_copied-clause-cause
 returns-in_err-write_copied-clause-cause g c =
@@ -76,9 +76,9 @@ returns-in_err-write_copied-clause-cause g c =
     let x = c.in_ok-made.made in
     let measured = c.in_ok-made.ensures.measured log_text still in
     let later = still_told (g.LR.Reread.text c.read_store_first.new.log) (g.LR.Reread.text c.make_by_pieces.new.log) log_text c.in_ok-made.ensures.same still in
-    let within : x.kept ≤ length log_text = omega (arith, measured.kept_is) in
+    let within : x.log.kept ≤ length log_text = omega (arith, measured.kept_is) in
     let leaves = c.in_err-write_copied.ensures.fault log_text later within in
-    copied_cause g.LW.Sink c.args.out_log.now c.write_copied.new.out_log g.SW.Sink c.args.out_store.now c.write_copied.new.out_store (take x.kept log_text ++ x.remade.frames.items) (store_text x.remade.store) (Some log_text) (g.SR.Source.left c.args.store.now) c.args.options.now c.in_err-write_copied.field-0.0 leaves)
+    copied_cause g.LW.Sink c.args.out_log.now c.write_copied.new.to g.SW.Sink c.args.out_store.now c.write_copied.new.out (take x.log.kept log_text ++ x.log.frames.items) (store_text x.store) (Some log_text) (g.SR.Source.left c.args.store.now) c.args.options.now c.in_err-write_copied.field-0.0 leaves)
 
 pub returns-in_err-write_copied-clause-out : goal.returns-in_err-write_copied-clause-out
 returns-in_err-write_copied-clause-out g c =
@@ -89,11 +89,11 @@ returns-in_err-write_copied-clause-out g c =
     let x = c.in_ok-made.made in
     let measured = c.in_ok-made.ensures.measured log_text still in
     let later = still_told (g.LR.Reread.text c.read_store_first.new.log) (g.LR.Reread.text c.make_by_pieces.new.log) log_text c.in_ok-made.ensures.same still in
-    let within : x.kept ≤ length log_text = omega (arith, measured.kept_is) in
+    let within : x.log.kept ≤ length log_text = omega (arith, measured.kept_is) in
     let (text, read, decodes) = both_read {log_left = Some log_text} {log = log_text} c.in_ok-decoded.decoded refl c.in_ok-decoded.was c.read_store_first.ensures.read in
     let leaves = c.in_err-write_copied.ensures.fault log_text later within in
-    let made = makes_copy (g.SR.Source.left c.args.store.now) log_text text x read measured (c.in_ok-made.ensures.answer log_text text still decodes) in
-    copied_out g.LW.Sink c.args.out_log.now c.write_copied.new.out_log g.SW.Sink c.args.out_store.now c.write_copied.new.out_store made c.in_err-write_copied.field-0.0 leaves)
+    let made = makes_copy (g.SR.Source.left c.args.store.now) log_text text x.log (store_text x.store) read measured (c.in_ok-made.ensures.answer log_text text still decodes) in
+    copied_out g.LW.Sink c.args.out_log.now c.write_copied.new.to g.SW.Sink c.args.out_store.now c.write_copied.new.out made c.in_err-write_copied.field-0.0 leaves)
 
 pub returns-in_err-write_copied-clause-resumable : goal.returns-in_err-write_copied-clause-resumable
 returns-in_err-write_copied-clause-resumable g c = λ base log_text store_bytes is tells_store range bytes.
@@ -102,14 +102,14 @@ returns-in_err-write_copied-clause-resumable g c = λ base log_text store_bytes 
     let x = c.in_ok-made.made in
     let measured = c.in_ok-made.ensures.measured log_text still in
     let later = still_told (g.LR.Reread.text c.read_store_first.new.log) (g.LR.Reread.text c.make_by_pieces.new.log) log_text c.in_ok-made.ensures.same still in
-    let within : x.kept ≤ length log_text = omega (arith, measured.kept_is) in
+    let within : x.log.kept ≤ length log_text = omega (arith, measured.kept_is) in
     let (text, read, decodes) = both_read {log_left = Some log_text} {log = log_text} c.in_ok-decoded.decoded refl c.in_ok-decoded.was c.read_store_first.ensures.read in
     let leaves = c.in_err-write_copied.ensures.fault log_text later within in
     let recovered =
-    subst (λ l. Recovered base bytes.decoded.read bytes.decoded.before l (store_text x.remade.store) x.remade.report) (copy_is (g.SR.Source.left c.args.store.now) log_text text x read measured (c.in_ok-made.ensures.answer log_text text still decodes))
-    (c.in_ok-made.ensures.lawful base log_text text still decodes (told_lawful log_text text log_text store_bytes read refl tells_store bytes)) in
+    subst (λ l. Recovered base bytes.decoded.read bytes.decoded.before l (store_text x.store) x.log.report) (copy_is log_text x.log measured)
+    (c.in_ok-made.ensures.lawful base log_text text (told_lawful log_text text log_text store_bytes read refl tells_store bytes) still decodes) in
     rw (exit.1, exit.2)
-    (copied_cut g.LW.Sink c.args.out_log.now c.write_copied.new.out_log g.SW.Sink c.args.out_store.now c.write_copied.new.out_store (take x.kept log_text ++ x.remade.frames.items) (store_text x.remade.store) bytes recovered.reads c.in_err-write_copied.field-0.0 leaves)
+    (copied_cut g.LW.Sink c.args.out_log.now c.write_copied.new.to g.SW.Sink c.args.out_store.now c.write_copied.new.out (take x.log.kept log_text ++ x.log.frames.items) (store_text x.store) bytes recovered.reads c.in_err-write_copied.field-0.0 leaves)
 
 pub returns-in_err-write_copied-clause-log_out_first : goal.returns-in_err-write_copied-clause-log_out_first
 returns-in_err-write_copied-clause-log_out_first g c = λ log_text is.
@@ -117,12 +117,12 @@ returns-in_err-write_copied-clause-log_out_first g c = λ log_text is.
     let x = c.in_ok-made.made in
     let measured = c.in_ok-made.ensures.measured log_text still in
     let later = still_told (g.LR.Reread.text c.read_store_first.new.log) (g.LR.Reread.text c.make_by_pieces.new.log) log_text c.in_ok-made.ensures.same still in
-    let within : x.kept ≤ length log_text = omega (arith, measured.kept_is) in
+    let within : x.log.kept ≤ length log_text = omega (arith, measured.kept_is) in
     let (text, read, decodes) = both_read {log_left = Some log_text} {log = log_text} c.in_ok-decoded.decoded refl c.in_ok-decoded.was c.read_store_first.ensures.read in
-    let made = makes_copy (g.SR.Source.left c.args.store.now) log_text text x read measured (c.in_ok-made.ensures.answer log_text text still decodes) in
-    elim (c.write_copied.ensures.log_first log_text later within) [
+    let made = makes_copy (g.SR.Source.left c.args.store.now) log_text text x.log (store_text x.store) read measured (c.in_ok-made.ensures.answer log_text text still decodes) in
+    elim (c.write_copied.ensures.order) [
       | inl same ↦ inl same
-      | inr out ↦ inr (made, out)
+      | inr out ↦ inr (made, out log_text later within)
     ]
 
 pub returns-in_err-write_copied-clause-log_source : goal.returns-in_err-write_copied-clause-log_source
@@ -131,7 +131,7 @@ returns-in_err-write_copied-clause-log_source g c =
     let (text, read, decodes) = both_read {log_left = None} {log = []} c.in_ok-decoded.decoded tt c.in_ok-decoded.was c.read_store_first.ensures.read in
     let first = c.in_ok-decoded.ensures.log_source.innocent (ok_is_no_fault c.in_ok-decoded.decoded ReadLog) in
     let then = (c.in_ok-made.ensures.cause text decodes).innocent (ok_is_no_fault c.in_ok-made.made ReadLog) in
-    rw (exit.1, exit.2) (failed_since c.in_err-write_copied.field-0.0 _ _ _ (then ∙ first) c.in_err-write_copied.ensures.log_source)
+    rw (exit.1, exit.2) (failed_since ReadLog c.in_err-write_copied.field-0.0 _ _ _ (then ∙ first) c.in_err-write_copied.ensures.log_source)
 
 pub returns-clause-lawful : goal.returns-clause-lawful
 returns-clause-lawful g c = λ base log_text store_bytes is tells_store range bytes.
@@ -139,14 +139,14 @@ returns-clause-lawful g c = λ base log_text store_bytes is tells_store range by
     let x = c.in_ok-made.made in
     let measured = c.in_ok-made.ensures.measured log_text still in
     let later = still_told (g.LR.Reread.text c.read_store_first.new.log) (g.LR.Reread.text c.make_by_pieces.new.log) log_text c.in_ok-made.ensures.same still in
-    let within : x.kept ≤ length log_text = omega (arith, measured.kept_is) in
+    let within : x.log.kept ≤ length log_text = omega (arith, measured.kept_is) in
     let (text, read, decodes) = both_read {log_left = Some log_text} {log = log_text} c.in_ok-decoded.decoded refl c.in_ok-decoded.was c.read_store_first.ensures.read in
     let recovered =
-    subst (λ l. Recovered base bytes.decoded.read bytes.decoded.before l (store_text x.remade.store) x.remade.report) (copy_is (g.SR.Source.left c.args.store.now) log_text text x read measured (c.in_ok-made.ensures.answer log_text text still decodes))
-    (c.in_ok-made.ensures.lawful base log_text text still decodes (told_lawful log_text text log_text store_bytes read refl tells_store bytes)) in
+    subst (λ l. Recovered base bytes.decoded.read bytes.decoded.before l (store_text x.store) x.log.report) (copy_is log_text x.log measured)
+    (c.in_ok-made.ensures.lawful base log_text text (told_lawful log_text text log_text store_bytes read refl tells_store bytes) still decodes) in
     record {
-      new_log = take x.kept log_text ++ x.remade.frames.items;
-      new_store = store_text x.remade.store;
+      new_log = take x.log.kept log_text ++ x.log.frames.items;
+      new_store = store_text x.store;
       recovered = recovered;
       log_out = (c.in_ok-write_copied.ensures.log_out log_text later within).out;
       store_out = c.in_ok-write_copied.ensures.store_out.out;
@@ -162,9 +162,9 @@ returns-clause-answer g c = λ log_text is.
     let x = c.in_ok-made.made in
     let measured = c.in_ok-made.ensures.measured log_text still in
     let later = still_told (g.LR.Reread.text c.read_store_first.new.log) (g.LR.Reread.text c.make_by_pieces.new.log) log_text c.in_ok-made.ensures.same still in
-    let within : x.kept ≤ length log_text = omega (arith, measured.kept_is) in
+    let within : x.log.kept ≤ length log_text = omega (arith, measured.kept_is) in
     let (text, read, decodes) = both_read {log_left = Some log_text} {log = log_text} c.in_ok-decoded.decoded refl c.in_ok-decoded.was c.read_store_first.ensures.read in
-    let made = makes_copy (g.SR.Source.left c.args.store.now) log_text text x read measured (c.in_ok-made.ensures.answer log_text text still decodes) in
+    let made = makes_copy (g.SR.Source.left c.args.store.now) log_text text x.log (store_text x.store) read measured (c.in_ok-made.ensures.answer log_text text still decodes) in
     record { made = made; report_is = refl; log_out = (c.in_ok-write_copied.ensures.log_out log_text later within).out; store_out = c.in_ok-write_copied.ensures.store_out.out }
 
 pub returns-clause-log_out_first : goal.returns-clause-log_out_first
@@ -173,7 +173,7 @@ returns-clause-log_out_first g c = λ log_text is.
     let x = c.in_ok-made.made in
     let measured = c.in_ok-made.ensures.measured log_text still in
     let later = still_told (g.LR.Reread.text c.read_store_first.new.log) (g.LR.Reread.text c.make_by_pieces.new.log) log_text c.in_ok-made.ensures.same still in
-    let within : x.kept ≤ length log_text = omega (arith, measured.kept_is) in
+    let within : x.log.kept ≤ length log_text = omega (arith, measured.kept_is) in
     let (text, read, decodes) = both_read {log_left = Some log_text} {log = log_text} c.in_ok-decoded.decoded refl c.in_ok-decoded.was c.read_store_first.ensures.read in
-    let made = makes_copy (g.SR.Source.left c.args.store.now) log_text text x read measured (c.in_ok-made.ensures.answer log_text text still decodes) in
+    let made = makes_copy (g.SR.Source.left c.args.store.now) log_text text x.log (store_text x.store) read measured (c.in_ok-made.ensures.answer log_text text still decodes) in
     inr (made, c.in_ok-write_copied.ensures.log_out log_text later within)

@@ -7,10 +7,10 @@ use Rattle.wal.specs.Tail.{with_tail}
 use Rattle.recovery.specs.Large.{large_store}
 use Rattle.recovery.specs.Recovery.{Recovered}
 use Rattle.recovery.proofs.ByPieces.{of_log, by_device, ok_is_no_fault}
-use Rattle.recovery.proofs.Copies.{failed_since}
+use Rattle.recovery.proofs.Copies.{copy_is, makes_copy, failed_since}
 use Rattle.recovery.proofs.Delivered.{cut_lawful, completed}
 use Rattle.recovery.proofs.Large.{decoded_lsns, both_give, store_since, store_none, again_at}
-use Rattle.recovery.proofs.LargeCopies.{large_copy_is, makes_large, rewritten_resource, rewritten_cause, rewritten_cut, rewritten_out, nothing_rewritten, fails_through}
+use Rattle.recovery.proofs.LargeCopies.{rewritten_resource, rewritten_cause, rewritten_cut, rewritten_out, nothing_rewritten}
 use Rattle.recovery.proofs.large_copying.recover_large_copying.Goals as goal
 
 pub returns-in_err-made-clause-lawful : goal.returns-in_err-made-clause-lawful
@@ -63,7 +63,7 @@ returns-in_err-write_large_copied-clause-lawful g c =
     let makes = c.in_ok-made.ensures.answer log_text store_bytes still decodes in
     let (after, shown, recovers) = makes.recovers in
     let leaves = c.in_err-write_large_copied.ensures.fault log_text later within makes.before after (again_at _ store_bytes makes.before again makes.spells) makes.spells.fits shown in
-    rewritten_resource g.LW.Sink c.args.out_log.now c.write_large_copied.new.copy g.SW.Sink c.args.out_store.now c.write_large_copied.new.out (take x.log.kept log_text ++ x.log.frames.items) (large_store x after) c.in_err-write_large_copied.field-0.0 leaves)
+    rewritten_resource g.LW.Sink c.args.out_log.now c.write_large_copied.new.to g.SW.Sink c.args.out_store.now c.write_large_copied.new.out (take x.log.kept log_text ++ x.log.frames.items) (large_store x after) c.in_err-write_large_copied.field-0.0 leaves)
 
 pub returns-in_err-write_large_copied-clause-interrupted : goal.returns-in_err-write_large_copied-clause-interrupted
 returns-in_err-write_large_copied-clause-interrupted g c =
@@ -80,7 +80,7 @@ returns-in_err-write_large_copied-clause-interrupted g c =
     let makes = c.in_ok-made.ensures.answer log_text store_bytes still decodes in
     let (after, shown, recovers) = makes.recovers in
     let leaves = c.in_err-write_large_copied.ensures.fault log_text later within makes.before after (again_at _ store_bytes makes.before again makes.spells) makes.spells.fits shown in
-    rewritten_resource g.LW.Sink c.args.out_log.now c.write_large_copied.new.copy g.SW.Sink c.args.out_store.now c.write_large_copied.new.out (take x.log.kept log_text ++ x.log.frames.items) (large_store x after) c.in_err-write_large_copied.field-0.0 leaves)
+    rewritten_resource g.LW.Sink c.args.out_log.now c.write_large_copied.new.to g.SW.Sink c.args.out_store.now c.write_large_copied.new.out (take x.log.kept log_text ++ x.log.frames.items) (large_store x after) c.in_err-write_large_copied.field-0.0 leaves)
 
 pub returns-in_err-write_large_copied-clause-cause : goal.returns-in_err-write_large_copied-clause-cause
 returns-in_err-write_large_copied-clause-cause g c =
@@ -97,7 +97,7 @@ returns-in_err-write_large_copied-clause-cause g c =
     let makes = c.in_ok-made.ensures.answer log_text store_bytes still decodes in
     let (after, shown, recovers) = makes.recovers in
     let leaves = c.in_err-write_large_copied.ensures.fault log_text later within makes.before after (again_at _ store_bytes makes.before again makes.spells) makes.spells.fits shown in
-    rewritten_cause g.LW.Sink c.args.out_log.now c.write_large_copied.new.copy g.SW.Sink c.args.out_store.now c.write_large_copied.new.out (take x.log.kept log_text ++ x.log.frames.items) (large_store x after) (Some log_text) (Some store_bytes) c.args.options.now c.in_err-write_large_copied.field-0.0 leaves)
+    rewritten_cause g.LW.Sink c.args.out_log.now c.write_large_copied.new.to g.SW.Sink c.args.out_store.now c.write_large_copied.new.out (take x.log.kept log_text ++ x.log.frames.items) (large_store x after) (Some log_text) (Some store_bytes) c.args.options.now c.in_err-write_large_copied.field-0.0 leaves)
 
 pub returns-in_err-write_large_copied-clause-out : goal.returns-in_err-write_large_copied-clause-out
 returns-in_err-write_large_copied-clause-out g c =
@@ -113,9 +113,9 @@ returns-in_err-write_large_copied-clause-out g c =
     let within : x.log.kept ≤ length log_text = omega (arith, measured.kept_is) in
     let makes = c.in_ok-made.ensures.answer log_text store_bytes still decodes in
     let (after, shown, recovers) = makes.recovers in
-    let made = makes_large log_text store_bytes x.log (large_store x after) measured recovers in
+    let made = makes_copy (Some store_bytes) log_text store_bytes x.log (large_store x after) (both_give log_text store_bytes) measured recovers in
     let leaves = c.in_err-write_large_copied.ensures.fault log_text later within makes.before after (again_at _ store_bytes makes.before again makes.spells) makes.spells.fits shown in
-    rewritten_out g.LW.Sink c.args.out_log.now c.write_large_copied.new.copy g.SW.Sink c.args.out_store.now c.write_large_copied.new.out made c.in_err-write_large_copied.field-0.0 leaves)
+    rewritten_out g.LW.Sink c.args.out_log.now c.write_large_copied.new.to g.SW.Sink c.args.out_store.now c.write_large_copied.new.out made c.in_err-write_large_copied.field-0.0 leaves)
 
 pub returns-in_err-write_large_copied-clause-resumable : goal.returns-in_err-write_large_copied-clause-resumable
 returns-in_err-write_large_copied-clause-resumable g c =
@@ -133,8 +133,8 @@ returns-in_err-write_large_copied-clause-resumable g c =
     let (after, shown, recovers) = makes.recovers in
     let leaves = c.in_err-write_large_copied.ensures.fault log_text later within makes.before after (again_at _ store_bytes makes.before again makes.spells) makes.spells.fits shown in
     let restores = c.in_ok-made.ensures.lawful base log_text store_bytes bytes still decodes in
-    let reads = subst (λ l. Reads l (with_tail bytes.decoded.read) 0) (large_copy_is log_text store_bytes x.log (large_store x after) measured) restores.2.reads in
-    rewritten_cut g.LW.Sink c.args.out_log.now c.write_large_copied.new.copy g.SW.Sink c.args.out_store.now c.write_large_copied.new.out (take x.log.kept log_text ++ x.log.frames.items) (large_store x after) bytes reads c.in_err-write_large_copied.field-0.0 leaves)
+    let reads = subst (λ l. Reads l (with_tail bytes.decoded.read) 0) (copy_is log_text x.log measured) restores.2.reads in
+    rewritten_cut g.LW.Sink c.args.out_log.now c.write_large_copied.new.to g.SW.Sink c.args.out_store.now c.write_large_copied.new.out (take x.log.kept log_text ++ x.log.frames.items) (large_store x after) bytes reads c.in_err-write_large_copied.field-0.0 leaves)
 
 pub returns-in_err-write_large_copied-clause-log_out_first : goal.returns-in_err-write_large_copied-clause-log_out_first
 returns-in_err-write_large_copied-clause-log_out_first g c = λ log_text store_bytes is tells.
@@ -147,7 +147,7 @@ returns-in_err-write_large_copied-clause-log_out_first g c = λ log_text store_b
     let within : x.log.kept ≤ length log_text = omega (arith, measured.kept_is) in
     let makes = c.in_ok-made.ensures.answer log_text store_bytes still decodes in
     let (after, shown, recovers) = makes.recovers in
-    let made = makes_large log_text store_bytes x.log (large_store x after) measured recovers in
+    let made = makes_copy (Some store_bytes) log_text store_bytes x.log (large_store x after) (both_give log_text store_bytes) measured recovers in
     elim (c.write_large_copied.ensures.order) [
       | inl same ↦ inl same
       | inr out ↦ inr (made, out log_text later within)
@@ -159,7 +159,7 @@ returns-in_err-write_large_copied-clause-log_source g c =
     let (text, gave, decodes) = c.in_ok-decoded.ensures.read in
     let first = c.in_ok-decoded.ensures.log_source.innocent (ok_is_no_fault c.in_ok-decoded.decoded ReadLog) in
     let then = (c.in_ok-made.ensures.cause text decodes).innocent (ok_is_no_fault c.in_ok-made.made ReadLog) in
-    rw (exit.1, exit.2) (failed_since c.in_err-write_large_copied.field-0.0 _ _ _ (then ∙ first) c.in_err-write_large_copied.ensures.log_source)
+    rw (exit.1, exit.2) (failed_since ReadLog c.in_err-write_large_copied.field-0.0 _ _ _ (then ∙ first) c.in_err-write_large_copied.ensures.log_source)
 
 pub returns-in_err-write_large_copied-clause-store_source : goal.returns-in_err-write_large_copied-clause-store_source
 returns-in_err-write_large_copied-clause-store_source g c =
@@ -170,7 +170,7 @@ returns-in_err-write_large_copied-clause-store_source g c =
 pub returns-in_err-write_large_copied-clause-log_sink : goal.returns-in_err-write_large_copied-clause-log_sink
 returns-in_err-write_large_copied-clause-log_sink g c =
     let exit = err_from_is_err_and c.from_residual-in_err-write_large_copied.result c.from_residual-in_err-write_large_copied.ensures.1 in
-    rw (exit.1, exit.2) (fails_through WriteLog c.in_err-write_large_copied.field-0.0 _ _ c.in_err-write_large_copied.ensures.log_sink)
+    rw (exit.1, exit.2) (failed_since WriteLog c.in_err-write_large_copied.field-0.0 _ _ _ refl c.in_err-write_large_copied.ensures.log_sink)
 
 pub returns-clause-store_source : goal.returns-clause-store_source
 returns-clause-store_source g c =
@@ -192,7 +192,7 @@ returns-clause-lawful g c = λ base log_text store_bytes is tells range bytes.
       new_log = take x.log.kept log_text ++ x.log.frames.items;
       new_store = large_store x after;
       recovered =
-          subst (λ l. Recovered base bytes.decoded.read before l (large_store x after) x.log.report) (large_copy_is log_text store_bytes x.log (large_store x after) measured) recovered;
+          subst (λ l. Recovered base bytes.decoded.read before l (large_store x after) x.log.report) (copy_is log_text x.log measured) recovered;
       log_out = (c.in_ok-write_large_copied.ensures.log_out log_text later within).out;
       store_out = (c.in_ok-write_large_copied.ensures.store_out before after (again_at _ store_bytes before again bytes.decoded.spells) bytes.decoded.spells.fits shown).out;
     }
@@ -212,7 +212,7 @@ returns-clause-answer g c = λ log_text store_bytes is tells.
     let within : x.log.kept ≤ length log_text = omega (arith, measured.kept_is) in
     let makes = c.in_ok-made.ensures.answer log_text store_bytes still decodes in
     let (after, shown, recovers) = makes.recovers in
-    let made = makes_large log_text store_bytes x.log (large_store x after) measured recovers in
+    let made = makes_copy (Some store_bytes) log_text store_bytes x.log (large_store x after) (both_give log_text store_bytes) measured recovers in
     record {
       made = made;
       report_is = refl;
@@ -231,5 +231,5 @@ returns-clause-log_out_first g c = λ log_text store_bytes is tells.
     let within : x.log.kept ≤ length log_text = omega (arith, measured.kept_is) in
     let makes = c.in_ok-made.ensures.answer log_text store_bytes still decodes in
     let (after, shown, recovers) = makes.recovers in
-    let made = makes_large log_text store_bytes x.log (large_store x after) measured recovers in
+    let made = makes_copy (Some store_bytes) log_text store_bytes x.log (large_store x after) (both_give log_text store_bytes) measured recovers in
     inr (made, c.in_ok-write_large_copied.ensures.log_out log_text later within)

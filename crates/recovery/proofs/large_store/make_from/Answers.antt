@@ -1,4 +1,4 @@
-use Rattle.std.proofs.Common.{List, sym, subst, inl, arith}
+use Rattle.std.proofs.Common.{List, refl, sym, subst, inl, arith}
 use Rattle.std.proofs.lemmas.Result.{err_from_is_err_and}
 use Rattle.page.specs.Store.{StoreContent}
 use Rattle.page.specs.File.{store_text}
@@ -6,7 +6,8 @@ use Rattle.changes.specs.Changes.{PageChange}
 use Rattle.changes.specs.Pages.{ShowsChanges}
 use Rattle.recovery.specs.Recovery.{Recovers, Recovered}
 use Rattle.recovery.specs.ByPieces.{continued_log}
-use Rattle.recovery.proofs.Large.{begun_shows, same_master}
+use Rattle.recovery.proofs.ByPieces.{store_same}
+use Rattle.recovery.proofs.Large.{begun_shows}
 use Rattle.recovery.proofs.large_store.make_from.Goals as goal
 
 pub returns-in_err-changes-clause-lawful : goal.returns-in_err-changes-clause-lawful
@@ -40,7 +41,7 @@ returns-clause-lawful g c = λ base text store bytes is are.
     let (after, shown, recovered) = c.in_ok-log.ensures.lawful base text read bytes.decoded.torn is bytes.decoded.reads before before.pages (sym are.master) bytes.decoded.spells.fits.numbered shows bytes.lawful in (
       after,
       shown,
-      subst (λ (s : StoreContent). Recovered base read before (continued_log text made) (store_text s) made.report) (same_master before after c.args.store.master are.master) recovered,
+      subst (λ (s : StoreContent). Recovered base read before (continued_log text made) (store_text s) made.report) (store_same before c.args.store.master after after (sym are.master) refl) recovered,
     )
 
 pub returns-clause-answer : goal.returns-clause-answer
@@ -50,7 +51,7 @@ returns-clause-answer g c = λ text store before is spells are.
     let (after, shown, recovers) = c.in_ok-log.ensures.answer text is before before.pages (sym are.master) spells.fits.numbered shows store spells in (
       after,
       shown,
-      subst (λ (s : StoreContent). Recovers text store (continued_log text made) (store_text s) made.report) (same_master before after c.args.store.master are.master) recovers,
+      subst (λ (s : StoreContent). Recovers text store (continued_log text made) (store_text s) made.report) (store_same before c.args.store.master after after (sym are.master) refl) recovers,
     )
 
 pub returns-clause-few : goal.returns-clause-few

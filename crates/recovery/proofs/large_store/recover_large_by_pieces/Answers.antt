@@ -7,8 +7,8 @@ use Rattle.recovery.specs.InPlace.{Prepares}
 use Rattle.recovery.specs.Large.{large_store}
 use Rattle.recovery.proofs.Delivered.{cut_lawful}
 use Rattle.recovery.proofs.InPlace.{on_err, holds_more, settled_in_place, has_tail, continued_as}
-use Rattle.recovery.proofs.ByPieces.{of_log, by_device, other_failed, none_failed, ok_is_no_fault}
-use Rattle.recovery.proofs.Large.{decoded_lsns, both_give, prepares_large, tail_large, reread_as, left_large, cut_large, untouched_large, device_left, cause_left, not_read_log, not_log, store_since, store_none, again_at}
+use Rattle.recovery.proofs.ByPieces.{of_log, by_device, prepares, tail_made, other_failed, none_failed, ok_is_no_fault}
+use Rattle.recovery.proofs.Large.{decoded_lsns, both_give, reread_as, left_large, cut_large, untouched_large, device_left, cause_left, not_read_log, not_log, store_since, store_none, again_at}
 use Rattle.recovery.proofs.large_store.recover_large_by_pieces.Goals as goal
 
 pub returns-in_err-made-clause-lawful : goal.returns-in_err-made-clause-lawful
@@ -154,7 +154,7 @@ returns-in_err-write_large-clause-left g c =
     let stays = reread_as g.LW.Sink c.args.out_log.now c.write_large.new.log g.SW.Sink c.args.out_store.now c.write_large.new.out_store file.kept kept file.frames.now x.log.frames.items (large_store x after) c.in_err-write_large.field-0.0
     (c.file-file.ensures.kept ∙ measured.kept_is) c.file-file.ensures.frames
     (c.in_err-write_large.ensures.fault makes.before after (again_at _ store_bytes makes.before again makes.spells) makes.spells.fits shown) in
-    left_large g.LW.Sink c.args.out_log.now c.write_large.new.log g.SW.Sink c.args.out_store.now c.write_large.new.out_store (prepares_large log_text store_bytes x.log (large_store x after) measured recovers) c.in_err-write_large.field-0.0 stays)
+    left_large g.LW.Sink c.args.out_log.now c.write_large.new.log g.SW.Sink c.args.out_store.now c.write_large.new.out_store (prepares (Some store_bytes) log_text store_bytes x.log (large_store x after) (both_give log_text store_bytes) measured recovers) c.in_err-write_large.field-0.0 stays)
 
 pub returns-in_err-write_large-clause-tail_first : goal.returns-in_err-write_large-clause-tail_first
 returns-in_err-write_large-clause-tail_first g c = λ log_text store_bytes is tells.
@@ -165,10 +165,10 @@ returns-in_err-write_large-clause-tail_first g c = λ log_text store_bytes is te
     let makes = c.in_ok-made.ensures.answer log_text store_bytes still decodes in
     let (after, shown, recovers) = makes.recovers in
     let file = c.file-file.result in
-    let made : Prepares (Some log_text) (Some store_bytes) = prepares_large log_text store_bytes x.log (large_store x after) measured recovers in
+    let made : Prepares (Some log_text) (Some store_bytes) = prepares (Some store_bytes) log_text store_bytes x.log (large_store x after) (both_give log_text store_bytes) measured recovers in
     let later = still_told (g.LR.Reread.text c.read_lsns_first.new.log) (g.LR.Reread.text c.make_large.new.log) log_text c.in_ok-made.ensures.same still in
     let end_is = c.file-file.ensures.end ∙ c.in_ok-end.ensures.sum log_text later (omega (arith, measured.kept_is)) in
-    let tail = tail_large log_text store_bytes x.log (large_store x after) measured recovers file.length file.kept file.end file.frames.now c.file-file.ensures.length c.file-file.ensures.kept end_is c.file-file.ensures.frames in
+    let tail = tail_made (Some store_bytes) log_text store_bytes x.log (large_store x after) (both_give log_text store_bytes) measured recovers file.length file.kept file.end file.frames.now c.file-file.ensures.length c.file-file.ensures.kept end_is c.file-file.ensures.frames in
     elim c.write_large.ensures.tail_first [
       | inl same ↦ inl same
       | inr out ↦ inr (made, has_tail made g.T.Sink c.args.tail.now c.write_large.new.tail _ tail out)
@@ -182,7 +182,7 @@ returns-in_err-write_large-clause-log_first g c = λ log_text store_bytes is tel
     let measured = c.in_ok-made.ensures.measured log_text still in
     let makes = c.in_ok-made.ensures.answer log_text store_bytes still decodes in
     let (after, shown, recovers) = makes.recovers in
-    let made : Prepares (Some log_text) (Some store_bytes) = prepares_large log_text store_bytes x.log (large_store x after) measured recovers in
+    let made : Prepares (Some log_text) (Some store_bytes) = prepares (Some store_bytes) log_text store_bytes x.log (large_store x after) (both_give log_text store_bytes) measured recovers in
     elim c.write_large.ensures.log_first [
       | inl same ↦ inl same
       | inr done ↦ inr (made, continued_as _ _ _ _ _ _ _ (c.file-file.ensures.kept ∙ measured.kept_is) c.file-file.ensures.frames done)
@@ -197,10 +197,10 @@ returns-clause-tail_first g c = λ log_text store_bytes is tells.
     let makes = c.in_ok-made.ensures.answer log_text store_bytes still decodes in
     let (after, shown, recovers) = makes.recovers in
     let file = c.file-file.result in
-    let made : Prepares (Some log_text) (Some store_bytes) = prepares_large log_text store_bytes x.log (large_store x after) measured recovers in
+    let made : Prepares (Some log_text) (Some store_bytes) = prepares (Some store_bytes) log_text store_bytes x.log (large_store x after) (both_give log_text store_bytes) measured recovers in
     let later = still_told (g.LR.Reread.text c.read_lsns_first.new.log) (g.LR.Reread.text c.make_large.new.log) log_text c.in_ok-made.ensures.same still in
     let end_is = c.file-file.ensures.end ∙ c.in_ok-end.ensures.sum log_text later (omega (arith, measured.kept_is)) in
-    let tail = tail_large log_text store_bytes x.log (large_store x after) measured recovers file.length file.kept file.end file.frames.now c.file-file.ensures.length c.file-file.ensures.kept end_is c.file-file.ensures.frames in
+    let tail = tail_made (Some store_bytes) log_text store_bytes x.log (large_store x after) (both_give log_text store_bytes) measured recovers file.length file.kept file.end file.frames.now c.file-file.ensures.length c.file-file.ensures.kept end_is c.file-file.ensures.frames in
     elim c.write_large.ensures.tail_first [
       | inl same ↦ inl same
       | inr out ↦ inr (made, has_tail made g.T.Sink c.args.tail.now c.write_large.new.tail _ tail out)
@@ -214,7 +214,7 @@ returns-clause-log_first g c = λ log_text store_bytes is tells.
     let measured = c.in_ok-made.ensures.measured log_text still in
     let makes = c.in_ok-made.ensures.answer log_text store_bytes still decodes in
     let (after, shown, recovers) = makes.recovers in
-    let made : Prepares (Some log_text) (Some store_bytes) = prepares_large log_text store_bytes x.log (large_store x after) measured recovers in
+    let made : Prepares (Some log_text) (Some store_bytes) = prepares (Some store_bytes) log_text store_bytes x.log (large_store x after) (both_give log_text store_bytes) measured recovers in
     elim c.write_large.ensures.log_first [
       | inl same ↦ inl same
       | inr done ↦ inr (made, continued_as _ _ _ _ _ _ _ (c.file-file.ensures.kept ∙ measured.kept_is) c.file-file.ensures.frames done)
@@ -281,7 +281,7 @@ returns-clause-answer g c = λ log_text store_bytes is tells.
     let measured = c.in_ok-made.ensures.measured log_text still in
     let makes = c.in_ok-made.ensures.answer log_text store_bytes still decodes in
     let (after, shown, recovers) = makes.recovers in
-    let made : Prepares (Some log_text) (Some store_bytes) = prepares_large log_text store_bytes x.log (large_store x after) measured recovers in
+    let made : Prepares (Some log_text) (Some store_bytes) = prepares (Some store_bytes) log_text store_bytes x.log (large_store x after) (both_give log_text store_bytes) measured recovers in
     let done = continued_as _ _ _ _ _ _ _ (c.file-file.ensures.kept ∙ measured.kept_is) c.file-file.ensures.frames c.in_ok-write_large.ensures.log_done in
     record {
       made = made;

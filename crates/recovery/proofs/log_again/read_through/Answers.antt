@@ -10,13 +10,13 @@ loop-offset-init g c = record { room = c.requires; same = keeps_same (g.L.Reread
 
 pub returns-in_err-count-clause-same : goal.returns-in_err-count-clause-same
 returns-in_err-count-clause-same g c =
-    keeps_on (g.L.Reread.text c.args.log.now) (g.L.Reread.text c.loop-offset.log) (g.L.Reread.text c.read_from.new.log) c.loop-offset.invariant.same c.in_err-count.ensures.same
+    keeps_on (g.L.Reread.text c.args.log.now) (g.L.Reread.text c.loop-offset.log) (g.L.Reread.text c.read_from.new.source) c.loop-offset.invariant.same c.in_err-count.ensures.same
 
 pub returns-in_err-count-clause-cause : goal.returns-in_err-count-clause-cause
 returns-in_err-count-clause-cause g c =
     let exit = err_from_is_err_and c.from_residual.result c.from_residual.ensures.1 in
     rw (exit.1, exit.2)
-    (failed _ (g.L.Source.failures c.args.log.now) (g.L.Source.failures c.loop-offset.log) (g.L.Source.failures c.read_from.new.log) (ap (λ e. Err e) c.in_err-count.ensures.fault) c.loop-offset.invariant.failures
+    (failed _ (g.L.Source.failures c.args.log.now) (g.L.Source.failures c.loop-offset.log) (g.L.Source.failures c.read_from.new.source) (ap (λ e. Err e) c.in_err-count.ensures.fault) c.loop-offset.invariant.failures
     (c.in_err-count.ensures.cause.blamed (ap (λ e. Err e) c.in_err-count.ensures.fault)))
 
 pub returns-then-count-lt-ROOM-clause-end : goal.returns-then-count-lt-ROOM-clause-end
@@ -27,7 +27,7 @@ returns-then-count-lt-ROOM-clause-end g c =
 
 pub returns-then-count-lt-ROOM-clause-same : goal.returns-then-count-lt-ROOM-clause-same
 returns-then-count-lt-ROOM-clause-same g c =
-    keeps_on (g.L.Reread.text c.args.log.now) (g.L.Reread.text c.loop-offset.log) (g.L.Reread.text c.read_from.new.log) c.loop-offset.invariant.same c.in_ok-count.ensures.same
+    keeps_on (g.L.Reread.text c.args.log.now) (g.L.Reread.text c.loop-offset.log) (g.L.Reread.text c.read_from.new.source) c.loop-offset.invariant.same c.in_ok-count.ensures.same
 
 pub returns-then-count-lt-ROOM-clause-cause : goal.returns-then-count-lt-ROOM-clause-cause
 returns-then-count-lt-ROOM-clause-cause g c =
@@ -38,7 +38,7 @@ loop-offset-preserved g c =
     let inv = c.loop-offset.invariant in
     record {
       room = c.read_from.auto.buffer ∙ inv.room;
-      same = keeps_on (g.L.Reread.text c.args.log.now) (g.L.Reread.text c.loop-offset.log) (g.L.Reread.text c.read_from.new.log) inv.same c.in_ok-count.ensures.same;
+      same = keeps_on (g.L.Reread.text c.args.log.now) (g.L.Reread.text c.loop-offset.log) (g.L.Reread.text c.read_from.new.source) inv.same c.in_ok-count.ensures.same;
       failures = c.in_ok-count.ensures.cause.innocent (ok_is_no_fault c.in_ok-count.count ReadLog) ∙ inv.failures;
     }
 

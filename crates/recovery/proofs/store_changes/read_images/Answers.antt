@@ -24,14 +24,14 @@ returns-then-count-lt-PIECE-clause-read g c =
     let old = g.R.Reread.text c.args.source.now in
     let now = g.R.Reread.text c.loop-offset.source in
     let offset = c.loop-offset.offset in
-    let buffer : List ℕ = c.read_bytes.new.buffer in
+    let buffer : List ℕ = c.read_from.new.buffer in
     let count = c.in_ok-count.count in
     let (behind, is, came) = inv.came in
     let piece : List ℕ = take count buffer in
     let same : c.take.new.self ≡ c.args.reader ++ (behind ++ piece) = c.take.ensures ∙ ap (λ l. l ++ piece) is ∙ append_assoc c.args.reader behind piece in
     let at : offset ≡ STORE_HEADER_BYTES + length behind = omega (arith, ap (λ (l : List ℕ). length l) is, length-append c.args.reader behind, c.requires.header, inv.size) in
     let more = come_more old now STORE_HEADER_BYTES offset behind buffer count inv.same came at c.in_ok-count.ensures.bytes c.in_ok-count.ensures.within in
-    let ends = c.in_ok-count.ensures.end (omega (arith, c.if-count-lt-PIECE.true, c.read_bytes.auto.buffer, inv.room)) in
+    let ends = c.in_ok-count.ensures.end (omega (arith, c.if-count-lt-PIECE.true, c.read_from.auto.buffer, inv.room)) in
     let all = come_all old now STORE_HEADER_BYTES (offset + count) (behind ++ piece) inv.same more ends (omega (arith, at, length-append behind piece, length-take count buffer, c.in_ok-count.ensures.within)) in (
       behind ++ piece,
       subst (λ n. IfSome old (λ text. behind ++ piece ≡ drop n text)) (sym c.requires.header) all,
@@ -44,17 +44,17 @@ loop-offset-preserved g c =
     let old = g.R.Reread.text c.args.source.now in
     let now = g.R.Reread.text c.loop-offset.source in
     let offset = c.loop-offset.offset in
-    let buffer : List ℕ = c.read_bytes.new.buffer in
+    let buffer : List ℕ = c.read_from.new.buffer in
     let count = c.in_ok-count.count in
     let (behind, is, came) = inv.came in
     let piece : List ℕ = take count buffer in
     let same : c.take.new.self ≡ c.args.reader ++ (behind ++ piece) = c.take.ensures ∙ ap (λ l. l ++ piece) is ∙ append_assoc c.args.reader behind piece in
     let at : offset ≡ STORE_HEADER_BYTES + length behind = omega (arith, ap (λ (l : List ℕ). length l) is, length-append c.args.reader behind, c.requires.header, inv.size) in
     record {
-      room = c.read_bytes.auto.buffer ∙ inv.room;
-      size = omega (arith, ap (λ (l : List ℕ). length l) c.take.ensures, length-append c.loop-offset.reader piece, length-take count buffer, inv.size, c.in_ok-count.ensures.within, c.if-count-lt-PIECE.false, c.read_bytes.auto.buffer, inv.room);
+      room = c.read_from.auto.buffer ∙ inv.room;
+      size = omega (arith, ap (λ (l : List ℕ). length l) c.take.ensures, length-append c.loop-offset.reader piece, length-take count buffer, inv.size, c.in_ok-count.ensures.within, c.if-count-lt-PIECE.false, c.read_from.auto.buffer, inv.room);
       whole = (inv.whole.0 + 1, omega (arith, inv.whole.1));
       came = (behind ++ piece, same, come_more old now STORE_HEADER_BYTES offset behind buffer count inv.same came at c.in_ok-count.ensures.bytes c.in_ok-count.ensures.within);
-      same = Keeps-trans old now (g.R.Reread.text c.read_bytes.new.source) inv.same c.in_ok-count.ensures.same;
+      same = Keeps-trans old now (g.R.Reread.text c.read_from.new.source) inv.same c.in_ok-count.ensures.same;
       failures = c.in_ok-count.ensures.cause.innocent (ok_is_no_fault c.in_ok-count.count ReadStore) ∙ inv.failures;
     }

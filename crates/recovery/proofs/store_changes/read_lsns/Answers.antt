@@ -7,5 +7,5 @@ use Rattle.recovery.proofs.store_changes.read_lsns.Goals as goal
 pub returns-clause-read : goal.returns-clause-read
 returns-clause-read g c =
     let header : List ℕ = c.begin-reader.result in
-    let size : length header ≡ c.in_ok-count.count = omega (arith, ap (λ (l : List ℕ). length l) c.begin-reader.ensures, length-take c.in_ok-count.count c.read_bytes.new.buffer, c.in_ok-count.ensures.within) in
-    IfOk-weaker c.read_images.result (AreLsnsBehind header (g.R.Reread.text c.read_bytes.new.source)) (AreDecodedLsns (g.R.Reread.text c.args.source.now)) (λ found (behind, rest, decodes). (header ++ behind, gave_behind (g.R.Reread.text c.args.source.now) (g.R.Reread.text c.read_bytes.new.source) header behind c.read_bytes.new.buffer c.in_ok-count.count c.in_ok-count.ensures.same c.begin-reader.ensures size c.in_ok-count.ensures.bytes rest, decodes)) c.read_images.ensures.read
+    let size : length header ≡ c.in_ok-count.count = omega (arith, ap (λ (l : List ℕ). length l) c.begin-reader.ensures, length-take c.in_ok-count.count c.read_from.new.buffer, c.in_ok-count.ensures.within) in
+    IfOk-weaker c.read_images.result (AreLsnsBehind header (g.R.Reread.text c.read_from.new.source)) (AreDecodedLsns (g.R.Reread.text c.args.source.now)) (λ found (behind, rest, decodes). (header ++ behind, gave_behind (g.R.Reread.text c.args.source.now) (g.R.Reread.text c.read_from.new.source) header behind c.read_from.new.buffer c.in_ok-count.count c.in_ok-count.ensures.same c.begin-reader.ensures size c.in_ok-count.ensures.bytes rest, decodes)) c.read_images.ensures.read

@@ -6,4 +6,4 @@ invariant_of-result g c = c.in_ok-tallies.ensures.scanned c.args.base
 
 pub returns-clause-begun : goal.returns-clause-begun
 returns-clause-begun g c = λ stored shown shows numbered log tables at each.
-    begun_up shown tables c.in_ok-tallies.tallies.items (c.in_ok-tallies.ensures.begun stored shown tables shows numbered each) c.args.base log at
+    begun_up shown tables c.in_ok-tallies.tallies (c.in_ok-tallies.ensures.begun stored shown tables shows numbered each) c.args.base log at

@@ -1,15 +1,13 @@
-use Rattle.std.proofs.Common.{◌≡◌, ◌+◌, ◌≤◌, ◌<◌, List, length, sym, ap, ◌∙◌, subst, arith}
+use Rattle.std.proofs.Common.{◌≡◌, ◌+◌, ◌≤◌, ◌<◌, length, sym, ap, ◌∙◌, subst, arith}
 use Rattle.std.proofs.lemmas.Result.{err_from_is_err_and}
 use Rattle.wal.specs.Records.{history, last_lsn, base_lsn}
 use Rattle.wal.proofs.Histories.{base_within}
-use Rattle.redo.specs.declared.tally.Tally.{Tally}
 use Rattle.redo.specs.Routes.{skipped, ExistWithin, NoteFault}
 use Rattle.redo.specs.OnePass.{AreUpTo}
-use Rattle.redo.specs.Passing.{TalliesSoFar, AreScanned, PieceFault}
-use Rattle.redo.proofs.Reading.{written_back}
+use Rattle.redo.specs.Passing.{TalliesSoFar, AreScanned}
 use Rattle.redo.proofs.Stretches.{skipped_from, skipped_within}
 use Rattle.redo.proofs.Causes.{exist_from, first_missing}
-use Rattle.redo.proofs.Passing.{HasPassed, skipped_at, kept_on, passed_over, passed_more}
+use Rattle.redo.proofs.Passing.{HasPassed, skipped_at, kept_on, passed_over, passed_more, piece_fault}
 use Rattle.redo.proofs.tally_scan.TallyScan.pass.Goals as goal
 
 pub loop-lsn-init : goal.loop-lsn-init
@@ -31,18 +29,15 @@ loop-lsn-preserved c =
     let old = c.args.self.now in
     let piece = c.args.piece.now in
     let lsn = c.loop-lsn.lsn in
-    let lent = c.deref_mut.result.now in
+    let lent = c.loop-lsn.self-inside.tallies in
     let new = c.count_seen.new.tallies in
-    let items = c.loop-lsn.self-inside.tallies in
     let glance = c.glance_after-glance.ensures in
     let seen = c.in_ok-count_seen.ensures in
-    let before : HasPassed old piece lsn lent = subst (HasPassed old piece lsn) (sym c.deref_mut.ensures.value) c.loop-lsn.invariant.0 in
+    let before : HasPassed old piece lsn lent = c.loop-lsn.invariant.0 in
     let from : base_lsn (history piece) ≤ lsn = omega (arith, c.skipped_below-from.ensures, c.loop-lsn.auto.lsn, skipped_from (base_lsn (history piece)) c.self.inside.redo_lsn (last_lsn (history piece)) (base_within (history piece))) in
-    let lt : lsn < last_lsn (history piece) = omega (arith, c.loop-lsn-test.true, c.last-last.ensures) in
-    let count : length new ≡ items.len = omega (arith, seen.count, ap (λ (ts : List Tally). length ts) c.deref_mut.ensures.value, items.ok.0) in (
-      subst (HasPassed old piece (lsn + 1)) (sym (written_back items.len items.items new count))
-          (passed_more old piece lsn glance.entry lent new from lt glance.there (record { numbered = seen.numbered; few = seen.few; lasts = seen.lasts (kept_on lsn (lsn + 1) lent (omega arith) before.kept).lasts }) seen.count (seen.exists glance.entry glance.seen_of)
-          (λ input k t same there less. seen.each input glance.entry k t (same ∙ sym c.loop-lsn.invariant.1) glance.seen_of there less) before),
+    let lt : lsn < last_lsn (history piece) = omega (arith, c.loop-lsn-test.true, c.last-last.ensures) in (
+      passed_more old piece lsn glance.entry lent new from lt glance.there (record { numbered = seen.numbered; few = seen.few; lasts = seen.lasts (kept_on lsn (lsn + 1) lent (omega arith) before.kept).lasts }) seen.count (seen.exists glance.entry glance.seen_of)
+          (λ input k t same there less. seen.each input glance.entry k t (same ∙ sym c.loop-lsn.invariant.1) glance.seen_of there less) before,
       c.loop-lsn.invariant.1,
       c.loop-lsn.invariant.2,
       c.loop-lsn.invariant.3,
@@ -53,7 +48,7 @@ invariant_of-self c =
     let piece = c.args.piece.now in
     let passed = c.loop-lsn.invariant.0 in
     let within : c.loop-lsn.lsn ≤ last_lsn (history piece) = omega (arith, c.loop-lsn.auto.lsn-end, c.last-last.ensures, c.skipped_below-from.ensures, skipped_within (base_lsn (history piece)) c.self.inside.redo_lsn (last_lsn (history piece)) (base_within (history piece))) in
-    kept_on c.loop-lsn.lsn c.loop-lsn.self-inside.upto c.loop-lsn.self-inside.tallies.items (omega (arith, c.loop-lsn.invariant.3, within)) passed.kept
+    kept_on c.loop-lsn.lsn c.loop-lsn.self-inside.upto c.loop-lsn.self-inside.tallies (omega (arith, c.loop-lsn.invariant.3, within)) passed.kept
 
 pub returns-in_err-count_seen-clause-fault : goal.returns-in_err-count_seen-clause-fault
 returns-in_err-count_seen-clause-fault c =
@@ -63,22 +58,19 @@ returns-in_err-count_seen-clause-fault c =
     let lsn = c.loop-lsn.lsn in
     let fault = c.in_err-count_seen.field-0.0 in
     let glance = c.glance_after-glance.ensures in
-    let only = c.in_err-count_seen.ensures.only in
     let passed = c.loop-lsn.invariant.0 in
-    let count : length c.deref_mut.result.now ≡ length old.tallies = ap (λ (ts : List Tally). length ts) c.deref_mut.ensures.value ∙ passed.count in
-    let cause = subst (λ n. NoteFault n (lsn + 1) glance.entry fault) count (c.in_err-count_seen.ensures.fault glance.entry glance.seen_of) in
-    let named = subst (NoteFault (length old.tallies) (lsn + 1) glance.entry) only cause in
+    let cause = subst (λ n. NoteFault n (lsn + 1) glance.entry fault) passed.count (c.in_err-count_seen.ensures.fault glance.entry glance.seen_of) in
     let past : skipped_at old piece ≤ lsn = omega (arith, c.loop-lsn.auto.lsn, c.skipped_below-from.ensures, ap (λ n. skipped (base_lsn (history piece)) n (last_lsn (history piece))) c.loop-lsn.invariant.1) in
     rw (exit.1, exit.2)
-    (subst (PieceFault piece (length old.tallies) old.redo_lsn) (sym only)
-    (first_missing piece (length old.tallies) old.redo_lsn (lsn + 1)
-    (record { entry = glance.entry; past = omega (arith, past); there = glance.there; beyond = named.1; before = λ k r above less found. passed.exist k r above (omega (arith, less)) found })))
+    (piece_fault piece (length old.tallies) old.redo_lsn (lsn + 1) glance.entry fault cause
+    (λ beyond. first_missing piece (length old.tallies) old.redo_lsn (lsn + 1)
+    (record { entry = glance.entry; past = omega (arith, past); there = glance.there; beyond = beyond; before = λ k r above less found. passed.exist k r above (omega (arith, less)) found })))
 
 pub returns-clause-goes_on : goal.returns-clause-goes_on
 returns-clause-goes_on c = λ input own up.
     let piece = c.args.piece.now in
     let end : c.loop-lsn.lsn ≡ last_lsn (history piece) = omega (arith, c.loop-lsn-test.false, c.loop-lsn.auto.lsn-end, c.last-last.ensures, c.skipped_below-from.ensures, skipped_within (base_lsn (history piece)) c.self.inside.redo_lsn (last_lsn (history piece)) (base_within (history piece))) in
-    subst (λ n. AreUpTo input n c.loop-lsn.self-inside.tallies.items) end (c.loop-lsn.invariant.0.goes_on input own up)
+    subst (λ n. AreUpTo input n c.loop-lsn.self-inside.tallies) end (c.loop-lsn.invariant.0.goes_on input own up)
 
 pub returns-clause-exist : goal.returns-clause-exist
 returns-clause-exist c =

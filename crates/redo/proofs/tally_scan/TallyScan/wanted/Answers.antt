@@ -1,31 +1,32 @@
-use Rattle.std.proofs.Common.{sym, ap, ◌∙◌, subst, arith}
+use Rattle.std.proofs.Common.{◌<◌, ◌⊎◌, List, Contains, length, get_or, ap, subst, arith}
+use Rattle.std.specs.Prelude.{◌↔◌}
 use Rattle.std.proofs.lemmas.List.Elements.{Contains-get_or}
 use Rattle.std.proofs.lemmas.Result.{IfOk-weaker}
-use Rattle.std.proofs.lemmas.Option.{slice_get-get_or, slice_get_within}
-use Rattle.redo.specs.Passing.{TalliesSoFar, StandAtNumbers}
-use Rattle.redo.specs.Wanted.{IsWanted}
+use Rattle.std.proofs.lemmas.Option.{slice_get_within}
+use Rattle.redo.specs.declared.tally.Tally.{Tally}
+use Rattle.redo.specs.Passing.{TalliesSoFar}
+use Rattle.redo.specs.Wanted.{IsLastIn}
 use Rattle.redo.proofs.LastRecords.{page_more, all_pages}
 use Rattle.redo.proofs.Fetching.{none_fetched}
 use Rattle.redo.proofs.tally_scan.TallyScan.wanted.Goals as goal
 
-pub loop-tally-preserved : goal.loop-tally-preserved
-loop-tally-preserved c =
-    let tallies = c.deref-tally-items.result.now in
-    let k = c.loop-tally.tally-index in
-    let numbers : StandAtNumbers tallies = subst StandAtNumbers (sym c.deref-tally-items.ensures.value) c.self.invariant.numbered in
-    page_more tallies k _ c.loop-tally.wanted.items c.want_slots.new.wanted.items numbers
-    (slice_get-get_or tallies k _ (omega (arith, c.loop-tally-test.true, c.loop-tally.auto.tally-index-end))) c.in_ok-want_slots.ensures.each c.loop-tally.invariant
+pub loop-number-preserved : goal.loop-number-preserved
+loop-number-preserved c =
+    let tallies = c.args.self.now.tallies in
+    let number = c.loop-number.number in
+    let old = c.loop-number.wanted.items in
+    let new = c.want.new.wanted.items in
+    let same = ap (λ (s : TalliesSoFar). s.tallies) c.self.view_is in
+    let below : number < length tallies = omega (arith, c.loop-number-test.true, c.len-number-end.ensures, ap (λ (ts : List Tally). length ts) same) in
+    page_more tallies number old new below
+    (λ w t. subst (λ (ts : List Tally). Contains new w ↔ (Contains old w ⊎ IsLastIn number (get_or ts number t).lasts w)) same (c.in_ok-want.ensures.each w t)) c.loop-number.invariant
 
 pub returns-clause-each : goal.returns-clause-each
 returns-clause-each c =
-    let items = c.loop-tally.wanted.items in
-    let tallies = c.deref-tally-items.result.now in
-    let same = c.deref-tally-items.ensures.value ∙ ap (λ (s : TalliesSoFar). s.tallies) c.self.view_is in
-    let found = all_pages tallies c.loop-tally.tally-index items (omega (arith, c.loop-tally-test.false, c.loop-tally.auto.tally-index-end)) c.loop-tally.invariant in
-    IfOk-weaker c.by_lsn.result _ _ (λ sorted are w. (
-      λ has. subst (λ ts. IsWanted ts w) same ((found w).0 ((are w).0 has)),
-      λ one. (are w).1 ((found w).1 (subst (λ ts. IsWanted ts w) (sym same) one)),
-    )) c.by_lsn.ensures.each
+    let tallies = c.args.self.now.tallies in
+    let items = c.loop-number.wanted.items in
+    let found = all_pages tallies c.loop-number.number items (omega (arith, c.loop-number-test.false, c.len-number-end.ensures, ap (λ (s : TalliesSoFar). length s.tallies) c.self.view_is)) c.loop-number.invariant in
+    IfOk-weaker c.by_lsn.result _ _ (λ sorted are w. (λ has. (found w).0 ((are w).0 has), λ one. (are w).1 ((found w).1 one))) c.by_lsn.ensures.each
 
 pub returns-clause-pages : goal.returns-clause-pages
 returns-clause-pages c = IfOk-weaker c.by_lsn.result _ _ (λ sorted each k d lt.

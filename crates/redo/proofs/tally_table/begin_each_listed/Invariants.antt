@@ -4,13 +4,13 @@ use Rattle.page.specs.Store.{AreNumbered}
 use Rattle.tables.specs.Tables.{TablesContent}
 use Rattle.redo.specs.declared.tally.Tally.{Tally}
 use Rattle.redo.specs.Passing.{IsBegunIn, AreScanned, ListEach}
-use Rattle.redo.proofs.one_pass.begin_each_listed.Given as goal
+use Rattle.redo.proofs.tally_table.begin_each_listed.Given as goal
 
 abbrev pub invariant-loop-number : goal.invariant-loop-number
 invariant-loop-number g l =
     record {
-      count : length l.tallies.items ≡ l.number;
-      scanned : AreScanned 0 l.tallies.items;
+      count : length l.tallies ≡ l.number;
+      scanned : AreScanned 0 l.tallies;
       begun : (stored shown : List Page) (tables : TablesContent) → g.P.Pages.shows l.pages stored shown → AreNumbered shown → ListEach (g.P.Pages.count l.pages) l.first tables
-          → (k : ℕ) (t : Tally) → k < l.number → IsBegunIn shown tables k (get_or l.tallies.items k t);
+          → (k : ℕ) (t : Tally) → k < l.number → IsBegunIn shown tables k (get_or l.tallies k t);
     }
