@@ -33,7 +33,7 @@ fn records_into(log: &[u8], first: u64, out: &mut [raw::Record]) -> Result<raw::
     Ok(read)
 }
 
-/// The records of a log from the LSN `first` on, at most so many. A call reads the whole log: ask for many at once.
+/// The records of a log from the LSN `first` on, at most this many. A call reads the whole log: ask for many at once.
 ///
 /// # Errors
 /// `BadLogHeader`, `BadLength`, `BadRecord`, `BadLsn`: the bytes are no log. `NoResource`.

@@ -99,7 +99,7 @@ pub fn checkpoint_end_frame(lsn: u64, checkpoint: &Checkpoint) -> Result<Vec<u8>
     })
 }
 
-/// The header of a store of so many pages, 1 to 4,096, with the LSN of the last whole checkpoint's begin, 0 for none.
+/// The header of a store of this many pages, 1 to 4,096, with the LSN of the last whole checkpoint's begin, 0 for none.
 ///
 /// # Errors
 /// `NotWritable` where the page count is out of its range.

@@ -80,7 +80,7 @@ fn an_update_is_spelled() {
     assert_eq!(aries::log_header(Start::Version1), Ok(b"ARIESLG1".to_vec()));
 }
 
-/// A number in so many bytes, the largest first.
+/// A number in this many bytes, the largest first.
 fn bytes(number: u64, width: usize) -> Vec<u8> {
     number.to_be_bytes()[8 - width..].to_vec()
 }

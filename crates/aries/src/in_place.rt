@@ -232,8 +232,9 @@ fn place_store<R: Files>(rt: &R, store: &Notes, replaced: Option<&str>) -> Resul
 ///
 /// Before anything is changed the log is opened to be read and to be appended to, and the store to
 /// be read. After `WriteLog` or `WriteStore` the run can be made again, and finishes what was
-/// begun; a new store that does not replace the old one is removed before. After any other fault the log and the store are as they were, or as the run before would
-/// have left the log. But if a large store is read once more and has a fault then (`ReadStore`,
+/// begun; if the new store is not to replace the old one, first remove what was written of it.
+/// After any other fault the log and the store are as they were, or as the run before would have
+/// left the log. But if a large store is read once more and has a fault then (`ReadStore`,
 /// `StoreSize` or `BadPage`), the log is continued already, and the store is as it was. This run
 /// can be made again too.
 pub fn recover_files_in_place<R: Files + Clock + Threads + Sync>(

@@ -27,7 +27,7 @@ TellsWhy log mark told = (told ≡ not_writable) ⊎ Tells (HasFaultAt log (mark
 abbrev pub end_of : LogEnd → Mark
 end_of told = record { lsn = told.last_lsn; offset = told.length }
 
--- and what follows it: a torn tail of so many bytes, which may be none, or a fault
+-- and what follows it: a torn tail of this many bytes, which may be none, or a fault
 pub record TellsRest (log : List ℕ) (told : LogEnd) : Type 0 where
   pub torn : OnDone told.damage ((length log ≡ told.length + told.torn) × IsTorn (drop told.length log))
   pub damage : OnFailed told.damage ((told.torn ≡ 0) × Tells (HasFaultAt log (end_of told)) told.damage)

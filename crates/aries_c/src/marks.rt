@@ -89,7 +89,7 @@ pub extern "C" fn aries_next_record(log: &[u8], mark: &mut Mark, out: &mut Recor
     }
 }
 
-/// The end of a log at this mark, with so many torn bytes or this damage after it.
+/// The end of a log at this mark, with this many torn bytes or this damage after it.
 fn end_with(end: pieces::Mark, torn: u64, damage: Fault) -> LogEnd
     ensures end { end_of result ≡ end }
     ensures torn { result.torn ≡ torn }

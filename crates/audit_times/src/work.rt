@@ -65,7 +65,7 @@ fn append_commits(bytes: &mut Vec<u8>, first: u32, lsn: u64, numbering: u32) -> 
     Ok(())
 }
 
-/// The bytes of a log of so many transactions, rounded up to whole rounds.
+/// The bytes of a log of this many transactions, rounded up to whole rounds.
 pub fn log_of(alloc: Global, transactions: u32, numbering: u32) -> Result<Vec<u8>> {
     let mut bytes = Vec::from_slice(alloc, &plain_header())?;
     let mut lsn: u64 = 1;

@@ -1,7 +1,5 @@
-mod Empty
 pub mod ChangedImages
 pub mod Numbered
-pub mod PageLsns
 pub mod Places
 pub mod Puts
 pub mod Shown

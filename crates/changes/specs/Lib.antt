@@ -1,7 +1,6 @@
 pub mod Changes
 pub mod Images
 pub mod Laws
-pub mod Lsns
 pub mod Numbered
 pub mod Pages
 pub mod Parts

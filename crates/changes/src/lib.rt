@@ -2,15 +2,12 @@
 //! that change, and a few bytes for each page.
 #![tactic(auto)]
 
-mod came;
 mod changes;
 mod images;
 mod laws;
-mod lsns;
 mod pages;
 mod parts;
 
 pub use changes::Changes;
 pub use laws::puts_are_sets;
-pub use lsns::{LsnReader, StoreLsns};
 pub use pages::Pages;

@@ -79,7 +79,7 @@ impl<F: OpenFile + Write + Seek> OpenFiles<F> {
         self.store.write_all(&encode_page(page))
     }
 
-    /// Sets the master of a store of so many pages.
+    /// Sets the master of a store of this many pages.
     pub fn set_master(&mut self, count: u32, master: u64) -> io::Result<()> {
         self.store.seek(SeekFrom::Start(0))?;
         self.store.write_all(&store_header(count, master))

@@ -59,7 +59,7 @@ OpenRefused log store transactions pages pending NoNumber = has (is_of largest_n
 OpenRefused log store transactions pages pending LogFull = 2 ^ 64 ≤ last_lsn (history log) + 2 * unfinished_count (history log) + pending
 OpenRefused log store transactions pages pending _ = ⊥
 
--- the same of a journal that owns its arrays, with room for so many pending updates; and whatever the room
+-- the same of a journal that owns its arrays, with room for this many pending updates; and whatever the room
 abbrev pub OwnOpenRefused : LogContent → StoreContent → (pending : ℕ) → Refusal → Type 0
 OwnOpenRefused log store pending NoResource = ⊤
 OwnOpenRefused log store pending BadArrays = ⊥

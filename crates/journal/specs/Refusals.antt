@@ -115,7 +115,7 @@ abbrev pub LogWrittenRefused : Run → (lsn : ℕ) → Refusal → Type 0
 LogWrittenRefused run lsn NoSuchLsn = last_lsn (log_of run) < lsn
 LogWrittenRefused run lsn _ = ⊥
 
--- there is no such cell among so many pages
+-- there is no such cell among this many pages
 abbrev pub CellMissing : (count page slot : ℕ) → Refusal → Type 0
 CellMissing count page slot NoSuchPage = count ≤ page
 CellMissing count page slot NoSuchSlot = SLOTS ≤ slot

@@ -56,7 +56,7 @@ IsNoteRefusal BadArrays = ⊤
 IsNoteRefusal NothingToUndo = ⊤
 IsNoteRefusal _ = ⊥
 
--- why the last record of a lawful log is not noted, in arrays with so many entries: too many transactions are unfinished, or too many
+-- why the last record of a lawful log is not noted, in arrays with this many entries: too many transactions are unfinished, or too many
 -- updates pending
 abbrev pub NoteRefused : History → (transactions pending : ℕ) → Refusal → Type 0
 NoteRefused log transactions pending TooManyTransactions = AreTooMany log transactions

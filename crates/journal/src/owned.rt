@@ -151,7 +151,7 @@ fn needed_after(needed: usize, was_full: bool, now: usize) -> usize
     if was_full { now } else { needed }
 }
 
-/// An array of blank entries for each of so many pages.
+/// An array of blank entries for each of this many pages.
 fn blank_pages(alloc: Global, count: usize) -> Result<Vec<PageEntry>, Refusal>
     ensures size { IfOk result (λ pages. length pages.items ≡ count) }
     ensures err { IsOkUnless result NoResource }
@@ -331,7 +331,7 @@ impl Journal {
         })
     }
 
-    /// Opens the journal that continues a log, with room for so many pending updates.
+    /// Opens the journal that continues a log, with room for this many pending updates.
     fn open_with(alloc: Global, log: &Log, store: &Store, room: usize) -> Result<Journal, Refusal>
         requires { 0 < room }
         ensures ok { IfOk result (λ j. (base : BasePages) → MayOpen base log.now store.now

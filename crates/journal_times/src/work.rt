@@ -75,7 +75,7 @@ impl Engine {
         self.journal.frames_taken();
     }
 
-    /// A transaction updates one slot of so many pages in turn, and stays open.
+    /// A transaction updates one slot of this many pages in turn, and stays open.
     fn leave_pending(&mut self, count: usize) -> Result<()> {
         let tx = self.journal.begin().map_err(refused)?;
         for turn in 0..count {
@@ -114,9 +114,9 @@ impl Engine {
     }
 }
 
-/// Makes so many updates by 64 transactions in turn, each of which commits after 16 updates; and
-/// before them so many of one more transaction, which stays open. Returns how many bytes of frames
-/// there are, and the last LSN.
+/// Makes this many updates by 64 transactions in turn, each of which commits after 16 updates; and
+/// before them this many of one more transaction, which stays open. Returns how many bytes of
+/// frames there are, and the last LSN.
 pub fn done(alloc: Global, updates: usize, pending: usize) -> Result<(u64, u64)> {
     let mut engine = Engine::new(alloc)?;
     engine.leave_pending(pending)?;

@@ -4,6 +4,7 @@ pub mod File
 pub mod Image
 pub mod Images
 pub mod Laws
+pub mod Lsns
 pub mod Parts
 pub mod Pieces
 pub mod Profile

@@ -7,6 +7,7 @@ mod fault;
 mod file;
 mod image;
 mod laws;
+mod lsns;
 mod numbers;
 mod page;
 mod pieces;
@@ -22,6 +23,7 @@ pub use laws::{
     no_fault_of_a_store, numbers_of_the_profile, one_page_spelling, one_store_fault,
     one_store_spelling,
 };
+pub use lsns::{LsnReader, StoreLsns};
 pub use page::Page;
 pub use pieces::{StoreReader, decode_store};
 pub use profile::{

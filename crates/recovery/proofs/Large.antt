@@ -12,7 +12,7 @@ use Rattle.page.specs.Store.{StoreContent}
 use Rattle.page.specs.File.{SpellsStore, store_text}
 use Rattle.changes.specs.Changes.{PageChange, unchanged, changed}
 use Rattle.changes.specs.Pages.{ShowsChanges}
-use Rattle.changes.specs.Lsns.{lsns_of}
+use Rattle.page.specs.Lsns.{lsns_of}
 use Rattle.changes.proofs.Puts.{puts_are_sets}
 use Rattle.wal.specs.Meaning.{BasePages}
 use Rattle.wal.specs.Reads.{Reads}

@@ -17,11 +17,11 @@ use Rattle.page.specs.Image.{page_text, FitsPage}
 use Rattle.page.specs.Store.{StoreContent}
 use Rattle.page.specs.File.{store_header, store_text, FitsStore, SpellsStore, StoreFault}
 use Rattle.page.proofs.Files.{length-page_text, length-pieces}
-use Rattle.changes.specs.declared.lsns.StoreLsns.{StoreLsns}
+use Rattle.page.specs.declared.lsns.StoreLsns.{StoreLsns}
 use Rattle.changes.specs.Changes.{PageChange, AreChanged, changed}
 use Rattle.changes.specs.Pages.{ShowsChanges}
 use Rattle.changes.specs.Images.{AreImagesFrom}
-use Rattle.changes.specs.Lsns.{AreLsnsOf, SpellsLsns}
+use Rattle.page.specs.Lsns.{AreLsnsOf, SpellsLsns}
 use Rattle.device.specs.Reread.{EndsBy, ReadsFrom}
 use Rattle.device.specs.Transfer.{TookBeginning}
 use Rattle.recovery.specs.Devices.{Gave}
@@ -147,7 +147,7 @@ module _ (before between after : Option (List ℕ)) (first n : ℕ) (pages : Lis
       let some = subst (TookBeginning before after) (images_more first n pages) (behind_front before between after (images_from 0 first pages) (images_from first n pages) came took) in
       subst (TookBeginning before after) (images_more (first + n) rest pages ∙ ap (λ k. images_from 0 k pages) (sym e)) (begins_longer before after (images_from 0 (first + n) pages) (images_from (first + n) rest pages) some)
 
--- A PIECE of so many images
+-- A PIECE of this many images
 module _ (before : StoreContent) (changes : List PageChange) (shown : List Page) (first : ℕ) (images : List ℕ) (fits : FitsStore before) (s : ShowsChanges changes before.pages shown)
     (whole : length images % PAGE_BYTES ≡ 0) (within : first + length images / PAGE_BYTES ≤ length changes) where
   -- it is in the store

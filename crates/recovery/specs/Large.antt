@@ -8,7 +8,7 @@ use Rattle.page.specs.Store.{StoreContent}
 use Rattle.page.specs.File.{SpellsStore, store_text}
 use Rattle.changes.specs.Changes.{PageChange}
 use Rattle.changes.specs.Pages.{ShowsChanges}
-use Rattle.changes.specs.declared.lsns.StoreLsns.{StoreLsns}
+use Rattle.page.specs.declared.lsns.StoreLsns.{StoreLsns}
 use Rattle.wal.specs.Meaning.{BasePages}
 use Rattle.wal.specs.Records.{LogContent}
 use Rattle.device.specs.declared.traits.Sink.{Ghosts as Sink}

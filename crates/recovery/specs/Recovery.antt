@@ -80,7 +80,7 @@ report_of read torn x = record {
   in_doubt = x.in_doubt;
 }
 
--- the numbers of a restart that leaves any store with so many pages
+-- the numbers of a restart that leaves any store with this many pages
 abbrev pub ReportsOn : LogContent → (torn pages redo_from redone : ℕ) → UndoOutcome → ReportContent → Type 0
 ReportsOn read torn pages redo_from redone undone report =
     (after : StoreContent) → length after.pages ≡ pages → report ≡ report_of read torn (outcome_with after redo_from redone (history read) undone)

@@ -11,8 +11,8 @@ use Rattle.page.specs.Store.{StoreContent}
 use Rattle.page.specs.File.{store_text, FitsStore, SpellsStore, StoreFault}
 use Rattle.changes.specs.Changes.{PageChange}
 use Rattle.changes.specs.Pages.{ShowsChanges}
-use Rattle.changes.specs.declared.lsns.StoreLsns.{StoreLsns}
-use Rattle.changes.specs.Lsns.{AreLsnsOf, SpellsLsns}
+use Rattle.page.specs.declared.lsns.StoreLsns.{StoreLsns}
+use Rattle.page.specs.Lsns.{AreLsnsOf, SpellsLsns}
 use Rattle.device.specs.declared.traits.Sink.{Ghosts as Sink}
 use Rattle.recovery.specs.declared.store_changes.DecodedLsns.{DecodedLsns}
 use Rattle.recovery.specs.Devices.{Gave, AreOut}
@@ -39,7 +39,7 @@ AreLsnsBehind header held found =
 abbrev pub image_at : (page : ℕ) → ℕ
 image_at page = STORE_HEADER_BYTES + PAGE_BYTES * page
 
--- the images of so many pages from this one on
+-- the images of this many pages from this one on
 abbrev pub images_from : (first count : ℕ) → List Page → List ℕ
 images_from first count pages = flat_map page_text (take count (drop first pages))
 
@@ -71,7 +71,7 @@ IsReadFault held first buffer e = ForKept held (image_at first + length buffer) 
 abbrev pub AreShown : Option (List ℕ) → List PageChange → (first : ℕ) → List ℕ → Type 0
 AreShown held changes first bytes = ForShown held changes (λ shown. bytes ≡ images_from first (length bytes / PAGE_BYTES) shown)
 
--- a sink took the images of so many pages after their changes
+-- a sink took the images of this many pages after their changes
 abbrev pub TookImages : {D : Type 0} → Option (List ℕ) → List PageChange → (count : ℕ) → (sink : Sink D) → (old new : D) → Type 0
 TookImages held changes count sink old new = ForShown held changes (λ shown. Took sink old new (images_from 0 count shown))
 

@@ -52,7 +52,7 @@ pub fn frames_of(alloc: Global, log: &Looked, appended: &[Appended]) -> Result<V
     Ok(frames)
 }
 
-/// The report of a restart that leaves so many pages. What it appends is dropped.
+/// The report of a restart that leaves this many pages. What it appends is dropped.
 pub fn report_on(
     log: &Looked,
     torn: usize,

@@ -13,9 +13,9 @@ ghost use Rattle.recovery.specs.StoreChanges.{AreDecodedLsns, AreLsnsBehind, ima
 
 use crate::reading::read_from;
 use crate::store_pieces::{PIECE, PIECE_PAGES};
-use changes::{Changes, LsnReader, StoreLsns};
+use changes::Changes;
 use device::{Failed, Reread, Sink, write_all};
-use page::{Fault, PAGE_BYTES, STORE_HEADER_BYTES, store_header};
+use page::{Fault, LsnReader, PAGE_BYTES, STORE_HEADER_BYTES, StoreLsns, store_header};
 use std::alloc::Global;
 
 /// The master and the PageLSNs of the store that all bytes of a device encode, or the error of

@@ -40,7 +40,7 @@ outcome_of x = outcome_by content x
 abbrev pub outcome_in : History → Outcome Appended → OutcomeContent
 outcome_in log x = outcome_by (record_of log) x
 
--- the outcome with this store, if redo began here and applied so many records
+-- the outcome with this store, if redo began here and applied this many records
 abbrev pub outcome_with : (store : StoreContent) → (redo_from redone : ℕ) → History → UndoOutcome → OutcomeContent
 outcome_with store redo_from redone log x = record {
   store = store;

@@ -31,7 +31,7 @@ impl Random {
         if bound == 0 { 0 } else { drawn % bound }
     }
 
-    /// Whether something happens that happens once in so many times: always, if these are 0 or 1.
+    /// Whether something happens that happens once in this many times: always, if these are 0 or 1.
     pub fn once_in(&mut self, times: u32) -> bool
         ensures { times ≤ 1 → IsTrue result }
     {

@@ -56,7 +56,7 @@ pub record RolledBackInBrief (log : LogContent) (tables : TablesContent) (given 
   pub updates : HaveUpdates log appended
   pub writable : HasNoTransaction0 tables → AreFit log appended
 
--- THE SAME WITHOUT THE PAGES, of which there are so many
+-- THE SAME WITHOUT THE PAGES, of which there are this many
 pub record RolledBackOn (log : LogContent) (tables : TablesContent) (count : ℕ) (appended : List Appended) : Type 0 where
   pub appended_are : full_records log appended ≡ undone_by (history log) (losers_in tables)
   pub no_bad_hop : NoBadHop (history log) (losers_in tables)

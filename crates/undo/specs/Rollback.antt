@@ -183,7 +183,7 @@ pub record Resolves (log : LogContent) (l : Loser) (from lsn : ℕ) (old new : R
   pub updates : Preserves (HaveUpdates log) old.appended.items new.appended.items
   pub writable : 0 < l.tx → Preserves (AreFit log) old.appended.items new.appended.items
 
--- the losers of the tables are being rolled back, on so many pages: what is left waits
+-- the losers of the tables are being rolled back, on this many pages: what is left waits
 pub record IsRolling (log : LogContent) (tables : TablesContent) (count : ℕ) (r : Rollback) : Type 0 where
   pub left : RollbackInvariant (history log) (losers_in tables) count (loser_at r) (full_records log r.appended.items)
   pub updates : HaveUpdates log r.appended.items
@@ -236,13 +236,13 @@ AppendsAtMost most old new = length new.appended.items ≤ length old.appended.i
 abbrev pub StopsBeginning : LogContent → TablesContent → Fault → Type 0
 StopsBeginning log tables e = (count : ℕ) → UndoFault (history log) (losers_in tables) count e
 
--- why the one cannot be undone, and why all cannot, on so many pages
+-- why the one cannot be undone, and why all cannot, on this many pages
 abbrev pub StopsUndo : LogContent → (count update_lsn : ℕ) → Loser → Rollback → Fault → Type 0
 StopsUndo log count update_lsn l r e = (tables : TablesContent) → IsTaken log tables count update_lsn l r → UndoFault (history log) (losers_in tables) count e
 
 abbrev pub StopsRollback : LogContent → (count : ℕ) → Rollback → Fault → Type 0
 StopsRollback log count r e = (tables : TablesContent) → IsRolling log tables count r → UndoFault (history log) (losers_in tables) count e
 
--- the error of undo on so many pages
+-- the error of undo on this many pages
 abbrev pub FaultOn : LogContent → TablesContent → (count : ℕ) → Fault → Type 0
 FaultOn log tables count e = UndoFault (history log) (losers_in tables) count e

@@ -1,8 +1,7 @@
 //! PageLSNs of stores whose bytes come piece by piece: bytes that were worked out by hand.
 
-use changes::{LsnReader, StoreLsns};
 use checks::{check, check_all};
-use page::Fault;
+use page::{Fault, LsnReader, StoreLsns};
 use std::alloc::{AllocError, Global};
 use std::test::Fail;
 

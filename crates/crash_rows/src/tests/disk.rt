@@ -45,7 +45,7 @@ pub fn image_in(store: &[u8], number: u32) -> Option<&[u8; PAGE_BYTES]> {
 }
 
 impl Disk {
-    /// An empty log, and a store of so many empty pages.
+    /// An empty log, and a store of this many empty pages.
     pub fn new(alloc: Global, count: u32) -> Result<Disk, AllocError> {
         let log = Vec::from_slice(alloc, &plain_header())?;
         let mut pages = Vec::new(alloc);
@@ -131,7 +131,7 @@ impl Disk {
         self.log.get(..length).unwrap_or(&[])
     }
 
-    /// The store of so many pages that a crash leaves.
+    /// The store of this many pages that a crash leaves.
     fn store(&self, alloc: Global, count: u32, random: &mut Random) -> Result<Vec<u8>, AllocError> {
         let mut store = Vec::from_slice(alloc, &store_header(count, self.master(random)))?;
         for number in 0..count {
@@ -140,7 +140,7 @@ impl Disk {
         Ok(store)
     }
 
-    /// What a crash leaves of the log and of so many pages.
+    /// What a crash leaves of the log and of this many pages.
     pub fn crash(
         &self,
         alloc: Global,
@@ -153,7 +153,7 @@ impl Disk {
         })
     }
 
-    /// A disk on which this log and a store of so many pages, with this master, are synced.
+    /// A disk on which this log and a store of this many pages, with this master, are synced.
     pub fn of(alloc: Global, files: &Files, count: u32, master: u64) -> Result<Disk, AllocError> {
         let mut pages = Vec::new(alloc);
         for number in 0..count {

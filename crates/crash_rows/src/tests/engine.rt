@@ -50,7 +50,7 @@ pub struct Engine {
 }
 
 impl Engine {
-    /// An engine with a new log, over so many empty pages.
+    /// An engine with a new log, over this many empty pages.
     pub fn new(alloc: Global, count: u32) -> Result<Engine, Fail> {
         let disk = Disk::new(alloc, count)?;
         let files = disk.crash(alloc, count, &mut Random::new(0))?;

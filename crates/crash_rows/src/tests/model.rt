@@ -107,7 +107,7 @@ pub fn page_of(number: u32, cells: &[u16]) -> Page {
 }
 
 impl Model {
-    /// The model of a log without records, over so many cells without values.
+    /// The model of a log without records, over this many cells without values.
     pub fn new(alloc: Global, cells: usize) -> Result<Model, AllocError> {
         Ok(Model {
             events: Vec::new(alloc),
@@ -345,8 +345,8 @@ fn lasting(alloc: Global, events: &[Event]) -> Result<Vec<bool>, AllocError> {
     Ok(lasts)
 }
 
-/// The values of so many cells after a crash that leaves these records, and a recovery: the changes
-/// of the committed transactions and of those in doubt, in their order.
+/// The values of this many cells after a crash that leaves these records, and a recovery: the
+/// changes of the committed transactions and of those in doubt, in their order.
 pub fn lasting_cells(
     alloc: Global,
     events: &[Event],

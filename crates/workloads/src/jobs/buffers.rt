@@ -135,7 +135,8 @@ fn named_records(alloc: Global, chance: &mut Chance) -> Result<Vec<Named>> {
     Ok(records)
 }
 
-/// Writes so many frames one after another into a buffer, from its front again where little room is left.
+/// Writes this many frames one after another into a buffer, from its front again where little room
+/// is left.
 pub fn write_to_buffer(
     alloc: Global,
     count: usize,

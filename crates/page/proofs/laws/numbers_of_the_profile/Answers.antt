@@ -7,5 +7,6 @@ returns c = record {
   offsets_fit = omega arith;
   slots_fit = omega arith;
   pages_fit = omega arith;
+  counts_fit = omega arith;
   store_fits = omega arith;
 }

@@ -1,6 +1,6 @@
 use Rattle.std.proofs.Common.{inl, inr}
 use Rattle.std.proofs.lemmas.Result.{err_from_is_err_and, IfOk-at_ok, IfOk-weaker, IfErr-weaker, MatchResult-at_ok}
-use Rattle.changes.specs.Lsns.{SpellsLsns}
+use Rattle.page.specs.Lsns.{SpellsLsns}
 use Rattle.wal.proofs.Causes.{no_fault_of_a_log}
 use Rattle.recovery.proofs.large_store.make_large.Goals as goal
 

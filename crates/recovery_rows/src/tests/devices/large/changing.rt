@@ -53,7 +53,7 @@ fn left_of_changed(alloc: Global, worked: &Worked, after: &[u8]) -> Result<Left,
 }
 
 /// Fails a test if the fault is another one; or if the log is not continued and flushed; or if the
-/// new store is not so many of the first bytes of the row's.
+/// new store is not this many of the first bytes of the row's.
 fn check_late(worked: &Worked, left: &Left, fault: Fault, length: usize) -> Result<(), Fail> {
     let new_log = worked.row.made.bytes.as_slice();
     let is_blamed = match &left.answer {

@@ -5,7 +5,7 @@ use Rattle.page.specs.declared.profile.TheConstants.{PAGE_BYTES}
 use Rattle.page.specs.Store.{StoreContent}
 use Rattle.page.specs.File.{SpellsStore}
 use Rattle.page.specs.Pieces.{AreRead, IsSoFar}
-use Rattle.changes.specs.declared.lsns.StoreLsns.{StoreLsns}
+use Rattle.page.specs.declared.lsns.StoreLsns.{StoreLsns}
 
 -- the PageLSN of each page
 abbrev pub lsns_of : List Page → List ℕ

@@ -2,9 +2,9 @@ use Rattle.std.proofs.Common.{◌≡◌, ◌≤◌, ◌%◌, length, drop, arith
 use Rattle.std.proofs.lemmas.List.{length-drop}
 use Rattle.page.specs.declared.profile.TheConstants.{PAGE_BYTES}
 use Rattle.page.specs.declared.sizes.TheConstants.{STORE_HEADER_BYTES}
-use Rattle.changes.specs.Lsns.{LsnsSoFar}
-use Rattle.changes.proofs.PageLsns.{lsns_so_far}
-use Rattle.changes.proofs.lsns.LsnReader.take.Goals as goal
+use Rattle.page.specs.Lsns.{LsnsSoFar}
+use Rattle.page.proofs.PageLsns.{lsns_so_far}
+use Rattle.page.proofs.lsns.LsnReader.take.Goals as goal
 
 pub invariant_of-self : goal.invariant_of-self
 invariant_of-self c =

@@ -1,7 +1,7 @@
 use Rattle.std.proofs.Common.{◌≡◌, ◌∙◌, arith, rules, subst, sym, length, true, false}
-use Rattle.changes.specs.Lsns.{LsnsAreRead}
-use Rattle.changes.proofs.PageLsns.{lsns_stay, lsns_first, lsns_more, lsns_bad}
-use Rattle.changes.proofs.lsns.take_lsns.Goals as goal
+use Rattle.page.specs.Lsns.{LsnsAreRead}
+use Rattle.page.proofs.PageLsns.{lsns_stay, lsns_first, lsns_more, lsns_bad}
+use Rattle.page.proofs.lsns.take_lsns.Goals as goal
 
 pub returns-then-bad-clause-read : goal.returns-then-bad-clause-read
 returns-then-bad-clause-read c = λ before whole r.

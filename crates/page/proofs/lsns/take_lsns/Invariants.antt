@@ -1,9 +1,9 @@
 use Rattle.std.proofs.Common.{◌≡◌, ◌%◌, ◌≤◌, ◌++◌, length, ℕ, List, false}
 use Rattle.std.specs.Vec.{vec_capacity}
 use Rattle.page.specs.declared.profile.TheConstants.{PAGE_BYTES}
-use Rattle.changes.specs.Lsns.{LsnsAreRead}
-use Rattle.changes.proofs.PageLsns.{LsnsLeft}
-use Rattle.changes.proofs.lsns.take_lsns.Given as goal
+use Rattle.page.specs.Lsns.{LsnsAreRead}
+use Rattle.page.proofs.PageLsns.{LsnsLeft}
+use Rattle.page.proofs.lsns.take_lsns.Given as goal
 
 abbrev pub invariant-loop-rest : goal.invariant-loop-rest
 invariant-loop-rest l = (l.count ≤ vec_capacity l.lsns) ×

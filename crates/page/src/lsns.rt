@@ -1,42 +1,21 @@
 //! The PageLSNs of a store whose bytes come piece by piece.
 
-ghost use Rattle.std.specs.Prelude.{◌≡◌, ◌-◌, ◌%◌, ◌≤◌, ◌++◌, ℕ, IfOk, IfErr, IfSome, MatchResult, length};
+ghost use Rattle.std.specs.Prelude.{◌≡◌, ◌-◌, ◌%◌, ◌≤◌, ◌++◌, IfOk, IfErr, MatchResult, length};
 ghost use Rattle.std.specs.Vec.{vec_capacity};
 ghost use Rattle.page.specs.Store.{StoreContent};
-ghost use Rattle.page.specs.File.{BeginsWithHeader, SpellsStore, StoreFault};
+ghost use Rattle.page.specs.File.{SpellsStore, StoreFault};
 ghost use Rattle.page.specs.declared.profile.TheConstants.{PAGES, PAGE_BYTES};
 ghost use Rattle.page.specs.declared.sizes.TheConstants.{STORE_HEADER_BYTES};
-ghost use Rattle.changes.specs.Lsns.{AreLsnsOf, SpellsLsns, ReadsLsns};
+ghost use Rattle.page.specs.Lsns.{AreLsnsOf, SpellsLsns, ReadsLsns};
 
+use crate::Fault;
 use crate::came::Came;
-use byteorder::{BigEndian, ByteOrder};
-use page::{Fault, MAGIC_BYTES, PAGE_BYTES, PAGES, STORE_HEADER_BYTES, decode_page, store_header};
+use crate::file::header_at;
+use crate::image::decode_page;
+use crate::profile::PAGE_BYTES;
+use crate::sizes::STORE_HEADER_BYTES;
 use std::alloc::Global;
 use std::marker::Model;
-
-/// The page count and the master in the header of a store's file. `None` if the bytes do not begin
-/// with a valid header.
-fn header_at(bytes: &[u8]) -> Option<(u32, u64)>
-    ensures found { IfSome result (λ header. BeginsWithHeader bytes.now header.0 header.1) }
-    ensures only { (count master : ℕ) → BeginsWithHeader bytes.now count master
-        → result ≡ Some (count, master) }
-{
-    if bytes.len() < STORE_HEADER_BYTES {
-        return None;
-    }
-    let (header, _) = bytes.split_at(STORE_HEADER_BYTES);
-    let (_, numbers) = header.split_at(MAGIC_BYTES);
-    let (_, last) = numbers.split_at(8);
-    let count = BigEndian::read_u32(numbers);
-    let master = BigEndian::read_u64(last);
-    if header != store_header(count, master).as_slice() {
-        return None;
-    }
-    if count == 0 || count as usize > PAGES {
-        return None;
-    }
-    Some((count, master))
-}
 
 /// Takes the PageLSNs of the pages whose images follow each other here. The first image is that of
 /// page `lsns.len()`. It stops at the page count and before a bad page. Returns whether a page was
@@ -102,7 +81,7 @@ impl Model for LsnReader {
     ghost use Rattle.std.specs.Prelude.{◌≤◌, ℕ, List};
     ghost use Rattle.std.specs.Vec.{vec_capacity};
     ghost use Rattle.page.specs.declared.profile.TheConstants.{PAGES};
-    ghost use Rattle.changes.specs.Lsns.{LsnsSoFar};
+    ghost use Rattle.page.specs.Lsns.{LsnsSoFar};
 
     ghost Value = { List ℕ };
 

@@ -4,9 +4,9 @@ use Rattle.page.specs.File.{SpellsStore}
 use Rattle.page.specs.declared.fault.Fault.TheVariants.{BadStoreHeader, StoreSize, BadPage}
 use Rattle.page.proofs.Causes.{no_fault_of_a_store}
 use Rattle.page.proofs.Once.{one_store, store_of}
-use Rattle.changes.specs.Lsns.{lsns_of}
-use Rattle.changes.proofs.PageLsns.{lsns_wrong_size, lsns_bad_page, lsns_store}
-use Rattle.changes.proofs.lsns.LsnReader.finish.Goals as goal
+use Rattle.page.specs.Lsns.{lsns_of}
+use Rattle.page.proofs.PageLsns.{lsns_wrong_size, lsns_bad_page, lsns_store}
+use Rattle.page.proofs.lsns.LsnReader.finish.Goals as goal
 
 pub returns-then-count-eq0-clause-only : goal.returns-then-count-eq0-clause-only
 returns-then-count-eq0-clause-only c = λ store s.

@@ -8,7 +8,7 @@ use Rattle.page.specs.Image.{SpellsPage}
 use Rattle.page.specs.File.{BeginsWithHeader, HasStoreHeader, SpellsStore, HasWrongSize, HasBadPage}
 use Rattle.page.proofs.Once.{store_of}
 use Rattle.page.proofs.Piecewise.{IsLeft, read_stays, left_first, read_all, read_more, read_bad, so_far_more, so_far_first, is_wrong_size, is_bad_page, is_store}
-use Rattle.changes.specs.Lsns.{lsns_of, LsnsAreRead, LsnsSoFar}
+use Rattle.page.specs.Lsns.{lsns_of, LsnsAreRead, LsnsSoFar}
 
 -- as many as there are pages
 pub count_lsns : (lsns : List ℕ) (pages : List Page) → lsns ≡ lsns_of pages → length lsns ≡ length pages

@@ -1,10 +1,10 @@
 use Rattle.std.proofs.Common.{◌≡◌, ◌≤◌, ◌++◌, ◌∙◌, List, ℕ, false, true, length, arith, subst, sym, ap}
 use Rattle.page.specs.File.{BeginsWithHeader}
 use Rattle.page.specs.declared.profile.TheConstants.{PAGES}
-use Rattle.changes.specs.Lsns.{LsnsSoFar}
-use Rattle.changes.proofs.PageLsns.{lsns_begin}
-use Rattle.changes.proofs.lsns.LsnReader.begin.Goals.{in-Some, in-None}
-use Rattle.changes.proofs.lsns.LsnReader.begin.Goals as goal
+use Rattle.page.specs.Lsns.{LsnsSoFar}
+use Rattle.page.proofs.PageLsns.{lsns_begin}
+use Rattle.page.proofs.lsns.LsnReader.begin.Goals.{in-Some, in-None}
+use Rattle.page.proofs.lsns.LsnReader.begin.Goals as goal
 
 pub invariant_of-result : goal.invariant_of-result
 invariant_of-result c =
