@@ -1,7 +1,7 @@
 #!/usr/bin/env python3
 """Measures how fast `aries` recovers and audits, what memory that takes, and how both grow with the log.
 
-usage: speed.py [--before PROGRAM] PROGRAM [--folder DIR] [--runs N] [--quick] [--markdown FILE]
+usage: speed.py [--before PROGRAM] PROGRAM [--folder DIR] [--runs N] [--quick]
 
 PROGRAM    the program to measure
 --before   another one to set beside it; the two run in turn, and have to write the same bytes
@@ -9,8 +9,6 @@ PROGRAM    the program to measure
            measured); a folder of its own is made there and removed at the end; some 3 GB, with --quick 350 MB
 --runs     how often each case is run, 5 if not said; at 1 GB three times at most; each number is the least of its runs
 --quick    leave out the logs of 1 GB
---markdown put the tables into FILE too, in place of what stands there between two lines, `<!-- speed: begin -->` and
-           `<!-- speed: end -->`
 
 Each log is audited once with its store, and once more as recovered; the first run of each program and count of workers
 has to write the same bytes. Where that is not so, or a program fails, a line says so and the status is 1.
@@ -35,7 +33,6 @@ SHORT, PENDING, LOSERS = "2M", "500K", [1, 4]
 PAPER, TRUE = 10**9, "/bin/true"
 # Has the C library ask for huge pages, for the programs that it starts.
 HUGE = ["/usr/bin/env", "GLIBC_TUNABLES=glibc.malloc.hugetlb=1"]
-MARKS = "<!-- speed: begin -->", "<!-- speed: end -->"
 # A log and its store; `size` is the word that the log was made by.
 Pair = namedtuple("Pair", "shape size log store records bytes")
 # What was measured of a pair: runs by name, of the programs and of the copy.
@@ -289,14 +286,6 @@ def text_of(path):
         return ""
 
 
-def parted(path):
-    """What stands in a file up to the first mark, and from the second on."""
-    text = text_of(path)
-    if [text.count(mark) for mark in MARKS] != [1, 1] or text.index(MARKS[0]) > text.index(MARKS[1]):
-        raise Failure(f"{path} has not the two lines `{MARKS[0]}` and `{MARKS[1]}`")
-    return text[: text.index(MARKS[0]) + len(MARKS[0])], text[text.index(MARKS[1]) :]
-
-
 def report(bench, options):
     begun = machine(bench, options)
     recoveries, audits = measured(bench, LENGTHS if options.quick else [*LENGTHS, LONGEST])
@@ -316,7 +305,6 @@ def options_of_the_line():
     parser.add_argument("--folder", metavar="DIR", default="/dev/shm" if os.access("/dev/shm", os.W_OK) else None)
     parser.add_argument("--runs", type=int, default=5, metavar="N")
     parser.add_argument("--quick", action="store_true")
-    parser.add_argument("--markdown", metavar="FILE")
     options = parser.parse_args()
     if options.runs < 1:
         parser.error("--runs: at least 1")
@@ -328,13 +316,9 @@ def main():
     programs = {"before": options.before, "after": options.program}
     programs = {name: [os.path.abspath(path)] for name, path in programs.items() if path}
     try:
-        ends = parted(options.markdown) if options.markdown else None
         with tempfile.TemporaryDirectory(prefix="aries-speed-", dir=options.folder) as folder:
             text = report(Bench(programs, options.runs, folder), options)
         print(text)
-        if ends:
-            with open(options.markdown, "w", encoding="utf-8") as file:
-                file.write(f"{ends[0]}\n\n{text}\n{ends[1]}")
     except (Failure, OSError, subprocess.CalledProcessError) as failure:
         sys.exit(f"speed.py: {failure}")
 

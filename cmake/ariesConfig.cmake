@@ -1,6 +1,6 @@
 # find_package(aries) makes the target aries::aries: the header, the proved archive, and its heap over malloc.
 # A program with a heap of its own links aries::aries_c, and has the three symbols of heap.c itself.
-# aries::aries_files is the files of aries_files.h, over aries::aries_c; link it before one of the others.
+# aries::aries_files is the files of aries_files.h, over aries::aries. If a program has a heap of its own, that is taken.
 get_filename_component(aries_prefix "${CMAKE_CURRENT_LIST_DIR}/../../.." ABSOLUTE)
 
 if(NOT TARGET aries::aries)
@@ -19,7 +19,7 @@ if(NOT TARGET aries::aries)
     set_target_properties(aries::aries_files PROPERTIES
         IMPORTED_LOCATION "${aries_prefix}/lib/libaries_files.a"
         INTERFACE_INCLUDE_DIRECTORIES "${aries_prefix}/include"
-        INTERFACE_LINK_LIBRARIES aries::aries_c)
+        INTERFACE_LINK_LIBRARIES aries::aries)
 endif()
 
 unset(aries_prefix)

@@ -656,12 +656,17 @@ static inline struct aries_fault aries_engine_roll_back(struct aries_engine *eng
     return fault;
 }
 
-/* aries_journal_checkpoint. */
+/* aries_journal_checkpoint. Sets *begin to the LSN of the begin record, which may become the master. */
 static inline struct aries_fault aries_engine_checkpoint(struct aries_engine *engine, uint8_t *out, size_t room,
-                                                         size_t *length)
+                                                         size_t *length, uint64_t *begin)
 {
-    return aries_journal_checkpoint(&engine->journal, engine->transactions, engine->transactions_count, engine->pages,
-                                    engine->pages_count, out, room, length);
+    uint64_t last = engine->journal.last;
+    struct aries_fault fault = aries_journal_checkpoint(&engine->journal, engine->transactions,
+                                                        engine->transactions_count, engine->pages,
+                                                        engine->pages_count, out, room, length);
+    if (fault.number == ARIES_OK)
+        *begin = last + 1;
+    return fault;
 }
 
 /* aries_journal_log_written. */

@@ -1,6 +1,6 @@
 #!/usr/bin/env python3
-"""Runs bindings/c/aries_files.c on a disk in memory: makes crash states of engines, opens each, and checks what was
-opened; and plants mistakes, which it has to find.
+"""Runs bindings/c/aries_files.c on real files, to see what its calls refuse; and on a disk in memory: makes crash states
+of engines, opens each, and checks what was opened; and plants mistakes, which it has to find.
 
 usage: tests/files.py --library FOLDER [--states N] [--seed N] [--plants quick|all|none] [--jobs N]
 
@@ -18,20 +18,35 @@ from concurrent.futures import ThreadPoolExecutor
 sys.dont_write_bytecode = True  # no folder of it beside the tests
 from program import TOP, Tally, run, text_of
 sys.path.append(os.path.join(TOP, "tests/files"))
-from plants import AGAIN, NEVER, PLANTS, QUICK
+from plants import AGAIN, ANOTHER, NEVER, PLANTS, QUICK
 
 PARTS = ("bindings/c/aries_files.c", "bindings/c/aries_files_disk.h")
-CALLS = """mkdir open openat close flock fchmod fstat posix_fadvise pread pwrite ftruncate fsync fdatasync renameat unlinkat
+CALLS = """mkdir open openat close flock fchmod fstat fstatat posix_fadvise pread pwrite ftruncate fsync fdatasync renameat unlinkat
 fdopendir readdir closedir""".split()
 # Small sizes, so that a few pages and records fill a batch, the buffer and the ring.
 SMALL = (("RING = 1 << 20", "RING = 6000"), ("BUFFER = 1 << 16", "BUFFER = 2000"), ("BATCH = 64", "BATCH = 3"))
 QUICK_STATES = 2000
+# The tests of calls.c.
+REFUSALS = {
+    "arguments": "wrong arguments make nothing",
+    "locks": "the log is locked while the folder is open",
+    "replaced-log": "the name of the log is that of another file when it is locked",
+    "masters": "a master that is no complete checkpoint",
+    "older-images": "a page older than that in the store",
+    "other-flags": "no sums-N after a crash with one sync",
+    "interrupted-recovery": "a recovery in place that was interrupted",
+    "another-two-syncs": "a folder that another program has recovered, two syncs",
+    "another-one-sync": "a folder that another program has recovered, one sync",
+    "another-torn-page": "a folder that another program has recovered after a page was torn",
+}
 WAYS = {
     "two syncs": ("--flags", "0", "--errors"),
     "one sync": ("--flags", "4", "--errors"),
     "either": ("--flags", "8", "--errors"),
     "the same bytes again, two syncs": ("--again", "--every", "3", "--flags", "0"),
     "the same bytes again, one sync": AGAIN[0],
+    "another program recovers in place, two syncs": ANOTHER[0],
+    "another program recovers in place, one sync": ANOTHER[1],
     "all choices of short runs": ("--exhaust", "--small", "--steps", "12", "--every", "8"),
 }
 
@@ -73,6 +88,18 @@ class Checker:
         words = ["cc", "-O1", "-w", "-std=c99", *self.includes, source, *self.objects, self.archive, *wraps, "-o", made]
         run(words, check=True)
         return made
+
+
+def check_calls(tally, checker):
+    """What the calls refuse on real files, each test in a folder of its own."""
+    made, sources = os.path.join(checker.room, "calls"), ("tests/files/calls.c", "bindings/c/aries_files.c", "bindings/c/heap.c")
+    words = ["cc", "-O1", "-w", *checker.includes, *(os.path.join(TOP, source) for source in sources)]
+    run([*words, checker.archive, "-Wl,--wrap=flock", "-o", made], check=True)
+    for name, what in REFUSALS.items():
+        folder = os.path.join(checker.room, name)
+        os.mkdir(folder)
+        ran = run([made, name, folder], text=True)
+        tally.say(f"files, {what}", ran.returncode == 0, ran.stdout + ran.stderr)
 
 
 def states_of(ran):
@@ -120,6 +147,7 @@ def check_files(tally, room, archive, states=4000, seed=1, plants="quick", jobs=
     folder = os.path.join(room, "files")
     os.mkdir(folder)
     checker = Checker(folder, archive)
+    check_calls(tally, checker)
     with ThreadPoolExecutor(jobs) as pool:
         check_states(tally, checker, states, seed, pool)
         if plants != "none":

@@ -36,6 +36,7 @@ ROWS_OF_SECTORS = ("three-hundred-pages", "many-in-doubt")  # what these append 
 ROWS_OUT = ("torn-tail", "prepared-beside-loser", "base-loser", "one-loser torn")  # killed with a new store beside the old one, too
 REPLACE = ("--replace",)
 IN_MEMORY = "/dev/shm"  # where files are synced in no time
+WRITING = b"fault 4: writing the log failed\n"
 SUM_OF_NONE, PRIME = 0xcbf29ce484222325, 0x100000001b3
 
 
@@ -179,21 +180,20 @@ def check_refused(tally, room, what, files, line, more=REPLACE, **how):
 def check_refusals(tally, room, library):
     row = row_named("torn-tail", room)
     files, other = before(row), row_named("two-losers", room)
-    writing = b"fault 4: writing the log failed\n"
     check_refused(tally, room, "no log", {"store": files["store"]}, b"fault 2: reading the log failed\n")
     check_refused(tally, room, "no store", {"log": files["log"]}, b"fault 3: reading the store failed\n")
     check_refused(tally, room, "no store beside the file of a tail", {"log": files["log"], "log.tail": tail_of(row)}, b"fault 3: reading the store failed\n")
     check_refused(tally, room, "a file stands where the new store goes", {**files, "new": b"mine"}, b"fault 5: writing the store failed\n", more=())
     # After the log and the store were opened to be read, the log is opened to be appended to.
-    check_refused(tally, room, "a log that nobody may write", files, writing, library=library, FAIL_AT=3)
-    check_refused(tally, room, "the file of another log's tail", {**files, "log.tail": tail_of(other)}, writing)
+    check_refused(tally, room, "a log that nobody may write", files, WRITING, library=library, FAIL_AT=3)
+    check_refused(tally, room, "the file of another log's tail", {**files, "log.tail": tail_of(other)}, WRITING)
     longer = {**before(other), "log.tail": tail_of(row_named("cut-at-232", room))}
-    check_refused(tally, room, "the file of a longer log's tail", longer, writing)
+    check_refused(tally, room, "the file of a longer log's tail", longer, WRITING)
     foreign = files["log"][:-30] + b"\1" + files["log"][-29:]
-    check_refused(tally, room, "the file of a tail beside a log with another byte", {**files, "log": foreign, "log.tail": tail_of(row)}, writing)
+    check_refused(tally, room, "the file of a tail beside a log with another byte", {**files, "log": foreign, "log.tail": tail_of(row)}, WRITING)
     frames = frames_of(row)
     more = {**files, "log": kept_of(row) + frames[:-1] + b"\1" + frames, "log.tail": tail_of(row)}
-    check_refused(tally, room, "the file of a tail beside a log that went on otherwise", more, writing)
+    check_refused(tally, room, "the file of a tail beside a log that went on otherwise", more, WRITING)
 
 
 # The file of a tail: after it, a log that any power cut left is continued.
@@ -222,8 +222,12 @@ def frames_of(row):
 def tail_of(row):
     """The file of a row's tail."""
     kept, frames = kept_of(row), frames_of(row)
-    numbers = len(kept) + torn_of(row), len(kept), len(frames), sum_of(kept[-4096:])
-    front = b"ARIESTL1" + struct.pack(">QQQQ", *numbers) + frames
+    return tail_text(len(kept) + torn_of(row), kept, bytes_of(row.at("log"))[len(kept):], frames)
+
+
+def tail_text(length, kept, cut, frames):
+    """The file of the tail of a log of this length, of which some bytes are kept and some are cut off."""
+    front = b"ARIESTL2" + struct.pack(">QQQQQ", length, len(kept), len(frames), sum_of(kept[-4096:]), sum_of(cut)) + frames
     return front + struct.pack(">Q", sum_of(front))
 
 
@@ -231,8 +235,14 @@ def wrong_again(place, row, what, more=b""):
     """What is wrong with a recovery of what an earlier run left; these bytes are after the outcome."""
     ran, expected = place.recover(*REPLACE), replaced(row)
     expected["log"] += more
-    is_well = ran.returncode == 0 and not ran.stderr and place.files() == expected and in_doubt(ran.stdout) == in_doubt(bytes_of(row.at("printed")))
+    is_well = ran.returncode == 0 and has_finished(ran) and place.files() == expected and in_doubt(ran.stdout) == in_doubt(bytes_of(row.at("printed")))
     return [] if is_well else [f"{name_of(row)}, {what}: {shown(ran, place)}"]
+
+
+def has_finished(ran):
+    """Whether a run said nothing but, perhaps, that it finished an interrupted one."""
+    lines = ran.stderr.splitlines()
+    return len(lines) < 2 and all(line.startswith(b"aries: finished an interrupted recovery of the log ") for line in lines)
 
 
 def wrong_with(room, row, what, files, more=b""):
@@ -267,9 +277,17 @@ def wrong_with_tail(room, row):
     return [it for found in wrong + stores for it in found]
 
 
+def wrong_unless_left(room, row, what, tail):
+    """What is wrong unless a run refuses this file of a tail, which no run can have left."""
+    with Place(room, {**before(row), "log.tail": tail}) as place:
+        ran = place.recover(*REPLACE)
+        is_well = has_refused(ran, WRITING) and b"was not left by a recovery" in ran.stderr and place.files() == {**before(row), "log.tail": tail}
+        return [] if is_well else [f"{name_of(row)}, {what}: {shown(ran, place)}"]
+
+
 def check_damaged_tails(tally, room, what, texts):
     row = row_named("torn-tail", room)
-    wrong = each(lambda text: wrong_with(room, row, f"{what}, {len(text)} bytes", {"log.tail": text}), texts)
+    wrong = each(lambda text: wrong_unless_left(room, row, f"{what}, {len(text)} bytes", text), texts)
     say(tally, f"{what}, {len(texts)} of them", wrong)
 
 
@@ -309,16 +327,22 @@ def wrong_after_kill_beside(room, library, row, how, call):
         return is_killed, [] if is_well else [f"{name_of(row)}, {how} {call}, a new store: {shown(ran, place)}"]
 
 
+def fault_of(ran):
+    """The number of the fault with which a run ended."""
+    return ran.stderr.splitlines()[-1][:8] if ran.stderr else b""
+
+
 def wrong_after_failure(room, library, row, how, call):
     """Whether the call was made, and what is wrong after its failure. If it was one that reads, the folder is as it was."""
     unread = (b"fault 2:", b"fault 3:")
     with Place(room, before(row)) as place, tempfile.NamedTemporaryFile(dir=room) as calls:
         ran = place.recover(*REPLACE, library=library, **{how: call, "CALLS": calls.name})
         is_made = b"fail" in bytes_of(calls.name)
-        is_refused = ran.returncode == 1 and ran.stderr[:8] in (*unread, b"fault 4:", b"fault 5:") and not ran.stdout
-        is_kept = place.files() == before(row) or ran.stderr[:8] not in unread
+        is_refused = ran.returncode == 1 and fault_of(ran) in (*unread, b"fault 4:", b"fault 5:") and not ran.stdout
+        is_kept = place.files() == before(row) or fault_of(ran) not in unread
+        is_clean = set(place.files()) <= {"log", "store", "log.tail"}
         is_done = ran.returncode == 0 and not ran.stderr
-        wrong = [] if is_done or (is_refused and is_kept) else [f"{name_of(row)}, {how} {call}: {shown(ran, place)}"]
+        wrong = [] if is_done or (is_refused and is_kept and is_clean) else [f"{name_of(row)}, {how} {call}: {shown(ran, place)}"]
         return is_made, wrong + wrong_again(place, row, f"{how} {call}")
 
 
@@ -372,7 +396,7 @@ def wrong_after_cut_beside(room, row, state):
     sizes = {name: len(text) for name, text in sorted(state.items())}
     with Place(room, {name: text for name, text in state.items() if name != "new"}) as place:
         ran = place.recover(*place.out())
-        is_well = ran.returncode == 0 and not ran.stderr and place.files() == beside(row)
+        is_well = ran.returncode == 0 and has_finished(ran) and place.files() == beside(row)
         return [] if is_well else [f"{name_of(row)}, a power cut that left {sizes}: {shown(ran, place)}"]
 
 
@@ -401,7 +425,7 @@ def after(row, calls):
 
 def is_as_defined(row, calls):
     """Whether the file of the tail, when it is synced, is that of the definition."""
-    return after(row, calls[:calls.index("sync log.tail")]).files()["log.tail"] == tail_of(row)
+    return after(row, calls[:calls.index("sync log.tail.aries-new")]).files()["log.tail.aries-new"] == tail_of(row)
 
 
 def is_synced(row, calls):

@@ -10,6 +10,7 @@ import subprocess
 
 from program import ARIES, SMALL_ROWS, Row, bytes_of, has_printed, has_refused, library_of, run
 
+NOBODY = 65534  # a user in no group but its own
 TIME = r"in \d+\.\d{3} ms"
 
 
@@ -34,13 +35,23 @@ def limited(size, is_ignored):
     return begin
 
 
-# Why: the same run says more with --verbose, and nothing else changes.
+# Why: if a file failed, each run says so, and after any other fault one with --verbose; nothing else changes.
+
+FAULTS_OF_FILES = (b"fault 2:", b"fault 3:", b"fault 4:", b"fault 5:")
+
+
+def says_why(brief, verbose, line):
+    """Whether this line stands before that of the fault, without --verbose only if it is that of a file."""
+    fault = brief.stderr.splitlines(keepends=True)[-1]
+    full = line.encode() + fault
+    wanted = full if fault.startswith(FAULTS_OF_FILES) else fault
+    return brief.returncode == verbose.returncode == 1 and not brief.stdout and not verbose.stdout and brief.stderr == wanted and verbose.stderr == full
+
 
 def check_why(tally, what, job, line):
-    """The job takes further words and what `run` takes. The line stands before that of the fault, which is all without it."""
+    """The job takes further words and what `run` takes."""
     brief, verbose = job(()), job(("--verbose",))
-    is_well = brief.returncode == 1 and has_refused(verbose, line.encode() + brief.stderr)
-    tally.say(f"--verbose: {what}", is_well and not brief.stderr.startswith(b"aries:"), verbose.stderr)
+    tally.say(f"why: {what}", says_why(brief, verbose, line), (brief.stderr, verbose.stderr))
 
 
 def check_calls_that_fail(tally, row):
@@ -62,8 +73,8 @@ def check_calls_that_fail(tally, row):
     brief = job(())
     os.remove(os.path.join(row.new, "log-alone"))
     verbose = job(("--verbose",))
-    is_well = has_refused(verbose, failed("making", "new store", nowhere, errno.ENOENT).encode() + brief.stderr)
-    tally.say("--verbose: no folder for a new store", is_well, verbose.stderr)
+    is_well = says_why(brief, verbose, failed("making", "new store", nowhere, errno.ENOENT))
+    tally.say("why: no folder for a new store", is_well, verbose.stderr)
 
 
 def check_faults_in_files(tally, row):
@@ -141,19 +152,25 @@ def check_modes(tally, row):
 
 
 def check_groups(tally, row):
-    """The rights of a group are not given to another group, nor those of others to who was in the old group. To give a file to another group takes root."""
+    """The rights of a group are not given to another group, nor those of others to the old group's members. To run as a user without groups takes root."""
     if os.geteuid() != 0:
-        return
-    paths, mine = [row.at("log"), row.at("store")], os.getegid()
-    for path, mode in zip(paths, (0o640, 0o604)):
-        os.chown(path, -1, mine + 1)
+        return print("modes of another group: skipped, not root")
+    room = os.path.dirname(row.folder)
+    program, new = shutil.copy(ARIES, room), os.path.join(room, "new-of-nobody")
+    os.mkdir(new)
+    for path, mode in ((room, 0o755), (row.folder, 0o755), (new, 0o777), (program, 0o755)):
         os.chmod(path, mode)
-    ran = row.recover()
-    modes = mode_of(row.new_at("log")), mode_of(row.new_at("store"))
-    is_well = ran.returncode == 0 and row.is_recovered() and modes == (0o600, 0o600)
-    tally.say("modes 640, 604 of another group", is_well, [f"{mode:o}" for mode in modes])
-    for path in paths:
-        os.chown(path, -1, mine)
+    for name, mode in (("log", 0o640), ("store", 0o604)):
+        os.chown(row.at(name), NOBODY, NOBODY - 1)
+        os.chmod(row.at(name), mode)
+    out = Row(row.folder, new)
+    words = ["--log", row.at("log"), "--store", row.at("store"), "--out-log", out.new_at("log"), "--out-store", out.new_at("store")]
+    ran = run([program, "recover", *words], user=NOBODY, group=NOBODY, extra_groups=[])
+    modes = mode_of(out.new_at("log")), mode_of(out.new_at("store"))
+    is_well = ran.returncode == 0 and out.is_recovered() and modes == (0o600, 0o600)
+    tally.say("modes 640, 604 of a group that is not the user's", is_well, ([f"{mode:o}" for mode in modes], ran.stderr))
+    for name in ("log", "store"):
+        os.chown(row.at(name), os.geteuid(), os.getegid())
 
 
 def check_syncs(tally, room, row):

@@ -186,10 +186,15 @@ def small_rows():
             yield f"the row {name}", *map(bytes_of, files)
 
 
+# How a line ends that names the file of a log whose torn tail is long.
+MORE_THAN_TORN = b": more than a torn record\n"
+
+
 def outcome(ran, log, store):
-    """What a run printed and wrote."""
+    """What a run printed, but for a line on a long torn tail, and what it wrote."""
     written = [bytes_of(path) if os.path.exists(path) else b"" for path in (log, store)] if ran.returncode == 0 else []
-    return ran.returncode, ran.stdout, ran.stderr, written
+    said = b"".join(line for line in ran.stderr.splitlines(keepends=True) if not line.endswith(MORE_THAN_TORN) and b": more than a torn record; " not in line)
+    return ran.returncode, ran.stdout, said, written
 
 
 def wrong_at(room, case):
@@ -220,7 +225,7 @@ READS = 4  # at least of a log of three pieces: its header, and each piece
 
 
 def calls_that_fail(room, library, log, store, words):
-    """Of a run for each of its calls, which fails: the line of the call, and the fault."""
+    """Of a run for each of its calls, which fails: the line of the call, the fault, and what is then in the folder."""
     for number in range(1, 1000):
         folder = tempfile.mkdtemp(dir=room)
         at = lambda file: os.path.join(folder, file)
@@ -234,10 +239,16 @@ def calls_that_fail(room, library, log, store, words):
         settings = {"LD_PRELOAD": library, "WATCHED": folder, "FAIL_AT": str(number), "CALLS": at("calls")}
         ran = run([ARIES, "recover", "--log", at("log"), "--store", at("store"), *words(at)], env={**os.environ, **settings})
         call = next((line for line in bytes_of(at("calls")).decode().splitlines() if line.startswith("fail")), None)
+        files = {name: bytes_of(at(name)) for name in os.listdir(folder) if name != "calls" and os.path.isfile(at(name))}
         shutil.rmtree(folder)
         if call is None:
             return
-        yield call, ran.stderr[:8]
+        yield call, fault_in(ran.stderr)[:8], files
+
+
+def fault_in(said):
+    """The line of the fault, the last one on standard error."""
+    return said.splitlines(keepends=True)[-1] if said else b""
 
 
 def into_files(at):
@@ -246,6 +257,10 @@ def into_files(at):
 
 def in_place(at):
     return "--in-place", "--out-store", at("new-store")
+
+
+def replaced(at):
+    return "--in-place", "--replace"
 
 
 def fault_beside_a_folder(room, log, words, is_piped):
@@ -257,7 +272,7 @@ def fault_beside_a_folder(room, log, words, is_piped):
             written.write(log)
         how = {"input": log} if is_piped else {}
         ran = run([ARIES, "recover", "--log", "/dev/stdin" if is_piped else at("log"), "--store", at("store"), *words(at)], **how)
-        return ran.stderr, bytes_of(at("log")) == log, bytes_of(at("new-log")) + bytes_of(at("new-store"))
+        return fault_in(ran.stderr), bytes_of(at("log")) == log, bytes_of(at("new-log")) + bytes_of(at("new-store"))
 
 
 def check_order(tally, room, library):
@@ -268,9 +283,19 @@ def check_order(tally, room, library):
         tally.say(f"a bad record, and a store that cannot be read, {way}", found == (b"fault 3: reading the store failed\n", True, b""), found)
     for way, words in (("into new files", into_files), ("in place", in_place)):
         for what, text, pages in (("a store that cannot be read", log, None), ("a bad record", bad, store)):
-            faults = [fault for call, fault in calls_that_fail(room, library, text, pages, words) if call == "fail read log"]
+            faults = [fault for call, fault, _ in calls_that_fail(room, library, text, pages, words) if call == "fail read log"]
             is_well = len(faults) >= READS and set(faults) == {b"fault 2:"}
             tally.say(f"{what}, and a log's read that fails, {way}", is_well, (len(faults), sorted(set(faults))))
+
+
+def check_nothing_out(tally, room, library):
+    """After fault 2 or 3 of a good log nothing of a result is out, whichever call fails."""
+    log, store = like_frames(True)
+    for way, words in (("into new files", into_files), ("in place", in_place), ("in place, the store replaced", replaced)):
+        ends = [files for _, fault, files in calls_that_fail(room, library, log, store, words) if fault in (b"fault 2:", b"fault 3:")]
+        wrong = [files for files in ends if {name: text for name, text in files.items() if text} != {"log": log, "store": store}]
+        sizes = [{name: len(text) for name, text in files.items()} for files in wrong]
+        tally.say(f"a good log, each call fails, {way}: nothing out after fault 2 or 3", len(ends) >= READS and not wrong, (len(ends), len(wrong), sizes[:2]))
 
 
 def check_pieces(tally, room):
@@ -284,7 +309,9 @@ def main():
     tally = Tally()
     with tempfile.TemporaryDirectory(prefix="aries-pieces-") as room:
         check_pieces(tally, room)
-        check_order(tally, room, library_of(room, "watch_calls"))
+        library = library_of(room, "watch_calls")
+        check_order(tally, room, library)
+        check_nothing_out(tally, room, library)
     sys.exit(1 if tally.failed else 0)
 
 

@@ -88,8 +88,9 @@ def has_printed(ran, text):
 
 
 def has_refused(ran, line):
-    """Whether a run refused by this line alone."""
-    return ran.returncode == 1 and ran.stderr == line and not ran.stdout
+    """Whether a run refused by the line of this fault, before which stand only lines that say why."""
+    *why, fault = ran.stderr.splitlines(keepends=True) or [b""]
+    return ran.returncode == 1 and fault == line and not ran.stdout and all(it.startswith((b"aries: ", b"aries_dump: ")) for it in why)
 
 
 class Tally:

@@ -26,11 +26,12 @@ from contracts import check_contracts
 from dump import check_dump
 from edits import check_edits
 from engine import ENGINE, check_engine
+from found import check_found
 from in_place import check_in_place
 from long_logs import LARGEST_BASE, check_long_logs, long_row
 from operate import check_operation
 from pages import check_pages
-from pieces import check_order, check_pieces
+from pieces import check_nothing_out, check_order, check_pieces
 from program import ARIES, LARGE_ROWS, SMALL_ROWS, TOP, Row, Tally, bytes_of, has_printed, has_refused, in_doubt, library_of, run, text_of
 from prose import check_prose
 from sizes import check_sizes
@@ -425,9 +426,11 @@ def main():
         check_words(tally, room)
         check_operation(tally, room)
         check_in_place(tally, room)
+        check_found(tally, room)
         check_engine(tally, room)
         check_pieces(tally, room)
         check_order(tally, room, library_of(room, "watch_calls"))
+        check_nothing_out(tally, room, library_of(room, "watch_calls"))
         check_spoiled(tally, room)
         check_borrow(tally, room)
         check_chosen(tally, room)

@@ -23,6 +23,7 @@ NUMBERS = {4095, 4096, 4097, 1023, 1024, 1025, 15, 16, 17, 47, 48, 49, 64, 80, 2
 
 OTHER = {
     "aries/src/files.rt": {16: "MiB of a short log"},
+    "aries/src/new_tail.rt": {16: "an offset in a head"},
     "aries_c/specs/Fault.antt": {64: "the number of a fault"},
     "aries_c/specs/Journaling.antt": {80: "the number of a refusal"},
     "aries_c/src/fault.rt": {64: "the number of a fault"},
@@ -45,10 +46,10 @@ OTHER = {
     "page/specs/Fault.antt": {15: "the number of a fault", 16: "the same", 17: "the same"},
     "page/src/fault.rt": {15: "the number of a fault", 16: "the same", 17: "the same"},
     "page/src/numbers.rt": {16: "bytes of three numbers"},
-    "recovery/proofs/TailFiles.antt": {16: "an offset in a head", 48: "bytes of a head and a sum"},
+    "recovery/proofs/TailFiles.antt": {16: "an offset in a head", 48: "bytes of a head"},
     "recovery/proofs/TailLength.antt": {17: "bytes of an update without images"},
     "recovery/src/store_pieces.rt": {64: "images of a piece"},
-    "recovery/src/tail_file.rt": {16: "an offset in a head", 4096: "bytes of the end of a log"},
+    "recovery/src/tail_file.rt": {16: "an offset in a head", 48: "bytes of the head", 4096: "bytes of the end of a log"},
 }
 
 # What a number is not: bits, an exponent, a part of a name, of a shift or of a decimal.

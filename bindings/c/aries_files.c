@@ -14,7 +14,6 @@
 #include "aries_files_disk.h"
 
 #include <dirent.h>
-#include <sys/file.h>
 
 enum {
     RING = 1 << 20,   /* bytes of sums-N after its entries, with ARIES_FILES_ONE_SYNC */
@@ -36,7 +35,8 @@ struct aries_files {
     uint32_t flags, page_count;
     int refusal;                  /* the number that this call returns; the handle is not stopped */
     int stopped, errno_when_stopped;
-    uint64_t base_lsn;
+    uint64_t base_lsn, master;
+    uint64_t checkpoint;          /* the LSN of the begin record of the last complete checkpoint in the log, or 0 */
     struct position appended, durable;
     uint64_t written;             /* bytes of the log that its file has */
     uint64_t entry;               /* the number of the newest entry of sums-N */
@@ -45,6 +45,7 @@ struct aries_files {
     uint8_t *batch;               /* a block with a head, and images */
     uint8_t *log_bytes, *store_bytes;
     size_t store_length;
+    uint64_t *page_lsns;          /* those of the pages in the store */
     uint32_t *in_doubt;
 };
 
@@ -109,9 +110,13 @@ static int make_sums(struct aries_files *files, uint64_t base_lsn, const struct 
 /* What an opening finds out about the log. */
 struct found {
     size_t length;       /* bytes of its file */
+    uint64_t begin;      /* bytes of its header */
     struct position end; /* where the durable frames end */
-    uint64_t in_file;    /* where those end that its file has; the ring may have more */
+    uint64_t in_file;    /* where those end that the newest entry covers; the ring may have more */
+    int has_sums;
     int is_newer_unfit;  /* sums-N has a newer entry, of which the log lacks bytes */
+    int are_pieces_lost; /* the file of the log has other bytes, or none, where the pieces of the ring go */
+    uint8_t *batch;      /* the last batch of pages, NULL if there is none */
 };
 
 static uint64_t number_of_entry(const uint8_t *entry) {
@@ -140,18 +145,20 @@ static int find_entry(struct aries_files *files, const uint8_t *sums, struct fou
 }
 
 /* Copies the next piece of the ring to the log in memory. Returns 0 if there is none. */
-static int take_piece(struct aries_files *files, const uint8_t *ring, struct position *end) {
+static int take_piece(struct aries_files *files, const uint8_t *ring, struct found *found) {
     const uint8_t *head = ring + files->ring_used;
     uint64_t room = files->ring - files->ring_used;
     if (room <= HEAD || !is_head(head, "ARIE")) return 0;
-    if (number_at(head + 8, 8) != files->entry || number_at(head + 16, 8) != end->end) return 0;
+    if (number_at(head + 8, 8) != files->entry || number_at(head + 16, 8) != found->end.end) return 0;
     size_t length = (size_t)number_at(head + 4, 4);
     if (length > room - HEAD) return 0;
-    uint32_t crc = crc32c(end->crc, head + HEAD, length);
+    uint32_t crc = crc32c(found->end.crc, head + HEAD, length);
     if (crc != number_at(head + 24, 4)) return 0;
-    memcpy(files->log_bytes + end->end, head + HEAD, length);
-    end->end += length;
-    end->crc = crc;
+    size_t at = (size_t)found->end.end, has = at < found->length ? found->length - at : 0;
+    if (has < length || memcmp(files->log_bytes + at, head + HEAD, length) != 0) found->are_pieces_lost = 1;
+    memcpy(files->log_bytes + at, head + HEAD, length);
+    found->end.end += length;
+    found->end.crc = crc;
     files->ring_used += HEAD + length;
     return 1;
 }
@@ -163,7 +170,7 @@ static int take_pieces(struct aries_files *files, const uint8_t *ring, struct fo
     files->log_bytes = log;
     if (files->ring > HEAD && is_head(ring, "ARIE") && number_at(ring + 8, 8) > files->entry)
         return refuse(files, ARIES_FILES_DAMAGED);
-    while (take_piece(files, ring, &found->end)) continue;
+    while (take_piece(files, ring, found)) continue;
     return 1;
 }
 
@@ -174,6 +181,7 @@ static int find_end(struct aries_files *files, struct found *found) {
     found->in_file = found->end.end = found->length;
     files->sums = open_synced(&files->folder, name_of(name, "sums", files->base_lsn));
     if (files->sums < 0) return errno == ENOENT;
+    found->has_sums = 1;
     uint8_t *sums = read_file(files->sums, &length);
     if (!sums) return 0;
     int is_found = length >= 2 * BLOCK && find_entry(files, sums, found);
@@ -207,12 +215,12 @@ static int sync_both(struct aries_files *files) {
 }
 
 /* Makes the log durable by one sync, that of sums-N, which gets the new frames as a piece. The file of the log gets
- * them too, but is synced only when the ring is full. */
+ * them before, but is synced only when the ring is full: so a kill leaves all that is durable in that file. */
 static int sync_piece(struct aries_files *files, uint64_t length) {
     encode_piece_head(files, length);
+    if (!write_log(files)) return 0;
     if (!write_at(files->sums, files->piece, HEAD + length, 2 * BLOCK + files->ring_used)) return 0;
     if (!sync_file(files->sums)) return 0;
-    if (!write_log(files)) return 0;
     files->ring_used += HEAD + length;
     files->durable = files->appended;
     return 1;
@@ -226,19 +234,33 @@ static int sync_log(struct aries_files *files) {
     return sync_both(files);
 }
 
-/* Whether these are whole frames with the LSNs after *lsn. Moves *lsn to the last one. */
-static int are_frames(const uint8_t *frames, size_t length, uint64_t *lsn) {
+/* What frames have: the last LSN, and the LSN of the begin record of the last complete checkpoint. */
+struct passed {
+    uint64_t lsn, checkpoint;
+};
+
+/* Notes the begin record that a checkpoint end names. */
+static void pass_frame(const uint8_t *frame, uint64_t base_lsn, struct passed *passed) {
+    passed->lsn++;
+    if (frame[4] != ARIES_CHECKPOINT_END || number_at(frame, 4) < 17) return;
+    uint64_t begin = number_at(frame + 13, 8);
+    if (begin > base_lsn && begin < passed->lsn) passed->checkpoint = begin;
+}
+
+/* Whether these are whole frames with the LSNs after passed->lsn. Passes those that are. */
+static int are_frames(const uint8_t *frames, size_t length, uint64_t base_lsn, struct passed *passed) {
     for (size_t at = 0; at < length; at += 4 + number_at(frames + at, 4)) {
         if (length - at < 4 + 9 || number_at(frames + at, 4) < 9) return 0;
-        if (length - at - 4 < number_at(frames + at, 4) || number_at(frames + at + 5, 8) != ++*lsn) return 0;
+        if (length - at - 4 < number_at(frames + at, 4) || number_at(frames + at + 5, 8) != passed->lsn + 1) return 0;
+        pass_frame(frames + at, base_lsn, passed);
     }
     return 1;
 }
 
 /* Appends to the buffer, or if there is no room, to the file. */
 static int append(struct aries_files *files, const uint8_t *frames, size_t length) {
-    uint64_t lsn = files->appended.lsn;
-    if (!are_frames(frames, length, &lsn)) return refuse(files, ARIES_FILES_MISUSE);
+    struct passed passed = {files->appended.lsn, files->checkpoint};
+    if (!are_frames(frames, length, files->base_lsn, &passed)) return refuse(files, ARIES_FILES_MISUSE);
     if (files->appended.end - files->written + length > BUFFER && !write_log(files)) return 0;
     if (length > BUFFER) {
         if (!write_at(files->log, frames, length, files->written)) return 0;
@@ -248,7 +270,8 @@ static int append(struct aries_files *files, const uint8_t *frames, size_t lengt
     }
     files->appended.crc = crc32c(files->appended.crc, frames, length);
     files->appended.end += length;
-    files->appended.lsn = lsn;
+    files->appended.lsn = passed.lsn;
+    files->checkpoint = passed.checkpoint;
     return 1;
 }
 
@@ -295,13 +318,15 @@ static int write_batch(struct aries_files *files, size_t count) {
         if (!write_at(files->pages, files->batch, BLOCK + count * ARIES_PAGE_BYTES, 0)) return 0;
         if (!sync_file(files->pages)) return 0;
     }
-    for (size_t i = 0; i < count; i++, image += ARIES_PAGE_BYTES)
+    for (size_t i = 0; i < count; i++, image += ARIES_PAGE_BYTES) {
         if (!write_at(files->store, image, ARIES_PAGE_BYTES, offset_of(image))) return 0;
+        files->page_lsns[number_at(image, 4)] = page_lsn_of(image);
+    }
     return sync_file(files->store);
 }
 
-/* Whether these are images of different pages of the store, none with a PageLSN above the last LSN. *newest is the
- * largest PageLSN. */
+/* Whether these are images of different pages of the store, none with a PageLSN below that in the store, or above the
+ * last LSN. *newest is the largest PageLSN. */
 static int are_images(const struct aries_files *files, const uint8_t *images, size_t count, uint64_t *newest) {
     uint8_t seen[ARIES_PAGES] = {0};
     struct aries_page page;
@@ -309,6 +334,7 @@ static int are_images(const struct aries_files *files, const uint8_t *images, si
         uint32_t number = (uint32_t)number_at(images, 4);
         if (number >= files->page_count || seen[number]++) return 0;
         if (aries_read_page(images, ARIES_PAGE_BYTES, number, &page).number != ARIES_OK) return 0;
+        if (page.lsn < files->page_lsns[number]) return 0;
         if (page.lsn > *newest) *newest = page.lsn;
     }
     return *newest <= files->appended.lsn;
@@ -348,41 +374,58 @@ static int is_batch(const struct aries_files *files, const uint8_t *batch, size_
            number_at(batch + 20, 4) == crc32c(0, files->log_bytes, (size_t)log_end);
 }
 
-/* Repairs a page that is not as in the batch. It is as before the batch, or a mixture of sectors of both; its PageLSN
- * is in its first sector, so it is that of one of them. A page with a larger one is newer than the batch. */
-static int restore_page(struct aries_files *files, const uint8_t *image, uint64_t *restored) {
+/* Repairs a page in memory that is not as in the batch. It is as before the batch, or a mixture of sectors of both; its
+ * PageLSN is in its first sector, so it is that of one of them. If sums-N is there, the batch is the last one that was
+ * written, and only another program can have written a page with a larger one. */
+static int restore_page(struct aries_files *files, const uint8_t *image, int has_sums, uint64_t *restored) {
     uint64_t at = offset_of(image);
     if (at + ARIES_PAGE_BYTES > files->store_length) return 1;
     uint8_t *page = files->store_bytes + at;
-    if (page_lsn_of(page) > page_lsn_of(image) || memcmp(page, image, ARIES_PAGE_BYTES) == 0) return 1;
+    if (page_lsn_of(page) > page_lsn_of(image)) return !has_sums || refuse(files, ARIES_FILES_FOREIGN);
+    if (memcmp(page, image, ARIES_PAGE_BYTES) == 0) return 1;
     memcpy(page, image, ARIES_PAGE_BYTES);
     ++*restored;
-    return write_at(files->store, image, ARIES_PAGE_BYTES, at);
+    return 1;
 }
 
-static int restore_batch(struct aries_files *files, const uint8_t *batch, uint64_t *restored) {
-    const uint8_t *image = batch + BLOCK;
-    for (uint64_t count = number_at(batch + 8, 4); count > 0; count--, image += ARIES_PAGE_BYTES)
-        if (!restore_page(files, image, restored)) return 0;
-    return *restored == 0 || sync_file(files->store);
+static int restore_batch(struct aries_files *files, const struct found *found, uint64_t *restored) {
+    const uint8_t *image = found->batch + BLOCK;
+    for (uint64_t count = number_at(found->batch + 8, 4); count > 0; count--, image += ARIES_PAGE_BYTES)
+        if (!restore_page(files, image, found->has_sums, restored)) return 0;
+    return 1;
 }
 
-/* Repairs the pages that a power cut may have torn: those of the last batch. */
-static int restore_pages(struct aries_files *files, uint64_t end, uint64_t *restored) {
+/* Repairs the pages, in memory, that a power cut may have torn: those of the last batch. */
+static int restore_pages(struct aries_files *files, struct found *found, uint64_t *restored) {
     size_t length = 0;
     files->pages = open_synced(&files->folder, "pages");
     if (files->pages < 0) return errno == ENOENT;
-    uint8_t *batch = read_file(files->pages, &length);
-    int is_done = batch && (!is_batch(files, batch, length, end) || restore_batch(files, batch, restored));
-    free(batch);
-    return is_done;
+    found->batch = read_file(files->pages, &length);
+    if (!found->batch) return 0;
+    return !is_batch(files, found->batch, length, found->end.end) || restore_batch(files, found, restored);
 }
 
+/* Writes the pages of the batch that are now as in it, if any was repaired. */
+static int write_restored(struct aries_files *files, const struct found *found, uint64_t restored) {
+    const uint8_t *image = found->batch + BLOCK;
+    if (restored == 0) return 1;
+    for (uint64_t count = number_at(found->batch + 8, 4); count > 0; count--, image += ARIES_PAGE_BYTES) {
+        uint64_t at = offset_of(image);
+        int is_as_image = at + ARIES_PAGE_BYTES <= files->store_length &&
+                          memcmp(files->store_bytes + at, image, ARIES_PAGE_BYTES) == 0;
+        if (is_as_image && !write_at(files->store, image, ARIES_PAGE_BYTES, at)) return 0;
+    }
+    return sync_file(files->store);
+}
+
+/* Sets the master, to 0 or to a checkpoint whose end the log has. */
 static int set_master(struct aries_files *files, uint64_t master) {
     uint8_t bytes[8];
-    if (master > files->appended.lsn) return refuse(files, ARIES_FILES_MISUSE);
+    if (master != 0 && master != files->master && master != files->checkpoint) return refuse(files, ARIES_FILES_MISUSE);
     put_number(bytes, master, 8);
-    return sync_log(files) && write_at(files->store, bytes, 8, 16) && sync_file(files->store);
+    if (!sync_log(files) || !write_at(files->store, bytes, 8, 16) || !sync_file(files->store)) return 0;
+    files->master = master;
+    return 1;
 }
 
 int aries_files_write_pages(aries_files *files, const uint8_t *images, size_t count) {
@@ -504,12 +547,102 @@ static int hand_over(struct aries_files *files, struct recovery *it, struct arie
     return 1;
 }
 
+/* THE AUDIT */
+
+/* Audits bytes, over the base store if there is one. */
+static int audit_bytes(struct aries_files *files, const uint8_t *log, size_t log_length, const uint8_t *store,
+                       size_t store_length, struct aries_fault *fault) {
+    size_t base_length = 0;
+    char name[32];
+    if (files->base_lsn == 0) return *fault = aries_audit(log, log_length, store, store_length), 1;
+    int file = open_file(&files->folder, name_of(name, "base", files->base_lsn), 0);
+    uint8_t *base = file >= 0 ? read_file(file, &base_length) : NULL;
+    close_file(&file);
+    if (base) *fault = aries_audit_from(log, log_length, store, store_length, base, base_length);
+    free(base);
+    return base != NULL;
+}
+
+static int audit(struct aries_files *files, struct aries_fault *fault) {
+    size_t log_length = 0, store_length = 0;
+    if (!sync_log(files)) return 0;
+    uint8_t *log = read_file(files->log, &log_length);
+    uint8_t *store = log ? read_file(files->store, &store_length) : NULL;
+    int is_done = store && audit_bytes(files, log, log_length, store, store_length, fault);
+    free(log);
+    free(store);
+    return is_done;
+}
+
+int aries_files_audit(aries_files *files, struct aries_fault *fault) {
+    return result(files, !is_stopped(files) && audit(files, fault));
+}
+
+/* WHAT ANOTHER PROGRAM HAS WRITTEN to a folder that was not closed. No crash of an engine leaves what is refused here:
+ * the log is durable up to a PageLSN before the page is written, and pages are written by way of the last batch. */
+
+/* A recovery in place that was interrupted has to be finished first. */
+static int has_no_tail(struct aries_files *files) {
+    struct stat status;
+    int has_tail = is_there(&files->folder, "log.tail", &status) ||
+                   is_there(&files->folder, "log.tail.aries-new", &status);
+    return !has_tail || refuse(files, ARIES_FILES_FOREIGN);
+}
+
+static int has_page_above(const struct aries_files *files, uint64_t lsn) {
+    size_t at = ARIES_STORE_HEADER_BYTES;
+    while (at + ARIES_PAGE_BYTES <= files->store_length && page_lsn_of(files->store_bytes + at) <= lsn)
+        at += ARIES_PAGE_BYTES;
+    return at + ARIES_PAGE_BYTES <= files->store_length;
+}
+
+/* Whether the pages are what the log makes of them. Another program has seen other records than those of the ring, if a
+ * power cut took these from the file of the log. Without the base store nothing is known. */
+static int are_pages_of_log(struct aries_files *files, const struct found *found) {
+    struct aries_fault fault = {ARIES_OK, 0};
+    if (!audit_bytes(files, files->log_bytes, (size_t)found->end.end, files->store_bytes, files->store_length, &fault))
+        return errno == ENOENT;
+    errno = ENOMEM;
+    if (fault.number == ARIES_NO_RESOURCE) return 0;
+    return fault.number != ARIES_PAGE_IMAGE || refuse(files, ARIES_FILES_FOREIGN);
+}
+
+/* Passes the log, and refuses pages that do not belong to it. If the log has another fault, the recovery finds it. */
+static int is_own(struct aries_files *files, const struct found *found) {
+    struct passed passed = {files->base_lsn, 0};
+    if (found->end.end < found->begin) return 1;
+    const uint8_t *frames = files->log_bytes + found->begin;
+    int are_whole = are_frames(frames, (size_t)(found->end.end - found->begin), files->base_lsn, &passed);
+    files->checkpoint = passed.checkpoint;
+    if (!are_whole || !found->has_sums) return 1;
+    if (has_page_above(files, passed.lsn)) return refuse(files, ARIES_FILES_FOREIGN);
+    return !found->are_pieces_lost || are_pages_of_log(files, found);
+}
+
 /* OPENING */
+
+/* Locks the file of the log, before it is read, until the handle is gone. A recovery in place locks it too. The name
+ * must still be that of the file which is locked. */
+static int lock_log(struct aries_files *files) {
+    struct stat locked, named;
+    if (!lock_file(files->log)) return errno == EWOULDBLOCK ? refuse(files, ARIES_FILES_BUSY) : 0;
+    if (fstat(files->log, &locked) != 0) return 0;
+    int is_named = is_there(&files->folder, "log", &named) && named.st_dev == locked.st_dev &&
+                   named.st_ino == locked.st_ino;
+    return is_named || refuse(files, ARIES_FILES_BUSY);
+}
+
+/* Opens the log, or makes a database. */
+static int open_log(struct aries_files *files) {
+    files->log = open_file(&files->folder, "log", 0);
+    if (files->log < 0 && errno != ENOENT) return 0;
+    if (files->log >= 0) return lock_log(files) && has_no_tail(files) && sync_to_read(files->log);
+    return has_no_tail(files) && make_database(files);
+}
 
 static int read_log_and_store(struct aries_files *files, struct found *found) {
     struct stat status;
-    files->log = open_synced(&files->folder, "log");
-    if (files->log < 0 && !(errno == ENOENT && make_database(files))) return 0;
+    if (!open_log(files)) return 0;
     files->store = open_synced(&files->folder, "store");
     if (files->store < 0 && errno == ENOENT) return refuse(files, ARIES_FILES_MISSING);
     if (files->store < 0 || fstat(files->store, &status) != 0) return 0;
@@ -520,6 +653,16 @@ static int read_log_and_store(struct aries_files *files, struct found *found) {
     struct aries_mark begin;
     int has_header = aries_log_begin(files->log_bytes, found->length, &begin).number == ARIES_OK;
     files->base_lsn = has_header ? begin.lsn : 0;
+    found->begin = has_header ? begin.offset : found->length;
+    return 1;
+}
+
+static int note_page_lsns(struct aries_files *files) {
+    const uint8_t *image = files->store_bytes + ARIES_STORE_HEADER_BYTES;
+    files->page_lsns = malloc((files->page_count + 1) * sizeof *files->page_lsns);
+    if (!files->page_lsns) return 0;
+    for (uint32_t page = 0; page < files->page_count; page++, image += ARIES_PAGE_BYTES)
+        files->page_lsns[page] = page_lsn_of(image);
     return 1;
 }
 
@@ -530,9 +673,10 @@ static int take_end(struct aries_files *files, struct found *found, const struct
     if (files->sums < 0) found->end.crc = crc32c(0, files->log_bytes, (size_t)found->end.end);
     found->end.lsn = files->base_lsn + made->records;
     files->page_count = (uint32_t)made->pages;
+    files->master = number_at(files->store_bytes + 16, 8);
     files->appended = files->durable = found->end;
     files->written = found->end.end;
-    return 1;
+    return note_page_lsns(files);
 }
 
 /* Makes sums-N as the flags have it. It gets a new entry if the newest one does not fit: else that one could fit later,
@@ -542,23 +686,27 @@ static int put_sums(struct aries_files *files, int is_entry_needed) {
     int has_ring = files->ring != 0, is_ring_asked = (files->flags & ARIES_FILES_ONE_SYNC) != 0;
     if (files->flags & ARIES_FILES_NO_SUMS) {
         close_file(&files->sums);
-        files->ring = 0;
+        files->ring = files->ring_used = 0;
         return remove_file(&files->folder, name_of(name, "sums", files->base_lsn));
     }
     if (files->sums < 0 || has_ring != is_ring_asked) return make_sums(files, files->base_lsn, &files->appended);
     return !is_entry_needed || sync_both(files);
 }
 
-/* Makes the file of pages as the flags have it. */
-static int put_pages(struct aries_files *files) {
-    if (files->flags & ARIES_FILES_NO_PAGES) {
-        close_file(&files->pages);
-        return remove_file(&files->folder, "pages");
-    }
-    if (files->pages >= 0) return 1;
+static int make_pages(struct aries_files *files) {
     memset(files->batch, 0, BLOCK + BATCH * ARIES_PAGE_BYTES);
     files->pages = put_file(&files->folder, "pages", files->batch, BLOCK + BATCH * ARIES_PAGE_BYTES);
     return files->pages >= 0;
+}
+
+/* Makes the file of pages as the flags have it. If there was no sums-N, the one that was found may be of any time: it
+ * is replaced, and the folder synced, before there is a sums-N again. */
+static int put_pages(struct aries_files *files, const struct found *found) {
+    int is_unwanted = (files->flags & ARIES_FILES_NO_PAGES) != 0, is_old = files->pages >= 0 && !found->has_sums;
+    if (is_unwanted || is_old) close_file(&files->pages);
+    if (is_unwanted && !remove_file(&files->folder, "pages")) return 0;
+    if (!is_unwanted && files->pages < 0 && !make_pages(files)) return 0;
+    return !is_old || sync_folder(&files->folder);
 }
 
 /* Writes the pieces to the file of the log, and makes what is missing in the folder. The sync of the folder also covers
@@ -570,7 +718,8 @@ static int complete_files(struct aries_files *files, const struct found *found) 
         if (!write_at(files->log, pieces, found->end.end - found->in_file, found->in_file)) return 0;
         if (!sync_file(files->log)) return 0;
     }
-    return put_sums(files, has_pieces || found->is_newer_unfit) && put_pages(files) && sync_folder(&files->folder);
+    return put_pages(files, found) && put_sums(files, has_pieces || found->is_newer_unfit) &&
+           sync_folder(&files->folder);
 }
 
 /* Cuts the log where the durable frames end. The cut is synced before anything is appended. */
@@ -615,23 +764,38 @@ static int open_database(struct aries_files *files, struct aries_files_opened *o
     struct recovery it;
     memset(&found, 0, sizeof found);
     memset(&it, 0, sizeof it);
-    int is_recovered = read_log_and_store(files, &found) && find_end(files, &found) &&
-                       restore_pages(files, found.end.end, &opened->restored) &&
+    int is_read = read_log_and_store(files, &found) && find_end(files, &found) &&
+                  restore_pages(files, &found, &opened->restored) && is_own(files, &found);
+    int is_recovered = is_read && write_restored(files, &found, opened->restored) &&
                        recover(files, files->log_bytes, (size_t)found.end.end, files->store_bytes, &it, &opened->fault);
     int is_open = is_recovered && take_end(files, &found, &it.made) && complete_files(files, &found) &&
                   cut_log(files, &found, &opened->cut) && put_recovery(files, &found, &it) &&
                   remove_leftovers(files) && hand_over(files, &it, opened);
+    if (!is_read) opened->restored = 0;
     free_recovery(&it);
+    free(found.batch);
     return is_open;
+}
+
+static int open_folder(struct aries_files *files, const char *folder) {
+    files->folder.descriptor = open(folder, O_RDONLY | O_DIRECTORY | O_CLOEXEC);
+    return files->folder.descriptor >= 0;
+}
+
+/* A number of pages that no store has is refused before anything is made. If there is a log, it is ignored. */
+static int is_allowed(struct aries_files *files, const char *folder) {
+    struct stat status;
+    if (files->page_count <= ARIES_PAGES) return 1;
+    int has_log = open_folder(files, folder) && is_there(&files->folder, "log", &status);
+    close_file(&files->folder.descriptor);
+    return has_log || refuse(files, ARIES_FILES_MISUSE);
 }
 
 static int lock_folder(struct aries_files *files, const char *folder) {
     if (files->page_count > 0 && mkdir(folder, 0700) != 0 && errno != EEXIST) return 0;
-    files->folder.descriptor = open(folder, O_RDONLY | O_DIRECTORY | O_CLOEXEC);
-    files->lock = files->folder.descriptor < 0 ? -1 : open_file(&files->folder, "lock", O_CREAT);
+    files->lock = open_folder(files, folder) ? open_file(&files->folder, "lock", O_CREAT) : -1;
     if (files->lock < 0) return 0;
-    if (flock(files->lock, LOCK_EX | LOCK_NB) == 0) return 1;
-    return errno == EWOULDBLOCK ? refuse(files, ARIES_FILES_BUSY) : 0;
+    return lock_file(files->lock) || (errno == EWOULDBLOCK && refuse(files, ARIES_FILES_BUSY));
 }
 
 static void free_files(struct aries_files *files) {
@@ -646,6 +810,7 @@ static void free_files(struct aries_files *files) {
     free(files->batch);
     free(files->log_bytes);
     free(files->store_bytes);
+    free(files->page_lsns);
     free(files->in_doubt);
     free(files);
     errno = error;
@@ -665,13 +830,14 @@ int aries_files_open(const char *folder, uint32_t flags, uint32_t page_count, ar
     it->piece = malloc(HEAD + BUFFER);
     it->batch = malloc(BLOCK + BATCH * ARIES_PAGE_BYTES);
     if (it->piece) it->buffer = it->piece + HEAD;
-    int failed = result(it, it->piece && it->batch && lock_folder(it, folder) && open_database(it, opened));
+    int is_ready = it->piece && it->batch && is_allowed(it, folder) && lock_folder(it, folder);
+    int failed = result(it, is_ready && open_database(it, opened));
     if (failed) free_files(it);
     else *files = it;
     return failed;
 }
 
-/* ARCHIVE, AUDIT, CLOSING */
+/* ARCHIVE, CLOSING */
 
 /* Puts a new log in place, after its base store and its sums-N. The names of these have the base LSN, so the rename of
  * the log replaces all three. */
@@ -691,6 +857,7 @@ static int begin_log(struct aries_files *files, const uint8_t *base, const uint8
     files->base_lsn = start.lsn;
     files->appended = files->durable = start;
     files->written = length;
+    files->checkpoint = 0;
     return remove_leftovers(files);
 }
 
@@ -730,28 +897,6 @@ static int archive(struct aries_files *files, struct aries_files_opened *opened)
 
 int aries_files_archive(aries_files *files, struct aries_files_opened *opened) {
     return result(files, !is_stopped(files) && archive(files, opened));
-}
-
-static int audit(struct aries_files *files, struct aries_fault *fault) {
-    size_t log_length = 0, store_length = 0, base_length = 0;
-    char name[32];
-    if (!sync_log(files)) return 0;
-    int file = files->base_lsn ? open_file(&files->folder, name_of(name, "base", files->base_lsn), 0) : -1;
-    uint8_t *base = file >= 0 ? read_file(file, &base_length) : NULL;
-    int has_base = base || files->base_lsn == 0;
-    uint8_t *log = has_base ? read_file(files->log, &log_length) : NULL;
-    uint8_t *store = log ? read_file(files->store, &store_length) : NULL;
-    close_file(&file);
-    if (store && base) *fault = aries_audit_from(log, log_length, store, store_length, base, base_length);
-    if (store && !base) *fault = aries_audit(log, log_length, store, store_length);
-    free(log);
-    free(store);
-    free(base);
-    return store != NULL;
-}
-
-int aries_files_audit(aries_files *files, struct aries_fault *fault) {
-    return result(files, !is_stopped(files) && audit(files, fault));
 }
 
 /* Removes sums-N and the file of pages. The log is synced before its pieces are removed. */

@@ -14,8 +14,9 @@
  *
  * sums-N and pages exist only while the folder is open, and after a crash. aries_files_close removes them: a closed
  * folder is a plain log and a plain store. A folder that has only these, such as a backup, can be opened. After a
- * crash, open and close the folder before another program reads or writes its files. If sums-N is there,
- * aries_files_open cuts off what other programs have appended to the log.
+ * crash the folder recovers itself when it is opened: run no other program on it before it was opened and closed. If
+ * one has changed pages, aries_files_open returns ARIES_FILES_FOREIGN. What one has only appended to the log is cut
+ * off.
  *
  * WHAT IS ASSUMED OF THE DISK. What a successful fsync or fdatasync covers stays on the disk. Everything else may be
  * there or not after a power cut, in any order: single sectors of 512 bytes, sizes of files, renames. Bytes that are
@@ -43,12 +44,14 @@ enum {
     ARIES_FILES_OK = 0,
     ARIES_FILES_IO = 1,        /* the system refused something; errno says why: ENOSPC, EIO, EACCES, and others */
     ARIES_FILES_MEMORY = 2,    /* memory was refused */
-    ARIES_FILES_BUSY = 3,      /* another handle has the folder open */
+    ARIES_FILES_BUSY = 3,      /* another handle has the folder open, or another program has locked its log */
     ARIES_FILES_MISSING = 4,   /* there is no log and page_count is 0, or only one of log and store is there */
     ARIES_FILES_DAMAGED = 5,   /* the log lacks what was durable; no power cut does that. Nothing was changed */
     ARIES_FILES_FAULT = 6,     /* the log or the store is not lawful: see `fault`. At most torn pages were repaired */
     ARIES_FILES_MISUSE = 7,    /* the arguments are not allowed here. Nothing was done */
-    ARIES_FILES_UNFINISHED = 8 /* no archive, because a transaction is unfinished or in doubt. Nothing was done */
+    ARIES_FILES_UNFINISHED = 8, /* no archive, because a transaction is unfinished or in doubt. Nothing was done */
+    ARIES_FILES_FOREIGN = 9    /* another program has written to the folder before it was closed, or a recovery in
+                                * place was interrupted there: see docs/FILES.md. Nothing was changed */
 };
 
 /* Flags. They may differ from one opening to the next. */
@@ -57,8 +60,8 @@ enum {
      * the log in order, and without the file of pages it has to leave each page whole. */
     ARIES_FILES_NO_SUMS = 1,
     ARIES_FILES_NO_PAGES = 2,
-    /* A commit syncs one file instead of two: sums-N also gets the frames, up to 1 MiB of them. Until the folder is
-     * closed, a copy of the log without sums-N may lack commits. */
+    /* A commit syncs one file instead of two: sums-N also gets the frames, up to 1 MiB of them. After a power cut the
+     * log without sums-N may lack commits. */
     ARIES_FILES_ONE_SYNC = 4
 };
 
@@ -79,8 +82,10 @@ struct aries_files_opened {
 
 /*
  * Opens a folder. If there is no folder, or no log in it, it makes a database of page_count empty pages; with a
- * page_count of 0 it returns ARIES_FILES_MISSING instead. If there is a log, page_count is ignored. Everything in
- * *opened is on the disk when this returns. If it fails, *files is NULL and nothing stays open.
+ * page_count of 0 it returns ARIES_FILES_MISSING instead. If there is a log, page_count is ignored; else it is at most
+ * ARIES_PAGES. After ARIES_FILES_MISUSE nothing was made, not even the folder. The log is locked by flock until the
+ * handle is gone, so `aries recover --in-place` and an open folder exclude each other. Everything in *opened is on the
+ * disk when this returns. If it fails, *files is NULL and nothing stays open.
  */
 int aries_files_open(const char *folder, uint32_t flags, uint32_t page_count, aries_files **files,
                      struct aries_files_opened *opened);
@@ -100,14 +105,15 @@ uint64_t aries_files_durable(const aries_files *files);
 /*
  * Writes the images of `count` pages, 1,024 bytes each; no page may occur twice. If a PageLSN is not durable yet, it
  * syncs the log first. When this returns, the images are on the disk, and a checkpoint that begins from now on need not
- * list these pages. After a power cut each page is the old image or the new one. An image must not be older than the
- * one in the store.
+ * list these pages. After a power cut each page is the old image or the new one. If the PageLSN of an image is below
+ * that of the page in the store, it returns ARIES_FILES_MISUSE, and writes none of the images.
  */
 int aries_files_write_pages(aries_files *files, const uint8_t *images, size_t count);
 
 /*
- * Makes the log durable, and then sets the master: to the LSN of the begin record of a checkpoint whose end record was
- * appended, or to 0.
+ * Makes the log durable, and then sets the master. It may be the LSN of the begin record of the last checkpoint whose
+ * end record is in the log that was opened, or was appended; what it is already; or 0. With any other LSN the call
+ * returns ARIES_FILES_MISUSE, and does nothing. aries_engine_checkpoint gives this LSN.
  */
 int aries_files_set_master(aries_files *files, uint64_t master);
 

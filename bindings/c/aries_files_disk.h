@@ -12,6 +12,7 @@
 #include <stdio.h>
 #include <stdlib.h>
 #include <string.h>
+#include <sys/file.h>
 #include <sys/stat.h>
 #include <unistd.h>
 
@@ -139,13 +140,30 @@ static void close_file(int *file) {
     errno = error;
 }
 
-/* Opens a file, and makes sure that the disk has what will be read: if a process was killed, only the cache of the
- * system may have it. After a failed sync that cache may have what the disk lacks, so it is dropped. */
+/* Locks a file until its descriptor is closed. If another program has locked it, errno is EWOULDBLOCK. */
+static int lock_file(int file) {
+    int status;
+    while ((status = flock(file, LOCK_EX | LOCK_NB)) != 0 && errno == EINTR) continue;
+    return status == 0;
+}
+
+/* Makes sure that the disk has what will be read: if a process was killed, only the cache of the system may have it.
+ * After a failed sync that cache may have what the disk lacks, so it is dropped. */
+static int sync_to_read(int file) {
+    if (!sync_file(file)) return 0;
+    (void)posix_fadvise(file, 0, 0, POSIX_FADV_DONTNEED);
+    return 1;
+}
+
 static int open_synced(const struct folder *folder, const char *name) {
     int file = open_file(folder, name, 0);
-    if (file >= 0 && !sync_file(file)) close_file(&file);
-    if (file >= 0) (void)posix_fadvise(file, 0, 0, POSIX_FADV_DONTNEED);
+    if (file >= 0 && !sync_to_read(file)) close_file(&file);
     return file;
+}
+
+/* Whether there is a file with this name; *status is of it. */
+static int is_there(const struct folder *folder, const char *name, struct stat *status) {
+    return fstatat(folder->descriptor, name, status, AT_SYMLINK_NOFOLLOW) == 0;
 }
 
 /* Returns the bytes of a whole file, or NULL. */
@@ -160,12 +178,14 @@ static uint8_t *read_file(int file, size_t *length) {
 }
 
 /* Makes a file, or replaces it: a power cut leaves the old one or the new one, and after a sync of the folder the new
- * one. Returns its descriptor, or -1. */
+ * one. It is locked before it has its name, since the log of an open folder is always locked. Returns its descriptor,
+ * or -1. */
 static int put_file(const struct folder *folder, const char *name, const uint8_t *bytes, size_t length) {
     char new_name[40];
     snprintf(new_name, sizeof new_name, "%s.new", name);
     int file = open_file(folder, new_name, O_CREAT | O_TRUNC);
-    int is_put = file >= 0 && fchmod(file, folder->mode) == 0 && write_at(file, bytes, length, 0) && sync_file(file) &&
+    int is_put = file >= 0 && lock_file(file) && fchmod(file, folder->mode) == 0 &&
+                 write_at(file, bytes, length, 0) && sync_file(file) &&
                  renameat(folder->descriptor, new_name, folder->descriptor, name) == 0;
     if (!is_put) close_file(&file);
     return file;

@@ -18,10 +18,19 @@ void stop_at(struct aries_fault fault) {
     exit(1);
 }
 
+static const char *text_of(int error) {
+    switch (error) {
+    case ARIES_FILES_IO: return strerror(errno);
+    case ARIES_FILES_BUSY: return "busy: another program has the folder open";
+    case ARIES_FILES_FOREIGN: return "foreign: another program has written to the folder; nothing was changed";
+    default: return "see aries_files.h";
+    }
+}
+
 /* Ends the program if a call of aries_files failed. */
 static void need_files(int error) {
     if (error == ARIES_FILES_OK) return;
-    fprintf(stderr, "files: error %d: %s\n", error, error == ARIES_FILES_IO ? strerror(errno) : "see aries_files.h");
+    fprintf(stderr, "files: error %d: %s\n", error, text_of(error));
     exit(1);
 }
 
@@ -191,13 +200,14 @@ void bank_write_pages(struct bank *bank, uint32_t first, uint32_t count) {
             stop_at(aries_engine_page_written(&bank->engine, page, bank->engine.pages[page].page.lsn));
 }
 
-/* The begin record is the last but one: the journal appends it with the end record. aries_files_set_master makes the
- * log durable before it sets the master. The pages that were reported as written are durable already. */
+/* aries_files_set_master makes the log durable before it sets the master, which is the LSN of the begin record. The
+ * pages that were reported as written are durable already. */
 void bank_checkpoint(struct bank *bank) {
     size_t length = 0;
-    struct aries_fault fault = aries_engine_checkpoint(&bank->engine, bank->frames, FRAME_ROOM, &length);
+    uint64_t begin = 0;
+    struct aries_fault fault = aries_engine_checkpoint(&bank->engine, bank->frames, FRAME_ROOM, &length, &begin);
     append(bank, fault, length);
-    need_files(aries_files_set_master(bank->files, bank->engine.journal.last - 1));
+    need_files(aries_files_set_master(bank->files, begin));
 }
 
 /* The files have all pages then, and the journal of the new log begins with them. */

@@ -1,9 +1,10 @@
 #!/usr/bin/env python3
 """Kills the bank, often with a power cut, opens it again, and checks whether anything was lost.
 
-usage: drive.py [--kills N] [--seed S] [--aries PROGRAM] [--flag=FLAG].. [--at-random] [--remove] ENGINE
+usage: drive.py [--kills N] [--seed S] [--aries PROGRAM [--recover]] [--flag=FLAG].. [--at-random] [--remove] ENGINE
 
-ENGINE is the built example, PROGRAM is `aries`: its audit is asked too. FLAG is an option of the bank, for example
+ENGINE is the built example, PROGRAM is `aries`: its audit is asked too. With --recover, `aries recover --in-place` is
+run after half of the kills, and has to refuse the folder and change nothing. FLAG is an option of the bank, for example
 --one-sync. First, but not with --at-random, the bank is killed at each call that changes a file while it is made,
 opened, closed, checkpointed and archived. Then the N kills come at random moments and calls. Half of all kills are
 power cuts: tests/embed/power.py says what they may leave. After each kill:
@@ -101,11 +102,12 @@ def check(old, new, acknowledged):
 class Driver:
     def __init__(self, asked, room):
         self.engine, self.aries, self.random = [asked.engine, *asked.flag], asked.aries, random.Random(asked.seed)
+        self.is_to_recover = asked.recover
         self.folder = os.path.join(room, "bank")
         self.machine = Machine(room, self.folder, self.random)
         self.held, self.acknowledged, self.is_whole = Shown(""), {}, True
         self.opening_seconds = 0.02
-        self.kills = self.kills_at_opening = self.power_cuts = self.all_acknowledged = self.archives = 0
+        self.kills = self.kills_at_opening = self.power_cuts = self.all_acknowledged = self.archives = self.refused = 0
         self.cut = self.restored = self.losers = self.decided = 0
 
     # The bank, run and killed.
@@ -115,7 +117,8 @@ class Driver:
 
     def ended(self, process, words, first=()):
         """The lines of a process that was killed or has ended."""
-        rest, errors = process.communicate()
+        with process:  # communicate() would lose the lines that the buffer has
+            rest, errors = process.stdout.read(), process.stderr.read()
         self.machine.after_end(process)
         is_well = not errors and process.returncode in (0, -signal.SIGKILL)
         need(is_well, f"{' '.join(words)}: status {process.returncode}, {errors.strip()}")
@@ -192,6 +195,27 @@ class Driver:
         elif self.is_whole:
             self.audit(when)
 
+    def content(self):
+        """Each file of the folder with its bytes."""
+        found = {}
+        for name in sorted(os.listdir(self.folder)):
+            with open(os.path.join(self.folder, name), "rb") as file:
+                found[name] = file.read()
+        return found
+
+    def recover_in_place(self, when):
+        """`aries recover --in-place` refuses a folder that the bank has not closed, and changes nothing."""
+        before = self.content()
+        if "log" not in before or not any(name == "pages" or name.startswith("sums-") for name in before):
+            return
+        log, store = os.path.join(self.folder, "log"), os.path.join(self.folder, "store")
+        words = [self.aries, "recover", "--in-place", "--log", log, "--store", store, "--replace"]
+        ran = subprocess.run(words, capture_output=True, text=True)
+        is_refused = ran.returncode == 1 and "fault 4" in ran.stderr
+        need(is_refused, f"{when}, recovered in place: status {ran.returncode}, {ran.stderr.strip()}")
+        need(self.content() == before, f"{when}, recovered in place: the files have changed")
+        self.refused += 1
+
     def open_and_check(self):
         start, words = time.monotonic(), ["show", self.folder]
         shown = Shown("\n".join(self.ended(self.started(words), words)))
@@ -209,6 +233,8 @@ class Driver:
         self.lose(when)
         if not self.held.accounts and not os.path.exists(os.path.join(self.folder, "log")):
             self.make(when)
+        if self.is_to_recover and self.random.random() < 0.5:
+            self.recover_in_place(when)
         self.open_and_check()
         self.audit(f"{when}, opened again")
 
@@ -266,11 +292,15 @@ def asked_for():
     parser.add_argument("--kills", type=int, default=20)
     parser.add_argument("--seed", type=int, default=1)
     parser.add_argument("--aries", help="the program, whose audit is asked too")
+    parser.add_argument("--recover", action="store_true", help="runs `aries recover --in-place` after half of the kills")
     parser.add_argument("--flag", action="append", default=[], help="an option of the bank: --flag=--one-sync")
     parser.add_argument("--at-random", action="store_true", help="leaves out the kills at each call")
     parser.add_argument("--remove", action="store_true", help="removes the files also if something was lost")
     parser.add_argument("engine", type=os.path.abspath)
-    return parser.parse_args()
+    asked = parser.parse_args()
+    if asked.recover and not asked.aries:
+        parser.error("--recover needs --aries")
+    return asked
 
 
 def main():
@@ -292,7 +322,8 @@ def main():
     shutil.rmtree(room)
     print(f"{driver.all_acknowledged} transfers acknowledged, {driver.kills_at_opening} kills at an opening, "
           f"{driver.power_cuts} power cuts, {driver.archives} archives, {driver.cut} logs cut, "
-          f"{driver.restored} times pages restored, {driver.losers} losers, {driver.decided} decided")
+          f"{driver.restored} times pages restored, {driver.losers} losers, {driver.decided} decided"
+          + (f", {driver.refused} recoveries in place refused" if asked.recover else ""))
     print(f"{driver.kills} kills, nothing lost")
 
 

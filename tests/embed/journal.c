@@ -163,7 +163,9 @@ static void write_page(uint32_t page) {
 
 static void checkpoint(void) {
     size_t length = 0;
-    need(is_done(aries_engine_checkpoint(&engine, log_bytes + log_length, LOG_ROOM - log_length, &length)));
+    uint64_t begin = 0;
+    need(is_done(aries_engine_checkpoint(&engine, log_bytes + log_length, LOG_ROOM - log_length, &length, &begin)));
+    need(begin == engine.journal.last - 1);
     note((struct logged){.kind = ARIES_CHECKPOINT_BEGIN}, 13);
     note((struct logged){.kind = ARIES_CHECKPOINT_END}, length - 13);
     need(engine.journal.last == record_count);

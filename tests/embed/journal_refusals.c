@@ -10,7 +10,7 @@ static struct aries_engine engine;
 static uint8_t *out, *store_bytes;
 static size_t length;
 static uint32_t tx;
-static uint64_t lsn;
+static uint64_t lsn, begin_lsn;
 
 static struct copy {
     struct aries_journal journal;
@@ -84,7 +84,7 @@ static void check_cells_and_rooms(uint32_t a, uint32_t b) {
     lacks_room(39, aries_engine_undo(&engine, a, out, 38, &length));
     lacks_room(25, aries_engine_turn(&engine, a, ARIES_COMMIT, out, 24, &length));
     lacks_room(25, aries_engine_turn(&engine, b, ARIES_END, out, 24, &length));
-    lacks_room(42 + 21 + 12, aries_engine_checkpoint(&engine, out, 74, &length));
+    lacks_room(42 + 21 + 12, aries_engine_checkpoint(&engine, out, 74, &length, &begin_lsn));
     refused(ARIES_NOT_WRITABLE, 0, turn(a, ARIES_CHECKPOINT_BEGIN));
     refused(ARIES_NOT_WRITABLE, 0, turn(a, 0));
 }
@@ -130,7 +130,8 @@ static void check_full(void) {
     need(is_done(undo(c)) && is_done(update(c, 3, 9)));
     engine.journal.last = UINT64_MAX - 3; /* as after very many records */
     refused(ARIES_LOG_FULL, 0, update(c, 3, 9));
-    refused(ARIES_LOG_FULL, 0, aries_engine_checkpoint(&engine, out, OUT, &length));
+    refused(ARIES_LOG_FULL, 0, aries_engine_checkpoint(&engine, out, OUT, &length, &begin_lsn));
+    need(begin_lsn == 0);
     engine.transactions_count = 2;
     refused(ARIES_BAD_ARRAYS, 0, turn(c, ARIES_COMMIT));
     engine.transactions_count = TRANSACTIONS;
@@ -219,7 +220,7 @@ static struct aries_fault any_call(void) {
     case 3: return aries_engine_undo(&engine, of, end, room, &length);
     case 4: return aries_engine_turn(&engine, of, kind, end, room, &length);
     case 5: return aries_engine_newest(&engine, of, &lsn);
-    case 6: return aries_engine_checkpoint(&engine, end, room, &length);
+    case 6: return aries_engine_checkpoint(&engine, end, room, &length, &lsn);
     case 7: return aries_engine_log_written(&engine, random_below(4));
     case 8: return aries_engine_page_to_write(&engine, page);
     case 9: return aries_engine_page_written(&engine, page, random_below(4));

@@ -2,13 +2,14 @@
  * check.c: makes crash states of running engines, opens each, and checks what was opened.
  *
  * usage: check [--seed N] [--states N] [--steps N] [--every N] [--flags N] [--disk N] [--small] [--errors] [--again]
- *              [--exhaust] [--stop]
+ *              [--exhaust] [--another] [--stop]
  *
  * It runs engines, each with its own seed, until there are so many crash states. A moment is a call that changed
  * something; a crash state is made at one of --every moments. --flags is as in aries_files.h; 8 chooses one sync or two
  * at each opening. --small: short runs. --errors: writes and syncs fail. --again: a life writes the same bytes as the
- * one before, in smaller pieces. --exhaust: all choices of a power cut in turn, at most 4,000 of a moment. --stop: end
- * at the first mistake.
+ * one before, in smaller pieces. --exhaust: all choices of a power cut in turn, at most 4,000 of a moment. --another:
+ * before the last opening of a crash state another program recovers the log and the store in place, as `aries recover
+ * --in-place --replace` did without a look at the other files. --stop: end at the first mistake.
  */
 #include "disk.h"
 #include "engine.h"
@@ -24,20 +25,21 @@ static struct {
     unsigned long runs, lives, states, cuts, kills, interrupted, exhausted, moments;
     unsigned long closed, foreign, by_others, repeated, cut_logs, tails, restored, in_doubt, new_logs;
     unsigned long damaged, damage_found, damage_cut, wrong;
+    unsigned long recovered, refused; /* by another program; refused by the opening */
 } counts;
 static struct counts engine_counts;
 
 static struct {
     unsigned long seed, states;
     uint32_t flags;
-    int steps, every, is_small, has_errors, is_again, is_exhaustive, is_stopping;
-} options = {1, 1000, 0, 120, 12, 0, 0, 0, 0, 0};
+    int steps, every, is_small, has_errors, is_again, is_exhaustive, is_another, is_stopping;
+} options = {1, 1000, 0, 120, 12, 0, 0, 0, 0, 0, 0};
 
 static struct engine engine;
 static struct history history;
 static uint32_t page_count;
 static unsigned long seed;
-static int life, is_busy;
+static int life, is_busy, is_trying; /* is_trying: a crash state that no life continues */
 
 static uint32_t some_flags(void) {
     if (!(options.flags & EITHER)) return options.flags;
@@ -298,11 +300,59 @@ static void count_opening(const struct aries_files_opened *opened) {
     counts.new_logs += opened->base_lsn != history.base_lsn;
 }
 
-/* Opens a crash state after so many interrupted openings. Returns 0 if anything is wrong; else the handle is open. */
+/* Another program recovers the log and the store in place, if they can be recovered. It leaves sums-N and the pages. */
+static void recover_by_another(void) {
+    static uint8_t log[LOG_ROOM], tail[2 * LOG_ROOM], store[STORE_ROOM];
+    static uint32_t in_doubt[64];
+    struct aries_recovered made;
+    size_t log_length = 0, store_length = 0;
+    const uint8_t *old_log = file_of(disk, "log", &log_length), *old_store = file_of(disk, "store", &store_length);
+    if (!old_log || !old_store || log_length > LOG_ROOM - sizeof tail / 4) return;
+    memcpy(log, old_log, log_length);
+    struct aries_fault fault = aries_recover(log, log_length, old_store, store_length, tail, sizeof tail, store,
+        sizeof store, in_doubt, 64, &made);
+    if (fault.number || log_length + made.tail_length > LOG_ROOM) return;
+    memcpy(log + log_length - made.torn, tail, made.tail_length);
+    put_synced(disk, "log", log, log_length - (size_t)made.torn + (size_t)made.tail_length);
+    put_synced(disk, "store", store, store_length);
+    counts.recovered++;
+}
+
+static int is_same_file(const struct disk *before, const char *name) {
+    size_t length = 0;
+    const uint8_t *bytes = file_of(before, name, &length);
+    return is_file(name, bytes, length);
+}
+
+/* Refused, since another program has written to the folder: nothing is changed. */
+static int is_refused(const struct disk *before, const struct aries_files_opened *opened) {
+    const char *names[32];
+    int count = names_of(before, names, 32), there = names_of(disk, names, 32);
+    counts.refused++;
+    if (there != count || opened->restored) return wrong("refused, and changed");
+    while (count > 0 && is_same_file(before, names[count - 1])) count--;
+    return count == 0;
+}
+
+static int open_and_check(aries_files **files, struct aries_files_opened *opened) {
+    struct disk *before = copy_of_disk(disk);
+    int failed = open_files(files, opened), is_well = 0;
+    if (failed == ARIES_FILES_FOREIGN && options.is_another && is_trying) is_well = is_refused(before, opened);
+    else if (failed) wrong("opening: %d, fault %u", failed, opened->fault.number);
+    else is_well = is_right(opened, *files);
+    if (!failed) count_opening(opened);
+    free_disk(before);
+    return is_well;
+}
+
+/* Opens a crash state after so many interrupted openings. Returns 0 if anything is wrong; else the handle is open, or
+ * the opening was refused, since another program has recovered the files. */
 static int settle(int interruptions, aries_files **files, struct aries_files_opened *opened) {
     for (int i = 0; i < interruptions; i++)
         if (!interrupt_opening(files, opened)) return 0;
     arm_disk(disk, 0);
+    if (options.is_another && is_trying) recover_by_another();
+    if (options.is_another && is_trying) return open_and_check(files, opened);
     int failed = open_files(files, opened);
     if (failed) return wrong("opening: %d, fault %u", failed, opened->fault.number);
     count_opening(opened);
@@ -351,19 +401,35 @@ static void report(const struct disk *from, uint64_t state, int is_kill, int int
     if (options.is_stopping) exit(1);
 }
 
+static size_t length_of_log(void) {
+    size_t length = 0;
+    (void)file_of(disk, "log", &length);
+    return length;
+}
+
+/* After a kill the file of the log had all that is durable, also with one sync: other programs find it there. */
+static int had_all(const struct aries_files_opened *opened, size_t had) {
+    size_t durable = opened->log_length - (size_t)opened->recovered.tail_length;
+    return durable <= had || !had || wrong("the log of a killed engine had %zu bytes of %zu", had, durable);
+}
+
 static void try_state(const struct disk *from, int is_kill, int interruptions) {
-    aries_files *files;
+    aries_files *files = NULL;
     struct aries_files_opened opened;
     uint64_t state = draw_state;
     int was_in_turn = is_in_turn;
     disk = crash(from, is_kill);
     is_in_turn = 0;
+    is_trying = 1;
+    size_t had = length_of_log();
     int is_well = settle(interruptions, &files, &opened);
-    if (is_well && !draw(4)) is_well = stays(files, &opened);
-    else if (is_well) end_process(files);
+    if (is_well && files && is_kill && !interruptions && !options.is_another) is_well = had_all(&opened, had);
+    if (is_well && files && !draw(4)) is_well = stays(files, &opened);
+    else if (is_well && files) end_process(files);
     is_in_turn = was_in_turn;
     if (!is_well) report(from, state, is_kill, interruptions);
     is_in_turn = was_in_turn;
+    is_trying = 0;
     free_disk(disk);
 }
 
@@ -695,6 +761,7 @@ static int take_option(const char *name, const char *value) {
                 : strcmp(name, "--errors") == 0  ? &options.has_errors
                 : strcmp(name, "--again") == 0   ? &options.is_again
                 : strcmp(name, "--exhaust") == 0 ? &options.is_exhaustive
+                : strcmp(name, "--another") == 0 ? &options.is_another
                 : strcmp(name, "--stop") == 0    ? &options.is_stopping
                                                  : NULL;
     if (flag) return *flag = 1;
@@ -721,6 +788,8 @@ static void print_counts(void) {
     printf("written again %lu\n", counts.repeated);
     printf("openings: cut %lu, with a tail %lu, pages repaired %lu, ", counts.cut_logs, counts.tails, counts.restored);
     printf("in doubt %lu, new logs %lu\n", counts.in_doubt, counts.new_logs);
+    if (options.is_another)
+        printf("recovered by another program %lu: refused %lu\n", counts.recovered, counts.refused);
     printf("changed bits %lu: refused %lu, cut off %lu\n", counts.damaged, counts.damage_found, counts.damage_cut);
     printf("wrong %lu\n", counts.wrong);
 }

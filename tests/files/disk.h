@@ -39,8 +39,8 @@ long calls_of(const struct disk *it);
 void kill_process(struct disk *it);
 int is_killed(const struct disk *it);
 
-/* Lets calls fail: from this call on a write finds no space, after it has written half; at the first sync from this
- * call on, some of what was to be synced is lost and forgotten. 0: none. */
+/* Lets calls fail: from this call on a write finds no space after the end of its first sector; at the first sync from
+ * this call on, some of what was to be synced is lost and forgotten. 0: none. */
 void fail_calls(struct disk *it, long write_at, long sync_at);
 
 /* The bytes of a file as a reader sees them; NULL if there is none. */

@@ -145,19 +145,26 @@ static void roll_back_partly(struct engine *engine, struct transaction *tx) {
 
 /* PAGES, CHECKPOINTS, ARCHIVES */
 
+/* Pages may change after their images were made, and the log may be durable up to that change. */
+static void change_meanwhile(struct engine *engine) {
+    struct transaction *tx = &engine->transactions[draw(TRANSACTIONS)];
+    if (!tx->number) return;
+    update(engine, tx);
+    sync_all(engine);
+}
+
+/* The RecLSN of a page that changes meanwhile is that of the first change after the image. */
 static void flush(struct engine *engine, int is_all) {
     static uint8_t images[PAGES * ARIES_PAGE_BYTES];
     size_t count = 0, length;
-    uint64_t written[PAGES] = {0};
     for (uint32_t page = 0; page < engine->page_count; page++) {
         if (!engine->rec_lsn[page] || !(is_all || draw(2))) continue;
         uint8_t *image = images + count++ * ARIES_PAGE_BYTES;
         need(aries_write_page(&engine->pages[page], image, ARIES_PAGE_BYTES, &length).number == 0, "a page");
-        written[page] = 1;
+        engine->rec_lsn[page] = 0;
     }
+    while (!draw(3)) change_meanwhile(engine);
     done(engine, aries_files_write_pages(engine->files, images, count));
-    for (uint32_t page = 0; page < PAGES; page++)
-        if (written[page]) engine->rec_lsn[page] = 0;
     acknowledged();
 }
 

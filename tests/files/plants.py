@@ -9,6 +9,7 @@ QUICK, RARE, NEVER = "quick", "rare", "never"
 SMALL = ("--small", "--steps", "14", "--every", "3")
 TWO_SYNCS, ONE_SYNC = ("--flags", "0"), ("--flags", "4")
 AGAIN = (("--again", "--every", "3", "--flags", "4"),)
+ANOTHER = (("--another", "--flags", "0"), ("--another", "--flags", "4"))
 
 
 def ways(*options, has_errors=True):
@@ -41,30 +42,32 @@ plant("new-file", "a new file is not synced before its rename",
 plant("commit-sums", "commit: sums-N is not synced", SYNC_SUMS)
 plant("commit-log", "commit: the log is not synced", SYNC_LOG)
 plant("batch-pages", "batch: the file of pages is not synced", ("        if (!sync_file(files->pages)) return 0;\n", ""))
-plant("batch-store", "batch: the store is not synced", ("    return sync_file(files->store);\n", "    return 1;\n"))
-plant("repaired", "opening: repaired pages are not synced", ("return *restored == 0 || sync_file(files->store);", "return 1;"),
+plant("batch-store", "batch: the store is not synced", ("page_lsn_of(image);\n    }\n    return sync_file(files->store);\n", "page_lsn_of(image);\n    }\n    return 1;\n"))
+plant("repaired", "opening: repaired pages are not synced", ("at)) return 0;\n    }\n    return sync_file(files->store);\n", "at)) return 0;\n    }\n    return 1;\n"),
       found=RARE)
-plant("master", "the master is not synced", ("bytes, 8, 16) && sync_file(files->store);", "bytes, 8, 16);"))
+plant("master", "the master is not synced", ("bytes, 8, 16) || !sync_file(files->store)) return 0;", "bytes, 8, 16)) return 0;"))
 plant("closing-folder", "closing: the folder is not synced",
       ('"pages")) return 0;\n    return sync_folder(&files->folder);', '"pages")) return 0;\n    return 1;'))
 plant("making-folder", "making: the folder is not synced between store and log",
       ("make_store(files) && sync_folder(&files->folder);", "make_store(files);"))
 plant("making-parent", "making: the parent of the folder is not synced", ("sync_parent(files) && ", ""))
 plant("opening-all", "opening: no file is synced before it is read",
-      ("    if (file >= 0 && !sync_file(file)) close_file(&file);\n", ""))
-for FILE, FOUND in (("log", QUICK), ("store", RARE), ("pages", RARE)):
+      ("    if (!sync_file(file)) return 0;\n    (void)posix", "    (void)posix"))
+plant("opening-log", "opening: log is not synced before it is read",
+      ("has_no_tail(files) && sync_to_read(files->log);", "has_no_tail(files);"))
+for FILE, FOUND in (("store", RARE), ("pages", RARE)):
     plant(f"opening-{FILE}", f"opening: {FILE} is not synced before it is read",
           (f'open_synced(&files->folder, "{FILE}")', f'open_file(&files->folder, "{FILE}", 0)'), found=FOUND)
 plant("opening-sums", "opening: sums-N is not synced before it is read",
       ('open_synced(&files->folder, name_of(name, "sums", files->base_lsn))',
        'open_file(&files->folder, name_of(name, "sums", files->base_lsn), 0)'))
 plant("opening-cache", "opening: the cache is not dropped",
-      ("    if (file >= 0) (void)posix_fadvise(file, 0, 0, POSIX_FADV_DONTNEED);\n", ""), found=RARE)
+      ("    (void)posix_fadvise(file, 0, 0, POSIX_FADV_DONTNEED);\n", ""), found=RARE)
 plant("again", "a failed sync is tried again",
       ("while ((status = fdatasync(file)) != 0 && errno == EINTR) continue;",
        "while ((status = fdatasync(file)) != 0 && errno == EIO) return fdatasync(file) == 0;"), found=RARE)
 plant("opening-folder", "opening: the folder is not synced after sums-N and pages are made",
-      ("put_pages(files) && sync_folder(&files->folder);", "put_pages(files);"))
+      ("found->is_newer_unfit) &&\n           sync_folder(&files->folder);", "found->is_newer_unfit);"))
 CUT = ("return cut_file(files->log, found->end.end) && sync_file(files->log);", "return cut_file(files->log, found->end.end);")
 plant("opening-cut", "opening: the cut and the tail are under one sync", CUT, found=NEVER)
 plant("opening-cut-no-sums", "the same without sums-N, on a disk that keeps the bytes of a log in order", CUT, found=RARE,
@@ -86,8 +89,8 @@ plant("store-first", "opening: pages are written before the tail is synced",
       ("sync_log(files) && write_changed(files, files->store_bytes, it->store);",
        "write_changed(files, files->store_bytes, it->store) && sync_log(files);"))
 plant("master-first", "the master is set before the log is synced",
-      ("return sync_log(files) && write_at(files->store, bytes, 8, 16) && sync_file(files->store);",
-       "return write_at(files->store, bytes, 8, 16) && sync_file(files->store) && sync_log(files);"))
+      ("if (!sync_log(files) || !write_at(files->store, bytes, 8, 16) || !sync_file(files->store)) return 0;",
+       "if (!write_at(files->store, bytes, 8, 16) || !sync_file(files->store) || !sync_log(files)) return 0;"))
 BASE = ('    int file = put_file(&files->folder, name_of(name, "base", start.lsn), base, files->store_length);\n'
         "    if (file < 0) return 0;\n    close_file(&file);\n")
 plant("base-last", "archive: the base store comes after the new log", (BASE, "    int file;\n"),
@@ -117,16 +120,18 @@ plant("batch-unchecked", "the CRC of the images is not compared",
 plant("batch-of-others", "the log of a batch is not compared", (" && log_end <= end &&", " &&"),
       ("number_at(batch + 20, 4) == crc32c(0, files->log_bytes, (size_t)log_end);", "1;"), found=RARE)
 plant("batch-older", "an older image replaces a newer page",
-      ("page_lsn_of(page) > page_lsn_of(image) || memcmp(page", "memcmp(page"), found=RARE)
+      ("    if (page_lsn_of(page) > page_lsn_of(image)) return !has_sums || refuse(files, ARIES_FILES_FOREIGN);\n", ""), found=RARE)
 plant("batch-newer", "only pages with another PageLSN are repaired",
-      ("page_lsn_of(page) > page_lsn_of(image) || memcmp(page, image, ARIES_PAGE_BYTES) == 0",
-       "page_lsn_of(page) >= page_lsn_of(image)"), found=RARE)
+      ("if (memcmp(page, image, ARIES_PAGE_BYTES) == 0) return 1;", "if (page_lsn_of(page) == page_lsn_of(image)) return 1;"), found=RARE)
 
 # With one sync.
 ONE = ways(*ONE_SYNC)
 plant("ring-piece", "one sync: the piece is not synced",
-      ("    if (!sync_file(files->sums)) return 0;\n    if (!write_log(files)) return 0;\n    files->ring_used +=",
-       "    if (!write_log(files)) return 0;\n    files->ring_used +="), runs=ONE)
+      ("    if (!sync_file(files->sums)) return 0;\n    files->ring_used +=", "    files->ring_used +="), runs=ONE)
+plant("ring-first", "one sync: the piece is synced before its frames are in the file of the log",
+      ("    if (!write_log(files)) return 0;\n    if (!write_at(files->sums, files->piece", "    if (!write_at(files->sums, files->piece"),
+      ("    if (!sync_file(files->sums)) return 0;\n    files->ring_used +=",
+       "    if (!sync_file(files->sums) || !write_log(files)) return 0;\n    files->ring_used +="), runs=ONE)
 plant("ring-log", "one sync: the ring is full, and the log is not synced", SYNC_LOG, runs=ONE)
 plant("ring-entry", "one sync: the ring is full, and the new entry is not synced", SYNC_SUMS, runs=ONE)
 plant("ring-crc", "one sync: the CRC of a piece is not compared",
@@ -134,13 +139,21 @@ plant("ring-crc", "one sync: the CRC of a piece is not compared",
 plant("ring-closing", "one sync: closing does not sync the log",
       ("    if (files->ring && !sync_file(files->log)) return 0;\n", ""), runs=ONE)
 plant("ring-opening", "one sync: at opening, pieces are not synced before the entry that covers them",
-      ("        if (!sync_file(files->log)) return 0;\n    }\n    return put_sums", "    }\n    return put_sums"),
+      ("        if (!sync_file(files->log)) return 0;\n    }\n    return put_pages", "    }\n    return put_pages"),
       (SYNC_LOG[0], "    if (files->appended.end != files->durable.end && !sync_file(files->log)) return 0;\n"
        "    files->ring_used = 0;"), runs=ONE)
 plant("ring-unfit", "one sync: at opening, an entry that does not fit is not replaced",
       ("has_pieces || found->is_newer_unfit", "has_pieces"), runs=AGAIN)
-PIECE = "number_at(head + 8, 8) != files->entry || number_at(head + 16, 8) != end->end"
-plant("ring-number", "one sync: the entry of a piece is not compared", (PIECE, "number_at(head + 16, 8) != end->end"),
-      found=RARE, runs=ONE)
+PIECE = "number_at(head + 8, 8) != files->entry || number_at(head + 16, 8) != found->end.end"
+plant("ring-number", "one sync: the entry of a piece is not compared", (PIECE, "number_at(head + 16, 8) != found->end.end"),
+      found=NEVER, runs=ONE)
 plant("ring-start", "one sync: the start of a piece is not compared", (PIECE, "number_at(head + 8, 8) != files->entry"),
-      found=RARE, runs=ONE)
+      found=NEVER, runs=ONE)
+
+# Another program recovers the log and the store in place after a crash.
+plant("another-above", "another program: a page above the log is not refused",
+      ("    if (has_page_above(files, passed.lsn)) return refuse(files, ARIES_FILES_FOREIGN);\n", ""), runs=ANOTHER)
+plant("another-pieces", "another program: lost pieces are not audited",
+      ("return !found->are_pieces_lost || are_pages_of_log(files, found);", "return 1;"), found=RARE, runs=ANOTHER[1:])
+plant("old-pages", "opening: an old file of pages stays when sums-N is made",
+      ("is_old = files->pages >= 0 && !found->has_sums;", "is_old = 0;"), found=RARE)

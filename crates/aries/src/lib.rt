@@ -4,7 +4,10 @@
 
 mod files;
 mod in_place;
-mod noted;
+mod left;
+mod names;
+mod new_file;
+mod new_tail;
 mod program;
 mod verbose;
 

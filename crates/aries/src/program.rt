@@ -2,13 +2,18 @@
 
 use crate::files::{NewFiles, OldFiles, audit_files, recover_files};
 use crate::in_place::recover_files_in_place;
-use crate::noted::Notes;
-use crate::verbose::{tell_audit, tell_recovery, tell_why};
+use crate::names::{Names, PlaceFiles};
+use crate::verbose::{
+    says_why, tell_audit, tell_done, tell_in_place, tell_new, tell_old, tell_place,
+    tell_place_files, tell_recovery, tell_torn,
+};
 use command::{Job, command_of};
+use job_files::{Notes, notice};
 use page::Fault;
 use recovery::{Report, report_text};
 use restart::Options;
 use std::alloc::Global;
+use std::fs::File;
 use std::io::{self, Write};
 use std::rt::{Clock, Files};
 use std::thread::Threads;
@@ -32,33 +37,17 @@ fn status_of_print<E: Write>(printed: io::Result<()>, verbose: bool, err: &mut E
     1
 }
 
-/// Prints the report of a recovery or its fault, and fault 1 if memory for the report is refused.
-/// If verbose, it first prints what the recovery did or why it failed.
-fn tell_end<O: Write, E: Write>(
+/// Prints the report of a recovery, and fault 1 if memory for it is refused.
+fn tell_report<O: Write, E: Write>(
     alloc: Global,
-    answer: Result<Report, Fault>,
-    old: &OldFiles,
-    (tail, new): (Option<&Notes>, &NewFiles),
+    report: &Report,
     verbose: bool,
     out: &mut O,
     err: &mut E,
 ) -> u8 {
-    match answer {
-        Ok(report) => {
-            if verbose {
-                tell_recovery(old, tail, new, err);
-            }
-            match report_text(alloc, &report) {
-                Ok(text) => status_of_print(print_text(&text, out), verbose, err),
-                Err(fault) => refuse(fault, err),
-            }
-        }
-        Err(fault) => {
-            if verbose {
-                tell_why(fault, old, tail, Some(new), err);
-            }
-            refuse(fault, err)
-        }
+    match report_text(alloc, report) {
+        Ok(text) => status_of_print(print_text(&text, out), verbose, err),
+        Err(fault) => refuse(fault, err),
     }
 }
 
@@ -80,56 +69,95 @@ fn run_audit<R: Files + Clock, O: Write, E: Write>(
             status_of_print(writeln!(out, "lawful"), verbose, err)
         }
         Err(fault) => {
-            if verbose {
-                tell_why(fault, files, None, None, err);
+            if says_why(fault, verbose) && !tell_old(files, err) {
+                tell_place(fault, files, err);
             }
             refuse(fault, err)
         }
     }
 }
 
-/// A path with one more ending.
-fn with_ending(alloc: Global, path: &str, ending: &str) -> Result<String, Fault> {
-    Ok(format!(in alloc; "{path}{ending}")?)
-}
-
-/// Recovers in place. The tail is in a file whose name is the log's and `.tail`. A new store that
-/// replaces the old one is in a file whose name is the store's and `.new`.
-fn run_in_place<'x, R: Files + Clock + Threads + Sync, O: Write, E: Write>(
+/// Recovers into new files.
+fn run_recovery<R: Files<File = File> + Clock + Threads + Sync, O: Write, E: Write>(
     rt: &R,
     alloc: Global,
-    (log, store, out_store): (&'x str, &'x str, Option<&'x str>),
+    (old, new): (&OldFiles, &NewFiles),
+    (options, may_be_one): (&Options, bool),
+    verbose: bool,
+    out: &mut O,
+    err: &mut E,
+) -> u8 {
+    match recover_files(rt, alloc, old, new, options, may_be_one) {
+        Ok(report) => {
+            if verbose {
+                tell_recovery(old, new, err);
+            }
+            tell_torn(&old.log, &report, err);
+            tell_report(alloc, &report, verbose, out, err)
+        }
+        Err(fault) => {
+            if says_why(fault, verbose) && !tell_old(old, err) && !tell_new(new, err) {
+                tell_place(fault, old, err);
+            }
+            refuse(fault, err)
+        }
+    }
+}
+
+/// Recovers in place, in files with these names.
+fn run_in_place<R: Files<File = File> + Clock + Threads + Sync, O: Write, E: Write>(
+    rt: &R,
+    alloc: Global,
+    names: &Names,
     how: (&Options, bool),
     verbose: bool,
     out: &mut O,
     err: &mut E,
 ) -> u8 {
-    let (tail, beside) = match names_beside(alloc, log, store) {
-        Ok(names) => names,
-        Err(fault) => return refuse(fault, err),
-    };
-    let (new_store, replaced) = match out_store {
-        Some(path) => (path, None),
-        None => (beside.as_str(), Some(store)),
-    };
+    let files = PlaceFiles::new(names);
+    match recover_files_in_place(rt, alloc, &files, how) {
+        Ok(done) => {
+            if verbose {
+                tell_in_place(&files, err);
+            }
+            tell_done(alloc, &files, &done, err);
+            tell_report(alloc, &done.report, verbose, out, err)
+        }
+        Err(fault) => {
+            if says_why(fault, verbose) && !tell_place_files(&files, err) {
+                let old = OldFiles::new(names.log.as_str(), names.store.as_str(), None);
+                tell_place(fault, &old, err);
+            }
+            refuse(fault, err)
+        }
+    }
+}
+
+/// Finds the names of a recovery in place, and recovers.
+fn name_and_run<'x, R: Files<File = File> + Clock + Threads + Sync, O: Write, E: Write>(
+    rt: &R,
+    alloc: Global,
+    given: (&'x str, &'x str, Option<&'x str>),
+    how: (&Options, bool),
+    verbose: bool,
+    out: &mut O,
+    err: &mut E,
+) -> u8 {
+    let (log, store, out_store) = given;
     let old = OldFiles::new(log, store, None);
-    let tail = Notes::new("file of the tail", tail.as_str());
-    let new = NewFiles {
-        log: Notes::new("log", log),
-        store: Notes::new("new store", new_store),
-    };
-    let answer = recover_files_in_place(rt, alloc, &old, &tail, &new, replaced, how);
-    tell_end(alloc, answer, &old, (Some(&tail), &new), verbose, out, err)
+    match Names::new(rt, alloc, &old, out_store) {
+        Ok(names) => run_in_place(rt, alloc, &names, how, verbose, out, err),
+        Err(fault) => {
+            if says_why(fault, verbose) && !tell_old(&old, err) {
+                tell_place(fault, &old, err);
+            }
+            refuse(fault, err)
+        }
+    }
 }
 
-/// The names of the file of a log's tail and of the file that is to replace a store.
-fn names_beside(alloc: Global, log: &str, store: &str) -> Result<(String, String), Fault> {
-    let tail = with_ending(alloc, log, ".tail")?;
-    Ok((tail, with_ending(alloc, store, ".new")?))
-}
-
-/// Does the job.
-fn run_job<R: Files + Clock + Threads + Sync, O: Write, E: Write>(
+/// Does the job. First it prints what there is to know of a log that is not recovered in place.
+fn run_job<R: Files<File = File> + Clock + Threads + Sync, O: Write, E: Write>(
     rt: &R,
     alloc: Global,
     job: &Job,
@@ -146,13 +174,14 @@ fn run_job<R: Files + Clock + Threads + Sync, O: Write, E: Write>(
             may_be_one,
             verbose,
         } => {
+            notice(rt, alloc, "aries", log.as_str(), err);
             let old = OldFiles::new(log.as_str(), store.as_str(), None);
             let new = NewFiles {
                 log: Notes::new("new log", out_log.as_str()),
                 store: Notes::new("new store", out_store.as_str()),
             };
-            let answer = recover_files(rt, alloc, &old, &new, options, *may_be_one);
-            tell_end(alloc, answer, &old, (None, &new), *verbose, out, err)
+            let how = (options, *may_be_one);
+            run_recovery(rt, alloc, (&old, &new), how, *verbose, out, err)
         }
         Job::RecoverInPlace {
             log,
@@ -162,8 +191,8 @@ fn run_job<R: Files + Clock + Threads + Sync, O: Write, E: Write>(
             may_be_one,
             verbose,
         } => {
-            let names = (log.as_str(), store.as_str(), text_of(out_store));
-            run_in_place(rt, alloc, names, (options, *may_be_one), *verbose, out, err)
+            let given = (log.as_str(), store.as_str(), text_of(out_store));
+            name_and_run(rt, alloc, given, (options, *may_be_one), *verbose, out, err)
         }
         Job::Audit {
             log,
@@ -171,6 +200,7 @@ fn run_job<R: Files + Clock + Threads + Sync, O: Write, E: Write>(
             base,
             verbose,
         } => {
+            notice(rt, alloc, "aries", log.as_str(), err);
             let files = OldFiles::new(log.as_str(), store.as_str(), text_of(base));
             run_audit(rt, alloc, &files, *verbose, out, err)
         }
@@ -189,9 +219,11 @@ fn text_of(name: &Option<String>) -> Option<&str> {
 /// standard output and `err` is standard error. Returns the exit status: 0 if the job was done or
 /// help was asked for, 1 for a fault, printed to `err` as `fault N: text`, or a failed print, 2 for
 /// a line that is wrong. After fault 1 of a recovery nothing is written, or all is if memory for
-/// the report was refused. With `--verbose`, `err` first gets lines that begin with `aries: `: why
-/// a fault came, or what was read and written, and in which time.
-pub fn run<R: Files + Clock + Threads + Sync, O: Write, E: Write>(
+/// the report was refused. Before the line of a fault 2 to 5, `err` gets one that begins with
+/// `aries: ` and says which file and why; before any work, lines on a log that may not be whole;
+/// after it, lines on what was finished or cut. With `--verbose` it also gets why any other fault
+/// came, or what was read and written, and in which time.
+pub fn run<R: Files<File = File> + Clock + Threads + Sync, O: Write, E: Write>(
     rt: &R,
     alloc: Global,
     words: &[&str],

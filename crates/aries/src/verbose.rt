@@ -1,22 +1,18 @@
-//! The lines of `--verbose` on standard error: why a job failed, or how long its parts took.
+//! The lines on standard error that begin with `aries: `: why a job failed, what it found, and how
+//! long its parts took.
 
 use crate::files::{NewFiles, OldFiles};
-use crate::noted::{Failure, Notes};
+use crate::in_place::Done;
+use crate::left::Finished;
+use crate::names::PlaceFiles;
+use crate::new_tail::{Cut, LONGEST_UPDATE, torn_name};
+use job_files::{Name, Notes, tell_failure, tell_let_pass};
 use page::Fault;
+use recovery::Report;
+use std::alloc::Global;
 use std::fmt;
 use std::io::{self, Write};
 use std::time::{Duration, Instant};
-
-/// A file as it is named in a line: its role in the job, and its path in quotes.
-#[derive(Drop)]
-struct Name<'n, 'a>(&'n Notes<'a>);
-
-impl<'n, 'a> fmt::Display for Name<'n, 'a> {
-    fn fmt<W: fmt::Write>(&self, f: &mut fmt::Formatter<W>) -> fmt::Result {
-        let (role, path) = (self.0.role, self.0.path);
-        write!(f, "the {role} {path:?}")
-    }
-}
 
 /// A time in milliseconds, to the microsecond; nothing if the clock did not work.
 #[derive(Drop)]
@@ -78,10 +74,10 @@ fn place_of(fault: Fault) -> Place {
     }
 }
 
-/// Prints in which of the files a fault lies.
-fn tell_place<E: Write>(place: Place, old: &OldFiles, err: &mut E) -> io::Result<()> {
+/// Prints in which of the files a fault lies that no file has caused.
+pub fn tell_place<E: Write>(fault: Fault, old: &OldFiles, err: &mut E) {
     let (log, store) = (Name(&old.log), Name(&old.store));
-    match (place, &old.base) {
+    let _ = match (place_of(fault), &old.base) {
         (Place::Memory, _) => writeln!(err, "aries: memory was refused"),
         (Place::Log, _) => writeln!(err, "aries: in {log}"),
         (Place::LogAndStore, _) => writeln!(err, "aries: between {log} and {store}"),
@@ -95,53 +91,43 @@ fn tell_place<E: Write>(place: Place, old: &OldFiles, err: &mut E) -> io::Result
             writeln!(err, "aries: in {base}")
         }
         (Place::Base, None) | (Place::Nowhere, _) => Ok(()),
-    }
-}
-
-/// Prints which call on a file failed and what the system reported.
-fn tell_call<E: Write>(file: &Notes, failure: Failure, err: &mut E) {
-    let (name, Failure { call, error }) = (Name(file), failure);
-    let _ = writeln!(err, "aries: {call} {name}: {error}");
-}
-
-/// Prints which call on a file ended the job, if one has. Returns whether one has.
-fn tell_failure<E: Write>(file: &Notes, err: &mut E) -> bool {
-    let Some(failure) = file.failure() else {
-        return false;
     };
-    tell_call(file, failure, err);
-    true
 }
 
-/// Prints which call on a file failed without ending the job, if one has.
-fn tell_let_pass<E: Write>(file: &Notes, err: &mut E) {
-    if let Some(failure) = file.let_pass() {
-        tell_call(file, failure, err);
+/// Whether a fault comes with a line that says why: always if it is that of a file which could not
+/// be read or written.
+pub fn says_why(fault: Fault, verbose: bool) -> bool {
+    let is_of_a_file = matches!(
+        fault,
+        Fault::ReadLog | Fault::ReadStore | Fault::WriteLog | Fault::WriteStore
+    );
+    verbose || is_of_a_file
+}
+
+/// Prints which of the files that a job reads ended it, and why. Returns whether one has.
+pub fn tell_old<E: Write>(old: &OldFiles, err: &mut E) -> bool {
+    if tell_failure("aries", &old.log, err) || tell_failure("aries", &old.store, err) {
+        return true;
+    }
+    match &old.base {
+        Some(base) => tell_failure("aries", base, err),
+        None => false,
     }
 }
 
-/// Prints why a job failed: which call on which file failed, and what the system reported; if no
-/// call failed, in which file the fault lies.
-pub fn tell_why<E: Write>(
-    fault: Fault,
-    old: &OldFiles,
-    tail: Option<&Notes>,
-    new: Option<&NewFiles>,
-    err: &mut E,
-) {
-    let mut is_told = tell_failure(&old.log, err) || tell_failure(&old.store, err);
-    if let Some(base) = &old.base {
-        is_told = is_told || tell_failure(base, err);
-    }
-    if let Some(tail) = tail {
-        is_told = is_told || tell_failure(tail, err);
-    }
-    if let Some(new) = new {
-        is_told = is_told || tell_failure(&new.log, err) || tell_failure(&new.store, err);
-    }
-    if !is_told {
-        let _ = tell_place(place_of(fault), old, err);
-    }
+/// The same of the files that a recovery makes.
+pub fn tell_new<E: Write>(new: &NewFiles, err: &mut E) -> bool {
+    tell_failure("aries", &new.log, err) || tell_failure("aries", &new.store, err)
+}
+
+/// The same of the files of a recovery in place.
+pub fn tell_place_files<E: Write>(files: &PlaceFiles, err: &mut E) -> bool {
+    tell_failure("aries", &files.log, err)
+        || tell_failure("aries", &files.store, err)
+        || tell_failure("aries", &files.out_log, err)
+        || tell_failure("aries", &files.tail, err)
+        || tell_failure("aries", &files.new_tail, err)
+        || tell_failure("aries", &files.new_store, err)
 }
 
 /// Prints how many bytes of a file were read or written, and how long it took.
@@ -158,27 +144,79 @@ fn between(from: Option<Instant>, to: Option<Instant>) -> Took {
     }
 }
 
-/// Prints what a recovery read and wrote and how long each part took; and the folders that it could
-/// not sync because the system does not allow it. The report comes after these lines, so they are
-/// flushed.
-pub fn tell_recovery<E: Write>(old: &OldFiles, tail: Option<&Notes>, new: &NewFiles, err: &mut E) {
-    tell_file("read", &old.log, err);
-    tell_file("read", &old.store, err);
-    let began = match tail {
-        Some(tail) => tail.began(),
-        None => new.log.began(),
-    };
-    let took = between(old.store.ended(), began);
+/// Prints what a recovery read, and how long it took until `began`, when it began to write.
+fn tell_read<E: Write>(log: &Notes, store: &Notes, began: Option<Instant>, err: &mut E) {
+    tell_file("read", log, err);
+    tell_file("read", store, err);
+    let took = between(store.ended(), began);
     let _ = writeln!(err, "aries: recovered in memory{took}");
-    if let Some(tail) = tail {
-        tell_file("wrote and synced", tail, err);
-        tell_let_pass(tail, err);
-    }
+}
+
+/// Prints what a recovery into new files read and wrote and how long each part took; and the folders
+/// that it could not sync because the system does not allow it. The report comes after these lines,
+/// so they are flushed.
+pub fn tell_recovery<E: Write>(old: &OldFiles, new: &NewFiles, err: &mut E) {
+    tell_read(&old.log, &old.store, new.log.began(), err);
     tell_file("wrote and synced", &new.log, err);
     tell_file("wrote and synced", &new.store, err);
-    tell_let_pass(&new.log, err);
-    tell_let_pass(&new.store, err);
+    tell_let_pass("aries", &new.log, err);
+    tell_let_pass("aries", &new.store, err);
     let _ = err.flush();
+}
+
+/// As [`tell_recovery`], of a recovery in place.
+pub fn tell_in_place<E: Write>(files: &PlaceFiles, err: &mut E) {
+    tell_read(&files.log, &files.store, files.new_tail.began(), err);
+    tell_file("wrote and synced", &files.new_tail, err);
+    tell_let_pass("aries", &files.tail, err);
+    tell_file("wrote and synced", &files.out_log, err);
+    tell_file("wrote and synced", &files.new_store, err);
+    tell_let_pass("aries", &files.log, err);
+    tell_let_pass("aries", &files.store, err);
+    tell_let_pass("aries", &files.new_store, err);
+    let _ = err.flush();
+}
+
+/// Prints how many bytes after the last whole record were left out of a new log, if they are more
+/// than a torn record.
+pub fn tell_torn<E: Write>(log: &Notes, report: &Report, err: &mut E) {
+    if report.torn > LONGEST_UPDATE {
+        let (name, torn) = (Name(log), report.torn);
+        let _ = writeln!(
+            err,
+            "aries: {torn} bytes after the last whole record of {name} are not in the new one: \
+             more than a torn record"
+        );
+    }
+}
+
+/// Prints what a recovery in place did besides its report: that it could not lock the log, what it
+/// finished of an interrupted run, and what it cut off the log, if that is more than a torn record.
+pub fn tell_done<E: Write>(alloc: Global, files: &PlaceFiles, done: &Done, err: &mut E) {
+    let name = Name(&files.log);
+    tell_let_pass("aries", &files.out_log, err);
+    if let Some(Finished { compensated, ended }) = done.finished {
+        let _ = writeln!(
+            err,
+            "aries: finished an interrupted recovery of {name}: {compensated} CLRs, {ended} ends"
+        );
+    }
+    if let Some(cut) = done.cut {
+        if cut.count > LONGEST_UPDATE {
+            let _ = tell_cut(alloc, files, cut, err);
+        }
+    }
+}
+
+/// Prints how many bytes were cut off the log, and which file has them.
+fn tell_cut<E: Write>(alloc: Global, files: &PlaceFiles, cut: Cut, err: &mut E) -> io::Result<()> {
+    let (name, Cut { offset, count }) = (Name(&files.log), cut);
+    let kept = torn_name(alloc, files.log.path, cut)?;
+    writeln!(
+        err,
+        "aries: cut {count} bytes off {name} at byte {offset}: more than a torn record; \
+         they are in {kept:?}"
+    )
 }
 
 /// Prints what an audit that ended at `end` read, and how long each part took. The verdict comes

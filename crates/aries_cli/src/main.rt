@@ -1,6 +1,7 @@
 //! The program `aries`: passes its words and streams to `aries::run`.
 #![tactic(auto)]
 
+use std::fs::File;
 use std::io::{BufWriter, Write};
 use std::process::ExitCode;
 use std::rt::{Clock, Env, Files};
@@ -8,22 +9,22 @@ use std::thread::Threads;
 use words::{ERROR_BUFFER_BYTES, NoWords, slices_of, words_of};
 
 /// Runs the program on the words that it was given, and returns its status.
-fn run_words<R: Clock + Env + Files + AllocGlobal + Threads + Sync, O: Write, E: Write>(
-    rt: &R,
-    out: &mut O,
-    err: &mut E,
-) -> Result<u8, NoWords> {
+fn run_words<
+    R: Clock + Env + Files<File = File> + AllocGlobal + Threads + Sync,
+    O: Write,
+    E: Write,
+>(rt: &R, out: &mut O, err: &mut E) -> Result<u8, NoWords> {
     let words = words_of(rt)?;
     let slices = slices_of(rt.alloc(), &words)?;
     Ok(aries::run(rt, rt.alloc(), &slices, out, err))
 }
 
 /// Runs the program and returns its status.
-fn status_of<R: Clock + Env + Files + AllocGlobal + Threads + Sync, O: Write, E: Write>(
-    rt: &R,
-    out: &mut O,
-    err: &mut E,
-) -> u8 {
+fn status_of<
+    R: Clock + Env + Files<File = File> + AllocGlobal + Threads + Sync,
+    O: Write,
+    E: Write,
+>(rt: &R, out: &mut O, err: &mut E) -> u8 {
     match run_words(rt, out, err) {
         Ok(status) => status,
         // 1 if the print failed.

@@ -3,13 +3,14 @@
 
 mod program;
 
+use std::fs::File;
 use std::io::{BufWriter, Write};
 use std::process::ExitCode;
-use std::rt::{Env, Files};
+use std::rt::{Clock, Env, Files};
 use words::{ERROR_BUFFER_BYTES, NoWords, slices_of, words_of};
 
 /// Runs the program on the words that it was given, and returns its status.
-fn run_words<R: Env + Files + AllocGlobal, O: Write, E: Write>(
+fn run_words<R: Clock + Env + Files<File = File> + AllocGlobal, O: Write, E: Write>(
     rt: &R,
     out: &mut O,
     err: &mut E,
@@ -20,7 +21,7 @@ fn run_words<R: Env + Files + AllocGlobal, O: Write, E: Write>(
 }
 
 /// Runs the program and returns its status.
-fn status_of<R: Env + Files + AllocGlobal, O: Write, E: Write>(
+fn status_of<R: Clock + Env + Files<File = File> + AllocGlobal, O: Write, E: Write>(
     rt: &R,
     out: &mut O,
     err: &mut E,

@@ -3,28 +3,38 @@
 use device::{FileSource, ReadFault, read_all};
 use dump::{Choice, Stop, Style, list_log, list_store};
 use dump_command::{Job, dump_of};
+use job_files::{Call, NotedFile, Notes, notice, tell_failure};
 use page::Fault;
 use std::alloc::Global;
 use std::fs::File;
-use std::io::{self, BufWriter, ErrorKind, Write};
-use std::rt::Files;
+use std::io::{BufWriter, ErrorKind, Write};
+use std::rt::{Clock, Files};
 use words::refuse;
 
 /// How many bytes of lines are buffered before they are printed.
 const HELD_BACK: usize = 65_536;
 
-/// The fault of a file that was not opened: lack of memory, or that file's fault.
-fn fault_of(error: io::Error, fault: Fault) -> Fault {
-    match error.kind() {
-        ErrorKind::OutOfMemory => Fault::NoResource,
-        _ => fault,
-    }
-}
-
 /// The bytes of a file; `fault` if it cannot be opened or read to its end.
-fn read_file<R: Files>(rt: &R, alloc: Global, path: &str, fault: Fault) -> Result<Vec<u8>, Fault> {
-    let file = File::open(rt, path).map_err(|error| fault_of(error, fault))?;
-    match read_all(alloc, &mut FileSource::sized(file)) {
+fn read_file<R: Files + Clock>(
+    rt: &R,
+    alloc: Global,
+    file: &Notes,
+    fault: Fault,
+) -> Result<Vec<u8>, Fault> {
+    let opened = match File::open(rt, file.path) {
+        Ok(opened) => opened,
+        Err(error) => {
+            file.fail(Call::Open, error);
+            return Err(match error.kind() {
+                ErrorKind::OutOfMemory => Fault::NoResource,
+                _ => fault,
+            });
+        }
+    };
+    match read_all(
+        alloc,
+        &mut FileSource::sized(NotedFile::new(opened, rt, file)),
+    ) {
         Ok(bytes) => Ok(bytes),
         Err(ReadFault::Failed) => Err(fault),
         Err(ReadFault::NoMemory) => Err(Fault::NoResource),
@@ -36,16 +46,30 @@ fn style_of(is_json: bool) -> Style {
     if is_json { Style::Json } else { Style::Text }
 }
 
-/// Prints what the job asks for.
-fn list<R: Files, O: Write>(rt: &R, alloc: Global, job: &Job, out: &mut O) -> Result<(), Stop> {
+/// What is noted of the file of a job.
+fn notes_of(job: &Job) -> Notes<'_> {
+    match job {
+        Job::Log { file, .. } => Notes::new("log", file.as_str()),
+        Job::Store { file, .. } => Notes::new("store", file.as_str()),
+    }
+}
+
+/// Prints what the job asks for of a file.
+fn list<R: Files + Clock, O: Write>(
+    rt: &R,
+    alloc: Global,
+    job: &Job,
+    file: &Notes,
+    out: &mut O,
+) -> Result<(), Stop> {
     match job {
         Job::Log {
-            file,
             from,
             to,
             transaction,
             page,
             is_json,
+            ..
         } => {
             let choice = Choice {
                 from: from.unwrap_or(0),
@@ -53,22 +77,19 @@ fn list<R: Files, O: Write>(rt: &R, alloc: Global, job: &Job, out: &mut O) -> Re
                 transaction: *transaction,
                 page: *page,
             };
-            let bytes = read_file(rt, alloc, file.as_str(), Fault::ReadLog)?;
+            let bytes = read_file(rt, alloc, file, Fault::ReadLog)?;
             list_log(alloc, &bytes, style_of(*is_json), &choice, out)
         }
-        Job::Store {
-            file,
-            page,
-            is_json,
-        } => {
-            let bytes = read_file(rt, alloc, file.as_str(), Fault::ReadStore)?;
+        Job::Store { page, is_json, .. } => {
+            let bytes = read_file(rt, alloc, file, Fault::ReadStore)?;
             list_store(alloc, &bytes, style_of(*is_json), *page, out)
         }
     }
 }
 
-/// Does the job. What was listed before a fault is printed before the fault is.
-fn run_job<R: Files, O: Write, E: Write>(
+/// Does the job. What was listed before a fault is printed before the fault is. Lines on a log that
+/// may not be whole come first, and a line on a file that failed before its fault.
+fn run_job<R: Files<File = File> + Clock, O: Write, E: Write>(
     rt: &R,
     alloc: Global,
     job: &Job,
@@ -78,12 +99,19 @@ fn run_job<R: Files, O: Write, E: Write>(
     let Ok(mut held) = BufWriter::with_capacity(alloc, HELD_BACK, out) else {
         return refuse(Fault::NoResource, err);
     };
-    let listed = list(rt, alloc, job, &mut held);
+    let file = notes_of(job);
+    if let Job::Log { .. } = job {
+        notice(rt, alloc, "aries_dump", file.path, err);
+    }
+    let listed = list(rt, alloc, job, &file, &mut held);
     let flushed = held.flush();
     match listed {
         Ok(()) if flushed.is_ok() => 0,
         Ok(()) | Err(Stop::Print(_)) => 1,
-        Err(Stop::Fault(fault)) => refuse(fault, err),
+        Err(Stop::Fault(fault)) => {
+            let _ = tell_failure("aries_dump", &file, err);
+            refuse(fault, err)
+        }
     }
 }
 
@@ -91,7 +119,7 @@ fn run_job<R: Files, O: Write, E: Write>(
 /// output and `err` is standard error. Returns the exit status: 0 if all was listed or help was
 /// asked for, 1 for a fault, printed to `err` as `fault N: text`, or a failed print, 2 for a line
 /// that is wrong.
-pub fn run<R: Files, O: Write, E: Write>(
+pub fn run<R: Files<File = File> + Clock, O: Write, E: Write>(
     rt: &R,
     alloc: Global,
     words: &[&str],

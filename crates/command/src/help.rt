@@ -2,7 +2,7 @@
 
 /// The option `--verbose`.
 pub(crate) const VERBOSE: &str =
-    "Print on standard error why a run failed, or how long each part took";
+    "Print on standard error how long each part took, and in which file a fault lies";
 
 /// The program.
 pub(crate) const ARIES: &str = "Statuses:\n  \
@@ -72,20 +72,26 @@ pub(crate) const RECOVER: &str = "Examples:\n  \
     1  failure: `fault N: text` on standard error; without that line, printing failed\n  \
     2  wrong command line\n\
     \n\
+    For faults 2 to 5 the line before says which file and why. If `torn` is above 128, see TORN BYTES\n\
+    in aries(1).\n\
+    \n\
     Without --in-place the old files are never changed. Put the new ones in place only after status 0,\n\
     or after an audit of them. A run that failed may leave new files: empty, in part or whole. Remove\n\
     them, and run it again. Fault 4 or 5 at once usually means that such a file exists. After fault 1\n\
     the new files are empty, or whole if memory for the report was refused.\n\
     \n\
     With --in-place the log file is continued after its last whole record. With --replace the\n\
-    recovered store then takes the place of the old one. If the run is interrupted, run it again: it\n\
-    finishes what was begun.";
+    recovered store then takes the place of the old one. Stop the engine first, and run it as the\n\
+    owner of the files or as root. If the run is interrupted, run it again: the next run finishes what\n\
+    was begun. If it refuses a file, the line before the fault says why; aries(1) says what to do.\n\
+    \n\
+    A folder that aries_files keeps recovers itself when it is opened. Run no recovery on it.";
 
 /// The command `audit`.
 pub(crate) const AUDIT: &str = "Example:\n  \
     aries audit --log log --store store\n\
     \n\
-    It prints `lawful` if the log and the store keep the rules of docs/DEFINITIONS.md.\n\
+    It prints `lawful` if the log and the store keep the laws in aries-formats(5).\n\
     \n\
     Statuses:\n  \
     0  lawful\n  \

@@ -23,7 +23,7 @@ use Rattle.recovery.specs.declared.by_pieces.Continuation.{Continuation}
 use Rattle.recovery.specs.Recovery.{Recovers, RecoveryCause}
 use Rattle.recovery.specs.Devices.{FailsOnlyWith, IsFaultOf, SourcesGave, DeviceCause, IsResourceOrDevice}
 use Rattle.recovery.specs.TailFile.{tail_text, sum_of, end_of}
-use Rattle.recovery.specs.InPlace.{IsLeftIn, Prepares, LeavesInPlace}
+use Rattle.recovery.specs.InPlace.{IsLeftIn, Prepares, tail_of, LeavesInPlace}
 use Rattle.recovery.specs.ByPieces.{IsOfLog, fault_of, ReadingCause, MeasuresLog, continued_log}
 use Rattle.recovery.proofs.Bytes.{input_cause}
 use Rattle.recovery.proofs.Delivered.{device_cause, is_resource}
@@ -41,20 +41,11 @@ ends_short (Some xs) None n same few end = absurd same
 ends_short (Some xs) (Some ys) n same few end = omega (arith, few, end, ap (λ (t : List ℕ). length t) same)
 
 -- the end of what is kept, read again
-pub end_again : (kept offset count : ℕ) (text buffer rest : List ℕ) → offset ≡ kept - END_BYTES → kept ≤ length text → kept - offset ≤ count → count ≤ length buffer → length buffer ≡ kept - offset
-    → take count buffer ≡ take count (drop offset text) → end_of (take count (buffer ++ rest)) ≡ end_of (take kept text)
-end_again kept offset count text buffer rest at within some few room same =
-    let all : offset + count ≡ kept = omega (arith, at, some, few, room) in
-    let came : take count (buffer ++ rest) ≡ take count buffer = take-append-le count buffer rest few in
-    let size : length (take count buffer) ≡ count = omega (arith, length-take count buffer, few) in
-    let none : length (take count (buffer ++ rest)) - END_BYTES ≡ 0 = omega (arith, ap (λ (t : List ℕ). length t) came, size, at, all) in
+pub end_again : (kept offset : ℕ) (text : List ℕ) → offset ≡ kept - END_BYTES → kept ≤ length text → take (kept - offset) (drop offset text) ≡ end_of (take kept text)
+end_again kept offset text at within =
+    let all : offset + (kept - offset) ≡ kept = omega (arith, at) in
     let long : length (take kept text) - END_BYTES ≡ offset = omega (arith, length-take kept text, within, at) in
-    ap (λ n. drop n (take count (buffer ++ rest))) none
-    ∙ came
-    ∙ same
-    ∙ sym (drop-take offset count text)
-    ∙ ap (λ n. drop offset (take n text)) all
-    ∙ sym (ap (λ n. drop n (take kept text)) long)
+    sym (drop-take offset (kept - offset) text) ∙ ap (λ n. drop offset (take n text)) all ∙ sym (ap (λ n. drop n (take kept text)) long)
 
 -- FAILURES of a log's device
 pub failed : {U : Type 0} (s : Result U Fault) (a b c : ℕ) → s ≡ Err ReadLog → b ≡ a → c ≡ b + 1 → FailsOnlyWith ReadLog s a c
@@ -127,11 +118,11 @@ module _ (store_left : Option (List ℕ)) (log store : List ℕ) (made : Continu
     recovers = recovers;
   }
 
-  pub tail_made : (size kept end : ℕ) (frames : List ℕ) → size ≡ made.length → kept ≡ made.kept → end ≡ sum_of (end_of (take made.kept log)) → frames ≡ made.frames.items
-      → tail_text size kept end frames ≡ tail_text (length log) (length log - made.report.torn) (sum_of (end_of (take (length log - made.report.torn) log))) made.frames.items
-  tail_made size kept end frames p q r h =
-      same_tail size (length log) kept (length log - made.report.torn) end _ frames made.frames.items (p ∙ measured.length_is) (q ∙ measured.kept_is)
-      (r ∙ ap (λ n. sum_of (end_of (take n log))) measured.kept_is) h
+  pub tail_made : (size kept end cut : ℕ) (frames : List ℕ) → size ≡ made.length → kept ≡ made.kept → end ≡ sum_of (end_of (take made.kept log)) → cut ≡ sum_of (drop made.kept log)
+      → frames ≡ made.frames.items → tail_text size kept end cut frames ≡ tail_of prepares
+  tail_made size kept end cut frames p q r u h =
+      same_tail size (length log) kept (length log - made.report.torn) end _ cut _ frames made.frames.items (p ∙ measured.length_is) (q ∙ measured.kept_is)
+      (r ∙ ap (λ n. sum_of (end_of (take n log))) measured.kept_is) (u ∙ ap (λ n. sum_of (drop n log)) measured.kept_is) h
 
 -- a sink's fault is not one of the log's device
 pub stays_other : {U L S : Type 0} (s : Result U Fault) (log : Sink L) (a b : L) (store : Sink S) (c d : S) (kept : ℕ) (frames new_store : List ℕ) (e : Fault) → s ≡ Err e

@@ -22,7 +22,7 @@ use Rattle.recovery.proofs.Taken.{begins_longer}
 
 -- PIECES
 -- the bytes up to an offset, and a piece after them
-piece_more : (offset n : ℕ) (text : List ℕ) → take offset text ++ take n (drop offset text) ≡ take (offset + n) text
+pub piece_more : (offset n : ℕ) (text : List ℕ) → take offset text ++ take n (drop offset text) ≡ take (offset + n) text
 piece_more offset n text =
     ap₂ (λ (a b : List ℕ). a ++ b) (sym (take-take offset (offset + n) text (omega arith))) (sym (drop-take offset n text))
     ∙ take-append-drop offset (take (offset + n) text)

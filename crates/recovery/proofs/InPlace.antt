@@ -19,8 +19,8 @@ use Rattle.restart.specs.declared.options.Options.{Options}
 use Rattle.recovery.specs.Text.{ReportContent}
 use Rattle.recovery.specs.Recovery.{Recovers, AreLawful, AreCut, RecoveryCause}
 use Rattle.recovery.specs.Devices.{AreOut}
-use Rattle.recovery.specs.TailFile.{tail_text, sum_of, end_of}
-use Rattle.recovery.specs.InPlace.{Continues, IsContinued, IsFlushed, IsLeft, IsLeftIn, Prepares, LeavesInPlace, HasTail, HoldsCut, DeliversInPlace, CompletesInPlace}
+use Rattle.recovery.specs.TailFile.{tail_text}
+use Rattle.recovery.specs.InPlace.{Continues, IsContinued, IsFlushed, IsLeft, IsLeftIn, Prepares, tail_of, LeavesInPlace, HasTail, HoldsCut, DeliversInPlace, CompletesInPlace}
 use Rattle.recovery.proofs.Bytes.{kept_text}
 use Rattle.recovery.proofs.Delivered.{never_sink, goes_on, cut_lawful}
 use Rattle.recovery.proofs.Resuming.{cut_of}
@@ -124,7 +124,7 @@ nothing_left out_log a out_store b log_left store_left log store options e h = (
 
 -- THE FILE of the tail is written
 pub has_tail : {D : Type 0} {log_left store_left : Option (List ℕ)} (made : Prepares log_left store_left) (sink : Sink D) (old new : D) (text : List ℕ)
-    → text ≡ tail_text (length made.log) made.kept (sum_of (end_of (take made.kept made.log))) made.frames → AreOut sink old new text
+    → text ≡ tail_of made → AreOut sink old new text
     → HasTail made sink old new
 has_tail made sink old new text is out = record { out = subst (Appends (sink.taken old) (sink.taken new)) is out.out; flushed = out.flushed }
 
@@ -140,8 +140,8 @@ settled_in_place bytes log_after out_store a b report out =
     }
 
 -- THE SAME by equal numbers and frames
-pub same_tail : (a b k l s t : ℕ) (f g : List ℕ) → a ≡ b → k ≡ l → s ≡ t → f ≡ g → tail_text a k s f ≡ tail_text b l t g
-same_tail a b k l s t f g p q r h = cc
+pub same_tail : (a b k l s t c d : ℕ) (f g : List ℕ) → a ≡ b → k ≡ l → s ≡ t → c ≡ d → f ≡ g → tail_text a k s c f ≡ tail_text b l t d g
+same_tail a b k l s t c d f g p q r u h = cc
 
 pub continued_as : {L : Type 0} (log : Sink L) (a b : L) (k l : ℕ) (f g : List ℕ) → k ≡ l → f ≡ g → IsContinued log a b k f → IsContinued log a b l g
 continued_as log a b k l f g p q done = subst (λ n. IsContinued log a b n g) p (subst (λ t. IsContinued log a b k t) q done)

@@ -1,8 +1,8 @@
 -- The bytes of a log that were read in two parts.
-use Rattle.std.proofs.Common.{◌≡◌, ℕ, ◌+◌, ◌-◌, ◌≤◌, List, ◌++◌, length, take, drop, Ok, Err, Option, sym, ap, ap₂, subst, ◌∙◌, arith, inl, inr, length-append}
+use Rattle.std.proofs.Common.{◌≡◌, ℕ, ◌+◌, ◌-◌, ◌≤◌, List, [], ◌++◌, length, take, drop, Ok, Err, Option, sym, ap, ap₂, subst, ◌∙◌, arith, inl, inr, length-append, length-drop}
 use Rattle.std.specs.Prelude.{min, OnOk, Result}
-use Rattle.std.proofs.lemmas.List.{append-nil, take_at, drop_at, take_all, length-take, take-append-le}
-use Rattle.std.proofs.Math.Seq.{take-append-add}
+use Rattle.std.proofs.lemmas.List.{append-nil, take_at, drop_at, take_all, length-take, take-append-le, drop-append-le, nil_from_length}
+use Rattle.std.proofs.Math.Seq.{take-append-add, drop-append-add}
 use Rattle.std.proofs.lemmas.Bool.Decides.{leb_tells}
 use Rattle.std.specs.Io.KnownBytes.{Consumes, IsAtEnd}
 use Rattle.std.proofs.KnownBytes.{Consumes-trans}
@@ -58,6 +58,21 @@ kept_is front back torn n m k long less rest =
           ∙ append-nil (take (n - m) front)
           ∙ ap (λ j. take j front) all
           ∙ sym (take-append-le (length (front ++ back) - torn) front back (omega (arith, p.1, length-append front back))))
+    ]
+
+-- and of what is cut off
+pub torn_is : (front back : List ℕ) (torn n m k : ℕ) → n ≡ length front → m ≡ min n (torn - length back) → k ≡ length back - torn
+    → drop (n - m) front ++ drop k back ≡ drop (length (front ++ back) - torn) (front ++ back)
+torn_is front back torn n m k long less rest =
+    elim (leb_tells torn (length back)) [
+      | inl p ↦
+          (let all : length front + k ≡ length (front ++ back) - torn = omega (arith, rest, p.1, length-append front back) in
+          let gone : drop (n - m) front ≡ [] = nil_from_length (drop (n - m) front) (omega (arith, length-drop (n - m) front, long, less, p.1)) in
+          ap (λ (t : List ℕ). t ++ drop k back) gone ∙ sym (drop-append-add front back k) ∙ ap (λ j. drop j (front ++ back)) all)
+      | inr p ↦
+          (let none : k ≡ 0 = omega (arith, rest, p.1) in
+          let all : n - m ≡ length (front ++ back) - torn = omega (arith, long, less, p.1, length-append front back) in
+          ap (λ j. drop (n - m) front ++ drop j back) none ∙ sym (drop-append-le (n - m) front back (omega (arith, long))) ∙ ap (λ j. drop j (front ++ back)) all)
     ]
 
 -- what holds for a result

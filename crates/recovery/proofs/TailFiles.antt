@@ -50,24 +50,25 @@ end_parts front back b m f b_is m_is f_is =
     ]
 
 -- THE PARTS of the file
-pub tail_is : (log kept end : ℕ) (frames head sum : List ℕ) → head ≡ head_of log kept (length frames) end → sum ≡ to_be_bytes w64 (sum_of (front_of log kept end frames))
-    → tail_text log kept end frames ≡ (head ++ frames) ++ sum
+pub tail_is : (log kept end cut : ℕ) (frames head sum : List ℕ) → head ≡ head_of log kept (length frames) end cut → sum ≡ to_be_bytes w64 (sum_of (front_of log kept end cut frames))
+    → tail_text log kept end cut frames ≡ (head ++ frames) ++ sum
 unfolding tail_text front_of
-tail_is log kept end frames head sum e f = sym (ap (λ (t : List ℕ). (t ++ frames) ++ sum) e ∙ ap (λ (t : List ℕ). (head_of log kept (length frames) end ++ frames) ++ t) f)
+tail_is log kept end cut frames head sum e f = sym (ap (λ (t : List ℕ). (t ++ frames) ++ sum) e ∙ ap (λ (t : List ℕ). (head_of log kept (length frames) end cut ++ frames) ++ t) f)
 
-pub front_is : (log kept end : ℕ) (frames : List ℕ) → front_of log kept end frames ≡ head_of log kept (length frames) end ++ frames
+pub front_is : (log kept end cut : ℕ) (frames : List ℕ) → front_of log kept end cut frames ≡ head_of log kept (length frames) end cut ++ frames
 unfolding front_of
-front_is log kept end frames = refl
+front_is log kept end cut frames = refl
 
-pub head_length : (log kept tail end : ℕ) → length (head_of log kept tail end) ≡ 40
+pub head_length : (log kept tail end cut : ℕ) → length (head_of log kept tail end cut) ≡ 48
 unfolding head_of
-head_length log kept tail end = refl
+head_length log kept tail end cut = refl
 
 -- the numbers are at their offsets
-pub head_numbers : (log kept tail end : ℕ) → log < 2 ^ 64 → kept < 2 ^ 64 → end < 2 ^ 64 → let head = head_of log kept tail end in
-    (from_be_bytes w64 (take 8 (drop 8 head)) ≡ log) × (from_be_bytes w64 (take 8 (drop 16 head)) ≡ kept) × (from_be_bytes w64 (take 8 (drop 32 head)) ≡ end)
+pub head_numbers : (log kept tail end cut : ℕ) → log < 2 ^ 64 → kept < 2 ^ 64 → end < 2 ^ 64 → cut < 2 ^ 64 → let head = head_of log kept tail end cut in
+    (from_be_bytes w64 (take 8 (drop 8 head)) ≡ log) × (from_be_bytes w64 (take 8 (drop 16 head)) ≡ kept) × (from_be_bytes w64 (take 8 (drop 32 head)) ≡ end) × (from_be_bytes w64 (take 8 (drop 40 head)) ≡ cut)
 unfolding head_of
-head_numbers log kept tail end l k e = (from_be_bytes-to_be_bytes_8 log l, from_be_bytes-to_be_bytes_8 kept k, from_be_bytes-to_be_bytes_8 end e)
+head_numbers log kept tail end cut l k e t =
+    (from_be_bytes-to_be_bytes_8 log l, from_be_bytes-to_be_bytes_8 kept k, from_be_bytes-to_be_bytes_8 end e, from_be_bytes-to_be_bytes_8 cut t)
 
 -- WRITTEN in three pieces
 module _ (head frames sum text : List ℕ) (is : text ≡ (head ++ frames) ++ sum) where
@@ -113,56 +114,57 @@ other_bytes xs ys e same =
 
 -- READ AGAIN
 -- the file is cut where its parts meet
-pub record Parts (log kept end : ℕ) (frames text : List ℕ) : Type 0 where
-  pub long : 48 ≤ length text
-  pub front : take (length text - 8) text ≡ front_of log kept end frames
-  pub sum : drop (length text - 8) text ≡ to_be_bytes w64 (sum_of (front_of log kept end frames))
-  pub head : take 40 (front_of log kept end frames) ≡ head_of log kept (length frames) end
-  pub rest : drop 40 (front_of log kept end frames) ≡ frames
+pub record Parts (log kept end cut : ℕ) (frames text : List ℕ) : Type 0 where
+  pub long : 56 ≤ length text
+  pub front : take (length text - 8) text ≡ front_of log kept end cut frames
+  pub sum : drop (length text - 8) text ≡ to_be_bytes w64 (sum_of (front_of log kept end cut frames))
+  pub head : take 48 (front_of log kept end cut frames) ≡ head_of log kept (length frames) end cut
+  pub rest : drop 48 (front_of log kept end cut frames) ≡ frames
 
-pub parts_of : (log kept end : ℕ) (frames text : List ℕ) → text ≡ tail_text log kept end frames → Parts log kept end frames text
+pub parts_of : (log kept end cut : ℕ) (frames text : List ℕ) → text ≡ tail_text log kept end cut frames → Parts log kept end cut frames text
 unfolding tail_text
-parts_of log kept end frames text is =
-    let front = front_of log kept end frames in
-    let head = head_of log kept (length frames) end in
+parts_of log kept end cut frames text is =
+    let front = front_of log kept end cut frames in
+    let head = head_of log kept (length frames) end cut in
     let sum = to_be_bytes w64 (sum_of front) in
     let eight : length sum ≡ 8 = refl in
     let size : length text ≡ length front + 8 = ap length is ∙ length-append front sum in
-    let forty : length front ≡ 40 + length frames = ap length (front_is log kept end frames) ∙ length-append head frames ∙ ap (λ n. n + length frames) (head_length log kept (length frames) end) in
+    let fronted : length front ≡ 48 + length frames = ap length (front_is log kept end cut frames) ∙ length-append head frames ∙ ap (λ n. n + length frames) (head_length log kept (length frames) end cut) in
     let at : length text - 8 ≡ length front = omega (arith, size) in
     let seam = sym at in
     record {
-      long = omega (arith, size, forty);
+      long = omega (arith, size, fronted);
       front = ap (λ n. take n text) at ∙ ap (take (length front)) is ∙ take_at front sum (length front) refl;
       sum = ap (λ n. drop n text) at ∙ ap (drop (length front)) is ∙ drop_at front sum (length front) refl;
-      head = ap (take 40) (front_is log kept end frames) ∙ take_at head frames 40 (head_length log kept (length frames) end);
-      rest = ap (drop 40) (front_is log kept end frames) ∙ drop_at head frames 40 (head_length log kept (length frames) end);
+      head = ap (take 48) (front_is log kept end cut frames) ∙ take_at head frames 48 (head_length log kept (length frames) end cut);
+      rest = ap (drop 48) (front_is log kept end cut frames) ∙ drop_at head frames 48 (head_length log kept (length frames) end cut);
     }
 
 -- what is read of the parts of a whole file makes the same parts
-pub read_again : (log kept end : ℕ) (frames text front sum head rest : List ℕ) (one two three : ℕ) → log < 2 ^ 64 → kept < 2 ^ 64 → end < 2 ^ 64 → text ≡ tail_text log kept end frames
-    → front ≡ take (length text - 8) text → sum ≡ drop (length text - 8) text → head ≡ take 40 front → rest ≡ drop 40 front
-    → one ≡ from_be_bytes w64 (take 8 (drop 8 head)) → two ≡ from_be_bytes w64 (take 8 (drop 16 head)) → three ≡ from_be_bytes w64 (take 8 (drop 32 head))
-    → (head ≡ head_of one two (length rest) three) × (sum ≡ to_be_bytes w64 (sum_of (front_of one two three rest)))
-read_again log kept end frames text front sum head rest one two three l k e is front_e sum_e head_e rest_e one_e two_e three_e =
-    let p = parts_of log kept end frames text is in
+pub read_again : (log kept end cut : ℕ) (frames text front sum head rest : List ℕ) (one two three four : ℕ) → log < 2 ^ 64 → kept < 2 ^ 64 → end < 2 ^ 64 → cut < 2 ^ 64 → text ≡ tail_text log kept end cut frames
+    → front ≡ take (length text - 8) text → sum ≡ drop (length text - 8) text → head ≡ take 48 front → rest ≡ drop 48 front
+    → one ≡ from_be_bytes w64 (take 8 (drop 8 head)) → two ≡ from_be_bytes w64 (take 8 (drop 16 head)) → three ≡ from_be_bytes w64 (take 8 (drop 32 head)) → four ≡ from_be_bytes w64 (take 8 (drop 40 head))
+    → (head ≡ head_of one two (length rest) three four) × (sum ≡ to_be_bytes w64 (sum_of (front_of one two three four rest)))
+read_again log kept end cut frames text front sum head rest one two three four l k e t is front_e sum_e head_e rest_e one_e two_e three_e four_e =
+    let p = parts_of log kept end cut frames text is in
     let all = front_e ∙ p.front in
-    let head_is : head ≡ head_of log kept (length frames) end = head_e ∙ ap (take 40) all ∙ p.head in
-    let rest_is : rest ≡ frames = rest_e ∙ ap (drop 40) all ∙ p.rest in
-    let sum_is : sum ≡ to_be_bytes w64 (sum_of (front_of log kept end frames)) = sum_e ∙ p.sum in
-    let numbers = head_numbers log kept (length frames) end l k e in
+    let head_is : head ≡ head_of log kept (length frames) end cut = head_e ∙ ap (take 48) all ∙ p.head in
+    let rest_is : rest ≡ frames = rest_e ∙ ap (drop 48) all ∙ p.rest in
+    let sum_is : sum ≡ to_be_bytes w64 (sum_of (front_of log kept end cut frames)) = sum_e ∙ p.sum in
+    let numbers = head_numbers log kept (length frames) end cut l k e t in
     let one_is : one ≡ log = one_e ∙ ap (λ (h : List ℕ). from_be_bytes w64 (take 8 (drop 8 h))) head_is ∙ numbers.0 in
     let two_is : two ≡ kept = two_e ∙ ap (λ (h : List ℕ). from_be_bytes w64 (take 8 (drop 16 h))) head_is ∙ numbers.1 in
     let three_is : three ≡ end = three_e ∙ ap (λ (h : List ℕ). from_be_bytes w64 (take 8 (drop 32 h))) head_is ∙ numbers.2 in
-    let same_head : head_of one two (length rest) three ≡ head_of log kept (length frames) end = cc in
-    let same_front : front_of one two three rest ≡ front_of log kept end frames = cc in
+    let four_is : four ≡ cut = four_e ∙ ap (λ (h : List ℕ). from_be_bytes w64 (take 8 (drop 40 h))) head_is ∙ numbers.3 in
+    let same_head : head_of one two (length rest) three four ≡ head_of log kept (length frames) end cut = cc in
+    let same_front : front_of one two three four rest ≡ front_of log kept end cut frames = cc in
     (head_is ∙ sym same_head, sum_is ∙ ap (λ (t : List ℕ). to_be_bytes w64 (sum_of t)) (sym same_front))
 
 -- and bytes with such parts are a whole file
-pub is_file : (text front sum head rest : List ℕ) (one two three m : ℕ) → front ≡ take m text → sum ≡ drop m text → head ≡ take 40 front → rest ≡ drop 40 front
-    → head ≡ head_of one two (length rest) three → sum ≡ to_be_bytes w64 (sum_of (front_of one two three rest)) → text ≡ tail_text one two three rest
-is_file text front sum head rest one two three m front_e sum_e head_e rest_e head_is sum_is =
+pub is_file : (text front sum head rest : List ℕ) (one two three four m : ℕ) → front ≡ take m text → sum ≡ drop m text → head ≡ take 48 front → rest ≡ drop 48 front
+    → head ≡ head_of one two (length rest) three four → sum ≡ to_be_bytes w64 (sum_of (front_of one two three four rest)) → text ≡ tail_text one two three four rest
+is_file text front sum head rest one two three four m front_e sum_e head_e rest_e head_is sum_is =
     let parts : (head ++ rest) ++ sum ≡ text =
-    ap₂ (λ (h r : List ℕ). (h ++ r) ++ sum) head_e rest_e ∙ ap (λ (t : List ℕ). t ++ sum) (take-append-drop 40 front)
+    ap₂ (λ (h r : List ℕ). (h ++ r) ++ sum) head_e rest_e ∙ ap (λ (t : List ℕ). t ++ sum) (take-append-drop 48 front)
     ∙ ap₂ (λ (t r : List ℕ). t ++ r) front_e sum_e ∙ take-append-drop m text in
-    sym parts ∙ sym (tail_is one two three rest head sum head_is sum_is)
+    sym parts ∙ sym (tail_is one two three four rest head sum head_is sum_is)

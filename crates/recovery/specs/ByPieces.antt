@@ -1,5 +1,5 @@
 -- What a recovery makes of a log that it reads in pieces, and its errors (own).
-use Rattle.std.specs.Prelude.{◌≡◌, ◌⊎◌, ◌+◌, ◌-◌, ◌++◌, ℕ, List, Option, Some, length, take, Result, Err, MatchResult, ⊤}
+use Rattle.std.specs.Prelude.{◌≡◌, ◌⊎◌, ◌+◌, ◌-◌, ◌++◌, ℕ, List, Option, Some, drop, length, take, Result, Err, MatchResult, ⊤}
 use Rattle.page.specs.declared.fault.Fault.{Fault}
 use Rattle.page.specs.declared.fault.Fault.TheVariants.{NoResource, ReadLog, ReadStore, WriteLog, WriteStore}
 use Rattle.page.specs.declared.page.Page.{Page}
@@ -17,6 +17,8 @@ use Rattle.passes.specs.declared.fault.PassFault.TheVariants as pass
 use Rattle.restart.specs.declared.options.Options.{Options}
 use Rattle.recovery.specs.declared.by_pieces.Made.{Made}
 use Rattle.recovery.specs.declared.by_pieces.Continuation.{Continuation}
+use Rattle.recovery.specs.declared.tail_file.TailFile.{TailFile}
+use Rattle.recovery.specs.TailFile.{sum_of, end_of}
 use Rattle.restart.specs.Options.{AreInRange}
 use Rattle.recovery.specs.Recovery.{AreLawful, Recovers, Recovered, RecoveryCause, Decodes}
 use Rattle.recovery.specs.Devices.{IsFaultOf, DeviceCause}
@@ -68,6 +70,21 @@ continued_log log x = take (length log - x.report.torn) log ++ x.frames.items
 pub record MeasuresLog (log : List ℕ) (made : Continuation) : Type 0 where
   pub length_is : made.length ≡ length log
   pub kept_is : made.kept ≡ length log - made.report.torn
+
+-- THE FILE OF ITS TAIL has these lengths and frames
+pub record IsFileOf (made : Continuation) (file : TailFile) : Type 0 where
+  pub length_is : file.length ≡ made.length
+  pub kept_is : file.kept ≡ made.kept
+  pub frames_is : file.frames.now ≡ made.frames.items
+
+-- the sum of the end of what is kept of the old log, and that of what is cut off
+pub record HasSums (made : Continuation) (file : TailFile) (log : List ℕ) : Type 0 where
+  pub end_is : file.end ≡ sum_of (end_of (take made.kept log))
+  pub cut_is : file.cut ≡ sum_of (drop made.kept log)
+
+-- P is true of the bytes that the log's device holds, if it has their lengths
+abbrev pub IfMeasured : Option (List ℕ) → Continuation → (List ℕ → Type 0) → Type 0
+IfMeasured held made P = (log : List ℕ) → held ≡ Some log → MeasuresLog log made → P log
 
 -- WHAT IS MADE of the bytes that a log's device holds, and of bytes that are those of the store
 -- it is the recovery of these bytes

@@ -58,6 +58,14 @@ IsStored sink old new = Flushes (sink.flushed old) (sink.flushed new) (sink.take
 abbrev pub ForKept : Option (List ℕ) → (kept : ℕ) → (List ℕ → Type 0) → Type 0
 ForKept held kept P = (text : List ℕ) → held ≡ Some text → kept ≤ length text → P (take kept text)
 
+-- P is true if it holds this many
+abbrev pub ForHeld : Option (List ℕ) → (count : ℕ) → Type 0 → Type 0
+ForHeld held count P = (text : List ℕ) → held ≡ Some text → count ≤ length text → P
+
+-- P is true of its bytes after those that are kept, if it holds this many
+abbrev pub ForRest : Option (List ℕ) → (kept count : ℕ) → (List ℕ → Type 0) → Type 0
+ForRest held kept count P = (text : List ℕ) → held ≡ Some text → length text ≡ count → P (drop kept text)
+
 -- P is true of its bytes from an offset on, as many as a buffer takes
 abbrev pub ForPiece : Option (List ℕ) → (offset : ℕ) → (buffer : List ℕ) → (List ℕ → Type 0) → Type 0
 ForPiece held offset buffer P = (text : List ℕ) → held ≡ Some text → P (take (length buffer) (drop offset text))
@@ -65,6 +73,10 @@ ForPiece held offset buffer P = (text : List ℕ) → held ≡ Some text → P (
 -- P is true of all that it holds, as bytes that are known
 abbrev pub ForText : {A : Type 0} → Option (List ℕ) → (Option (List ℕ) → A → Type 0) → A → Type 0
 ForText held P x = (text : List ℕ) → held ≡ Some text → P (Some text) x
+
+-- P is true if it holds as many from an offset on
+abbrev pub ForPieceHeld : Option (List ℕ) → (offset : ℕ) → (buffer : List ℕ) → Type 0 → Type 0
+ForPieceHeld held offset buffer P = ForHeld held (offset + length buffer) P
 
 -- fewer bytes were read than the buffer takes only because the device ends there
 abbrev pub IsShortAtEnd : (held : Option (List ℕ)) → (offset : ℕ) → (buffer : List ℕ) → (count : ℕ) → Type 0

@@ -1,5 +1,5 @@
 -- What a recovery in place reads, writes and leaves (own): the log that was read is cut and continued in place.
-use Rattle.std.specs.Prelude.{◌≡◌, ℕ, ◌-◌, ◌≤◌, ◌<◌, ◌⊎◌, List, ◌++◌, length, take, Option, Some, IfSome}
+use Rattle.std.specs.Prelude.{◌≡◌, ℕ, ◌-◌, ◌≤◌, ◌<◌, ◌⊎◌, List, ◌++◌, drop, length, take, Option, Some, IfSome}
 use Rattle.std.specs.Io.KnownBytes.{Appends, Keeps}
 use Rattle.page.specs.declared.fault.Fault.{Fault}
 use Rattle.page.specs.declared.fault.Fault.TheVariants.{WriteLog, WriteStore}
@@ -69,9 +69,13 @@ pub record Prepares (log_left store_left : Option (List ℕ)) : Type 0 where
   pub kept_is : kept ≡ length log - report.torn
   pub recovers : Recovers log store (take kept log ++ frames) new_store report
 
--- the file of the tail is written for them, and flushed
+-- the file of the tail that they have: with the sum of the end of what is kept of the log, and that of what is cut off
+abbrev pub tail_of : {log_left store_left : Option (List ℕ)} → Prepares log_left store_left → List ℕ
+tail_of made = tail_text (length made.log) made.kept (sum_of (end_of (take made.kept made.log))) (sum_of (drop made.kept made.log)) made.frames
+
+-- it is written for them, and flushed
 pub record HasTail {T : Type 0} {log_left store_left : Option (List ℕ)} (made : Prepares log_left store_left) (tail : Sink T) (old new : T) : Type 0 where
-  pub out : Appends (tail.taken old) (tail.taken new) (tail_text (length made.log) made.kept (sum_of (end_of (take made.kept made.log))) made.frames)
+  pub out : Appends (tail.taken old) (tail.taken new) (tail_of made)
   pub flushed : Flushes (tail.flushed old) (tail.flushed new) (tail.taken new)
 
 -- what is made of what the sources gave has its file

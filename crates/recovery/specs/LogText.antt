@@ -1,5 +1,5 @@
 -- The bytes of a log that were read, in one part or in two (own).
-use Rattle.std.specs.Prelude.{◌≡◌, ℕ, ◌≤◌, List, [], ◌++◌, length, drop, Option}
+use Rattle.std.specs.Prelude.{◌≡◌, ℕ, ◌≤◌, List, [], ◌++◌, ◌-◌, length, drop, take, Option}
 use Rattle.std.specs.Io.KnownBytes.{Consumes}
 use Rattle.wal.specs.declared.sizes.TheConstants.{LONGEST_FRAME}
 use Rattle.wal.specs.Reads.{Cause}
@@ -11,6 +11,13 @@ use Rattle.recovery.specs.declared.log_text.Known.TheVariants.{Nothing, Front, F
 -- all of them
 abbrev pub text_of : LogText → List ℕ
 text_of text = text.front.items ++ drop text.from text.back.items
+
+-- without a torn tail of this many bytes, and the tail
+abbrev pub kept_of : LogText → (torn : ℕ) → List ℕ
+kept_of text torn = take (length (text_of text) - torn) (text_of text)
+
+abbrev pub torn_of : LogText → (torn : ℕ) → List ℕ
+torn_of text torn = drop (length (text_of text) - torn) (text_of text)
 
 -- all that a source had left came after the first of these bytes
 pub record CameAfter {D : Type 0} (left : D → Option (List ℕ)) (old new : D) (first : ℕ) (bytes : List ℕ) : Type 0 where

@@ -8,7 +8,7 @@ ghost use Rattle.page.specs.File.{SpellsStore};
 ghost use Rattle.changes.specs.Numbered.{StayNumbered};
 ghost use Rattle.restart.specs.Options.{OptionsFault};
 ghost use Rattle.recovery.specs.Recovery.{Decodes};
-ghost use Rattle.recovery.specs.ByPieces.{IsOfLog, StoreFails, IfDecoded, IsCauseOf, IsMadeLawful, IsMadeOf, RereadCause, Continues, ContinuesLawful, IsCauseOn, MeasuresLog};
+ghost use Rattle.recovery.specs.ByPieces.{HasSums, IfMeasured, IsFileOf, IsOfLog, StoreFails, IfDecoded, IsCauseOf, IsMadeLawful, IsMadeOf, RereadCause, Continues, ContinuesLawful, IsCauseOn, MeasuresLog};
 ghost use Rattle.recovery.specs.declared.log_again.TheConstants.{ROOM};
 ghost use Rattle.recovery.specs.InPlace.{Completed, CompletesInPlace, DeliversInPlace, ForCutHeld, ForLawfulHeld, HoldsCutOf, IsLeftIn, IsLogFlushed, LogIsContinued, TailIsOut};
 ghost use Rattle.recovery.specs.Devices.{OnceRead, UnlessDevice};
@@ -17,7 +17,9 @@ ghost use Rattle.std.specs.Option.{ForSome};
 
 use crate::Report;
 use crate::in_place::write_in_place;
-use crate::log_again::{check_log, fault_after, read_store_first, room_for_log, sum_of_kept};
+use crate::log_again::{
+    check_log, fault_after, read_store_first, room_for_log, sum_of_cut, sum_of_kept,
+};
 use crate::recovery::{frames_of, report_on};
 use crate::store_pieces::room_for_pieces;
 use crate::tail_file::TailFile;
@@ -42,19 +44,27 @@ pub struct Continuation {
 }
 
 impl Continuation {
-    /// The file of the tail that is made, if the end of what is kept has this sum.
-    pub fn file(&self, end: u64) -> TailFile
-        ensures length { result.length ≡ self.now.length }
-        ensures kept { result.kept ≡ self.now.kept }
-        ensures end { result.end ≡ end }
-        ensures frames { result.frames.now ≡ self.now.frames.items }
+    /// The file of the tail that is made. The sums are those of what the log's device holds: these
+    /// bytes are read again, and the fault is `BadLsn` with an offset if it no longer holds them.
+    pub fn file<L: Reread>(&self, log: &mut L, room: &mut [u8]) -> Result<TailFile, Fault>
+        requires { length room.old ≡ ROOM }
+        ensures is { IfOk result (IsFileOf self.now) }
+        ensures sums { IfOk result (λ file. IfMeasured (L.text log.old) self.now
+            (HasSums self.now file)) }
+        ensures fault { IfErr result (λ e. IfMeasured (L.text log.old) self.now
+            (λ _. e ≡ ReadLog)) }
+        ensures named { IfErr result IsOfLog }
+        ensures cause { Blames ReadLog L.failures log.old log.new result }
     {
-        TailFile {
+        let end = sum_of_kept(log, self.kept, room)?;
+        let cut = sum_of_cut(log, self.kept, self.length, room)?;
+        Ok(TailFile {
             length: self.length,
             kept: self.kept,
             end,
+            cut,
             frames: &self.frames,
-        }
+        })
     }
 }
 
@@ -179,7 +189,7 @@ pub fn make_by_pieces<L: Reread>(
 /// `out_log` is the log that `log` reads, and holds the same bytes. It is cut after its last whole
 /// record and flushed; then what the recovery appends is appended and flushed; then the new store
 /// is written to `out_store` and flushed. Before the log is touched, all that is appended is
-/// written to `tail` and flushed, with the lengths of the log and a sum: the file of a tail,
+/// written to `tail` and flushed, with the lengths of the log and two sums: the file of a tail,
 /// [`TailFile`](crate::TailFile).
 ///
 /// No one else may write the log during the call. Otherwise the fault may be one that the log never
@@ -263,8 +273,7 @@ pub fn recover_by_pieces<LR: Reread, SR: Source, T: Sink, LW: Continue, SW: Sink
     let mut pieces = room_for_pieces(alloc)?;
     let decoded = read_store_first(alloc, log, store, &mut room, &mut pieces)?;
     let made = make_by_pieces(alloc, log, decoded.store, &mut room)?;
-    let end = sum_of_kept(log, made.log.kept, &mut room)?;
-    let file = made.log.file(end);
+    let file = made.log.file(log, &mut room)?;
     write_in_place(tail, out_log, out_store, &file, &made.store, &mut pieces)?;
     Ok(made.log.report)
 }

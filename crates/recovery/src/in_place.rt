@@ -44,17 +44,19 @@ pub fn continue_log<L: Continue>(log: &mut L, kept: u64, frames: &[u8]) -> Resul
 }
 
 /// The file of the tail that continues these bytes of a log.
-fn file_of<'a>(text: &LogText, kept: &LogBytes, frames: &'a [u8]) -> TailFile<'a>
+fn file_of<'a>(text: &LogText, kept: &LogBytes, torn: &LogBytes, frames: &'a [u8]) -> TailFile<'a>
     requires { text.now.from ≤ length text.now.back.items }
     ensures length { result.length ≡ length (text_of text.now) }
     ensures kept { result.kept ≡ length kept.now }
     ensures end { result.end ≡ sum_of (end_of kept.now) }
+    ensures cut { result.cut ≡ sum_of torn.now }
     ensures frames { result.frames.now ≡ frames.entry.now }
 {
     TailFile {
         length: text.len(),
         kept: kept.len(),
         end: kept.sum_of_end(),
+        cut: torn.sum(),
         frames,
     }
 }
@@ -112,7 +114,7 @@ pub fn write_in_place<T: Sink, L: Continue, S: Sink>(
 /// to `out_store` and flushed. Nothing of the log is copied.
 ///
 /// Before the log is touched, all that is appended is written to `tail` and flushed, with the
-/// lengths of the log and a sum: the file of a tail, [`TailFile`](crate::TailFile). If the power
+/// lengths of the log and two sums: the file of a tail, [`TailFile`](crate::TailFile). If the power
 /// fails while the log is continued, its end may hold anything; with this file the continuation can
 /// be made again.
 ///
@@ -203,7 +205,8 @@ pub fn recover_in_place<
     let decoded = decoded?;
     let remade = remake(rt, alloc, records, decoded.store, options, gate)?;
     let kept = LogBytes::kept_of(&text, &remade);
-    let file = file_of(&text, &kept, &remade.frames);
+    let torn = LogBytes::torn_of(&text, &remade);
+    let file = file_of(&text, &kept, &torn, &remade.frames);
     write_in_place(tail, out_log, out_store, &file, &remade.store, &mut room)?;
     Ok(remade.report)
 }

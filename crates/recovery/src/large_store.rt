@@ -22,7 +22,7 @@ ghost use Rattle.recovery.specs.TailFile.{file_text};
 use crate::Report;
 use crate::by_pieces::{Continuation, continue_on};
 use crate::in_place::write_tail;
-use crate::log_again::{check_log, read_lsns_first, room_for_log, sum_of_kept};
+use crate::log_again::{check_log, read_lsns_first, room_for_log};
 use crate::store_changes::write_changed;
 use crate::store_pieces::room_for_pieces;
 use crate::tail_file::TailFile;
@@ -218,8 +218,7 @@ pub fn recover_large_by_pieces<LR: Reread, SR: Reread, T: Sink, LW: Continue, SW
     let mut pieces = room_for_pieces(alloc)?;
     let decoded = read_lsns_first(alloc, log, store, &mut room, &mut pieces)?;
     let made = make_large(alloc, log, decoded.store, &mut room)?;
-    let end = sum_of_kept(log, made.log.kept, &mut room)?;
-    let file = made.log.file(end);
+    let file = made.log.file(log, &mut room)?;
     write_large(
         store,
         tail,

@@ -1,22 +1,22 @@
 //! A log's device that is read again: to its end, since a failure of the device is the first fault
-//! of reading, and for the sum of the log's end.
+//! of reading, and for the sums of the log's end.
 
-ghost use Rattle.std.specs.Prelude.{◌≡◌, ◌≢◌, ◌<◌, ◌+◌, ◌^◌, ◌⊎◌, length, IfOk, IfErr, OnOk, IfSome, IsOkUnless};
+ghost use Rattle.std.specs.Prelude.{◌≡◌, ◌≢◌, ◌<◌, ◌≤◌, ◌+◌, ◌^◌, ◌⊎◌, length, IfOk, IfErr, OnOk, IfSome, IsOkUnless};
 ghost use Rattle.std.specs.Io.KnownBytes.{IsAtEnd, Keeps};
 ghost use Rattle.page.specs.declared.fault.Fault.TheVariants.{NoResource, ReadLog, ReadStore};
 ghost use Rattle.recovery.specs.Devices.{IsFaultOf, IsDecoded};
-ghost use Rattle.recovery.specs.TailFile.{IsEndSum};
+ghost use Rattle.recovery.specs.TailFile.{IsEndSum, IsSumOn, sum_of};
 ghost use Rattle.recovery.specs.ByPieces.{IsOfLog, fault_of, StoreFails, IsLog, LogCause};
 ghost use Rattle.recovery.specs.declared.log_again.TheConstants.{ROOM};
 ghost use Rattle.recovery.specs.declared.store_pieces.TheConstants.{PIECE};
-ghost use Rattle.recovery.specs.Calls.{Blames, FailsMore, ForKept};
+ghost use Rattle.recovery.specs.Calls.{Blames, FailsMore, ForHeld, ForKept, ForPiece, ForPieceHeld, ForRest};
 ghost use Rattle.recovery.specs.StoreChanges.{AreDecodedLsns};
 ghost use Rattle.std.specs.Option.{ForSome};
 
 use crate::reading::read_from;
 use crate::store_changes::{DecodedLsns, read_lsns};
 use crate::store_pieces::{DecodedStore, read_store};
-use crate::tail_file::{END_BYTES, sum_of_end};
+use crate::tail_file::{END_BYTES, SUM_OF_NONE, sum_on};
 use device::{Reread, Source};
 use page::Fault;
 use passes::{PassFault, find_marks};
@@ -171,21 +171,64 @@ pub fn check_log<L: Reread>(alloc: Global, log: &mut L, room: &mut [u8]) -> Resu
     Ok(())
 }
 
+/// The sum of some bytes followed by those that a log's device holds from an offset on, as many as
+/// the room takes. They are read again: `BadLsn` with the offset if the device no longer holds them
+/// all.
+fn sum_piece<L: Reread>(log: &mut L, sum: u64, offset: u64, room: &mut [u8]) -> Result<u64, Fault>
+    requires { offset + length room.old ≤ 2 ^ 64 }
+    ensures sum { IfOk result (λ more. ForPiece (L.text log.old) offset room.old
+        (IsSumOn sum more)) }
+    ensures fault { IfErr result (λ e. ForPieceHeld (L.text log.old) offset room.old
+        (e ≡ ReadLog)) }
+    ensures named { IfErr result IsOfLog }
+    ensures same { Keeps (L.text log.old) (L.text log.new) }
+    ensures cause { Blames ReadLog L.failures log.old log.new result }
+{
+    let count = read_from(log, offset, room, Fault::ReadLog)?;
+    if count < room.len() {
+        return Err(Fault::BadLsn(offset));
+    }
+    Ok(sum_on(sum, room))
+}
+
 /// The sum of the last [`END_BYTES`](crate::tail_file::END_BYTES) of a log that are kept, or of all
 /// if there are fewer. They are read again: `BadLsn` with their offset if the device no longer
 /// holds them all.
 pub fn sum_of_kept<L: Reread>(log: &mut L, kept: u64, room: &mut [u8]) -> Result<u64, Fault>
     requires { length room.old ≡ ROOM }
     ensures sum { IfOk result (λ sum. ForKept (L.text log.old) kept (IsEndSum sum)) }
-    ensures fault { IfErr result (λ e. ForKept (L.text log.old) kept (λ _. e ≡ ReadLog)) }
+    ensures fault { IfErr result (λ e. ForHeld (L.text log.old) kept (e ≡ ReadLog)) }
     ensures named { IfErr result IsOfLog }
+    ensures same { Keeps (L.text log.old) (L.text log.new) }
     ensures cause { Blames ReadLog L.failures log.old log.new result }
 {
     let offset = kept.saturating_sub(END_BYTES as u64);
     let wanted = (kept - offset) as usize;
-    let count = read_from(log, offset, &mut room[..wanted], Fault::ReadLog)?;
-    if count < wanted {
-        return Err(Fault::BadLsn(offset));
+    let sum = sum_piece(log, SUM_OF_NONE, offset, &mut room[..wanted])?;
+    Ok(sum)
+}
+
+/// The sum of the bytes of a log after those that are kept, up to this length. They are read again,
+/// a piece at a time: `BadLsn` with an offset if the device no longer holds the bytes after it.
+pub fn sum_of_cut<L: Reread>(
+    log: &mut L,
+    kept: u64,
+    end: u64,
+    room: &mut [u8],
+) -> Result<u64, Fault>
+    requires { length room.old ≡ ROOM }
+    ensures sum { IfOk result (λ sum. ForRest (L.text log.old) kept end
+        (λ cut. sum ≡ sum_of cut)) }
+    ensures fault { IfErr result (λ e. ForHeld (L.text log.old) end (e ≡ ReadLog)) }
+    ensures named { IfErr result IsOfLog }
+    ensures cause { Blames ReadLog L.failures log.old log.new result }
+{
+    let mut sum = SUM_OF_NONE;
+    let mut offset = kept;
+    while offset < end {
+        let wanted = (end - offset).min(ROOM as u64) as usize;
+        sum = sum_piece(log, sum, offset, &mut room[..wanted])?;
+        offset += wanted as u64;
     }
-    Ok(sum_of_end(&[], &room[..count]))
+    Ok(sum)
 }

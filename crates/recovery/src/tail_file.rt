@@ -5,19 +5,19 @@ ghost use Rattle.std.specs.Prelude.{◌≡◌, ◌↔◌, ◌+◌, ◌-◌, ◌�
 ghost use Rattle.std.specs.Int.{w64, from_be_bytes};
 ghost use Rattle.device.specs.Failures.{Counts};
 ghost use Rattle.recovery.specs.Devices.{AreOut};
-ghost use Rattle.recovery.specs.TailFile.{sum_on, sum_of, end_of, head_of, IfTailFile, file_front, file_text};
+ghost use Rattle.recovery.specs.TailFile.{sum_on, sum_of, end_of, IfTailFile, file_head, file_front, file_text};
 ghost use Rattle.recovery.specs.Calls.{Began};
 
 use device::{Failed, Sink, write_all};
 
 /// The sum of no bytes.
-const SUM_OF_NONE: u64 = 0xcbf2_9ce4_8422_2325;
+pub const SUM_OF_NONE: u64 = 0xcbf2_9ce4_8422_2325;
 
 /// The factor by which the sum is multiplied after each byte.
 const PRIME: u64 = 0x0000_0100_0000_01b3;
 
 /// How many bytes come before the frames.
-const HEAD_BYTES: usize = 40;
+const HEAD_BYTES: usize = 48;
 
 /// How many bytes a number takes.
 const NUMBER_BYTES: usize = 8;
@@ -26,7 +26,7 @@ const NUMBER_BYTES: usize = 8;
 pub const END_BYTES: usize = 4096;
 
 /// The sum of some bytes followed by these (FNV-1a).
-fn sum_on(sum: u64, bytes: &[u8]) -> u64
+pub fn sum_on(sum: u64, bytes: &[u8]) -> u64
     ensures { result ≡ sum_on sum bytes.now }
 {
     let mut sum = sum;
@@ -66,6 +66,8 @@ pub struct TailFile<'a> {
     /// The sum of the last [`END_BYTES`] that are kept, or of all if there are fewer: the log to
     /// which the tail belongs ends with them.
     pub end: u64,
+    /// The sum of the bytes that are cut off: those of the torn tail.
+    pub cut: u64,
     /// The frames that come after them.
     pub frames: &'a [u8],
 }
@@ -74,15 +76,15 @@ impl<'a> TailFile<'a> {
     /// The bytes before the frames.
     #[tactic(auto, unfolding(crate::specs::TailFile::head_of))]
     fn head(&self) -> [u8; HEAD_BYTES]
-        ensures { result ≡ head_of self.now.length self.now.kept (length self.now.frames.now)
-            self.now.end }
+        ensures { result ≡ file_head self.now }
     {
         let mut head = [0; HEAD_BYTES];
-        head[..8].copy_from_slice(b"ARIESTL1");
+        head[..8].copy_from_slice(b"ARIESTL2");
         head[8..16].copy_from_slice(&self.length.to_be_bytes());
         head[16..24].copy_from_slice(&self.kept.to_be_bytes());
         head[24..32].copy_from_slice(&(self.frames.len() as u64).to_be_bytes());
-        head[32..].copy_from_slice(&self.end.to_be_bytes());
+        head[32..40].copy_from_slice(&self.end.to_be_bytes());
+        head[40..].copy_from_slice(&self.cut.to_be_bytes());
         head
     }
 
@@ -123,6 +125,7 @@ impl<'a> TailFile<'a> {
             length: number_at(head, 8),
             kept: number_at(head, 16),
             end: number_at(head, 32),
+            cut: number_at(head, 40),
             frames,
         };
         if head != file.head().as_slice() {
@@ -146,5 +149,12 @@ impl<'a> TailFile<'a> {
         ensures { IsTrue result ↔ (self.now.end ≡ sum_of end.now) }
     {
         self.end == sum_on(SUM_OF_NONE, end)
+    }
+
+    /// Whether these are, by their sum, the bytes to cut off.
+    pub fn cuts(&self, bytes: &[u8]) -> bool
+        ensures { IsTrue result ↔ (self.now.cut ≡ sum_of bytes.now) }
+    {
+        self.cut == sum_on(SUM_OF_NONE, bytes)
     }
 }

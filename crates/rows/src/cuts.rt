@@ -4,7 +4,7 @@
 use crate::program::{Printed, audit, audit_over, recover, remove_new_files};
 use crate::verdict::{Verdict, of_new_files};
 use anyhow::{Context, Result};
-use std::fs;
+use std::fs::{self, File};
 use std::rt::{Clock, Files};
 use std::thread::Threads;
 
@@ -38,7 +38,7 @@ struct Whole {
 }
 
 /// An audit of the cut log and this store, over the base store if there is one.
-fn audit_cut<R: Files + Clock + AllocGlobal + Threads + Sync>(
+fn audit_cut<R: Files<File = File> + Clock + AllocGlobal + Threads + Sync>(
     rt: &R,
     whole: &Whole,
     store: &str,
@@ -51,7 +51,7 @@ fn audit_cut<R: Files + Clock + AllocGlobal + Threads + Sync>(
 
 /// Whether an audit of the cut log and this store finds them lawful, and a restart on them reports
 /// the last lines of the whole and makes the row's files.
-fn of_cut<R: Files + Clock + AllocGlobal + Threads + Sync>(
+fn of_cut<R: Files<File = File> + Clock + AllocGlobal + Threads + Sync>(
     rt: &R,
     row: &str,
     whole: &Whole,
@@ -73,7 +73,7 @@ fn of_cut<R: Files + Clock + AllocGlobal + Threads + Sync>(
 
 /// Whether the log, cut to each of the sizes, leads with this store to the row's files; otherwise
 /// the verdict on the shortest cut that does not.
-fn of_sizes<R: Files + Clock + AllocGlobal + Threads + Sync>(
+fn of_sizes<R: Files<File = File> + Clock + AllocGlobal + Threads + Sync>(
     rt: &R,
     cuts: &Cuts,
     whole: &Whole,
@@ -91,7 +91,7 @@ fn of_sizes<R: Files + Clock + AllocGlobal + Threads + Sync>(
 }
 
 /// Whether all cuts of the row's new log lead to its files.
-pub fn of_cuts<R: Files + Clock + AllocGlobal + Threads + Sync>(
+pub fn of_cuts<R: Files<File = File> + Clock + AllocGlobal + Threads + Sync>(
     rt: &R,
     cuts: &Cuts,
 ) -> Result<Verdict> {

@@ -12,14 +12,14 @@ mod verdict;
 use anyhow::{Context, Result};
 use aries::Options;
 use cuts::Cuts;
-use std::fs;
+use std::fs::{self, File};
 use std::rt::{Clock, Files};
 use std::str::SplitWhitespace;
 use std::thread::Threads;
 use verdict::Verdict;
 
 /// Prints whether the audit of a row is as the row says.
-fn run_audit<R: Files + Clock + Print + AllocGlobal + Threads + Sync>(
+fn run_audit<R: Files<File = File> + Clock + Print + AllocGlobal + Threads + Sync>(
     rt: &R,
     row: &str,
 ) -> Result<()> {
@@ -29,7 +29,7 @@ fn run_audit<R: Files + Clock + Print + AllocGlobal + Threads + Sync>(
 }
 
 /// Prints whether the audit of a row over its base store is as the row says.
-fn run_audit_over<R: Files + Clock + Print + AllocGlobal + Threads + Sync>(
+fn run_audit_over<R: Files<File = File> + Clock + Print + AllocGlobal + Threads + Sync>(
     rt: &R,
     row: &str,
 ) -> Result<()> {
@@ -39,7 +39,7 @@ fn run_audit_over<R: Files + Clock + Print + AllocGlobal + Threads + Sync>(
 }
 
 /// Prints whether a restart of a row is as the row says, over files and over memory.
-fn run_restart<R: Files + Clock + Print + AllocGlobal + Threads + Sync>(
+fn run_restart<R: Files<File = File> + Clock + Print + AllocGlobal + Threads + Sync>(
     rt: &R,
     row: &str,
     workers: &str,
@@ -82,7 +82,7 @@ fn run_each<R: Files + Print + AllocGlobal>(rt: &R, row: &str) -> Result<()> {
 }
 
 /// Prints whether the restarts of a row whose log was cut are as the row says.
-fn run_cuts<R: Files + Clock + Print + AllocGlobal + Threads + Sync>(
+fn run_cuts<R: Files<File = File> + Clock + Print + AllocGlobal + Threads + Sync>(
     rt: &R,
     row: &str,
     over_base: bool,
@@ -107,7 +107,7 @@ fn run_cuts<R: Files + Clock + Print + AllocGlobal + Threads + Sync>(
 /// `each`, its records by their LSNs; or `cuts`, the PageLSN of the page and the sizes of the
 /// shortest and the longest log; or `cuts-over` and the same; or the workers and the parts of a
 /// restart.
-fn run_line<R: Files + Clock + Print + AllocGlobal + Threads + Sync>(
+fn run_line<R: Files<File = File> + Clock + Print + AllocGlobal + Threads + Sync>(
     rt: &R,
     line: &str,
 ) -> Result<()> {
@@ -137,7 +137,7 @@ fn run_line<R: Files + Clock + Print + AllocGlobal + Threads + Sync>(
 }
 
 /// Runs the lines of the index.
-fn run_rows<R: Files + Clock + Print + AllocGlobal + Threads + Sync>(
+fn run_rows<R: Files<File = File> + Clock + Print + AllocGlobal + Threads + Sync>(
     rt: &R,
     index: &str,
 ) -> Result<()> {

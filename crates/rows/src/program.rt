@@ -1,7 +1,7 @@
 //! Runs of the program `aries`.
 
 use anyhow::Result;
-use std::fs;
+use std::fs::{self, File};
 use std::rt::{Clock, Files};
 use std::thread::Threads;
 
@@ -20,7 +20,10 @@ pub struct Printed {
 }
 
 /// Runs the program with these words.
-fn run<R: Files + Clock + AllocGlobal + Threads + Sync>(rt: &R, words: &[&str]) -> Printed {
+fn run<R: Files<File = File> + Clock + AllocGlobal + Threads + Sync>(
+    rt: &R,
+    words: &[&str],
+) -> Printed {
     let mut out = Vec::new(rt.alloc());
     let mut err = Vec::new(rt.alloc());
     let status = aries::run(rt, rt.alloc(), words, &mut out, &mut err);
@@ -28,7 +31,7 @@ fn run<R: Files + Clock + AllocGlobal + Threads + Sync>(rt: &R, words: &[&str]) 
 }
 
 /// Restarts on a log and a store, into `NEW_LOG` and `NEW_STORE`.
-pub fn recover<R: Files + Clock + AllocGlobal + Threads + Sync>(
+pub fn recover<R: Files<File = File> + Clock + AllocGlobal + Threads + Sync>(
     rt: &R,
     log: &str,
     store: &str,
@@ -62,7 +65,7 @@ pub fn remove_new_files<R: Files>(rt: &R) -> Result<()> {
 }
 
 /// Audits a log and a store.
-pub fn audit<R: Files + Clock + AllocGlobal + Threads + Sync>(
+pub fn audit<R: Files<File = File> + Clock + AllocGlobal + Threads + Sync>(
     rt: &R,
     log: &str,
     store: &str,
@@ -71,7 +74,7 @@ pub fn audit<R: Files + Clock + AllocGlobal + Threads + Sync>(
 }
 
 /// Audits a log and a store over a base store.
-pub fn audit_over<R: Files + Clock + AllocGlobal + Threads + Sync>(
+pub fn audit_over<R: Files<File = File> + Clock + AllocGlobal + Threads + Sync>(
     rt: &R,
     log: &str,
     store: &str,

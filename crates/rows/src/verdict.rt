@@ -2,9 +2,10 @@
 
 use crate::program::{NEW_LOG, NEW_STORE, Printed, audit, audit_over, recover, remove_new_files};
 use anyhow::{Context, Result};
+use std::fmt;
+use std::fs::{self, File};
 use std::rt::{Clock, Files};
 use std::thread::Threads;
-use std::{fmt, fs};
 
 /// How far a run and its row agree.
 #[derive(Clone, Copy, Debug, PartialEq, Eq)]
@@ -77,7 +78,7 @@ fn of_printed<R: Files + AllocGlobal>(rt: &R, row: &str, printed: &Printed) -> R
 
 /// Whether a restart on the row's log and store prints what the row says and, if it succeeds, makes
 /// the row's files. The new files are removed afterwards.
-pub fn of_restart<R: Files + Clock + AllocGlobal + Threads + Sync>(
+pub fn of_restart<R: Files<File = File> + Clock + AllocGlobal + Threads + Sync>(
     rt: &R,
     row: &str,
     workers: &str,
@@ -102,7 +103,7 @@ fn of_audited<R: Files + AllocGlobal>(rt: &R, row: &str, printed: &Printed) -> R
 }
 
 /// Whether an audit of the row's log and store prints what the row says.
-pub fn of_audit<R: Files + Clock + AllocGlobal + Threads + Sync>(
+pub fn of_audit<R: Files<File = File> + Clock + AllocGlobal + Threads + Sync>(
     rt: &R,
     row: &str,
 ) -> Result<Verdict> {
@@ -112,7 +113,7 @@ pub fn of_audit<R: Files + Clock + AllocGlobal + Threads + Sync>(
 }
 
 /// Whether an audit of them over the row's base store does.
-pub fn of_audit_over<R: Files + Clock + AllocGlobal + Threads + Sync>(
+pub fn of_audit_over<R: Files<File = File> + Clock + AllocGlobal + Threads + Sync>(
     rt: &R,
     row: &str,
 ) -> Result<Verdict> {

@@ -37,38 +37,38 @@ returns-in_err-made-clause-cause g c =
     by_device (g.SR.Source.left c.args.store.now) c.args.options.now log_text text c.in_err-made.field-0.0 read
     (c.in_err-made.ensures.fault log_text text c.args.options.now still decodes c.in_ok-check_options.ensures.ok))
 
-pub returns-in_err-end-clause-lawful : goal.returns-in_err-end-clause-lawful
-returns-in_err-end-clause-lawful g c = λ base log_text store_bytes is tells_store holds range bytes.
-    let exit = err_from_is_err_and c.from_residual-in_err-end.result c.from_residual-in_err-end.ensures.1 in
+pub returns-in_err-file-clause-lawful : goal.returns-in_err-file-clause-lawful
+returns-in_err-file-clause-lawful g c = λ base log_text store_bytes is tells_store holds range bytes.
+    let exit = err_from_is_err_and c.from_residual-in_err-file.result c.from_residual-in_err-file.ensures.1 in
     let still = ap g.LR.Reread.text c.in_ok-decoded.ensures.log_unread ∙ is in
     let later = still_told (g.LR.Reread.text c.read_store_first.new.log) (g.LR.Reread.text c.make_by_pieces.new.log) log_text c.in_ok-made.ensures.same still in
     let measured = c.in_ok-made.ensures.measured log_text still in
-    rw (exit.1, exit.2) (of_log c.in_err-end.field-0.0 (inr (c.in_err-end.ensures.fault log_text later (omega (arith, measured.kept_is)))))
+    rw (exit.1, exit.2) (of_log c.in_err-file.field-0.0 (inr (c.in_err-file.ensures.fault log_text later measured)))
 
-pub returns-in_err-end-clause-interrupted : goal.returns-in_err-end-clause-interrupted
-returns-in_err-end-clause-interrupted g c = λ base log_text store_bytes is tells_store holds range bytes.
-    let exit = err_from_is_err_and c.from_residual-in_err-end.result c.from_residual-in_err-end.ensures.1 in
+pub returns-in_err-file-clause-interrupted : goal.returns-in_err-file-clause-interrupted
+returns-in_err-file-clause-interrupted g c = λ base log_text store_bytes is tells_store holds range bytes.
+    let exit = err_from_is_err_and c.from_residual-in_err-file.result c.from_residual-in_err-file.ensures.1 in
     let still = ap g.LR.Reread.text c.in_ok-decoded.ensures.log_unread ∙ is in
     let later = still_told (g.LR.Reread.text c.read_store_first.new.log) (g.LR.Reread.text c.make_by_pieces.new.log) log_text c.in_ok-made.ensures.same still in
     let measured = c.in_ok-made.ensures.measured log_text still in
-    rw (exit.1, exit.2) (of_log c.in_err-end.field-0.0 (inr (c.in_err-end.ensures.fault log_text later (omega (arith, measured.kept_is)))))
+    rw (exit.1, exit.2) (of_log c.in_err-file.field-0.0 (inr (c.in_err-file.ensures.fault log_text later measured)))
 
-pub returns-in_err-end-clause-cause : goal.returns-in_err-end-clause-cause
-returns-in_err-end-clause-cause g c =
-    let exit = err_from_is_err_and c.from_residual-in_err-end.result c.from_residual-in_err-end.ensures.1 in
+pub returns-in_err-file-clause-cause : goal.returns-in_err-file-clause-cause
+returns-in_err-file-clause-cause g c =
+    let exit = err_from_is_err_and c.from_residual-in_err-file.result c.from_residual-in_err-file.ensures.1 in
     rw (exit.1, exit.2)
     (λ log_text is.
     let (text, read, decodes) = both_read {log_left = Some log_text} {log = log_text} c.in_ok-decoded.decoded refl c.in_ok-decoded.was c.read_store_first.ensures.read in
     let still = ap g.LR.Reread.text c.in_ok-decoded.ensures.log_unread ∙ is in
     let later = still_told (g.LR.Reread.text c.read_store_first.new.log) (g.LR.Reread.text c.make_by_pieces.new.log) log_text c.in_ok-made.ensures.same still in
     let measured = c.in_ok-made.ensures.measured log_text still in
-    by_device (g.SR.Source.left c.args.store.now) c.args.options.now log_text text c.in_err-end.field-0.0 read
-    (inl (c.in_err-end.ensures.fault log_text later (omega (arith, measured.kept_is)))))
+    by_device (g.SR.Source.left c.args.store.now) c.args.options.now log_text text c.in_err-file.field-0.0 read
+    (inl (c.in_err-file.ensures.fault log_text later measured)))
 
-pub returns-in_err-end-clause-left : goal.returns-in_err-end-clause-left
-returns-in_err-end-clause-left g c =
-    let exit = err_from_is_err_and c.from_residual-in_err-end.result c.from_residual-in_err-end.ensures.1 in
-    rw (exit.1, exit.2) (λ log_text is. untouched g.LW.Sink c.args.out_log.now g.SW.Sink c.args.out_store.now _ _ c.in_err-end.field-0.0 c.in_err-end.ensures.named)
+pub returns-in_err-file-clause-left : goal.returns-in_err-file-clause-left
+returns-in_err-file-clause-left g c =
+    let exit = err_from_is_err_and c.from_residual-in_err-file.result c.from_residual-in_err-file.ensures.1 in
+    rw (exit.1, exit.2) (λ log_text is. untouched g.LW.Sink c.args.out_log.now g.SW.Sink c.args.out_store.now _ _ c.in_err-file.field-0.0 c.in_err-file.ensures.named)
 
 pub returns-in_err-write_in_place-clause-resumable : goal.returns-in_err-write_in_place-clause-resumable
 returns-in_err-write_in_place-clause-resumable g c = λ base log_text store_bytes is tells_store holds range bytes.
@@ -80,9 +80,9 @@ returns-in_err-write_in_place-clause-resumable g c = λ base log_text store_byte
     let left = g.SR.Source.left c.args.store.now in
     let kept = length log_text - x.log.report.torn in
     let made : Prepares (Some log_text) left = prepares left log_text text x.log (store_text x.store) read measured recovers in
-    let file = c.file-file.result in
-    let count = c.file-file.ensures.kept ∙ measured.kept_is in
-    let frames_are = c.file-file.ensures.frames in
+    let file = c.in_ok-file.file in
+    let count = c.in_ok-file.ensures.is.kept_is ∙ measured.kept_is in
+    let frames_are = c.in_ok-file.ensures.is.frames_is in
     let stays = stays_as g.LW.Sink c.args.out_log.now c.write_in_place.new.log g.SW.Sink c.args.out_store.now c.write_in_place.new.store file.kept kept file.frames.now x.log.frames.items (store_text x.store) c.in_err-write_in_place.field-0.0 count frames_are c.in_err-write_in_place.ensures.fault in
     let same_store = told left text store_bytes read.store_read tells_store in
     let lawful_bytes = told_lawful log_text text log_text store_bytes read refl tells_store bytes in
@@ -106,9 +106,9 @@ returns-in_err-write_in_place-clause-left g c =
     let left = g.SR.Source.left c.args.store.now in
     let kept = length log_text - x.log.report.torn in
     let made : Prepares (Some log_text) left = prepares left log_text text x.log (store_text x.store) read measured recovers in
-    let file = c.file-file.result in
-    let count = c.file-file.ensures.kept ∙ measured.kept_is in
-    let frames_are = c.file-file.ensures.frames in
+    let file = c.in_ok-file.file in
+    let count = c.in_ok-file.ensures.is.kept_is ∙ measured.kept_is in
+    let frames_are = c.in_ok-file.ensures.is.frames_is in
     let stays = stays_as g.LW.Sink c.args.out_log.now c.write_in_place.new.log g.SW.Sink c.args.out_store.now c.write_in_place.new.store file.kept kept file.frames.now x.log.frames.items (store_text x.store) c.in_err-write_in_place.field-0.0 count frames_are c.in_err-write_in_place.ensures.fault in
     left_in g.LW.Sink c.args.out_log.now c.write_in_place.new.log g.SW.Sink c.args.out_store.now c.write_in_place.new.store made c.in_err-write_in_place.field-0.0 stays)
 
@@ -122,12 +122,12 @@ returns-in_err-write_in_place-clause-tail_first g c = λ log_text is.
     let left = g.SR.Source.left c.args.store.now in
     let kept = length log_text - x.log.report.torn in
     let made : Prepares (Some log_text) left = prepares left log_text text x.log (store_text x.store) read measured recovers in
-    let file = c.file-file.result in
-    let count = c.file-file.ensures.kept ∙ measured.kept_is in
-    let frames_are = c.file-file.ensures.frames in
+    let file = c.in_ok-file.file in
+    let count = c.in_ok-file.ensures.is.kept_is ∙ measured.kept_is in
+    let frames_are = c.in_ok-file.ensures.is.frames_is in
     let later = still_told (g.LR.Reread.text c.read_store_first.new.log) (g.LR.Reread.text c.make_by_pieces.new.log) log_text c.in_ok-made.ensures.same still in
-    let end_is = c.file-file.ensures.end ∙ c.in_ok-end.ensures.sum log_text later (omega (arith, measured.kept_is)) in
-    let tail = tail_made left log_text text x.log (store_text x.store) read measured recovers file.length file.kept file.end file.frames.now c.file-file.ensures.length c.file-file.ensures.kept end_is c.file-file.ensures.frames in
+    let sums = c.in_ok-file.ensures.sums log_text later measured in
+    let tail = tail_made left log_text text x.log (store_text x.store) read measured recovers file.length file.kept file.end file.cut file.frames.now c.in_ok-file.ensures.is.length_is c.in_ok-file.ensures.is.kept_is sums.end_is sums.cut_is c.in_ok-file.ensures.is.frames_is in
     elim c.write_in_place.ensures.tail_first [
       | inl same ↦ inl same
       | inr out ↦ inr (made, has_tail made g.T.Sink c.args.tail.now c.write_in_place.new.tail _ tail out)
@@ -143,9 +143,9 @@ returns-in_err-write_in_place-clause-log_first g c = λ log_text is.
     let left = g.SR.Source.left c.args.store.now in
     let kept = length log_text - x.log.report.torn in
     let made : Prepares (Some log_text) left = prepares left log_text text x.log (store_text x.store) read measured recovers in
-    let file = c.file-file.result in
-    let count = c.file-file.ensures.kept ∙ measured.kept_is in
-    let frames_are = c.file-file.ensures.frames in
+    let file = c.in_ok-file.file in
+    let count = c.in_ok-file.ensures.is.kept_is ∙ measured.kept_is in
+    let frames_are = c.in_ok-file.ensures.is.frames_is in
     elim c.write_in_place.ensures.log_first [
       | inl same ↦ inl same
       | inr done ↦ inr (made, continued_as _ _ _ _ _ _ _ count frames_are done)
@@ -161,12 +161,12 @@ returns-clause-tail_first g c = λ log_text is.
     let left = g.SR.Source.left c.args.store.now in
     let kept = length log_text - x.log.report.torn in
     let made : Prepares (Some log_text) left = prepares left log_text text x.log (store_text x.store) read measured recovers in
-    let file = c.file-file.result in
-    let count = c.file-file.ensures.kept ∙ measured.kept_is in
-    let frames_are = c.file-file.ensures.frames in
+    let file = c.in_ok-file.file in
+    let count = c.in_ok-file.ensures.is.kept_is ∙ measured.kept_is in
+    let frames_are = c.in_ok-file.ensures.is.frames_is in
     let later = still_told (g.LR.Reread.text c.read_store_first.new.log) (g.LR.Reread.text c.make_by_pieces.new.log) log_text c.in_ok-made.ensures.same still in
-    let end_is = c.file-file.ensures.end ∙ c.in_ok-end.ensures.sum log_text later (omega (arith, measured.kept_is)) in
-    let tail = tail_made left log_text text x.log (store_text x.store) read measured recovers file.length file.kept file.end file.frames.now c.file-file.ensures.length c.file-file.ensures.kept end_is c.file-file.ensures.frames in
+    let sums = c.in_ok-file.ensures.sums log_text later measured in
+    let tail = tail_made left log_text text x.log (store_text x.store) read measured recovers file.length file.kept file.end file.cut file.frames.now c.in_ok-file.ensures.is.length_is c.in_ok-file.ensures.is.kept_is sums.end_is sums.cut_is c.in_ok-file.ensures.is.frames_is in
     elim c.write_in_place.ensures.tail_first [
       | inl same ↦ inl same
       | inr out ↦ inr (made, has_tail made g.T.Sink c.args.tail.now c.write_in_place.new.tail _ tail out)
@@ -182,9 +182,9 @@ returns-clause-log_first g c = λ log_text is.
     let left = g.SR.Source.left c.args.store.now in
     let kept = length log_text - x.log.report.torn in
     let made : Prepares (Some log_text) left = prepares left log_text text x.log (store_text x.store) read measured recovers in
-    let file = c.file-file.result in
-    let count = c.file-file.ensures.kept ∙ measured.kept_is in
-    let frames_are = c.file-file.ensures.frames in
+    let file = c.in_ok-file.file in
+    let count = c.in_ok-file.ensures.is.kept_is ∙ measured.kept_is in
+    let frames_are = c.in_ok-file.ensures.is.frames_is in
     elim c.write_in_place.ensures.log_first [
       | inl same ↦ inl same
       | inr done ↦ inr (made, continued_as _ _ _ _ _ _ _ count frames_are done)
@@ -196,8 +196,8 @@ returns-in_err-write_in_place-clause-log_source g c =
     let (text, read, decodes) = both_read {log_left = None} {log = []} c.in_ok-decoded.decoded tt c.in_ok-decoded.was c.read_store_first.ensures.read in
     let first = c.in_ok-decoded.ensures.log_source.innocent (ok_is_no_fault c.in_ok-decoded.decoded ReadLog) in
     let then = (c.in_ok-made.ensures.cause text decodes).innocent (ok_is_no_fault c.in_ok-made.made ReadLog) in
-    let last = c.in_ok-end.ensures.cause.innocent (ok_is_no_fault c.in_ok-end.end ReadLog) in
-    let file = c.file-file.result in
+    let last = c.in_ok-file.ensures.cause.innocent (ok_is_no_fault c.in_ok-file.file ReadLog) in
+    let file = c.in_ok-file.file in
     other_failed c.from_residual-in_err-write_in_place.result _ _ _
     (stays_other c.from_residual-in_err-write_in_place.result g.LW.Sink c.args.out_log.now c.write_in_place.new.log g.SW.Sink c.args.out_store.now c.write_in_place.new.store file.kept file.frames.now (store_text c.in_ok-made.made.store) c.in_err-write_in_place.field-0.0
     (rw (exit.1, exit.2) refl) c.in_err-write_in_place.ensures.fault) first (last ∙ then)
@@ -207,7 +207,7 @@ returns-clause-log_source g c =
     let (text, read, decodes) = both_read {log_left = None} {log = []} c.in_ok-decoded.decoded tt c.in_ok-decoded.was c.read_store_first.ensures.read in
     let first = c.in_ok-decoded.ensures.log_source.innocent (ok_is_no_fault c.in_ok-decoded.decoded ReadLog) in
     let then = (c.in_ok-made.ensures.cause text decodes).innocent (ok_is_no_fault c.in_ok-made.made ReadLog) in
-    let last = c.in_ok-end.ensures.cause.innocent (ok_is_no_fault c.in_ok-end.end ReadLog) in
+    let last = c.in_ok-file.ensures.cause.innocent (ok_is_no_fault c.in_ok-file.file ReadLog) in
     none_failed _ _ _ (last ∙ then ∙ first)
 
 pub returns-clause-lawful : goal.returns-clause-lawful
@@ -220,9 +220,9 @@ returns-clause-lawful g c = λ base log_text store_bytes is tells_store holds ra
     let left = g.SR.Source.left c.args.store.now in
     let kept = length log_text - x.log.report.torn in
     let made : Prepares (Some log_text) left = prepares left log_text text x.log (store_text x.store) read measured recovers in
-    let file = c.file-file.result in
-    let count = c.file-file.ensures.kept ∙ measured.kept_is in
-    let frames_are = c.file-file.ensures.frames in
+    let file = c.in_ok-file.file in
+    let count = c.in_ok-file.ensures.is.kept_is ∙ measured.kept_is in
+    let frames_are = c.in_ok-file.ensures.is.frames_is in
     let done = continued_as _ _ _ _ _ _ _ count frames_are c.in_ok-write_in_place.ensures.log_done in
     record {
       new_log = continued_log log_text x.log;
@@ -246,8 +246,8 @@ returns-clause-answer g c = λ log_text is.
     let left = g.SR.Source.left c.args.store.now in
     let kept = length log_text - x.log.report.torn in
     let made : Prepares (Some log_text) left = prepares left log_text text x.log (store_text x.store) read measured recovers in
-    let file = c.file-file.result in
-    let count = c.file-file.ensures.kept ∙ measured.kept_is in
-    let frames_are = c.file-file.ensures.frames in
+    let file = c.in_ok-file.file in
+    let count = c.in_ok-file.ensures.is.kept_is ∙ measured.kept_is in
+    let frames_are = c.in_ok-file.ensures.is.frames_is in
     let done = continued_as _ _ _ _ _ _ _ count frames_are c.in_ok-write_in_place.ensures.log_done in
     record { made = made; report_is = refl; log_out = done.continued; store_out = c.in_ok-write_in_place.ensures.store_out.out }

@@ -4,7 +4,7 @@ use Rattle.page.specs.File.{store_text}
 use Rattle.recovery.specs.LogText.{text_of}
 use Rattle.recovery.specs.Recovery.{log_of}
 use Rattle.recovery.specs.TailFile.{tail_text, sum_of, end_of}
-use Rattle.recovery.specs.InPlace.{Prepares, HoldsCut}
+use Rattle.recovery.specs.InPlace.{Prepares, tail_of, HoldsCut}
 use Rattle.recovery.proofs.Decoded.{at_end, both_read}
 use Rattle.recovery.proofs.Delivered.{told, told_lawful, device_cause, is_resource, cut_lawful}
 use Rattle.recovery.proofs.InPlace.{kept_count, on_err, holds_more, stays_cut, left_in, nothing_left, settled_in_place, has_tail, same_tail, continued_as, stays_as}
@@ -64,8 +64,9 @@ returns-in_err-write_in_place-clause-tail_first g c =
     let file = c.file_of-file.result in
     let count = kept_count file.kept remade.report.torn log _ c.file_of-file.ensures.kept c.kept_of-kept.ensures in
     let frames_are = c.file_of-file.ensures.frames ∙ c.deref.ensures.value in
-    let tail : tail_text file.length file.kept file.end file.frames.now ≡ tail_text (length log) kept (sum_of (end_of (take kept log))) remade.frames.items =
-    same_tail _ _ _ _ _ _ _ _ c.file_of-file.ensures.length count (c.file_of-file.ensures.end ∙ ap (λ (t : List ℕ). sum_of (end_of t)) c.kept_of-kept.ensures) frames_are in
+    let tail : tail_text file.length file.kept file.end file.cut file.frames.now ≡ tail_of made =
+    same_tail _ _ _ _ _ _ _ _ _ _ c.file_of-file.ensures.length count (c.file_of-file.ensures.end ∙ ap (λ (t : List ℕ). sum_of (end_of t)) c.kept_of-kept.ensures)
+    (c.file_of-file.ensures.cut ∙ ap sum_of c.torn_of-torn.ensures) frames_are in
     elim c.write_in_place.ensures.tail_first [
       | inl same ↦ inl same
       | inr out ↦ inr (made, has_tail made g.T.Sink c.args.tail.now c.write_in_place.new.tail _ tail out)
@@ -122,8 +123,9 @@ returns-clause-tail_first g c =
     let file = c.file_of-file.result in
     let count = kept_count file.kept remade.report.torn log _ c.file_of-file.ensures.kept c.kept_of-kept.ensures in
     let frames_are = c.file_of-file.ensures.frames ∙ c.deref.ensures.value in
-    let tail : tail_text file.length file.kept file.end file.frames.now ≡ tail_text (length log) kept (sum_of (end_of (take kept log))) remade.frames.items =
-    same_tail _ _ _ _ _ _ _ _ c.file_of-file.ensures.length count (c.file_of-file.ensures.end ∙ ap (λ (t : List ℕ). sum_of (end_of t)) c.kept_of-kept.ensures) frames_are in
+    let tail : tail_text file.length file.kept file.end file.cut file.frames.now ≡ tail_of made =
+    same_tail _ _ _ _ _ _ _ _ _ _ c.file_of-file.ensures.length count (c.file_of-file.ensures.end ∙ ap (λ (t : List ℕ). sum_of (end_of t)) c.kept_of-kept.ensures)
+    (c.file_of-file.ensures.cut ∙ ap sum_of c.torn_of-torn.ensures) frames_are in
     elim c.write_in_place.ensures.tail_first [
       | inl same ↦ inl same
       | inr out ↦ inr (made, has_tail made g.T.Sink c.args.tail.now c.write_in_place.new.tail _ tail out)

@@ -41,37 +41,37 @@ returns-in_err-made-clause-left g c =
     let (text, gave, decodes) = c.in_ok-decoded.ensures.read in
     rw (exit.1, exit.2) (λ log_text store_bytes is tells. untouched_large g.LW.Sink c.args.out_log.now g.SW.Sink c.args.out_store.now _ _ c.in_err-made.field-0.0 (c.in_err-made.ensures.named text decodes))
 
-pub returns-in_err-end-clause-lawful : goal.returns-in_err-end-clause-lawful
-returns-in_err-end-clause-lawful g c = λ base log_text store_bytes is tells holds range bytes.
-    let exit = err_from_is_err_and c.from_residual-in_err-end.result c.from_residual-in_err-end.ensures.1 in
+pub returns-in_err-file-clause-lawful : goal.returns-in_err-file-clause-lawful
+returns-in_err-file-clause-lawful g c = λ base log_text store_bytes is tells holds range bytes.
+    let exit = err_from_is_err_and c.from_residual-in_err-file.result c.from_residual-in_err-file.ensures.1 in
     let still = ap g.LR.Reread.text c.in_ok-decoded.ensures.log_unread ∙ is in
     let later = still_told (g.LR.Reread.text c.read_lsns_first.new.log) (g.LR.Reread.text c.make_large.new.log) log_text c.in_ok-made.ensures.same still in
     let measured = c.in_ok-made.ensures.measured log_text still in
-    rw (exit.1, exit.2) (of_log c.in_err-end.field-0.0 (inr (c.in_err-end.ensures.fault log_text later (omega (arith, measured.kept_is)))))
+    rw (exit.1, exit.2) (of_log c.in_err-file.field-0.0 (inr (c.in_err-file.ensures.fault log_text later measured)))
 
-pub returns-in_err-end-clause-interrupted : goal.returns-in_err-end-clause-interrupted
-returns-in_err-end-clause-interrupted g c = λ base log_text store_bytes is tells holds range bytes.
-    let exit = err_from_is_err_and c.from_residual-in_err-end.result c.from_residual-in_err-end.ensures.1 in
+pub returns-in_err-file-clause-interrupted : goal.returns-in_err-file-clause-interrupted
+returns-in_err-file-clause-interrupted g c = λ base log_text store_bytes is tells holds range bytes.
+    let exit = err_from_is_err_and c.from_residual-in_err-file.result c.from_residual-in_err-file.ensures.1 in
     let still = ap g.LR.Reread.text c.in_ok-decoded.ensures.log_unread ∙ is in
     let later = still_told (g.LR.Reread.text c.read_lsns_first.new.log) (g.LR.Reread.text c.make_large.new.log) log_text c.in_ok-made.ensures.same still in
     let measured = c.in_ok-made.ensures.measured log_text still in
-    rw (exit.1, exit.2) (of_log c.in_err-end.field-0.0 (inr (c.in_err-end.ensures.fault log_text later (omega (arith, measured.kept_is)))))
+    rw (exit.1, exit.2) (of_log c.in_err-file.field-0.0 (inr (c.in_err-file.ensures.fault log_text later measured)))
 
-pub returns-in_err-end-clause-cause : goal.returns-in_err-end-clause-cause
-returns-in_err-end-clause-cause g c =
-    let exit = err_from_is_err_and c.from_residual-in_err-end.result c.from_residual-in_err-end.ensures.1 in
+pub returns-in_err-file-clause-cause : goal.returns-in_err-file-clause-cause
+returns-in_err-file-clause-cause g c =
+    let exit = err_from_is_err_and c.from_residual-in_err-file.result c.from_residual-in_err-file.ensures.1 in
     rw (exit.1, exit.2)
     (λ log_text store_bytes is tells.
     let still = ap g.LR.Reread.text c.in_ok-decoded.ensures.log_unread ∙ is in
     let later = still_told (g.LR.Reread.text c.read_lsns_first.new.log) (g.LR.Reread.text c.make_large.new.log) log_text c.in_ok-made.ensures.same still in
     let measured = c.in_ok-made.ensures.measured log_text still in
-    by_device (Some store_bytes) c.args.options.now log_text store_bytes c.in_err-end.field-0.0 (both_give log_text store_bytes)
-    (inl (c.in_err-end.ensures.fault log_text later (omega (arith, measured.kept_is)))))
+    by_device (Some store_bytes) c.args.options.now log_text store_bytes c.in_err-file.field-0.0 (both_give log_text store_bytes)
+    (inl (c.in_err-file.ensures.fault log_text later measured)))
 
-pub returns-in_err-end-clause-left : goal.returns-in_err-end-clause-left
-returns-in_err-end-clause-left g c =
-    let exit = err_from_is_err_and c.from_residual-in_err-end.result c.from_residual-in_err-end.ensures.1 in
-    rw (exit.1, exit.2) (λ log_text store_bytes is tells. untouched_large g.LW.Sink c.args.out_log.now g.SW.Sink c.args.out_store.now _ _ c.in_err-end.field-0.0 c.in_err-end.ensures.named)
+pub returns-in_err-file-clause-left : goal.returns-in_err-file-clause-left
+returns-in_err-file-clause-left g c =
+    let exit = err_from_is_err_and c.from_residual-in_err-file.result c.from_residual-in_err-file.ensures.1 in
+    rw (exit.1, exit.2) (λ log_text store_bytes is tells. untouched_large g.LW.Sink c.args.out_log.now g.SW.Sink c.args.out_store.now _ _ c.in_err-file.field-0.0 c.in_err-file.ensures.named)
 
 pub write_large-requires-clause-few : goal.write_large-requires-clause-few
 write_large-requires-clause-few g c =
@@ -87,10 +87,10 @@ returns-in_err-write_large-clause-resumable g c = λ base log_text store_bytes i
     let measured = c.in_ok-made.ensures.measured log_text still in
     let makes = c.in_ok-made.ensures.answer log_text store_bytes still decodes in
     let (after, shown, recovers) = makes.recovers in
-    let file = c.file-file.result in
+    let file = c.in_ok-file.file in
     let kept = length log_text - x.log.report.torn in
     let stays = reread_as g.LW.Sink c.args.out_log.now c.write_large.new.log g.SW.Sink c.args.out_store.now c.write_large.new.out_store file.kept kept file.frames.now x.log.frames.items (large_store x after) c.in_err-write_large.field-0.0
-    (c.file-file.ensures.kept ∙ measured.kept_is) c.file-file.ensures.frames
+    (c.in_ok-file.ensures.is.kept_is ∙ measured.kept_is) c.in_ok-file.ensures.is.frames_is
     (c.in_err-write_large.ensures.fault makes.before after (again_at _ store_bytes makes.before again makes.spells) makes.spells.fits shown) in
     let restores = c.in_ok-made.ensures.lawful base log_text store_bytes bytes still decodes in
     on_err c.from_residual-in_err-write_large.result
@@ -108,7 +108,7 @@ returns-in_err-write_large-clause-lawful g c =
     let makes = c.in_ok-made.ensures.answer log_text store_bytes still decodes in
     let (after, shown, recovers) = makes.recovers in
     let stays = c.in_err-write_large.ensures.fault makes.before after (again_at _ store_bytes makes.before again makes.spells) makes.spells.fits shown in
-    device_left g.LW.Sink c.args.out_log.now c.write_large.new.log g.SW.Sink c.args.out_store.now c.write_large.new.out_store c.file-file.result.kept c.file-file.result.frames.now (large_store c.in_ok-made.made after) c.in_err-write_large.field-0.0 stays)
+    device_left g.LW.Sink c.args.out_log.now c.write_large.new.log g.SW.Sink c.args.out_store.now c.write_large.new.out_store c.in_ok-file.file.kept c.in_ok-file.file.frames.now (large_store c.in_ok-made.made after) c.in_err-write_large.field-0.0 stays)
 
 pub returns-in_err-write_large-clause-interrupted : goal.returns-in_err-write_large-clause-interrupted
 returns-in_err-write_large-clause-interrupted g c =
@@ -121,7 +121,7 @@ returns-in_err-write_large-clause-interrupted g c =
     let makes = c.in_ok-made.ensures.answer log_text store_bytes still decodes in
     let (after, shown, recovers) = makes.recovers in
     let stays = c.in_err-write_large.ensures.fault makes.before after (again_at _ store_bytes makes.before again makes.spells) makes.spells.fits shown in
-    device_left g.LW.Sink c.args.out_log.now c.write_large.new.log g.SW.Sink c.args.out_store.now c.write_large.new.out_store c.file-file.result.kept c.file-file.result.frames.now (large_store c.in_ok-made.made after) c.in_err-write_large.field-0.0 stays)
+    device_left g.LW.Sink c.args.out_log.now c.write_large.new.log g.SW.Sink c.args.out_store.now c.write_large.new.out_store c.in_ok-file.file.kept c.in_ok-file.file.frames.now (large_store c.in_ok-made.made after) c.in_err-write_large.field-0.0 stays)
 
 pub returns-in_err-write_large-clause-cause : goal.returns-in_err-write_large-clause-cause
 returns-in_err-write_large-clause-cause g c =
@@ -134,7 +134,7 @@ returns-in_err-write_large-clause-cause g c =
     let makes = c.in_ok-made.ensures.answer log_text store_bytes still decodes in
     let (after, shown, recovers) = makes.recovers in
     let stays = c.in_err-write_large.ensures.fault makes.before after (again_at _ store_bytes makes.before again makes.spells) makes.spells.fits shown in
-    cause_left g.LW.Sink c.args.out_log.now c.write_large.new.log g.SW.Sink c.args.out_store.now c.write_large.new.out_store c.file-file.result.kept c.file-file.result.frames.now (large_store c.in_ok-made.made after)
+    cause_left g.LW.Sink c.args.out_log.now c.write_large.new.log g.SW.Sink c.args.out_store.now c.write_large.new.out_store c.in_ok-file.file.kept c.in_ok-file.file.frames.now (large_store c.in_ok-made.made after)
     (Some log_text) (Some store_bytes) c.args.options.now c.in_err-write_large.field-0.0 stays)
 
 pub returns-in_err-write_large-clause-left : goal.returns-in_err-write_large-clause-left
@@ -149,10 +149,10 @@ returns-in_err-write_large-clause-left g c =
     let measured = c.in_ok-made.ensures.measured log_text still in
     let makes = c.in_ok-made.ensures.answer log_text store_bytes still decodes in
     let (after, shown, recovers) = makes.recovers in
-    let file = c.file-file.result in
+    let file = c.in_ok-file.file in
     let kept = length log_text - x.log.report.torn in
     let stays = reread_as g.LW.Sink c.args.out_log.now c.write_large.new.log g.SW.Sink c.args.out_store.now c.write_large.new.out_store file.kept kept file.frames.now x.log.frames.items (large_store x after) c.in_err-write_large.field-0.0
-    (c.file-file.ensures.kept ∙ measured.kept_is) c.file-file.ensures.frames
+    (c.in_ok-file.ensures.is.kept_is ∙ measured.kept_is) c.in_ok-file.ensures.is.frames_is
     (c.in_err-write_large.ensures.fault makes.before after (again_at _ store_bytes makes.before again makes.spells) makes.spells.fits shown) in
     left_large g.LW.Sink c.args.out_log.now c.write_large.new.log g.SW.Sink c.args.out_store.now c.write_large.new.out_store (prepares (Some store_bytes) log_text store_bytes x.log (large_store x after) (both_give log_text store_bytes) measured recovers) c.in_err-write_large.field-0.0 stays)
 
@@ -164,11 +164,11 @@ returns-in_err-write_large-clause-tail_first g c = λ log_text store_bytes is te
     let measured = c.in_ok-made.ensures.measured log_text still in
     let makes = c.in_ok-made.ensures.answer log_text store_bytes still decodes in
     let (after, shown, recovers) = makes.recovers in
-    let file = c.file-file.result in
+    let file = c.in_ok-file.file in
     let made : Prepares (Some log_text) (Some store_bytes) = prepares (Some store_bytes) log_text store_bytes x.log (large_store x after) (both_give log_text store_bytes) measured recovers in
     let later = still_told (g.LR.Reread.text c.read_lsns_first.new.log) (g.LR.Reread.text c.make_large.new.log) log_text c.in_ok-made.ensures.same still in
-    let end_is = c.file-file.ensures.end ∙ c.in_ok-end.ensures.sum log_text later (omega (arith, measured.kept_is)) in
-    let tail = tail_made (Some store_bytes) log_text store_bytes x.log (large_store x after) (both_give log_text store_bytes) measured recovers file.length file.kept file.end file.frames.now c.file-file.ensures.length c.file-file.ensures.kept end_is c.file-file.ensures.frames in
+    let sums = c.in_ok-file.ensures.sums log_text later measured in
+    let tail = tail_made (Some store_bytes) log_text store_bytes x.log (large_store x after) (both_give log_text store_bytes) measured recovers file.length file.kept file.end file.cut file.frames.now c.in_ok-file.ensures.is.length_is c.in_ok-file.ensures.is.kept_is sums.end_is sums.cut_is c.in_ok-file.ensures.is.frames_is in
     elim c.write_large.ensures.tail_first [
       | inl same ↦ inl same
       | inr out ↦ inr (made, has_tail made g.T.Sink c.args.tail.now c.write_large.new.tail _ tail out)
@@ -185,7 +185,7 @@ returns-in_err-write_large-clause-log_first g c = λ log_text store_bytes is tel
     let made : Prepares (Some log_text) (Some store_bytes) = prepares (Some store_bytes) log_text store_bytes x.log (large_store x after) (both_give log_text store_bytes) measured recovers in
     elim c.write_large.ensures.log_first [
       | inl same ↦ inl same
-      | inr done ↦ inr (made, continued_as _ _ _ _ _ _ _ (c.file-file.ensures.kept ∙ measured.kept_is) c.file-file.ensures.frames done)
+      | inr done ↦ inr (made, continued_as _ _ _ _ _ _ _ (c.in_ok-file.ensures.is.kept_is ∙ measured.kept_is) c.in_ok-file.ensures.is.frames_is done)
     ]
 
 pub returns-clause-tail_first : goal.returns-clause-tail_first
@@ -196,11 +196,11 @@ returns-clause-tail_first g c = λ log_text store_bytes is tells.
     let measured = c.in_ok-made.ensures.measured log_text still in
     let makes = c.in_ok-made.ensures.answer log_text store_bytes still decodes in
     let (after, shown, recovers) = makes.recovers in
-    let file = c.file-file.result in
+    let file = c.in_ok-file.file in
     let made : Prepares (Some log_text) (Some store_bytes) = prepares (Some store_bytes) log_text store_bytes x.log (large_store x after) (both_give log_text store_bytes) measured recovers in
     let later = still_told (g.LR.Reread.text c.read_lsns_first.new.log) (g.LR.Reread.text c.make_large.new.log) log_text c.in_ok-made.ensures.same still in
-    let end_is = c.file-file.ensures.end ∙ c.in_ok-end.ensures.sum log_text later (omega (arith, measured.kept_is)) in
-    let tail = tail_made (Some store_bytes) log_text store_bytes x.log (large_store x after) (both_give log_text store_bytes) measured recovers file.length file.kept file.end file.frames.now c.file-file.ensures.length c.file-file.ensures.kept end_is c.file-file.ensures.frames in
+    let sums = c.in_ok-file.ensures.sums log_text later measured in
+    let tail = tail_made (Some store_bytes) log_text store_bytes x.log (large_store x after) (both_give log_text store_bytes) measured recovers file.length file.kept file.end file.cut file.frames.now c.in_ok-file.ensures.is.length_is c.in_ok-file.ensures.is.kept_is sums.end_is sums.cut_is c.in_ok-file.ensures.is.frames_is in
     elim c.write_large.ensures.tail_first [
       | inl same ↦ inl same
       | inr out ↦ inr (made, has_tail made g.T.Sink c.args.tail.now c.write_large.new.tail _ tail out)
@@ -217,7 +217,7 @@ returns-clause-log_first g c = λ log_text store_bytes is tells.
     let made : Prepares (Some log_text) (Some store_bytes) = prepares (Some store_bytes) log_text store_bytes x.log (large_store x after) (both_give log_text store_bytes) measured recovers in
     elim c.write_large.ensures.log_first [
       | inl same ↦ inl same
-      | inr done ↦ inr (made, continued_as _ _ _ _ _ _ _ (c.file-file.ensures.kept ∙ measured.kept_is) c.file-file.ensures.frames done)
+      | inr done ↦ inr (made, continued_as _ _ _ _ _ _ _ (c.in_ok-file.ensures.is.kept_is ∙ measured.kept_is) c.in_ok-file.ensures.is.frames_is done)
     ]
 
 pub returns-in_err-write_large-clause-log_source : goal.returns-in_err-write_large-clause-log_source
@@ -226,7 +226,7 @@ returns-in_err-write_large-clause-log_source g c =
     let (text, gave, decodes) = c.in_ok-decoded.ensures.read in
     let first = c.in_ok-decoded.ensures.log_source.innocent (ok_is_no_fault c.in_ok-decoded.decoded ReadLog) in
     let then = (c.in_ok-made.ensures.cause text decodes).innocent (ok_is_no_fault c.in_ok-made.made ReadLog) in
-    let last = c.in_ok-end.ensures.cause.innocent (ok_is_no_fault c.in_ok-end.end ReadLog) in
+    let last = c.in_ok-file.ensures.cause.innocent (ok_is_no_fault c.in_ok-file.file ReadLog) in
     let e = c.in_err-write_large.field-0.0 in
     other_failed c.from_residual-in_err-write_large.result _ _ _ (not_log c.from_residual-in_err-write_large.result e (rw (exit.1, exit.2) refl) (not_read_log e c.in_err-write_large.ensures.named)) first (last ∙ then)
 
@@ -241,7 +241,7 @@ returns-clause-log_source g c =
     let (text, gave, decodes) = c.in_ok-decoded.ensures.read in
     let first = c.in_ok-decoded.ensures.log_source.innocent (ok_is_no_fault c.in_ok-decoded.decoded ReadLog) in
     let then = (c.in_ok-made.ensures.cause text decodes).innocent (ok_is_no_fault c.in_ok-made.made ReadLog) in
-    let last = c.in_ok-end.ensures.cause.innocent (ok_is_no_fault c.in_ok-end.end ReadLog) in
+    let last = c.in_ok-file.ensures.cause.innocent (ok_is_no_fault c.in_ok-file.file ReadLog) in
     none_failed _ _ _ (last ∙ then ∙ first)
 
 pub returns-clause-store_source : goal.returns-clause-store_source
@@ -259,7 +259,7 @@ returns-clause-lawful g c = λ base log_text store_bytes is tells holds range by
     let (after, shown, recovered) = c.in_ok-made.ensures.lawful base log_text store_bytes bytes still decodes in
     let before = bytes.decoded.before in
     let kept = length log_text - x.log.report.torn in
-    let done = continued_as _ _ _ _ _ _ _ (c.file-file.ensures.kept ∙ measured.kept_is) c.file-file.ensures.frames c.in_ok-write_large.ensures.log_done in
+    let done = continued_as _ _ _ _ _ _ _ (c.in_ok-file.ensures.is.kept_is ∙ measured.kept_is) c.in_ok-file.ensures.is.frames_is c.in_ok-write_large.ensures.log_done in
     record {
       new_log = continued_log log_text x.log;
       new_store = large_store x after;
@@ -282,7 +282,7 @@ returns-clause-answer g c = λ log_text store_bytes is tells.
     let makes = c.in_ok-made.ensures.answer log_text store_bytes still decodes in
     let (after, shown, recovers) = makes.recovers in
     let made : Prepares (Some log_text) (Some store_bytes) = prepares (Some store_bytes) log_text store_bytes x.log (large_store x after) (both_give log_text store_bytes) measured recovers in
-    let done = continued_as _ _ _ _ _ _ _ (c.file-file.ensures.kept ∙ measured.kept_is) c.file-file.ensures.frames c.in_ok-write_large.ensures.log_done in
+    let done = continued_as _ _ _ _ _ _ _ (c.in_ok-file.ensures.is.kept_is ∙ measured.kept_is) c.in_ok-file.ensures.is.frames_is c.in_ok-write_large.ensures.log_done in
     record {
       made = made;
       report_is = refl;

@@ -118,15 +118,16 @@ fn is_whole(worked: &Worked, left: &Left) -> bool {
         && left.store.flushed() == new_store
 }
 
-/// Whether these bytes are the file of the row's tail for a log of `length` bytes.
-fn is_tail_file(worked: &Worked, length: usize, bytes: &[u8]) -> bool {
+/// Whether these bytes are the file of the row's tail for this log.
+fn is_tail_file(worked: &Worked, log: &[u8], bytes: &[u8]) -> bool {
     let kept = worked.row.given.bytes.as_slice();
     let Some(file) = TailFile::read(bytes) else {
         return false;
     };
-    file.length == length as u64
+    file.length == log.len() as u64
         && file.kept == kept.len() as u64
         && file.belongs_to(kept)
+        && log.strip_prefix(kept).is_some_and(|cut| file.cuts(cut))
         && worked.row.made.bytes.strip_prefix(kept) == Some(file.frames)
 }
 
@@ -138,7 +139,7 @@ fn check_row<R: Threads + Sync>(rt: &R, alloc: Global, worked: &Worked) -> Resul
         check_all(&[
             (is_whole(worked, &left), "recovered"),
             (
-                is_tail_file(worked, bytes.len(), left.tail.bytes()),
+                is_tail_file(worked, bytes, left.tail.bytes()),
                 "the file of the tail",
             ),
         ])?;
@@ -215,7 +216,7 @@ fn failing_calls<R: Threads + Sync>(
     Err(Fail::new("no end"))
 }
 
-/// The head of the tail's file takes 6 calls, its 164 bytes of frames take 24, its sum 2. The log
+/// The head of the tail's file takes 7 calls, its 164 bytes of frames take 24, its sum 2. The log
 /// is cut and flushed before it takes the same frames. Each sink is flushed at the end.
 #[test]
 fn each_sink_in_place_fails_at_each_call(rt: HostRuntime) -> Result<(), Fail> {
@@ -225,7 +226,7 @@ fn each_sink_in_place_fails_at_each_call(rt: HostRuntime) -> Result<(), Fail> {
     let log = failing_calls(&rt, alloc, &worked, Fault::WriteLog, Sink::Log)?;
     let store = failing_calls(&rt, alloc, &worked, Fault::WriteStore, Sink::Store)?;
     check_all(&[
-        (tail == 33, "calls of the tail's file"),
+        (tail == 34, "calls of the tail's file"),
         (log == 27, "calls of the log"),
         (store == 152, "calls of the store"),
     ])

@@ -160,15 +160,16 @@ fn is_untouched(left: &Left, bytes: &[u8]) -> bool {
     left.log.bytes() == bytes && left.tail.bytes().is_empty() && left.store.bytes().is_empty()
 }
 
-/// Whether these bytes are the file of the row's tail for a log of `length` bytes.
-fn is_tail_file(worked: &Worked, length: usize, bytes: &[u8]) -> bool {
+/// Whether these bytes are the file of the row's tail for this log.
+fn is_tail_file(worked: &Worked, log: &[u8], bytes: &[u8]) -> bool {
     let kept = worked.row.given.bytes.as_slice();
     let Some(file) = TailFile::read(bytes) else {
         return false;
     };
-    file.length == length as u64
+    file.length == log.len() as u64
         && file.kept == kept.len() as u64
         && file.belongs_to(kept)
+        && log.strip_prefix(kept).is_some_and(|cut| file.cuts(cut))
         && worked.row.made.bytes.strip_prefix(kept) == Some(file.frames)
 }
 
@@ -183,7 +184,7 @@ fn check_left(worked: &Worked, bytes: &[u8], left: &Left, expected: Expected) ->
         (is_answered, "the report"),
         (are_whole(worked, left), "the log and the store"),
         (
-            is_tail_file(worked, bytes.len(), left.tail.bytes()),
+            is_tail_file(worked, bytes, left.tail.bytes()),
             "the file of the tail",
         ),
     ])

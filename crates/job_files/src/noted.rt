@@ -1,6 +1,6 @@
 //! What is noted of a job's files: how much was read or written and when, and which call failed.
 
-ghost use Rattle.aries.specs.Noted.{inner_file};
+ghost use Rattle.job_files.specs.Noted.{inner_file};
 
 use std::cell::Cell;
 use std::fmt;
@@ -20,8 +20,9 @@ pub enum Call {
     SyncFolder,
     Rename,
     Remove,
-    /// Finds out whether the file of a tail belongs to a log.
-    Fit,
+    Lock,
+    /// Keeps the bytes that are cut off a log.
+    Keep,
 }
 
 impl fmt::Display for Call {
@@ -35,16 +36,63 @@ impl fmt::Display for Call {
             Call::SyncFolder => "syncing the folder of",
             Call::Rename => "renaming",
             Call::Remove => "removing",
-            Call::Fit => "fitting to the log",
+            Call::Lock => "locking",
+            Call::Keep => "keeping what is cut off",
         })
     }
 }
 
-/// A call that failed, and what the system said.
+/// Why a file is not taken for what the job needs it to be.
+#[derive(Clone, Copy, Debug, PartialEq, Eq)]
+pub enum Refusal {
+    /// It is a folder, a pipe or a device.
+    NotRegular,
+    /// It has a second name, a hard link.
+    SecondName,
+    /// Its name stands for another file by now.
+    Replaced,
+    /// Another file of the job is the same.
+    Twice,
+    /// Another program has locked it.
+    Locked,
+    /// No recovery left it there, or its bytes have changed.
+    NotLeft,
+    /// It is the file of the tail of another log.
+    OtherLog,
+    /// Its owner is neither that of the log nor the user of the process.
+    OtherOwner,
+    /// It is a log that `aries_files` keeps.
+    Kept,
+}
+
+impl fmt::Display for Refusal {
+    fn fmt<W: fmt::Write>(&self, f: &mut fmt::Formatter<W>) -> fmt::Result {
+        f.write_str(match self {
+            Refusal::NotRegular => "is not a regular file, so nothing is recovered in place",
+            Refusal::SecondName => "has a second name (a hard link), which would keep the old file",
+            Refusal::Replaced => "was replaced by another program just now: run this again",
+            Refusal::Twice => "is given twice, or is one that the recovery needs for itself",
+            Refusal::Locked => "is locked by another program: wait until that has ended",
+            Refusal::NotLeft => "was not left by a recovery, or is damaged: move it away",
+            Refusal::OtherLog => {
+                "is of another log: put that log back, or remove the file if the log was replaced"
+            }
+            Refusal::OtherOwner => "is of another user than the log: remove it if it is not yours",
+            Refusal::Kept => {
+                "is kept by aries_files, by sums-N or pages beside it: \
+                 open and close the folder with its own program"
+            }
+        })
+    }
+}
+
+/// Why a job ended that concerns a file.
 #[derive(Clone, Copy)]
-pub struct Failure {
-    pub call: Call,
-    pub error: io::Error,
+pub enum Failure {
+    /// A call failed, for the reason that the system gave.
+    Call(Call, io::Error),
+    /// The file was refused.
+    Refused(Refusal),
 }
 
 /// A file of a job, and what is noted of it.
@@ -94,7 +142,7 @@ impl<'a> Notes<'a> {
         Some(self.ended()?.duration_since(self.began()?))
     }
 
-    /// The last call that failed, of those that end the job.
+    /// The last failure of those that end the job.
     pub fn failure(&self) -> Option<Failure> {
         self.failure.get()
     }
@@ -107,13 +155,23 @@ impl<'a> Notes<'a> {
     /// Notes a call that failed. A call that a signal interrupted does not count: it is made again.
     pub fn fail(&self, call: Call, error: io::Error) {
         if error.kind() != ErrorKind::Interrupted {
-            self.failure.set(Some(Failure { call, error }));
+            self.failure.set(Some(Failure::Call(call, error)));
         }
+    }
+
+    /// Notes that the file was refused.
+    pub fn refuse(&self, refusal: Refusal) {
+        self.failure.set(Some(Failure::Refused(refusal)));
+    }
+
+    /// Notes for this file what was noted for it elsewhere.
+    pub fn note(&self, failure: Failure) {
+        self.failure.set(Some(failure));
     }
 
     /// Notes a call that failed although the job goes on.
     pub fn pass_over(&self, call: Call, error: io::Error) {
-        self.let_pass.set(Some(Failure { call, error }));
+        self.let_pass.set(Some(Failure::Call(call, error)));
     }
 
     /// Notes that a call on the open file begins.
